@@ -1,0 +1,10 @@
+pub mod Numbers
+pub mod Leaves
+pub mod Views
+pub mod Trees
+pub mod Decoding
+pub mod Appended
+pub mod Firsts
+pub mod Loop
+pub mod AccessLemmas
+pub mod KeyOrder

@@ -1,0 +1,7 @@
+pub mod Item
+pub mod View
+pub mod Canon
+pub mod Reading
+pub mod Writing
+pub mod Access
+pub mod Refusals
