@@ -1,0 +1,74 @@
+-- The first refusal that applies.
+use Rattle.std.proofs.Common.{◌≡◌, ℕ, ◌+◌, ◌≤◌, ◌<◌, ◌^◌, false, List, [], ◌∷◌, ◌++◌, length, drop, Option, Some, None, option_map, is_some, refl, sym, ap, ◌∙◌, append_assoc, append-nil, arith, ◌⊎◌, inl, inr}
+use Rattle.std.specs.Prelude.{IfSome}
+use Rattle.std.specs.Int.{w32, to_be_bytes}
+use Rattle.authdata.specs.declared.error.Error.{Error}
+use Rattle.authdata.specs.declared.error.Error.TheVariants as errors
+use Rattle.authdata.specs.declared.auth.Attested.{Attested}
+use Rattle.authdata.specs.Flags.{is_set, AT, ED}
+use Rattle.authdata.specs.Layout.{AttestedCredential, AuthenticatorData, AuthOf, IsAttestedCredential, IsAuthenticatorData, attested_bytes, credential_view, data_bytes}
+use Rattle.authdata.specs.Refusals.{flags_in, here, later, Applies, Refused, IsAttested, BeginsWithKey, id_len_in}
+use Rattle.authdata.specs.Private.{RefusedLater}
+
+pub lifted : (bs : List ℕ) (e : Error) → (Applies bs errors.Short → ⊥) → (Applies bs errors.Extensions → ⊥) → RefusedLater bs e → Refused bs e
+lifted bs e s x h m = later errors.Short _ _ s (later errors.Extensions _ _ x (h m))
+
+pub short_first : (bs : List ℕ) → Applies bs errors.Short → Refused bs errors.Short
+short_first bs p m = here errors.Short _ p
+
+pub extensions_first : (bs : List ℕ) → (Applies bs errors.Short → ⊥) → Applies bs errors.Extensions → Refused bs errors.Extensions
+extensions_first bs s p m = later errors.Short _ _ s (here errors.Extensions _ p)
+
+pub extra_first : (bs : List ℕ) → (Applies bs errors.Short → ⊥) → (Applies bs errors.Extensions → ⊥) → (Applies bs errors.BadId → ⊥) → (Applies bs errors.BadKey → ⊥)
+    → Applies bs errors.ExtraBytes → Refused bs errors.ExtraBytes
+extra_first bs s x i k p m = later errors.Short _ _ s (later errors.Extensions _ _ x (later errors.BadId _ _ i (later errors.BadKey _ _ k (here errors.ExtraBytes _ p))))
+
+-- what reading the credential found wrong
+pub credential_refused : (bs : List ℕ) (e : Error) → (e ≡ errors.Memory) ⊎ ((e ≡ errors.BadId) ⊎ (e ≡ errors.BadKey)) → IsAttested bs
+    → (e ≡ errors.BadId → (1 ≤ id_len_in bs) × (id_len_in bs ≤ 64) → ⊥)
+    → (e ≡ errors.BadKey → ((1 ≤ id_len_in bs) × (id_len_in bs ≤ 64)) × (BeginsWithKey (drop (55 + id_len_in bs) bs) → ⊥))
+    → RefusedLater bs e
+credential_refused bs e which at i k m = elim which [
+  | inl p ↦ absurd (m p)
+  | inr q ↦ elim q [
+    | inl p ↦ rw p (here errors.BadId _ (at, i p))
+    | inr p ↦ rw p (later errors.BadId _ _ (λ h. h.1 (k p).0) (here errors.BadKey _ (at, (k p).1)))
+  ]
+]
+
+-- the bytes are the parts, and what is left
+pub parts_join : (a : AuthenticatorData) (bs r37 rest : List ℕ) → bs ≡ a.rp_id_hash ++ (a.flags ∷ (to_be_bytes w32 a.sign_count ++ r37)) → r37 ≡ attested_bytes a.attested ++ rest
+    → bs ≡ data_bytes a ++ rest
+parts_join a bs r37 rest e f =
+    e ∙ ap (λ (l : List ℕ). a.rp_id_hash ++ (a.flags ∷ (to_be_bytes w32 a.sign_count ++ l))) f ∙ sym (append_assoc a.rp_id_hash (a.flags ∷ (to_be_bytes w32 a.sign_count ++ attested_bytes a.attested)) rest)
+
+is_some-map : {A B : Type 0} (f : A → B) (o : Option A) → is_some (option_map f o) ≡ is_some o
+is_some-map f None = refl
+is_some-map f (Some x) = refl
+
+abbrev pub auth_from : List ℕ → ℕ → ℕ → Option AttestedCredential → AuthenticatorData
+auth_from hash flags count m = record { rp_id_hash = hash; flags = flags; sign_count = count; attested = m }
+
+pub auth_is : (bs hash : List ℕ) (flags count : ℕ) (o : Option Attested) → length hash ≡ 32 → flags < 256 → count < 2 ^ 32 → flags ≡ flags_in bs
+    → is_set (flags_in bs) AT ≡ is_some o → is_set flags ED ≡ false → IfSome (option_map credential_view o) IsAttestedCredential → IsAuthenticatorData (auth_from hash flags count (option_map credential_view o))
+auth_is bs hash flags count o len f c same at ed m = record {
+  rp_id_hash = len;
+  flags = f;
+  sign_count = c;
+  attested_flag = ap (λ (n : ℕ). is_set n AT) same ∙ at ∙ sym (is_some-map credential_view o);
+  no_extensions = ed;
+  attested = m;
+}
+
+pub extra_applies : (bs r37 rest : List ℕ) (a : AuthenticatorData) → IsAuthenticatorData a → bs ≡ a.rp_id_hash ++ (a.flags ∷ (to_be_bytes w32 a.sign_count ++ r37)) → r37 ≡ drop 37 bs
+    → drop 37 bs ≡ attested_bytes a.attested ++ rest → 0 < length rest → Applies bs errors.ExtraBytes
+extra_applies bs r37 rest a is e f g some = (a, data_bytes a, rest, (is, refl), some, parts_join a bs r37 rest e (f ∙ g))
+
+pub auth_found : (bs r37 rest : List ℕ) (a : AuthenticatorData) → IsAuthenticatorData a → bs ≡ a.rp_id_hash ++ (a.flags ∷ (to_be_bytes w32 a.sign_count ++ r37)) → r37 ≡ drop 37 bs
+    → drop 37 bs ≡ attested_bytes a.attested ++ rest → length rest ≡ 0 → AuthOf a bs
+auth_found bs r37 rest a is e f g none =
+    let nothing : rest ≡ [] = empty rest none in
+    (is, parts_join a bs r37 rest e (f ∙ g) ∙ ap (λ (l : List ℕ). data_bytes a ++ l) nothing ∙ append-nil (data_bytes a)) where
+      empty : (l : List ℕ) → length l ≡ 0 → l ≡ []
+      empty [] e = refl
+      empty (x ∷ xs) e = absurd (omega arith)

@@ -1,0 +1,137 @@
+-- No refusal applies to the bytes of authenticator data.
+use Rattle.std.proofs.Common.{◌≡◌, ◌≢◌, ◌+◌, ◌^◌, ◌<◌, ℕ, suc, true, false, List, [], ◌∷◌, ◌++◌, Option, Some, None, length, is_some, sym, ◌∙◌, ap, refl, subst, arith, take, drop, get_or, append_assoc, append-nil, inl, inr, ◌⊎◌}
+use Rattle.std.specs.Prelude.{IfSome}
+use Rattle.std.specs.Int.{w16, w32, to_be_bytes, from_be_bytes}
+use Rattle.std.proofs.lemmas.List.{length-append, drop_at}
+use Rattle.std.proofs.lemmas.Nat.{from_be_bytes-to_be_bytes_2}
+use Rattle.ccbor.specs.Canon.{Canon}
+use Rattle.cose.specs.Keys.{IsKey, item_of}
+use Rattle.cose.proofs.KeyLemmas.{key_canon}
+use Rattle.authdata.specs.declared.error.Error.{Error}
+use Rattle.authdata.specs.declared.error.Error.TheVariants as errors
+use Rattle.authdata.specs.Flags.{is_set, AT, ED}
+use Rattle.authdata.specs.Layout.{AttestedCredential, AuthenticatorData, AuthOf, IsAttestedCredential, IsAuthenticatorData, attested_bytes, key_bytes}
+use Rattle.authdata.specs.Refusals.{First, here, later, Applies, Refused, IsAttested, flags_in, id_len_in, order}
+use Rattle.authdata.proofs.Unique.{length-data, length-full, one_front}
+
+-- the first of a list is one of which the fact holds
+pub first_applies : {E : Type 0} (P : E → Type 0) (xs : List E) (e : E) → First P xs e → P e
+first_applies P _ _ (here x xs p) = p
+first_applies P _ _ (later x xs e none f) = first_applies P xs e f
+
+at_end : (a : List ℕ) (x : ℕ) (b : List ℕ) (n : ℕ) → length a ≡ n → get_or (a ++ x ∷ b) n 0 ≡ x
+at_end [] x b n e = rw (← e) refl
+at_end (y ∷ ys) x b n e = let s : suc (length ys) ≡ n = e in rw (← s) (at_end ys x b (length ys) refl)
+
+flags_are : (a : AuthenticatorData) (bs : List ℕ) → AuthOf a bs → flags_in bs ≡ a.flags
+flags_are a bs h = ap flags_in h.1 ∙ at_end a.rp_id_hash a.flags (to_be_bytes w32 a.sign_count ++ attested_bytes a.attested) 32 h.0.rp_id_hash
+
+-- where AT is set, a credential is attested
+some_credential : (a : AuthenticatorData) (bs : List ℕ) → AuthOf a bs → IsAttested bs → (c : AttestedCredential) × (a.attested ≡ Some c)
+some_credential a bs h at = of a.attested refl where
+  of : (o : Option AttestedCredential) → a.attested ≡ o → (c : AttestedCredential) × (a.attested ≡ Some c)
+  of (Some c) e = (c, e)
+  of None e =
+      let set : is_set a.flags AT ≡ true = ap (λ (f : ℕ). is_set f AT) (sym (flags_are a bs h)) ∙ at in
+      let some = h.0.attested_flag in
+      let bad : is_some a.attested ≡ false = ap is_some e in
+      absurd cc
+
+is_credential : (a : AuthenticatorData) (c : AttestedCredential) → IsAuthenticatorData a → a.attested ≡ Some c → IsAttestedCredential c
+is_credential a c h e = subst (λ o. IfSome o IsAttestedCredential) e h.attested
+
+-- what stands before the credential id's length
+before_id : AuthenticatorData → AttestedCredential → List ℕ
+before_id a c = a.rp_id_hash ++ (a.flags ∷ (to_be_bytes w32 a.sign_count ++ c.aaguid))
+
+length-before_id : (a : AuthenticatorData) (c : AttestedCredential) → IsAuthenticatorData a → IsAttestedCredential c → length (before_id a c) ≡ 53
+unfolding before_id
+length-before_id a c h g =
+    let l = length-append a.rp_id_hash (a.flags ∷ (to_be_bytes w32 a.sign_count ++ c.aaguid)) in
+    let m = h.rp_id_hash in let n = g.aaguid in
+    omega (arith, l, m, n)
+
+parts : (a : AuthenticatorData) (c : AttestedCredential) (bs : List ℕ) → AuthOf a bs → a.attested ≡ Some c
+    → bs ≡ before_id a c ++ (to_be_bytes w16 (length c.id) ++ (c.id ++ key_bytes c.key))
+unfolding before_id
+parts a c bs h e =
+    h.1 ∙ ap (λ o. a.rp_id_hash ++ (a.flags ∷ (to_be_bytes w32 a.sign_count ++ attested_bytes o))) e
+    ∙ sym (append_assoc a.rp_id_hash (a.flags ∷ (to_be_bytes w32 a.sign_count ++ c.aaguid)) (to_be_bytes w16 (length c.id) ++ (c.id ++ key_bytes c.key)))
+
+id_len_is : (a : AuthenticatorData) (c : AttestedCredential) (bs : List ℕ) → AuthOf a bs → a.attested ≡ Some c → id_len_in bs ≡ length c.id
+id_len_is a c bs h e =
+    let is = is_credential a c h.0 e in
+    let low : length c.id < 2 ^ 16 = let k = is.id_high in omega arith in
+    let tail = c.id ++ key_bytes c.key in
+    let two = ap (drop 53) (parts a c bs h e) ∙ drop_at (before_id a c) (to_be_bytes w16 (length c.id) ++ tail) 53 (length-before_id a c h.0 is) in
+    ap (λ (l : List ℕ). from_be_bytes w16 (take 2 l)) two ∙ from_be_bytes-to_be_bytes_2 (length c.id) low
+
+key_is : (a : AuthenticatorData) (c : AttestedCredential) (bs : List ℕ) → AuthOf a bs → a.attested ≡ Some c → drop (55 + id_len_in bs) bs ≡ key_bytes c.key
+key_is a c bs h e =
+    let is = is_credential a c h.0 e in
+    let front = before_id a c ++ (to_be_bytes w16 (length c.id) ++ c.id) in
+    let l = length-append (before_id a c) (to_be_bytes w16 (length c.id) ++ c.id) in
+    let n = length-before_id a c h.0 is in
+    let i = id_len_is a c bs h e in
+    let len : length front ≡ 55 + id_len_in bs = omega (arith, l, n, i) in
+    let same : bs ≡ front ++ key_bytes c.key = parts a c bs h e ∙ simp append_assoc in
+    ap (drop (55 + id_len_in bs)) same ∙ drop_at front (key_bytes c.key) (55 + id_len_in bs) len
+
+pub none_applies : (a : AuthenticatorData) (bs : List ℕ) (e : Error) → AuthOf a bs → Applies bs e → ⊥
+none_applies a bs errors.Short h p = elim p [
+  | inl short ↦ let l = ap length h.1 ∙ length-data a h.0 in omega (arith, l, short)
+  | inr q ↦
+      let some = some_credential a bs h q.0 in
+      let l = length-full a some.0 bs h some.1 in
+      let i = id_len_is a some.0 bs h some.1 in
+      let short = q.1 in
+      omega (arith, l, i, short)
+]
+none_applies a bs errors.Extensions h p =
+    let f = flags_are a bs h in
+    let set : is_set a.flags ED ≡ true = ap (λ (f : ℕ). is_set f ED) (sym f) ∙ p in
+    let clear = h.0.no_extensions in
+    absurd cc
+none_applies a bs errors.BadId h p =
+    let some = some_credential a bs h p.0 in
+    let i = id_len_is a some.0 bs h some.1 in
+    let is = is_credential a some.0 h.0 some.1 in
+    let low = is.id_low in let high = is.id_high in
+    p.1 (omega (arith, i, low), omega (arith, i, high))
+none_applies a bs errors.BadKey h p =
+    let some = some_credential a bs h p.0 in
+    let is = is_credential a some.0 h.0 some.1 in
+    p.1 (some.0.key, [], is.key, key_is a some.0 bs h some.1 ∙ sym (append-nil (key_bytes some.0.key)))
+none_applies a bs errors.ExtraBytes h (b, front, rest, of, some, e) =
+    let k = one_front a b bs front [] rest h of (append-nil bs ∙ e) in
+    let n : length rest ≡ 0 = ap length (sym k.2) in
+    omega (arith, n, some)
+none_applies a bs _ h p = p
+
+-- what the first of a list is, by the list
+split : {E : Type 0} → (E → Type 0) → List E → E → Type 0
+split P [] e = ⊥
+split P (x ∷ xs) e = (P x × (e ≡ x)) ⊎ ((P x → ⊥) × First P xs e)
+
+first_split : {E : Type 0} (P : E → Type 0) (xs : List E) (e : E) → First P xs e → split P xs e
+unfolding split
+first_split P _ _ (here x xs p) = inl (p, refl)
+first_split P _ _ (later x xs e none f) = inr (none, f)
+
+-- the first is one
+pub one_first : {E : Type 0} (P : E → Type 0) (xs : List E) (e f : E) → First P xs e → First P xs f → e ≡ f
+unfolding split
+one_first P [] e f h g = absurd (first_split P [] e h)
+one_first P (x ∷ xs) e f h g = elim (first_split P (x ∷ xs) e h) [
+  | inl p ↦ elim (first_split P (x ∷ xs) f g) [ inl q ↦ p.1 ∙ sym q.1 | inr q ↦ absurd (q.0 p.0) ]
+  | inr p ↦ elim (first_split P (x ∷ xs) f g) [ inl q ↦ absurd (p.0 q.0) | inr q ↦ one_first P xs e f p.1 q.1 ]
+]
+
+pub key_inside : (a : AuthenticatorData) (c : AttestedCredential) (bs : List ℕ) → AuthOf a bs → a.attested ≡ Some c → IsKey c.key × Canon (item_of c.key) (drop (55 + length c.id) bs)
+key_inside a c bs h e =
+    let is = is_credential a c h.0 e in
+    let same : drop (55 + length c.id) bs ≡ key_bytes c.key = ap (λ (n : ℕ). drop (55 + n) bs) (sym (id_len_is a c bs h e)) ∙ key_is a c bs h e in
+    (is.key, subst (λ (l : List ℕ). Canon (item_of c.key) l) (sym same) (key_canon c.key is.key))
+
+pub not_refused : (a : AuthenticatorData) (bs : List ℕ) (e : Error) → Refused bs e → e ≢ errors.Memory → AuthOf a bs → ⊥
+not_refused a bs e r m h = none_applies a bs e h (first_applies (Applies bs) order e (r m))

@@ -1,0 +1,21 @@
+-- The flags of authenticator data: WebAuthn, section 6.1.
+use Rattle.std.specs.Prelude.{ℕ, Bool, not, bit_and, ◌==◌}
+
+-- user present
+abbrev pub UP : ℕ
+UP = 0x01
+
+-- user verified
+abbrev pub UV : ℕ
+UV = 0x04
+
+-- attested credential data included
+abbrev pub AT : ℕ
+AT = 0x40
+
+-- extension data included
+abbrev pub ED : ℕ
+ED = 0x80
+
+abbrev pub is_set : ℕ → ℕ → Bool
+is_set flags flag = not (bit_and flags flag == 0)

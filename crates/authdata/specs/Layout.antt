@@ -1,0 +1,73 @@
+-- Authenticator data and its bytes: WebAuthn, sections 6.1 and 6.5.1.
+use Rattle.std.specs.Prelude.{◌≡◌, ℕ, ◌<◌, ◌≤◌, ◌^◌, false, List, [], ◌∷◌, ◌++◌, length, Option, Some, None, is_some, IfSome, option_map}
+use Rattle.std.specs.Int.{w16, w32, to_be_bytes}
+use Rattle.ccbor.specs.Canon.{spelling}
+use Rattle.cose.specs.declared.key.CoseKey.{CoseKey}
+use Rattle.cose.specs.Keys.{item_of, IsKey}
+use Rattle.authdata.specs.declared.auth.Attested.{Attested}
+use Rattle.authdata.specs.declared.auth.AuthData.{AuthData}
+use Rattle.authdata.specs.Flags.{is_set, AT, ED}
+
+-- attested credential data, without where it lies in memory: aaguid, credentialId,
+-- credentialPublicKey (6.5.1)
+pub record AttestedCredential : Type 0 where
+  pub aaguid : List ℕ
+  pub id : List ℕ
+  pub key : CoseKey
+
+-- authenticator data: rpIdHash, flags, signCount, attestedCredentialData (6.1)
+pub record AuthenticatorData : Type 0 where
+  pub rp_id_hash : List ℕ
+  pub flags : ℕ
+  pub sign_count : ℕ
+  pub attested : Option AttestedCredential
+
+-- credentialPublicKey: the canonical CBOR of the key's value
+abbrev pub key_bytes : CoseKey → List ℕ
+key_bytes key = spelling (item_of key)
+
+-- aaguid (16 bytes), credentialIdLength (2, big-endian), credentialId, credentialPublicKey
+abbrev pub credential_bytes : AttestedCredential → List ℕ
+credential_bytes c = c.aaguid ++ (to_be_bytes w16 (length c.id) ++ (c.id ++ key_bytes c.key))
+
+abbrev pub attested_bytes : Option AttestedCredential → List ℕ
+attested_bytes None = []
+attested_bytes (Some c) = credential_bytes c
+
+-- rpIdHash (32 bytes), flags (1), signCount (4, big-endian), attestedCredentialData where it is
+-- there
+abbrev pub data_bytes : AuthenticatorData → List ℕ
+data_bytes a =
+    a.rp_id_hash ++ (a.flags ∷ (to_be_bytes w32 a.sign_count ++ attested_bytes a.attested))
+
+-- an id of 1 to 64 bytes
+pub record IsAttestedCredential (c : AttestedCredential) : Type 0 where
+  pub aaguid : length c.aaguid ≡ 16
+  pub id_low : 1 ≤ length c.id
+  pub id_high : length c.id ≤ 64
+  pub key : IsKey c.key
+
+-- AT is set exactly if a credential is attested, and there are no extensions
+pub record IsAuthenticatorData (a : AuthenticatorData) : Type 0 where
+  pub rp_id_hash : length a.rp_id_hash ≡ 32
+  pub flags : a.flags < 256
+  pub sign_count : a.sign_count < 2 ^ 32
+  pub attested_flag : is_set a.flags AT ≡ is_some a.attested
+  pub no_extensions : is_set a.flags ED ≡ false
+  pub attested : IfSome a.attested IsAttestedCredential
+
+-- the bytes are those of the authenticator data
+abbrev pub AuthOf : AuthenticatorData → List ℕ → Type 0
+AuthOf a bs = IsAuthenticatorData a × (bs ≡ data_bytes a)
+
+-- what a value of the program is
+abbrev pub credential_view : Attested → AttestedCredential
+credential_view c = record { aaguid = c.aaguid; id = c.id.items; key = c.key }
+
+abbrev pub auth_view : AuthData → AuthenticatorData
+auth_view a = record {
+  rp_id_hash = a.rp_id_hash;
+  flags = a.flags;
+  sign_count = a.sign_count;
+  attested = option_map credential_view a.attested;
+}

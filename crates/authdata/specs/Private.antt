@@ -1,0 +1,25 @@
+-- What private functions are proved against; no public clause cites it.
+use Rattle.std.specs.Prelude.{◌≡◌, ◌≢◌, ℕ, List}
+use Rattle.ccbor.specs.Item.{Item, map, text, bytes, no_pairs, pair}
+use Rattle.authdata.specs.declared.error.Error.{Error}
+use Rattle.authdata.specs.declared.error.Error.TheVariants as errors
+use Rattle.authdata.specs.Objects.{Attestation, IsMap, object_item}
+use Rattle.authdata.specs.Refusals.{First, Applies, later_order}
+
+-- the first refusal that applies of those behind Extensions
+abbrev pub RefusedLater : List ℕ → Error → Type 0
+RefusedLater bs e = e ≢ errors.Memory → First (Applies bs) later_order e
+
+-- the item is the object's value
+abbrev pub ObjectItem : Attestation → Item → Type 0
+ObjectItem o v = IsMap o.statement × (v ≡ object_item o)
+
+-- a map of three members
+abbrev pub HasThree : Item → Type 0
+HasThree v = (a b c d e f : Item) × (v ≡ map (pair a b (pair c d (pair e f no_pairs))))
+
+-- the values of an object's members
+abbrev pub PartsOf : Attestation → Item → Item → Item → Type 0
+PartsOf o fmt statement auth_data =
+    IsMap o.statement
+    × (fmt ≡ text o.fmt) × (statement ≡ o.statement) × (auth_data ≡ bytes o.auth_data)

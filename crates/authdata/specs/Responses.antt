@@ -1,0 +1,29 @@
+-- What a client hands to a relying party, without where it lies in memory: WebAuthn, section 5.2.
+use Rattle.std.specs.Prelude.{ℕ, List, Option, option_map}
+use Rattle.authdata.specs.declared.response.AssertionResponse.{AssertionResponse}
+use Rattle.authdata.specs.declared.response.RegistrationResponse.{RegistrationResponse}
+
+-- 5.2.2: authenticatorData, signature, userHandle, clientDataJSON, and the credential's id
+pub record Assertion : Type 0 where
+  pub credential : List ℕ
+  pub user : Option (List ℕ)
+  pub auth_data : List ℕ
+  pub signature : List ℕ
+  pub client_data : List ℕ
+
+-- 5.2.1: attestationObject, clientDataJSON
+pub record Registration : Type 0 where
+  pub object : List ℕ
+  pub client_data : List ℕ
+
+abbrev pub assertion_view : AssertionResponse → Assertion
+assertion_view r = record {
+  credential = r.credential.items;
+  user = option_map (λ u. u.items) r.user;
+  auth_data = r.auth_data.items;
+  signature = r.signature.items;
+  client_data = r.client_data.items;
+}
+
+abbrev pub registration_view : RegistrationResponse → Registration
+registration_view r = record { object = r.object.items; client_data = r.client_data.items }

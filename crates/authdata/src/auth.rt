@@ -1,0 +1,37 @@
+//! Authenticator data.
+
+ghost use Rattle.std.specs.Prelude.{◌≡◌, ◌≤◌, length, is_some, false};
+ghost use Rattle.authdata.specs.Flags.{is_set, AT, ED};
+
+use cose::CoseKey;
+
+/// Attested credential data (WebAuthn section 6.5.1): what an authenticator says of a credential
+/// that it made.
+#[derive(Debug, PartialEq, Eq, Drop)]
+pub struct Attested {
+    /// The kind of the authenticator.
+    pub aaguid: [u8; 16],
+    /// The credential id, of 1 to 64 bytes.
+    pub id: Vec<u8>,
+    /// The credential's public key.
+    pub key: CoseKey,
+    ghost id_low: { 1 ≤ length id.items },
+    ghost id_high: { length id.items ≤ 64 },
+}
+
+/// Authenticator data (WebAuthn section 6.1): what an authenticator says of a ceremony. It has no
+/// extensions.
+#[derive(Debug, PartialEq, Eq, Drop)]
+pub struct AuthData {
+    /// SHA-256 of the relying party's id.
+    pub rp_id_hash: [u8; 32],
+    /// The flags, by the bits of `flags`; the reserved ones are kept as they came. `AT` is set
+    /// exactly if a credential is attested, and `ED` is clear.
+    pub flags: u8,
+    /// The signature counter.
+    pub sign_count: u32,
+    /// The attested credential, if there is one.
+    pub attested: Option<Attested>,
+    ghost attested_flag: { is_set flags AT ≡ is_some attested },
+    ghost no_extensions: { is_set flags ED ≡ false },
+}

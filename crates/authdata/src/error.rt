@@ -1,0 +1,74 @@
+//! Why a call is refused.
+
+ghost use Rattle.std.specs.Prelude.{◌≡◌};
+ghost use Rattle.authdata.specs.Numbers.{refusal_number};
+ghost use Rattle.authdata.specs.declared.error.Error.TheVariants as errors;
+
+use std::alloc::AllocError;
+
+/// Why bytes are not read, a value is not written or a statement does not hold.
+#[derive(Clone, Copy, Debug, PartialEq, Eq, Drop, thiserror::Error)]
+pub enum Error {
+    /// Memory was wanting.
+    #[error("out of memory")]
+    Memory,
+    /// The attestation object has no canonical encoding, or its statement is no map.
+    #[error("the attestation object has no canonical encoding")]
+    Unfit,
+    /// The bytes are not one whole canonical CBOR value.
+    #[error("not one canonical CBOR value")]
+    NotCanonical,
+    /// Bytes are missing.
+    #[error("the authenticator data is too short")]
+    Short,
+    /// Extension data is included.
+    #[error("the authenticator data has extensions")]
+    Extensions,
+    /// The credential id has no byte or more than 64.
+    #[error("the credential id has no byte or more than 64")]
+    BadId,
+    /// No encoding of a key follows the credential id.
+    #[error("no COSE key follows the credential id")]
+    BadKey,
+    /// Bytes are left.
+    #[error("bytes follow the authenticator data")]
+    ExtraBytes,
+    /// The value is no attestation object.
+    #[error("not an attestation object")]
+    Shape,
+    /// The attestation statement's format is neither `none` nor `packed`.
+    #[error("the attestation statement's format is unknown")]
+    UnknownFormat,
+    /// The attestation statement does not hold.
+    #[error("the attestation statement does not hold")]
+    BadStatement,
+}
+
+impl Error {
+    /// The refusal's number; want of memory has none.
+    pub fn number(&self) -> Option<u8>
+        ensures { result ≡ refusal_number self.now }
+    {
+        match self {
+            Error::Memory => None,
+            Error::Unfit => Some(1),
+            Error::NotCanonical => Some(2),
+            Error::Short => Some(8),
+            Error::Extensions => Some(9),
+            Error::BadId => Some(10),
+            Error::BadKey => Some(11),
+            Error::ExtraBytes => Some(12),
+            Error::Shape => Some(13),
+            Error::UnknownFormat => Some(14),
+            Error::BadStatement => Some(15),
+        }
+    }
+}
+
+impl From<AllocError> for Error {
+    ghost from_gives = { λ _ e. e ≡ errors.Memory };
+
+    fn from(_e: AllocError) -> Error {
+        Error::Memory
+    }
+}

@@ -1,0 +1,24 @@
+//! The flags of authenticator data (WebAuthn section 6.1), each by its bit. The other bits are
+//! reserved.
+
+ghost use Rattle.std.specs.Prelude.{◌≡◌};
+ghost use Rattle.authdata.specs.Flags.{is_set};
+
+/// User present.
+pub const UP: u8 = 0x01;
+
+/// User verified.
+pub const UV: u8 = 0x04;
+
+/// Attested credential data included.
+pub const AT: u8 = 0x40;
+
+/// Extension data included.
+pub const ED: u8 = 0x80;
+
+/// Whether a flag is set.
+pub fn is_set(flags: u8, flag: u8) -> bool
+    ensures { result ≡ is_set flags flag }
+{
+    flags & flag != 0
+}

@@ -1,0 +1,63 @@
+//! Laws of authenticator data, attestation objects and statements.
+
+ghost use Rattle.std.specs.Prelude.{◌≡◌, ◌≤◌, ◌+◌, ◌++◌, ℕ, List, Result, Some, None, drop, length};
+ghost use Rattle.ccbor.specs.Canon.{Canon};
+ghost use Rattle.cose.specs.Keys.{IsKey, encoded_length, item_of};
+ghost use Rattle.cose.specs.declared.key.CoseKey.{CoseKey};
+ghost use Rattle.authdata.specs.Layout.{AttestedCredential, AuthenticatorData, AuthOf};
+ghost use Rattle.authdata.specs.Objects.{Attestation, ObjectOf};
+ghost use Rattle.authdata.specs.Refusals.{Applies, First, order};
+ghost use Rattle.authdata.specs.Statements.{Statement};
+ghost use Rattle.authdata.specs.declared.error.Error.{Error};
+ghost use Rattle.authdata.specs.declared.statement.AttestationType.{AttestationType};
+
+use cose::Verifier;
+
+/// Bytes are those of one authenticator data at most, and none of these byte lists begins
+/// another: so where two of them stand before other bytes and the whole is equal, each part is
+/// equal.
+pub fn one_reading()
+    ensures one_value { (a b : AuthenticatorData) (bs : List ℕ)
+        → AuthOf a bs → AuthOf b bs → a ≡ b }
+    ensures one_front { (a b : AuthenticatorData) (x y u v : List ℕ) → AuthOf a x → AuthOf b y
+        → x ++ u ≡ y ++ v → (a ≡ b) × (x ≡ y) × (u ≡ v) }
+{}
+
+/// Authenticator data have 37 bytes without a credential, and at least 55 + 1 + 42 with one.
+pub fn sizes()
+    ensures bare { (a : AuthenticatorData) (bs : List ℕ)
+        → AuthOf a bs → a.attested ≡ None → length bs ≡ 37 }
+    ensures attested { (a : AuthenticatorData) (c : AttestedCredential) (bs : List ℕ) → AuthOf a bs
+        → a.attested ≡ Some c → 55 + length c.id + 42 ≤ length bs }
+    ensures least { (a : AuthenticatorData) (c : AttestedCredential) (bs : List ℕ) → AuthOf a bs
+        → a.attested ≡ Some c → 55 + 1 + 42 ≤ length bs }
+    ensures exact { (a : AuthenticatorData) (c : AttestedCredential) (bs : List ℕ) → AuthOf a bs
+        → a.attested ≡ Some c → length bs ≡ 55 + length c.id + encoded_length c.key }
+{}
+
+/// Behind the credential id stands the key's canonical encoding, and nothing more.
+pub fn key_inside()
+    ensures { (a : AuthenticatorData) (c : AttestedCredential) (bs : List ℕ) → AuthOf a bs
+        → a.attested ≡ Some c → IsKey c.key × Canon (item_of c.key) (drop (55 + length c.id) bs) }
+{}
+
+/// No refusal applies to the bytes of authenticator data, and of those that apply to other bytes
+/// one is the first.
+pub fn one_refusal()
+    ensures none { (a : AuthenticatorData) (bs : List ℕ) (e : Error)
+        → AuthOf a bs → Applies bs e → ⊥ }
+    ensures one { (bs : List ℕ) (e f : Error)
+        → First (Applies bs) order e → First (Applies bs) order f → e ≡ f }
+{}
+
+/// Bytes are those of one attestation object at most.
+pub fn one_object()
+    ensures { (o p : Attestation) (bs : List ℕ) → ObjectOf o bs → ObjectOf p bs → o ≡ p }
+{}
+
+/// What is answered of a statement is determined.
+pub fn one_statement<V: Verifier>()
+    ensures { (scheme : V) (o : Attestation) (key : CoseKey) (hash : List ℕ)
+        (r s : Result AttestationType Error) → Statement (V.valid scheme) o key hash r
+        → Statement (V.valid scheme) o key hash s → r ≡ s }
+{}

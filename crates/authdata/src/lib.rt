@@ -1,0 +1,26 @@
+//! Authenticator data (WebAuthn section 6.1) and attestation objects (WebAuthn section 6.5).
+#![tactic(auto)]
+
+mod auth;
+mod error;
+pub mod flags;
+mod law;
+mod members;
+mod object;
+mod parts;
+mod reading;
+mod response;
+mod statement;
+mod writing;
+
+pub use auth::{Attested, AuthData};
+pub use error::Error;
+pub use law::{key_inside, one_object, one_reading, one_refusal, one_statement, sizes};
+pub use object::AttestationObject;
+pub use reading::read;
+pub use response::{AssertionResponse, RegistrationResponse};
+pub use statement::{AttestationType, check_statement};
+pub use writing::write;
+
+#[cfg(test)]
+mod tests;

@@ -1,0 +1,51 @@
+//! Parts of authenticator data.
+
+ghost use Rattle.std.specs.Prelude.{◌↔◌, ◌≡◌, ◌+◌, ◌<◌, ◌⊎◌, ◌++◌, length, IfOk, IfErr, IsErrOf, IsTrue, true};
+ghost use Rattle.cose.specs.Keys.{IsKey};
+ghost use Rattle.authdata.specs.Flags.{is_set, AT};
+ghost use Rattle.authdata.specs.Layout.{key_bytes};
+ghost use Rattle.authdata.specs.Refusals.{Applies, BeginsWithKey, id_len_in};
+ghost use Rattle.authdata.specs.declared.error.Error.TheVariants as errors;
+
+use crate::error::Error;
+use crate::flags;
+use ccbor::decode;
+use cose::CoseKey;
+use std::alloc::Global;
+
+/// The key at the front, and the bytes behind it.
+pub fn key_front(alloc: Global, bytes: &[u8]) -> Result<(CoseKey, &[u8]), Error>
+    ensures found { IfOk result (λ x. IsKey x.0 × (bytes.now ≡ key_bytes x.0 ++ x.1.now)) }
+    ensures none { IsErrOf result Error.BadKey → BeginsWithKey bytes.now → ⊥ }
+    ensures errors { IfErr result (λ e. (e ≡ errors.Memory) ⊎ (e ≡ errors.BadKey)) }
+{
+    match decode(alloc, bytes) {
+        Ok((value, len)) => match CoseKey::from_value(&value) {
+            Ok(key) => Ok((key, &bytes[len..])),
+            Err(_) => Err(Error::BadKey),
+        },
+        Err(ccbor::Error::NotCanonical) => Err(Error::BadKey),
+        Err(_) => Err(Error::Memory),
+    }
+}
+
+/// The id's length.
+pub fn id_len(bytes: &[u8]) -> u16
+    requires { 54 < length bytes.now }
+    ensures { result ≡ id_len_in bytes.now }
+{
+    u16::from_be_bytes([bytes[53], bytes[54]])
+}
+
+/// Whether the fixed part, or with a credential what stands before its key, is not there whole.
+pub fn is_short(bytes: &[u8]) -> bool
+    ensures { IsTrue result ↔ Applies bytes.now errors.Short }
+{
+    if bytes.len() < 37 {
+        return true;
+    }
+    if !flags::is_set(bytes[32], flags::AT) {
+        return false;
+    }
+    bytes.len() < 55 || bytes.len() < 55 + id_len(bytes) as usize
+}

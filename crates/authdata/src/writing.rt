@@ -1,0 +1,51 @@
+//! Writing authenticator data.
+
+ghost use Rattle.std.specs.Prelude.{◌≡◌, ◌++◌, IfOk, OnOk};
+ghost use Rattle.cose.specs.Keys.{IsKey};
+ghost use Rattle.authdata.specs.Layout.{AuthOf, IsAttestedCredential, auth_view, credential_bytes, credential_view, key_bytes};
+
+use crate::auth::{Attested, AuthData};
+use ccbor::encode;
+use cose::CoseKey;
+use std::alloc::{AllocError, Global};
+
+/// Appends the key's encoding.
+fn put_key(alloc: Global, key: &CoseKey, out: &mut Vec<u8>) -> Result<(), AllocError>
+    ensures appended { OnOk result (out.new.items ≡ out.old.items ++ key_bytes key.now) }
+    ensures is { OnOk result (IsKey key.now) }
+{
+    let value = key.to_value(alloc)?;
+    match encode(&value, out) {
+        Ok(()) => Ok(()),
+        Err(ccbor::Error::Unfit) => unreachable!("a key has an encoding"),
+        Err(_) => Err(AllocError),
+    }
+}
+
+/// Appends attested credential data.
+fn put_credential(alloc: Global, credential: &Attested, out: &mut Vec<u8>) -> Result<(), AllocError>
+    ensures appended { OnOk result (out.new.items
+        ≡ out.old.items ++ credential_bytes (credential_view credential.now)) }
+    ensures is { OnOk result (IsAttestedCredential (credential_view credential.now)) }
+{
+    out.extend_from_slice(&credential.aaguid)?;
+    out.extend_from_slice(&(credential.id.len() as u16).to_be_bytes())?;
+    out.extend_from_slice(credential.id.as_slice())?;
+    put_key(alloc, &credential.key, out)
+}
+
+/// The bytes of authenticator data (WebAuthn section 6.1): 37, and with a credential those of its
+/// id, its key (77 for ES256, 42 for EdDSA) and 18 more.
+pub fn write(alloc: Global, auth: &AuthData) -> Result<Vec<u8>, AllocError>
+    ensures { IfOk result (λ bytes. AuthOf (auth_view auth.now) bytes.items) }
+{
+    let mut out = Vec::new(alloc);
+    out.extend_from_slice(&auth.rp_id_hash)?;
+    out.push(auth.flags)?;
+    out.extend_from_slice(&auth.sign_count.to_be_bytes())?;
+    match &auth.attested {
+        Some(credential) => put_credential(alloc, credential, &mut out)?,
+        None => {}
+    }
+    Ok(out)
+}

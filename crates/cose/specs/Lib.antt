@@ -1,0 +1,5 @@
+pub mod Keys
+pub mod Reading
+pub mod Schemes
+pub mod Bench
+pub mod Listed

@@ -1,0 +1,19 @@
+//! Laws of the keys' values.
+
+ghost use Rattle.std.specs.Prelude.{◌≡◌, ℕ, List, length};
+ghost use Rattle.ccbor.specs.Canon.{Canon, spelling};
+ghost use Rattle.ccbor.specs.Item.{Item};
+ghost use Rattle.cose.specs.Keys.{IsKey, KeyOf, item_of, encoded_length};
+ghost use Rattle.cose.specs.declared.key.CoseKey.{CoseKey};
+
+/// A key has one value, and a value is that of one key at most.
+pub fn one_key_each()
+    ensures one_key { (k l : CoseKey) (v : Item) → KeyOf k v → KeyOf l v → k ≡ l }
+    ensures one_value { (k : CoseKey) (v w : Item) → KeyOf k v → KeyOf k w → v ≡ w }
+{}
+
+/// Each key has an encoding in canonical CBOR: 77 bytes for ES256, 42 for EdDSA.
+pub fn sizes_of_keys()
+    ensures encoded { (k : CoseKey) → IsKey k → Canon (item_of k) (spelling (item_of k)) }
+    ensures sizes { (k : CoseKey) → IsKey k → length (spelling (item_of k)) ≡ encoded_length k }
+{}

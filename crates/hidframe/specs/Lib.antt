@@ -1,0 +1,3 @@
+pub mod Packets
+pub mod Frames
+pub mod Pieces

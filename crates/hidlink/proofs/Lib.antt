@@ -1,0 +1,15 @@
+pub mod Runs
+pub mod Beginnings
+pub mod Sofar
+pub mod Shows
+pub mod Exactly
+pub mod Laws
+pub mod Reception
+pub mod Left
+pub mod Readings
+pub mod Lines
+pub mod Moves
+pub mod Plain
+pub mod Steps
+pub mod Calls
+pub mod Hearing

@@ -1,0 +1,18 @@
+use Rattle.std.proofs.Common.{◌≡◌, ◌≤◌, sym, ◌∙◌, ap, arith, take, length}
+use Rattle.std.proofs.lemmas.List.{length-take-le}
+use Rattle.std.proofs.lemmas.Bool.{leb-true, le-leb}
+use Rattle.hidframe.specs.Pieces.{packet_count}
+use Rattle.hidlink.proofs.Left.{nothing_left, none_left}
+use Rattle.hidlink.proofs.room.Outbox.is_drained.Goals as goal
+
+pub returns : goal.returns
+returns c =
+    let size : length (take c.self.inside.len c.self.inside.room.value) ≡ c.self.inside.len =
+    length-take-le c.self.inside.len c.self.inside.room.value (let a = c.self.invariant.size in let b = c.self.invariant.room in omega arith) in
+    let count : c.packet_count.result ≡ packet_count (length (take c.self.inside.len c.self.inside.room.value)) = c.packet_count.ensures ∙ ap packet_count (sym size) in (
+      λ h. sym c.self.view_is ∙ nothing_left c.self.inside.cid c.self.inside.cmd (take c.self.inside.len c.self.inside.room.value) c.self.inside.next
+          (let over : c.packet_count.result ≤ c.self.inside.next = leb-true c.packet_count.result c.self.inside.next h in omega arith),
+      λ e. le-leb c.packet_count.result c.self.inside.next
+          (let over : packet_count (length (take c.self.inside.len c.self.inside.room.value)) ≤ c.self.inside.next =
+          none_left c.self.inside.cid c.self.inside.cmd (take c.self.inside.len c.self.inside.room.value) c.self.inside.next (c.self.view_is ∙ e) in omega arith),
+    )

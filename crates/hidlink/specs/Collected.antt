@@ -1,0 +1,38 @@
+-- How a collector's fields are seen, and what private functions keep of them.
+use Rattle.std.specs.Prelude.{◌≡◌, ℕ, ◌+◌, ◌*◌, ◌<◌, ◌≤◌, List, length}
+use Rattle.hidframe.specs.Frames.{continuation_count}
+use Rattle.hidlink.specs.Wire.{Shown, Waiting, Receiving, Replied, Failed, Died}
+use Rattle.hidlink.specs.Steps.{IsEnded}
+use Rattle.hidlink.specs.declared.collection.Received.{Received}
+use Rattle.hidlink.specs.declared.collection.Received.TheVariants.{Message, DeviceError, Dead, Incomplete}
+use Rattle.hidlink.specs.declared.collection.Phase.{Phase}
+use Rattle.hidlink.specs.declared.collection.Phase.TheVariants as phase
+
+-- what a collector's callers see
+pub record Collected : Type 0 where
+  pub cid : ℕ
+  pub shown : Shown
+
+-- what it shows in this phase, with these bytes in its room
+abbrev pub shown_of : Phase → List ℕ → Shown
+shown_of phase.Idle bytes = Waiting
+shown_of (phase.Within len next) bytes = Receiving len next bytes
+shown_of phase.Whole bytes = Replied bytes
+shown_of (phase.Fault code) bytes = Failed code
+shown_of (phase.Over kind) bytes = Died kind
+
+-- the bytes that are there in this phase
+abbrev pub Fits : Phase → List ℕ → Type 0
+Fits phase.Idle bytes = Unit {0}
+Fits (phase.Within len next) bytes =
+    (length bytes ≡ 57 + 59 * next) × (next < continuation_count len) × (len ≤ 7609)
+Fits phase.Whole bytes = Unit {0}
+Fits (phase.Fault code) bytes = Unit {0}
+Fits (phase.Over kind) bytes = Unit {0}
+
+-- what an answer after the packet at i says of what is shown
+abbrev pub ShowsAt : Shown → ℕ → Received → Type 0
+ShowsAt s i (Message message used) = (s ≡ Replied message.now) × (used ≡ i + 1)
+ShowsAt s i (DeviceError code used) = (s ≡ Failed code) × (used ≡ i + 1)
+ShowsAt s i (Dead index kind) = (s ≡ Died kind) × (index ≡ i)
+ShowsAt s i Incomplete = IsEnded s → ⊥

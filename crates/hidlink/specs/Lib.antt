@@ -1,0 +1,9 @@
+pub mod Wire
+pub mod Feeds
+pub mod Steps
+pub mod Collected
+pub mod Receives
+pub mod Ranks
+pub mod History
+pub mod Machine
+pub mod Opens

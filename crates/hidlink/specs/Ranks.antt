@@ -1,0 +1,173 @@
+use Rattle.std.specs.Prelude.{ℕ, Bool, true, false, ◌+◌, ◌==◌, ◌&&◌, ◌||◌, not, nat_lt, List, [], ◌∷◌, ◌++◌, take, Option, Some, None, if◌then◌else◌}
+use Rattle.std.specs.List.{position_or_len}
+use Rattle.std.specs.Int.{w32, to_be_bytes}
+use Rattle.hidframe.specs.declared.Packet.{Packet}
+use Rattle.hidframe.specs.declared.ctaphid.TheConstants.{CTAPHID_BROADCAST_CID, CTAPHID_RESERVED_CID, CTAPHID_PING, CTAPHID_INIT, CTAPHID_CBOR, CTAPHID_CANCEL, CTAPHID_ERROR, ERR_INVALID_CMD, ERR_INVALID_LEN, ERR_INVALID_SEQ, ERR_MSG_TIMEOUT, ERR_CHANNEL_BUSY, ERR_INVALID_CHANNEL, ERR_OTHER, MAX_PAYLOAD_SIZE, PROTOCOL_VERSION}
+use Rattle.hidframe.specs.Packets.{Fields, Initial, Continuation}
+use Rattle.hidframe.specs.Frames.{continuation_count}
+use Rattle.hidframe.specs.Pieces.{frame_list}
+use Rattle.hidlink.specs.declared.transaction.Step.{Step}
+use Rattle.hidlink.specs.declared.transaction.Step.TheVariants.{Quiet, Request, Cancelled, Aborted}
+
+-- What a device answers to a packet: CTAP 2.1 sections 11.2.5 (arbitration) and 11.2.9 (commands). The
+-- order of the lines, their error numbers and the answers to a broken, interrupted or cancelled
+-- transaction are this project's own.
+
+-- what a device is doing: nothing; receiving a message on a channel, its command, its length, the
+-- number of the next continuation, the bytes so far; working on a request that came on a channel
+pub data State : Type 0 where
+  Idle : State
+  Receiving : (cid cmd len next : ℕ) (bytes : List ℕ) → State
+  Working : (cid : ℕ) (payload : List ℕ) → State
+
+abbrev pub is_busy : State → Bool
+is_busy Idle = false
+is_busy (Receiving cid cmd len next bytes) = true
+is_busy (Working cid payload) = true
+
+abbrev pub is_receiving_on : State → ℕ → Bool
+is_receiving_on Idle c = false
+is_receiving_on (Receiving cid cmd len next bytes) c = cid == c
+is_receiving_on (Working cid payload) c = false
+
+abbrev pub is_working_on : State → ℕ → Bool
+is_working_on Idle c = false
+is_working_on (Receiving cid cmd len next bytes) c = false
+is_working_on (Working cid payload) c = cid == c
+
+-- a message to send
+pub record Message : Type 0 where
+  pub cid : ℕ
+  pub cmd : ℕ
+  pub payload : List ℕ
+
+-- its packets
+abbrev pub packets_of : Option Message → List Packet
+packets_of None = []
+packets_of (Some message) = frame_list message.cid message.cmd message.payload
+
+-- an ERROR on c
+abbrev pub error : ℕ → ℕ → Option Message
+error c code = Some (record { cid = c; cmd = CTAPHID_ERROR; payload = code ∷ [] })
+
+-- The answer to an INIT of this data area, on channel c: the nonce, the channel that is named, the
+-- protocol's version, the device's versions 1, 0, 0, and the capabilities CBOR and NMSG.
+abbrev pub init_response : ℕ → ℕ → List ℕ → Option Message
+init_response c named area = Some (record {
+  cid = c;
+  cmd = CTAPHID_INIT;
+  payload = take 8 area ++ (to_be_bytes w32 named ++ PROTOCOL_VERSION ∷ 1 ∷ 0 ∷ 0 ∷ 12 ∷ []);
+})
+
+-- what is sent, and what the call tells
+pub record Response : Type 0 where
+  pub sent : Option Message
+  pub step : Step
+
+abbrev pub sends : Option Message → Response
+sends message = record { sent = message; step = Quiet }
+
+abbrev pub tells : Step → Response
+tells step = record { sent = None; step = step }
+
+-- what comes of a message of which continuations up to `next` are there: more is missing, or a request
+-- is complete, or a PING is sent back
+abbrev pub on_receipt : ℕ → ℕ → ℕ → ℕ → List ℕ → Response
+on_receipt c cmd len next bytes =
+    if nat_lt next (continuation_count len) then tells Quiet
+    else (if cmd == CTAPHID_CBOR then tells (Request c)
+    else sends (Some (record { cid = c; cmd = CTAPHID_PING; payload = take len bytes })))
+
+-- The table for an initial packet on c, n channels being out: the ranks 1 to 14, each with the test
+-- whether it applies, and the response.
+abbrev pub lines : ℕ → State → ℕ → ℕ → ℕ → List ℕ → List (Bool × Response)
+lines n s c cmd len area = (
+  c == CTAPHID_RESERVED_CID || (nat_lt n c && not (c == CTAPHID_BROADCAST_CID)),
+  sends (error c ERR_INVALID_CHANNEL),
+)
+    ∷ (c == CTAPHID_BROADCAST_CID && not (cmd == CTAPHID_INIT), sends (error c ERR_INVALID_CHANNEL))
+    ∷ (cmd == CTAPHID_INIT && not (len == 8), sends (error c ERR_INVALID_LEN))
+    ∷ (
+      (cmd == CTAPHID_INIT && c == CTAPHID_BROADCAST_CID) && is_busy s,
+      sends (error c ERR_CHANNEL_BUSY),
+    )
+    ∷ ((cmd == CTAPHID_INIT && c == CTAPHID_BROADCAST_CID) && n == 65535, sends (error c ERR_OTHER))
+    ∷ (cmd == CTAPHID_INIT && c == CTAPHID_BROADCAST_CID, sends (init_response c (n + 1) area))
+    ∷ (
+      cmd == CTAPHID_INIT && (is_busy s && not (is_receiving_on s c || is_working_on s c)),
+      sends (error c ERR_CHANNEL_BUSY),
+    )
+    ∷ (
+      cmd == CTAPHID_INIT,
+      record { sent = init_response c c area; step = if is_working_on s c then Aborted else Quiet },
+    )
+    ∷ (is_receiving_on s c, sends (error c ERR_INVALID_SEQ))
+    ∷ (cmd == CTAPHID_CANCEL && is_working_on s c, tells Cancelled)
+    ∷ (cmd == CTAPHID_CANCEL, tells Quiet)
+    ∷ (is_busy s, sends (error c ERR_CHANNEL_BUSY))
+    ∷ (not (cmd == CTAPHID_PING) && not (cmd == CTAPHID_CBOR), sends (error c ERR_INVALID_CMD))
+    ∷ (
+      nat_lt MAX_PAYLOAD_SIZE len || (cmd == CTAPHID_CBOR && len == 0),
+      sends (error c ERR_INVALID_LEN),
+    )
+    ∷ []
+
+-- the rank of an initial packet: the number of the first line that applies, and 15 where none does
+abbrev pub rank : ℕ → State → ℕ → ℕ → ℕ → ℕ
+rank n s c cmd len = position_or_len (λ line. line.0) (lines n s c cmd len []) + 1
+
+-- the response of the first line that applies, else this one
+abbrev pub first_line : {X : Type 0} → List (Bool × X) → X → X
+first_line [] last = last
+first_line (line ∷ more) last = if line.0 then line.1 else first_line more last
+
+-- the response to a packet that says this
+abbrev pub response : ℕ → State → Fields → Response
+response n s (Initial c cmd len area) =
+    first_line (lines n s c cmd len area) (on_receipt c cmd len 0 area)
+response n Idle (Continuation c seq area) = tells Quiet
+response n (Working cid payload) (Continuation c seq area) = tells Quiet
+response n (Receiving cid cmd len next bytes) (Continuation c seq area) =
+    if cid == c then (if seq == next then on_receipt cid cmd len (next + 1) (bytes ++ area) else sends (error cid ERR_INVALID_SEQ))
+    else tells Quiet
+
+-- what an expired time sends
+abbrev pub expiry : State → Option Message
+expiry Idle = None
+expiry (Receiving cid cmd len next bytes) = error cid ERR_MSG_TIMEOUT
+expiry (Working cid payload) = None
+
+-- the channel and the payload of the request that it works on
+abbrev pub working_channel : State → Option ℕ
+working_channel Idle = None
+working_channel (Receiving cid cmd len next bytes) = None
+working_channel (Working cid payload) = Some cid
+
+abbrev pub request_payload : State → Option (List ℕ)
+request_payload Idle = None
+request_payload (Receiving cid cmd len next bytes) = None
+request_payload (Working cid payload) = Some payload
+
+-- it receives; it works
+abbrev pub IsReceiving : State → Type 0
+IsReceiving Idle = ⊥
+IsReceiving (Receiving cid cmd len next bytes) = Unit {0}
+IsReceiving (Working cid payload) = ⊥
+
+abbrev pub IsWorking : State → Type 0
+IsWorking Idle = ⊥
+IsWorking (Receiving cid cmd len next bytes) = ⊥
+IsWorking (Working cid payload) = Unit {0}
+
+-- a message of this command on the channel that it works on
+abbrev pub on_working : State → ℕ → List ℕ → Option Message
+on_working Idle cmd payload = None
+on_working (Receiving cid other len next bytes) cmd payload = None
+on_working (Working cid request) cmd payload = Some (record { cid = cid; cmd = cmd; payload = payload })
+
+-- what callers see of a device: how many channels it handed out, what it is doing, the packets that
+-- are left to send
+pub record Shown : Type 0 where
+  pub channels : ℕ
+  pub state : State
+  pub left : List Packet

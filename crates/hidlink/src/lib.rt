@@ -1,0 +1,18 @@
+//! Both ends of a CTAPHID channel: section 11.2 of CTAP 2.1.
+#![tactic(auto)]
+
+mod arbitration;
+mod collection;
+mod opening;
+mod room;
+mod transaction;
+
+pub use arbitration::MAX_CHANNELS;
+pub use collection::{Collector, DeadKind, Ended, Outcome, Received, one_outcome, receive};
+pub use opening::{Opener, Opening};
+pub use transaction::{Device, Refusal, Step, one_history};
+
+#[cfg(test)]
+mod device_tests;
+#[cfg(test)]
+mod tests;

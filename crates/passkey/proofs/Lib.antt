@@ -1,0 +1,4 @@
+pub mod Replies
+pub mod Payloads
+pub mod Verdicts
+pub mod Lists

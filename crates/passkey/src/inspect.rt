@@ -1,0 +1,181 @@
+//! What bytes say: `passkey inspect`.
+
+ghost use Rattle.std.specs.Prelude.{◌≡◌};
+ghost use Rattle.passkey.specs.declared.inspect.InspectFault.TheVariants as faults;
+
+use crate::hex_text::unhex;
+use ccbor::{Value, decode_all};
+use cose::Alg;
+use hidframe::{Head, Packet};
+use std::alloc::{AllocError, Global};
+use std::fmt::{Debug, Write};
+use std::str;
+
+/// Why nothing is printed.
+#[derive(Debug, Drop)]
+pub enum InspectFault {
+    /// The input is not hex.
+    BadHex,
+    /// The bytes are refused: the line to print, with the refusal's number and name.
+    Refused(String),
+    /// There was no memory.
+    Memory,
+}
+
+impl From<AllocError> for InspectFault {
+    ghost from_gives = { λ _ e. e ≡ faults.Memory };
+
+    fn from(_e: AllocError) -> InspectFault {
+        InspectFault::Memory
+    }
+}
+
+/// Writes a text in quotes: a quote and a backslash behind a backslash, and characters below U+0020 by
+/// `\u` and four hex digits.
+pub fn write_quoted(text: &str, out: &mut String) -> Result<(), AllocError> {
+    out.push('"')?;
+    for c in text.chars() {
+        match c {
+            '"' => out.push_str("\\\"")?,
+            '\\' => out.push_str("\\\\")?,
+            c if c < ' ' => {
+                let code = c as u32;
+                write!(out, "\\u{code:04x}")?;
+            }
+            c => out.push(c)?,
+        }
+    }
+    out.push('"')
+}
+
+/// Writes a value: numbers in decimal, bytes as `h'` hex `'`, texts in quotes, `[a, b]`, `{k: v, k: v}`.
+fn write_value(value: &Value, alloc: Global, out: &mut String) -> Result<(), AllocError> {
+    match value {
+        Value::Uint(n) => write!(out, "{n}"),
+        Value::Nint(n) => {
+            let distance = u128::from(*n) + 1;
+            write!(out, "-{distance}")
+        }
+        Value::Bytes(bytes) => {
+            let digits = hex::encode(alloc, bytes.as_slice())?;
+            write!(out, "h'{digits}'")
+        }
+        Value::Text(text) => write_quoted(text, out),
+        Value::Array(items) => {
+            out.push('[')?;
+            for (i, item) in items.iter().enumerate() {
+                if i > 0 {
+                    out.push_str(", ")?;
+                }
+                write_value(item, alloc, out)?;
+            }
+            out.push(']')
+        }
+        Value::Map(pairs) => {
+            out.push('{')?;
+            for (i, (key, value)) in pairs.iter().enumerate() {
+                if i > 0 {
+                    out.push_str(", ")?;
+                }
+                write_value(key, alloc, out)?;
+                out.push_str(": ")?;
+                write_value(value, alloc, out)?;
+            }
+            out.push('}')
+        }
+        Value::Bool(b) => write!(out, "{b}"),
+    }
+}
+
+/// The fault that a refusal with a number is told as.
+fn refused(
+    alloc: Global,
+    number: Option<u8>,
+    name: &(impl Debug + Drop),
+) -> Result<InspectFault, AllocError> {
+    let number = number.unwrap_or(0);
+    Ok(InspectFault::Refused(format!(in alloc; "fault {number} {name:?}")?))
+}
+
+/// The line that shows the one whole value that the bytes encode.
+fn cbor(alloc: Global, bytes: &[u8]) -> Result<String, InspectFault> {
+    let value = match decode_all(alloc, bytes) {
+        Ok(value) => value,
+        Err(ccbor::Error::Memory) => return Err(InspectFault::Memory),
+        Err(error) => return Err(refused(alloc, error.number(), &error)?),
+    };
+    let mut out = String::new(alloc);
+    write_value(&value, alloc, &mut out)?;
+    out.push('\n')?;
+    Ok(out)
+}
+
+/// The lines that show authenticator data.
+fn auth_data(alloc: Global, bytes: &[u8]) -> Result<String, InspectFault> {
+    let read = match authdata::read(alloc, bytes) {
+        Ok(read) => read,
+        Err(authdata::Error::Memory) => return Err(InspectFault::Memory),
+        Err(error) => return Err(refused(alloc, error.number(), &error)?),
+    };
+    let mut out = String::new(alloc);
+    let rp_id_hash = hex::encode(alloc, read.rp_id_hash.as_slice())?;
+    let (flags, sign_count) = (read.flags, read.sign_count);
+    write!(
+        out,
+        "rp {rp_id_hash}\nflags {flags:02x}\ncount {sign_count}\n"
+    )?;
+    if let Some(attested) = &read.attested {
+        let aaguid = hex::encode(alloc, attested.aaguid.as_slice())?;
+        let id = hex::encode(alloc, attested.id.as_slice())?;
+        let key = match attested.key.alg() {
+            Alg::Es256 => "ES256",
+            Alg::EdDsa => "EdDSA",
+        };
+        write!(out, "aaguid {aaguid}\nid {id}\nkey {key}\n")?;
+    }
+    Ok(out)
+}
+
+/// Writes the line that shows a packet.
+fn write_packet(packet: &Packet, out: &mut String) -> Result<(), AllocError> {
+    match packet.read() {
+        Head::Init {
+            cid,
+            cmd,
+            len,
+            bytes: _,
+        } => writeln!(out, "init {cid:08x} {cmd:02x} {len}"),
+        Head::Cont { cid, seq, bytes: _ } => writeln!(out, "cont {cid:08x} {seq}"),
+    }
+}
+
+/// The lines that show packets, one of 64 bytes in hex a line.
+fn packets(alloc: Global, text: &str) -> Result<String, InspectFault> {
+    let mut out = String::new(alloc);
+    for line in text.split('\n') {
+        let bytes = unhex(alloc, line)?.ok_or(InspectFault::BadHex)?;
+        if bytes.is_empty() {
+            continue;
+        }
+        let Ok(packet) = <[u8; 64]>::try_from(bytes.as_slice()) else {
+            return Err(InspectFault::BadHex);
+        };
+        write_packet(&Packet(packet), &mut out)?;
+    }
+    Ok(out)
+}
+
+/// What the input says, as this kind of bytes: `cbor`, `authdata` or `packets`.
+pub fn inspect(alloc: Global, kind: &str, input: &[u8]) -> Result<String, InspectFault> {
+    let Ok(text) = str::from_utf8(input) else {
+        return Err(InspectFault::BadHex);
+    };
+    if kind == "packets" {
+        return packets(alloc, text);
+    }
+    let bytes = unhex(alloc, text)?.ok_or(InspectFault::BadHex)?;
+    if kind == "authdata" {
+        return auth_data(alloc, &bytes);
+    }
+    cbor(alloc, &bytes)
+}

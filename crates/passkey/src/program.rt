@@ -1,0 +1,135 @@
+//! The program `passkey`, over a reader and two writers.
+
+ghost use Rattle.std.specs.Prelude.{◌≤◌, length, IfOk};
+
+use crate::inspect::{InspectFault, inspect};
+use crate::replay::{Ended, run_script};
+use crate::script::Fault;
+use crate::words::{Subcommand, command};
+use clap::error::ErrorKind;
+use std::alloc::Global;
+use std::io;
+use std::io::{Read, Write};
+
+/// The most bytes of standard input.
+pub const MAX_INPUT: usize = 16_777_216;
+
+/// Why there is no input.
+#[derive(Clone, Copy, Debug, PartialEq, Eq, Drop)]
+enum InputFault {
+    TooLong,
+    Unread,
+    Memory,
+}
+
+/// All that the reader has, if that is at most `MAX_INPUT` bytes.
+fn read_input<R: Read>(alloc: Global, reader: &mut R) -> Result<Vec<u8>, InputFault>
+    ensures { IfOk result (λ v. length v.items ≤ 16777216) }
+{
+    let mut bytes = Vec::new(alloc);
+    let limit = MAX_INPUT as u64 + 1;
+    match reader.take(limit).read_to_end(&mut bytes) {
+        Ok(_) if bytes.len() > MAX_INPUT => Err(InputFault::TooLong),
+        Ok(_) => Ok(bytes),
+        Err(e) if e.kind() == io::ErrorKind::OutOfMemory => Err(InputFault::Memory),
+        Err(_) => Err(InputFault::Unread),
+    }
+}
+
+/// Writes a fault's line, whether that succeeds or not, and answers its status.
+fn fail<E: Write>(err: &mut E, text: &str, status: u8) -> u8 {
+    let _ = err.write_all(text.as_bytes());
+    let _ = err.write_all(b"\n");
+    status
+}
+
+/// Writes the whole text.
+fn print<O: Write>(out: &mut O, text: &str) -> io::Result<()> {
+    out.write_all(text.as_bytes())?;
+    out.flush()
+}
+
+/// Writes what clap says of the words that it refuses, and answers the status.
+fn refuse_words<E: Write>(err: &mut E, error: &clap::Error) -> u8 {
+    if error.kind() == ErrorKind::OutOfMemory {
+        return fail(err, "out of memory", 3);
+    }
+    let _ = write!(err, "{error}");
+    2
+}
+
+/// Runs a script and prints what it gives.
+fn replay<O: Write, E: Write>(alloc: Global, input: &[u8], out: &mut O, err: &mut E) -> u8 {
+    let mut text = String::new(alloc);
+    let ended = run_script(alloc, input, &mut text);
+    if print(out, text.as_str()).is_err() {
+        return fail(err, "write failed", 5);
+    }
+    match ended {
+        Ok(()) => 0,
+        Err(
+            Ended {
+                line: _,
+                fault: Fault::Memory,
+            },
+        ) => fail(err, "out of memory", 3),
+        Err(
+            Ended {
+                line,
+                fault: Fault::BadScript,
+            },
+        ) => {
+            let _ = writeln!(err, "line {line}: bad script");
+            2
+        }
+    }
+}
+
+/// Shows what the input says.
+fn show<O: Write, E: Write>(
+    alloc: Global,
+    kind: &str,
+    input: &[u8],
+    out: &mut O,
+    err: &mut E,
+) -> u8 {
+    match inspect(alloc, kind, input) {
+        Ok(text) => match print(out, text.as_str()) {
+            Ok(()) => 0,
+            Err(_) => fail(err, "write failed", 5),
+        },
+        Err(InspectFault::BadHex) => fail(err, "bad hex", 2),
+        Err(InspectFault::Refused(fault)) => fail(err, fault.as_str(), 1),
+        Err(InspectFault::Memory) => fail(err, "out of memory", 3),
+    }
+}
+
+/// The program: words, the program's name first, and the standard streams; the answer is its status.
+///
+/// 0 where all went well. Faults go to `err` and are found in this order: words that clap refuses (status
+/// 2, also for help), input of more than `MAX_INPUT` bytes (`input too long`, 2), a read that fails (`read
+/// failed`, 4), then those of the subcommand. Want of memory is `out of memory`, 3; a write to `out` that
+/// fails is `write failed`, 5, and what went out is a beginning of the whole. Where `err` fails too, the
+/// status is the same.
+pub fn run<'a, R: Read, O: Write, E: Write>(
+    alloc: Global,
+    words: &'a [&'a str],
+    reader: &mut R,
+    out: &mut O,
+    err: &mut E,
+) -> u8 {
+    let asked = match command(alloc, words) {
+        Ok(asked) => asked,
+        Err(error) => return refuse_words(err, &error),
+    };
+    let input = match read_input(alloc, reader) {
+        Ok(input) => input,
+        Err(InputFault::TooLong) => return fail(err, "input too long", 2),
+        Err(InputFault::Unread) => return fail(err, "read failed", 4),
+        Err(InputFault::Memory) => return fail(err, "out of memory", 3),
+    };
+    match asked {
+        Subcommand::Inspect(kind) => show(alloc, kind.as_str(), &input, out, err),
+        Subcommand::Replay => replay(alloc, &input, out, err),
+    }
+}

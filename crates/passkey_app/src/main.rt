@@ -1,0 +1,53 @@
+//! The program `passkey` over the standard streams.
+#![tactic(auto)]
+
+use passkey::run;
+use std::env::Env;
+use std::io::Write;
+use std::process::ExitCode;
+use std::{env, io};
+
+/// The words of the command line behind the file's name.
+fn words(rt: &(impl Env + AllocGlobal)) -> io::Result<Vec<String>> {
+    let mut words = Vec::new(rt.alloc());
+    for word in env::args(rt)?.skip(1) {
+        words.push(word)?;
+    }
+    Ok(words)
+}
+
+/// The status where the words could not be collected.
+fn no_words(rt: &HostRuntime, error: &io::Error) -> u8 {
+    let (text, status) = if error.kind() == io::ErrorKind::OutOfMemory {
+        ("out of memory\n", 3)
+    } else {
+        ("words are not UTF-8\n", 2)
+    };
+    let _ = rt.stderr().write_all(text.as_bytes());
+    status
+}
+
+/// Runs the program on its name and the words.
+fn run_words(rt: &HostRuntime) -> io::Result<u8> {
+    let owned = words(rt)?;
+    let mut words = Vec::new(rt.alloc());
+    words.push("passkey")?;
+    for word in &owned {
+        words.push(word.as_str())?;
+    }
+    Ok(run(
+        rt.alloc(),
+        words.as_slice(),
+        &mut rt.stdin(),
+        &mut rt.stdout(),
+        &mut rt.stderr(),
+    ))
+}
+
+fn main(rt: HostRuntime) -> ExitCode {
+    let status = match run_words(&rt) {
+        Ok(status) => status,
+        Err(error) => no_words(&rt, &error),
+    };
+    ExitCode::from(status)
+}
