@@ -1,5 +1,5 @@
 pub mod Items
 pub mod Bytes
 pub mod Padding
-pub mod Given
-pub mod Made
+pub mod Uniqueness
+pub mod Existence

@@ -10,7 +10,7 @@ use Rattle.hidlink.specs.Wire.{HasEnded, Shown, Waiting, Receiving, Replied, Fai
 use Rattle.hidlink.specs.Steps.{step, state, IsEnded}
 use Rattle.hidlink.specs.Feeds.{Tells, Answers, Gives, IsMore, IsReply, IsDeviceError, IsDeath}
 use Rattle.hidlink.proofs.Beginnings.{begins_later, dead_itself, begins_itself}
-use Rattle.hidlink.proofs.Sofar.{ArePackets, packets-append}
+use Rattle.hidlink.proofs.SoFar.{ArePackets, packets-append}
 use Rattle.hidlink.proofs.Shows.{holds-step, got-state, carries_now, carried_here, dies_now, died_here, dead_from_state, state-carried, ending_ended, alive_open, alive_waiting}
 
 -- one packet more

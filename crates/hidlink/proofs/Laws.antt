@@ -6,7 +6,7 @@ use Rattle.hidlink.specs.Wire.{IsBeginning, Carries, IsDead, Dies, Shown, Replie
 use Rattle.hidlink.specs.Steps.{IsEnded, state}
 use Rattle.hidlink.proofs.Runs.{ending, state-carries, state-ended, pending_before}
 use Rattle.hidlink.proofs.Beginnings.{comparable, dead_later, taken, taken_less, beginning_cases}
-use Rattle.hidlink.proofs.Sofar.{ArePackets, packets_left}
+use Rattle.hidlink.proofs.SoFar.{ArePackets, packets_left}
 use Rattle.hidlink.proofs.Shows.{ending_ended, state-dies}
 
 -- nothing shorter has come to an end

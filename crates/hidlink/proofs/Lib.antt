@@ -1,6 +1,6 @@
 pub mod Runs
 pub mod Beginnings
-pub mod Sofar
+pub mod SoFar
 pub mod Shows
 pub mod Exactly
 pub mod Laws

@@ -25,7 +25,7 @@ run-append n s (x ∷ xs) ys = run-append n (effect n s x).after xs ys
 came_more : (n c cmd len next : ℕ) (bytes : List ℕ) → next < continuation_count len → (came n c cmd len next bytes).after ≡ Receiving c cmd len next bytes
 came_more n c cmd len next bytes h = rw (lt-ltb next (continuation_count len) h) refl
 
--- a by-call changes nothing
+-- a call that leaves the transaction alone changes nothing
 by_packet : (n c cmd len next : ℕ) (bytes : List ℕ) (f : Fields) → continuations_on c f ≡ [] → (FieldsRank n (Receiving c cmd len 0 []) 8 f → ⊥) → (FieldsRank n (Receiving c cmd len 0 []) 9 f → ⊥)
     → (packet_effect n (Receiving c cmd len next bytes) f).after ≡ Receiving c cmd len next bytes
 by_packet n c cmd len next bytes (Initial cid kind size area) none n8 n9 =

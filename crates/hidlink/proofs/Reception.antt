@@ -7,7 +7,7 @@ use Rattle.hidlink.specs.Wire.{IsBeginning, Carries, Dies, HasEnded, Got, Holds,
 use Rattle.hidlink.specs.Collected.{ShowsAt}
 use Rattle.hidlink.specs.Receives.{Receives}
 use Rattle.hidlink.proofs.Beginnings.{beginning_cases, taken, dead_itself}
-use Rattle.hidlink.proofs.Sofar.{ArePackets}
+use Rattle.hidlink.proofs.SoFar.{ArePackets}
 use Rattle.hidlink.proofs.Shows.{alive_waiting, got-state}
 use Rattle.hidlink.proofs.Exactly.{holds-ended}
 use Rattle.hidlink.proofs.Laws.{one_carried, one_death, not_both}

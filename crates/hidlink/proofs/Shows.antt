@@ -11,7 +11,8 @@ use Rattle.hidlink.specs.Wire.{channel_of, on, IsKeepalive, AreKeepalives, Carri
 use Rattle.hidlink.specs.Steps.{opened, on_channel, step, run, state, IsEnded}
 use Rattle.hidlink.proofs.Runs.{on-push, on-other, run-append, run-keepalives, run-continuations, received-missing, opens, state-push, state-ended, state-carries, ending, pending_before}
 use Rattle.hidlink.proofs.Beginnings.{beginning_cases}
-use Rattle.hidlink.proofs.Sofar.{ArePackets, packets_left, completes, completes_waiting, first_packet, begins_with, goes_on, holds-received, AreaFits, fields_fit, packets_right}
+use Rattle.hidframe.proofs.Uniqueness.{AreaFits, fields_fit}
+use Rattle.hidlink.proofs.SoFar.{ArePackets, packets_left, completes, completes_waiting, first_packet, begins_with, goes_on, holds-received, packets_right}
 
 -- an open message is the state
 pub state-open : (c : ℕ) (ps : List Packet) (len next : ℕ) (bytes : List ℕ) → Open c ps len next bytes → state c ps ≡ Receiving len next bytes

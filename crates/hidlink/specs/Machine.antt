@@ -8,8 +8,6 @@ use Rattle.hidlink.specs.declared.arbitration.Arbitration.{Arbitration}
 use Rattle.hidlink.specs.declared.arbitration.Arbitration.TheVariants.{Refused, NewChannel, ChannelAnew, Interrupted, Cancelled, Ignored, Begins}
 use Rattle.hidlink.specs.declared.transaction.Step.{Step}
 use Rattle.hidlink.specs.declared.transaction.Step.TheVariants as step
-use Rattle.hidlink.specs.declared.transaction.Refusal.{Refusal}
-use Rattle.hidlink.specs.declared.transaction.Refusal.TheVariants as refusal
 use Rattle.hidlink.specs.declared.transaction.Phase.{Phase}
 use Rattle.hidlink.specs.declared.transaction.Phase.TheVariants as phase
 use Rattle.hidlink.specs.History.{Call, Took, Answered, Kept, Expired}
@@ -123,11 +121,6 @@ abbrev pub PhaseFits : Phase → List ℕ → Type 0
 PhaseFits phase.Idle bytes = Unit {0}
 PhaseFits (phase.Receiving cid cmd len next) bytes = (length bytes ≡ 57 + 59 * next) × (next < continuation_count len) × (len ≤ 7609)
 PhaseFits (phase.Working cid) bytes = length bytes ≤ 7609
-
--- the number of a refusal
-abbrev pub refusal_number : Refusal → ℕ
-refusal_number refusal.NotWorking = 6
-refusal_number refusal.TooLong = 4
 
 -- what a packet made of a device, and what the call told
 abbrev pub Does : Shown → Step → Effect → Response → Type 0

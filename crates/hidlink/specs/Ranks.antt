@@ -6,6 +6,8 @@ use Rattle.hidframe.specs.declared.ctaphid.TheConstants.{CTAPHID_BROADCAST_CID, 
 use Rattle.hidframe.specs.Packets.{Fields, Initial, Continuation}
 use Rattle.hidframe.specs.Frames.{continuation_count}
 use Rattle.hidframe.specs.Pieces.{frame_list}
+use Rattle.hidlink.specs.declared.transaction.Refusal.{Refusal}
+use Rattle.hidlink.specs.declared.transaction.Refusal.TheVariants.{NotWorking, TooLong}
 use Rattle.hidlink.specs.declared.transaction.Step.{Step}
 use Rattle.hidlink.specs.declared.transaction.Step.TheVariants.{Quiet, Request, Cancelled, Aborted}
 
@@ -171,3 +173,8 @@ pub record Shown : Type 0 where
   pub channels : ℕ
   pub state : State
   pub left : List Packet
+
+-- the number of a refusal
+abbrev pub refusal_number : Refusal → ℕ
+refusal_number NotWorking = 6
+refusal_number TooLong = 4

@@ -48,7 +48,7 @@ pub enum Refusal {
 }
 
 impl Refusal {
-    ghost use Rattle.hidlink.specs.Machine.{refusal_number};
+    ghost use Rattle.hidlink.specs.Ranks.{refusal_number};
 
     /// The number of the refusal.
     pub fn number(&self) -> u8

@@ -1,5 +1,5 @@
-use Rattle.hidframe.proofs.Given.{the_items}
-use Rattle.hidframe.proofs.Made.{are_zero_frames}
+use Rattle.hidframe.proofs.Uniqueness.{the_items}
+use Rattle.hidframe.proofs.Existence.{are_zero_frames}
 use Rattle.hidframe.proofs.frames.one_frame_list.Goals as goal
 
 pub returns : goal.returns

@@ -1,6 +1,6 @@
 use Rattle.std.proofs.Common.{sym, ◌∙◌, ap}
 use Rattle.std.specs.Prelude.{slice_get}
-use Rattle.hidframe.proofs.Given.{the_items}
+use Rattle.hidframe.proofs.Uniqueness.{the_items}
 use Rattle.hidframe.proofs.frames.packet_at.Goals as goal
 
 pub returns-clause-frames : goal.returns-clause-frames

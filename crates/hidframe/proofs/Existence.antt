@@ -13,7 +13,7 @@ use Rattle.hidframe.specs.Pieces.{padded, initial, continuation, items_from}
 use Rattle.hidframe.proofs.Bytes.{AreBytes, bytes-append, bytes-cons, bytes_zeros, bytes_of_32, bytes_of_16}
 use Rattle.hidframe.proofs.Padding.{pad, length-padded, bytes-drop, bytes-take}
 use Rattle.hidframe.proofs.Items.{items-more, items-none}
-use Rattle.hidframe.proofs.Given.{item_later, item_first}
+use Rattle.hidframe.proofs.Uniqueness.{item_later, item_first}
 
 take_within : (n : ℕ) (m : List ℕ) → length (take n m) ≤ n
 take_within n m = simp length-take (omega arith)

@@ -1,30 +1,18 @@
 use Rattle.std.proofs.Common.{◌≡◌, ℕ, suc, zero, ◌+◌, ◌-◌, ◌*◌, ◌^◌, ◌<◌, ◌≤◌, inl, inr, true, false, cond, nat_lt, List, [], ◌∷◌, ◌++◌, length, take, drop, map, refl, sym, ◌∙◌, ap, subst, arith, zero-add}
-use Rattle.std.specs.Prelude.{◌==◌, slice_range, replicate}
-use Rattle.std.specs.Int.{w16, w32, from_be_bytes, to_be_bytes}
+use Rattle.std.specs.Prelude.{◌==◌, replicate}
+use Rattle.std.specs.Int.{w32, to_be_bytes}
 use Rattle.std.specs.List.{AllByRecursion}
-use Rattle.std.proofs.lemmas.List.{append_assoc, append-nil, map-append, flat_map_more, length-take-le, take-append-drop, length-append, length-take, length-drop, length_push}
+use Rattle.std.proofs.lemmas.List.{append_assoc, append-nil, map-append, flat_map_more, length-take-le, take-append-drop, length-append, length_push}
 use Rattle.std.proofs.lemmas.Bool.{lt-ltb, ltb-true, ltb-false, cases_Bool}
 use Rattle.std.proofs.lemmas.Nat.{from_be_bytes-to_be_bytes_4}
 use Rattle.hidframe.specs.declared.Packet.{Packet}
-use Rattle.hidframe.specs.Packets.{Fields, Initial, Continuation, fields, IsPacket, byte, channel}
+use Rattle.hidframe.specs.Packets.{Initial, Continuation, fields, IsPacket, channel}
 use Rattle.hidframe.specs.Frames.{continuations, continuation_count, joined}
+use Rattle.hidframe.proofs.Uniqueness.{AreaFits, fields_fit}
 use Rattle.hidframe.proofs.Bytes.{bytes-append, bytes-cons, bytes_zeros, bytes_of_32}
 use Rattle.hidlink.specs.Wire.{channel_of, on, AreKeepalives, Carries, Open, Shown, Holds}
 use Rattle.hidlink.specs.Steps.{received}
 use Rattle.hidlink.proofs.Runs.{on-push, continuations-append, received-missing, received-whole}
-
--- what a packet says has room for 57 or 59 bytes
-abbrev pub AreaFits : Fields → Type 0
-AreaFits (Initial cid cmd len area) = length area ≡ 57
-AreaFits (Continuation cid seq area) = length area ≡ 59
-
-pub fields_fit : (p : Packet) → IsPacket p → AreaFits (fields p)
-unfolding fields
-fields_fit p h =
-    elim (nat_lt (byte p 4) 128) as (λ b. AreaFits (cond b (Continuation (channel p) (byte p 4) (slice_range p.0 5 64)) (Initial (channel p) (byte p 4 - 128) (from_be_bytes w16 (byte p 5 ∷ byte p 6 ∷ [])) (slice_range p.0 7 64)))) [
-      | true ↦ simp (length-take, length-drop) (omega (arith, h.0))
-      | false ↦ simp (length-take, length-drop) (omega (arith, h.0))
-    ]
 
 abbrev pub ArePackets : List Packet → Type 0
 ArePackets ps = AllByRecursion IsPacket ps
@@ -61,7 +49,7 @@ continued_size c k (p ∷ ps) (area ∷ later) h e =
     length-append area (joined later) ∙ omega arith
 
 -- As Open, but for whether anything is missing.
-pub record Sofar (c : ℕ) (ps : List Packet) (len next : ℕ) (bytes : List ℕ) : Type 0 where
+pub record SoFar (c : ℕ) (ps : List Packet) (len next : ℕ) (bytes : List ℕ) : Type 0 where
   pub waits : List Packet
   pub begun : List Packet
   pub first : List ℕ
@@ -73,7 +61,7 @@ pub record Sofar (c : ℕ) (ps : List Packet) (len next : ℕ) (bytes : List ℕ
   pub number : length later ≡ next
   pub so_far : bytes ≡ first ++ joined later
 
-pub size : (c : ℕ) (ps : List Packet) (len next : ℕ) (bytes : List ℕ) → ArePackets ps → Sofar c ps len next bytes → length bytes ≡ 57 + 59 * next
+pub size : (c : ℕ) (ps : List Packet) (len next : ℕ) (bytes : List ℕ) → ArePackets ps → SoFar c ps len next bytes → length bytes ≡ 57 + 59 * next
 size c ps len next bytes all s =
     let begun : ArePackets s.begun = packets_right s.waits s.begun (let P : List Packet → Type 0 = ArePackets in subst P s.split (packets_on c ps all)) in
     ap length s.so_far ∙ length-append s.first (joined s.later) ∙ sizes s.begun s.first s.later begun s.packets ∙ ap (λ n. 57 + 59 * n) s.number
@@ -90,7 +78,7 @@ size c ps len next bytes all s =
 
 -- the first packet
 pub begins_with : (c : ℕ) (ps : List Packet) (p : Packet) (len : ℕ) (area : List ℕ) → AreKeepalives (on c ps) → fields p ≡ Initial c 16 len area → len ≤ 7609
-    → Sofar c (ps ++ p ∷ []) len 0 area
+    → SoFar c (ps ++ p ∷ []) len 0 area
 begins_with c ps p len area waits says room = record {
   waits = on c ps;
   begun = p ∷ [];
@@ -106,7 +94,7 @@ begins_with c ps p len area waits says room = record {
 
 -- one more
 pub goes_on : (c : ℕ) (ps : List Packet) (p : Packet) (len next : ℕ) (bytes area : List ℕ) → Open c ps len next bytes → fields p ≡ Continuation c next area
-    → Sofar c (ps ++ p ∷ []) len (next + 1) (bytes ++ area)
+    → SoFar c (ps ++ p ∷ []) len (next + 1) (bytes ++ area)
 goes_on c ps p len next bytes area o says = record {
   waits = o.waits;
   begun = o.begun ++ p ∷ [];
@@ -122,7 +110,7 @@ goes_on c ps p len next bytes area o says = record {
   so_far = ap (λ bs. bs ++ area) o.so_far ∙ flat_map_more (λ (a : List ℕ). a) o.first o.later area;
 }
 
-pub is_open : (c : ℕ) (ps : List Packet) (len next : ℕ) (bytes : List ℕ) → Sofar c ps len next bytes → next < continuation_count len → Open c ps len next bytes
+pub is_open : (c : ℕ) (ps : List Packet) (len next : ℕ) (bytes : List ℕ) → SoFar c ps len next bytes → next < continuation_count len → Open c ps len next bytes
 is_open c ps len next bytes s missing = record {
   waits = s.waits;
   begun = s.begun;
@@ -137,7 +125,7 @@ is_open c ps len next bytes s missing = record {
   so_far = s.so_far;
 }
 
-pub carries : (c : ℕ) (ps : List Packet) (p : Packet) (len next : ℕ) (bytes : List ℕ) → Sofar c (ps ++ p ∷ []) len next bytes → channel_of (fields p) ≡ c
+pub carries : (c : ℕ) (ps : List Packet) (p : Packet) (len next : ℕ) (bytes : List ℕ) → SoFar c (ps ++ p ∷ []) len next bytes → channel_of (fields p) ≡ c
     → next ≡ continuation_count len → len ≤ length bytes → Carries c (ps ++ p ∷ []) 16 (take len bytes)
 carries c ps p len next bytes s on_c whole long =
     let size : length (take len bytes) ≡ len = length-take-le len bytes long in
@@ -166,7 +154,7 @@ pub enough : (len next : ℕ) → next ≡ continuation_count len → len ≤ 57
 enough len next e = omega arith
 
 -- what the last packet left
-pub holds-received : (c : ℕ) (ps : List Packet) (p : Packet) (len next : ℕ) (bytes : List ℕ) → ArePackets (ps ++ p ∷ []) → Sofar c (ps ++ p ∷ []) len next bytes
+pub holds-received : (c : ℕ) (ps : List Packet) (p : Packet) (len next : ℕ) (bytes : List ℕ) → ArePackets (ps ++ p ∷ []) → SoFar c (ps ++ p ∷ []) len next bytes
     → channel_of (fields p) ≡ c → next ≤ continuation_count len → Holds c (ps ++ p ∷ []) (received len next bytes)
 holds-received c ps p len next bytes all s on_c within = elim (cases_Bool (nat_lt next (continuation_count len))) [
   | inl e ↦ let h : next < continuation_count len = ltb-true next (continuation_count len) e in
@@ -211,7 +199,7 @@ completes c ps len next bytes zero h all o e =
     let missing : next < continuation_count len = o.missing in
     let p : Packet = next_packet c next in
     let says : fields (next_packet c next) ≡ Continuation c next (replicate 59 0) = next-says c next h (omega arith) in
-    let s : Sofar c (ps ++ next_packet c next ∷ []) len (next + 1) (bytes ++ replicate 59 0) = goes_on c ps (next_packet c next) len next bytes (replicate 59 0) o says in
+    let s : SoFar c (ps ++ next_packet c next ∷ []) len (next + 1) (bytes ++ replicate 59 0) = goes_on c ps (next_packet c next) len next bytes (replicate 59 0) o says in
     let whole : next + 1 ≡ continuation_count len = omega arith in
     let sized : length (bytes ++ replicate 59 0) ≡ 57 + 59 * (next + 1) =
     size c (ps ++ next_packet c next ∷ []) len (next + 1) (bytes ++ replicate 59 0) (packets-append ps (next_packet c next ∷ []) all (next_whole c next h (omega arith), tt)) s in
@@ -221,7 +209,7 @@ completes c ps len next bytes (suc left) h all o e =
     let room : len ≤ 7609 = o.room in
     let missing : next < continuation_count len = o.missing in
     let says : fields (next_packet c next) ≡ Continuation c next (replicate 59 0) = next-says c next h (omega arith) in
-    let s : Sofar c (ps ++ next_packet c next ∷ []) len (next + 1) (bytes ++ replicate 59 0) = goes_on c ps (next_packet c next) len next bytes (replicate 59 0) o says in
+    let s : SoFar c (ps ++ next_packet c next ∷ []) len (next + 1) (bytes ++ replicate 59 0) = goes_on c ps (next_packet c next) len next bytes (replicate 59 0) o says in
     let o' : Open c (ps ++ next_packet c next ∷ []) len (next + 1) (bytes ++ replicate 59 0) = is_open c (ps ++ next_packet c next ∷ []) len (next + 1) (bytes ++ replicate 59 0) s (omega arith) in
     let all' : ArePackets (ps ++ next_packet c next ∷ []) = packets-append ps (next_packet c next ∷ []) all (next_whole c next h (omega arith), tt) in
     let rest : (more : List Packet) × (m : List ℕ) × Carries c ((ps ++ next_packet c next ∷ []) ++ more) 16 m =
