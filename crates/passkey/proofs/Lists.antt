@@ -1,15 +1,12 @@
 -- From what the packets give to the verdict on them.
-use Rattle.std.proofs.Common.{◌≡◌, ◌≤◌, ◌<◌, ◌+◌, ℕ, List, [], ◌∷◌, length, take, sym, subst, refl}
+use Rattle.std.proofs.Common.{◌≡◌, ℕ, List, refl}
 use Rattle.hidframe.specs.declared.Packet.{Packet}
 use Rattle.hidlink.specs.Receives.{Receives}
-use Rattle.hidlink.specs.declared.collection.Received.{Received}
 use Rattle.hidlink.specs.declared.collection.Received.TheVariants as received
-use Rattle.hidlink.specs.declared.collection.DeadKind.{DeadKind}
 use Rattle.std.specs.Borrow.{Bor}
 use Rattle.site.specs.State.{State}
 use Rattle.site.specs.Steps.{Relation}
-use Rattle.passkey.specs.Reply.{Reply}
-use Rattle.passkey.specs.Verdict.{Delivers, IsGood, SignsIn, RefusedMessage, Refused}
+use Rattle.passkey.specs.Verdict.{Delivers, RefusedMessage, Refused}
 use Rattle.passkey.specs.declared.error.Error.{Error}
 use Rattle.passkey.specs.declared.error.Error.TheVariants as errors
 

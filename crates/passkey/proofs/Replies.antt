@@ -1,10 +1,9 @@
 -- Reading finds the reply whose map a value is, and no other.
-use Rattle.std.proofs.Common.{◌≡◌, ◌≤◌, ℕ, Bool, true, false, cond, eqb, List, length, Option, Some, None, refl, ap, sym, ◌∙◌, subst, arith, codes}
+use Rattle.std.proofs.Common.{◌≡◌, ◌≤◌, ℕ, Bool, true, false, cond, List, length, Option, Some, None, refl, ap, sym, ◌∙◌, subst, arith, codes}
 use Rattle.std.specs.Prelude.{◌&&◌, nat_le, IfSome, IsNone, option_map}
-use Rattle.std.proofs.lemmas.Bool.{eqb-true, eq-eqb}
 use Rattle.std.proofs.lemmas.Bool.Decides.{nat_tests}
 use Rattle.std.proofs.lemmas.Option.{cond_some}
-use Rattle.ccbor.specs.Item.{Item, uint, nint, bytes, text, array, map, boolean, Pairs, no_pairs, pair}
+use Rattle.ccbor.specs.Item.{Item, uint, bytes, text, map, Pairs, no_pairs, pair}
 use Rattle.ccbor.specs.Access.{is_same_key, split_key, bytes_in, uint_in, pairs_in, is_end}
 use Rattle.ccbor.proofs.AccessLemmas.{same_key, split_key_takes, pairs_in_is, bytes_in_is, uint_in_is, end_is}
 use Rattle.passkey.specs.declared.reply.AssertionReply.{AssertionReply}

@@ -1,5 +1,5 @@
 -- A message's verdict: what refuses it, and that nothing refuses a good one.
-use Rattle.std.proofs.Common.{◌≡◌, ◌≢◌, ℕ, List, [], ◌∷◌, Some, sym, ◌∙◌, ap, subst, refl}
+use Rattle.std.proofs.Common.{◌≡◌, ℕ, List, ◌∷◌, subst, refl}
 use Rattle.ccbor.specs.Item.{Item}
 use Rattle.ccbor.specs.Canon.{Canon}
 use Rattle.site.specs.State.{State}
@@ -10,7 +10,7 @@ use Rattle.site.specs.declared.error.Error.TheVariants as sites
 use Rattle.passkey.specs.Reply.{Reply, IsReplyValue, ReplyOf}
 use Rattle.passkey.specs.Payload.{IsUnread}
 use Rattle.passkey.specs.SiteErrors.{refusal_of}
-use Rattle.passkey.specs.Verdict.{IsGood, RefusedMessage, assertion}
+use Rattle.passkey.specs.Verdict.{RefusedMessage, assertion}
 use Rattle.passkey.specs.declared.error.Error.{Error}
 use Rattle.passkey.specs.declared.error.Error.TheVariants as errors
 use Rattle.passkey.proofs.Replies.{one_reply}

@@ -1,5 +1,5 @@
 -- Bytes that the program takes in hex (RFC 4648, section 8, in either case).
-use Rattle.std.specs.Prelude.{◌≡◌, ℕ, List, Bool, not, ◌==◌, ◌||◌, filter, Option, Some, None, Ok}
+use Rattle.std.specs.Prelude.{◌≡◌, ℕ, List, not, ◌==◌, ◌||◌, filter, Option, Some, None, Ok}
 use Rattle.hex.specs.Hex.{decode_of}
 
 -- the text without spaces, tabs, carriage returns and line feeds

@@ -7,3 +7,4 @@ pub mod SiteErrors
 pub mod Verdict
 pub mod Accepts
 pub mod HexText
+pub mod CommandLine

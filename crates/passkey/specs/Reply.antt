@@ -1,5 +1,5 @@
 -- The reply to a getAssertion request: CTAP 2.1, section 6.2.2, in the message encoding of section 8.
-use Rattle.std.specs.Prelude.{◌≡◌, ℕ, ◌≤◌, List, [], ◌∷◌, length, Option, Some, None, IfSome, codes}
+use Rattle.std.specs.Prelude.{◌≡◌, ℕ, ◌≤◌, List, ◌∷◌, length, Option, Some, None, IfSome, codes}
 use Rattle.ccbor.specs.Item.{Item, uint, bytes, text, map, Pairs, no_pairs, pair}
 use Rattle.ccbor.specs.Canon.{Canon}
 

@@ -1,7 +1,7 @@
 -- The plain program that the private readers of a reply are proved against: members from the front on. No
 -- public clause cites it.
-use Rattle.std.specs.Prelude.{ℕ, Bool, List, length, Option, Some, None, ◌&&◌, nat_le, codes, if◌then◌else◌}
-use Rattle.ccbor.specs.Item.{Item, uint, nint, bytes, text, map, Pairs, no_pairs, pair}
+use Rattle.std.specs.Prelude.{ℕ, List, length, Option, Some, None, ◌&&◌, nat_le, codes, if◌then◌else◌}
+use Rattle.ccbor.specs.Item.{Item, uint, text, Pairs}
 use Rattle.ccbor.specs.Access.{split_key, is_same_key, is_end, bytes_in, uint_in, pairs_in}
 use Rattle.passkey.specs.Reply.{Reply}
 

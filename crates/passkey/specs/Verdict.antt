@@ -7,8 +7,7 @@ use Rattle.hidlink.specs.Wire.{Carries, Dies, HasEnded}
 use Rattle.ccbor.specs.Item.{Item}
 use Rattle.ccbor.specs.Canon.{Canon}
 use Rattle.site.specs.State.{State}
-use Rattle.site.specs.Steps.{Relation, Assertion, PassesAll, IsFirstFailing, IsAfter}
-use Rattle.site.specs.Answers.{IsSignedIn}
+use Rattle.site.specs.Steps.{Relation, Assertion, PassesAll, IsFirstFailing}
 use Rattle.passkey.specs.Reply.{Reply, ReplyOf}
 use Rattle.passkey.specs.declared.error.Error.{Error}
 use Rattle.passkey.specs.declared.error.Error.TheVariants as errors

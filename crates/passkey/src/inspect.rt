@@ -5,6 +5,7 @@ ghost use Rattle.passkey.specs.declared.inspect.InspectFault.TheVariants as faul
 
 use crate::hex_text::unhex;
 use ccbor::{Value, decode_all};
+use clientdata::{Binding, quoted_text};
 use cose::Alg;
 use hidframe::{Head, Packet};
 use std::alloc::{AllocError, Global};
@@ -30,24 +31,6 @@ impl From<AllocError> for InspectFault {
     }
 }
 
-/// Writes a text in quotes: a quote and a backslash behind a backslash, and characters below U+0020 by
-/// `\u` and four hex digits.
-pub fn write_quoted(text: &str, out: &mut String) -> Result<(), AllocError> {
-    out.push('"')?;
-    for c in text.chars() {
-        match c {
-            '"' => out.push_str("\\\"")?,
-            '\\' => out.push_str("\\\\")?,
-            c if c < ' ' => {
-                let code = c as u32;
-                write!(out, "\\u{code:04x}")?;
-            }
-            c => out.push(c)?,
-        }
-    }
-    out.push('"')
-}
-
 /// Writes a value: numbers in decimal, bytes as `h'` hex `'`, texts in quotes, `[a, b]`, `{k: v, k: v}`.
 fn write_value(value: &Value, alloc: Global, out: &mut String) -> Result<(), AllocError> {
     match value {
@@ -60,7 +43,7 @@ fn write_value(value: &Value, alloc: Global, out: &mut String) -> Result<(), All
             let digits = hex::encode(alloc, bytes.as_slice())?;
             write!(out, "h'{digits}'")
         }
-        Value::Text(text) => write_quoted(text, out),
+        Value::Text(text) => out.push_str(quoted_text(alloc, text)?.as_str()),
         Value::Array(items) => {
             out.push('[')?;
             for (i, item) in items.iter().enumerate() {
@@ -165,8 +148,36 @@ fn packets(alloc: Global, text: &str) -> Result<String, InspectFault> {
     Ok(out)
 }
 
-/// What the input says, as this kind of bytes: `cbor`, `authdata` or `packets`.
+/// The lines that show client data.
+fn client_data(alloc: Global, bytes: &[u8]) -> Result<String, InspectFault> {
+    let seen = match clientdata::read(alloc, bytes) {
+        Ok(seen) => seen,
+        Err(clientdata::Error::Memory) => return Err(InspectFault::Memory),
+        Err(error) => return Err(refused(alloc, error.number(), &error)?),
+    };
+    let mut out = String::new(alloc);
+    for (name, text) in [
+        ("type ", seen.kind.as_str()),
+        ("challenge ", seen.challenge.as_str()),
+        ("origin ", seen.origin.as_str()),
+    ] {
+        out.push_str(name)?;
+        out.push_str(quoted_text(alloc, text)?.as_str())?;
+        out.push('\n')?;
+    }
+    out.push_str(match seen.binding {
+        Binding::Absent => "binding absent\n",
+        Binding::Supported => "binding supported\n",
+        Binding::Other => "binding other\n",
+    })?;
+    Ok(out)
+}
+
+/// What the input says, as this kind of bytes: `cbor`, `authdata`, `packets` or `clientdata`.
 pub fn inspect(alloc: Global, kind: &str, input: &[u8]) -> Result<String, InspectFault> {
+    if kind == "clientdata" {
+        return client_data(alloc, input);
+    }
     let Ok(text) = str::from_utf8(input) else {
         return Err(InspectFault::BadHex);
     };

@@ -2,6 +2,7 @@
 //! Level 2, section 7.2, on top.
 #![tactic(auto)]
 
+mod check;
 mod error;
 mod hex_text;
 mod inspect;

@@ -2,6 +2,7 @@
 
 ghost use Rattle.std.specs.Prelude.{◌≤◌, length, IfOk};
 
+use crate::check::{CheckFault, check};
 use crate::inspect::{InspectFault, inspect};
 use crate::replay::{Ended, run_script};
 use crate::script::Fault;
@@ -104,6 +105,19 @@ fn show<O: Write, E: Write>(
     }
 }
 
+/// Prints whether client data are what was expected, and answers the status.
+fn tell<O: Write, E: Write>(verified: bool, out: &mut O, err: &mut E) -> u8 {
+    let (text, status) = if verified {
+        ("match\n", 0)
+    } else {
+        ("differ\n", 1)
+    };
+    match print(out, text) {
+        Ok(()) => status,
+        Err(_) => fail(err, "write failed", 5),
+    }
+}
+
 /// The program: words, the program's name first, and the standard streams; the answer is its status.
 ///
 /// 0 where all went well. Faults go to `err` and are found in this order: words that clap refuses (status
@@ -130,6 +144,23 @@ pub fn run<'a, R: Read, O: Write, E: Write>(
     };
     match asked {
         Subcommand::Inspect(kind) => show(alloc, kind.as_str(), &input, out, err),
+        Subcommand::Check {
+            kind,
+            challenge,
+            origin,
+            cross,
+        } => match check(
+            alloc,
+            kind.as_str(),
+            challenge.as_str(),
+            origin,
+            cross,
+            &input,
+        ) {
+            Ok(verified) => tell(verified, out, err),
+            Err(CheckFault::BadHex) => fail(err, "bad hex", 2),
+            Err(CheckFault::Memory) => fail(err, "out of memory", 3),
+        },
         Subcommand::Replay => replay(alloc, &input, out, err),
     }
 }

@@ -7,7 +7,9 @@ use std::io::{Read, Write};
 use std::process::Abort;
 use std::test::Fail;
 
+mod check;
 mod inspect;
+mod packets;
 
 const SITE: &str = "site abc https://abc";
 

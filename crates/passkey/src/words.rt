@@ -1,17 +1,50 @@
-//! The command line.
+//! The command line, as clap reads it.
+
+ghost use Rattle.std.specs.Prelude.{◌≡◌, false, IfOk, IfSome, map, codes};
+ghost use Rattle.clap.specs.Words.{app_of, new_app, shape_of, subcommand_rows_of, with_rule, with_subcommand};
+ghost use Rattle.clap.specs.declared.builder.command.Command.TheViews.{out-Command as fields_of};
+ghost use Rattle.passkey.specs.CommandLine.{check_app, check_options_app, inspect_app, passkey_app, replay_app, HasApp, HasAppOf, HasAppOfBoth, IsAsked, IsAskedBy, required, required_option};
 
 use clap::error::ErrorKind;
-use clap::{Arg, Command as Parser, Error};
+use clap::{Arg, ArgAction, ArgMatches, Command as Parser, Error};
 use std::alloc::{AllocError, Global};
+
+/// The kinds of bytes that can be inspected.
+pub static KINDS: [&str; 4] = ["cbor", "authdata", "packets", "clientdata"];
+
+/// The ceremonies whose client data can be checked.
+pub static TYPES: [&str; 2] = ["create", "get"];
 
 /// What a command line asks for.
 #[derive(Debug, Drop)]
 pub enum Subcommand {
     /// Show what standard input says, as this kind of bytes.
     Inspect(String),
+    /// Verify client data on standard input against these members: `create` or `get`, the challenge in hex,
+    /// the origin, and whether the ceremony was in a cross-origin frame.
+    Check {
+        kind: String,
+        challenge: String,
+        origin: String,
+        cross: bool,
+    },
     /// Run the script on standard input.
     Replay,
 }
+
+const PASSKEY_HELP: &str = "Example: passkey replay < examples/sign-in.txt";
+
+const INSPECT_HELP: &str =
+    "Standard input is hex, but for clientdata, whose bytes are taken as they are. Spaces, tabs and line
+ends in hex are passed over. Packets are one a line, of 128 digits each. Bytes that are refused are told
+as a fault with its number, status 1.
+
+Example: echo a1 01 81 41 0a | passkey inspect cbor";
+
+const CHECK_HELP: &str =
+    "Prints match, or differ with status 1. This is the limited verification of WebAuthn, section 5.8.1.2.
+
+Example: passkey check --type get --challenge 000102 --origin https://a.example < client-data.json";
 
 const REPLAY_HELP: &str = "Lines of a script:
   site <rp id> <origin>              the site; the first line
@@ -26,58 +59,174 @@ Bytes are in hex, a channel has 8 hex digits. Empty lines and lines that begin w
 
 Example: passkey replay < examples/sign-in.txt";
 
-/// The kinds of bytes that can be inspected.
-pub static KINDS: [&str; 3] = ["cbor", "authdata", "packets"];
-
-const INSPECT_HELP: &str =
-    "Standard input is hex; spaces, tabs and line ends in it are passed over. Packets are one a line, of
-128 digits each.
-Bytes that are refused are told as a fault with its number, status 1.
-
-Example: echo a1 01 81 41 0a | passkey inspect cbor";
-
 /// The subcommand that shows bytes.
-fn inspect_parser<'a>(alloc: Global) -> Result<Parser<'a>, AllocError> {
+fn inspect<'a>(alloc: Global) -> Result<Parser<'a>, AllocError>
+    ensures { IfOk result (λ c. HasAppOf inspect_app c) }
+{
     let kind = Arg::new(alloc, "kind")
         .required(true)
         .value_parser(KINDS.as_slice())
         .help("What the bytes are");
-    Parser::new(alloc, "inspect")
+    let parser = Parser::new(alloc, "inspect")
         .about("Show what bytes say")
-        .after_help(INSPECT_HELP)
-        .arg(kind)
+        .after_help(INSPECT_HELP);
+    parser.arg(kind)
+}
+
+/// The parser with one more option, which is required.
+fn with_required<'a>(
+    alloc: Global,
+    parser: Parser<'a>,
+    name: &'a str,
+    help: &'a str,
+) -> Result<Parser<'a>, AllocError>
+    requires { (fields_of parser).has_globals ≡ false }
+    ensures { IfOk result (λ c. HasApp (with_rule (app_of parser.entry) (required_option name.entry.now)) c) }
+{
+    let option = Arg::new(alloc, name).long(name).required(true).help(help);
+    parser.arg(option)
+}
+
+/// The options of a check but the last.
+fn check_options<'a>(alloc: Global) -> Result<Parser<'a>, AllocError>
+    ensures { IfOk result (λ c. HasAppOf check_options_app c) }
+{
+    let kind = Arg::new(alloc, "type")
+        .long("type")
+        .required(true)
+        .value_parser(TYPES.as_slice())
+        .help("The ceremony");
+    let parser = Parser::new(alloc, "check")
+        .about("Verify client data against what they should say")
+        .after_help(CHECK_HELP)
+        .arg(kind)?;
+    let parser = with_required(alloc, parser, "challenge", "The challenge, in hex")?;
+    with_required(alloc, parser, "origin", "The origin, as https://a.example")
+}
+
+/// The subcommand that checks client data.
+fn check<'a>(alloc: Global) -> Result<Parser<'a>, AllocError>
+    ensures { IfOk result (λ c. HasAppOf check_app c) }
+{
+    let cross = Arg::new(alloc, "cross")
+        .long("cross")
+        .action(ArgAction::SetTrue)
+        .help("In a frame of another origin");
+    check_options(alloc)?.arg(cross)
+}
+
+/// The program's parser without its subcommands.
+fn top<'a>(alloc: Global) -> Parser<'a>
+    ensures { HasApp (required (new_app (codes "passkey"))) result }
+{
+    Parser::new(alloc, "passkey")
+        .about("Passkey sign-in, from USB packets to a site's verdict")
+        .after_help(PASSKEY_HELP)
+        .subcommand_required(true)
+}
+
+/// The parser with one more subcommand.
+fn with_sub<'a>(parser: Parser<'a>, sub: Parser<'a>) -> Result<Parser<'a>, AllocError>
+    requires top { (fields_of parser).has_globals ≡ false }
+    requires sub { (fields_of sub).has_globals ≡ false }
+    ensures { IfOk result (λ c. HasApp (with_subcommand (app_of parser.entry) (shape_of sub.entry)) c) }
+{
+    parser.subcommand(sub)
 }
 
 /// The subcommand that runs a script.
-fn replay_parser<'a>(alloc: Global) -> Parser<'a> {
+fn replay<'a>(alloc: Global) -> Parser<'a>
+    ensures { HasApp replay_app result }
+{
     Parser::new(alloc, "replay")
         .about("Run a script from standard input: packets in, the site's verdict out")
         .after_help(REPLAY_HELP)
 }
 
 /// The program's parser.
-fn parser<'a>(alloc: Global) -> Result<Parser<'a>, AllocError> {
-    let inspect = inspect_parser(alloc)?;
-    Parser::new(alloc, "passkey")
-        .about("Passkey sign-in, from USB packets to a site's verdict")
-        .after_help("Example: passkey replay < examples/sign-in.txt")
-        .subcommand_required(true)
-        .subcommand(inspect)?
-        .subcommand(replay_parser(alloc))
+fn passkey<'a>(alloc: Global) -> Result<Parser<'a>, AllocError>
+    ensures { IfOk result (λ c. HasAppOfBoth passkey_app c) }
+{
+    let inspect = inspect(alloc)?;
+    let check = check(alloc)?;
+    let parser = with_sub(top(alloc), inspect)?;
+    let parser = with_sub(parser, check)?;
+    with_sub(parser, replay(alloc))
+}
+
+/// What an inspection asks for.
+fn inspected(alloc: Global, matches: &ArgMatches<'_>) -> Result<Option<Subcommand>, AllocError>
+    ensures { IfOk result (λ o. IfSome o (IsAsked (subcommand_rows_of matches.now))) }
+{
+    let Some(inner) = matches.subcommand_matches("inspect") else {
+        return Ok(None);
+    };
+    let Some(kind) = inner.get_str("kind") else {
+        return Ok(None);
+    };
+    let kind = String::from_str(alloc, kind)?;
+    Ok(Some(Subcommand::Inspect(kind)))
+}
+
+/// What a check asks for.
+fn checked(alloc: Global, matches: &ArgMatches<'_>) -> Result<Option<Subcommand>, AllocError>
+    ensures { IfOk result (λ o. IfSome o (IsAsked (subcommand_rows_of matches.now))) }
+{
+    let Some(inner) = matches.subcommand_matches("check") else {
+        return Ok(None);
+    };
+    let Some(kind) = inner.get_str("type") else {
+        return Ok(None);
+    };
+    let Some(challenge) = inner.get_str("challenge") else {
+        return Ok(None);
+    };
+    let Some(origin) = inner.get_str("origin") else {
+        return Ok(None);
+    };
+    let cross = inner.get_flag("cross");
+    let kind = String::from_str(alloc, kind)?;
+    let challenge = String::from_str(alloc, challenge)?;
+    let origin = String::from_str(alloc, origin)?;
+    Ok(Some(Subcommand::Check {
+        kind,
+        challenge,
+        origin,
+        cross,
+    }))
+}
+
+/// What a replay asks for.
+fn replayed(matches: &ArgMatches<'_>) -> Option<Subcommand>
+    ensures { IfSome result (IsAsked (subcommand_rows_of matches.now)) }
+{
+    matches.subcommand_matches("replay")?;
+    Some(Subcommand::Replay)
+}
+
+/// What the matches ask for.
+fn asked_by(alloc: Global, matches: &ArgMatches<'_>) -> Result<Option<Subcommand>, AllocError>
+    ensures { IfOk result (λ o. IfSome o (IsAsked (subcommand_rows_of matches.now))) }
+{
+    if let Some(asked) = inspected(alloc, matches)? {
+        return Ok(Some(asked));
+    }
+    if let Some(asked) = checked(alloc, matches)? {
+        return Ok(Some(asked));
+    }
+    Ok(replayed(matches))
 }
 
 /// What the words ask for, the program's name first. Words that are refused, and a call for help, give
-/// the text to show; `OutOfMemory` is its kind where there was no memory.
-pub fn command<'a>(alloc: Global, words: &'a [&'a str]) -> Result<Subcommand, Error> {
-    let mut parser = parser(alloc)?;
+/// clap's error, which has the text to show; its kind is `OutOfMemory` where there was no memory.
+pub fn command<'a>(alloc: Global, words: &'a [&'a str]) -> Result<Subcommand, Error>
+    ensures { IfOk result (λ a. IsAskedBy (map (λ w. w.now) words.now) a) }
+{
+    let mut parser = passkey(alloc)?;
     let matches = parser.try_get_matches_from_mut(words)?;
-    if let Some(inner) = matches.subcommand_matches("inspect") {
-        if let Some(kind) = inner.get_str("kind") {
-            return Ok(Subcommand::Inspect(String::from_str(alloc, kind)?));
-        }
+    let found = asked_by(alloc, &matches)?;
+    match found {
+        Some(asked) => Ok(asked),
+        None => Err(parser.error(ErrorKind::MissingRequiredArgument, "a value is missing")?),
     }
-    if matches.subcommand_matches("replay").is_some() {
-        return Ok(Subcommand::Replay);
-    }
-    Err(parser.error(ErrorKind::MissingSubcommand, "a subcommand is missing")?)
 }

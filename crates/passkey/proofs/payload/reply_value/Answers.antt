@@ -1,4 +1,4 @@
-use Rattle.std.proofs.Common.{◌≡◌, ◌∷◌, ap, Err, rules, ◌∙◌}
+use Rattle.std.proofs.Common.{◌≡◌, ◌∷◌, ap, Err, rules}
 use Rattle.passkey.specs.Payload.{IsUnread, unread}
 use Rattle.passkey.proofs.Payloads.{not_whole}
 use Rattle.passkey.proofs.payload.reply_value.Goals as goal

@@ -1,11 +1,10 @@
-use Rattle.std.proofs.Common.{◌≡◌, refl, sym, ◌∙◌, subst}
+use Rattle.std.proofs.Common.{refl, ◌∙◌, subst}
 use Rattle.ccbor.specs.View.{view}
 use Rattle.site.specs.Steps.{PassesAll}
 use Rattle.passkey.specs.Reply.{Reply}
 use Rattle.passkey.specs.ReplyView.{reply_of}
 use Rattle.passkey.specs.Verdict.{RefusedMessage, assertion}
 use Rattle.passkey.specs.SiteErrors.{refusal_of}
-use Rattle.passkey.specs.declared.error.Error.TheVariants as errors
 use Rattle.passkey.proofs.Verdicts.{no_reply_in, the_reply, site_refused, site_good}
 use Rattle.passkey.proofs.sign_in.answer.Goals as goal
 

@@ -1,4 +1,4 @@
-use Rattle.std.proofs.Common.{◌≡◌, ℕ, List, sym, subst, refl}
+use Rattle.std.proofs.Common.{ℕ, List, sym, subst, refl}
 use Rattle.hidlink.specs.Receives.{Receives}
 use Rattle.hidlink.specs.declared.collection.Received.TheVariants as received
 use Rattle.passkey.specs.Verdict.{IsGood}

@@ -1,0 +1,6 @@
+pub mod Quotes
+pub mod Verifying
+pub mod Escapes
+pub mod OneText
+pub mod Texts
+pub mod ReadBack

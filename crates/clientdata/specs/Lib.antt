@@ -1,0 +1,5 @@
+pub mod Quoted
+pub mod Serialised
+pub mod Verified
+pub mod Reading
+pub mod Refusals

@@ -1,0 +1,16 @@
+//! Challenges as texts.
+
+ghost use Rattle.std.specs.Prelude.{◌≡◌, IfOk, string_bytes};
+ghost use Rattle.clientdata.specs.Serialised.{challenge_text_of};
+
+use base64::engine::general_purpose::URL_SAFE_NO_PAD;
+use std::alloc::{AllocError, Global};
+
+/// The base64url text of the bytes, without padding (RFC 4648, sections 3.2 and 5), as client data
+/// have their challenge: `A` to `Z`, `a` to `z`, `0` to `9`, `-` and `_`, 4 for each 3 bytes, and 2
+/// or 3 for 1 or 2 at the end.
+pub fn challenge_text(alloc: Global, bytes: &[u8]) -> Result<String, AllocError>
+    ensures { IfOk result (λ text. string_bytes text ≡ challenge_text_of bytes.now) }
+{
+    URL_SAFE_NO_PAD.encode(alloc, bytes)
+}

@@ -1,0 +1,26 @@
+//! Client data of WebAuthn Level 2, section 5.8.1: its text written, checked and read, its hash,
+//! and challenges in base64url (RFC 4648, section 5).
+#![tactic(auto)]
+
+mod challenge;
+mod digest;
+mod error;
+mod law;
+mod quoting;
+mod record;
+mod seen;
+mod serialising;
+mod text;
+
+pub use challenge::challenge_text;
+pub use digest::hash;
+pub use error::Error;
+pub use law::{challenge_texts, digest_lengths, serialised_texts};
+pub use quoting::quoted_text;
+pub use record::{ClientData, Kind};
+pub use seen::{Binding, Seen, read};
+pub use serialising::{limited_verify, serialise};
+pub use text::Text;
+
+#[cfg(test)]
+mod tests;

@@ -1,0 +1,148 @@
+//! Client data read.
+
+ghost use Rattle.std.specs.Prelude.{◌≡◌, IfOk, IsErr, IsErrOf, MatchOption, option_map, true, false};
+ghost use Rattle.serde_json.specs.Read.{read as json_read};
+ghost use Rattle.serde_json.specs.View.{view};
+ghost use Rattle.clientdata.specs.Reading.{is_text, text_member, binding_in, seen_in, seen_of};
+ghost use Rattle.clientdata.specs.declared.seen.Binding.{Binding};
+
+use crate::error::Error;
+use crate::text::Text;
+use serde_json::Value;
+use std::alloc::{AllocError, Global};
+
+/// What client data say of token binding (WebAuthn Level 2, section 5.8.1, `tokenBinding`).
+#[derive(Clone, Copy, Debug, PartialEq, Eq)]
+pub enum Binding {
+    /// There is no member `tokenBinding`.
+    Absent,
+    /// The member is an object whose `status` is the text `supported`.
+    Supported,
+    /// The member is anything else: `present`, an unknown status, `null`, no object.
+    Other,
+}
+
+/// What a relying party reads of client data.
+#[derive(Debug, Drop)]
+pub struct Seen {
+    /// The member `type`, any text.
+    pub kind: Text,
+    /// The member `challenge`, any text; it isn't decoded.
+    pub challenge: Text,
+    /// The member `origin`, any text.
+    pub origin: Text,
+    /// The member `tokenBinding`.
+    pub binding: Binding,
+}
+
+/// Reads client data (WebAuthn Level 2, section 5.8.1): UTF-8 without a byte order mark, of any
+/// length, that is a JSON object (RFC 8259) as `serde_json` reads one, whose members `type`,
+/// `challenge` and `origin` are texts. `crossOrigin` and unknown members aren't looked at.
+///
+/// From the reading of `serde_json` it follows that of members with one name, after unescaping, the
+/// last one stands, and that the whole text is unreadable where any number in it is too large for a
+/// 64-bit float, any escape in it is a lone surrogate, or objects and arrays nest deeper than 127.
+///
+/// The error is [`Error::Unreadable`] (16) if the bytes are anything else, or [`Error::Memory`] if
+/// a growth was refused, which comes only once the bytes are known to be UTF-8 without the mark.
+pub fn read(alloc: Global, bytes: &[u8]) -> Result<Seen, Error>
+    ensures ok { IfOk result (λ seen. seen_of bytes.now ≡ Some seen) }
+
+    // Nothing is read exactly where there is nothing, want of memory aside.
+    ensures unreadable { IsErrOf result Error.Unreadable → seen_of bytes.now ≡ None }
+    ensures nothing { seen_of bytes.now ≡ None → IsErr result }
+    ensures no_text { is_text bytes.now ≡ false → IsErrOf result Error.Unreadable }
+{
+    let Some(json) = unmarked_text(bytes) else {
+        return Err(Error::Unreadable);
+    };
+    let value = json_value(alloc, json)?;
+    seen_from(alloc, &value)
+}
+
+/// U+FEFF in UTF-8.
+const BYTE_ORDER_MARK: [u8; 3] = [0xef, 0xbb, 0xbf];
+
+/// The bytes as a text, if they are UTF-8 and don't begin with a byte order mark.
+fn unmarked_text(bytes: &[u8]) -> Option<&str>
+    ensures { MatchOption result (is_text bytes.now ≡ false)
+        (λ text. (is_text bytes.now ≡ true) × (text.now ≡ bytes.now)) }
+{
+    if bytes.starts_with(&BYTE_ORDER_MARK) {
+        return None;
+    }
+    match str::from_utf8(bytes) {
+        Ok(text) => Some(text),
+        Err(_) => None,
+    }
+}
+
+/// The value of a JSON text.
+fn json_value(alloc: Global, json: &str) -> Result<Value, Error>
+    ensures ok { IfOk result (λ value. json_read json.now ≡ Some (view value)) }
+    ensures unreadable { IsErrOf result Error.Unreadable → json_read json.now ≡ None }
+{
+    match Value::from_str(alloc, json) {
+        Ok(value) => Ok(value),
+        Err(fault) if fault.is_memory() => Err(Error::Memory),
+        Err(_) => Err(Error::Unreadable),
+    }
+}
+
+/// A JSON value as client data.
+fn seen_from(alloc: Global, value: &Value) -> Result<Seen, Error>
+    ensures ok { IfOk result (λ seen. seen_in (view value.now) ≡ Some seen) }
+    ensures unreadable { IsErrOf result Error.Unreadable → seen_in (view value.now) ≡ None }
+{
+    let (Some(kind), Some(challenge), Some(origin)) = (
+        member_text(value, "type"),
+        member_text(value, "challenge"),
+        member_text(value, "origin"),
+    ) else {
+        return Err(Error::Unreadable);
+    };
+    Ok(copied(alloc, kind, challenge, origin, token_binding(value))?)
+}
+
+/// The text of a member, if there is such a member and it is a text.
+fn member_text<'a>(value: &'a Value, name: &str) -> Option<&'a str>
+    ensures { option_map (λ text. text.now) result ≡ text_member name.now (view value.now) }
+{
+    value.get(name)?.as_str()
+}
+
+/// What the value says of token binding.
+fn token_binding(value: &Value) -> Binding
+    ensures { result ≡ binding_in (view value.now) }
+{
+    match value.get("tokenBinding") {
+        None => Binding::Absent,
+        Some(inner) => match member_text(inner, "status") {
+            Some("supported") => Binding::Supported,
+            _ => Binding::Other,
+        },
+    }
+}
+
+/// What was read, in memory of its own.
+fn copied(
+    alloc: Global,
+    kind: &str,
+    challenge: &str,
+    origin: &str,
+    binding: Binding,
+) -> Result<Seen, AllocError>
+    ensures { IfOk result (λ seen. seen ≡ record {
+      kind = kind.now;
+      challenge = challenge.now;
+      origin = origin.now;
+      binding = binding;
+    }) }
+{
+    Ok(Seen {
+        kind: Text::from(String::from_str(alloc, kind)?),
+        challenge: Text::from(String::from_str(alloc, challenge)?),
+        origin: Text::from(String::from_str(alloc, origin)?),
+        binding,
+    })
+}

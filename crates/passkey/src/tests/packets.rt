@@ -1,0 +1,180 @@
+//! The collector and the plain reader of a whole list, on the same random lists.
+
+use hidframe::{Head, Packet};
+use hidlink::{Collector, DeadKind, Received, receive};
+use rand_core::Rng;
+use rand_pcg::Pcg32;
+use std::alloc::Global;
+use std::test::Fail;
+
+const CHANNEL: u32 = 1;
+
+/// How many lists are compared, from the generator of state 2026 and stream 11.
+const LISTS: usize = 4000;
+
+/// What a list gives.
+#[derive(Debug, PartialEq, Eq, Drop)]
+enum Given {
+    Message(Vec<u8>, usize),
+    DeviceError(u8, usize),
+    Dead(usize, DeadKind),
+    Incomplete,
+}
+
+/// Whether a packet is a keepalive of status 1 or 2.
+fn is_keepalive(packet: &Packet) -> bool {
+    match packet.read() {
+        Head::Init {
+            cid: _,
+            cmd,
+            len,
+            bytes,
+        } => cmd == 0x3b && len == 1 && (bytes[0] == 1 || bytes[0] == 2),
+        Head::Cont { .. } => false,
+    }
+}
+
+/// The channel of a packet.
+fn channel_of(packet: &Packet) -> u32 {
+    match packet.read() {
+        Head::Init { cid, .. } => cid,
+        Head::Cont { cid, .. } => cid,
+    }
+}
+
+/// What a packet gives that is the first on the channel behind the keepalives, if that is not a message of
+/// more bytes; else how many bytes it has.
+fn first_gives(packet: &Packet, index: usize) -> Result<usize, Given> {
+    match packet.read() {
+        Head::Cont { .. } => Err(Given::Dead(index, DeadKind::StrayContinuation)),
+        Head::Init {
+            cid: _,
+            cmd,
+            len,
+            bytes,
+        } => match cmd {
+            0x10 if len <= 7609 => Ok(usize::from(len)),
+            0x3f if len == 1 => Err(Given::DeviceError(bytes[0], index.saturating_add(1))),
+            0x10 | 0x3f => Err(Given::Dead(index, DeadKind::BadLength)),
+            0x3b if len == 1 => Err(Given::Dead(index, DeadKind::BadKeepalive)),
+            0x3b => Err(Given::Dead(index, DeadKind::BadLength)),
+            _ => Err(Given::Dead(index, DeadKind::WrongCommand)),
+        },
+    }
+}
+
+/// The data bytes of an initial packet, or of the continuation of a number.
+fn area_of(packet: &Packet, number: usize, index: usize) -> Result<&[u8], Given> {
+    match packet.read() {
+        Head::Init { .. } => Err(Given::Dead(index, DeadKind::Interrupted)),
+        Head::Cont { seq, bytes, .. } if usize::from(seq) == number => Ok(bytes),
+        Head::Cont { .. } => Err(Given::Dead(index, DeadKind::WrongSequence)),
+    }
+}
+
+/// What the packets give, read as a whole: those on the channel are keepalives, then one message.
+fn plain(alloc: Global, packets: &[Packet]) -> Result<Given, Fail> {
+    let mut own: Vec<(usize, Packet)> = Vec::new(alloc);
+    for (i, packet) in packets.iter().enumerate() {
+        if channel_of(packet) == CHANNEL {
+            own.push((i, *packet))?;
+        }
+    }
+    let waits = own.iter().take_while(|p| is_keepalive(&p.1)).count();
+    let Some(((index, first), later)) = own
+        .as_slice()
+        .get(waits..)
+        .and_then(|rest| rest.split_first())
+    else {
+        return Ok(Given::Incomplete);
+    };
+    let len = match first_gives(first, *index) {
+        Ok(len) => len,
+        Err(given) => return Ok(given),
+    };
+    let mut message = first.0.get(7..).unwrap_or(&[]).to_vec(alloc)?;
+    let mut used = index.saturating_add(1);
+    for (number, (index, packet)) in later
+        .iter()
+        .take(len.saturating_sub(57).div_ceil(59))
+        .enumerate()
+    {
+        match area_of(packet, number, *index) {
+            Ok(area) => message.extend_from_slice(area)?,
+            Err(given) => return Ok(given),
+        }
+        used = index.saturating_add(1);
+    }
+    if message.len() < len {
+        return Ok(Given::Incomplete);
+    }
+    message.truncate(len);
+    Ok(Given::Message(message, used))
+}
+
+/// What a new collector gives.
+fn collected(alloc: Global, packets: &[Packet]) -> Result<Given, Fail> {
+    let mut collector = Collector::new(alloc, CHANNEL)?;
+    Ok(match receive(&mut collector, packets) {
+        Received::Message { message, used } => Given::Message(message.to_vec(alloc)?, used),
+        Received::DeviceError { code, used } => Given::DeviceError(code, used),
+        Received::Dead { index, kind } => Given::Dead(index, kind),
+        Received::Incomplete => Given::Incomplete,
+    })
+}
+
+/// A packet of one of the kinds that matter, mostly on the channel, with random data.
+fn random_packet(rng: &mut Pcg32, next: &mut u8) -> Packet {
+    let mut bytes = [0u8; 64];
+    rng.fill_bytes(&mut bytes);
+    let kind = rng.next_u32() % 16;
+    bytes[..3].copy_from_slice(&[0, 0, 0]);
+    bytes[3] = if kind == 0 { 2 } else { 1 };
+    bytes[5] = 0;
+    match kind {
+        1 => (bytes[4], bytes[6], bytes[7]) = (0xbb, 1, bytes[7] % 4),
+        2 => (bytes[4], bytes[6]) = (0xbf, bytes[6] % 3),
+        3 | 4 => (bytes[4], bytes[6]) = (0x90, bytes[6] % 180),
+        5 => (bytes[4], bytes[5]) = (0x90, bytes[8] % 64),
+        6 => bytes[4] |= 0x80,
+        7 => bytes[4] &= 0x7f,
+        0 => {}
+        _ => {
+            bytes[4] = *next;
+            *next = next.wrapping_add(1) % 128;
+        }
+    }
+    Packet(bytes)
+}
+
+#[test]
+fn plain_reader_and_collector_agree(rt: HostRuntime) -> Result<(), Fail> {
+    let mut rng = Pcg32::new(2026, 11);
+    let mut messages = 0usize;
+    for list in 0..LISTS {
+        let mut packets = Vec::new(rt.alloc());
+        let mut next = 0;
+        let waits = rng.next_u32() % 4;
+        for i in 0..rng.next_u32() % 9 {
+            let mut packet = random_packet(&mut rng, &mut next);
+            if i == waits {
+                packet.0[4] = 0x90;
+                packet.0[5] = 0;
+            } else if i < waits {
+                packet.0[4] = 0xbb;
+                packet.0[5..8].copy_from_slice(&[0, 1, 1]);
+            }
+            if i <= waits {
+                next = 0;
+            }
+            packets.push(packet)?;
+        }
+        let wanted = plain(rt.alloc(), &packets)?;
+        if matches!(&wanted, Given::Message(..)) {
+            messages = messages.saturating_add(1);
+        }
+        assert_eq!(rt; collected(rt.alloc(), &packets)?, wanted, "list {list}");
+    }
+    assert!(rt; messages > 400, "{messages} messages");
+    Ok(())
+}
