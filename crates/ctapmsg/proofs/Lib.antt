@@ -1,0 +1,17 @@
+pub mod Low
+pub mod Rebuilt
+pub mod Fronts
+pub mod HoldsLemmas
+pub mod Complete
+pub mod EntitiesRead
+pub mod CreationRead
+pub mod AssertionRead
+pub mod Statuses
+pub mod CreationAnswered
+pub mod AssertionAnswered
+pub mod Commands
+pub mod Unwritten
+pub mod RepliesRead
+pub mod RepliesAnswered
+pub mod RepliesUnwritten
+pub mod OneRank

@@ -1,0 +1,84 @@
+-- A canonical map whose keys are all listed is its members in the table's order.
+use Rattle.std.proofs.Common.{◌≡◌, ℕ, Bool, true, false, ◌||◌, List, None, refl, sym, ap, subst, ◌∙◌, inl, inr}
+use Rattle.std.proofs.lemmas.Bool.{and_parts, or_cases, cases_Bool, false_from_ne_true, and_from}
+use Rattle.ccbor.specs.Item.{Item, Pairs, no_pairs, pair}
+use Rattle.ccbor.specs.Canon.{before, spelling, PairsFit}
+use Rattle.ccbor.specs.Access.{is_same_key, value_at}
+use Rattle.ccbor.proofs.AccessLemmas.{same_key}
+use Rattle.ccbor.proofs.KeyOrder.{before_trans, before_itself}
+use Rattle.ctapmsg.specs.Schema.{Holds, Members, no_more, listed, is_listed, all_keys, optional}
+
+-- the members that are there, in the table's order
+abbrev pub in_order : Members → Pairs → Pairs
+in_order no_more ps = no_pairs
+in_order (listed k required h ms) ps = optional k (value_at k ps) (in_order ms ps)
+
+-- the table's keys come after the last one, and each before the next
+abbrev pub Rising : List ℕ → Members → Type 0
+Rising last no_more = Unit {0}
+Rising last (listed k r h ms) = (before last (spelling k) ≡ true) × Rising (spelling k) ms
+
+differ : (k l : Item) → before (spelling k) (spelling l) ≡ true → is_same_key k l ≡ false
+differ k l b = false_from_ne_true (is_same_key k l) (λ s. before_itself (spelling k) (ap (λ (i : Item). before (spelling k) (spelling i)) (same_key k l s) ∙ b))
+
+differ_back : (k l : Item) → before (spelling k) (spelling l) ≡ true → is_same_key l k ≡ false
+differ_back k l b = false_from_ne_true (is_same_key l k) (λ s. before_itself (spelling k) (ap (λ (i : Item). before (spelling k) (spelling i)) (sym (same_key l k s)) ∙ b))
+
+-- a key that isn't after the last one isn't there
+absent : (k : Item) (d : ℕ) (last : List ℕ) (ps : Pairs) → PairsFit d last ps → (before last (spelling k) ≡ true → ⊥) → value_at k ps ≡ None
+absent k d last no_pairs fits never = refl
+absent k d last (pair l v ps) fits never =
+    let after = fits.1 in
+    let other : is_same_key l k ≡ false = false_from_ne_true (is_same_key l k) (λ s. never (ap (λ (i : Item). before last (spelling i)) (sym (same_key l k s)) ∙ after)) in
+    rw other (absent k d (spelling l) ps fits.4 (λ b. never (before_trans last (spelling l) (spelling k) after b)))
+
+-- a front pair before all of a table's keys isn't looked at
+skip : (k v : Item) (ps : Pairs) (ms : Members) (last : List ℕ) → ((x : List ℕ) → before last x ≡ true → before (spelling k) x ≡ true) → Rising last ms
+    → in_order ms (pair k v ps) ≡ in_order ms ps
+skip k v ps no_more last up rising = refl
+skip k v ps (listed l r h ms) last up rising =
+    let after = up (spelling l) rising.0 in
+    let other = differ k l after in
+    let inner = skip k v ps ms (spelling l) (λ x b. before_trans (spelling k) (spelling l) x after b) rising.1 in
+    rw (other, inner) refl
+
+-- keys after the table's first one are listed behind it
+narrowed : (k : Item) (r : Bool) (h : Holds) (ms : Members) (d : ℕ) (last : List ℕ) (ps : Pairs) → ((x : List ℕ) → before last x ≡ true → before (spelling k) x ≡ true) → PairsFit d last ps
+    → all_keys (is_listed (listed k r h ms)) ps ≡ true → all_keys (is_listed ms) ps ≡ true
+narrowed k r h ms d last no_pairs up fits all = refl
+narrowed k r h ms d last (pair l v ps) up fits all =
+    let after = up (spelling l) (fits.1) in
+    let both = and_parts (is_same_key l k || is_listed ms l) (all_keys (is_listed (listed k r h ms)) ps) all in
+    let other = differ_back k l after in
+    let here : is_listed ms l ≡ true = rw other at both.0 in
+    and_from (is_listed ms l) (all_keys (is_listed ms) ps) here (narrowed k r h ms d (spelling l) ps (λ x b. before_trans (spelling k) (spelling l) x after b) fits.4 both.1)
+
+-- a listed key comes after the last one
+after_last : (ms : Members) (last : List ℕ) (l : Item) → Rising last ms → is_listed ms l ≡ true → before last (spelling l) ≡ true
+after_last no_more last l rising e = absurd cc
+after_last (listed k r h ms) last l rising e =
+    elim (or_cases (is_same_key l k) (is_listed ms l) e) [
+      | inl s ↦ ap (λ (i : Item). before last (spelling i)) (same_key l k s) ∙ rising.0
+      | inr s ↦ before_trans last (spelling k) (spelling l) rising.0 (after_last ms (spelling k) l rising.1 s)
+    ]
+
+pub in_order_is : (ms : Members) (d : ℕ) (last : List ℕ) (ps : Pairs) → Rising last ms → PairsFit d last ps → all_keys (is_listed ms) ps ≡ true → in_order ms ps ≡ ps
+in_order_is no_more d last no_pairs rising fits all = refl
+in_order_is no_more d last (pair l v ps) rising fits all = absurd cc
+in_order_is (listed k r h ms) d last no_pairs rising fits all = in_order_is ms d (spelling k) no_pairs rising.1 tt refl
+in_order_is (listed k r h ms) d last (pair l v ps) rising fits all =
+    let both = and_parts (is_same_key l k || is_listed ms l) (all_keys (is_listed (listed k r h ms)) ps) all in
+    elim (cases_Bool (is_same_key l k)) [
+      | inl s ↦
+          let same : l ≡ k = same_key l k s in
+          let tail : PairsFit d (spelling k) ps = subst (λ (i : Item). PairsFit d (spelling i) ps) same fits.4 in
+          let rest = in_order_is ms d (spelling k) ps rising.1 tail (narrowed k r h ms d (spelling k) ps (λ x b. b) tail both.1) in
+          let skipped = skip l v ps ms (spelling k) (λ x b. ap (λ (i : Item). before (spelling i) x) same ∙ b) rising.1 in
+          rw s (ap (λ (q : Pairs). pair k v q) (skipped ∙ rest) ∙ ap (λ (i : Item). pair i v ps) (sym same))
+      | inr s ↦
+          let here : is_listed ms l ≡ true = rw s at both.0 in
+          let after = after_last ms (spelling k) l rising.1 here in
+          let gone = absent k d (spelling l) ps fits.4 (λ b. before_itself (spelling k) (before_trans (spelling k) (spelling l) (spelling k) after b)) in
+          let whole : PairsFit d (spelling k) (pair l v ps) = (fits.0, after, fits.2, fits.3, fits.4) in
+          rw (s, gone) (in_order_is ms d (spelling k) (pair l v ps) rising.1 whole (narrowed k r h ms d (spelling k) (pair l v ps) (λ x b. b) whole all))
+    ]

@@ -1,0 +1,74 @@
+-- The status that answers a request: that of the first rank that applies. CTAP 2.1 has the status bytes
+-- (section 8.2); their order is this product's.
+use Rattle.std.specs.Prelude.{◌≡◌, ◌≢◌, ◌==◌, ℕ, List, [], ◌∷◌, Bool, true, false, ◌||◌, Option}
+use Rattle.ccbor.specs.Item.{Item, Pairs}
+use Rattle.ccbor.specs.Canon.{Canon}
+use Rattle.ctapmsg.specs.Schema.{rank_in}
+use Rattle.ctapmsg.specs.Requests.{RequestMessage, RequestOf, map_of}
+use Rattle.ctapmsg.specs.declared.error.Error.{Error}
+use Rattle.ctapmsg.specs.declared.error.Error.TheVariants as errors
+
+-- the ranks, the first one first
+pub data Rank : Type 0 where
+  unknown_command : Rank
+  bytes_behind : Rank
+  not_canonical : Rank
+  another_kind : Rank
+  unlisted_key : Rank
+  missing_member : Rank
+  invalid_size : Rank
+  over_limit : Rank
+
+-- what each is answered by
+abbrev pub status_of : Rank → ℕ
+status_of unknown_command = 0x01
+status_of bytes_behind = 0x02
+status_of not_canonical = 0x12
+status_of another_kind = 0x11
+status_of unlisted_key = 0x02
+status_of missing_member = 0x14
+status_of invalid_size = 0x02
+status_of over_limit = 0x15
+
+-- makeCredential and getAssertion have a map behind the command byte
+abbrev pub has_map : ℕ → Bool
+has_map command = command == 1 || command == 2
+
+-- getInfo, reset and getNextAssertion have nothing there
+abbrev pub has_none : ℕ → Bool
+has_none command = command == 4 || command == 7 || command == 8
+
+-- the command's map has a fault of this rank somewhere in it, and none of a lower rank
+abbrev pub Fault : ℕ → List ℕ → Type 0
+Fault rank [] = ⊥
+Fault rank (command ∷ rest) = (has_map command ≡ true) × (v : Item) × Canon v rest × (rank_in (map_of command) v ≡ rank)
+
+-- of the ranks that apply to the bytes this is the first
+abbrev pub Applies : Rank → List ℕ → Type 0
+Applies unknown_command [] = Unit {0}
+Applies unknown_command (command ∷ rest) = has_map command || has_none command ≡ false
+Applies bytes_behind [] = ⊥
+Applies bytes_behind (command ∷ rest) = (has_none command ≡ true) × (rest ≢ [])
+Applies not_canonical [] = ⊥
+Applies not_canonical (command ∷ rest) = (has_map command ≡ true) × ((v : Item) → Canon v rest → ⊥)
+Applies another_kind bs = Fault 4 bs
+Applies unlisted_key bs = Fault 5 bs
+Applies missing_member bs = Fault 6 bs
+Applies invalid_size bs = Fault 7 bs
+Applies over_limit bs = Fault 8 bs
+
+-- no rank applies
+abbrev pub NoStatus : List ℕ → Type 0
+NoStatus bs = (r : Rank) → Applies r bs → ⊥
+
+-- what is answered in place of a request: want of memory, or the status of the first rank
+abbrev pub Refused : List ℕ → Error → Type 0
+Refused bs errors.Memory = Unit {0}
+Refused bs (errors.Status s) = (r : Rank) × Applies r bs × (s ≡ status_of r)
+Refused bs _ = ⊥
+
+-- the bytes are this request with some extensions or none, and no other request; and no rank applies
+pub record IsRequest (q : RequestMessage) (bs : List ℕ) : Type 0 where
+  pub spelled : (x : Option Pairs) × RequestOf q x bs
+  pub only : (r : RequestMessage) (x : Option Pairs) → RequestOf r x bs → r ≡ q
+  pub clean : NoStatus bs

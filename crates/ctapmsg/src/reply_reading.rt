@@ -1,0 +1,139 @@
+//! Reading a reply.
+
+ghost use Rattle.std.specs.Prelude.{◌≡◌, ◌≢◌, ◌∷◌, IfOk, IfErr};
+ghost use Rattle.ccbor.specs.Canon.{Canon};
+ghost use Rattle.ccbor.specs.View.{view};
+ghost use Rattle.ctapmsg.specs.Pieces.{RestRefused};
+ghost use Rattle.ctapmsg.specs.Replies.{creation_reply, assertion_reply, next_reply, info_reply, reply_members, IsReply, ReplyRefused};
+ghost use Rattle.ctapmsg.specs.ReplyView.{creation_reply_view, assertion_reply_view, info_view, reply_view};
+ghost use Rattle.ctapmsg.specs.Schema.{rank_in, record_of};
+ghost use Rattle.ctapmsg.specs.declared.reply.Kind.TheVariants as kinds;
+
+use crate::error::Error;
+use crate::ranks::CLEAN;
+use crate::replies;
+use crate::reply::{AssertionReply, CreationReply, InfoReply, Kind, Reply};
+use crate::status::OK;
+use crate::tables::reply_rank;
+use ccbor::{Value, decode_all};
+use std::alloc::Global;
+
+/// The map that answers a command, without a fault.
+fn map_of(alloc: Global, kind: Kind, rest: &[u8]) -> Result<Value, Error>
+    ensures found { IfOk result (λ v. Canon (view v) rest.now) }
+    ensures clean { IfOk result (λ v. rank_in (record_of (reply_members kind)) (view v) ≡ 9) }
+    ensures refused { IfErr result (λ e. RestRefused (reply_members kind) rest.now e) }
+{
+    let value = match decode_all(alloc, rest) {
+        Ok(value) => value,
+        Err(ccbor::Error::NotCanonical) => return Err(Error::NotCanonical),
+        Err(ccbor::Error::Trailing) => return Err(Error::NotCanonical),
+        Err(_) => return Err(Error::Memory),
+    };
+    if reply_rank(kind, &value) != CLEAN {
+        return Err(Error::Shape);
+    }
+    Ok(value)
+}
+
+fn creation_reply_after(alloc: Global, rest: &[u8]) -> Result<CreationReply, Error>
+    ensures found { IfOk result (λ r.
+        IsReply kinds.MakeCredential (creation_reply (creation_reply_view r)) (0 ∷ rest.now)) }
+    ensures refused { IfErr result (λ e. ReplyRefused kinds.MakeCredential (0 ∷ rest.now) e) }
+{
+    match map_of(alloc, Kind::MakeCredential, rest) {
+        Ok(value) => match replies::creation_reply(value) {
+            Some(reply) => Ok(reply),
+            None => Err(Error::Shape),
+        },
+        Err(e) => Err(e),
+    }
+}
+
+fn assertion_reply_after(alloc: Global, rest: &[u8]) -> Result<AssertionReply, Error>
+    ensures found { IfOk result (λ r.
+        IsReply kinds.GetAssertion (assertion_reply (assertion_reply_view r)) (0 ∷ rest.now)) }
+    ensures refused { IfErr result (λ e. ReplyRefused kinds.GetAssertion (0 ∷ rest.now) e) }
+{
+    match map_of(alloc, Kind::GetAssertion, rest) {
+        Ok(value) => replies::assertion_reply(alloc, &value),
+        Err(e) => Err(e),
+    }
+}
+
+fn next_reply_after(alloc: Global, rest: &[u8]) -> Result<AssertionReply, Error>
+    ensures found { IfOk result (λ r.
+        IsReply kinds.GetNextAssertion (next_reply (assertion_reply_view r)) (0 ∷ rest.now)) }
+    ensures refused { IfErr result (λ e. ReplyRefused kinds.GetNextAssertion (0 ∷ rest.now) e) }
+{
+    match map_of(alloc, Kind::GetNextAssertion, rest) {
+        Ok(value) => replies::assertion_reply(alloc, &value),
+        Err(e) => Err(e),
+    }
+}
+
+fn info_reply_after(alloc: Global, rest: &[u8]) -> Result<InfoReply, Error>
+    ensures found { IfOk result (λ r.
+        IsReply kinds.GetInfo (info_reply (info_view r)) (0 ∷ rest.now)) }
+    ensures refused { IfErr result (λ e. ReplyRefused kinds.GetInfo (0 ∷ rest.now) e) }
+{
+    match map_of(alloc, Kind::GetInfo, rest) {
+        Ok(value) => replies::info(alloc, &value),
+        Err(e) => Err(e),
+    }
+}
+
+fn reset_reply_after(rest: &[u8]) -> Result<Reply, Error>
+    ensures found { IfOk result (λ r. IsReply kinds.Reset (reply_view r) (0 ∷ rest.now)) }
+    ensures refused { IfErr result (λ e. ReplyRefused kinds.Reset (0 ∷ rest.now) e) }
+{
+    match rest.split_first() {
+        None => Ok(Reply::Reset),
+        Some(_) => Err(Error::Shape),
+    }
+}
+
+/// The reply to a command, behind status 0.
+fn reply_after(alloc: Global, kind: Kind, rest: &[u8]) -> Result<Reply, Error>
+    ensures found { IfOk result (λ r. IsReply kind (reply_view r) (0 ∷ rest.now)) }
+    ensures refused { IfErr result (λ e. ReplyRefused kind (0 ∷ rest.now) e) }
+{
+    match kind {
+        Kind::MakeCredential => match creation_reply_after(alloc, rest) {
+            Ok(reply) => Ok(Reply::MakeCredential(reply)),
+            Err(e) => Err(e),
+        },
+        Kind::GetAssertion => match assertion_reply_after(alloc, rest) {
+            Ok(reply) => Ok(Reply::GetAssertion(reply)),
+            Err(e) => Err(e),
+        },
+        Kind::GetNextAssertion => match next_reply_after(alloc, rest) {
+            Ok(reply) => Ok(Reply::GetNextAssertion(reply)),
+            Err(e) => Err(e),
+        },
+        Kind::GetInfo => match info_reply_after(alloc, rest) {
+            Ok(reply) => Ok(Reply::GetInfo(reply)),
+            Err(e) => Err(e),
+        },
+        Kind::Reset => reset_reply_after(rest),
+    }
+}
+
+/// The reply of these bytes to a command of this kind.
+///
+/// Refused with the first of these that applies, or as [`Error::Memory`]: `Empty` (17) where there
+/// is no byte; `Refused` (18) with the status byte where that is not 0, and what follows it is not
+/// looked at; `NotCanonical` (2) where what follows is not one whole canonical CBOR value; `Shape`
+/// (13) where that value is not the map of such a reply, or for reset where anything follows.
+pub fn read_reply(alloc: Global, kind: Kind, bytes: &[u8]) -> Result<Reply, Error>
+    ensures found { IfOk result (λ r. IsReply kind (reply_view r) bytes.now) }
+    ensures refused { IfErr result (λ e. ReplyRefused kind bytes.now e) }
+{
+    let Some((status, rest)) = bytes.split_first() else {
+        return Err(Error::Empty);
+    };
+    if *status != OK {
+        return Err(Error::Refused(*status));
+    }
+    reply_after(alloc, kind, rest)
+}

@@ -1,0 +1,94 @@
+//! Writing a reply.
+
+ghost use Rattle.std.specs.Prelude.{◌≡◌, ◌∷◌, [], ℕ, List, ◌⊎◌, IfOk, IfErr, IsErrOf};
+ghost use Rattle.ccbor.specs.Canon.{Canon};
+ghost use Rattle.ccbor.specs.View.{view};
+ghost use Rattle.ctapmsg.specs.Pieces.{WrittenMap};
+ghost use Rattle.ctapmsg.specs.Replies.{reply_members, creation_reply_item, assertion_reply_item, info_item, ReplyOf};
+ghost use Rattle.ctapmsg.specs.ReplyView.{creation_reply_view, assertion_reply_view, info_view, reply_view};
+ghost use Rattle.ctapmsg.specs.Schema.{rank_in, record_of};
+ghost use Rattle.ctapmsg.specs.declared.error.Error.TheVariants as errors;
+ghost use Rattle.ctapmsg.specs.declared.reply.Kind.TheVariants as kinds;
+
+use crate::error::Error;
+use crate::ranks::CLEAN;
+use crate::reply::{AssertionReply, CreationReply, InfoReply, Kind, Reply};
+use crate::reply_values::{assertion_reply_value, creation_reply_value, info_value};
+use crate::status::OK;
+use crate::tables::reply_rank;
+use ccbor::{Value, encode};
+use std::alloc::{AllocError, Global};
+
+/// Status 0 and the encoding of the map, if that has no fault.
+fn with_map(alloc: Global, kind: Kind, value: &Value) -> Result<Vec<u8>, Error>
+    ensures { WrittenMap (λ v. v.items) (reply_members kind) (view value.now) result }
+{
+    if reply_rank(kind, value) != CLEAN {
+        return Err(Error::Unfit);
+    }
+    let mut out = Vec::new(alloc);
+    out.push(OK)?;
+    match encode(value, &mut out) {
+        Ok(()) => Ok(out),
+        Err(ccbor::Error::Unfit) => Err(Error::Unfit),
+        Err(_) => Err(Error::Memory),
+    }
+}
+
+fn creation_reply_bytes(alloc: Global, reply: CreationReply) -> Result<Vec<u8>, Error>
+    ensures { WrittenMap (λ v. v.items) (reply_members kinds.MakeCredential)
+        (creation_reply_item (creation_reply_view reply)) result }
+{
+    let value = creation_reply_value(alloc, reply)?;
+    with_map(alloc, Kind::MakeCredential, &value)
+}
+
+fn assertion_reply_bytes(alloc: Global, kind: Kind, reply: AssertionReply) -> Result<Vec<u8>, Error>
+    ensures { WrittenMap (λ v. v.items) (reply_members kind)
+        (assertion_reply_item (assertion_reply_view reply)) result }
+{
+    let value = assertion_reply_value(alloc, reply)?;
+    with_map(alloc, kind, &value)
+}
+
+fn info_reply_bytes(alloc: Global, reply: InfoReply) -> Result<Vec<u8>, Error>
+    ensures { WrittenMap (λ v. v.items) (reply_members kinds.GetInfo)
+        (info_item (info_view reply)) result }
+{
+    let value = info_value(alloc, &reply)?;
+    with_map(alloc, Kind::GetInfo, &value)
+}
+
+/// Status 0 alone.
+fn status_alone(alloc: Global) -> Result<Vec<u8>, AllocError>
+    ensures { IfOk result (λ bytes. bytes.items ≡ 0 ∷ []) }
+{
+    let mut out = Vec::new(alloc);
+    out.push(OK)?;
+    Ok(out)
+}
+
+/// The bytes of a reply: status 0 and its map. The reply is given by value, since its parts become
+/// those of the map that is encoded; it is dropped.
+///
+/// Refused as [`Error::Unfit`] where it has none: an id of no byte or more than 64, a number of
+/// credentials below 2 or in a reply to getNextAssertion, an aaguid that hasn't 16 bytes, options
+/// out of the order of canonical keys, a statement that is no map or has no canonical encoding
+/// with three levels of nesting. Otherwise only [`Error::Memory`] is answered.
+pub fn write_reply(alloc: Global, reply: Reply) -> Result<Vec<u8>, Error>
+    ensures spelled { IfOk result (λ bytes. ReplyOf (reply_view reply) bytes.items) }
+    // It is called unfit only if no bytes are this reply.
+    ensures unfit { IsErrOf result errors.Unfit
+        → (bs : List ℕ) → ReplyOf (reply_view reply) bs → ⊥ }
+    ensures errors { IfErr result (λ e. (e ≡ errors.Unfit) ⊎ (e ≡ errors.Memory)) }
+{
+    match reply {
+        Reply::MakeCredential(reply) => creation_reply_bytes(alloc, reply),
+        Reply::GetAssertion(reply) => assertion_reply_bytes(alloc, Kind::GetAssertion, reply),
+        Reply::GetNextAssertion(reply) => {
+            assertion_reply_bytes(alloc, Kind::GetNextAssertion, reply)
+        }
+        Reply::GetInfo(reply) => info_reply_bytes(alloc, reply),
+        Reply::Reset => Ok(status_alone(alloc)?),
+    }
+}
