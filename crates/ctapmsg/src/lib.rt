@@ -35,4 +35,6 @@ pub use request::{
 pub use writing::write_request;
 
 #[cfg(test)]
+mod reply_tests;
+#[cfg(test)]
 mod tests;

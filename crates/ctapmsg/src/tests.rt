@@ -1,11 +1,11 @@
-//! Tables of bytes. The expected values are worked by hand from CTAP 2.1, sections 6 and 8.
+//! Tables of requests. The expected values are worked by hand from CTAP 2.1, sections 6 and 8.
 
 use super::*;
 use std::alloc::{AllocError, Global};
 use std::test::Fail;
 
 /// Bytes, and then a number of times one byte.
-type Piece<'a> = (&'a [u8], u8, usize);
+pub type Piece<'a> = (&'a [u8], u8, usize);
 
 /// A name, the pieces of a request, and the status that answers it.
 type Row<'a> = (&'a str, &'a [Piece<'a>], u8);
@@ -20,7 +20,7 @@ const U: Piece<'static> = (b"\x03\xa1\x62id\x41\x0a", 0, 0);
 const P: Piece<'static> = (b"\x04\x81\xa2\x63alg\x26\x64type\x6apublic-key", 0, 0);
 
 /// The member `type` of a type and algorithm.
-const TYPE: &[u8] = b"\x64type\x6apublic-key";
+pub const TYPE: &[u8] = b"\x64type\x6apublic-key";
 
 /// Members of a getAssertion request: `abc` and 32 bytes 22.
 const I: Piece<'static> = (b"\x01\x63abc", 0, 0);
@@ -31,7 +31,7 @@ const G: Piece<'static> = (b"\x02\x58\x20", 0x22, 32);
 const D: Piece<'static> = (b"\xa2\x62id\x41\x0a\x64type\x6apublic-key", 0, 0);
 
 /// The pieces, one after the other.
-fn joined(alloc: Global, pieces: &[Piece<'_>]) -> Result<Vec<u8>, AllocError> {
+pub fn joined(alloc: Global, pieces: &[Piece<'_>]) -> Result<Vec<u8>, AllocError> {
     let mut bytes = Vec::new(alloc);
     for (front, byte, count) in pieces {
         bytes.extend_from_slice(front)?;
@@ -77,6 +77,12 @@ fn statuses(rt: HostRuntime) -> Result<(), Fail> {
                 &[(b"\x03\xff", 0, 0)],
                 0x01,
             ),
+            (
+                "an unknown command with an array",
+                &[(b"\x03\x80", 0, 0)],
+                0x01,
+            ),
+            ("getInfo and an array", &[(b"\x04\x80", 0, 0)], 0x02),
             ("getInfo", &[(b"\x04", 0, 0)], 0),
             ("reset", &[(b"\x07", 0, 0)], 0),
             ("getNextAssertion", &[(b"\x08", 0, 0)], 0),
@@ -474,239 +480,5 @@ fn extensions_and_unfit(rt: HostRuntime) -> Result<(), Fail> {
     }
     assert_eq!(rt; Error::Unfit.number(), Some(1));
     assert_eq!(rt; Error::Status(0x15).number(), None);
-    Ok(())
-}
-
-/// A name, the command, the pieces of a reply, and the number of its refusal, or 0 where it is read
-/// and written again as it came.
-type ReplyRow<'a> = (&'a str, Kind, &'a [Piece<'a>], u8);
-
-fn reply_answer(alloc: Global, kind: Kind, bytes: &[u8]) -> u8 {
-    match read_reply(alloc, kind, bytes) {
-        Ok(reply) => match write_reply(alloc, reply) {
-            Ok(again) => { if again.as_slice() == bytes { 0 } else { 0xfe } }
-            Err(_) => 0xff,
-        },
-        Err(error) => match error.number() {
-            Some(number) => number,
-            None => 0xfd,
-        },
-    }
-}
-
-fn reply_rows(alloc: Global, rows: &[ReplyRow<'_>]) -> Result<(), Fail> {
-    for (name, kind, pieces, number) in rows {
-        let bytes = joined(alloc, pieces)?;
-        if reply_answer(alloc, *kind, bytes.as_slice()) != *number {
-            return Err(Fail::from(*name));
-        }
-    }
-    Ok(())
-}
-
-/// Members of a getAssertion reply.
-const C: Piece<'static> = (b"\x01\xa2\x62id\x41\x0a\x64type\x6apublic-key", 0, 0);
-
-const A: Piece<'static> = (b"\x02\x41\0", 0, 0);
-
-const S: Piece<'static> = (b"\x03\x41\x5a", 0, 0);
-
-/// Pieces of a getInfo reply, around its aaguid.
-const V: Piece<'static> = (b"\0\xa6\x01\x81\x68FIDO_2_0\x03\x50", 0, 16);
-
-const O: Piece<'static> = (b"\x04\xa4\x62rk\xf5\x62up\xf5\x62uv\xf4\x64plat\xf4", 0, 0);
-
-const X: Piece<'static> = (b"\x05\x19\x1d\xb9\x07\x08\x08\x18\x40", 0, 0);
-
-// Replies, read and written again, and each refusal.
-#[test]
-fn replies(rt: HostRuntime) -> Result<(), Fail> {
-    const M: Kind = Kind::MakeCredential;
-    const G: Kind = Kind::GetAssertion;
-    const N: Kind = Kind::GetNextAssertion;
-    const T: Piece<'static> = (b"\0\xa3", 0, 0);
-    const F: Piece<'static> = (b"\0\xa4", 0, 0);
-    const TWO: Piece<'static> = (b"\x05\x02", 0, 0);
-    const USER: Piece<'static> = (b"\x04\xa1\x62id\x41\x01", 0, 0);
-    reply_rows(
-        rt.alloc(),
-        &[
-            ("no byte", G, &[], 17),
-            ("status 2e", G, &[(b"\x2e", 0, 0)], 18),
-            ("status 2e and no value", G, &[(b"\x2e\xff", 0, 0)], 18),
-            ("status 0 alone", G, &[(b"\0", 0, 0)], 2),
-            ("no member", G, &[(b"\0\xa0", 0, 0)], 13),
-            ("a map for reset", Kind::Reset, &[(b"\0\xa0", 0, 0)], 13),
-            ("no value for reset", Kind::Reset, &[(b"\0\xff", 0, 0)], 13),
-            ("reset", Kind::Reset, &[(b"\0", 0, 0)], 0),
-            ("an assertion", G, &[T, C, A, S], 0),
-            ("a next assertion", N, &[T, C, A, S], 0),
-            (
-                "user and number",
-                G,
-                &[(b"\0\xa5", 0, 0), C, A, S, USER, TWO],
-                0,
-            ),
-            ("a next assertion's user", N, &[F, C, A, S, USER], 0),
-            ("a next assertion's number", N, &[F, C, A, S, TWO], 13),
-            ("a number of 1", G, &[F, C, A, S, (b"\x05\x01", 0, 0)], 13),
-            (
-                "a negative number",
-                G,
-                &[F, C, A, S, (b"\x05\x21", 0, 0)],
-                13,
-            ),
-            ("a byte behind the map", G, &[T, C, A, S, (b"\0", 0, 0)], 2),
-            ("another order", G, &[T, A, C, S], 2),
-            ("a member twice", G, &[F, C, A, A, S], 2),
-            ("another key", G, &[F, C, A, S, (b"\x06\0", 0, 0)], 13),
-            ("no credential", G, &[(b"\0\xa2", 0, 0), A, S], 13),
-            (
-                "a signature that is a text",
-                G,
-                &[T, C, A, (b"\x03\x60", 0, 0)],
-                13,
-            ),
-            (
-                "a type apart",
-                G,
-                &[T, (b"\x01\xa2\x62id\x41\x0a\x64type\x60", 0, 0), A, S],
-                13,
-            ),
-            (
-                "no type",
-                G,
-                &[T, (b"\x01\xa1\x62id\x41\x0a", 0, 0), A, S],
-                13,
-            ),
-            (
-                "an id of no byte",
-                G,
-                &[T, (b"\x01\xa2\x62id\x40", 0, 0), (TYPE, 0, 0), A, S],
-                13,
-            ),
-            (
-                "an id of 64 bytes",
-                G,
-                &[T, (b"\x01\xa2\x62id\x58\x40", 1, 64), (TYPE, 0, 0), A, S],
-                0,
-            ),
-            (
-                "an id of 65 bytes",
-                G,
-                &[T, (b"\x01\xa2\x62id\x58\x41", 1, 65), (TYPE, 0, 0), A, S],
-                13,
-            ),
-            (
-                "a user without id",
-                G,
-                &[F, C, A, S, (b"\x04\xa0", 0, 0)],
-                13,
-            ),
-            (
-                "a user of no byte",
-                G,
-                &[F, C, A, S, (b"\x04\xa1\x62id\x40", 0, 0)],
-                13,
-            ),
-            (
-                "a user's name",
-                G,
-                &[F, C, A, S, (b"\x04\xa2\x62id\x41a\x64name\x60", 0, 0)],
-                13,
-            ),
-            (
-                "a credential",
-                M,
-                &[(b"\0\xa3\x01\x64none\x02\x41\0\x03\xa0", 0, 0)],
-                0,
-            ),
-            (
-                "a statement",
-                M,
-                &[(b"\0\xa3\x01\x60\x02\x40\x03\xa1\x61a\x81\0", 0, 0)],
-                0,
-            ),
-            (
-                "a statement that is no map",
-                M,
-                &[(b"\0\xa3\x01\x60\x02\x40\x03\x80", 0, 0)],
-                13,
-            ),
-            (
-                "a format of bytes",
-                M,
-                &[(b"\0\xa3\x01\x40\x02\x40\x03\xa0", 0, 0)],
-                13,
-            ),
-            ("no statement", M, &[(b"\0\xa2\x01\x60\x02\x40", 0, 0)], 13),
-            (
-                "member 4",
-                M,
-                &[(b"\0\xa4\x01\x60\x02\x40\x03\xa0\x04\0", 0, 0)],
-                13,
-            ),
-            ("information", Kind::GetInfo, &[V, O, X], 0),
-            (
-                "an aaguid of 15 bytes",
-                Kind::GetInfo,
-                &[(b"\0\xa6\x01\x80\x03\x4f", 0, 15), O, X],
-                13,
-            ),
-            (
-                "an option of 1",
-                Kind::GetInfo,
-                &[V, (b"\x04\xa1\x61a\x01", 0, 0), X],
-                13,
-            ),
-            ("no options", Kind::GetInfo, &[V, (b"\x04\xa0", 0, 0), X], 0),
-        ],
-    )
-}
-
-// What an authenticator answers to getInfo, and replies without bytes.
-#[test]
-fn information(rt: HostRuntime) -> Result<(), Fail> {
-    let alloc = rt.alloc();
-    let mut versions = Vec::new(alloc);
-    versions.push(String::from_str(alloc, "FIDO_2_0")?)?;
-    let mut options = Vec::new(alloc);
-    for (name, value) in [("rk", true), ("up", true), ("uv", false), ("plat", false)] {
-        options.push((String::from_str(alloc, name)?, value))?;
-    }
-    let reply = InfoReply {
-        versions,
-        aaguid: Vec::from_slice(alloc, &[0; 16])?,
-        options,
-        max_msg_size: 7609,
-        max_credential_count_in_list: 8,
-        max_credential_id_length: 64,
-    };
-    let Ok(bytes) = write_reply(alloc, Reply::GetInfo(reply)) else {
-        return Err(Fail::from("information is written"));
-    };
-    assert_eq!(rt; bytes.as_slice(), joined(alloc, &[V, O, X])?.as_slice());
-    assert_eq!(rt; bytes.len(), 60);
-    for (id, number) in [(&[1u8][..], Some(2)), (&[0x0a; 65][..], None)] {
-        let reply = AssertionReply {
-            credential: Vec::from_slice(alloc, id)?,
-            auth_data: Vec::new(alloc),
-            signature: Vec::new(alloc),
-            user: None,
-            number,
-        };
-        assert!(rt;
-            matches!(
-                write_reply(alloc, Reply::GetNextAssertion(reply)),
-                Err(Error::Unfit)
-            )
-        );
-    }
-    assert!(rt;
-        matches!(
-            read_reply(alloc, Kind::GetInfo, &[0x2d, 0]),
-            Err(Error::Refused(0x2d))
-        )
-    );
     Ok(())
 }

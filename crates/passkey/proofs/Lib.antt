@@ -1,5 +1,4 @@
 pub mod Replies
-pub mod Payloads
 pub mod Verdicts
 pub mod Lists
 pub mod WordRows

@@ -1,9 +1,7 @@
 pub mod Reply
-pub mod ReplyReading
-pub mod ReplyView
 pub mod Numbers
-pub mod Payload
 pub mod SiteErrors
+pub mod MessageErrors
 pub mod Verdict
 pub mod Accepts
 pub mod HexText

@@ -1,14 +1,12 @@
 -- What a list of packets is worth at a site: the verdict. Its layers are the packets (CTAPHID), the reply
 -- that they carry (CTAP 2.1, section 6.2) and the steps of the site (WebAuthn Level 2, section 7.2).
-use Rattle.std.specs.Prelude.{◌≡◌, ◌≢◌, ◌<◌, ◌≤◌, ◌+◌, ℕ, List, [], ◌∷◌, length, take}
+use Rattle.std.specs.Prelude.{◌<◌, ◌≤◌, ◌+◌, ℕ, List, [], ◌∷◌, length, take}
 use Rattle.hidframe.specs.declared.Packet.{Packet}
 use Rattle.hidframe.specs.declared.ctaphid.TheConstants.{CTAPHID_CBOR, CTAPHID_ERROR}
 use Rattle.hidlink.specs.Wire.{Carries, Dies, HasEnded}
-use Rattle.ccbor.specs.Item.{Item}
-use Rattle.ccbor.specs.Canon.{Canon}
 use Rattle.site.specs.State.{State}
 use Rattle.site.specs.Steps.{Relation, Assertion, PassesAll, IsFirstFailing}
-use Rattle.passkey.specs.Reply.{Reply, ReplyOf}
+use Rattle.passkey.specs.Reply.{IsUnread, Reply, ReplyOf}
 use Rattle.passkey.specs.declared.error.Error.{Error}
 use Rattle.passkey.specs.declared.error.Error.TheVariants as errors
 
@@ -28,19 +26,10 @@ IsGood valid s hash m r = ReplyOf r m × PassesAll valid s hash (assertion r)
 abbrev pub SignsIn : Relation → State → List ℕ → ℕ → List Packet → ℕ → Reply → Type 0
 SignsIn valid s hash c ps n r = (m : List ℕ) × Delivers c ps n m × IsGood valid s hash m r
 
--- why the message is refused; the first layer and step that fails
+-- why the message is refused: it is no reply, or the first step of the site that the reply does not pass
 abbrev pub RefusedMessage : Relation → State → List ℕ → List ℕ → Error → Type 0
-RefusedMessage valid s hash m errors.Empty = m ≡ []
-RefusedMessage valid s hash m (errors.Status code) = (rest : List ℕ) × (m ≡ code ∷ rest) × (code ≢ 0)
-RefusedMessage valid s hash m errors.NotCanonical =
-    (rest : List ℕ) × (m ≡ 0 ∷ rest) × ((x : Item) → Canon x rest → ⊥)
-RefusedMessage valid s hash m errors.Shape =
-    (rest : List ℕ) × (x : Item) × (m ≡ 0 ∷ rest) × Canon x rest × ((r : Reply) → ReplyOf r m → ⊥)
 RefusedMessage valid s hash m (errors.SignIn w) = (r : Reply) × ReplyOf r m × IsFirstFailing valid s hash (assertion r) w
-RefusedMessage valid s hash m errors.Memory = Unit {0}
-RefusedMessage valid s hash m errors.Incomplete = ⊥
-RefusedMessage valid s hash m (errors.Dead index kind) = ⊥
-RefusedMessage valid s hash m (errors.DeviceError code) = ⊥
+RefusedMessage valid s hash m e = IsUnread m e
 
 -- why the packets are refused: the device's error, the packet that ends all hope of a message, that no
 -- message came and one still can, or why the message is refused. Want of memory says nothing.

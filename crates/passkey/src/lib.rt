@@ -6,7 +6,6 @@ mod check;
 mod error;
 mod hex_text;
 mod inspect;
-mod payload;
 mod program;
 mod replay;
 mod reply;

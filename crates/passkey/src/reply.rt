@@ -1,129 +1,83 @@
-//! The reply to a getAssertion request (CTAP 2.1, section 6.2.2).
+//! The reply to a getAssertion request (CTAP 2.1, section 6.2.2), by `ctapmsg`.
 
-ghost use Rattle.std.specs.Prelude.{◌≡◌, option_map, IfSome, IsNone};
-ghost use Rattle.ccbor.specs.View.{view, pairs_view};
-ghost use Rattle.passkey.specs.Reply.{Reply, IsReplyValue};
-ghost use Rattle.passkey.specs.ReplyReading.{credential_at, id_at, number_at, number_member, reply_at, user_at, user_member};
-ghost use Rattle.passkey.specs.ReplyView.{reply_of};
+ghost use Rattle.std.specs.Prelude.{◌≡◌, IfErr, IfOk, option_map};
+ghost use Rattle.ctapmsg.specs.Replies.{assertion_reply, kind_of};
+ghost use Rattle.ctapmsg.specs.ReplyView.{assertion_reply_view, reply_view};
+ghost use Rattle.ctapmsg.specs.declared.reply.Kind.TheVariants as kinds;
+ghost use Rattle.site.specs.Answers.{assertion_of};
+ghost use Rattle.passkey.specs.Reply.{IsUnread, Reply as ReplySpec, ReplyOf};
+ghost use Rattle.passkey.specs.MessageErrors.{IsOfReply, unread};
+ghost use Rattle.passkey.specs.Verdict.{assertion};
+ghost use Rattle.passkey.specs.declared.error.Error.TheVariants as errors;
 
-use ccbor::{Key, Value, is_end, split_key};
+use crate::error::Error;
+use ctapmsg::{AssertionReply, Kind, Reply, read_reply};
+use site::AssertionParts;
+use std::alloc::Global;
 
-/// The members of the reply, lent by the value that was read.
-#[derive(Clone, Copy, Drop)]
-pub struct AssertionReply<'a> {
-    /// The credential id: 1 to 64 bytes.
-    pub credential: &'a [u8],
-    /// The authenticator data.
-    pub auth_data: &'a [u8],
-    /// The signature.
-    pub signature: &'a [u8],
-    /// The user's id: 1 to 64 bytes.
-    pub user: Option<&'a [u8]>,
-    /// How many credentials there are: at least 2.
-    pub number: Option<u64>,
-}
-
-/// An id of 1 to 64 bytes.
-#[tactic(auto, unfolding(crate::specs::ReplyReading::id_at))]
-fn id(value: &Value) -> Option<&[u8]>
-    ensures { option_map (λ b. b.now) result ≡ id_at (view value.now) }
+/// What a message that is no reply is refused as.
+fn unread(error: ctapmsg::Error) -> Error
+    requires { IsOfReply error }
+    ensures { result ≡ unread error }
 {
-    let id = value.as_bytes()?;
-    if 1 <= id.len() && id.len() <= 64 {
-        Some(id)
-    } else {
-        None
+    match error {
+        ctapmsg::Error::Empty => Error::Empty,
+        ctapmsg::Error::Refused(status) => Error::Status(status),
+        ctapmsg::Error::NotCanonical => Error::NotCanonical,
+        ctapmsg::Error::Shape => Error::Shape,
+        ctapmsg::Error::Memory => Error::Memory,
+        ctapmsg::Error::Unfit | ctapmsg::Error::Status(_) => unreachable!(),
     }
 }
 
-/// The id in a credential's descriptor.
-#[tactic(auto, unfolding(crate::specs::ReplyReading::credential_at))]
-fn credential_id(value: &Value) -> Option<&[u8]>
-    ensures { option_map (λ b. b.now) result ≡ credential_at (view value.now) }
+/// The members of a reply to getAssertion.
+fn members(reply: Reply) -> AssertionReply
+    requires { kind_of (reply_view reply) ≡ kinds.GetAssertion }
+    ensures { reply_view reply ≡ assertion_reply (assertion_reply_view result) }
 {
-    let pairs = value.as_map()?;
-    let (found, pairs) = split_key(pairs, Key::Text("id"))?;
-    let (kind, pairs) = split_key(pairs, Key::Text("type"))?;
-    if !kind.is_key(Key::Text("public-key")) {
-        return None;
-    }
-    if !is_end(pairs) {
-        return None;
-    }
-    id(found)
-}
-
-/// The id in a user entity.
-#[tactic(auto, unfolding(crate::specs::ReplyReading::user_at))]
-fn user_id(value: &Value) -> Option<&[u8]>
-    ensures { option_map (λ b. b.now) result ≡ user_at (view value.now) }
-{
-    let pairs = value.as_map()?;
-    let (found, pairs) = split_key(pairs, Key::Text("id"))?;
-    if is_end(pairs) { id(found) } else { None }
-}
-
-/// A number of credentials.
-#[tactic(auto, unfolding(crate::specs::ReplyReading::number_at))]
-fn number(value: &Value) -> Option<u64>
-    ensures { result ≡ number_at (view value.now) }
-{
-    let number = value.as_uint()?;
-    if 2 <= number { Some(number) } else { None }
-}
-
-/// The user's id, if it is there, and the pairs behind it.
-#[tactic(auto, unfolding(crate::specs::ReplyReading::user_member, crate::specs::ReplyReading::member_at))]
-fn user_member(pairs: &[(Value, Value)]) -> Option<(Option<&[u8]>, &[(Value, Value)])>
-    ensures { option_map (λ x. (option_map (λ b. b.now) x.0, pairs_view x.1.now)) result ≡ user_member (pairs_view pairs.now) }
-{
-    match split_key(pairs, Key::Uint(4)) {
-        None => Some((None, pairs)),
-        Some((value, rest)) => Some((Some(user_id(value)?), rest)),
+    match reply {
+        Reply::GetAssertion(members) => members,
+        Reply::MakeCredential(_) => unreachable!(),
+        Reply::GetNextAssertion(_) => unreachable!(),
+        Reply::GetInfo(_) => unreachable!(),
+        Reply::Reset => unreachable!(),
     }
 }
 
-/// The number of credentials, if it is there, and the pairs behind it.
-#[tactic(auto, unfolding(crate::specs::ReplyReading::number_member, crate::specs::ReplyReading::member_at))]
-fn number_member(pairs: &[(Value, Value)]) -> Option<(Option<u64>, &[(Value, Value)])>
-    ensures { option_map (λ x. (x.0, pairs_view x.1.now)) result ≡ number_member (pairs_view pairs.now) }
+/// The one getAssertion reply that a message is.
+///
+/// `Empty` where the message has no bytes, then `Status` where its first is not 0, then `NotCanonical` where
+/// the rest is not one whole canonical value, then `Shape` where that is no reply's.
+pub fn read_assertion(alloc: Global, message: &[u8]) -> Result<AssertionReply, Error>
+    ensures found { IfOk result (λ r. ReplyOf (assertion_reply_view r) message.now) }
+    ensures only { IfOk result (λ r. (q : ReplySpec) → ReplyOf q message.now → q ≡ assertion_reply_view r) }
+    ensures refused { IfErr result (IsUnread message.now) }
+    ensures complete { IfErr result (λ e. (q : ReplySpec) → ReplyOf q message.now → e ≡ errors.Memory) }
 {
-    match split_key(pairs, Key::Uint(5)) {
-        None => Some((None, pairs)),
-        Some((value, rest)) => Some((Some(number(value)?), rest)),
+    match read_reply(alloc, Kind::GetAssertion, message) {
+        Ok(reply) => Ok(members(reply)),
+        Err(error) => Err(unread(error)),
     }
 }
 
-/// The members of a reply, from the front on.
-#[tactic(auto, unfolding(crate::specs::ReplyReading::reply_at))]
-fn members(value: &Value) -> Option<AssertionReply<'_>>
-    ensures { option_map reply_of result ≡ reply_at (view value.now) }
+/// The user's id, lent.
+fn lent(user: &Option<Vec<u8>>) -> Option<&[u8]>
+    ensures { option_map (λ u. u.now) result ≡ option_map (λ u. u.items) user.now }
 {
-    let pairs = value.as_map()?;
-    let (credential, pairs) = split_key(pairs, Key::Uint(1))?;
-    let (auth_data, pairs) = split_key(pairs, Key::Uint(2))?;
-    let (signature, pairs) = split_key(pairs, Key::Uint(3))?;
-    let credential = credential_id(credential)?;
-    let auth_data = auth_data.as_bytes()?;
-    let signature = signature.as_bytes()?;
-    let (user, pairs) = user_member(pairs)?;
-    let (number, pairs) = number_member(pairs)?;
-    if !is_end(pairs) {
-        return None;
+    match user {
+        Some(user) => Some(user.as_slice()),
+        None => None,
     }
-    Some(AssertionReply {
-        credential,
-        auth_data,
-        signature,
-        user,
-        number,
-    })
 }
 
-/// The reply whose map this value is; none where it is no reply's.
-pub fn assertion_reply(value: &Value) -> Option<AssertionReply<'_>>
-    ensures found { IfSome result (λ r. IsReplyValue (reply_of r) (view value.now)) }
-    ensures none { IsNone result → (r : Reply) → IsReplyValue r (view value.now) → ⊥ }
+/// The assertion that a reply makes.
+pub fn parts(reply: &AssertionReply) -> AssertionParts<'_>
+    ensures { assertion_of result ≡ assertion (assertion_reply_view reply.now) }
 {
-    members(value)
+    AssertionParts {
+        credential: reply.credential.as_slice(),
+        user: lent(&reply.user),
+        auth_data: reply.auth_data.as_slice(),
+        signature: reply.signature.as_slice(),
+    }
 }

@@ -10,12 +10,11 @@ ghost use Rattle.passkey.specs.Accepts.{Accepts, IsAfterPackets};
 ghost use Rattle.passkey.specs.declared.error.Error.TheVariants as errors;
 
 use crate::error::Error;
-use crate::payload::reply_value;
-use crate::reply::assertion_reply;
+use crate::reply::{parts, read_assertion};
 use cose::Verifier;
 use hidframe::Packet;
 use hidlink::{Collector, Received, receive};
-use site::{AssertionParts, SignedIn, Site};
+use site::{SignedIn, Site};
 use std::alloc::Global;
 
 /// Who signed in, with which credential, and how many packets it took.
@@ -55,19 +54,11 @@ fn answer<V: Verifier>(
     ensures refused { IfErr result (λ e. RefusedMessage (V.valid verifier.now) site.old hash.now message.now e) }
     ensures unchanged { OnErr result (site.new ≡ site.old) }
 {
-    let value = match reply_value(alloc, message) {
-        Ok(value) => value,
+    let reply = match read_assertion(alloc, message) {
+        Ok(reply) => reply,
         Err(error) => return Err(error),
     };
-    let Some(reply) = assertion_reply(&value) else {
-        return Err(Error::Shape);
-    };
-    let parts = AssertionParts {
-        credential: reply.credential,
-        user: reply.user,
-        auth_data: reply.auth_data,
-        signature: reply.signature,
-    };
+    let parts = parts(&reply);
     match site.finish_with_hash(verifier, hash, &parts) {
         Ok(signed_in) => Ok(signed_in),
         Err(error) => Err(refusal_of(error)),
