@@ -6,12 +6,13 @@ use Rattle.ccbor.specs.declared.error.Error.{Error}
 use Rattle.ccbor.specs.declared.error.Error.TheVariants as errors
 use Rattle.ccbor.specs.Item.{Item}
 use Rattle.ccbor.specs.Canon.{spelling, Fits, Canon}
-use Rattle.ccbor.specs.Reading.{item_at, Fails}
+use Rattle.ccbor.specs.Reading.{rest_of, item_at, Fails}
 use Rattle.ccbor.proofs.Numbers.{IsBytes, some_is, Takes}
 use Rattle.ccbor.proofs.Trees.{item_takes, item_again}
+use Rattle.ccbor.proofs.Walks.{passed, stopped}
 
 -- a value that is spelled at the front is read
-front_read : (v : Item) (a x : List ℕ) → Canon v a → item_at 4 (a ++ x) ≡ Some (v, x)
+pub front_read : (v : Item) (a x : List ℕ) → Canon v a → item_at 4 (a ++ x) ≡ Some (v, x)
 front_read v a x c = ap (λ (l : List ℕ). item_at 4 (l ++ x)) c.1 ∙ item_again v 4 x c.0
 
 pub one_reading : (v w : Item) (a b x y : List ℕ) → Canon v a → Canon w b → a ++ x ≡ b ++ y → (v ≡ w) × (a ≡ b)
@@ -44,6 +45,24 @@ module _ (bs : List ℕ) (fits : IsBytes bs) (x : Item × List ℕ) (read : item
 
 pub is_none : (bs : List ℕ) (v : Item) (n : ℕ) → item_at 4 bs ≡ None → Canon v (take n bs) → ⊥
 is_none bs v n none c = let e = sym none ∙ read_front v n bs c in absurd cc
+
+-- ---- without the value
+
+pub no_front : (bs : List ℕ) → rest_of (item_at 4 bs) ≡ None → (v : Item) (a b : List ℕ) → Canon v a → bs ≡ a ++ b → ⊥
+no_front bs none v a b c e =
+    let read = sym (stopped (item_at 4 bs) none) ∙ ap (item_at 4) e ∙ front_read v a b c in
+    absurd cc
+
+module _ (bs rest : List ℕ) (fits : IsBytes bs) (e : rest_of (item_at 4 bs) ≡ Some rest) where
+  pub shorter : length rest ≤ length bs
+  shorter = let x = passed (item_at 4 bs) rest e in rest_within bs fits (x.0, rest) x.1
+
+  pub front_value : (bs ≡ take (length bs - length rest) bs ++ rest) × (v : Item) × Canon v (take (length bs - length rest) bs)
+  front_value =
+      let x = passed (item_at 4 bs) rest e in
+      let t = taken bs fits (x.0, rest) x.1 in
+      let f = is_found bs fits (x.0, rest) x.1 in
+      (t.0.parts ∙ ap (λ (l : List ℕ). l ++ rest) (sym f.1.1), x.0, f.1)
 
 -- the error of a call that passes on another's
 pub none_from : {X Y : Type 0} → (r : Result X Error) (y e : Error) (read : Option Y) → r ≡ Err y → y ≡ e → IsErrOf r errors.NotCanonical → Fails e read → read ≡ None

@@ -2,9 +2,11 @@ pub mod Numbers
 pub mod Leaves
 pub mod Views
 pub mod Trees
-pub mod Decoding
 pub mod Appended
 pub mod Firsts
+pub mod Shows
 pub mod Loop
+pub mod Walks
+pub mod Decoding
 pub mod AccessLemmas
 pub mod KeyOrder

@@ -1,12 +1,12 @@
 -- Reading items and pairs one after the other, as a loop does.
-use Rattle.std.proofs.Common.{◌≡◌, ℕ, zero, suc, ◌-◌, ◌+◌, ◌≤◌, ◌<◌, List, [], ◌∷◌, ◌++◌, Some, None, true, false, eqb, refl, sym, ap, ◌∙◌, arith}
+use Rattle.std.proofs.Common.{◌≡◌, ℕ, zero, suc, ◌-◌, ◌+◌, ◌≤◌, ◌<◌, List, [], ◌∷◌, ◌++◌, Option, Some, None, true, false, eqb, refl, sym, ap, ◌∙◌, arith}
 use Rattle.ccbor.specs.declared.error.Error.{Error}
 use Rattle.ccbor.specs.declared.error.Error.TheVariants as errors
 use Rattle.ccbor.specs.declared.value.Value.{Value}
 use Rattle.ccbor.specs.Item.{Item, Items, no_items, item, Pairs, no_pairs, pair, array, map}
 use Rattle.ccbor.specs.View.{view, items_view, pairs_view}
 use Rattle.ccbor.specs.Canon.{before}
-use Rattle.ccbor.specs.Reading.{Read, ◌>>=◌, Fails, head_at, leaf_at, key_at, items_at, pairs_at, nested_at, item_at}
+use Rattle.ccbor.specs.Reading.{Read, ◌>>=◌, Fails, Refuses, head_at, leaf_at, key_at, items_at, pairs_at, nested_at, item_at}
 
 abbrev pub items_join : Items → Items → Items
 items_join no_items ys = ys
@@ -128,6 +128,10 @@ module _ (inside : List ℕ → Read Item) (count i : ℕ) where
 
 -- ---- one value
 
+pub fails : {X : Type 0} (e : Error) (read : Option X) → Refuses e read → Fails e read
+fails errors.NotCanonical read h = h
+fails _ read h = absurd h
+
 pub item_at-no_head : (e : Error) (d : ℕ) (bs : List ℕ) → Fails e (head_at bs) → Fails e (item_at d bs)
 unfolding item_at
 item_at-no_head errors.Memory d bs h = tt
@@ -150,10 +154,10 @@ pub item_at-leaf : (d : ℕ) (bs : List ℕ) (m n : ℕ) (rest : List ℕ) → 0
 item_at-leaf d bs m n rest lt e no4 no5 = item_at-nested d bs (m, n) rest lt e ∙ rw (no4, no5) refl
 
 module _ (d : ℕ) (bs : List ℕ) (m n : ℕ) (rest : List ℕ) (lt : 0 < d) (e : head_at bs ≡ Some ((m, n), rest)) where
-  items_is : m ≡ 4 → item_at d bs ≡ (items_at (item_at (d - 1)) n rest >>= λ xs. Some (array xs.0, xs.1))
+  pub items_is : m ≡ 4 → item_at d bs ≡ (items_at (item_at (d - 1)) n rest >>= λ xs. Some (array xs.0, xs.1))
   items_is four = item_at-nested d bs (m, n) rest lt e ∙ rw four refl
 
-  pairs_is : m ≡ 5 → item_at d bs ≡ (pairs_at (item_at (d - 1)) [] n rest >>= λ ps. Some (map ps.0, ps.1))
+  pub pairs_is : m ≡ 5 → item_at d bs ≡ (pairs_at (item_at (d - 1)) [] n rest >>= λ ps. Some (map ps.0, ps.1))
   pairs_is five = item_at-nested d bs (m, n) rest lt e ∙ rw five refl
 
   pub item_at-array : (xs : Items) (after : List ℕ) → m ≡ 4 → items_at (item_at (d - 1)) n rest ≡ Some (xs, after) → item_at d bs ≡ Some (array xs, after)

@@ -1,6 +1,6 @@
 -- The plain program that the private functions of reading are proved against; no public clause
 -- cites it. Each function reads from the front of a list: what it read and the bytes after it, or None.
-use Rattle.std.specs.Prelude.{◌≡◌, ℕ, zero, suc, ◌-◌, ◌/◌, ◌%◌, ◌^◌, List, [], ◌∷◌, length, take, drop, true, false, Option, Some, None, Result, Ok, Err, nat_lt, ◌==◌, if◌then◌else◌}
+use Rattle.std.specs.Prelude.{◌≡◌, ℕ, zero, suc, ◌-◌, ◌/◌, ◌%◌, ◌^◌, List, [], ◌∷◌, length, take, drop, true, false, Option, Some, None, option_map, Result, Ok, Err, nat_lt, ◌==◌, if◌then◌else◌}
 use Rattle.std.specs.Str.{is_utf8}
 use Rattle.std.specs.Int.{Width, w8, w16, w32, w64, byte_len, from_be_bytes}
 use Rattle.ccbor.specs.declared.error.Error.{Error}
@@ -26,6 +26,23 @@ Fails errors.Trailing read = ⊥
 abbrev pub Gives : {X Y : Type 0} → (X → Y) → Result X Error → Option Y → Type 0
 Gives view (Ok x) read = read ≡ Some (view x)
 Gives view (Err e) read = Fails e read
+
+-- the same of a function that takes no memory
+abbrev pub Refuses : {Y : Type 0} → Error → Option Y → Type 0
+Refuses errors.NotCanonical read = read ≡ None
+Refuses _ read = ⊥
+
+abbrev pub Yields : {X Y : Type 0} → (X → Y) → Result X Error → Option Y → Type 0
+Yields view (Ok x) read = read ≡ Some (view x)
+Yields view (Err e) read = Refuses e read
+
+-- what follows, without what was read
+abbrev pub rest_of : {A : Type 0} → Read A → Option (List ℕ)
+rest_of read = option_map (λ x. x.1) read
+
+-- a key's encoding, and what follows it
+abbrev pub key_rest : Read (Item × List ℕ) → Option (List ℕ × List ℕ)
+key_rest read = option_map (λ x. (x.0.1, x.1)) read
 
 abbrev pub at_least : ℕ → ℕ → List ℕ → Read ℕ
 at_least least n rest = if nat_lt n least then None else Some (n, rest)

@@ -4,7 +4,7 @@
 ghost use Rattle.std.specs.Prelude.{◌≡◌, ◌<◌, ◌++◌, OnOk};
 ghost use Rattle.std.specs.Int.{w8, w16, w32, w64};
 ghost use Rattle.ccbor.specs.Canon.{head};
-ghost use Rattle.ccbor.specs.Reading.{Gives, at_least, number_at, argument_at, head_at};
+ghost use Rattle.ccbor.specs.Reading.{Yields, at_least, number_at, argument_at, head_at};
 ghost use Rattle.ccbor.specs.Writing.{Grows};
 
 use crate::error::Error;
@@ -48,7 +48,7 @@ pub struct Head {
 
 /// The number, if it is no less than `least`, and what follows it.
 fn at_least(least: u64, number: u64, rest: &[u8]) -> Result<(u64, &[u8]), Error>
-    ensures { Gives (λ x. (x.0, x.1.now)) result (at_least least number rest.now) }
+    ensures { Yields (λ x. (x.0, x.1.now)) result (at_least least number rest.now) }
 {
     if number < least {
         return Err(Error::NotCanonical);
@@ -58,7 +58,7 @@ fn at_least(least: u64, number: u64, rest: &[u8]) -> Result<(u64, &[u8]), Error>
 
 /// The number in the next byte, if it is no less than `least`, and what follows it.
 fn u8_at(least: u64, bytes: &[u8]) -> Result<(u64, &[u8]), Error>
-    ensures { Gives (λ x. (x.0, x.1.now)) result (number_at w8 least bytes.now) }
+    ensures { Yields (λ x. (x.0, x.1.now)) result (number_at w8 least bytes.now) }
 {
     match bytes.split_first_chunk() {
         Some((front, rest)) => at_least(least, u64::from(u8::from_be_bytes(*front)), rest),
@@ -68,7 +68,7 @@ fn u8_at(least: u64, bytes: &[u8]) -> Result<(u64, &[u8]), Error>
 
 /// The number in the next two bytes, if it is no less than `least`, and what follows it.
 fn u16_at(least: u64, bytes: &[u8]) -> Result<(u64, &[u8]), Error>
-    ensures { Gives (λ x. (x.0, x.1.now)) result (number_at w16 least bytes.now) }
+    ensures { Yields (λ x. (x.0, x.1.now)) result (number_at w16 least bytes.now) }
 {
     match bytes.split_first_chunk() {
         Some((front, rest)) => at_least(least, u64::from(u16::from_be_bytes(*front)), rest),
@@ -78,7 +78,7 @@ fn u16_at(least: u64, bytes: &[u8]) -> Result<(u64, &[u8]), Error>
 
 /// The number in the next four bytes, if it is no less than `least`, and what follows it.
 fn u32_at(least: u64, bytes: &[u8]) -> Result<(u64, &[u8]), Error>
-    ensures { Gives (λ x. (x.0, x.1.now)) result (number_at w32 least bytes.now) }
+    ensures { Yields (λ x. (x.0, x.1.now)) result (number_at w32 least bytes.now) }
 {
     match bytes.split_first_chunk() {
         Some((front, rest)) => at_least(least, u64::from(u32::from_be_bytes(*front)), rest),
@@ -88,7 +88,7 @@ fn u32_at(least: u64, bytes: &[u8]) -> Result<(u64, &[u8]), Error>
 
 /// The number in the next eight bytes, if it is no less than `least`, and what follows it.
 fn u64_at(least: u64, bytes: &[u8]) -> Result<(u64, &[u8]), Error>
-    ensures { Gives (λ x. (x.0, x.1.now)) result (number_at w64 least bytes.now) }
+    ensures { Yields (λ x. (x.0, x.1.now)) result (number_at w64 least bytes.now) }
 {
     match bytes.split_first_chunk() {
         Some((front, rest)) => at_least(least, u64::from_be_bytes(*front), rest),
@@ -99,7 +99,7 @@ fn u64_at(least: u64, bytes: &[u8]) -> Result<(u64, &[u8]), Error>
 /// The argument of a head with this info, if it has its shortest form, and what follows it.
 #[tactic(auto, unfolding(crate::specs::Reading::argument_at))]
 fn argument_at(info: u8, bytes: &[u8]) -> Result<(u64, &[u8]), Error>
-    ensures { Gives (λ x. (x.0, x.1.now)) result (argument_at info bytes.now) }
+    ensures { Yields (λ x. (x.0, x.1.now)) result (argument_at info bytes.now) }
 {
     match info {
         0..IN_ONE_BYTE => Ok((u64::from(info), bytes)),
@@ -114,7 +114,7 @@ fn argument_at(info: u8, bytes: &[u8]) -> Result<(u64, &[u8]), Error>
 /// The head at the front, if its argument has its shortest form, and what follows it.
 #[tactic(auto, unfolding(crate::specs::Reading::head_at))]
 pub fn head_at(bytes: &[u8]) -> Result<(Head, &[u8]), Error>
-    ensures { Gives (λ x. ((x.0.major, x.0.argument), x.1.now)) result (head_at bytes.now) }
+    ensures { Yields (λ x. ((x.0.major, x.0.argument), x.1.now)) result (head_at bytes.now) }
 {
     let Some((first, rest)) = bytes.split_first() else {
         return Err(Error::NotCanonical);

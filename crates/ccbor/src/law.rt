@@ -1,8 +1,9 @@
 //! Laws of canonical encodings.
 
 ghost use Rattle.std.specs.Prelude.{◌≡◌, List, [], ℕ, ◌++◌, IsTrue};
-ghost use Rattle.ccbor.specs.Item.{Item};
+ghost use Rattle.ccbor.specs.Item.{Item, Pairs};
 ghost use Rattle.ccbor.specs.Canon.{Canon, before, is_key, spelling};
+ghost use Rattle.ccbor.specs.Viewing.{ArePairs, shown, shown_pairs};
 
 /// No encoding begins another, and each is of one value alone: where two encodings with something
 /// behind each are the same bytes, the encodings are the same, and so are their values. So what is
@@ -16,4 +17,11 @@ pub fn one_spelling()
 /// map may begin with it, and asks nothing more of the first key.
 pub fn nothing_first()
     ensures { (k : Item) → IsTrue (is_key k) → IsTrue (before [] (spelling k)) }
+{}
+
+/// The law of views: bytes that encode a value show that value, and bytes that are n pairs of a map
+/// show these pairs.
+pub fn shown_values()
+    ensures value { (x : Item) (bs : List ℕ) → Canon x bs → shown bs ≡ x }
+    ensures pairs { (ps : Pairs) (n : ℕ) (bs : List ℕ) → ArePairs ps n bs → shown_pairs (n, bs) ≡ ps }
 {}

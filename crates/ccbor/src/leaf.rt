@@ -3,7 +3,7 @@
 ghost use Rattle.std.specs.Prelude.{◌≡◌};
 ghost use Rattle.ccbor.specs.Canon.{is_key};
 ghost use Rattle.ccbor.specs.View.{view};
-ghost use Rattle.ccbor.specs.Reading.{Gives, content_at, bytes_at, text_at, leaf_at, key_at};
+ghost use Rattle.ccbor.specs.Reading.{Gives, Yields, content_at, bytes_at, text_at, leaf_at, key_at};
 
 use crate::error::Error;
 use crate::head::{BYTES, FALSE, Head, NEGATIVE, SIMPLE, TEXT, TRUE, UNSIGNED, head_at};
@@ -13,8 +13,8 @@ use std::str;
 
 /// The next `count` bytes, and what follows them. Nothing is reserved where there are fewer.
 #[tactic(auto, unfolding(crate::specs::Reading::content_at))]
-fn content_at(bytes: &[u8], count: u64) -> Result<(&[u8], &[u8]), Error>
-    ensures { Gives (λ x. (x.0.now, x.1.now)) result (content_at count bytes.now) }
+pub fn content_at(bytes: &[u8], count: u64) -> Result<(&[u8], &[u8]), Error>
+    ensures { Yields (λ x. (x.0.now, x.1.now)) result (content_at count bytes.now) }
 {
     if (bytes.len() as u64) < count {
         return Err(Error::NotCanonical);

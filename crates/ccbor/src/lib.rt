@@ -27,6 +27,7 @@
 //! Each argument has its shortest form, a map's keys are numbers or texts in order, and at most
 //! four arrays and maps lie in one another. There is nothing else: no tags, floats, null or
 //! indefinite lengths. So each [`Value`] has one encoding or none, and [`decode`] takes no other.
+//! A [`View`] reads a value where its encoding lies.
 #![tactic(auto)]
 
 mod access;
@@ -35,15 +36,18 @@ mod head;
 mod law;
 mod leaf;
 mod order;
+mod passing;
 mod reading;
 mod value;
+mod view;
 mod writing;
 
 pub use access::{is_end, split_key, value_at};
 pub use error::Error;
-pub use law::{nothing_first, one_spelling};
+pub use law::{nothing_first, one_spelling, shown_values};
 pub use reading::{decode, decode_all};
 pub use value::{Key, MAX_DEPTH, Value};
+pub use view::{MapView, View};
 pub use writing::encode;
 
 #[cfg(test)]

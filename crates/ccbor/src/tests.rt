@@ -178,12 +178,20 @@ fn decodes(rt: HostRuntime) -> Result<(), Fail> {
             format!(in alloc; "Err(Trailing)")?
         };
         assert_eq!(rt; format!(in alloc; "{whole:?}")?, wanted, "{name}");
+        let shown = View::check_all(bytes);
+        if *len == bytes.len() {
+            assert!(rt; shown.is_ok(), "{name}");
+        } else {
+            assert!(rt; matches!(shown, Err(Error::Trailing)), "{name}");
+        }
     }
     for (name, bytes) in REFUSED {
         let front = decode(alloc, bytes);
         let whole = decode_all(alloc, bytes);
         assert!(rt; matches!(front, Err(Error::NotCanonical)), "{name}");
         assert!(rt; matches!(whole, Err(Error::NotCanonical)), "{name}");
+        let shown = View::check_all(bytes);
+        assert!(rt; matches!(shown, Err(Error::NotCanonical)), "{name}");
     }
     Ok(())
 }
@@ -336,6 +344,47 @@ fn looks_into_values(rt: HostRuntime) -> Result<(), Fail> {
     assert!(rt; !Value::Uint(1).is_key(Key::Nint(1)));
     assert!(rt; is_end(&[]));
     assert!(rt; !is_end(pairs));
+    Ok(())
+}
+
+#[test]
+fn shows_values(rt: HostRuntime) -> Result<(), Fail> {
+    let alloc = rt.alloc();
+    let kinds: [(&[u8], &str); 7] = [
+        (b"\x05", "Some(5) None false"),
+        (b"\x25", "None None false"),
+        (b"\x41\x05", "None Some([5]) false"),
+        (b"\x61a", "None None false"),
+        (b"\xf5", "None None false"),
+        (b"\x81\x05", "None None false"),
+        (b"\xa1\x05\x06", "None None true"),
+    ];
+    for (bytes, wanted) in kinds {
+        let view = View::check_all(bytes)?;
+        let (number, content) = (view.as_uint(), view.as_bytes());
+        let line = format!(in alloc; "{number:?} {content:?} {}", view.as_map().is_some())?;
+        assert_eq!(rt; line.as_str(), wanted);
+    }
+    let view = View::check_all(b"\xa3\x01\x0a\x20\xa1\0\x41\x0b\x61a\x0c")?;
+    let pairs = view.as_map().ok_or("a map")?;
+    assert!(rt; pairs.split_key(Key::Uint(0)).is_none());
+    assert!(rt; pairs.split_key(Key::Nint(0)).is_none());
+    let (value, pairs) = pairs.split_key(Key::Uint(1)).ok_or("key 1")?;
+    assert_eq!(rt; value.as_uint(), Some(10));
+    assert!(rt; value.is_key(Key::Uint(10)));
+    assert!(rt; !value.is_key(Key::Nint(10)));
+    let (value, pairs) = pairs.split_key(Key::Nint(0)).ok_or("key -1")?;
+    assert_eq!(rt; value.span(), b"\xa1\0\x41\x0b".as_slice());
+    let inner = value.as_map().ok_or("a map inside")?;
+    let (content, inner) = inner.split_key(Key::Uint(0)).ok_or("key 0 inside")?;
+    assert_eq!(rt; content.as_bytes(), Some(b"\x0b".as_slice()));
+    assert!(rt; inner.is_end());
+    assert!(rt; !pairs.is_end());
+    let (value, pairs) = pairs.split_key(Key::Text("a")).ok_or("key a")?;
+    assert_eq!(rt; value.as_uint(), Some(12));
+    assert!(rt; pairs.is_end());
+    assert!(rt; pairs.split_key(Key::Text("a")).is_none());
+    assert!(rt; View::check_all(b"\x61a")?.is_key(Key::Text("a")));
     Ok(())
 }
 

@@ -1,23 +1,23 @@
 -- What a reader of replies answers.
-use Rattle.std.proofs.Common.{◌≡◌, ℕ, List, ◌∷◌, [], length, Option, Some, None, MatchOption, refl, sym, ap, subst, ◌∙◌, arith, Result, Ok, Err, IfOk, IfErr}
+use Rattle.std.proofs.Common.{◌≡◌, ◌≢◌, ℕ, List, ◌∷◌, [], length, Option, Some, None, is_some, true, false, MatchOption, refl, sym, ap, subst, ◌∙◌, arith, Result, Ok, Err, IfOk, IfErr}
 use Rattle.ccbor.specs.Item.{Item, map, pair, no_pairs, uint}
 use Rattle.ccbor.specs.Canon.{Canon}
 use Rattle.ccbor.specs.View.{pairs_view}
 use Rattle.ccbor.specs.declared.value.Value.{Value}
 use Rattle.ccbor.proofs.Numbers.{some_is}
 use Rattle.ctapmsg.specs.Schema.{rank_in, record_of}
-use Rattle.ctapmsg.specs.Replies.{Creation, Assertion, Info, ReplyMessage, creation_reply, assertion_reply, next_reply, info_reply, reset_reply, creation_reply_members, assertion_reply_members, next_reply_members, info_members, creation_reply_item, assertion_reply_item, info_item, kind_of, ReplyOf, IsReply, ReplyRefused}
-use Rattle.ctapmsg.specs.ReplyView.{creation_reply_view, assertion_reply_view, info_view}
-use Rattle.ctapmsg.specs.Pieces.{HasThree, PartsOf, RestRefused}
-use Rattle.ctapmsg.specs.Fields.{Fails, Gives, creation_reply_at, assertion_reply_at, info_at}
+use Rattle.ctapmsg.specs.Replies.{Creation, Assertion, Info, ReplyMessage, creation_reply, assertion_reply, next_reply, info_reply, reset_reply, creation_reply_members, assertion_reply_members, info_members, creation_reply_item, assertion_reply_item, info_item, kind_of, ReplyOf, IsReply, ReplyRefused}
+use Rattle.ctapmsg.specs.ReplyView.{creation_reply_view, info_view}
+use Rattle.ctapmsg.specs.Pieces.{HasThree, PartsOf, RestRefused, HoldsAssertion, HoldsNone}
+use Rattle.ctapmsg.specs.Fields.{Fails, Gives, creation_reply_at, info_at}
 use Rattle.ctapmsg.specs.declared.error.Error.{Error}
 use Rattle.ctapmsg.specs.declared.error.Error.TheVariants as errors
 use Rattle.ctapmsg.specs.declared.reply.CreationReply.{CreationReply}
-use Rattle.ctapmsg.specs.declared.reply.AssertionReply.{AssertionReply}
 use Rattle.ctapmsg.specs.declared.reply.InfoReply.{InfoReply}
 use Rattle.ctapmsg.specs.declared.reply.Kind.{Kind}
 use Rattle.ctapmsg.specs.declared.reply.Kind.TheVariants as kinds
-use Rattle.ctapmsg.proofs.RepliesRead.{reads_creation_reply, creation_reply_again, reads_assertion_reply, assertion_reply_again, next_complete, reads_info, info_again}
+use Rattle.ctapmsg.proofs.AssertionTaken.{assertion_takes, assertion_clean, next_clean, assertion_items}
+use Rattle.ctapmsg.proofs.RepliesRead.{reads_creation_reply, creation_reply_again, reads_assertion_reply, next_complete, reads_info, info_again}
 use Rattle.ctapmsg.proofs.Statuses.{same_item}
 
 -- ---- the members of a makeCredential reply
@@ -78,87 +78,93 @@ creation_rest rest _ h = absurd h
 pub creation_never : (v : Item) (rest : List ℕ) → Canon v rest → rank_in (record_of creation_reply_members) v ≡ 9 → ((q : Creation) → v ≡ creation_reply_item q → ⊥) → ⊥
 creation_never v rest c e none = let a = reads_creation_reply.reads v 4 (omega (arith, e)) c.0 in none a.0 a.2
 
--- ---- GetAssertion
+-- ---- GetAssertion and GetNextAssertion
 
-assertion_only : (q : Assertion) (rest : List ℕ) → Canon (assertion_reply_item q) rest → (r : ReplyMessage) → kind_of r ≡ kinds.GetAssertion → ReplyOf r (0 ∷ rest) → r ≡ assertion_reply q
+-- two assertions of the same bytes
+one_assertion : (q r : Assertion) (rest tail : List ℕ) → HoldsAssertion rest q → Canon (assertion_reply_item r) tail → rest ≡ tail → r ≡ q
+one_assertion q r rest tail h c e =
+    let is = assertion_takes h.0 q h.2 in
+    let canon : Canon (assertion_reply_item r) rest = subst (λ (l : List ℕ). Canon (assertion_reply_item r) l) (sym e) c in
+    assertion_items r q (same_item (assertion_reply_item r) h.0 rest canon h.1 ∙ is.0)
+
+assertion_only : (q : Assertion) (rest : List ℕ) → HoldsAssertion rest q → (r : ReplyMessage) → kind_of r ≡ kinds.GetAssertion → ReplyOf r (0 ∷ rest) → r ≡ assertion_reply q
 assertion_only q rest c (creation_reply r) k h = absurd cc
-assertion_only q rest c (assertion_reply r) k h =
-    let tail : rest ≡ h.0 = let e = h.1 in cc in
-    let canon : Canon (assertion_reply_item r) rest = subst (λ (l : List ℕ). Canon (assertion_reply_item r) l) (sym tail) h.2 in
-    let e = same_item (assertion_reply_item r) (assertion_reply_item q) rest canon c in
-    ap assertion_reply (some_is r q (sym (assertion_reply_again r) ∙ ap assertion_reply_at e ∙ assertion_reply_again q))
+assertion_only q rest c (assertion_reply r) k h = ap assertion_reply (one_assertion q r rest h.0 c h.2 (let e = h.1 in cc))
 assertion_only q rest c (next_reply r) k h = absurd cc
 assertion_only q rest c (info_reply r) k h = absurd cc
 assertion_only q rest c reset_reply k h = absurd cc
 
-pub assertion_is : (v : Item) (rest : List ℕ) (q : Assertion) → Canon v rest → rank_in (record_of assertion_reply_members) v ≡ 9 → v ≡ assertion_reply_item q → IsReply kinds.GetAssertion (assertion_reply q) (0 ∷ rest)
-assertion_is v rest q c e is =
-    let canon : Canon (assertion_reply_item q) rest = subst (λ (i : Item). Canon i rest) is c in
+pub assertion_is : (q : Assertion) (rest : List ℕ) → HoldsAssertion rest q → IsReply kinds.GetAssertion (assertion_reply q) (0 ∷ rest)
+assertion_is q rest h =
+    let is = assertion_takes h.0 q h.2 in
     record {
       of_kind = refl;
-      spelled = (rest, refl, canon, subst (λ (i : Item). rank_in (record_of assertion_reply_members) i ≡ 9) is e);
-      only = assertion_only q rest canon;
+      spelled = (rest, refl, subst (λ (i : Item). Canon i rest) is.0 h.1, assertion_clean q is.1);
+      only = assertion_only q rest h;
     }
 
-pub assertion_rest : (rest : List ℕ) (x : Error) → RestRefused assertion_reply_members rest x → ReplyRefused kinds.GetAssertion (0 ∷ rest) x
-assertion_rest rest errors.Memory h = tt
-assertion_rest rest errors.NotCanonical h = (rest, refl, ((λ e. absurd cc), h))
-assertion_rest rest errors.Shape h = (rest, refl, h)
-assertion_rest rest _ h = absurd h
+pub assertion_refused : (rest : List ℕ) (e : Error) → HoldsNone rest e → ReplyRefused kinds.GetAssertion (0 ∷ rest) e
+assertion_refused rest errors.NotCanonical h = (rest, refl, ((λ e. absurd cc), h))
+assertion_refused rest errors.Shape h =
+    (rest, refl, (h.0, h.1, λ e. let a = reads_assertion_reply.reads h.0 4 (omega (arith, e)) h.1.0 in let both = sym a.1 ∙ h.2 in absurd cc))
+assertion_refused rest _ h = absurd h
 
-pub assertion_found : (result : Result AssertionReply Error) (v : Item) (rest : List ℕ) → Canon v rest → rank_in (record_of assertion_reply_members) v ≡ 9 → Gives assertion_reply_view result (assertion_reply_at v)
-    → IfOk result (λ r. IsReply kinds.GetAssertion (assertion_reply (assertion_reply_view r)) (0 ∷ rest))
-assertion_found (Ok r) v rest c e read =
-    let a = reads_assertion_reply.reads v 4 (omega (arith, e)) c.0 in
-    let same : a.0 ≡ assertion_reply_view r = some_is a.0 (assertion_reply_view r) (sym a.1 ∙ read) in
-    assertion_is v rest (assertion_reply_view r) c e (a.2 ∙ ap assertion_reply_item same)
-assertion_found (Err x) v rest c e read = tt
+-- what is refused, want of memory aside, is no reply
+no_reply : (rest tail : List ℕ) (v : Item) (q : Assertion) → Canon v rest → rank_in (record_of assertion_reply_members) v ≢ 9 → Canon (assertion_reply_item q) tail
+    → rank_in (record_of assertion_reply_members) (assertion_reply_item q) ≡ 9 → rest ≡ tail → ⊥
+no_reply rest tail v q canon fault c e same =
+    let is = same_item (assertion_reply_item q) v rest (subst (λ (l : List ℕ). Canon (assertion_reply_item q) l) (sym same) c) canon in
+    fault (ap (rank_in (record_of assertion_reply_members)) (sym is) ∙ e)
 
-pub assertion_refused : (result : Result AssertionReply Error) (v : Item) (rest : List ℕ) → Canon v rest → rank_in (record_of assertion_reply_members) v ≡ 9 → Gives assertion_reply_view result (assertion_reply_at v)
-    → IfErr result (λ x. ReplyRefused kinds.GetAssertion (0 ∷ rest) x)
-assertion_refused (Ok r) v rest c e read = tt
-assertion_refused (Err x) v rest c e read = let a = reads_assertion_reply.reads v 4 (omega (arith, e)) c.0 in reply_only_memory kinds.GetAssertion x (assertion_reply_at v) a.0 (0 ∷ rest) a.1 read
+pub never_both : (bs : List ℕ) (e : Error) → ReplyRefused kinds.GetAssertion bs e → e ≢ errors.Memory → (q : Assertion) → ReplyOf (assertion_reply q) bs → ⊥
+never_both bs errors.Memory h some q k = some refl
+never_both bs errors.Empty h some q k = let e = k.1 in absurd cc
+never_both bs (errors.Refused code) h some q k = h.2 (let e = k.1 in let f = h.1 in cc)
+never_both bs errors.NotCanonical h some q k = h.2.1 (assertion_reply_item q) (subst (λ (l : List ℕ). Canon (assertion_reply_item q) l) (let e = k.1 in let f = h.1 in cc) k.2)
+never_both bs errors.Shape h some q k = no_reply h.0 k.0 h.2.0 q h.2.1 h.2.2 k.2 k.3 (let e = k.1 in let f = h.1 in cc)
+never_both bs _ h some q k = absurd h
 
--- ---- GetNextAssertion
-
-next_only : (q : Assertion) (rest : List ℕ) → Canon (assertion_reply_item q) rest → (r : ReplyMessage) → kind_of r ≡ kinds.GetNextAssertion → ReplyOf r (0 ∷ rest) → r ≡ next_reply q
+next_only : (q : Assertion) (rest : List ℕ) → HoldsAssertion rest q → (r : ReplyMessage) → kind_of r ≡ kinds.GetNextAssertion → ReplyOf r (0 ∷ rest) → r ≡ next_reply q
 next_only q rest c (creation_reply r) k h = absurd cc
 next_only q rest c (assertion_reply r) k h = absurd cc
-next_only q rest c (next_reply r) k h =
-    let tail : rest ≡ h.0 = let e = h.1 in cc in
-    let canon : Canon (assertion_reply_item r) rest = subst (λ (l : List ℕ). Canon (assertion_reply_item r) l) (sym tail) h.2 in
-    let e = same_item (assertion_reply_item r) (assertion_reply_item q) rest canon c in
-    ap next_reply (some_is r q (sym (assertion_reply_again r) ∙ ap assertion_reply_at e ∙ assertion_reply_again q))
+next_only q rest c (next_reply r) k h = ap next_reply (one_assertion q r rest h.0 c h.2 (let e = h.1 in cc))
 next_only q rest c (info_reply r) k h = absurd cc
 next_only q rest c reset_reply k h = absurd cc
 
-pub next_is : (v : Item) (rest : List ℕ) (q : Assertion) → Canon v rest → rank_in (record_of next_reply_members) v ≡ 9 → v ≡ assertion_reply_item q → IsReply kinds.GetNextAssertion (next_reply q) (0 ∷ rest)
-next_is v rest q c e is =
-    let canon : Canon (assertion_reply_item q) rest = subst (λ (i : Item). Canon i rest) is c in
+pub next_is : (q : Assertion) (rest : List ℕ) → HoldsAssertion rest q → q.number ≡ None → IsReply kinds.GetNextAssertion (next_reply q) (0 ∷ rest)
+next_is q rest h none =
+    let is = assertion_takes h.0 q h.2 in
     record {
       of_kind = refl;
-      spelled = (rest, refl, canon, subst (λ (i : Item). rank_in (record_of next_reply_members) i ≡ 9) is e);
-      only = next_only q rest canon;
+      spelled = (rest, refl, subst (λ (i : Item). Canon i rest) is.0 h.1, next_clean q is.1 none);
+      only = next_only q rest h;
     }
 
-pub next_rest : (rest : List ℕ) (x : Error) → RestRefused next_reply_members rest x → ReplyRefused kinds.GetNextAssertion (0 ∷ rest) x
-next_rest rest errors.Memory h = tt
-next_rest rest errors.NotCanonical h = (rest, refl, ((λ e. absurd cc), h))
-next_rest rest errors.Shape h = (rest, refl, h)
-next_rest rest _ h = absurd h
+pub next_refused : (rest : List ℕ) (e : Error) → HoldsNone rest e → ReplyRefused kinds.GetNextAssertion (0 ∷ rest) e
+next_refused rest errors.NotCanonical h = (rest, refl, ((λ e. absurd cc), h))
+next_refused rest errors.Shape h =
+    (rest, refl, (h.0, h.1, λ e. let a = next_complete h.0 4 (omega (arith, e)) h.1.0 in let both = sym a.1 ∙ h.2 in absurd cc))
+next_refused rest _ h = absurd h
 
-pub next_found : (result : Result AssertionReply Error) (v : Item) (rest : List ℕ) → Canon v rest → rank_in (record_of next_reply_members) v ≡ 9 → Gives assertion_reply_view result (assertion_reply_at v)
-    → IfOk result (λ r. IsReply kinds.GetNextAssertion (next_reply (assertion_reply_view r)) (0 ∷ rest))
-next_found (Ok r) v rest c e read =
-    let a = next_complete v 4 (omega (arith, e)) c.0 in
-    let same : a.0 ≡ assertion_reply_view r = some_is a.0 (assertion_reply_view r) (sym a.1 ∙ read) in
-    next_is v rest (assertion_reply_view r) c e (a.2 ∙ ap assertion_reply_item same)
-next_found (Err x) v rest c e read = tt
+pub no_number : (o : Option ℕ) → is_some o ≡ false → o ≡ None
+no_number (Some n) e = absurd cc
+no_number None e = refl
 
-pub next_refused : (result : Result AssertionReply Error) (v : Item) (rest : List ℕ) → Canon v rest → rank_in (record_of next_reply_members) v ≡ 9 → Gives assertion_reply_view result (assertion_reply_at v)
-    → IfErr result (λ x. ReplyRefused kinds.GetNextAssertion (0 ∷ rest) x)
-next_refused (Ok r) v rest c e read = tt
-next_refused (Err x) v rest c e read = let a = next_complete v 4 (omega (arith, e)) c.0 in reply_only_memory kinds.GetNextAssertion x (assertion_reply_at v) a.0 (0 ∷ rest) a.1 read
+-- a number is in no reply to getNextAssertion
+pub numbered : (q : Assertion) (rest : List ℕ) → HoldsAssertion rest q → is_some q.number ≡ true → ReplyRefused kinds.GetNextAssertion (0 ∷ rest) errors.Shape
+numbered q rest h some = (
+  rest,
+  refl,
+  (
+    h.0,
+    h.1,
+    λ e.
+        let a = next_complete h.0 4 (omega (arith, e)) h.1.0 in
+        let same : a.0 ≡ q = some_is a.0 q (sym a.1 ∙ h.2) in
+        let none : is_some q.number ≡ false = ap is_some (subst (λ (r : Assertion). r.number ≡ None) same a.2) in
+        absurd cc,
+  ),
+)
 
 -- ---- GetInfo
 
@@ -200,3 +206,8 @@ pub info_refused : (result : Result InfoReply Error) (v : Item) (rest : List ℕ
     → IfErr result (λ x. ReplyRefused kinds.GetInfo (0 ∷ rest) x)
 info_refused (Ok r) v rest c e read = tt
 info_refused (Err x) v rest c e read = let a = reads_info.reads v 4 (omega (arith, e)) c.0 in reply_only_memory kinds.GetInfo x (info_at v) a.0 (0 ∷ rest) a.1 read
+
+pub never_memory : (rest : List ℕ) (e : Error) → HoldsNone rest e → e ≢ errors.Memory
+never_memory rest errors.NotCanonical h = λ e. absurd cc
+never_memory rest errors.Shape h = λ e. absurd cc
+never_memory rest _ h = absurd h

@@ -3,6 +3,7 @@ use Rattle.std.specs.Prelude.{map, option_map, string_bytes}
 use Rattle.ccbor.specs.View.{view}
 use Rattle.ctapmsg.specs.declared.reply.CreationReply.{CreationReply}
 use Rattle.ctapmsg.specs.declared.reply.AssertionReply.{AssertionReply}
+use Rattle.ctapmsg.specs.declared.reply.AssertionView.{AssertionView}
 use Rattle.ctapmsg.specs.declared.reply.InfoReply.{InfoReply}
 use Rattle.ctapmsg.specs.declared.reply.Reply.{Reply}
 use Rattle.ctapmsg.specs.declared.reply.Reply.TheVariants as replies
@@ -17,6 +18,15 @@ assertion_reply_view r = record {
   auth_data = r.auth_data.items;
   signature = r.signature.items;
   user = option_map (λ v. v.items) r.user;
+  number = r.number;
+}
+
+abbrev pub assertion_seen : AssertionView → Assertion
+assertion_seen r = record {
+  credential = r.credential.now;
+  auth_data = r.auth_data.now;
+  signature = r.signature.now;
+  user = option_map (λ b. b.now) r.user;
   number = r.number;
 }
 

@@ -3,6 +3,7 @@
 #![tactic(auto)]
 
 mod assertion;
+mod assertion_reply;
 mod creation;
 mod entities;
 mod error;
@@ -25,8 +26,8 @@ mod writing;
 pub use error::Error;
 pub use law::one_rank;
 pub use reading::read_request;
-pub use reply::{AssertionReply, CreationReply, InfoReply, Kind, Reply};
-pub use reply_reading::read_reply;
+pub use reply::{AssertionReply, AssertionView, CreationReply, InfoReply, Kind, Reply};
+pub use reply_reading::{read_assertion, read_reply};
 pub use reply_writing::write_reply;
 pub use request::{
     AssertionOptions, CreationOptions, Descriptor, GetAssertion, MakeCredential, Parameters,

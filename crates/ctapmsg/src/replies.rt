@@ -4,15 +4,15 @@ ghost use Rattle.std.specs.Prelude.{◌≡◌, ◌↔◌, IsTrue, MatchOption, c
 ghost use Rattle.ccbor.specs.Access.{key_item, member};
 ghost use Rattle.ccbor.specs.Item as of;
 ghost use Rattle.ccbor.specs.View.{view, items_view, pairs_view};
-ghost use Rattle.ctapmsg.specs.Fields.{Gives, need, maybe, each_at, credential_at, reply_user_at, assertion_reply_at, texts_at, named_truth, each_truth, truths_at, info_at};
+ghost use Rattle.ctapmsg.specs.Fields.{Gives, need, each_at, texts_at, named_truth, each_truth, truths_at, info_at};
 ghost use Rattle.ccbor.specs.Access.{text_in, uint_in, bool_in};
 ghost use Rattle.ctapmsg.specs.Pieces.{HasThree, PartsOf};
 ghost use Rattle.ctapmsg.specs.Replies.{Creation, creation_reply_item};
-ghost use Rattle.ctapmsg.specs.ReplyView.{creation_reply_view, assertion_reply_view, info_view};
+ghost use Rattle.ctapmsg.specs.ReplyView.{creation_reply_view, info_view};
 
 use crate::error::Error;
 use crate::fields::bytes_at;
-use crate::reply::{AssertionReply, CreationReply, InfoReply};
+use crate::reply::{CreationReply, InfoReply};
 use ccbor::{Key, Value};
 use std::alloc::Global;
 
@@ -73,53 +73,6 @@ pub fn creation_reply(value: Value) -> Option<CreationReply>
     creation_reply_from(fmt, auth_data, statement)
 }
 
-#[tactic(auto, unfolding(crate::specs::Fields::credential_at))]
-fn credential(alloc: Global, value: &Value) -> Result<Vec<u8>, Error>
-    ensures { Gives (λ v. v.items) result (credential_at (view value.now)) }
-{
-    bytes_at(alloc, value, Key::Text("id"))
-}
-
-fn credential_member(alloc: Global, value: &Value, key: Key<'_>) -> Result<Vec<u8>, Error>
-    ensures { Gives (λ v. v.items) result
-        (need credential_at (key_item key.entry) (view value.now)) }
-{
-    match value.get(key) {
-        Some(held) => credential(alloc, held),
-        None => Err(Error::Shape),
-    }
-}
-
-#[tactic(auto, unfolding(crate::specs::Fields::reply_user_at))]
-fn user(alloc: Global, value: &Value) -> Result<Vec<u8>, Error>
-    ensures { Gives (λ v. v.items) result (reply_user_at (view value.now)) }
-{
-    bytes_at(alloc, value, Key::Text("id"))
-}
-
-fn user_if_there(alloc: Global, held: Option<&Value>) -> Result<Option<Vec<u8>>, Error>
-    ensures { Gives (λ o. option_map (λ v. v.items) o) result
-        (maybe reply_user_at (option_map (λ b. view b.now) held.entry)) }
-{
-    match held {
-        Some(value) => Ok(Some(user(alloc, value)?)),
-        None => Ok(None),
-    }
-}
-
-fn number_if_there(held: Option<&Value>) -> Result<Option<u64>, Error>
-    ensures { Gives (λ o. o) result
-        (maybe uint_in (option_map (λ b. view b.now) held.entry)) }
-{
-    match held {
-        Some(value) => match value.as_uint() {
-            Some(n) => Ok(Some(n)),
-            None => Err(Error::Shape),
-        },
-        None => Ok(None),
-    }
-}
-
 fn number_at(value: &Value, key: Key<'_>) -> Result<u64, Error>
     ensures { Gives (λ n. n) result (need uint_in (key_item key.entry) (view value.now)) }
 {
@@ -130,25 +83,6 @@ fn number_at(value: &Value, key: Key<'_>) -> Result<u64, Error>
         Some(n) => Ok(n),
         None => Err(Error::Shape),
     }
-}
-
-/// The reply to getAssertion or getNextAssertion that has this map.
-#[tactic(auto, unfolding(crate::specs::Fields::assertion_reply_at))]
-pub fn assertion_reply(alloc: Global, value: &Value) -> Result<AssertionReply, Error>
-    ensures { Gives assertion_reply_view result (assertion_reply_at (view value.now)) }
-{
-    let credential = credential_member(alloc, value, Key::Uint(1))?;
-    let auth_data = bytes_at(alloc, value, Key::Uint(2))?;
-    let signature = bytes_at(alloc, value, Key::Uint(3))?;
-    let user = user_if_there(alloc, value.get(Key::Uint(4)))?;
-    let number = number_if_there(value.get(Key::Uint(5)))?;
-    Ok(AssertionReply {
-        credential,
-        auth_data,
-        signature,
-        user,
-        number,
-    })
 }
 
 fn text(alloc: Global, value: &Value) -> Result<String, Error>

@@ -43,6 +43,21 @@ pub struct AssertionReply {
     pub number: Option<u64>,
 }
 
+/// A reply to getAssertion or getNextAssertion whose members lie in the bytes that were read.
+#[derive(Clone, Copy, Debug, Drop)]
+pub struct AssertionView<'a> {
+    /// The credential id: 1 to 64 bytes.
+    pub credential: &'a [u8],
+    /// The authenticator data.
+    pub auth_data: &'a [u8],
+    /// The signature.
+    pub signature: &'a [u8],
+    /// The user handle: 1 to 64 bytes.
+    pub user: Option<&'a [u8]>,
+    /// How many credentials there are, at least 2; a reply to getNextAssertion never has it.
+    pub number: Option<u64>,
+}
+
 /// A reply to getInfo (CTAP 2.1, section 6.4).
 #[derive(Debug, Drop)]
 pub struct InfoReply {

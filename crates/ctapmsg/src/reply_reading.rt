@@ -1,22 +1,25 @@
 //! Reading a reply.
 
-ghost use Rattle.std.specs.Prelude.{◌≡◌, ◌≢◌, ◌∷◌, IfOk, IfErr};
+ghost use Rattle.std.specs.Prelude.{◌≡◌, ◌≢◌, ◌∷◌, IfOk, IfErr, option_map};
 ghost use Rattle.ccbor.specs.Canon.{Canon};
 ghost use Rattle.ccbor.specs.View.{view};
-ghost use Rattle.ctapmsg.specs.Pieces.{RestRefused};
-ghost use Rattle.ctapmsg.specs.Replies.{creation_reply, assertion_reply, next_reply, info_reply, reply_members, IsReply, ReplyRefused};
-ghost use Rattle.ctapmsg.specs.ReplyView.{creation_reply_view, assertion_reply_view, info_view, reply_view};
+ghost use Rattle.ctapmsg.specs.Pieces.{RestRefused, HoldsAssertion, HoldsNone};
+ghost use Rattle.ctapmsg.specs.Replies.{Assertion, creation_reply, assertion_reply, next_reply, info_reply, reply_members, IsReply, ReplyOf, ReplyRefused};
+ghost use Rattle.ctapmsg.specs.ReplyView.{creation_reply_view, assertion_reply_view, assertion_seen, info_view, reply_view};
 ghost use Rattle.ctapmsg.specs.Schema.{rank_in, record_of};
+ghost use Rattle.ctapmsg.specs.declared.error.Error.TheVariants as errors;
+ghost use Rattle.ctapmsg.specs.declared.reply.Kind.{Kind};
 ghost use Rattle.ctapmsg.specs.declared.reply.Kind.TheVariants as kinds;
 
+use crate::assertion_reply::assertion_reply;
 use crate::error::Error;
 use crate::ranks::CLEAN;
 use crate::replies;
-use crate::reply::{AssertionReply, CreationReply, InfoReply, Kind, Reply};
+use crate::reply::{AssertionReply, AssertionView, CreationReply, InfoReply, Kind, Reply};
 use crate::status::OK;
 use crate::tables::reply_rank;
-use ccbor::{Value, decode_all};
-use std::alloc::Global;
+use ccbor::{Value, View, decode_all};
+use std::alloc::{AllocError, Global};
 
 /// The map that answers a command, without a fault.
 fn map_of(alloc: Global, kind: Kind, rest: &[u8]) -> Result<Value, Error>
@@ -50,26 +53,72 @@ fn creation_reply_after(alloc: Global, rest: &[u8]) -> Result<CreationReply, Err
     }
 }
 
-fn assertion_reply_after(alloc: Global, rest: &[u8]) -> Result<AssertionReply, Error>
-    ensures found { IfOk result (λ r.
-        IsReply kinds.GetAssertion (assertion_reply (assertion_reply_view r)) (0 ∷ rest.now)) }
-    ensures refused { IfErr result (λ e. ReplyRefused kinds.GetAssertion (0 ∷ rest.now) e) }
+/// The assertion whose map this is.
+fn assertion_in(rest: &[u8]) -> Result<AssertionView<'_>, Error>
+    ensures found { IfOk result (λ r. HoldsAssertion rest.now (assertion_seen r)) }
+    ensures refused { IfErr result (HoldsNone rest.now) }
 {
-    match map_of(alloc, Kind::GetAssertion, rest) {
-        Ok(value) => replies::assertion_reply(alloc, &value),
+    let view = match View::check_all(rest) {
+        Ok(view) => view,
+        Err(_) => return Err(Error::NotCanonical),
+    };
+    match assertion_reply(&view) {
+        Some(reply) => Ok(reply),
+        None => Err(Error::Shape),
+    }
+}
+
+/// The reply to getAssertion, behind status 0.
+fn assertion_after(rest: &[u8]) -> Result<AssertionView<'_>, Error>
+    ensures found { IfOk result (λ r.
+        IsReply kinds.GetAssertion (assertion_reply (assertion_seen r)) (0 ∷ rest.now)) }
+    ensures refused { IfErr result (λ e. ReplyRefused kinds.GetAssertion (0 ∷ rest.now) e) }
+    ensures no_memory { IfErr result (λ e. e ≢ errors.Memory) }
+{
+    match assertion_in(rest) {
+        Ok(reply) => Ok(reply),
         Err(e) => Err(e),
     }
 }
 
-fn next_reply_after(alloc: Global, rest: &[u8]) -> Result<AssertionReply, Error>
+/// The reply to getNextAssertion, behind status 0.
+fn next_after(rest: &[u8]) -> Result<AssertionView<'_>, Error>
     ensures found { IfOk result (λ r.
-        IsReply kinds.GetNextAssertion (next_reply (assertion_reply_view r)) (0 ∷ rest.now)) }
+        IsReply kinds.GetNextAssertion (next_reply (assertion_seen r)) (0 ∷ rest.now)) }
     ensures refused { IfErr result (λ e. ReplyRefused kinds.GetNextAssertion (0 ∷ rest.now) e) }
 {
-    match map_of(alloc, Kind::GetNextAssertion, rest) {
-        Ok(value) => replies::assertion_reply(alloc, &value),
+    match assertion_in(rest) {
+        Ok(reply) => {
+            if reply.number.is_some() {
+                return Err(Error::Shape);
+            }
+            Ok(reply)
+        }
         Err(e) => Err(e),
     }
+}
+
+/// The user's id, in memory of its own.
+fn owned_user(alloc: Global, user: Option<&[u8]>) -> Result<Option<Vec<u8>>, AllocError>
+    ensures { IfOk result (λ u. option_map (λ v. v.items) u ≡ option_map (λ b. b.now) user.entry) }
+{
+    match user {
+        Some(user) => Ok(Some(Vec::from_slice(alloc, user)?)),
+        None => Ok(None),
+    }
+}
+
+/// The reply, in memory of its own.
+fn owned(alloc: Global, reply: &AssertionView<'_>) -> Result<AssertionReply, AllocError>
+    ensures { IfOk result (λ r. assertion_reply_view r ≡ assertion_seen reply.now) }
+{
+    Ok(AssertionReply {
+        credential: Vec::from_slice(alloc, reply.credential)?,
+        auth_data: Vec::from_slice(alloc, reply.auth_data)?,
+        signature: Vec::from_slice(alloc, reply.signature)?,
+        user: owned_user(alloc, reply.user)?,
+        number: reply.number,
+    })
 }
 
 fn info_reply_after(alloc: Global, rest: &[u8]) -> Result<InfoReply, Error>
@@ -103,12 +152,12 @@ fn reply_after(alloc: Global, kind: Kind, rest: &[u8]) -> Result<Reply, Error>
             Ok(reply) => Ok(Reply::MakeCredential(reply)),
             Err(e) => Err(e),
         },
-        Kind::GetAssertion => match assertion_reply_after(alloc, rest) {
-            Ok(reply) => Ok(Reply::GetAssertion(reply)),
+        Kind::GetAssertion => match assertion_after(rest) {
+            Ok(reply) => Ok(Reply::GetAssertion(owned(alloc, &reply)?)),
             Err(e) => Err(e),
         },
-        Kind::GetNextAssertion => match next_reply_after(alloc, rest) {
-            Ok(reply) => Ok(Reply::GetNextAssertion(reply)),
+        Kind::GetNextAssertion => match next_after(rest) {
+            Ok(reply) => Ok(Reply::GetNextAssertion(owned(alloc, &reply)?)),
             Err(e) => Err(e),
         },
         Kind::GetInfo => match info_reply_after(alloc, rest) {
@@ -116,6 +165,43 @@ fn reply_after(alloc: Global, kind: Kind, rest: &[u8]) -> Result<Reply, Error>
             Err(e) => Err(e),
         },
         Kind::Reset => reset_reply_after(rest),
+    }
+}
+
+/// What follows status 0.
+fn behind_status(bytes: &[u8]) -> Result<&[u8], Error>
+    ensures found { IfOk result (λ r. bytes.now ≡ 0 ∷ r.now) }
+    ensures refused { (kind : Kind) → IfErr result (λ e. ReplyRefused kind bytes.now e) }
+    ensures no_memory { IfErr result (λ e. e ≢ errors.Memory) }
+{
+    let Some((status, rest)) = bytes.split_first() else {
+        return Err(Error::Empty);
+    };
+    if *status != OK {
+        return Err(Error::Refused(*status));
+    }
+    Ok(rest)
+}
+
+/// The reply of these bytes to getAssertion. Its members lie in them: nothing is copied, and no
+/// memory is taken.
+///
+/// Refused as [`read_reply`] refuses, but never for want of memory.
+pub fn read_assertion(bytes: &[u8]) -> Result<AssertionView<'_>, Error>
+    ensures found { IfOk result (λ r.
+        IsReply kinds.GetAssertion (assertion_reply (assertion_seen r)) bytes.now) }
+    ensures refused { IfErr result (λ e. ReplyRefused kinds.GetAssertion bytes.now e) }
+    ensures no_memory { IfErr result (λ e. e ≢ errors.Memory) }
+    // So bytes that are refused are no such reply.
+    ensures none { IfErr result (λ _. (q : Assertion) → ReplyOf (assertion_reply q) bytes.now → ⊥) }
+{
+    let rest = match behind_status(bytes) {
+        Ok(rest) => rest,
+        Err(e) => return Err(e),
+    };
+    match assertion_after(rest) {
+        Ok(reply) => Ok(reply),
+        Err(e) => Err(e),
     }
 }
 
@@ -129,11 +215,8 @@ pub fn read_reply(alloc: Global, kind: Kind, bytes: &[u8]) -> Result<Reply, Erro
     ensures found { IfOk result (λ r. IsReply kind (reply_view r) bytes.now) }
     ensures refused { IfErr result (λ e. ReplyRefused kind bytes.now e) }
 {
-    let Some((status, rest)) = bytes.split_first() else {
-        return Err(Error::Empty);
-    };
-    if *status != OK {
-        return Err(Error::Refused(*status));
+    match behind_status(bytes) {
+        Ok(rest) => reply_after(alloc, kind, rest),
+        Err(e) => Err(e),
     }
-    reply_after(alloc, kind, rest)
 }

@@ -1,19 +1,15 @@
 //! The reply to a getAssertion request (CTAP 2.1, section 6.2.2), by `ctapmsg`.
 
-ghost use Rattle.std.specs.Prelude.{◌≡◌, IfErr, IfOk, option_map};
-ghost use Rattle.ctapmsg.specs.Replies.{assertion_reply, kind_of};
-ghost use Rattle.ctapmsg.specs.ReplyView.{assertion_reply_view, reply_view};
-ghost use Rattle.ctapmsg.specs.declared.reply.Kind.TheVariants as kinds;
+ghost use Rattle.std.specs.Prelude.{◌≡◌, IfErr, IfOk};
+ghost use Rattle.ctapmsg.specs.ReplyView.{assertion_seen};
 ghost use Rattle.site.specs.Answers.{assertion_of};
-ghost use Rattle.passkey.specs.Reply.{IsUnread, Reply as ReplySpec, ReplyOf};
+ghost use Rattle.passkey.specs.Reply.{IsUnread, Reply, ReplyOf};
 ghost use Rattle.passkey.specs.MessageErrors.{IsOfReply, unread};
 ghost use Rattle.passkey.specs.Verdict.{assertion};
-ghost use Rattle.passkey.specs.declared.error.Error.TheVariants as errors;
 
 use crate::error::Error;
-use ctapmsg::{AssertionReply, Kind, Reply, read_reply};
+use ctapmsg::AssertionView;
 use site::AssertionParts;
-use std::alloc::Global;
 
 /// What a message that is no reply is refused as.
 fn unread(error: ctapmsg::Error) -> Error
@@ -30,54 +26,30 @@ fn unread(error: ctapmsg::Error) -> Error
     }
 }
 
-/// The members of a reply to getAssertion.
-fn members(reply: Reply) -> AssertionReply
-    requires { kind_of (reply_view reply) ≡ kinds.GetAssertion }
-    ensures { reply_view reply ≡ assertion_reply (assertion_reply_view result) }
-{
-    match reply {
-        Reply::GetAssertion(members) => members,
-        Reply::MakeCredential(_) => unreachable!(),
-        Reply::GetNextAssertion(_) => unreachable!(),
-        Reply::GetInfo(_) => unreachable!(),
-        Reply::Reset => unreachable!(),
-    }
-}
-
-/// The one getAssertion reply that a message is.
+/// The one getAssertion reply that a message is; its members lie in the message.
 ///
 /// `Empty` where the message has no bytes, then `Status` where its first is not 0, then `NotCanonical` where
 /// the rest is not one whole canonical value, then `Shape` where that is no reply's.
-pub fn read_assertion(alloc: Global, message: &[u8]) -> Result<AssertionReply, Error>
-    ensures found { IfOk result (λ r. ReplyOf (assertion_reply_view r) message.now) }
-    ensures only { IfOk result (λ r. (q : ReplySpec) → ReplyOf q message.now → q ≡ assertion_reply_view r) }
+pub fn read_assertion(message: &[u8]) -> Result<AssertionView<'_>, Error>
+    ensures found { IfOk result (λ r. ReplyOf (assertion_seen r) message.now) }
+    ensures only { IfOk result (λ r. (q : Reply) → ReplyOf q message.now → q ≡ assertion_seen r) }
     ensures refused { IfErr result (IsUnread message.now) }
-    ensures complete { IfErr result (λ e. (q : ReplySpec) → ReplyOf q message.now → e ≡ errors.Memory) }
+    ensures none { IfErr result (λ _. (q : Reply) → ReplyOf q message.now → ⊥) }
 {
-    match read_reply(alloc, Kind::GetAssertion, message) {
-        Ok(reply) => Ok(members(reply)),
+    match ctapmsg::read_assertion(message) {
+        Ok(reply) => Ok(reply),
         Err(error) => Err(unread(error)),
     }
 }
 
-/// The user's id, lent.
-fn lent(user: &Option<Vec<u8>>) -> Option<&[u8]>
-    ensures { option_map (λ u. u.now) result ≡ option_map (λ u. u.items) user.now }
-{
-    match user {
-        Some(user) => Some(user.as_slice()),
-        None => None,
-    }
-}
-
 /// The assertion that a reply makes.
-pub fn parts(reply: &AssertionReply) -> AssertionParts<'_>
-    ensures { assertion_of result ≡ assertion (assertion_reply_view reply.now) }
+pub fn parts<'a>(reply: &AssertionView<'a>) -> AssertionParts<'a>
+    ensures { assertion_of result ≡ assertion (assertion_seen reply.now) }
 {
     AssertionParts {
-        credential: reply.credential.as_slice(),
-        user: lent(&reply.user),
-        auth_data: reply.auth_data.as_slice(),
-        signature: reply.signature.as_slice(),
+        credential: reply.credential,
+        user: reply.user,
+        auth_data: reply.auth_data,
+        signature: reply.signature,
     }
 }

@@ -42,7 +42,6 @@ fn refusal_of(error: site::Error) -> Error
 
 /// Signs in by a message.
 fn answer<V: Verifier>(
-    alloc: Global,
     site: &mut Site,
     verifier: &V,
     hash: &[u8; 32],
@@ -54,7 +53,7 @@ fn answer<V: Verifier>(
     ensures refused { IfErr result (λ e. RefusedMessage (V.valid verifier.now) site.old hash.now message.now e) }
     ensures unchanged { OnErr result (site.new ≡ site.old) }
 {
-    let reply = match read_assertion(alloc, message) {
+    let reply = match read_assertion(message) {
         Ok(reply) => reply,
         Err(error) => return Err(error),
     };
@@ -96,7 +95,7 @@ pub fn sign_in_hash<V: Verifier>(
     let mut collector = Collector::new(alloc, cid)?;
     match receive(&mut collector, packets) {
         Received::Message { message, used } => {
-            match answer(alloc, site, verifier, hash, message) {
+            match answer(site, verifier, hash, message) {
                 Ok(SignedIn { user, credential }) => Ok(Accepted {
                     user,
                     credential,

@@ -3,15 +3,15 @@ use Rattle.std.proofs.lemmas.Result.{err_from_is_err_and}
 use Rattle.std.proofs.lemmas.Bool.Decides.{nat_tests}
 use Rattle.ccbor.specs.View.{view, items_view, pairs_view}
 use Rattle.ccbor.specs.Canon.{before}
-use Rattle.ccbor.specs.Reading.{item_at, items_at, pairs_at}
+use Rattle.ccbor.specs.Reading.{head_at, item_at, items_at, pairs_at}
 use Rattle.ccbor.proofs.Views.{view-Array, view-Map}
-use Rattle.ccbor.proofs.Loop.{items_view-push, pairs_view-push, items_go_on, items_end, items_done, pairs_done, pairs_end_at_key, pairs_end_at_order, pairs_end_at_value, pairs_go_on, item_at-no_head, item_at-no_level, item_at-leaf, item_at-array, item_at-map, item_at-no_items, item_at-no_pairs}
+use Rattle.ccbor.proofs.Loop.{items_view-push, pairs_view-push, items_go_on, items_end, items_done, pairs_done, pairs_end_at_key, pairs_end_at_order, pairs_end_at_value, pairs_go_on, fails, item_at-no_head, item_at-no_level, item_at-leaf, item_at-array, item_at-map, item_at-no_items, item_at-no_pairs}
 use Rattle.ccbor.proofs.reading.+reading.Goals as goal
 
 pub item_at-returns-in_err-head : goal.item_at-returns-in_err-head
 item_at-returns-in_err-head t c =
     let p = err_from_is_err_and c.from_residual.result c.from_residual.ensures.1 in
-    rw (p.1, p.2) (item_at-no_head c.in_err-head.field-0.0 c.args.depth c.args.bytes.now c.in_err-head.ensures)
+    rw (p.1, p.2) (item_at-no_head c.in_err-head.field-0.0 c.args.depth c.args.bytes.now (fails c.in_err-head.field-0.0 (head_at c.args.bytes.now) c.in_err-head.ensures))
 
 pub item_at-returns-then-depth-eq0 : goal.item_at-returns-then-depth-eq0
 item_at-returns-then-depth-eq0 t c =

@@ -1,0 +1,190 @@
+//! Values that are read where they lie: nothing is copied, and no memory is taken.
+
+ghost use Rattle.std.specs.Prelude.{◌≡◌, ◌⊎◌, ◌<◌, ◌≤◌, ℕ, List, suc, length, take, option_map, IfOk, IfErr, IsErrOf, MatchOption};
+ghost use Rattle.ccbor.specs.declared.error.Error.TheVariants as errors;
+ghost use Rattle.ccbor.specs.Item.{Item, Pairs, no_pairs, pair};
+ghost use Rattle.ccbor.specs.Canon.{Canon};
+ghost use Rattle.ccbor.specs.Access.{uint_in, bytes_in, pairs_in, key_item, is_same_key, split_key, is_end};
+ghost use Rattle.ccbor.specs.Viewing.{ArePairs, parts_in, shown, shown_pairs};
+
+use crate::error::Error;
+use crate::head::{BYTES, MAP, NEGATIVE, TEXT, UNSIGNED, head_at};
+use crate::passing::front;
+use crate::value::Key;
+use std::marker::Model;
+
+/// A value, as the bytes of its canonical encoding show it. A contract sees these bytes.
+#[derive(Drop)]
+pub struct View<'a> {
+    bytes: &'a [u8],
+}
+
+impl<'a> Model for View<'a> {
+    ghost use Rattle.std.specs.Prelude.{ℕ, List};
+    ghost use Rattle.ccbor.specs.Canon.{Canon};
+    ghost use Rattle.ccbor.specs.Viewing.{shown};
+
+    ghost Value = { List ℕ };
+
+    ghost view = { λ v. v.bytes.now };
+
+    ghost invariant = { λ v. Canon (shown v.bytes.now) v.bytes.now };
+}
+
+/// The pairs of a map that are left, as their encoding shows them. A contract sees how
+/// many there are, and their bytes.
+#[derive(Drop)]
+pub struct MapView<'a> {
+    bytes: &'a [u8],
+    left: u64,
+}
+
+impl<'a> Model for MapView<'a> {
+    ghost use Rattle.std.specs.Prelude.{ℕ, List};
+    ghost use Rattle.ccbor.specs.Viewing.{ArePairs, shown_pairs};
+
+    ghost Value = { ℕ × List ℕ };
+
+    ghost view = { λ m. (m.left, m.bytes.now) };
+
+    ghost invariant = { λ m. ArePairs (shown_pairs (m.left, m.bytes.now)) m.left m.bytes.now };
+}
+
+/// The argument of the value's head and what follows the head, if the value is of this major type.
+fn parts(bytes: &[u8], major: u8) -> Option<(u64, &[u8])>
+    ensures { (x : Item) → Canon x bytes.now → option_map (λ r. (r.0, r.1.now)) result ≡ parts_in major x }
+{
+    let Ok((head, rest)) = head_at(bytes) else {
+        return None;
+    };
+    if head.major != major {
+        return None;
+    }
+    Some((head.argument, rest))
+}
+
+/// Whether the value is this key.
+fn is_key(bytes: &[u8], key: Key<'_>) -> bool
+    ensures { (x : Item) → Canon x bytes.now → result ≡ is_same_key x (key_item key.entry) }
+{
+    match key {
+        Key::Uint(n) => match parts(bytes, UNSIGNED) {
+            Some((m, _)) => m == n,
+            None => false,
+        },
+        Key::Nint(n) => match parts(bytes, NEGATIVE) {
+            Some((m, _)) => m == n,
+            None => false,
+        },
+        Key::Text(text) => match parts(bytes, TEXT) {
+            Some((_, content)) => content == text.as_bytes(),
+            None => false,
+        },
+    }
+}
+
+/// The encodings of the first pair's key and value, and what follows them.
+fn first_pair(bytes: &[u8]) -> Option<(&[u8], &[u8], &[u8])>
+    ensures { (k v : Item) (ps : Pairs) (n : ℕ) → ArePairs (pair k v ps) n bytes.now → MatchOption result ⊥
+        (λ r. Canon k r.0.now × Canon v r.1.now × ((m : ℕ) → n ≡ suc m → ArePairs ps m r.2.now)) }
+{
+    let (key, rest) = front(bytes)?;
+    let (value, rest) = front(rest)?;
+    Some((key, value, rest))
+}
+
+impl<'a> View<'a> {
+    /// The value that the whole input encodes.
+    ///
+    /// Refused as [`Error::NotCanonical`] where no front of the input is a canonical encoding (CTAP
+    /// 2.1, "Message Encoding"), and as [`Error::Trailing`] where a front is and bytes follow it.
+    pub fn check_all(bytes: &'a [u8]) -> Result<View<'a>, Error>
+        // The whole input encodes the value,
+        ensures found { IfOk result (λ v. (v ≡ bytes.now) × Canon (shown v) bytes.now) }
+        // or bytes follow a front that encodes one, and the whole encodes none,
+        ensures trailing { IsErrOf result errors.Trailing
+            → (v : Item) × (n : ℕ) × (n < length bytes.now) × Canon v (take n bytes.now) }
+        ensures front { IsErrOf result errors.Trailing → (v : Item) → Canon v bytes.now → ⊥ }
+        // or no front of the input encodes a value.
+        ensures none { IsErrOf result errors.NotCanonical
+            → (v : Item) (n : ℕ) → Canon v (take n bytes.now) → ⊥ }
+        ensures errors { IfErr result (λ e. (e ≡ errors.NotCanonical) ⊎ (e ≡ errors.Trailing)) }
+    {
+        let Some((value, rest)) = front(bytes) else {
+            return Err(Error::NotCanonical);
+        };
+        if !rest.is_empty() {
+            return Err(Error::Trailing);
+        }
+        Ok(View { bytes: value })
+    }
+
+    /// The value's canonical encoding, where it lies.
+    pub fn span(&self) -> &'a [u8]
+        ensures same { result.now ≡ self.now }
+        ensures shown { Canon (shown self.now) result.now }
+    {
+        self.bytes
+    }
+
+    /// The number n, if this is an unsigned number.
+    pub fn as_uint(&self) -> Option<u64>
+        ensures { result ≡ uint_in (shown self.now) }
+    {
+        let (n, _) = parts(self.bytes, UNSIGNED)?;
+        Some(n)
+    }
+
+    /// The bytes, if this is a byte string.
+    pub fn as_bytes(&self) -> Option<&'a [u8]>
+        ensures { option_map (λ b. b.now) result ≡ bytes_in (shown self.now) }
+    {
+        let (_, content) = parts(self.bytes, BYTES)?;
+        Some(content)
+    }
+
+    /// The pairs of key and value, if this is a map.
+    pub fn as_map(&self) -> Option<MapView<'a>>
+        ensures { option_map shown_pairs result ≡ pairs_in (shown self.now) }
+    {
+        let (left, bytes) = parts(self.bytes, MAP)?;
+        Some(MapView { bytes, left })
+    }
+
+    /// Whether the value is this key.
+    pub fn is_key(&self, key: Key<'_>) -> bool
+        ensures { result ≡ is_same_key (shown self.now) (key_item key.entry) }
+    {
+        is_key(self.bytes, key)
+    }
+}
+
+impl<'a> MapView<'a> {
+    /// If the first pair has this key, its value and the pairs behind it.
+    pub fn split_key(&self, key: Key<'_>) -> Option<(View<'a>, MapView<'a>)>
+        ensures { option_map (λ r. (shown r.0, shown_pairs r.1)) result
+            ≡ split_key (key_item key.entry) (shown_pairs self.now) }
+    {
+        if self.left == 0 {
+            return None;
+        }
+        let (found, value, rest) = first_pair(self.bytes)?;
+        if !is_key(found, key) {
+            return None;
+        }
+        Some((
+            View { bytes: value },
+            MapView {
+                bytes: rest,
+                left: self.left - 1,
+            },
+        ))
+    }
+
+    /// Whether no pairs are left.
+    pub fn is_end(&self) -> bool
+        ensures { result ≡ is_end (shown_pairs self.now) }
+    {
+        self.left == 0
+    }
+}
