@@ -36,6 +36,8 @@ pub use request::{
 pub use writing::write_request;
 
 #[cfg(test)]
+mod rank_tests;
+#[cfg(test)]
 mod reply_tests;
 #[cfg(test)]
 mod tests;
