@@ -11,6 +11,3 @@ pub use error::{Error, SignInRefusal};
 pub use row::{Policy, Row, RowView, Rows};
 pub use sign_in::{AssertionParts, SignedIn};
 pub use site::{MAX_ID, MAX_ROWS, MAX_RP_ID, MAX_USER, Site};
-
-#[cfg(test)]
-mod tests;
