@@ -1,7 +1,7 @@
 //! The order in which a device judges an initial packet, as a table.
 
-use super::Doing::{self, Idle, Receiving, Working};
-use crate::Step::{self, Aborted, Cancelled, Quiet, Request};
+use crate::device::Doing::{self, Idle, Receiving, Working};
+use hidlink::Step::{self, Aborted, Cancelled, Quiet, Request};
 
 /// Of a row for one state: the packet that is sent (without its zeros; no bytes for none), the step and
 /// what the device is doing then.
