@@ -49,6 +49,3 @@ pub use reading::{decode, decode_all};
 pub use value::{Key, MAX_DEPTH, Value};
 pub use view::{MapView, View};
 pub use writing::encode;
-
-#[cfg(test)]
-mod tests;

@@ -34,10 +34,3 @@ pub use request::{
     RelyingParty, Request, User,
 };
 pub use writing::write_request;
-
-#[cfg(test)]
-mod rank_tests;
-#[cfg(test)]
-mod reply_tests;
-#[cfg(test)]
-mod tests;

@@ -58,6 +58,3 @@ impl Packet {
         }
     }
 }
-
-#[cfg(test)]
-mod tests;

@@ -11,8 +11,3 @@ pub use arbitration::MAX_CHANNELS;
 pub use collection::{Collector, DeadKind, Ended, Outcome, Received, one_outcome, receive};
 pub use opening::{Opener, Opening};
 pub use transaction::{Device, Refusal, Step, one_history};
-
-#[cfg(test)]
-mod device_tests;
-#[cfg(test)]
-mod tests;

@@ -1,8 +1,1 @@
-pub mod Reply
-pub mod Numbers
-pub mod SiteErrors
-pub mod MessageErrors
-pub mod Verdict
-pub mod Accepts
-pub mod HexText
-pub mod CommandLine
+pub mod Checked

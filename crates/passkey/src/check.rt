@@ -1,10 +1,11 @@
 //! Limited verification of client data: `passkey check`.
 
-ghost use Rattle.std.specs.Prelude.{◌≡◌};
+ghost use Rattle.std.specs.Prelude.{◌≡◌, IfErr, IfOk, string_bytes};
+ghost use Rattle.passkey.specs.Checked.{IsChecked, IsUnchecked};
 ghost use Rattle.passkey.specs.declared.check.CheckFault.TheVariants as faults;
 
-use crate::hex_text::unhex;
 use clientdata::{ClientData, Kind, limited_verify};
+use command_line::unhex;
 use std::alloc::{AllocError, Global};
 
 /// Why nothing is checked.
@@ -24,21 +25,22 @@ impl From<AllocError> for CheckFault {
     }
 }
 
-/// Whether the bytes are client data that say these members: the type `create` or `get`, the challenge in
-/// hex, the origin, and whether the ceremony was in a frame of another origin.
+/// Whether the bytes are client data that say these members: the ceremony, the challenge in hex, the
+/// origin, and whether the ceremony was in a frame of another origin (WebAuthn Level 2, section 5.8.1.2).
+/// `BadHex` where `unhex` reads no challenge.
 pub fn check(
     alloc: Global,
-    kind: &str,
+    kind: Kind,
     challenge: &str,
     origin: String,
     cross_origin: bool,
     bytes: &[u8],
-) -> Result<bool, CheckFault> {
-    let challenge = unhex(alloc, challenge)?.ok_or(CheckFault::BadHex)?;
-    let kind = if kind == "create" {
-        Kind::Create
-    } else {
-        Kind::Get
+) -> Result<bool, CheckFault>
+    ensures verdict { IfOk result (IsChecked bytes.now kind challenge.now (string_bytes origin) cross_origin) }
+    ensures refused { IfErr result (IsUnchecked challenge.now) }
+{
+    let Some(challenge) = unhex(alloc, challenge)? else {
+        return Err(CheckFault::BadHex);
     };
     let expected = ClientData {
         kind,

@@ -3,9 +3,9 @@
 ghost use Rattle.std.specs.Prelude.{◌≡◌};
 ghost use Rattle.passkey.specs.declared.inspect.InspectFault.TheVariants as faults;
 
-use crate::hex_text::unhex;
 use ccbor::{Value, decode_all};
 use clientdata::{Binding, quoted_text};
+use command_line::{Inspection, unhex};
 use cose::Alg;
 use hidframe::{Head, Packet};
 use std::alloc::{AllocError, Global};
@@ -173,20 +173,20 @@ fn client_data(alloc: Global, bytes: &[u8]) -> Result<String, InspectFault> {
     Ok(out)
 }
 
-/// What the input says, as this kind of bytes: `cbor`, `authdata`, `packets` or `clientdata`.
-pub fn inspect(alloc: Global, kind: &str, input: &[u8]) -> Result<String, InspectFault> {
-    if kind == "clientdata" {
+/// What the input says, as this kind of bytes.
+pub fn inspect(alloc: Global, kind: Inspection, input: &[u8]) -> Result<String, InspectFault> {
+    if let Inspection::ClientData = kind {
         return client_data(alloc, input);
     }
     let Ok(text) = str::from_utf8(input) else {
         return Err(InspectFault::BadHex);
     };
-    if kind == "packets" {
+    if let Inspection::Packets = kind {
         return packets(alloc, text);
     }
     let bytes = unhex(alloc, text)?.ok_or(InspectFault::BadHex)?;
-    if kind == "authdata" {
-        return auth_data(alloc, &bytes);
+    match kind {
+        Inspection::AuthData => auth_data(alloc, &bytes),
+        Inspection::Cbor | Inspection::Packets | Inspection::ClientData => cbor(alloc, &bytes),
     }
-    cbor(alloc, &bytes)
 }

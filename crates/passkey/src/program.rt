@@ -6,8 +6,8 @@ use crate::check::{CheckFault, check};
 use crate::inspect::{InspectFault, inspect};
 use crate::replay::{Ended, run_script};
 use crate::script::Fault;
-use crate::words::{Subcommand, command};
 use clap::error::ErrorKind;
+use command_line::{Inspection, Subcommand, command};
 use std::alloc::Global;
 use std::io;
 use std::io::{Read, Write};
@@ -89,7 +89,7 @@ fn replay<O: Write, E: Write>(alloc: Global, input: &[u8], out: &mut O, err: &mu
 /// Shows what the input says.
 fn show<O: Write, E: Write>(
     alloc: Global,
-    kind: &str,
+    kind: Inspection,
     input: &[u8],
     out: &mut O,
     err: &mut E,
@@ -143,20 +143,13 @@ pub fn run<'a, R: Read, O: Write, E: Write>(
         Err(InputFault::Memory) => return fail(err, "out of memory", 3),
     };
     match asked {
-        Subcommand::Inspect(kind) => show(alloc, kind.as_str(), &input, out, err),
+        Subcommand::Inspect(kind) => show(alloc, kind, &input, out, err),
         Subcommand::Check {
             kind,
             challenge,
             origin,
             cross,
-        } => match check(
-            alloc,
-            kind.as_str(),
-            challenge.as_str(),
-            origin,
-            cross,
-            &input,
-        ) {
+        } => match check(alloc, kind, challenge.as_str(), origin, cross, &input) {
             Ok(verified) => tell(verified, out, err),
             Err(CheckFault::BadHex) => fail(err, "bad hex", 2),
             Err(CheckFault::Memory) => fail(err, "out of memory", 3),

@@ -1,8 +1,7 @@
 //! Running a script: `passkey replay`.
 
-use crate::error::Error;
 use crate::script::{Fault, Line, parse_line};
-use crate::sign_in::sign_in_hash;
+use ceremony::{Error, sign_in_hash};
 use cose::{CoseKey, ListScheme};
 use hidframe::Packet;
 use sha2::{Digest, Sha256};

@@ -3,8 +3,8 @@
 ghost use Rattle.std.specs.Prelude.{◌≡◌};
 ghost use Rattle.passkey.specs.declared.script.Fault.TheVariants as faults;
 
-use crate::hex_text::unhex;
 use ccbor::decode_all;
+use command_line::unhex;
 use cose::CoseKey;
 use hidframe::Packet;
 use std::alloc::{AllocError, AllocFailed, Global};

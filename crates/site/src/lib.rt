@@ -13,6 +13,3 @@ pub use law::steps_in_order;
 pub use row::{Policy, Row, RowView, Rows};
 pub use sign_in::{AssertionParts, SignedIn};
 pub use site::{MAX_ID, MAX_ROWS, MAX_RP_ID, MAX_USER, Site};
-
-#[cfg(test)]
-mod tests;

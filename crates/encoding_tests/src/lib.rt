@@ -1,0 +1,11 @@
+//! Tests of the crates that read and write bytes: `ccbor`, `cose`, `authdata` and `clientdata`.
+#![tactic(auto)]
+
+#[cfg(test)]
+mod cbor_decoding;
+#[cfg(test)]
+mod cbor_encoding;
+#[cfg(test)]
+mod cbor_sizes;
+#[cfg(test)]
+mod cbor_values;

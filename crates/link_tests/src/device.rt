@@ -1,0 +1,73 @@
+//! A device that tests give calls.
+
+ghost use Rattle.std.specs.Prelude.{◌≡◌, ◌≤◌, [], IsTrue};
+
+use crate::framing::packet;
+use hidframe::Packet;
+use hidlink::{Device, Step};
+use std::alloc::{AllocError, Global};
+
+/// An INIT on the broadcast channel.
+pub const INIT: &[u8] = &[0xff, 0xff, 0xff, 0xff, 0x86, 0, 8, 1, 2, 3, 4, 5, 6, 7, 8];
+
+/// What a device is doing, as the tables write it.
+#[derive(Clone, Copy, PartialEq, Eq, Debug)]
+pub enum Doing {
+    Idle,
+    Receiving,
+    Working,
+}
+
+/// The packet that makes an idle device do this on channel 1, or no bytes.
+fn beginning(doing: Doing) -> &'static [u8] {
+    match doing {
+        Doing::Idle => &[],
+        Doing::Receiving => &[0, 0, 0, 1, 0x90, 0, 70],
+        Doing::Working => &[0, 0, 0, 1, 0x90, 0, 1, 4],
+    }
+}
+
+/// A device with channels 1 and 2 that does this on channel 1.
+pub fn device_doing(alloc: Global, doing: Doing) -> Result<Device, AllocError> {
+    let mut device = Device::new(alloc)?;
+    take(&mut device, &packet(INIT));
+    take(&mut device, &packet(INIT));
+    let first = beginning(doing);
+    if !first.is_empty() {
+        take(&mut device, &packet(first));
+    }
+    Ok(device)
+}
+
+/// Gives the device a packet, once it has nothing left to send; the first packet that it then sends.
+pub fn take(device: &mut Device, packet: &Packet) -> (Step, Option<Packet>) {
+    drain(device);
+    if !device.drained() {
+        return (Step::Quiet, None);
+    }
+    let step = device.packet(packet);
+    (step, device.next_out())
+}
+
+/// Takes all packets that are left to send; how many they are.
+pub fn drain(device: &mut Device) -> usize {
+    let mut count: usize = 0;
+    for _ in 0..200 {
+        if device.next_out().is_some() {
+            count = count.saturating_add(1);
+        }
+    }
+    count
+}
+
+/// What it is doing; where it received, that is over.
+pub fn state_after(device: &mut Device) -> Doing {
+    drain(device);
+    if device.working().is_some() {
+        return Doing::Working;
+    }
+    if device.drained() && device.expire() {
+        return Doing::Receiving;
+    }
+    Doing::Idle
+}

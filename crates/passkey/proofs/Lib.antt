@@ -1,4 +1,0 @@
-pub mod Replies
-pub mod Verdicts
-pub mod Lists
-pub mod WordRows
