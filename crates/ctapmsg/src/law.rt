@@ -5,5 +5,5 @@ ghost use Rattle.ctapmsg.specs.Status.{Rank, Applies};
 
 /// Of the eight ranks at most one applies to a request's bytes, so one status answers them.
 pub fn one_rank()
-    ensures { (r s : Rank) (bs : List ℕ) → Applies r bs → Applies s bs → r ≡ s }
+    ensures { (r s : Rank) (bs : List ℕ) → Applies bs r → Applies bs s → r ≡ s }
 {}
