@@ -41,7 +41,7 @@ Gives c ps (death index kind) = (index < length ps) × Dies c (take (index + 1) 
 Gives c ps nothing = HasEnded c ps → ⊥
 
 -- the command of a message is not that of an error
-apart : 16 ≡ 63 → ⊥
+apart : ◌≡◌ {A = ℕ} 16 63 → ⊥
 apart e = omega (arith, e)
 
 -- a message or an error excludes a death; each of the three excludes that nothing has come
