@@ -9,3 +9,9 @@ mod cbor_encoding;
 mod cbor_sizes;
 #[cfg(test)]
 mod cbor_values;
+#[cfg(test)]
+mod cose_keys;
+#[cfg(test)]
+mod cose_schemes;
+#[cfg(test)]
+mod pieces;
