@@ -2,6 +2,12 @@
 #![tactic(auto)]
 
 #[cfg(test)]
+mod attestation_objects;
+#[cfg(test)]
+mod attestation_statements;
+#[cfg(test)]
+mod authdata_bytes;
+#[cfg(test)]
 mod cbor_decoding;
 #[cfg(test)]
 mod cbor_encoding;
