@@ -16,6 +16,10 @@ mod cbor_sizes;
 #[cfg(test)]
 mod cbor_values;
 #[cfg(test)]
+mod clientdata_reading;
+#[cfg(test)]
+mod clientdata_writing;
+#[cfg(test)]
 mod cose_keys;
 #[cfg(test)]
 mod cose_schemes;
