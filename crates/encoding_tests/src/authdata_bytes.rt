@@ -338,7 +338,7 @@ const FLAGS: &[(u8, u8)] = &[
 #[test]
 fn bits(rt: HostRuntime) {
     for &(flag, bit) in FLAGS {
-        assert_eq!(rt; flag, bit);
+        assert_eq!(rt; flag, bit, "{bit}");
         assert!(rt;
             flags::is_set(bit, flag) && !flags::is_set(255 - bit, flag),
             "{bit}"
