@@ -52,3 +52,9 @@ order = errors.Short ∷ (errors.Extensions ∷ later_order)
 -- what an answered refusal says of the bytes; want of memory says nothing
 abbrev pub Refused : List ℕ → Error → Type 0
 Refused bs e = e ≢ errors.Memory → First (Applies bs) order e
+
+-- a credential is read, for which memory is taken: Short, Extensions and BadId are told before
+abbrev pub TakesMemory : List ℕ → Type 0
+TakesMemory bs =
+    IsAttested bs × (Applies bs errors.Short → ⊥)
+    × (Applies bs errors.Extensions → ⊥) × (Applies bs errors.BadId → ⊥)
