@@ -2,26 +2,27 @@
 use Rattle.std.proofs.Common.{◌≡◌, ℕ, ◌+◌, ◌≤◌, ◌<◌, ◌^◌, false, List, [], ◌∷◌, ◌++◌, length, drop, Option, Some, None, option_map, is_some, refl, sym, ap, ◌∙◌, append_assoc, append-nil, arith, ◌⊎◌, inl, inr}
 use Rattle.std.specs.Prelude.{IfSome}
 use Rattle.std.specs.Int.{w32, to_be_bytes}
+use Rattle.first_line.proofs.Laws.{first_at, first_behind}
 use Rattle.authdata.specs.declared.error.Error.{Error}
 use Rattle.authdata.specs.declared.error.Error.TheVariants as errors
 use Rattle.authdata.specs.declared.auth.Attested.{Attested}
 use Rattle.authdata.specs.Flags.{is_set, AT, ED}
 use Rattle.authdata.specs.Layout.{AttestedCredential, AuthenticatorData, AuthOf, IsAttestedCredential, IsAuthenticatorData, attested_bytes, credential_view, data_bytes}
-use Rattle.authdata.specs.Refusals.{flags_in, here, later, Applies, Refused, IsAttested, BeginsWithKey, id_len_in}
+use Rattle.authdata.specs.Refusals.{flags_in, Applies, Refused, IsAttested, BeginsWithKey, id_len_in}
 use Rattle.authdata.specs.Private.{RefusedLater}
 
 pub lifted : (bs : List ℕ) (e : Error) → (Applies bs errors.Short → ⊥) → (Applies bs errors.Extensions → ⊥) → RefusedLater bs e → Refused bs e
-lifted bs e s x h m = later errors.Short _ _ s (later errors.Extensions _ _ x (h m))
+lifted bs e s x h m = first_behind (errors.Short ∷ errors.Extensions ∷ []) (s, (x, tt)) (h m)
 
 pub short_first : (bs : List ℕ) → Applies bs errors.Short → Refused bs errors.Short
-short_first bs p m = here errors.Short _ p
+short_first bs p m = first_at 0 refl tt p
 
 pub extensions_first : (bs : List ℕ) → (Applies bs errors.Short → ⊥) → Applies bs errors.Extensions → Refused bs errors.Extensions
-extensions_first bs s p m = later errors.Short _ _ s (here errors.Extensions _ p)
+extensions_first bs s p m = first_at 1 refl (s, tt) p
 
 pub extra_first : (bs : List ℕ) → (Applies bs errors.Short → ⊥) → (Applies bs errors.Extensions → ⊥) → (Applies bs errors.BadId → ⊥) → (Applies bs errors.BadKey → ⊥)
     → Applies bs errors.ExtraBytes → Refused bs errors.ExtraBytes
-extra_first bs s x i k p m = later errors.Short _ _ s (later errors.Extensions _ _ x (later errors.BadId _ _ i (later errors.BadKey _ _ k (here errors.ExtraBytes _ p))))
+extra_first bs s x i k p m = first_at 4 refl (s, (x, (i, (k, tt)))) p
 
 -- what reading the credential found wrong
 pub credential_refused : (bs : List ℕ) (e : Error) → (e ≡ errors.Memory) ⊎ ((e ≡ errors.BadId) ⊎ (e ≡ errors.BadKey)) → IsAttested bs
@@ -31,8 +32,8 @@ pub credential_refused : (bs : List ℕ) (e : Error) → (e ≡ errors.Memory) �
 credential_refused bs e which at i k m = elim which [
   | inl p ↦ absurd (m p)
   | inr q ↦ elim q [
-    | inl p ↦ rw p (here errors.BadId _ (at, i p))
-    | inr p ↦ rw p (later errors.BadId _ _ (λ h. h.1 (k p).0) (here errors.BadKey _ (at, (k p).1)))
+    | inl p ↦ rw p (first_at 0 refl tt (at, i p))
+    | inr p ↦ rw p (first_at 1 refl ((λ h. h.1 (k p).0), tt) (at, (k p).1))
   ]
 ]
 

@@ -1,9 +1,10 @@
 -- No refusal applies to the bytes of authenticator data.
-use Rattle.std.proofs.Common.{◌≡◌, ◌≢◌, ◌+◌, ◌^◌, ◌<◌, ℕ, suc, true, false, List, [], ◌∷◌, ◌++◌, Option, Some, None, length, is_some, sym, ◌∙◌, ap, refl, subst, arith, take, drop, get_or, append_assoc, append-nil, inl, inr, ◌⊎◌}
+use Rattle.std.proofs.Common.{◌≡◌, ◌≢◌, ◌+◌, ◌^◌, ◌<◌, ℕ, suc, true, false, List, [], ◌∷◌, ◌++◌, Option, Some, None, length, is_some, sym, ◌∙◌, ap, refl, subst, arith, take, drop, get_or, append_assoc, append-nil, inl, inr}
 use Rattle.std.specs.Prelude.{IfSome}
 use Rattle.std.specs.Int.{w16, w32, to_be_bytes, from_be_bytes}
 use Rattle.std.proofs.lemmas.List.{length-append, drop_at}
 use Rattle.std.proofs.lemmas.Nat.{from_be_bytes-to_be_bytes_2}
+use Rattle.first_line.proofs.Laws.{stops_at}
 use Rattle.ccbor.specs.Canon.{Canon}
 use Rattle.cose.specs.Keys.{IsKey, item_of}
 use Rattle.cose.proofs.KeyLemmas.{key_canon}
@@ -11,13 +12,8 @@ use Rattle.authdata.specs.declared.error.Error.{Error}
 use Rattle.authdata.specs.declared.error.Error.TheVariants as errors
 use Rattle.authdata.specs.Flags.{is_set, AT, ED}
 use Rattle.authdata.specs.Layout.{AttestedCredential, AuthenticatorData, AuthOf, IsAttestedCredential, IsAuthenticatorData, attested_bytes, key_bytes}
-use Rattle.authdata.specs.Refusals.{First, here, later, Applies, Refused, IsAttested, flags_in, id_len_in, order}
+use Rattle.authdata.specs.Refusals.{Applies, Refused, IsAttested, flags_in, id_len_in}
 use Rattle.authdata.proofs.Unique.{length-data, length-full, one_front}
-
--- the first of a list is one of which the fact holds
-pub first_applies : {E : Type 0} (P : E → Type 0) (xs : List E) (e : E) → First P xs e → P e
-first_applies P _ _ (here x xs p) = p
-first_applies P _ _ (later x xs e none f) = first_applies P xs e f
 
 at_end : (a : List ℕ) (x : ℕ) (b : List ℕ) (n : ℕ) → length a ≡ n → get_or (a ++ x ∷ b) n 0 ≡ x
 at_end [] x b n e = rw (← e) refl
@@ -108,25 +104,6 @@ none_applies a bs errors.ExtraBytes h (b, front, rest, of, some, e) =
     omega (arith, n, some)
 none_applies a bs _ h p = p
 
--- what the first of a list is, by the list
-split : {E : Type 0} → (E → Type 0) → List E → E → Type 0
-split P [] e = ⊥
-split P (x ∷ xs) e = (P x × (e ≡ x)) ⊎ ((P x → ⊥) × First P xs e)
-
-first_split : {E : Type 0} (P : E → Type 0) (xs : List E) (e : E) → First P xs e → split P xs e
-unfolding split
-first_split P _ _ (here x xs p) = inl (p, refl)
-first_split P _ _ (later x xs e none f) = inr (none, f)
-
--- the first is one
-pub one_first : {E : Type 0} (P : E → Type 0) (xs : List E) (e f : E) → First P xs e → First P xs f → e ≡ f
-unfolding split
-one_first P [] e f h g = absurd (first_split P [] e h)
-one_first P (x ∷ xs) e f h g = elim (first_split P (x ∷ xs) e h) [
-  | inl p ↦ elim (first_split P (x ∷ xs) f g) [ inl q ↦ p.1 ∙ sym q.1 | inr q ↦ absurd (q.0 p.0) ]
-  | inr p ↦ elim (first_split P (x ∷ xs) f g) [ inl q ↦ absurd (p.0 q.0) | inr q ↦ one_first P xs e f p.1 q.1 ]
-]
-
 pub key_inside : (a : AuthenticatorData) (c : AttestedCredential) (bs : List ℕ) → AuthOf a bs → a.attested ≡ Some c → IsKey c.key × Canon (item_of c.key) (drop (55 + length c.id) bs)
 key_inside a c bs h e =
     let is = is_credential a c h.0 e in
@@ -134,4 +111,4 @@ key_inside a c bs h e =
     (is.key, subst (λ (l : List ℕ). Canon (item_of c.key) l) (sym same) (key_canon c.key is.key))
 
 pub not_refused : (a : AuthenticatorData) (bs : List ℕ) (e : Error) → Refused bs e → e ≢ errors.Memory → AuthOf a bs → ⊥
-not_refused a bs e r m h = none_applies a bs e h (first_applies (Applies bs) order e (r m))
+not_refused a bs e r m h = none_applies a bs e h (stops_at (r m))

@@ -2,6 +2,7 @@
 use Rattle.std.proofs.Common.{◌≡◌, ℕ, List, [], ◌∷◌, Option, Some, None, MatchOption, length, take, sym, refl, subst, arith, ap, ◌∙◌}
 use Rattle.std.specs.Prelude.{codes}
 use Rattle.std.proofs.lemmas.List.{take_all}
+use Rattle.first_line.proofs.Laws.{first_at}
 use Rattle.ccbor.specs.Item.{Item, map, pair, no_pairs, text}
 use Rattle.ccbor.proofs.Decoding.{one_reading}
 use Rattle.ccbor.specs.Canon.{Canon}
@@ -11,7 +12,6 @@ use Rattle.authdata.specs.declared.error.Error.TheVariants as errors
 use Rattle.authdata.specs.declared.object.AttestationObject.{AttestationObject}
 use Rattle.authdata.specs.Objects.{Attestation, ObjectOf, ObjectRefused, object_item, object_view}
 use Rattle.authdata.specs.Private.{HasThree, ObjectItem, PartsOf}
-use Rattle.authdata.specs.Refusals.{here, later}
 
 pub three_long : (l : List (Value × Value)) → HasThree (map (pairs_view l)) → length l ≡ 3
 three_long [] (a, b, c, d, e, f, is) = absurd cc
@@ -25,10 +25,10 @@ pub other_value : (bs : List ℕ) (v : Item) → Canon v bs → ((w : Item) → 
 other_value bs v canon only none o h = none o (h.0, sym (only (object_item o) h.1))
 
 pub shape_first : (bs : List ℕ) (v : Item) → Canon v bs → ((w : Item) → Canon w bs → w ≡ v) → ((o : Attestation) → ObjectItem o v → ⊥) → ObjectRefused bs errors.Shape
-shape_first bs v canon only none m = later errors.NotCanonical _ _ (λ h. h v canon) (here errors.Shape _ (other_value bs v canon only none))
+shape_first bs v canon only none m = first_at 1 refl ((λ h. h v canon), tt) (other_value bs v canon only none)
 
 pub canonical_first : (bs : List ℕ) → ((v : Item) → Canon v bs → ⊥) → ObjectRefused bs errors.NotCanonical
-canonical_first bs none m = here errors.NotCanonical _ none
+canonical_first bs none m = first_at 0 refl tt none
 
 pub no_object : (bs : List ℕ) → ((v : Item) → Canon v bs → ⊥) → (o : Attestation) → ObjectOf o bs → ⊥
 no_object bs none o h = none (object_item o) h.1

@@ -1,12 +1,12 @@
 -- Attestation objects and their bytes: WebAuthn, section 6.5.4.
 use Rattle.std.specs.Prelude.{◌≡◌, ◌≢◌, ℕ, List, [], ◌∷◌, string_bytes, codes}
+use Rattle.first_line.specs.Lines.{First}
 use Rattle.ccbor.specs.Item.{Item, map, text, bytes, Pairs, no_pairs, pair}
 use Rattle.ccbor.specs.Canon.{Canon}
 use Rattle.ccbor.specs.View.{view}
 use Rattle.authdata.specs.declared.error.Error.{Error}
 use Rattle.authdata.specs.declared.error.Error.TheVariants as errors
 use Rattle.authdata.specs.declared.object.AttestationObject.{AttestationObject}
-use Rattle.authdata.specs.Refusals.{First}
 
 -- an attestation object without where it lies in memory: fmt, attStmt, authData
 pub record Attestation : Type 0 where
@@ -43,7 +43,10 @@ ObjectApplies bs errors.Shape = (o : Attestation) → ObjectOf o bs → ⊥
 ObjectApplies bs _ = ⊥
 
 abbrev pub object_order : List Error
-object_order = errors.NotCanonical ∷ (errors.Shape ∷ [])
+object_order =
+    errors.NotCanonical
+    ∷ errors.Shape
+    ∷ []
 
 abbrev pub ObjectRefused : List ℕ → Error → Type 0
 ObjectRefused bs e = e ≢ errors.Memory → First (ObjectApplies bs) object_order e

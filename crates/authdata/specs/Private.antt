@@ -1,10 +1,11 @@
 -- What private functions are proved against; no public clause cites it.
 use Rattle.std.specs.Prelude.{◌≡◌, ◌≢◌, ℕ, List}
+use Rattle.first_line.specs.Lines.{First}
 use Rattle.ccbor.specs.Item.{Item, map, text, bytes, no_pairs, pair}
 use Rattle.authdata.specs.declared.error.Error.{Error}
 use Rattle.authdata.specs.declared.error.Error.TheVariants as errors
 use Rattle.authdata.specs.Objects.{Attestation, IsMap, object_item}
-use Rattle.authdata.specs.Refusals.{First, Applies, later_order}
+use Rattle.authdata.specs.Refusals.{Applies, later_order}
 
 -- the first refusal that applies of those behind Extensions
 abbrev pub RefusedLater : List ℕ → Error → Type 0

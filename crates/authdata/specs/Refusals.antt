@@ -1,17 +1,13 @@
 -- Why bytes are no authenticator data: the first of these that applies.
 use Rattle.std.specs.Prelude.{◌≡◌, ◌≢◌, ℕ, ◌+◌, ◌<◌, ◌≤◌, true, List, [], ◌∷◌, ◌++◌, length, take, drop, slice_index, ◌⊎◌}
 use Rattle.std.specs.Int.{w16, from_be_bytes}
+use Rattle.first_line.specs.Lines.{First}
 use Rattle.cose.specs.declared.key.CoseKey.{CoseKey}
 use Rattle.cose.specs.Keys.{IsKey}
 use Rattle.authdata.specs.declared.error.Error.{Error}
 use Rattle.authdata.specs.declared.error.Error.TheVariants as errors
 use Rattle.authdata.specs.Flags.{is_set, AT, ED}
 use Rattle.authdata.specs.Layout.{AuthenticatorData, AuthOf, key_bytes}
-
--- the first element of a list that has a property, and that it has it
-pub data First {E : Type 0} (P : E → Type 0) : List E → E → Type 0 where
-  here : (x : E) (xs : List E) → P x → First P (x ∷ xs) x
-  later : (x : E) (xs : List E) (e : E) → (P x → ⊥) → First P xs e → First P (x ∷ xs) e
 
 -- the flags, and the length of the credential id, where they are there
 abbrev pub flags_in : List ℕ → ℕ
@@ -44,10 +40,17 @@ Applies bs errors.ExtraBytes =
 Applies bs _ = ⊥
 
 abbrev pub later_order : List Error
-later_order = errors.BadId ∷ (errors.BadKey ∷ (errors.ExtraBytes ∷ []))
+later_order =
+    errors.BadId
+    ∷ errors.BadKey
+    ∷ errors.ExtraBytes
+    ∷ []
 
 abbrev pub order : List Error
-order = errors.Short ∷ (errors.Extensions ∷ later_order)
+order =
+    errors.Short
+    ∷ errors.Extensions
+    ∷ later_order
 
 -- what an answered refusal says of the bytes; want of memory says nothing
 abbrev pub Refused : List ℕ → Error → Type 0

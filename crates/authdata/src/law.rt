@@ -1,13 +1,14 @@
 //! Laws of authenticator data, attestation objects and statements.
 
 ghost use Rattle.std.specs.Prelude.{◌≡◌, ◌≤◌, ◌+◌, ◌++◌, ℕ, List, Result, Some, None, drop, length};
+ghost use Rattle.first_line.specs.Lines.{First};
 ghost use Rattle.ccbor.specs.Canon.{Canon};
 ghost use Rattle.cose.specs.Keys.{IsKey, encoded_length, item_of};
 ghost use Rattle.cose.specs.declared.key.CoseKey.{CoseKey};
 ghost use Rattle.authdata.specs.Layout.{AttestedCredential, AuthenticatorData, AuthOf};
 ghost use Rattle.authdata.specs.Flags as bits;
 ghost use Rattle.authdata.specs.Objects.{Attestation, ObjectOf};
-ghost use Rattle.authdata.specs.Refusals.{Applies, First, order};
+ghost use Rattle.authdata.specs.Refusals.{Applies, order};
 ghost use Rattle.authdata.specs.Statements.{Statement};
 ghost use Rattle.authdata.specs.declared.error.Error.{Error};
 ghost use Rattle.authdata.specs.declared.statement.AttestationType.{AttestationType};
