@@ -55,3 +55,9 @@ order =
 -- what an answered refusal says of the bytes; want of memory says nothing
 abbrev pub Refused : List ℕ → Error → Type 0
 Refused bs e = e ≢ errors.Memory → First (Applies bs) order e
+
+-- a credential is read, for which memory is taken: Short, Extensions and BadId are told before
+abbrev pub TakesMemory : List ℕ → Type 0
+TakesMemory bs =
+    IsAttested bs × (Applies bs errors.Short → ⊥)
+    × (Applies bs errors.Extensions → ⊥) × (Applies bs errors.BadId → ⊥)

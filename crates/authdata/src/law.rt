@@ -6,12 +6,14 @@ ghost use Rattle.ccbor.specs.Canon.{Canon};
 ghost use Rattle.cose.specs.Keys.{IsKey, encoded_length, item_of};
 ghost use Rattle.cose.specs.declared.key.CoseKey.{CoseKey};
 ghost use Rattle.authdata.specs.Layout.{AttestedCredential, AuthenticatorData, AuthOf};
+ghost use Rattle.authdata.specs.Flags as bits;
 ghost use Rattle.authdata.specs.Objects.{Attestation, ObjectOf};
 ghost use Rattle.authdata.specs.Refusals.{Applies, order};
 ghost use Rattle.authdata.specs.Statements.{Statement};
 ghost use Rattle.authdata.specs.declared.error.Error.{Error};
 ghost use Rattle.authdata.specs.declared.statement.AttestationType.{AttestationType};
 
+use crate::flags::{AT, ED, UP, UV};
 use cose::Verifier;
 
 /// Bytes are those of one authenticator data at most, and none of these byte lists begins
@@ -61,4 +63,10 @@ pub fn one_statement<V: Verifier>()
     ensures { (scheme : V) (o : Attestation) (key : CoseKey) (hash : List ℕ)
         (r s : Result AttestationType Error) → Statement (V.valid scheme) o key hash r
         → Statement (V.valid scheme) o key hash s → r ≡ s }
+{}
+
+/// The flags are the bits 0, 2, 6 and 7 of their byte (WebAuthn section 6.1).
+pub fn flag_bits()
+    ensures code { (UP ≡ 0x01) × (UV ≡ 0x04) × (AT ≡ 0x40) × (ED ≡ 0x80) }
+    ensures definitions { (bits.UP ≡ 0x01) × (bits.UV ≡ 0x04) × (bits.AT ≡ 0x40) × (bits.ED ≡ 0x80) }
 {}

@@ -15,12 +15,9 @@ mod writing;
 
 pub use auth::{Attested, AuthData};
 pub use error::Error;
-pub use law::{key_inside, one_object, one_reading, one_refusal, one_statement, sizes};
+pub use law::{flag_bits, key_inside, one_object, one_reading, one_refusal, one_statement, sizes};
 pub use object::AttestationObject;
 pub use reading::read;
 pub use response::{AssertionResponse, RegistrationResponse};
 pub use statement::{AttestationType, check_statement};
 pub use writing::write;
-
-#[cfg(test)]
-mod tests;

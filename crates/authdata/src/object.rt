@@ -20,7 +20,7 @@ pub struct AttestationObject {
 }
 
 impl AttestationObject {
-    ghost use Rattle.authdata.specs.Objects.{Attestation, ObjectOf, ObjectRefused, object_view};
+    ghost use Rattle.authdata.specs.Objects.{Attestation, IsMap, ObjectOf, ObjectRefused, object_view};
 
     /// The object's bytes, canonical CBOR. The object is given by value, since its parts become
     /// those of the map that is encoded; it is dropped.
@@ -32,6 +32,8 @@ impl AttestationObject {
         // It is called unfit only if it has no bytes.
         ensures unfit { IsErrOf result errors.Unfit
             → (bytes : List ℕ) → ObjectOf (object_view self) bytes → ⊥ }
+        // Of a statement that is no map it is told without taking memory.
+        ensures no_map { (IsMap (object_view self).statement → ⊥) → IsErrOf result errors.Unfit }
         ensures errors { IfErr result (λ e. (e ≡ errors.Unfit) ⊎ (e ≡ errors.Memory)) }
     {
         if self.statement.as_map().is_none() {

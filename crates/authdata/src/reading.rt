@@ -4,7 +4,7 @@ ghost use Rattle.std.specs.Prelude.{◌≡◌, ◌≢◌, ◌≤◌, ◌<◌, �
 ghost use Rattle.std.specs.Int.{w32, to_be_bytes};
 ghost use Rattle.authdata.specs.Flags.{is_set, AT};
 ghost use Rattle.authdata.specs.Layout.{AuthenticatorData, AuthOf, IsAttestedCredential, attested_bytes, auth_view, credential_bytes, credential_view};
-ghost use Rattle.authdata.specs.Refusals.{Applies, Refused, BeginsWithKey, IsIdLength, flags_in, id_len_in};
+ghost use Rattle.authdata.specs.Refusals.{Applies, Refused, BeginsWithKey, IsAttested, IsIdLength, TakesMemory, flags_in, id_len_in};
 ghost use Rattle.authdata.specs.Private.{RefusedLater};
 ghost use Rattle.authdata.specs.declared.error.Error.TheVariants as errors;
 
@@ -41,6 +41,7 @@ fn credential_at(alloc: Global, bytes: &[u8]) -> Result<(Attested, &[u8]), Error
         × (BeginsWithKey (drop (55 + id_len_in bytes.now) bytes.now) → ⊥) }
     ensures errors { IfErr result (λ e.
         (e ≡ errors.Memory) ⊎ ((e ≡ errors.BadId) ⊎ (e ≡ errors.BadKey))) }
+    ensures memory { IsErrOf result Error.Memory → IsIdLength (id_len_in bytes.now) }
 {
     let len = id_len(bytes) as usize;
     if len == 0 || 64 < len {
@@ -65,6 +66,8 @@ fn attested_at(alloc: Global, bytes: &[u8]) -> Result<(Option<Attested>, &[u8]),
     ensures good_id { IfOk result (λ x. Applies bytes.now errors.BadId → ⊥) }
     ensures good_key { IfOk result (λ x. Applies bytes.now errors.BadKey → ⊥) }
     ensures refused { IfErr result (λ e. RefusedLater bytes.now e) }
+    ensures memory { IsErrOf result Error.Memory
+        → IsAttested bytes.now × (Applies bytes.now errors.BadId → ⊥) }
 {
     if flags::is_set(bytes[32], flags::AT) {
         match credential_at(alloc, bytes) {
@@ -82,7 +85,7 @@ fn attested_at(alloc: Global, bytes: &[u8]) -> Result<(Option<Attested>, &[u8]),
 /// is set for fewer than 55 and the credential id's length; `Extensions` where `ED` is set;
 /// `BadId` for a credential id of no byte or of more than 64; `BadKey` where no canonical
 /// encoding of a key follows the id; `ExtraBytes` where bytes are left. Otherwise only `Memory`
-/// is answered.
+/// is answered, and that only where `AT` is set and none of the first three applies.
 pub fn read(alloc: Global, bytes: &[u8]) -> Result<AuthData, Error>
     ensures found { IfOk result (λ a. AuthOf (auth_view a) bytes.now) }
     // It is refused by the first refusal that applies,
@@ -90,6 +93,8 @@ pub fn read(alloc: Global, bytes: &[u8]) -> Result<AuthData, Error>
     // and only where the bytes are no authenticator data.
     ensures none { IfErr result (λ e. e ≢ errors.Memory
         → (a : AuthenticatorData) → AuthOf a bytes.now → ⊥) }
+    // Memory is wanting only for a credential whose refusal, if there is one, comes later.
+    ensures memory { IsErrOf result Error.Memory → TakesMemory bytes.now }
 {
     if is_short(bytes) {
         return Err(Error::Short);

@@ -21,6 +21,3 @@ pub use record::{ClientData, Kind};
 pub use seen::{Binding, Seen, read};
 pub use serialising::{limited_verify, serialise};
 pub use text::Text;
-
-#[cfg(test)]
-mod tests;

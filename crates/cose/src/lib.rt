@@ -14,6 +14,3 @@ pub use key::{Alg, CoseKey, NotAKey};
 pub use law::{one_key_each, sizes_of_keys};
 pub use list::ListScheme;
 pub use scheme::{Signer, Verifier};
-
-#[cfg(test)]
-mod tests;

@@ -10,3 +10,4 @@ pub mod ReplyView
 pub mod Fields
 pub mod Building
 pub mod Pieces
+pub mod StatusNumbers

@@ -24,7 +24,7 @@ mod values;
 mod writing;
 
 pub use error::Error;
-pub use law::one_rank;
+pub use law::{one_rank, status_numbers};
 pub use reading::read_request;
 pub use reply::{AssertionReply, AssertionView, CreationReply, InfoReply, Kind, Reply};
 pub use reply_reading::{read_assertion, read_reply};

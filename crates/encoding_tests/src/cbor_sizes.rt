@@ -141,15 +141,17 @@ fn is_refused(alloc: Global, bytes: &[u8]) -> bool {
 }
 
 /// Whether these are the bytes of a byte string with this content.
-fn is_byte_string(alloc: Global, bytes: &[u8], content: &[u8]) -> Result<bool, Error> {
-    let (value, len) = decode(alloc, bytes)?;
-    let view = View::check_all(bytes)?;
-    Ok(
-        value.as_bytes() == Some(content)
-            && len == bytes.len()
-            && view.as_bytes() == Some(content)
-            && is_written(alloc, &value, bytes),
-    )
+fn is_byte_string(alloc: Global, bytes: &[u8], content: &[u8]) -> bool {
+    let Ok((value, len)) = decode(alloc, bytes) else {
+        return false;
+    };
+    let Ok(view) = View::check_all(bytes) else {
+        return false;
+    };
+    value.as_bytes() == Some(content)
+        && len == bytes.len()
+        && view.as_bytes() == Some(content)
+        && is_written(alloc, &value, bytes)
 }
 
 #[test]
@@ -158,19 +160,21 @@ fn byte_strings(rt: HostRuntime) -> Result<(), Fail> {
     for &(count, first, rest) in COUNTS {
         let content = repeated(alloc, 0x61, count)?;
         let bytes = headed(alloc, first | BYTES, rest, content.as_slice())?;
-        let is_string = is_byte_string(alloc, bytes.as_slice(), content.as_slice())?;
+        let is_string = is_byte_string(alloc, bytes.as_slice(), content.as_slice());
         assert!(rt; is_string && ends_there(alloc, bytes)?, "{count}");
     }
     Ok(())
 }
 
 /// Whether these are the bytes of a text with this content.
-fn is_text(alloc: Global, bytes: &[u8], content: &[u8]) -> Result<bool, Error> {
-    let (value, len) = decode(alloc, bytes)?;
-    let Some(text) = value.as_text() else {
-        return Ok(false);
+fn is_text(alloc: Global, bytes: &[u8], content: &[u8]) -> bool {
+    let Ok((value, len)) = decode(alloc, bytes) else {
+        return false;
     };
-    Ok(text.as_bytes() == content && len == bytes.len() && is_written(alloc, &value, bytes))
+    let Some(text) = value.as_text() else {
+        return false;
+    };
+    text.as_bytes() == content && len == bytes.len() && is_written(alloc, &value, bytes)
 }
 
 #[test]
@@ -179,7 +183,7 @@ fn texts(rt: HostRuntime) -> Result<(), Fail> {
     for &(count, first, rest) in COUNTS {
         let content = repeated(alloc, 0x61, count)?;
         let bytes = headed(alloc, first | TEXT, rest, content.as_slice())?;
-        let is_string = is_text(alloc, bytes.as_slice(), content.as_slice())?;
+        let is_string = is_text(alloc, bytes.as_slice(), content.as_slice());
         assert!(rt; is_string && ends_there(alloc, bytes)?, "{count}");
     }
     Ok(())
@@ -196,17 +200,17 @@ fn are_ones(items: &[Value]) -> bool {
 }
 
 /// Whether these are the bytes of an array of so many ones.
-fn is_array(alloc: Global, bytes: &[u8], count: usize) -> Result<bool, Error> {
-    let (value, len) = decode(alloc, bytes)?;
-    let Some(items) = value.as_array() else {
-        return Ok(false);
+fn is_array(alloc: Global, bytes: &[u8], count: usize) -> bool {
+    let Ok((value, len)) = decode(alloc, bytes) else {
+        return false;
     };
-    Ok(
-        items.len() == count
-            && are_ones(items)
-            && len == bytes.len()
-            && is_written(alloc, &value, bytes),
-    )
+    let Some(items) = value.as_array() else {
+        return false;
+    };
+    items.len() == count
+        && are_ones(items)
+        && len == bytes.len()
+        && is_written(alloc, &value, bytes)
 }
 
 #[test]
@@ -215,7 +219,7 @@ fn arrays(rt: HostRuntime) -> Result<(), Fail> {
     for &(count, first, rest) in COUNTS {
         let items = repeated(alloc, 1, count)?;
         let bytes = headed(alloc, first | ARRAY, rest, items.as_slice())?;
-        let is_ones = is_array(alloc, bytes.as_slice(), count)?;
+        let is_ones = is_array(alloc, bytes.as_slice(), count);
         assert!(rt; is_ones && ends_there(alloc, bytes)?, "{count}");
     }
     Ok(())
@@ -257,18 +261,26 @@ fn are_counted(pairs: &[(Value, Value)]) -> bool {
 }
 
 /// Whether these are the bytes of a map of so many pairs.
-fn is_map(alloc: Global, bytes: &[u8], count: usize) -> Result<bool, Error> {
-    let (value, len) = decode(alloc, bytes)?;
-    let Some(pairs) = value.as_map() else {
-        return Ok(false);
+fn is_map(alloc: Global, bytes: &[u8], count: usize) -> bool {
+    let Ok((value, len)) = decode(alloc, bytes) else {
+        return false;
     };
-    Ok(
-        pairs.len() == count
-            && are_counted(pairs)
-            && len == bytes.len()
-            && View::check_all(bytes)?.as_map().is_some()
-            && is_written(alloc, &value, bytes),
-    )
+    let Some(pairs) = value.as_map() else {
+        return false;
+    };
+    pairs.len() == count
+        && are_counted(pairs)
+        && len == bytes.len()
+        && is_viewed_map(bytes)
+        && is_written(alloc, &value, bytes)
+}
+
+/// Whether a view of the bytes is a map.
+fn is_viewed_map(bytes: &[u8]) -> bool {
+    match View::check_all(bytes) {
+        Ok(view) => view.as_map().is_some(),
+        Err(_) => false,
+    }
 }
 
 #[test]
@@ -276,7 +288,7 @@ fn maps(rt: HostRuntime) -> Result<(), Fail> {
     let alloc = rt.alloc();
     for &(count, first, rest) in COUNTS {
         let bytes = counted_map(alloc, first, rest, count)?;
-        let is_counted = is_map(alloc, bytes.as_slice(), count)?;
+        let is_counted = is_map(alloc, bytes.as_slice(), count);
         assert!(rt; is_counted && ends_there(alloc, bytes)?, "{count}");
     }
     Ok(())

@@ -1,3 +1,4 @@
 pub mod Packets
 pub mod Frames
 pub mod Pieces
+pub mod Numbers

@@ -3,8 +3,10 @@
 
 pub mod ctaphid;
 mod frames;
+mod law;
 
 pub use frames::{Frames, TooLong, frame, one_frame_list, packet_at, packet_count};
+pub use law::protocol_numbers;
 
 /// A CTAPHID packet: 64 bytes, as one HID report carries them.
 #[derive(Clone, Copy, PartialEq, Eq, Debug)]

@@ -1,8 +1,9 @@
-use Rattle.std.proofs.Common.{◌≡◌, ℕ, ◌+◌, ◌<◌, ◌≤◌, inl, inr, List, [], ◌∷◌, length, sym, ◌∙◌}
+use Rattle.std.proofs.Common.{◌≡◌, ℕ, ◌+◌, ◌-◌, ◌<◌, ◌≤◌, inl, inr, List, [], ◌∷◌, length, sym, ◌∙◌, arith, subst}
 use Rattle.std.specs.Prelude.{Option, None, Some, MatchOption, slice_get}
 use Rattle.std.proofs.lemmas.Bool.{cases_lt}
+use Rattle.std.proofs.lemmas.List.FromFn.{length-map-range_with_len}
 use Rattle.hidframe.specs.declared.Packet.{Packet}
-use Rattle.hidframe.specs.Pieces.{items_from, packet_count}
+use Rattle.hidframe.specs.Pieces.{item, items_from, packet_count}
 use Rattle.hidframe.proofs.Items.{items-more, items-none, items_at}
 
 -- nothing is left from packet n on exactly if there are not more packets
@@ -24,3 +25,10 @@ takes_one c cmd m n r h e = both r (items_at c cmd m n r e)
         → MatchOption r ((items_from c cmd m n ≡ []) × (items_from c cmd m (n + 1) ≡ [])) (λ p. items_from c cmd m n ≡ p ∷ items_from c cmd m (n + 1))
     both None k = let x = sym (items-more c cmd m n h) ∙ k in absurd (cc)
     both (Some p) k = k
+
+-- at most 129 packets are left
+pub few_left : (c cmd : ℕ) (m : List ℕ) (n : ℕ) → length m ≤ 7609 → length (items_from c cmd m n) ≤ 129
+unfolding items_from
+few_left c cmd m n room =
+    let size : length (items_from c cmd m n) ≡ packet_count (length m) - n = length-map-range_with_len (item c cmd m) n (packet_count (length m) - n) in
+    omega arith

@@ -13,3 +13,4 @@ pub mod Plain
 pub mod Steps
 pub mod Calls
 pub mod Hearing
+pub mod Telling

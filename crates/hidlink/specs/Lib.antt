@@ -7,3 +7,4 @@ pub mod Ranks
 pub mod History
 pub mod Machine
 pub mod Opens
+pub mod Told

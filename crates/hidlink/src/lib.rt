@@ -10,4 +10,4 @@ mod transaction;
 pub use arbitration::MAX_CHANNELS;
 pub use collection::{Collector, DeadKind, Ended, Outcome, Received, one_outcome, receive};
 pub use opening::{Opener, Opening};
-pub use transaction::{Device, Refusal, Step, one_history};
+pub use transaction::{Device, Refusal, Step, one_history, one_step};

@@ -148,7 +148,8 @@ impl Outbox {
     }
 
     pub fn next(&mut self) -> Option<Packet>
-        ensures { MatchOption result ((self.old ≡ []) × (self.new ≡ [])) (λ p. self.old ≡ p ∷ self.new) }
+        ensures most { length self.old ≤ 129 }
+        ensures gives { MatchOption result ((self.old ≡ []) × (self.new ≡ [])) (λ p. self.old ≡ p ∷ self.new) }
     {
         if self.next >= packet_count(self.len) {
             return None;
@@ -159,7 +160,8 @@ impl Outbox {
     }
 
     pub fn is_drained(&self) -> bool
-        ensures { IsTrue result ↔ (self.now ≡ []) }
+        ensures drained { IsTrue result ↔ (self.now ≡ []) }
+        ensures most { length self.now ≤ 129 }
     {
         self.next >= packet_count(self.len)
     }

@@ -2,10 +2,13 @@
 //! 11.2.5 and 11.2.9.
 
 ghost use Rattle.std.specs.Prelude.{◌≡◌, ◌⊎◌, ◌≤◌, ◌<◌, ◌+◌, ◌++◌, ◌↔◌, [], ◌∷◌, List, ℕ, Bool, length, take, IfOk, IsErrOf, IsTrue, OnErr, OnOk, Some};
-ghost use Rattle.hidframe.specs.Packets.{Continuation, Initial, fields, IsPacket};
+ghost use Rattle.hidframe.specs.Packets.{Continuation, Fields, Initial, fields, IsPacket};
+ghost use Rattle.hidlink.specs.declared.transaction.Step.{Step};
+ghost use Rattle.hidlink.specs.Told.{Tells};
+ghost use Rattle.hidlink.specs.declared.arbitration.TheConstants.{MAX_CHANNELS};
 ghost use Rattle.hidlink.specs.History.{Answered, Call, Expired, Kept, Leaves, Reads, Took};
 ghost use Rattle.std.specs.Prelude.{◌*◌, Err};
-ghost use Rattle.std.specs.Bool.{OnFalse};
+ghost use Rattle.std.specs.Bool.{OnFalse, OnTrue};
 ghost use Rattle.std.specs.Int.{w32, to_be_bytes};
 ghost use Rattle.hidlink.specs.Machine.{Does, MayChoose, PhaseFits, came, choices, chosen_effect, chosen_response, effect, packet_effect, state_of};
 ghost use Rattle.hidlink.specs.Ranks.{Idle, IsReceiving, IsWorking, State, error, expiry, init_response, is_busy, is_receiving_on, is_working_on, on_receipt, on_working, packets_of, request_payload, response, working_channel};
@@ -189,7 +192,8 @@ impl Device {
 
     /// How many channels it handed out: 1, 2, 3 and so on up to this number, at most 65,535.
     pub fn channels(&self) -> u32
-        ensures { result ≡ self.now.channels }
+        ensures out { result ≡ self.now.channels }
+        ensures most { result ≤ MAX_CHANNELS }
     {
         self.channels
     }
@@ -208,14 +212,16 @@ impl Device {
     /// works on one.
     pub fn request(&self) -> &[u8]
         requires { IsWorking self.now.state }
-        ensures { request_payload self.now.state ≡ Some result.now }
+        ensures payload { request_payload self.now.state ≡ Some result.now }
+        ensures size { length result.now ≤ MAX_PAYLOAD_SIZE }
     {
         self.inbox.bytes()
     }
 
-    /// Whether no packet is left for [`Device::next_out`].
+    /// Whether no packet is left for [`Device::next_out`]; at most 129 are.
     pub fn drained(&self) -> bool
-        ensures { IsTrue result ↔ (self.now.left ≡ []) }
+        ensures drained { IsTrue result ↔ (self.now.left ≡ []) }
+        ensures most { length self.now.left ≤ 129 }
     {
         self.outbox.is_drained()
     }
@@ -223,6 +229,7 @@ impl Device {
     /// The next packet to send; `None` where none is left. All else stays as it is.
     pub fn next_out(&mut self) -> Option<Packet>
         ensures gives { MatchOption result ((self.old.left ≡ []) × (self.new.left ≡ [])) (λ p. self.old.left ≡ p ∷ self.new.left) }
+        ensures most { length self.old.left ≤ 129 }
         ensures rest { self.new ≡ record self.old { left = self.new.left } }
     {
         self.outbox.next()
@@ -234,6 +241,8 @@ impl Device {
         requires { self.old.left ≡ [] }
         ensures step { result ≡ (response self.old.channels self.old.state (fields packet.now)).step }
         ensures sent { self.new.left ≡ packets_of (response self.old.channels self.old.state (fields packet.now)).sent }
+        ensures told { (h : List Call) → Leaves h self.old.channels self.old.state
+            → Tells self.old.state (fields packet.now) self.new.state result }
         ensures history { (h : List Call) → Leaves h self.old.channels self.old.state
             → Leaves (h ++ Took packet.now ∷ []) self.new.channels self.new.state }
     {
@@ -404,6 +413,7 @@ impl Device {
     pub fn answer(&mut self, payload: &[u8]) -> Result<(), Refusal>
         requires { self.old.left ≡ [] }
         ensures sent { OnOk result (self.new.left ≡ packets_of (on_working self.old.state CTAPHID_CBOR payload.now)) }
+        ensures idle { OnOk result (self.new ≡ record self.old { state = Idle; left = self.new.left }) }
         ensures not_working { IsErrOf result Refusal.NotWorking ↔ (IsWorking self.old.state → ⊥) }
         ensures too_long { IsErrOf result Refusal.TooLong ↔ (IsWorking self.old.state × (MAX_PAYLOAD_SIZE < length payload.now)) }
         ensures refused { OnErr result (self.new ≡ self.old) }
@@ -449,6 +459,7 @@ impl Device {
         requires { self.old.left ≡ [] }
         ensures expired { IsTrue result ↔ IsReceiving self.old.state }
         ensures sent { self.new.left ≡ packets_of (expiry self.old.state) }
+        ensures idle { OnTrue result (self.new ≡ record self.old { state = Idle; left = self.new.left }) }
         ensures same { OnFalse result (self.new ≡ self.old) }
         ensures history { (h : List Call) → Leaves h self.old.channels self.old.state
             → Leaves (h ++ Expired ∷ []) self.new.channels self.new.state }
@@ -461,6 +472,11 @@ impl Device {
         true
     }
 }
+
+/// The law of a packet's step: of what a device did before and after a packet one step tells.
+pub fn one_step()
+    ensures { (s t : State) (f : Fields) (x y : Step) → Tells s f t x → Tells s f t y → x ≡ y }
+{}
 
 /// The laws of a device's history. Each history has one reading into parts, and leaves a device with
 /// one number of channels in one state.

@@ -18,12 +18,19 @@ pub enum Doing {
     Working,
 }
 
+/// The packets that make an idle device receive or work on channel 1, and no packet.
+const RECEIVES: &[u8] = &[0, 0, 0, 1, 0x90, 0, 70];
+
+const WORKS: &[u8] = &[0, 0, 0, 1, 0x90, 0, 1, 4];
+
+const NONE: &[u8] = &[];
+
 /// The packet that makes an idle device do this on channel 1, or no bytes.
 fn beginning(doing: Doing) -> &'static [u8] {
     match doing {
-        Doing::Idle => &[],
-        Doing::Receiving => &[0, 0, 0, 1, 0x90, 0, 70],
-        Doing::Working => &[0, 0, 0, 1, 0x90, 0, 1, 4],
+        Doing::Idle => NONE,
+        Doing::Receiving => RECEIVES,
+        Doing::Working => WORKS,
     }
 }
 

@@ -133,6 +133,13 @@ fn requests_and_answers(rt: HostRuntime) -> Result<(), Fail> {
     Ok(())
 }
 
+/// What a device sends of its work on channel 1, and at the end of a message there.
+const PROCESSING: &[u8] = &[0, 0, 0, 1, 0xbb, 0, 1, 1];
+
+const UPNEEDED: &[u8] = &[0, 0, 0, 1, 0xbb, 0, 1, 2];
+
+const TIMEOUT: &[u8] = &[0, 0, 0, 1, 0xbf, 0, 1, 5];
+
 /// The packet that follows a call which wants nothing to be left, `wanted` being its front.
 fn next_is(device: &mut Device, wanted: &[u8]) -> bool {
     device.next_out() == packet_or_none(wanted) && device.next_out().is_none() && device.drained()
@@ -161,8 +168,8 @@ fn is_kept(device: &mut Device, status: u8, sent: &[u8]) -> bool
 /// Whether a device that works on channel 1 sends keepalives, has nothing to expire, and refuses 7,610
 /// bytes.
 fn is_working(device: &mut Device) -> bool {
-    is_kept(device, 1, &[0, 0, 0, 1, 0xbb, 0, 1, 1])
-        && is_kept(device, 2, &[0, 0, 0, 1, 0xbb, 0, 1, 2])
+    is_kept(device, 1, PROCESSING)
+        && is_kept(device, 2, UPNEEDED)
         && device.drained()
         && !device.expire()
         && device.drained()
@@ -177,7 +184,7 @@ fn is_expiring(device: &mut Device) -> bool {
         && answered(device, 1) == Err(Refusal::NotWorking)
         && device.drained()
         && device.expire()
-        && next_is(device, &[0, 0, 0, 1, 0xbf, 0, 1, 5])
+        && next_is(device, TIMEOUT)
         && is_idle(device)
 }
 
@@ -202,10 +209,20 @@ const LAST: &[u8] = &[
     0x0c,
 ];
 
+/// An ERROR 7f on the broadcast channel.
+const NO_MORE: &[u8] = &[0xff, 0xff, 0xff, 0xff, 0xbf, 0, 1, 0x7f];
+
 /// Whether a device answers an INIT on the broadcast channel by this, and then has so many channels.
 fn is_assigned(device: &mut Device, sent: &[u8], channels: u32) -> bool {
     take(device, &packet(INIT)) == (Step::Quiet, packet_or_none(sent))
         && device.channels() == channels
+}
+
+/// Gives a device 65,533 times an INIT on the broadcast channel.
+fn assign_more(device: &mut Device) {
+    for _ in 1..65_534 {
+        take(device, &packet(INIT));
+    }
 }
 
 #[test]
@@ -213,12 +230,9 @@ fn channels(rt: HostRuntime) -> Result<(), Fail> {
     let mut device = Device::new(rt.alloc())?;
     assert_eq!(rt; MAX_CHANNELS, 65_535);
     assert!(rt; is_assigned(&mut device, FIRST, 1));
-    for _ in 1..65_534 {
-        take(&mut device, &packet(INIT));
-    }
+    assign_more(&mut device);
     assert!(rt; is_assigned(&mut device, LAST, 65_535));
-    let refused: &[u8] = &[0xff, 0xff, 0xff, 0xff, 0xbf, 0, 1, 0x7f];
-    assert!(rt; is_assigned(&mut device, refused, 65_535));
+    assert!(rt; is_assigned(&mut device, NO_MORE, 65_535));
     Ok(())
 }
 

@@ -221,11 +221,7 @@ fn is_next_row(alloc: Global, a: &Assertion, pieces: &[Piece]) -> Result<bool, A
     Ok(read && is_written(alloc, reply, bytes.as_slice()))
 }
 
-fn is_information_row(
-    alloc: Global,
-    i: &Info,
-    pieces: &[Piece],
-) -> Result<bool, AllocError> {
+fn is_information_row(alloc: Global, i: &Info, pieces: &[Piece]) -> Result<bool, AllocError> {
     let bytes = joined(alloc, pieces)?;
     let read = match read_reply(alloc, Kind::GetInfo, bytes.as_slice()) {
         Ok(Reply::GetInfo(found)) => is_information(alloc, &found, i)?,

@@ -8,15 +8,16 @@ use Rattle.hidlink.proofs.transaction.Device.answer.Goals as goal
 pub returns-in_default : goal.returns-in_default
 returns-in_default c =
     let P : State → Type 0 = λ s. IsWorking s → ⊥ in
-    let idle : IsWorking c.args.self.now.state → ⊥ =
+    let workless : IsWorking c.args.self.now.state → ⊥ =
     subst P (ap Shown.state c.self.view_is) (not_working c.self.inside.phase c.self.inside.inbox c.in_default.not-Working) in
     record {
       sent = tt;
-      not_working = (λ e. idle, λ e. refl);
-      too_long = (λ e. absurd (cc), λ k. absurd (idle k.0));
+      idle = tt;
+      not_working = (λ e. workless, λ e. refl);
+      too_long = (λ e. absurd (cc), λ k. absurd (workless k.0));
       refused = refl;
       history = λ h l. leaves_to h c.args.self.now.channels c.args.self.now.state (Answered c.args.payload.now) c.args.self.now.channels c.args.self.now.state
-          (unanswered c.args.self.now.channels c.args.self.now.state c.args.payload.now idle) l;
+          (unanswered c.args.self.now.channels c.args.self.now.state c.args.payload.now workless) l;
     }
 
 pub returns-then-payload-gt-MAX_PAYLOAD_SIZE-clause-history : goal.returns-then-payload-gt-MAX_PAYLOAD_SIZE-clause-history

@@ -8,14 +8,15 @@ use Rattle.hidlink.proofs.transaction.Device.expire.Goals as goal
 pub returns-in_default : goal.returns-in_default
 returns-in_default c =
     let P : State → Type 0 = λ s. IsReceiving s → ⊥ in
-    let idle : IsReceiving c.args.self.now.state → ⊥ =
+    let unopened : IsReceiving c.args.self.now.state → ⊥ =
     subst P (ap Shown.state c.self.view_is) (not_receiving c.self.inside.phase c.self.inside.inbox c.in_default.not-Receiving) in
     record {
-      expired = (λ e. absurd (cc), λ r. absurd (idle r));
-      sent = c.requires ∙ sym (ap packets_of (no_expiry c.args.self.now.state idle));
+      expired = (λ e. absurd (cc), λ r. absurd (unopened r));
+      sent = c.requires ∙ sym (ap packets_of (no_expiry c.args.self.now.state unopened));
+      idle = tt;
       same = refl;
       history = λ h l. leaves_to h c.args.self.now.channels c.args.self.now.state Expired c.args.self.now.channels c.args.self.now.state
-          (unexpired c.args.self.now.channels c.args.self.now.state idle) l;
+          (unexpired c.args.self.now.channels c.args.self.now.state unopened) l;
     }
 
 pub returns-clause-history : goal.returns-clause-history
