@@ -1,7 +1,7 @@
 -- What the bytes of a view show.
-use Rattle.std.proofs.Common.{◌≡◌, ◌≢◌, ℕ, zero, suc, ◌-◌, ◌<◌, Bool, true, false, eqb, List, [], ◌∷◌, ◌++◌, length, take, Option, Some, None, refl, sym, ap, subst, ◌∙◌, append-nil, arith}
+use Rattle.std.proofs.Common.{◌≡◌, ◌≢◌, ℕ, zero, suc, ◌-◌, ◌<◌, ◌≤◌, drop, Bool, true, false, eqb, List, [], ◌∷◌, ◌++◌, length, take, Option, Some, None, refl, sym, ap, subst, ◌∙◌, append-nil, arith}
 use Rattle.std.proofs.lemmas.Bool.Decides.{nat_tests}
-use Rattle.std.proofs.lemmas.List.{take_at, length-append}
+use Rattle.std.proofs.lemmas.List.{take_at, take-append-drop, length-append, length-drop}
 use Rattle.ccbor.specs.Item.{Item, uint, nint, bytes, text, array, map, boolean, Items, no_items, item, Pairs, no_pairs, pair}
 use Rattle.ccbor.specs.Canon.{spelling, spelling_of_pairs, count_of_items, count_of_pairs, Fits, ItemsFit, PairsFit, Canon}
 use Rattle.ccbor.specs.Access.{is_same_key, split_key}
@@ -20,6 +20,13 @@ shown_is x bs c = ap (λ (r : Option (Item × List ℕ)). read_or (uint 0) r) (a
 
 pub shows : (x : Item) (bs : List ℕ) → Canon x bs → Canon (shown bs) bs
 shows x bs c = subst (λ (y : Item). Canon y bs) (sym (shown_is x bs c)) c
+
+-- what is built of a view's bytes is the value that they show; they are refused only for want of memory
+pub built : (x : Item × List ℕ) (bs : List ℕ) → item_at 4 bs ≡ Some x → x.0 ≡ shown bs
+built x bs read = sym (ap (λ (r : Option (Item × List ℕ)). read_or (uint 0) r) read)
+
+pub readable : {X : Type 0} (bs : List ℕ) → Canon (shown bs) bs → item_at 4 bs ≡ None → X
+readable bs c none = let read = ap (item_at 4) (append-nil bs) ∙ none in let found = front_read (shown bs) bs [] c in absurd cc
 
 headed : (x : Item) (d : ℕ) → Fits d x → head_at (spelling x) ≡ Some ((major_in x, argument_in x), body_in x)
 headed (uint n) d fits = ap head_at (sym (append-nil (spelling (uint n)))) ∙ head_again 0 n [] fits
@@ -127,6 +134,16 @@ module _ (v : Item) (bs a rest : List ℕ) (c : Canon v a) (e : bs ≡ a ++ rest
       let nil : rest ≡ [] = no_bytes rest none in
       let same : a ≡ bs = sym (e ∙ ap (λ (r : List ℕ). a ++ r) nil ∙ append-nil a) in
       (same, subst (λ (l : List ℕ). Canon (shown a) l) same (shows v a c))
+
+  pub front_found : (length a ≤ length bs) × (a ≡ take (length a) bs) × Canon (shown a) (take (length a) bs)
+  front_found =
+      let cut : a ≡ take (length a) bs = sym (ap (take (length a)) e ∙ take_at a rest (length a) refl) in
+      (omega (arith, ap length e, length-append a rest), cut, subst (λ (l : List ℕ). Canon (shown a) l) cut (shows v a c))
+
+  pub front_only : (w : Item) (n : ℕ) → n ≤ length bs → Canon w (take n bs) → (w ≡ shown a) × (n ≡ length a)
+  front_only w n le d =
+      let both = one_front v w a (take n bs) rest (drop n bs) bs c d e (sym (take-append-drop n bs)) in
+      (sym both.0 ∙ sym (shown_is v a c), omega (arith, ap length both.1, length-drop n bs, ap length e, length-append a rest))
 
   pub no_whole : length rest ≢ 0 → (w : Item) → Canon w bs → ⊥
   no_whole some w d = some (ap length (one_front v w a bs rest [] bs c d e (sym (append-nil bs))).1)

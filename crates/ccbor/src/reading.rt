@@ -11,12 +11,13 @@ use crate::error::Error;
 use crate::head::{ARRAY, MAP, head_at};
 use crate::leaf::{key_at, leaf_at};
 use crate::order::before;
-use crate::value::{MAX_DEPTH, Value};
+use crate::value::Value;
+use crate::view::View;
 use std::alloc::Global;
 
 /// The value at the front with this many levels of arrays and maps left, and what follows it.
 #[cycle(reading)]
-fn item_at(alloc: Global, depth: u8, bytes: &[u8]) -> Result<(Value, &[u8]), Error>
+pub fn item_at(alloc: Global, depth: u8, bytes: &[u8]) -> Result<(Value, &[u8]), Error>
     ensures { Gives (λ x. (view x.0, x.1.now)) result (item_at depth bytes.now) }
 {
     let (head, rest) = head_at(bytes)?;
@@ -90,8 +91,8 @@ fn pairs_at(
 /// them is not looked at.
 ///
 /// Refused as [`Error::NotCanonical`] where no front of the input is a canonical encoding (CTAP 2.1,
-/// "Message Encoding"). Otherwise it is refused only for want of memory, as [`Error::Memory`].
-/// The memory that is taken grows with the bytes that are read, and not with a count that they claim.
+/// "Message Encoding"), before any memory is taken. Otherwise it is refused only for want of memory,
+/// as [`Error::Memory`]. The memory that is taken grows with the bytes that are read.
 pub fn decode(alloc: Global, bytes: &[u8]) -> Result<(Value, usize), Error>
     // The value is encoded by these bytes,
     ensures found { IfOk result (λ x.
@@ -102,17 +103,21 @@ pub fn decode(alloc: Global, bytes: &[u8]) -> Result<(Value, usize), Error>
     // and the input is refused only if no value is.
     ensures none { IsErrOf result errors.NotCanonical
         → (v : Item) (n : ℕ) → Canon v (take n bytes.now) → ⊥ }
+    // Memory is wanting only where there is a value to take it.
+    ensures memory { IsErrOf result errors.Memory
+        → (v : Item) × (n : ℕ) × Canon v (take n bytes.now) }
     ensures errors { IfErr result (λ e. (e ≡ errors.NotCanonical) ⊎ (e ≡ errors.Memory)) }
 {
-    let (value, rest) = item_at(alloc, MAX_DEPTH, bytes)?;
-    Ok((value, bytes.len() - rest.len()))
+    let (view, len) = View::check(bytes)?;
+    let value = view.to_value(alloc)?;
+    Ok((value, len))
 }
 
 /// The value that the whole input encodes.
 ///
 /// Refused as [`Error::NotCanonical`] where no front of the input is a canonical encoding, and as
-/// [`Error::Trailing`] where a front is and bytes follow it. Otherwise it is refused only for want
-/// of memory, as [`Error::Memory`].
+/// [`Error::Trailing`] where a front is and bytes follow it, before any memory is taken. Otherwise it
+/// is refused only for want of memory, as [`Error::Memory`].
 pub fn decode_all(alloc: Global, bytes: &[u8]) -> Result<Value, Error>
     // The whole input encodes the value and no other,
     ensures found { IfOk result (λ x. Canon (view x) bytes.now) }
@@ -124,12 +129,11 @@ pub fn decode_all(alloc: Global, bytes: &[u8]) -> Result<Value, Error>
     // or no front of the input encodes a value.
     ensures none { IsErrOf result errors.NotCanonical
         → (v : Item) (n : ℕ) → Canon v (take n bytes.now) → ⊥ }
+    // Memory is wanting only where there is a value to take it.
+    ensures memory { IsErrOf result errors.Memory → (v : Item) × Canon v bytes.now }
     ensures errors { IfErr result (λ e.
         (e ≡ errors.NotCanonical) ⊎ (e ≡ errors.Trailing) ⊎ (e ≡ errors.Memory)) }
 {
-    let (value, len) = decode(alloc, bytes)?;
-    if len < bytes.len() {
-        return Err(Error::Trailing);
-    }
-    Ok(value)
+    let view = View::check_all(bytes)?;
+    Ok(view.to_value(alloc)?)
 }

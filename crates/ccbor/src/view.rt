@@ -5,12 +5,15 @@ ghost use Rattle.ccbor.specs.declared.error.Error.TheVariants as errors;
 ghost use Rattle.ccbor.specs.Item.{Item, Pairs, no_pairs, pair};
 ghost use Rattle.ccbor.specs.Canon.{Canon};
 ghost use Rattle.ccbor.specs.Access.{uint_in, bytes_in, pairs_in, key_item, is_same_key, split_key, is_end};
+ghost use Rattle.ccbor.specs.View.{view};
 ghost use Rattle.ccbor.specs.Viewing.{ArePairs, parts_in, shown, shown_pairs};
 
 use crate::error::Error;
 use crate::head::{BYTES, MAP, NEGATIVE, TEXT, UNSIGNED, head_at};
 use crate::passing::front;
-use crate::value::Key;
+use crate::reading::item_at;
+use crate::value::{Key, MAX_DEPTH, Value};
+use std::alloc::{AllocError, Global};
 use std::marker::Model;
 
 /// A value, as the bytes of its canonical encoding show it. A contract sees these bytes.
@@ -94,6 +97,28 @@ fn first_pair(bytes: &[u8]) -> Option<(&[u8], &[u8], &[u8])>
 }
 
 impl<'a> View<'a> {
+    /// The value at the front of the input, and how many bytes encode it (at least 1). What follows
+    /// them is not looked at.
+    ///
+    /// Refused as [`Error::NotCanonical`] where no front of the input is a canonical encoding (CTAP
+    /// 2.1, "Message Encoding").
+    pub fn check(bytes: &'a [u8]) -> Result<(View<'a>, usize), Error>
+        // The value is encoded by these bytes,
+        ensures found { IfOk result (λ x. (x.1 ≤ length bytes.now) × (x.0 ≡ take x.1 bytes.now)
+            × Canon (shown x.0) (take x.1 bytes.now)) }
+        // no other value is encoded by a front of the input,
+        ensures only { IfOk result (λ x. (v : Item) (n : ℕ) → n ≤ length bytes.now
+            → Canon v (take n bytes.now) → (v ≡ shown x.0) × (n ≡ x.1)) }
+        // and the input is refused only if no value is.
+        ensures none { IfErr result (λ _. (v : Item) (n : ℕ) → Canon v (take n bytes.now) → ⊥) }
+        ensures errors { IfErr result (λ e. e ≡ errors.NotCanonical) }
+    {
+        let Some((value, _)) = front(bytes) else {
+            return Err(Error::NotCanonical);
+        };
+        Ok((View { bytes: value }, value.len()))
+    }
+
     /// The value that the whole input encodes.
     ///
     /// Refused as [`Error::NotCanonical`] where no front of the input is a canonical encoding (CTAP
@@ -125,6 +150,19 @@ impl<'a> View<'a> {
         ensures shown { Canon (shown self.now) result.now }
     {
         self.bytes
+    }
+
+    /// The value, copied out.
+    pub fn to_value(&self, alloc: Global) -> Result<Value, AllocError>
+        ensures { IfOk result (λ x. view x ≡ shown self.now) }
+    {
+        match item_at(alloc, MAX_DEPTH, self.bytes) {
+            Ok((value, _)) => Ok(value),
+            Err(Error::Memory) => Err(AllocError),
+            Err(Error::NotCanonical) => unreachable!(),
+            Err(Error::Unfit) => unreachable!(),
+            Err(Error::Trailing) => unreachable!(),
+        }
     }
 
     /// The number n, if this is an unsigned number.

@@ -1,3 +1,4 @@
 pub mod Replies
 pub mod Verdicts
 pub mod Lists
+pub mod OneVerdict

@@ -3,8 +3,10 @@
 #![tactic(auto)]
 
 mod error;
+mod law;
 mod reply;
 mod sign_in;
 
 pub use error::Error;
+pub use law::one_verdict;
 pub use sign_in::{Accepted, sign_in_hash};

@@ -11,7 +11,8 @@ use Rattle.ctapmsg.specs.Status.{IsRequest, Refused}
 use Rattle.ctapmsg.specs.declared.error.Error.{Error}
 use Rattle.ctapmsg.specs.declared.request.GetAssertion.{GetAssertion}
 use Rattle.ctapmsg.proofs.AssertionRead.{assertion_complete, assertion_again}
-use Rattle.ctapmsg.proofs.Statuses.{same_item, clean, only_memory}
+use Rattle.ctapmsg.proofs.OneRank.{same_item}
+use Rattle.ctapmsg.proofs.Statuses.{clean, only_memory}
 
 pub one_request : (q r : AssertionRequest) (x y : Option Pairs) → assertion_item q x ≡ assertion_item r y → q ≡ r
 one_request q r x y e = some_is q r (sym (assertion_again q x) ∙ ap assertion_at e ∙ assertion_again r y)

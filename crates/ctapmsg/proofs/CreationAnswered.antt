@@ -11,7 +11,8 @@ use Rattle.ctapmsg.specs.Status.{IsRequest, Refused}
 use Rattle.ctapmsg.specs.declared.error.Error.{Error}
 use Rattle.ctapmsg.specs.declared.request.MakeCredential.{MakeCredential}
 use Rattle.ctapmsg.proofs.CreationRead.{creation_complete, creation_again}
-use Rattle.ctapmsg.proofs.Statuses.{same_item, clean, only_memory}
+use Rattle.ctapmsg.proofs.OneRank.{same_item}
+use Rattle.ctapmsg.proofs.Statuses.{clean, only_memory}
 
 pub one_request : (q r : CreationRequest) (x y : Option Pairs) → creation_item q x ≡ creation_item r y → q ≡ r
 one_request q r x y e = some_is q r (sym (creation_again q x) ∙ ap creation_at e ∙ creation_again r y)

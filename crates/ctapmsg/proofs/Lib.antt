@@ -6,6 +6,7 @@ pub mod Complete
 pub mod EntitiesRead
 pub mod CreationRead
 pub mod AssertionRead
+pub mod OneRank
 pub mod Statuses
 pub mod CreationAnswered
 pub mod AssertionAnswered
@@ -15,4 +16,3 @@ pub mod AssertionTaken
 pub mod RepliesRead
 pub mod RepliesAnswered
 pub mod RepliesUnwritten
-pub mod OneRank

@@ -18,7 +18,7 @@ use Rattle.ctapmsg.specs.declared.reply.Kind.{Kind}
 use Rattle.ctapmsg.specs.declared.reply.Kind.TheVariants as kinds
 use Rattle.ctapmsg.proofs.AssertionTaken.{assertion_takes, assertion_clean, next_clean, assertion_items}
 use Rattle.ctapmsg.proofs.RepliesRead.{reads_creation_reply, creation_reply_again, reads_assertion_reply, next_complete, reads_info, info_again}
-use Rattle.ctapmsg.proofs.Statuses.{same_item}
+use Rattle.ctapmsg.proofs.OneRank.{same_item}
 
 -- ---- the members of a makeCredential reply
 

@@ -1,19 +1,17 @@
 -- The rank of a fault is one of five, and what a request's bytes are answered by.
-use Rattle.std.proofs.Common.{◌≡◌, ◌≢◌, ◌==◌, ◌||◌, ◌&&◌, nat_lt, nat_le, is_some, cond, rules, ℕ, zero, suc, ◌≤◌, Bool, true, false, min, List, [], ◌∷◌, Option, Some, None, refl, sym, ap, ◌∙◌, arith}
+use Rattle.std.proofs.Common.{◌≡◌, ◌<◌, ◌≢◌, ◌==◌, ◌||◌, ◌&&◌, nat_lt, nat_le, is_some, cond, rules, ℕ, zero, suc, ◌≤◌, Bool, true, false, min, List, ◌∷◌, Option, Some, None, refl, sym, ap, ◌∙◌, arith}
 use Rattle.ccbor.specs.Item.{Item, text, Items, no_items, item, Pairs}
 use Rattle.ccbor.specs.Canon.{Canon}
 use Rattle.ccbor.specs.Access.{member, uint_in, nint_in, bytes_in, text_in, bool_in, pairs_in, items_in, is_same_key}
-use Rattle.ccbor.proofs.Decoding.{one_reading}
 use Rattle.ctapmsg.specs.Schema.{Holds, a_number, some_bytes, a_text, a_truth, any_map, that_text, unsigned, truths, list_of, record_of, not_empty, sized, Members, no_more, listed, clean_if, within, size_of, all_truths, all_keys, is_listed, unlisted, rank_in, rank_of_items, rank_of_members, member_rank}
 use Rattle.ctapmsg.specs.Requests.{map_of, creation_members, assertion_members}
 use Rattle.ctapmsg.specs.Fields.{Fails, map_status}
-use Rattle.ctapmsg.specs.Status.{Rank, unknown_command, bytes_behind, not_canonical, another_kind, unlisted_key, missing_member, invalid_size, over_limit, status_of, has_map, has_none, Applies, NoStatus, Refused}
+use Rattle.ctapmsg.specs.Status.{Rank, another_kind, unlisted_key, missing_member, invalid_size, over_limit, status_of, ranks, has_map, has_none, Fault, Applies, NoStatus, Refused}
 use Rattle.ctapmsg.specs.declared.error.Error.{Error}
 use Rattle.ctapmsg.specs.declared.error.Error.TheVariants as errors
+use Rattle.first_line.specs.Lines.{First}
 use Rattle.ctapmsg.proofs.Low.{rank_of_members_low}
-
-pub same_item : (v w : Item) (bs : List ℕ) → Canon v bs → Canon w bs → v ≡ w
-same_item v w bs a b = (one_reading v w bs bs [] [] a b refl).0
+use Rattle.ctapmsg.proofs.OneRank.{applies_first, same_item}
 
 -- ---- ranks from 4 on
 
@@ -83,11 +81,11 @@ low ms x = at_most (λ ps. min (unlisted ms ps) (rank_of_members ms x)) (λ ps. 
   min_low : (m n : ℕ) → n ≤ 9 → min m n ≤ 9
   min_low m n le = omega (arith, le)
 
-ranks : (b : Bool) (x : Item) → (4 ≤ rank_in (cond b (record_of creation_members) (record_of assertion_members)) x) × (rank_in (cond b (record_of creation_members) (record_of assertion_members)) x ≤ 9)
-ranks true x = (four (record_of creation_members) x (from_four true), low creation_members x) where
+between : (b : Bool) (x : Item) → (4 ≤ rank_in (cond b (record_of creation_members) (record_of assertion_members)) x) × (rank_in (cond b (record_of creation_members) (record_of assertion_members)) x ≤ 9)
+between true x = (four (record_of creation_members) x (from_four true), low creation_members x) where
   from_four : (b : Bool) → FromFour (record_of creation_members)
   from_four b = search rules
-ranks false x = (four (record_of assertion_members) x (from_four true), low assertion_members x) where
+between false x = (four (record_of assertion_members) x (from_four true), low assertion_members x) where
   from_four : (b : Bool) → FromFour (record_of assertion_members)
   from_four b = search rules
 
@@ -95,7 +93,7 @@ ranks false x = (four (record_of assertion_members) x (from_four true), low asse
 
 -- the request's rank for a fault of this number
 fault : (command : ℕ) (rest : List ℕ) (v : Item) → has_map command ≡ true → Canon v rest → (r : ℕ) → rank_in (map_of command) v ≡ r → 4 ≤ r → r ≤ 8
-    → (x : Rank) × Applies x (command ∷ rest) × (map_status r ≡ status_of x)
+    → (x : Rank) × Applies (command ∷ rest) x × (map_status r ≡ status_of x)
 fault command rest v h c zero e a b = absurd (omega arith)
 fault command rest v h c (suc zero) e a b = absurd (omega arith)
 fault command rest v h c (suc (suc zero)) e a b = absurd (omega arith)
@@ -108,22 +106,20 @@ fault command rest v h c (suc (suc (suc (suc (suc (suc (suc (suc zero)))))))) e 
 fault command rest v h c (suc (suc (suc (suc (suc (suc (suc (suc (suc r))))))))) e a b = absurd (omega arith)
 
 pub faulty : (command : ℕ) (rest : List ℕ) (v : Item) → has_map command ≡ true → Canon v rest → rank_in (map_of command) v ≢ 9
-    → (x : Rank) × Applies x (command ∷ rest) × (map_status (rank_in (map_of command) v) ≡ status_of x)
+    → (x : Rank) × First (Applies (command ∷ rest)) ranks x × (map_status (rank_in (map_of command) v) ≡ status_of x)
 faulty command rest v h c ne =
-    let both = ranks (command == 1) v in
+    let both = between (command == 1) v in
     let below : rank_in (map_of command) v ≤ 8 = omega (arith, both.1, ne) in
-    fault command rest v h c (rank_in (map_of command) v) refl both.0 below
+    let x = fault command rest v h c (rank_in (map_of command) v) refl both.0 below in
+    (x.0, applies_first (command ∷ rest) x.0 x.1, x.2)
 
+-- where the map has no fault, no rank applies
 pub clean : (command : ℕ) (rest : List ℕ) (v : Item) → has_map command ≡ true → has_none command ≡ false → Canon v rest → rank_in (map_of command) v ≡ 9
     → NoStatus (command ∷ rest)
-clean command rest v h n c e unknown_command a = let b = rw h at a in absurd cc
-clean command rest v h n c e bytes_behind a = let b = sym n ∙ a.0 in absurd cc
-clean command rest v h n c e not_canonical a = a.1 v c
-clean command rest v h n c e another_kind a = let b = ap (λ (i : Item). rank_in (map_of command) i) (same_item a.1 v rest a.2 c) in absurd (omega (arith, b, e, a.3))
-clean command rest v h n c e unlisted_key a = let b = ap (λ (i : Item). rank_in (map_of command) i) (same_item a.1 v rest a.2 c) in absurd (omega (arith, b, e, a.3))
-clean command rest v h n c e missing_member a = let b = ap (λ (i : Item). rank_in (map_of command) i) (same_item a.1 v rest a.2 c) in absurd (omega (arith, b, e, a.3))
-clean command rest v h n c e invalid_size a = let b = ap (λ (i : Item). rank_in (map_of command) i) (same_item a.1 v rest a.2 c) in absurd (omega (arith, b, e, a.3))
-clean command rest v h n c e over_limit a = let b = ap (λ (i : Item). rank_in (map_of command) i) (same_item a.1 v rest a.2 c) in absurd (omega (arith, b, e, a.3))
+clean command rest v h n c e =
+    ((λ a. let b = rw h at a in absurd cc), ((λ a. let b = sym n ∙ a.0 in absurd cc), ((λ a. a.1 v c), (none 4 (omega arith), (none 5 (omega arith), (none 6 (omega arith), (none 7 (omega arith), (none 8 (omega arith), tt)))))))) where
+      none : (r : ℕ) → r < 9 → Fault r (command ∷ rest) → ⊥
+      none r lt a = let b = ap (λ (i : Item). rank_in (map_of command) i) (same_item a.1 v rest a.2 c) in omega (arith, b, e, a.3, lt)
 
 -- a map that is read is refused only for want of memory
 pub only_memory : {A : Type 0} (e : Error) (read : Option A) (a : A) (bs : List ℕ) → read ≡ Some a → Fails e read → Refused bs e

@@ -12,7 +12,8 @@ use Rattle.ctapmsg.specs.Schema.{rank_in}
 use Rattle.ctapmsg.specs.Entities.{CredentialParameters, number_item, parameters_item}
 use Rattle.ctapmsg.specs.Requests.{CreationRequest, AssertionRequest, creation_item, assertion_item, make_credential, get_assertion, map_of, RequestOf}
 use Rattle.ctapmsg.specs.Building.{is_number, all_numbers, Builds, Written}
-use Rattle.ctapmsg.specs.Status.{NoStatus, has_map}
+use Rattle.first_line.proofs.Laws.{none_first}
+use Rattle.ctapmsg.specs.Status.{NoStatus, ranks, has_map}
 use Rattle.ctapmsg.proofs.Statuses.{faulty, clean}
 
 -- where no rank applies, the map has no fault
@@ -22,7 +23,7 @@ unfaulty command rest v h c none =
       | inl t ↦ eqb-true (rank_in (map_of command) v) 9 t
       | inr f ↦
           let x = faulty command rest v h c (λ e. let g = rw e at f in absurd cc) in
-          absurd (none x.0 x.1)
+          absurd (none_first (λ r out applies. out applies) ranks x.0 none x.1)
     ]
 
 pub creation_unfit : (v : Item) (q : CreationRequest) → v ≡ creation_item q None → (rank_in (map_of 1) v ≡ 9 → (rest : List ℕ) → Canon v rest → ⊥)

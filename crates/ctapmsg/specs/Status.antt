@@ -1,6 +1,7 @@
 -- The status that answers a request: that of the first rank that applies. CTAP 2.1 has the status bytes
 -- (section 8.2); their order is this product's.
 use Rattle.std.specs.Prelude.{◌≡◌, ◌≢◌, ◌==◌, ℕ, List, [], ◌∷◌, Bool, true, false, ◌||◌, Option}
+use Rattle.first_line.specs.Lines.{First, NoneOf}
 use Rattle.ccbor.specs.Item.{Item, Pairs}
 use Rattle.ccbor.specs.Canon.{Canon}
 use Rattle.ctapmsg.specs.Schema.{rank_in}
@@ -8,7 +9,7 @@ use Rattle.ctapmsg.specs.Requests.{RequestMessage, RequestOf, map_of}
 use Rattle.ctapmsg.specs.declared.error.Error.{Error}
 use Rattle.ctapmsg.specs.declared.error.Error.TheVariants as errors
 
--- the ranks, the first one first
+-- the ranks of a request's faults
 pub data Rank : Type 0 where
   unknown_command : Rank
   bytes_behind : Rank
@@ -43,28 +44,41 @@ abbrev pub Fault : ℕ → List ℕ → Type 0
 Fault rank [] = ⊥
 Fault rank (command ∷ rest) = (has_map command ≡ true) × (v : Item) × Canon v rest × (rank_in (map_of command) v ≡ rank)
 
--- of the ranks that apply to the bytes this is the first
-abbrev pub Applies : Rank → List ℕ → Type 0
-Applies unknown_command [] = Unit {0}
-Applies unknown_command (command ∷ rest) = has_map command || has_none command ≡ false
-Applies bytes_behind [] = ⊥
-Applies bytes_behind (command ∷ rest) = (has_none command ≡ true) × (rest ≢ [])
-Applies not_canonical [] = ⊥
-Applies not_canonical (command ∷ rest) = (has_map command ≡ true) × ((v : Item) → Canon v rest → ⊥)
-Applies another_kind bs = Fault 4 bs
-Applies unlisted_key bs = Fault 5 bs
-Applies missing_member bs = Fault 6 bs
-Applies invalid_size bs = Fault 7 bs
-Applies over_limit bs = Fault 8 bs
+-- what each rank says of the bytes
+abbrev pub Applies : List ℕ → Rank → Type 0
+Applies [] unknown_command = Unit {0}
+Applies (command ∷ rest) unknown_command = has_map command || has_none command ≡ false
+Applies [] bytes_behind = ⊥
+Applies (command ∷ rest) bytes_behind = (has_none command ≡ true) × (rest ≢ [])
+Applies [] not_canonical = ⊥
+Applies (command ∷ rest) not_canonical = (has_map command ≡ true) × ((v : Item) → Canon v rest → ⊥)
+Applies bs another_kind = Fault 4 bs
+Applies bs unlisted_key = Fault 5 bs
+Applies bs missing_member = Fault 6 bs
+Applies bs invalid_size = Fault 7 bs
+Applies bs over_limit = Fault 8 bs
+
+-- the ranks in order
+abbrev pub ranks : List Rank
+ranks =
+    unknown_command
+    ∷ bytes_behind
+    ∷ not_canonical
+    ∷ another_kind
+    ∷ unlisted_key
+    ∷ missing_member
+    ∷ invalid_size
+    ∷ over_limit
+    ∷ []
 
 -- no rank applies
 abbrev pub NoStatus : List ℕ → Type 0
-NoStatus bs = (r : Rank) → Applies r bs → ⊥
+NoStatus bs = NoneOf (Applies bs) ranks
 
--- what is answered in place of a request: want of memory, or the status of the first rank
+-- what is answered in place of a request: want of memory, or the status of the first rank that applies
 abbrev pub Refused : List ℕ → Error → Type 0
 Refused bs errors.Memory = Unit {0}
-Refused bs (errors.Status s) = (r : Rank) × Applies r bs × (s ≡ status_of r)
+Refused bs (errors.Status s) = (r : Rank) × First (Applies bs) ranks r × (s ≡ status_of r)
 Refused bs _ = ⊥
 
 -- the bytes are this request with some extensions or none, and no other request; and no rank applies

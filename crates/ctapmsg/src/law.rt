@@ -6,7 +6,7 @@ ghost use Rattle.ctapmsg.specs.StatusNumbers.{HasReadingStatuses, HasRefusingSta
 
 /// Of the eight ranks at most one applies to a request's bytes, so one status answers them.
 pub fn one_rank()
-    ensures { (r s : Rank) (bs : List ℕ) → Applies r bs → Applies s bs → r ≡ s }
+    ensures { (r s : Rank) (bs : List ℕ) → Applies bs r → Applies bs s → r ≡ s }
 {}
 
 /// The numbers of [`status`](crate::status) are these, each written out.

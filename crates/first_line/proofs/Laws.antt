@@ -1,6 +1,7 @@
 -- What holds of the first line of a list. Proofs above cite these.
-use Rattle.std.proofs.Common.{◌≡◌, ◌↔◌, ◌⊎◌, inl, inr, ℕ, zero, suc, Bool, true, false, cond, List, [], ◌∷◌, ◌++◌, Some, slice_get, take, refl, sym, ◌∙◌, ap, subst}
-use Rattle.std.specs.Prelude.{find, option_map}
+use Rattle.std.proofs.Common.{◌≡◌, ◌↔◌, ◌⊎◌, inl, inr, ℕ, zero, suc, Bool, true, false, cond, List, [], ◌∷◌, ◌++◌, ◌+◌, Some, map, arith, zero-add, slice_get, take, refl, sym, ◌∙◌, ap, subst}
+use Rattle.std.specs.Prelude.{find, not, option_map, unwrap_or}
+use Rattle.std.specs.List.{position_or_len}
 use Rattle.std.proofs.lemmas.Bool.{true≢false}
 use Rattle.first_line.specs.Lines.{Each, NoneOf, FirstStop, here, later, First, first_true}
 
@@ -103,3 +104,28 @@ first_true_of _ x (_, later row more line off f, e) = split row.0 refl (first_tr
 
 pub tested : {X : Type 0} (lines : List (Bool × X)) (x : X) → (first_true lines ≡ Some x) ↔ ((line : Bool × X) × First (λ (l : Bool × X). l.0 ≡ true) lines line × (line.1 ≡ x))
 tested lines x = (true_first lines x, first_true_of lines x)
+
+-- the lines with what a function makes of what each gives
+pub first_true_mapped : {X Y : Type 0} (f : X → Y) (lines : List (Bool × X)) → first_true (map (λ (line : Bool × X). (line.0, f line.1)) lines) ≡ option_map f (first_true lines)
+first_true_mapped f [] = refl
+first_true_mapped {X} {Y} f (row ∷ more) = split row.0 (first_true_mapped f more) where
+  split : (b : Bool) → first_true (map (λ (line : Bool × X). (line.0, f line.1)) more) ≡ option_map f (first_true more)
+      → option_map (λ (line : Bool × Y). line.1) (cond b (Some (row.0, f row.1)) (find (λ (line : Bool × Y). line.0) (map (λ (line : Bool × X). (line.0, f line.1)) more)))
+      ≡ option_map f (option_map (λ (line : Bool × X). line.1) (cond b (Some row) (find (λ (line : Bool × X). line.0) more)))
+  split true rest = refl
+  split false rest = rest
+
+-- a fact of each line, counted from k, where its test is true and those before it are not
+abbrev pub EachTested : {X : Type 0} → (ℕ → X → Type 0) → ℕ → List (Bool × X) → X → Type 0
+EachTested P k [] last = P k last
+EachTested P k (row ∷ more) last = (row.0 ≡ true → P k row.1) × (row.0 ≡ false → EachTested P (k + 1) more last)
+
+-- is one of the first line whose test is true, and of its place
+pub by_lines : {X : Type 0} (P : ℕ → X → Type 0) (lines : List (Bool × X)) (last : X) (k : ℕ) → EachTested P k lines last → P (position_or_len (λ (line : Bool × X). line.0) lines + k) (unwrap_or (first_true lines) last)
+by_lines P [] last k each = subst (λ n. P n last) (sym (zero-add k)) each
+by_lines {X} P (row ∷ more) last k each = split row.0 refl (λ off. by_lines P more last (k + 1) (each.1 off))
+  where
+    split : (b : Bool) → row.0 ≡ b → (row.0 ≡ false → P (position_or_len (λ (line : Bool × X). line.0) more + (k + 1)) (unwrap_or (first_true more) last))
+        → P (cond (not b) (1 + position_or_len (λ (line : Bool × X). line.0) more) 0 + k) (unwrap_or (option_map (λ (line : Bool × X). line.1) (cond b (Some row) (find (λ (line : Bool × X). line.0) more))) last)
+    split true on rest = subst (λ n. P n row.1) (sym (zero-add k)) (each.0 on)
+    split false off rest = subst (λ n. P n (unwrap_or (first_true more) last)) (omega arith) (rest off)

@@ -1,5 +1,7 @@
-use Rattle.std.proofs.Common.{◌≡◌, ℕ, ◌<◌, ◌≤◌, Bool, true, false, cond, List, [], ◌∷◌, ◌++◌, length, map, refl, sym, ◌∙◌, ap, subst}
+use Rattle.std.proofs.Common.{◌≡◌, ℕ, ◌<◌, ◌≤◌, Bool, cond, List, [], ◌∷◌, ◌++◌, length, map, refl, sym, ◌∙◌, ap, subst}
 use Rattle.std.proofs.lemmas.Bool.{lt-ltb, le-ltb}
+use Rattle.first_line.specs.Lines.{first_true}
+use Rattle.first_line.proofs.Laws.{first_true_mapped}
 use Rattle.hidframe.specs.declared.Packet.{Packet}
 use Rattle.hidframe.specs.Packets.{Fields, Initial, fields}
 use Rattle.hidlink.specs.declared.transaction.Phase.{Phase}
@@ -7,8 +9,8 @@ use Rattle.hidlink.specs.declared.transaction.Phase.TheVariants as phase
 use Rattle.hidlink.specs.declared.arbitration.Arbitration.{Arbitration}
 use Rattle.hidlink.specs.declared.arbitration.Arbitration.TheVariants.{Begins}
 use Rattle.hidlink.specs.declared.transaction.Step.{Step}
-use Rattle.std.specs.Prelude.{None}
-use Rattle.hidlink.specs.Ranks.{expiry, on_working, State, Idle, Receiving, Working, IsWorking, IsReceiving, Shown, Response, is_busy, is_receiving_on, is_working_on, first_line, response}
+use Rattle.std.specs.Prelude.{Option, None, Some, option_map, unwrap_or}
+use Rattle.hidlink.specs.Ranks.{expiry, on_working, State, Idle, Receiving, Working, IsWorking, IsReceiving, Shown, Response, is_busy, is_receiving_on, is_working_on, response}
 use Rattle.hidlink.specs.History.{Call, Took, Answered, Kept, Expired, Leaves}
 use Rattle.hidlink.specs.Machine.{Does, Effect, to, choices, chosen_effect, chosen_response, effect, packet_effect, state_of}
 use Rattle.hidlink.proofs.Steps.{leaves-push}
@@ -58,27 +60,24 @@ expired n s cid cmd len next bytes e = ap (λ t. effect n t Expired) e
 pub leaves_to : (h : List Call) (n : ℕ) (s : State) (call : Call) (k : ℕ) (t : State) → effect n s call ≡ to k t → Leaves h n s → Leaves (h ++ call ∷ []) k t
 leaves_to h n s call k t e l = leaves_by h n s call k t (sym (ap Effect.channels e)) (sym (ap Effect.after e)) l
 
--- the first line that applies, mapped
-first_line_map : {X Y : Type 0} (f : X → Y) (rows : List (Bool × X)) (last : X) → first_line (map (λ (r : Bool × X). (r.0, f r.1)) rows) (f last) ≡ f (first_line rows last)
-first_line_map f [] last = refl
-first_line_map {X = X} f (row ∷ rows) last = split row.0 (first_line_map f rows last)
-  where
-    split : (b : Bool) → first_line (map (λ (r : Bool × X). (r.0, f r.1)) rows) (f last) ≡ f (first_line rows last)
-        → cond b (f row.1) (first_line (map (λ (r : Bool × X). (r.0, f r.1)) rows) (f last)) ≡ f (cond b row.1 (first_line rows last))
-    split true e = refl
-    split false e = e
+-- what the first line gives of lines that give what a choice makes of it
+of_choices : {X : Type 0} (f : Arbitration → X) (rows : List (Bool × Arbitration)) → f (unwrap_or (first_true rows) Begins) ≡ unwrap_or (first_true (map (λ (r : Bool × Arbitration). (r.0, f r.1)) rows)) (f Begins)
+of_choices f rows = unwrap_or_mapped f (first_true rows) ∙ ap (λ o. unwrap_or o (f Begins)) (sym (first_true_mapped f rows)) where
+  unwrap_or_mapped : {X : Type 0} (f : Arbitration → X) (o : Option Arbitration) → f (unwrap_or o Begins) ≡ unwrap_or (option_map f o) (f Begins)
+  unwrap_or_mapped f None = refl
+  unwrap_or_mapped f (Some x) = refl
 
 -- what was chosen is what the packet does
 pub initial_effect : (n : ℕ) (s : State) (c cmd len : ℕ) (area : List ℕ)
-    → chosen_effect n s c cmd len area (first_line (choices n (is_busy s) (is_receiving_on s c) (is_working_on s c) c cmd len) Begins) ≡ packet_effect n s (Initial c cmd len area)
-initial_effect n s c cmd len area = sym (first_line_map (chosen_effect n s c cmd len area) (choices n (is_busy s) (is_receiving_on s c) (is_working_on s c) c cmd len) Begins)
+    → chosen_effect n s c cmd len area (unwrap_or (first_true (choices n (is_busy s) (is_receiving_on s c) (is_working_on s c) c cmd len)) Begins) ≡ packet_effect n s (Initial c cmd len area)
+initial_effect n s c cmd len area = of_choices (chosen_effect n s c cmd len area) (choices n (is_busy s) (is_receiving_on s c) (is_working_on s c) c cmd len)
 
 pub initial_response : (n : ℕ) (s : State) (c cmd len : ℕ) (area : List ℕ)
-    → chosen_response n s c cmd len area (first_line (choices n (is_busy s) (is_receiving_on s c) (is_working_on s c) c cmd len) Begins) ≡ response n s (Initial c cmd len area)
-initial_response n s c cmd len area = sym (first_line_map (chosen_response n s c cmd len area) (choices n (is_busy s) (is_receiving_on s c) (is_working_on s c) c cmd len) Begins)
+    → chosen_response n s c cmd len area (unwrap_or (first_true (choices n (is_busy s) (is_receiving_on s c) (is_working_on s c) c cmd len)) Begins) ≡ response n s (Initial c cmd len area)
+initial_response n s c cmd len area = of_choices (chosen_response n s c cmd len area) (choices n (is_busy s) (is_receiving_on s c) (is_working_on s c) c cmd len)
 
 pub does_chosen : (n : ℕ) (s : State) (c cmd len : ℕ) (area : List ℕ) (choice : Arbitration) (new : Shown) (step : Step)
-    → choice ≡ first_line (choices n (is_busy s) (is_receiving_on s c) (is_working_on s c) c cmd len) Begins
+    → choice ≡ unwrap_or (first_true (choices n (is_busy s) (is_receiving_on s c) (is_working_on s c) c cmd len)) Begins
     → Does new step (chosen_effect n s c cmd len area choice) (chosen_response n s c cmd len area choice)
     → Does new step (packet_effect n s (Initial c cmd len area)) (response n s (Initial c cmd len area))
 does_chosen n s c cmd len area choice new step e d =
@@ -96,12 +95,12 @@ took h n s p f new step r says d l =
     leaves_by h n s (Took p) new.channels new.state (ap Shown.channels d.0 ∙ ap Effect.channels E) (ap Shown.state d.0 ∙ ap Effect.after E) l
 
 pub choice_of : (n k : ℕ) (s : State) (busy receiving working : Bool) (c cmd len : ℕ) (choice : Arbitration) → k ≡ n → busy ≡ is_busy s → receiving ≡ is_receiving_on s c → working ≡ is_working_on s c
-    → choice ≡ first_line (choices k busy receiving working c cmd len) Begins → choice ≡ first_line (choices n (is_busy s) (is_receiving_on s c) (is_working_on s c) c cmd len) Begins
+    → choice ≡ unwrap_or (first_true (choices k busy receiving working c cmd len)) Begins → choice ≡ unwrap_or (first_true (choices n (is_busy s) (is_receiving_on s c) (is_working_on s c) c cmd len)) Begins
 choice_of n k s busy receiving working c cmd len choice out b r w e =
-    e ∙ ap (λ x. first_line (choices x busy receiving working c cmd len) Begins) out
-    ∙ ap (λ x. first_line (choices n x receiving working c cmd len) Begins) b
-    ∙ ap (λ x. first_line (choices n (is_busy s) x working c cmd len) Begins) r
-    ∙ ap (λ x. first_line (choices n (is_busy s) (is_receiving_on s c) x c cmd len) Begins) w
+    e ∙ ap (λ x. unwrap_or (first_true (choices x busy receiving working c cmd len)) Begins) out
+    ∙ ap (λ x. unwrap_or (first_true (choices n x receiving working c cmd len)) Begins) b
+    ∙ ap (λ x. unwrap_or (first_true (choices n (is_busy s) x working c cmd len)) Begins) r
+    ∙ ap (λ x. unwrap_or (first_true (choices n (is_busy s) (is_receiving_on s c) x c cmd len)) Begins) w
 
 pub kept : (n : ℕ) (s : State) (status : ℕ) → effect n s (Kept status) ≡ to n s
 kept n Idle status = refl

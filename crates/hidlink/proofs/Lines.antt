@@ -1,27 +1,14 @@
-use Rattle.std.proofs.Common.{◌≡◌, ◌≢◌, ℕ, ◌+◌, ◌⊎◌, inl, inr, Bool, true, false, cond, List, [], ◌∷◌, refl, sym, ◌∙◌, subst, arith, zero-add}
-use Rattle.std.specs.Prelude.{◌==◌, ◌&&◌, not}
-use Rattle.std.specs.List.{position_or_len}
+use Rattle.std.proofs.Common.{◌≡◌, ◌≢◌, ℕ, ◌+◌, ◌⊎◌, inl, inr, Bool, true, false, cond, List, [], refl, sym, ◌∙◌, arith}
+use Rattle.std.specs.Prelude.{◌==◌, ◌&&◌, not, unwrap_or}
 use Rattle.std.proofs.lemmas.Bool.{and_cases, eqb-true, true≢false}
-use Rattle.hidlink.specs.Ranks.{Idle, Receiving, Working, rank, first_line}
+use Rattle.first_line.specs.Lines.{first_true}
+use Rattle.first_line.proofs.Laws.{by_lines}
+use Rattle.hidlink.specs.Ranks.{Idle, Receiving, Working, rank}
 use Rattle.hidlink.specs.Machine.{Effect, came, table}
-
--- a fact of the first line that applies, from one of each line
-abbrev pub EachLine : (ℕ → Effect → Type 0) → ℕ → List (Bool × Effect) → Effect → Type 0
-EachLine P k [] last = P k last
-EachLine P k (row ∷ rows) last = (row.0 ≡ true → P k row.1) × (row.0 ≡ false → EachLine P (k + 1) rows last)
-
-pub by_lines : (P : ℕ → Effect → Type 0) (rows : List (Bool × Effect)) (last : Effect) (k : ℕ) → EachLine P k rows last → P (position_or_len (λ (row : Bool × Effect). row.0) rows + k) (first_line rows last)
-by_lines P [] last k h = subst (λ n. P n last) (sym (zero-add k)) h
-by_lines P (row ∷ rows) last k h = split row.0 refl (λ e. by_lines P rows last (k + 1) (h.1 e))
-  where
-    split : (b : Bool) → row.0 ≡ b → (row.0 ≡ false → P (position_or_len (λ (r : Bool × Effect). r.0) rows + (k + 1)) (first_line rows last))
-        → P (cond (not b) (1 + position_or_len (λ (r : Bool × Effect). r.0) rows) 0 + k) (cond b row.1 (first_line rows last))
-    split true e more = subst (λ n. P n row.1) (sym (zero-add k)) (h.0 e)
-    split false e more = subst (λ n. P n (first_line rows last)) (omega arith) (more e)
 
 -- of an idle device
 pub idle_line : (n c cmd len : ℕ) (area : List ℕ) →
-    let e = first_line (table n Idle c cmd len) (came n c cmd len 0 area) in
+    let e = unwrap_or (first_true (table n Idle c cmd len)) (came n c cmd len 0 area) in
     ((rank n Idle c cmd len ≡ 15) × (e ≡ came n c cmd len 0 area) × ((cmd ≡ 1) ⊎ (cmd ≡ 16)))
     ⊎ ((rank n Idle c cmd len ≢ 15) × (e.after ≡ Idle) × (e.channels ≡ cond (rank n Idle c cmd len == 6) (n + 1) n))
 idle_line n c cmd len area = by_lines P (table n Idle c cmd len) (came n c cmd len 0 area) 1
@@ -46,7 +33,7 @@ busy_six {b} e t = elim (and_cases b true e) [ inl h ↦ true≢false (sym t ∙
 -- of one to which a message comes
 pub coming_line : (n cid kind size next c cmd len : ℕ) (bytes area : List ℕ) →
     let s = Receiving cid kind size next bytes in
-    let e = first_line (table n (Receiving cid kind size next bytes) c cmd len) (came n c cmd len 0 area) in
+    let e = unwrap_or (first_true (table n (Receiving cid kind size next bytes) c cmd len)) (came n c cmd len 0 area) in
     let k = rank n (Receiving cid kind size 0 []) c cmd len in
     (e.channels ≡ n) × ((((k ≡ 8) ⊎ (k ≡ 9)) × (e.after ≡ Idle)) ⊎ ((k ≢ 8) × (k ≢ 9) × (e.after ≡ s)))
 coming_line n cid kind size next c cmd len bytes area = by_lines P (table n (Receiving cid kind size next bytes) c cmd len) (came n c cmd len 0 area) 1
@@ -58,7 +45,7 @@ coming_line n cid kind size next c cmd len bytes area = by_lines P (table n (Rec
 -- of one that works
 pub working_line : (n cid c cmd len : ℕ) (payload area : List ℕ) →
     let s = Working cid payload in
-    let e = first_line (table n (Working cid payload) c cmd len) (came n c cmd len 0 area) in
+    let e = unwrap_or (first_true (table n (Working cid payload) c cmd len)) (came n c cmd len 0 area) in
     let k = rank n (Working cid payload) c cmd len in
     (e.channels ≡ n) × (((k ≡ 8) × (e.after ≡ Idle)) ⊎ ((k ≢ 8) × (e.after ≡ s)))
 working_line n cid c cmd len payload area = by_lines P (table n (Working cid payload) c cmd len) (came n c cmd len 0 area) 1

@@ -1,32 +1,20 @@
-use Rattle.std.proofs.Common.{◌≡◌, ◌≢◌, ℕ, ◌+◌, ◌⊎◌, inl, inr, Bool, true, false, cond, List, [], ◌∷◌, ◌++◌, take, refl, sym, ◌∙◌, ap, subst, arith}
-use Rattle.std.specs.Prelude.{◌==◌, ◌&&◌, ◌||◌, not, nat_lt, Option, Some, None}
+use Rattle.std.proofs.Common.{◌≡◌, ◌≢◌, ℕ, ◌+◌, inl, inr, Bool, true, false, cond, List, [], ◌∷◌, ◌++◌, take, refl, sym, ◌∙◌, ap, subst, arith}
+use Rattle.std.specs.Prelude.{◌==◌, ◌&&◌, ◌||◌, not, nat_lt, unwrap_or, Option, Some, None}
 use Rattle.std.proofs.lemmas.Bool.{and_cases, eqb-true, eq-eqb, true≢false}
+use Rattle.first_line.specs.Lines.{first_true}
+use Rattle.first_line.proofs.Laws.{by_lines}
 use Rattle.hidframe.specs.declared.Packet.{Packet}
 use Rattle.hidframe.specs.Packets.{Fields, Initial, Continuation, fields}
 use Rattle.hidframe.specs.Frames.{continuation_count}
 use Rattle.hidlink.specs.declared.arbitration.Arbitration.{Arbitration}
-use Rattle.hidlink.specs.declared.arbitration.Arbitration.TheVariants.{Refused, NewChannel, ChannelAnew, Interrupted, Cancelled, Ignored, Begins}
+use Rattle.hidlink.specs.declared.arbitration.Arbitration.TheVariants.{Begins}
 use Rattle.hidlink.specs.declared.transaction.Step.{Step}
 use Rattle.hidlink.specs.declared.transaction.Step.TheVariants as step
-use Rattle.hidlink.specs.Ranks.{State, Idle, Receiving, Working, IsWorking, Response, Shown, first_line, is_busy, is_receiving_on, is_working_on, on_receipt, rank, response}
-use Rattle.hidlink.specs.History.{Call, Leaves, Doing}
+use Rattle.hidlink.specs.Ranks.{State, Idle, Receiving, Working, IsWorking, Response, Shown, on_receipt, rank, response}
+use Rattle.hidlink.specs.History.{Call, Leaves}
 use Rattle.hidlink.specs.Machine.{Does, Effect, came, choices, chosen_effect, chosen_response, packet_effect, table, to}
 use Rattle.hidlink.specs.Told.{work, IsCancel, Tells}
 use Rattle.hidlink.proofs.Calls.{initial_effect, initial_response}
-use Rattle.hidlink.proofs.Lines.{by_lines}
-
--- a fact of the first line that applies, from one of each line
-abbrev pub EachRow : {X : Type 0} → (X → Type 0) → List (Bool × X) → X → Type 0
-EachRow P [] last = P last
-EachRow P (row ∷ rows) last = (row.0 ≡ true → P row.1) × (row.0 ≡ false → EachRow P rows last)
-
-by_rows : {X : Type 0} (P : X → Type 0) (rows : List (Bool × X)) (last : X) → EachRow P rows last → P (first_line rows last)
-by_rows P [] last h = h
-by_rows P (row ∷ rows) last h = split row.0 refl (λ e. by_rows P rows last (h.1 e))
-  where
-    split : (b : Bool) → row.0 ≡ b → (row.0 ≡ false → P (first_line rows last)) → P (cond b row.1 (first_line rows last))
-    split true e more = h.0 e
-    split false e more = more e
 
 both_left : (a b : Bool) → (a && b) ≡ true → a ≡ true
 both_left true b e = refl
@@ -59,11 +47,11 @@ idle_told : (n c cmd len : ℕ) (area : List ℕ) → let f = Initial c cmd len 
 idle_told n c cmd len area =
     subst (λ (e : Effect). Tells Idle (Initial c cmd len area) e.after (response n Idle (Initial c cmd len area)).step) (initial_effect n Idle c cmd len area)
     (subst (λ (r : Response). Tells Idle (Initial c cmd len area) (chosen_effect n Idle c cmd len area choice).after r.step) (initial_response n Idle c cmd len area)
-    (by_rows P (choices n false false false c cmd len) Begins
+    (by_lines (λ _ a. P a) (choices n false false false c cmd len) Begins 1
     ((λ _. quiet), λ r1. ((λ _. quiet), λ r2. ((λ _. quiet), λ r3. ((λ _. quiet), λ r4. ((λ _. quiet), λ r5. ((λ _. quiet), λ r6. ((λ _. quiet), λ r7. ((λ _. quiet), λ r8. ((λ _. quiet), λ r9. ((λ x. absurd (true≢false (sym (both_right (cmd == 17) false x)))), λ r10. ((λ _. quiet), λ r11. ((λ _. quiet), λ r12. ((λ _. quiet), λ r13. ((λ _. quiet), λ r14. came_told n c cmd len 0 area Idle (Initial c cmd len area) refl (λ i. i)))))))))))))))))
   where
     choice : Arbitration
-    choice = first_line (choices n false false false c cmd len) Begins
+    choice = unwrap_or (first_true (choices n false false false c cmd len)) Begins
 
     P : Arbitration → Type 0
     P a = Tells Idle (Initial c cmd len area) (chosen_effect n Idle c cmd len area a).after (chosen_response n Idle c cmd len area a).step
@@ -77,14 +65,14 @@ coming_told : (n cid kind size next c cmd len : ℕ) (bytes area : List ℕ) →
 coming_told n cid kind size next c cmd len bytes area =
     subst (λ (e : Effect). Tells s (Initial c cmd len area) e.after (response n s (Initial c cmd len area)).step) (initial_effect n s c cmd len area)
     (subst (λ (r : Response). Tells s (Initial c cmd len area) (chosen_effect n s c cmd len area choice).after r.step) (initial_response n s c cmd len area)
-    (by_rows P (choices n true (cid == c) false c cmd len) Begins
+    (by_lines (λ _ a. P a) (choices n true (cid == c) false c cmd len) Begins 1
     ((λ _. quiet), λ r1. ((λ _. quiet), λ r2. ((λ _. quiet), λ r3. ((λ _. quiet), λ r4. ((λ _. quiet), λ r5. ((λ _. quiet), λ r6. ((λ _. quiet), λ r7. ((λ _. quiet), λ r8. ((λ _. quiet), λ r9. ((λ x. absurd (true≢false (sym (both_right (cmd == 17) false x)))), λ r10. ((λ _. quiet), λ r11. ((λ _. quiet), λ r12. absurd (true≢false r12)))))))))))))))
   where
     s : State
     s = Receiving cid kind size next bytes
 
     choice : Arbitration
-    choice = first_line (choices n true (cid == c) false c cmd len) Begins
+    choice = unwrap_or (first_true (choices n true (cid == c) false c cmd len)) Begins
 
     P : Arbitration → Type 0
     P a = Tells s (Initial c cmd len area) (chosen_effect n s c cmd len area a).after (chosen_response n s c cmd len area a).step
@@ -103,7 +91,7 @@ working_told : (n cid c cmd len : ℕ) (payload area : List ℕ) → Assigned n 
 working_told n cid c cmd len payload area assigned =
     subst (λ (e : Effect). Tells s (Initial c cmd len area) e.after (response n s (Initial c cmd len area)).step) (initial_effect n s c cmd len area)
     (subst (λ (r : Response). Tells s (Initial c cmd len area) (chosen_effect n s c cmd len area choice).after r.step) (initial_response n s c cmd len area)
-    (by_rows P (choices n true false (cid == c) c cmd len) Begins (
+    (by_lines (λ _ a. P a) (choices n true false (cid == c) c cmd len) Begins 1 (
       (λ x. quiet (λ i. true≢false (sym x ∙ ap (λ k. k == 0 || (nat_lt n k && not (k == 0xFFFFFFFF))) i.0 ∙ assigned.out))),
       λ r1. (
         (λ x. quiet (λ i. true≢false (sym (both_left (c == 0xFFFFFFFF) (not (cmd == 6)) x) ∙ ap (λ k. k == 0xFFFFFFFF) i.0 ∙ assigned.own))),
@@ -148,7 +136,7 @@ working_told n cid c cmd len payload area assigned =
     s = Working cid payload
 
     choice : Arbitration
-    choice = first_line (choices n true false (cid == c) c cmd len) Begins
+    choice = unwrap_or (first_true (choices n true false (cid == c) c cmd len)) Begins
 
     P : Arbitration → Type 0
     P a = Tells s (Initial c cmd len area) (chosen_effect n s c cmd len area a).after (chosen_response n s c cmd len area a).step

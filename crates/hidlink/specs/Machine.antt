@@ -1,9 +1,10 @@
 -- The plain program of the device: what a call does to the channels and the state. The crate's private
 -- functions are proved against it; no public clause cites it. What it means is in History.antt.
-use Rattle.std.specs.Prelude.{◌≡◌, ◌<◌, ◌≤◌, ◌*◌, ℕ, Bool, ◌+◌, ◌==◌, ◌&&◌, ◌||◌, not, nat_lt, List, [], ◌∷◌, ◌++◌, length, take, if◌then◌else◌}
+use Rattle.std.specs.Prelude.{◌≡◌, ◌<◌, ◌≤◌, ◌*◌, ℕ, Bool, ◌+◌, ◌==◌, ◌&&◌, ◌||◌, not, nat_lt, List, [], ◌∷◌, ◌++◌, length, take, unwrap_or, if◌then◌else◌}
+use Rattle.first_line.specs.Lines.{first_true}
 use Rattle.hidframe.specs.Packets.{Fields, Initial, Continuation, fields}
 use Rattle.hidframe.specs.Frames.{continuation_count}
-use Rattle.hidlink.specs.Ranks.{State, Idle, Receiving, Working, is_busy, is_receiving_on, is_working_on, first_line, Response, Shown, sends, tells, error, init_response, on_receipt, packets_of}
+use Rattle.hidlink.specs.Ranks.{State, Idle, Receiving, Working, is_busy, is_receiving_on, is_working_on, Response, Shown, sends, tells, error, init_response, on_receipt, packets_of}
 use Rattle.hidlink.specs.declared.arbitration.Arbitration.{Arbitration}
 use Rattle.hidlink.specs.declared.arbitration.Arbitration.TheVariants.{Refused, NewChannel, ChannelAnew, Interrupted, Cancelled, Ignored, Begins}
 use Rattle.hidlink.specs.declared.transaction.Step.{Step}
@@ -45,7 +46,7 @@ table n s c cmd len =
 
 -- what a packet does that says this
 abbrev pub packet_effect : ℕ → State → Fields → Effect
-packet_effect n s (Initial c cmd len area) = first_line (table n s c cmd len) (came n c cmd len 0 area)
+packet_effect n s (Initial c cmd len area) = unwrap_or (first_true (table n s c cmd len)) (came n c cmd len 0 area)
 packet_effect n Idle (Continuation c seq area) = to n Idle
 packet_effect n (Working cid payload) (Continuation c seq area) = to n (Working cid payload)
 packet_effect n (Receiving cid cmd len next bytes) (Continuation c seq area) =

@@ -1,6 +1,7 @@
-use Rattle.std.specs.Prelude.{ℕ, Bool, true, false, ◌+◌, ◌==◌, ◌&&◌, ◌||◌, not, nat_lt, List, [], ◌∷◌, ◌++◌, take, Option, Some, None, if◌then◌else◌}
+use Rattle.std.specs.Prelude.{ℕ, Bool, true, false, ◌+◌, ◌==◌, ◌&&◌, ◌||◌, not, nat_lt, List, [], ◌∷◌, ◌++◌, take, Option, Some, None, unwrap_or, if◌then◌else◌}
 use Rattle.std.specs.List.{position_or_len}
 use Rattle.std.specs.Int.{w32, to_be_bytes}
+use Rattle.first_line.specs.Lines.{first_true}
 use Rattle.hidframe.specs.declared.Packet.{Packet}
 use Rattle.hidframe.specs.declared.ctaphid.TheConstants.{CTAPHID_BROADCAST_CID, CTAPHID_RESERVED_CID, CTAPHID_PING, CTAPHID_INIT, CTAPHID_CBOR, CTAPHID_CANCEL, CTAPHID_ERROR, ERR_INVALID_CMD, ERR_INVALID_LEN, ERR_INVALID_SEQ, ERR_MSG_TIMEOUT, ERR_CHANNEL_BUSY, ERR_INVALID_CHANNEL, ERR_OTHER, MAX_PAYLOAD_SIZE, PROTOCOL_VERSION}
 use Rattle.hidframe.specs.Packets.{Fields, Initial, Continuation}
@@ -118,15 +119,10 @@ lines n s c cmd len area = (
 abbrev pub rank : ℕ → State → ℕ → ℕ → ℕ → ℕ
 rank n s c cmd len = position_or_len (λ line. line.0) (lines n s c cmd len []) + 1
 
--- the response of the first line that applies, else this one
-abbrev pub first_line : {X : Type 0} → List (Bool × X) → X → X
-first_line [] last = last
-first_line (line ∷ more) last = if line.0 then line.1 else first_line more last
-
--- the response to a packet that says this
+-- the response to a packet that says this: of an initial packet that of the first line that applies
 abbrev pub response : ℕ → State → Fields → Response
 response n s (Initial c cmd len area) =
-    first_line (lines n s c cmd len area) (on_receipt c cmd len 0 area)
+    unwrap_or (first_true (lines n s c cmd len area)) (on_receipt c cmd len 0 area)
 response n Idle (Continuation c seq area) = tells Quiet
 response n (Working cid payload) (Continuation c seq area) = tells Quiet
 response n (Receiving cid cmd len next bytes) (Continuation c seq area) =

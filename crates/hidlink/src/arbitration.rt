@@ -1,9 +1,9 @@
 //! The order in which a device judges an initial packet: CTAP 2.1 section 11.2.5, where it leaves the
 //! order open this project's own.
 
-ghost use Rattle.std.specs.Prelude.{◌≡◌, ◌⊎◌};
+ghost use Rattle.std.specs.Prelude.{◌≡◌, ◌⊎◌, unwrap_or};
+ghost use Rattle.first_line.specs.Lines.{first_true};
 ghost use Rattle.hidlink.specs.Machine.{choices};
-ghost use Rattle.hidlink.specs.Ranks.{first_line};
 
 use hidframe::ctaphid::{
     CTAPHID_BROADCAST_CID, CTAPHID_CANCEL, CTAPHID_CBOR, CTAPHID_INIT, CTAPHID_PING,
@@ -37,7 +37,7 @@ pub fn arbitrate(
     cmd: u8,
     len: u16,
 ) -> Arbitration
-    ensures { result ≡ first_line (choices channels busy receiving working cid cmd len) Arbitration.Begins }
+    ensures { result ≡ unwrap_or (first_true (choices channels busy receiving working cid cmd len)) Arbitration.Begins }
 {
     let broadcast = cid == CTAPHID_BROADCAST_CID;
     if cid == CTAPHID_RESERVED_CID || (cid > channels && !broadcast) {
@@ -63,7 +63,7 @@ pub fn arbitrate(
 
 /// The choice for an initial packet of another command than INIT on an assigned channel.
 fn arbitrate_message(busy: bool, receiving: bool, working: bool, cmd: u8, len: u16) -> Arbitration
-    ensures { cmd ≡ 6 ⊎ (result ≡ first_line (choices 1 busy receiving working 1 cmd len) Arbitration.Begins) }
+    ensures { cmd ≡ 6 ⊎ (result ≡ unwrap_or (first_true (choices 1 busy receiving working 1 cmd len)) Arbitration.Begins) }
 {
     if receiving {
         Arbitration::Interrupted

@@ -11,7 +11,7 @@ ghost use Rattle.std.specs.Prelude.{◌*◌, Err};
 ghost use Rattle.std.specs.Bool.{OnFalse, OnTrue};
 ghost use Rattle.std.specs.Int.{w32, to_be_bytes};
 ghost use Rattle.hidlink.specs.Machine.{Does, MayChoose, PhaseFits, came, choices, chosen_effect, chosen_response, effect, packet_effect, state_of};
-ghost use Rattle.hidlink.specs.Ranks.{Idle, IsReceiving, IsWorking, State, error, expiry, first_line, init_response, is_busy, is_receiving_on, is_working_on, on_receipt, on_working, packets_of, request_payload, response, working_channel};
+ghost use Rattle.hidlink.specs.Ranks.{Idle, IsReceiving, IsWorking, State, error, expiry, init_response, is_busy, is_receiving_on, is_working_on, on_receipt, on_working, packets_of, request_payload, response, working_channel};
 
 use crate::arbitration::{Arbitration, arbitrate};
 use crate::room::{Inbox, Outbox};
