@@ -1,7 +1,8 @@
 -- A message's verdict: what refuses it, and that nothing refuses a good one.
 use Rattle.std.proofs.Common.{◌≡◌, ℕ, List, refl}
 use Rattle.site.specs.State.{State}
-use Rattle.site.specs.Steps.{Relation, PassesAll}
+use Rattle.first_line.proofs.Laws.{none_first}
+use Rattle.site.specs.Steps.{Relation, PassesAll, steps}
 use Rattle.site.specs.Answers.{Refused as SiteRefused}
 use Rattle.site.specs.declared.error.Error.{Error as SiteError}
 use Rattle.site.specs.declared.error.Error.TheVariants as sites
@@ -24,7 +25,7 @@ site_refused valid s hash m r sites.BadTable h refused = absurd refused
 
 pub site_good : (valid : Relation) (s : State) (hash : List ℕ) (r : Reply) (e : SiteError) → PassesAll valid s hash (assertion r) → SiteRefused valid s hash (assertion r) e
     → refusal_of e ≡ errors.Memory
-site_good valid s hash r (sites.SignIn w) all refused = absurd (refused.0 (all w))
+site_good valid s hash r (sites.SignIn w) all refused = absurd (none_first (λ x passed fails. fails passed) steps w all refused)
 site_good valid s hash r sites.Memory all refused = refl
 site_good valid s hash r sites.BadInput all refused = absurd refused
 site_good valid s hash r sites.BadTable all refused = absurd refused

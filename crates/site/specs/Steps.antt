@@ -1,13 +1,13 @@
 -- The steps that verify an authentication assertion (WebAuthn Level 2, section 7.2): in this first stage
 -- those on the credential, the authenticator data and the signature.
-use Rattle.std.specs.Prelude.{◌≡◌, ◌<◌, ℕ, List, ◌++◌, Option, IsSome, true, false}
+use Rattle.std.specs.Prelude.{◌≡◌, ℕ, List, [], ◌∷◌, ◌++◌, Option, IsSome, true, false}
 use Rattle.std.specs.Option.{ForSome}
+use Rattle.first_line.specs.Lines.{Each, FirstFailing}
 use Rattle.sha2.specs.Sha256.{sha256}
 use Rattle.cose.specs.declared.key.CoseKey.{CoseKey}
 use Rattle.authdata.specs.Flags.{is_set, UP, AT}
 use Rattle.authdata.specs.Layout.{AuthenticatorData, AuthOf}
 use Rattle.site.specs.State.{State, row_of, with_count}
-use Rattle.site.specs.Numbers.{step_number}
 use Rattle.site.specs.declared.error.SignInRefusal.{SignInRefusal}
 use Rattle.site.specs.declared.error.SignInRefusal.TheVariants as step
 
@@ -36,13 +36,22 @@ Passes valid s hash r step.UserNotPresent = (a : AuthenticatorData) → AuthOf a
 -- the signature is valid over the authenticator data as they came, then the hash
 Passes valid s hash r step.BadSignature = ForSome (row_of r.credential s.rows) (λ row. valid row.key (r.auth_data ++ hash) r.signature)
 
-abbrev pub PassesAll : Relation → State → List ℕ → Assertion → Type 0
-PassesAll valid s hash r = (w : SignInRefusal) → Passes valid s hash r w
+-- the steps, in the order in which they are tested
+abbrev pub steps : List SignInRefusal
+steps =
+    step.UnknownCredential
+    ∷ step.BadAuthenticatorData
+    ∷ step.WrongRelyingParty
+    ∷ step.UserNotPresent
+    ∷ step.BadSignature
+    ∷ []
 
--- the first step that the assertion does not pass
+abbrev pub PassesAll : Relation → State → List ℕ → Assertion → Type 0
+PassesAll valid s hash r = Each (Passes valid s hash r) steps
+
+-- the first step that the assertion does not pass: it passes each earlier one
 abbrev pub IsFirstFailing : Relation → State → List ℕ → Assertion → SignInRefusal → Type 0
-IsFirstFailing valid s hash r w =
-    ¬ Passes valid s hash r w × ((v : SignInRefusal) → step_number v < step_number w → Passes valid s hash r v)
+IsFirstFailing valid s hash r w = FirstFailing (Passes valid s hash r) steps w
 
 -- the site after the assertion is accepted: the credential's counter is the received one
 abbrev pub IsAfter : State → Assertion → State → Type 0

@@ -3,11 +3,13 @@
 #![tactic(auto)]
 
 mod error;
+mod law;
 mod row;
 mod sign_in;
 mod site;
 
 pub use error::{Error, SignInRefusal};
+pub use law::steps_in_order;
 pub use row::{Policy, Row, RowView, Rows};
 pub use sign_in::{AssertionParts, SignedIn};
 pub use site::{MAX_ID, MAX_ROWS, MAX_RP_ID, MAX_USER, Site};

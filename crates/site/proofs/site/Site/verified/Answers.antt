@@ -1,10 +1,16 @@
-use Rattle.std.proofs.Common.{sym, ap, ◌∙◌}
+use Rattle.std.proofs.Common.{sym, ap, ◌∙◌, rules}
 use Rattle.sha2.specs.Sha256.{sha256}
 use Rattle.authdata.specs.Layout.{auth_view}
 use Rattle.site.specs.Answers.{assertion_of}
 use Rattle.site.specs.Views.{credential_of}
-use Rattle.site.proofs.Order.{Found, wrong_party, not_present, bad_signature, passes_all}
+use Rattle.site.proofs.Order.{Found, unknown, unread, wrong_party, not_present, bad_signature, passes_all}
 use Rattle.site.proofs.site.Site.verified.Goals as goal
+
+pub returns-in_default-clause-refused : goal.returns-in_default-clause-refused
+returns-in_default-clause-refused g c = unknown (g.V.Verifier.valid c.args.verifier.now) c.args.self.now c.args.hash.now (assertion_of c.args.parts.now) (search rules)
+
+pub returns-in-Err-clause-refused : goal.returns-in-Err-clause-refused
+returns-in-Err-clause-refused g c = unread (g.V.Verifier.valid c.args.verifier.now) c.args.self.now c.args.hash.now (assertion_of c.args.parts.now) _ c.in-Err.e (sym c.in-Some.ensures) c.in-Err.ensures.refused
 
 -- the credential and the authenticator data were found; the hash, the flag and the signature are tested in turn
 
