@@ -1,5 +1,5 @@
 -- What a judgement answers.
-use Rattle.std.specs.Prelude.{◌≡◌, ℕ, List, ⊥, Bool}
+use Rattle.std.specs.Prelude.{◌≡◌, List}
 use Rattle.first_line.specs.Lines.{Each, FirstFailing}
 use Rattle.authdata.specs.Flags.{is_set, BE, BS}
 use Rattle.authdata.specs.Layout.{AuthenticatorData, AuthOf}

@@ -12,7 +12,7 @@ use Rattle.authdata.specs.Responses as responses
 use Rattle.authdata.specs.Statements.{IsKnownFormat, IsNone, IsSelfSigned}
 use Rattle.verification.specs.Records.{RelyingParty, Registration}
 use Rattle.verification.specs.Shared.{Relation, HasType, HasChallenge, HasOrigin, HasNoBinding, IsFor, IsPresent, IsVerifiedAs}
-use Rattle.verification.specs.declared.policy.Policy.{Policy}
+use Rattle.verification.specs.declared.party.Policy.{Policy}
 use Rattle.verification.specs.declared.refusal.RegistrationRefusal.{RegistrationRefusal}
 use Rattle.verification.specs.declared.refusal.RegistrationRefusal.TheVariants as step
 

@@ -1,15 +1,12 @@
 //! Judging an authentication assertion (WebAuthn Level 2, section 7.2).
 
-ghost use Rattle.std.specs.Prelude.{◌≡◌, ◌↔◌, ◌⊎◌, ◌++◌, IfOk, IfErr, OnOk, IsTrue, Some, map, option_map};
-ghost use Rattle.std.specs.Prelude.{Contains};
+ghost use Rattle.std.specs.Prelude.{◌≡◌, ◌↔◌, ◌⊎◌, [], Contains, IfErr, IfOk, IsTrue, OnOk, Some, map, option_map};
 ghost use Rattle.first_line.specs.Lines.{Each, FirstFailing};
-ghost use Rattle.authdata.specs.Flags.{is_set, AT, BE, BS};
-ghost use Rattle.authdata.specs.Layout.{AuthenticatorData, AuthOf, auth_view};
-ghost use Rattle.verification.specs.Authentication.{AreUser, IsCounted, IsFirstFailing, Passes, PassesAll};
+ghost use Rattle.authdata.specs.Layout.{AuthOf, auth_view};
+ghost use Rattle.verification.specs.Authentication.{AreUser, IsCounted, Passes, PassesAll};
 ghost use Rattle.verification.specs.Authentication.{credential_steps, client_data_steps, auth_data_steps, signature_steps};
 ghost use Rattle.verification.specs.Answers.{FailsIn, IsRefused, Tells, never, step_of};
 ghost use Rattle.verification.specs.Views.{attempt_of, credential_of, sign_in_of};
-ghost use Rattle.verification.specs.declared.refusal.SignInError.TheVariants as errors;
 
 use crate::client_data::{ClientDataError, ClientDataLine, check_client_data};
 use crate::party::RelyingParty;
@@ -46,7 +43,7 @@ pub struct VerifiedAssertion {
 
 /// Whether each user that is named is this one, and at least one is named.
 fn are_user(expected: Option<&[u8]>, named: Option<&[u8]>, user: &[u8]) -> bool
-    ensures { IsTrue result ↔ AreUser (option_map (λ u. u.now) expected) (option_map (λ u. u.now) named) user.now }
+    ensures { IsTrue result ↔ AreUser (option_map (λ u. u.now) expected.entry) (option_map (λ u. u.now) named.entry) user.now }
 {
     match (expected, named) {
         (None, None) => false,
@@ -168,10 +165,10 @@ impl<'a> SignInAttempt<'a> {
         &self,
         verifier: &V,
         credential: &CredentialView<'_>,
-        data: &AuthData,
+        auth_data: &AuthData,
     ) -> Result<(), SignInRefusal>
         requires credential { (attempt_of self.now).credential ≡ Some (credential_of credential.now) }
-        requires data { AuthOf (auth_view data.now) self.now.response.auth_data.now }
+        requires auth_data { AuthOf (auth_view auth_data.now) self.now.response.auth_data.now }
         ensures passes { OnOk result (Each (Passes (V.valid verifier.now) (attempt_of self.now)) signature_steps) }
         ensures refused { IfErr result (FirstFailing (Passes (V.valid verifier.now) (attempt_of self.now)) signature_steps) }
     {
@@ -180,11 +177,11 @@ impl<'a> SignInAttempt<'a> {
         if !verifier.verify(credential.key, message, self.response.signature) {
             return Err(SignInRefusal::BadSignature);
         }
-        if !is_counted(credential.sign_count, data.sign_count) {
+        if !is_counted(credential.sign_count, auth_data.sign_count) {
             return Err(SignInRefusal::CounterNotGreater);
         }
         match credential.eligible {
-            Some(eligible) if eligible != flags::is_set(data.flags, flags::BE) => {
+            Some(eligible) if eligible != flags::is_set(auth_data.flags, flags::BE) => {
                 Err(SignInRefusal::EligibilityChanged)
             }
             _ => Ok(()),

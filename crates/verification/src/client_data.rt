@@ -1,8 +1,7 @@
 //! The lines on client data that both ceremonies have (WebAuthn Level 2, section 5.8.1).
 
-ghost use Rattle.std.specs.Prelude.{◌≡◌, ◌↔◌, IfErr, OnOk, IsTrue};
+ghost use Rattle.std.specs.Prelude.{◌≡◌, ◌⊎◌, IfErr, OnOk};
 ghost use Rattle.first_line.specs.Lines.{Each, FirstFailing};
-ghost use Rattle.clientdata.specs.Serialised.{challenge_text_of};
 ghost use Rattle.verification.specs.ClientData.{Says, lines};
 ghost use Rattle.verification.specs.declared.client_data.ClientDataError.TheVariants as errors;
 
@@ -25,6 +24,14 @@ pub(crate) enum ClientDataLine {
 pub(crate) enum ClientDataError {
     Fails(ClientDataLine),
     Memory,
+}
+
+impl From<AllocError> for ClientDataError {
+    ghost from_gives = { λ _ e. e ≡ errors.Memory };
+
+    fn from(_e: AllocError) -> ClientDataError {
+        ClientDataError::Memory
+    }
 }
 
 /// Judges client data as those of a ceremony of this kind and challenge.

@@ -8,10 +8,8 @@ mod client_data;
 mod party;
 mod record;
 mod refusal;
-mod registration;
 
-pub use assertion::{AssertionParts, VerifiedAssertion, verify_assertion};
+pub use assertion::{SignInAttempt, VerifiedAssertion, verify_assertion};
 pub use party::{Policy, RelyingParty};
-pub use record::{CredentialView, RegistrationSession, SignInSession};
-pub use refusal::{Refused, RegistrationRefusal, SignInRefusal};
-pub use registration::{RegistrationParts, VerifiedRegistration, verify_registration};
+pub use record::{AssertionParts, CredentialView, RegistrationParts, RegistrationSession, SignInSession};
+pub use refusal::{RegistrationError, RegistrationRefusal, SignInError, SignInRefusal};
