@@ -4,8 +4,11 @@ use Rattle.std.specs.Prelude.{ℕ, List, [], ◌∷◌, IsSome}
 use Rattle.std.specs.Option.{ForSome}
 use Rattle.clientdata.specs.Reading.{seen_of}
 use Rattle.clientdata.specs.declared.record.Kind.{Kind}
+use Rattle.first_line.specs.Lines.{FirstFailing}
 use Rattle.verification.specs.Records.{RelyingParty}
 use Rattle.verification.specs.Shared.{HasType, HasChallenge, HasOrigin, HasNoBinding}
+use Rattle.verification.specs.declared.client_data.ClientDataError.{ClientDataError}
+use Rattle.verification.specs.declared.client_data.ClientDataError.TheVariants as errors
 use Rattle.verification.specs.declared.client_data.ClientDataLine.{ClientDataLine}
 use Rattle.verification.specs.declared.client_data.ClientDataLine.TheVariants as line
 
@@ -18,3 +21,8 @@ Says kind challenge rp t line.TokenBinding = ForSome (seen_of t) HasNoBinding
 
 abbrev pub lines : List ClientDataLine
 lines = line.Readable ∷ line.Type ∷ line.Challenge ∷ line.Origin ∷ line.TokenBinding ∷ []
+
+-- the first line that fails is named; want of memory says nothing
+abbrev pub Fails : Kind → List ℕ → RelyingParty → List ℕ → ClientDataError → Type 0
+Fails kind challenge rp t (errors.Fails line) = FirstFailing (Says kind challenge rp t) lines line
+Fails kind challenge rp t errors.Memory = Unit {0}

@@ -1,11 +1,14 @@
 //! Judging an authentication assertion (WebAuthn Level 2, section 7.2).
 
-ghost use Rattle.std.specs.Prelude.{◌≡◌, ◌↔◌, ◌⊎◌, [], Contains, IfErr, IfOk, IsTrue, OnOk, Some, map, option_map};
+ghost use Rattle.std.specs.Prelude.{◌≡◌, ◌↔◌, ◌⊎◌, ◌++◌, [], Contains, IfErr, IfOk, IsTrue, OnOk, Some, false, map, option_map, true};
+ghost use Rattle.std.specs.Option.{ForSome};
+ghost use Rattle.sha2.specs.Sha256.{sha256};
 ghost use Rattle.first_line.specs.Lines.{Each, FirstFailing};
+ghost use Rattle.authdata.specs.Flags.{is_set, AT, BE, UV};
 ghost use Rattle.authdata.specs.Layout.{AuthOf, auth_view};
 ghost use Rattle.verification.specs.Authentication.{AreUser, IsCounted, Passes, PassesAll};
 ghost use Rattle.verification.specs.Authentication.{credential_steps, client_data_steps, auth_data_steps, signature_steps};
-ghost use Rattle.verification.specs.Answers.{FailsIn, IsRefused, Tells, never, step_of};
+ghost use Rattle.verification.specs.Answers.{FailsIn, IsNotBare, IsRefused, Tells, never, step_of};
 ghost use Rattle.verification.specs.Views.{attempt_of, credential_of, sign_in_of};
 
 use crate::client_data::{ClientDataError, ClientDataLine, check_client_data};
@@ -14,7 +17,7 @@ use crate::record::{AssertionParts, CredentialView, SignInSession};
 use crate::refusal::{SignInError, SignInRefusal};
 use authdata::{AuthData, flags, read};
 use clientdata::{Kind, hash};
-use cose::Verifier;
+use cose::{CoseKey, Verifier};
 use std::alloc::Global;
 
 /// A sign-in to be judged.
@@ -42,14 +45,14 @@ pub struct VerifiedAssertion {
 }
 
 /// Whether each user that is named is this one, and at least one is named.
-fn are_user(expected: Option<&[u8]>, named: Option<&[u8]>, user: &[u8]) -> bool
-    ensures { IsTrue result ↔ AreUser (option_map (λ u. u.now) expected.entry) (option_map (λ u. u.now) named.entry) user.now }
+fn are_user(expected: &Option<Vec<u8>>, named: Option<&[u8]>, user: &[u8]) -> bool
+    ensures { IsTrue result ↔ AreUser (option_map (λ u. u.items) expected.now) (option_map (λ u. u.now) named.entry) user.now }
 {
     match (expected, named) {
         (None, None) => false,
-        (Some(expected), None) => expected == user,
+        (Some(expected), None) => expected.as_slice() == user,
         (None, Some(named)) => named == user,
-        (Some(expected), Some(named)) => expected == user && named == user,
+        (Some(expected), Some(named)) => expected.as_slice() == user && named == user,
     }
 }
 
@@ -88,6 +91,49 @@ fn refusal_of(line: ClientDataLine) -> SignInRefusal
     }
 }
 
+/// Whether the signature is valid over the authenticator data as they came, then the hash of the client data.
+fn is_signed<V: Verifier>(verifier: &V, key: &CoseKey, response: &AssertionParts<'_>) -> bool
+    ensures { IsTrue result ↔ V.valid verifier.now key.now
+        (response.now.auth_data.now ++ sha256 response.now.client_data.now) response.now.signature.now }
+{
+    let hash = hash(response.client_data);
+    verifier.verify(key, [response.auth_data, &hash], response.signature)
+}
+
+/// Whether the mark of eligibility is what it was, where that is known.
+fn is_eligible_as(known: Option<bool>, flags: u8) -> bool
+    ensures { IsTrue result ↔ ForSome known (λ eligible. is_set flags BE ≡ eligible) }
+{
+    match known {
+        None => true,
+        Some(eligible) => flags::is_set(flags, flags::BE) == eligible,
+    }
+}
+
+/// Whether the flags say that the user was verified, where that is required.
+fn is_verified_as(required: bool, flags: u8) -> bool
+    ensures { IsTrue result ↔ (required ≡ true → is_set flags UV ≡ true) }
+{
+    !required || flags::is_set(flags, flags::UV)
+}
+
+/// The authenticator data that the bytes are, which attest no credential.
+fn bare_data(alloc: Global, bytes: &[u8]) -> Result<AuthData, SignInError>
+    ensures found { IfOk result (λ a. AuthOf (auth_view a) bytes.now × (is_set a.flags AT ≡ false)) }
+    ensures refused { IfErr result (IsNotBare bytes.now) }
+{
+    match read(alloc, bytes) {
+        Ok(data) => {
+            if flags::is_set(data.flags, flags::AT) {
+                return Err(SignInError::Refused(SignInRefusal::BadAuthenticatorData));
+            }
+            Ok(data)
+        }
+        Err(authdata::Error::Memory) => Err(SignInError::Memory),
+        Err(_) => Err(SignInError::Refused(SignInRefusal::BadAuthenticatorData)),
+    }
+}
+
 impl<'a> SignInAttempt<'a> {
     /// The session and the credential, where the steps on them are passed.
     fn expected(&self) -> Result<(&'a SignInSession, CredentialView<'a>), SignInRefusal>
@@ -108,7 +154,7 @@ impl<'a> SignInAttempt<'a> {
         if credential.retired {
             return Err(SignInRefusal::UnknownCredential);
         }
-        if !are_user(session.user.as_deref(), self.response.user, credential.user) {
+        if !are_user(&session.user, self.response.user, credential.user) {
             return Err(SignInRefusal::OtherUser);
         }
         Ok((session, credential))
@@ -140,21 +186,17 @@ impl<'a> SignInAttempt<'a> {
         ensures found { IfOk result (λ a. AuthOf (auth_view a) self.now.response.auth_data.now) }
         ensures refused { IfErr result (FailsIn never (attempt_of self.now) auth_data_steps) }
     {
-        let data = match read(alloc, self.response.auth_data) {
+        let data = match bare_data(alloc, self.response.auth_data) {
             Ok(data) => data,
-            Err(authdata::Error::Memory) => return Err(SignInError::Memory),
-            Err(_) => return Err(SignInError::Refused(SignInRefusal::BadAuthenticatorData)),
+            Err(error) => return Err(error),
         };
-        if flags::is_set(data.flags, flags::AT) {
-            return Err(SignInError::Refused(SignInRefusal::BadAuthenticatorData));
-        }
         if !self.party.is_hash(&data.rp_id_hash) {
             return Err(SignInError::Refused(SignInRefusal::WrongRelyingParty));
         }
         if !flags::is_set(data.flags, flags::UP) {
             return Err(SignInError::Refused(SignInRefusal::UserNotPresent));
         }
-        if session.verified && !flags::is_set(data.flags, flags::UV) {
+        if !is_verified_as(session.verified, data.flags) {
             return Err(SignInError::Refused(SignInRefusal::UserNotVerified));
         }
         Ok(data)
@@ -172,20 +214,16 @@ impl<'a> SignInAttempt<'a> {
         ensures passes { OnOk result (Each (Passes (V.valid verifier.now) (attempt_of self.now)) signature_steps) }
         ensures refused { IfErr result (FirstFailing (Passes (V.valid verifier.now) (attempt_of self.now)) signature_steps) }
     {
-        let hash = hash(self.response.client_data);
-        let message = [self.response.auth_data, hash.as_slice()];
-        if !verifier.verify(credential.key, message, self.response.signature) {
+        if !is_signed(verifier, credential.key, &self.response) {
             return Err(SignInRefusal::BadSignature);
         }
         if !is_counted(credential.sign_count, auth_data.sign_count) {
             return Err(SignInRefusal::CounterNotGreater);
         }
-        match credential.eligible {
-            Some(eligible) if eligible != flags::is_set(auth_data.flags, flags::BE) => {
-                Err(SignInRefusal::EligibilityChanged)
-            }
-            _ => Ok(()),
+        if !is_eligible_as(credential.eligible, auth_data.flags) {
+            return Err(SignInRefusal::EligibilityChanged);
         }
+        Ok(())
     }
 }
 

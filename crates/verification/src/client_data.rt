@@ -1,8 +1,8 @@
 //! The lines on client data that both ceremonies have (WebAuthn Level 2, section 5.8.1).
 
-ghost use Rattle.std.specs.Prelude.{◌≡◌, ◌⊎◌, IfErr, OnOk};
-ghost use Rattle.first_line.specs.Lines.{Each, FirstFailing};
-ghost use Rattle.verification.specs.ClientData.{Says, lines};
+ghost use Rattle.std.specs.Prelude.{◌≡◌, IfErr, OnOk};
+ghost use Rattle.first_line.specs.Lines.{Each};
+ghost use Rattle.verification.specs.ClientData.{Fails, Says, lines};
 ghost use Rattle.verification.specs.declared.client_data.ClientDataError.TheVariants as errors;
 
 use crate::party::RelyingParty;
@@ -43,8 +43,7 @@ pub(crate) fn check_client_data(
     party: &RelyingParty,
 ) -> Result<(), ClientDataError>
     ensures passes { OnOk result (Each (Says kind challenge.now party.now bytes.now) lines) }
-    ensures refused { IfErr result (λ e. (e ≡ errors.Memory)
-        ⊎ ((line : ClientDataLine) × (e ≡ errors.Fails line) × FirstFailing (Says kind challenge.now party.now bytes.now) lines line)) }
+    ensures refused { IfErr result (Fails kind challenge.now party.now bytes.now) }
 {
     let seen = match read(alloc, bytes) {
         Ok(seen) => seen,

@@ -11,5 +11,7 @@ mod refusal;
 
 pub use assertion::{SignInAttempt, VerifiedAssertion, verify_assertion};
 pub use party::{Policy, RelyingParty};
-pub use record::{AssertionParts, CredentialView, RegistrationParts, RegistrationSession, SignInSession};
+pub use record::{
+    AssertionParts, CredentialView, RegistrationParts, RegistrationSession, SignInSession,
+};
 pub use refusal::{RegistrationError, RegistrationRefusal, SignInError, SignInRefusal};
