@@ -4,5 +4,7 @@ pub mod ClientData
 pub mod Authentication
 pub mod Registration
 pub mod Answers
+pub mod RegistrationAnswers
 pub mod Views
 pub mod Numbers
+pub mod Attested

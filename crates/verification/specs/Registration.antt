@@ -93,8 +93,12 @@ attestation_steps = step.UnknownFormat ∷ step.BadStatement ∷ step.Attestatio
 abbrev pub table_steps : List RegistrationRefusal
 table_steps = step.CredentialRegistered ∷ step.TableFull ∷ []
 
+-- those on the response alone, and all
+abbrev pub response_steps : List RegistrationRefusal
+response_steps = client_data_steps ++ (auth_data_steps ++ attestation_steps)
+
 abbrev pub steps : List RegistrationRefusal
-steps = client_data_steps ++ (auth_data_steps ++ (attestation_steps ++ table_steps))
+steps = response_steps ++ table_steps
 
 abbrev pub PassesAll : Relation → Enrolment → Type 0
 PassesAll valid x = Each (Passes valid x) steps

@@ -1,5 +1,5 @@
 -- What the crate's types stand for.
-use Rattle.std.specs.Prelude.{ℕ, List, map, option_map}
+use Rattle.std.specs.Prelude.{ℕ, Bool, false, List, map, option_map}
 use Rattle.std.specs.Borrow.{Bor}
 use Rattle.authdata.specs.Responses.{Assertion}
 use Rattle.authdata.specs.Responses as responses
@@ -10,7 +10,9 @@ use Rattle.verification.specs.declared.record.RegistrationSession.{RegistrationS
 use Rattle.verification.specs.declared.record.AssertionParts.{AssertionParts}
 use Rattle.verification.specs.declared.record.RegistrationParts.{RegistrationParts}
 use Rattle.verification.specs.declared.assertion.SignInAttempt.{SignInAttempt}
+use Rattle.verification.specs.declared.registration.RegistrationAttempt.{RegistrationAttempt}
 use Rattle.verification.specs.Authentication.{Attempt}
+use Rattle.verification.specs.Registration.{Enrolment}
 
 -- the texts that a list of borrowed texts lends
 abbrev pub texts_of : List (Bor (List ℕ)) → List (List ℕ)
@@ -49,3 +51,18 @@ attempt_of x = record {
   credential = option_map credential_of x.credential;
   response = assertion_of x.response;
 }
+
+-- the registration as it is judged, where these ids are registered and there is room or not
+abbrev pub enrolment_of : RegistrationAttempt → (List ℕ → Bool) → Bool → Enrolment
+enrolment_of x is_registered is_full = record {
+  rp = x.party.now;
+  policy = x.policy;
+  session = option_map (λ s. registration_of s.now) x.session;
+  response = registration_response_of x.response;
+  is_registered = is_registered;
+  is_full = is_full;
+}
+
+-- the same where nothing is registered: for steps that do not look at the table
+abbrev pub judged : RegistrationAttempt → Enrolment
+judged x = enrolment_of x (λ _. false) false

@@ -4,7 +4,7 @@ ghost use Rattle.std.specs.Prelude.{◌≡◌, ◌↔◌, ◌⊎◌, ◌++◌, [
 ghost use Rattle.std.specs.Option.{ForSome};
 ghost use Rattle.sha2.specs.Sha256.{sha256};
 ghost use Rattle.first_line.specs.Lines.{Each, FirstFailing};
-ghost use Rattle.authdata.specs.Flags.{is_set, AT, BE, UV};
+ghost use Rattle.authdata.specs.Flags.{is_set, AT, BE};
 ghost use Rattle.authdata.specs.Layout.{AuthOf, auth_view};
 ghost use Rattle.verification.specs.Authentication.{AreUser, IsCounted, Passes, PassesAll};
 ghost use Rattle.verification.specs.Authentication.{credential_steps, client_data_steps, auth_data_steps, signature_steps};
@@ -12,6 +12,7 @@ ghost use Rattle.verification.specs.Answers.{FailsIn, IsNotBare, IsRefused, Tell
 ghost use Rattle.verification.specs.Views.{attempt_of, credential_of, sign_in_of};
 
 use crate::client_data::{ClientDataError, ClientDataLine, check_client_data};
+use crate::flag::is_verified_as;
 use crate::party::RelyingParty;
 use crate::record::{AssertionParts, CredentialView, SignInSession};
 use crate::refusal::{SignInError, SignInRefusal};
@@ -108,13 +109,6 @@ fn is_eligible_as(known: Option<bool>, flags: u8) -> bool
         None => true,
         Some(eligible) => flags::is_set(flags, flags::BE) == eligible,
     }
-}
-
-/// Whether the flags say that the user was verified, where that is required.
-fn is_verified_as(required: bool, flags: u8) -> bool
-    ensures { IsTrue result ↔ (required ≡ true → is_set flags UV ≡ true) }
-{
-    !required || flags::is_set(flags, flags::UV)
 }
 
 /// The authenticator data that the bytes are, which attest no credential.

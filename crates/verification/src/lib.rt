@@ -5,9 +5,11 @@
 
 mod assertion;
 mod client_data;
+mod flag;
 mod party;
 mod record;
 mod refusal;
+mod registration;
 
 pub use assertion::{SignInAttempt, VerifiedAssertion, verify_assertion};
 pub use party::{Policy, RelyingParty};
@@ -15,3 +17,4 @@ pub use record::{
     AssertionParts, CredentialView, RegistrationParts, RegistrationSession, SignInSession,
 };
 pub use refusal::{RegistrationError, RegistrationRefusal, SignInError, SignInRefusal};
+pub use registration::{RegistrationAttempt, VerifiedRegistration, verify_registration};
