@@ -1,8 +1,7 @@
 -- From lines and groups of steps to the steps of a registration.
-use Rattle.std.proofs.Common.{◌≡◌, ◌⊎◌, inl, inr, ℕ, List, [], ◌∷◌, ◌++◌, Some, None, map, refl, subst, sym, Bool, true, false, Contains, codes, ◌∙◌}
-use Rattle.std.specs.Prelude.{Option}
+use Rattle.std.proofs.Common.{◌≡◌, ◌⊎◌, inl, inr, ℕ, List, [], ◌∷◌, ◌++◌, Some, None, refl, subst, sym, Bool, true, false, Contains, codes, ◌∙◌}
 use Rattle.first_line.proofs.Laws.{first_at, first_before, first_behind, each_joined}
-use Rattle.first_line.specs.Lines.{Each, FirstStop, FirstFailing}
+use Rattle.first_line.specs.Lines.{Each, FirstFailing}
 use Rattle.clientdata.specs.declared.record.Kind.TheVariants.{Create}
 use Rattle.cose.specs.Keys.{alg_of}
 use Rattle.authdata.specs.Layout.{AuthenticatorData, AttestedCredential, AuthOf}

@@ -1,5 +1,5 @@
 -- From lines and groups of steps to the steps of a sign-in.
-use Rattle.std.proofs.Common.{◌≡◌, ℕ, List, [], ◌∷◌, ◌++◌, Some, None, map, refl, subst, sym, Bool, true, false}
+use Rattle.std.proofs.Common.{◌≡◌, ℕ, List, ◌++◌, Some, map, refl, subst, sym, false}
 use Rattle.first_line.proofs.Laws.{first_at, first_before, first_behind, each_joined}
 use Rattle.first_line.specs.Lines.{Each, FirstStop, here, later, FirstFailing}
 use Rattle.clientdata.specs.declared.record.Kind.TheVariants.{Get}

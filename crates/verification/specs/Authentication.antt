@@ -1,6 +1,6 @@
 -- The steps that verify an authentication assertion (WebAuthn Level 2, section 7.2), and the rules on backup
 -- that profile 2 adds.
-use Rattle.std.specs.Prelude.{◌≡◌, ◌<◌, ◌⊎◌, ℕ, List, [], ◌∷◌, ◌++◌, Option, Some, None, IsSome, Bool, true, false, Contains}
+use Rattle.std.specs.Prelude.{◌≡◌, ◌<◌, ◌⊎◌, ℕ, List, [], ◌∷◌, ◌++◌, Option, Some, None, IsSome, false, Contains}
 use Rattle.std.specs.Option.{ForSome}
 use Rattle.sha2.specs.Sha256.{sha256}
 use Rattle.first_line.specs.Lines.{Each, FirstFailing}

@@ -1,6 +1,6 @@
 -- What the judgement of a registration answers.
 use Rattle.std.specs.Prelude.{◌≡◌, ℕ, List, Some, true}
-use Rattle.first_line.specs.Lines.{Each, FirstFailing}
+use Rattle.first_line.specs.Lines.{FirstFailing}
 use Rattle.authdata.specs.Flags.{is_set, BE}
 use Rattle.authdata.specs.Layout.{AttestedCredential, AuthenticatorData, AuthOf}
 use Rattle.authdata.specs.Objects.{Attestation, ObjectOf}

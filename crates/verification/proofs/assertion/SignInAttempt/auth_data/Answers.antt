@@ -1,4 +1,4 @@
-use Rattle.std.proofs.Common.{◌≡◌, true, false, rules, sym, ◌∙◌, ap}
+use Rattle.std.proofs.Common.{sym, ◌∙◌}
 use Rattle.authdata.specs.Layout.{auth_view}
 use Rattle.verification.specs.Views.{attempt_of, sign_in_of}
 use Rattle.verification.proofs.Steps.{HasBare, unbare, wrong_party, not_present, not_verified, data_passes}

@@ -1,4 +1,4 @@
-use Rattle.std.proofs.Common.{◌≡◌, ap, Some, refl, rules, sym, ◌∙◌}
+use Rattle.std.proofs.Common.{ap, refl, rules}
 use Rattle.std.specs.Prelude.{option_map}
 use Rattle.first_line.proofs.Laws.{first_at}
 use Rattle.verification.specs.Views.{credential_of, sign_in_of}

@@ -1,6 +1,3 @@
-use Rattle.authdata.specs.Layout.{credential_view}
-use Rattle.authdata.specs.Objects.{object_view}
-use Rattle.verification.specs.Attested.{data_of}
 use Rattle.verification.specs.Views.{judged}
 use Rattle.verification.proofs.Registrations.{statement_fails, not_accepted, attestation_passes}
 use Rattle.verification.proofs.registration.RegistrationAttempt.check_attestation.Goals as goal

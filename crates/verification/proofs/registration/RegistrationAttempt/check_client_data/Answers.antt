@@ -1,4 +1,4 @@
-use Rattle.std.proofs.Common.{refl, rules, ap, Some, subst, sym}
+use Rattle.std.proofs.Common.{refl, rules, ap, subst, sym}
 use Rattle.std.specs.Prelude.{option_map}
 use Rattle.first_line.proofs.Laws.{first_at}
 use Rattle.first_line.specs.Lines.{FirstFailing}

@@ -1,4 +1,4 @@
-use Rattle.std.proofs.Common.{sym, ◌∙◌}
+use Rattle.std.proofs.Common.{◌∙◌}
 use Rattle.verification.proofs.Registrations.{registered, full, admitted}
 use Rattle.verification.proofs.registration.VerifiedRegistration.admit.Goals as goal
 
