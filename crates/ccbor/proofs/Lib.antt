@@ -5,6 +5,7 @@ pub mod Trees
 pub mod Appended
 pub mod Firsts
 pub mod Shows
+pub mod Known
 pub mod Loop
 pub mod Walks
 pub mod Decoding

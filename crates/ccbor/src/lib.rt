@@ -38,6 +38,7 @@ mod leaf;
 mod order;
 mod passing;
 mod reading;
+mod skipping;
 mod value;
 mod view;
 mod writing;

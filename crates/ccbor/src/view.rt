@@ -12,6 +12,7 @@ use crate::error::Error;
 use crate::head::{BYTES, MAP, NEGATIVE, TEXT, UNSIGNED, head_at};
 use crate::passing::front;
 use crate::reading::item_at;
+use crate::skipping::known_front;
 use crate::value::{Key, MAX_DEPTH, Value};
 use std::alloc::{AllocError, Global};
 use std::marker::Model;
@@ -86,13 +87,14 @@ fn is_key(bytes: &[u8], key: Key<'_>) -> bool
     }
 }
 
-/// The encodings of the first pair's key and value, and what follows them.
+/// The encodings of the first pair's key and value, and what follows them. They are known to be canonical, so
+/// only heads are read.
 fn first_pair(bytes: &[u8]) -> Option<(&[u8], &[u8], &[u8])>
     ensures { (k v : Item) (ps : Pairs) (n : ℕ) → ArePairs (pair k v ps) n bytes.now → MatchOption result ⊥
         (λ r. Canon k r.0.now × Canon v r.1.now × ((m : ℕ) → n ≡ suc m → ArePairs ps m r.2.now)) }
 {
-    let (key, rest) = front(bytes)?;
-    let (value, rest) = front(rest)?;
+    let (key, rest) = known_front(bytes)?;
+    let (value, rest) = known_front(rest)?;
     Some((key, value, rest))
 }
 
