@@ -105,6 +105,52 @@ fn session(alloc: Global, expected: &Expected) -> Result<SignInSession, AllocErr
     })
 }
 
+/// The credential, lent for as long as is asked.
+fn lent<'a>(stored: &Option<CredentialView<'static>>) -> Option<CredentialView<'a>> {
+    match stored {
+        Some(stored) => Some(CredentialView {
+            id: stored.id,
+            user: stored.user,
+            key: stored.key,
+            sign_count: stored.sign_count,
+            eligible: stored.eligible,
+            retired: stored.retired,
+        }),
+        None => None,
+    }
+}
+
+/// The user handle, lent for as long as is asked.
+fn handle<'a>(user: Option<&'static [u8]>) -> Option<&'a [u8]> {
+    match user {
+        Some(user) => Some(user),
+        None => None,
+    }
+}
+
+/// The sign-in with these parts, and the rest as the case has it.
+fn attempt<'a>(
+    party: &'a RelyingParty,
+    session: Option<&'a SignInSession>,
+    credential: Option<CredentialView<'a>>,
+    user: Option<&'a [u8]>,
+    auth_data: &'a [u8],
+    case: &Case,
+) -> SignInAttempt<'a> {
+    SignInAttempt {
+        party,
+        session,
+        credential,
+        response: AssertionParts {
+            credential: case.id,
+            user,
+            auth_data,
+            signature: case.signature,
+            client_data: case.client_data,
+        },
+    }
+}
+
 /// What is answered to the sign-in under this session.
 fn answer(
     alloc: Global,
@@ -121,18 +167,9 @@ fn answer(
     let Ok(scheme) = scheme(alloc, &auth_data, case.client_data) else {
         return Err(SignInError::Memory);
     };
-    let attempt = SignInAttempt {
-        party: &party,
-        session,
-        credential: case.stored,
-        response: AssertionParts {
-            credential: case.id,
-            user: case.user,
-            auth_data: &auth_data,
-            signature: case.signature,
-            client_data: case.client_data,
-        },
-    };
+    let credential = lent(&case.stored);
+    let user = handle(case.user);
+    let attempt = attempt(&party, session, credential, user, &auth_data, case);
     verify_assertion(alloc, &scheme, &attempt)
 }
 
