@@ -9,6 +9,13 @@ UP = 0x01
 abbrev pub UV : ℕ
 UV = 0x04
 
+-- backup eligible: the credential may be backed up; backup state: it is backed up
+abbrev pub BE : ℕ
+BE = 0x08
+
+abbrev pub BS : ℕ
+BS = 0x10
+
 -- attested credential data included
 abbrev pub AT : ℕ
 AT = 0x40

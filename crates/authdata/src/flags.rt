@@ -10,6 +10,12 @@ pub const UP: u8 = 0x01;
 /// User verified.
 pub const UV: u8 = 0x04;
 
+/// Backup eligible: the credential may be backed up. A mark of profile 2.
+pub const BE: u8 = 0x08;
+
+/// Backup state: the credential is backed up. A mark of profile 2.
+pub const BS: u8 = 0x10;
+
 /// Attested credential data included.
 pub const AT: u8 = 0x40;
 

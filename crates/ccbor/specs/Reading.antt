@@ -1,5 +1,6 @@
--- The plain program that the private functions of reading are proved against; no public clause
--- cites it. Each function reads from the front of a list: what it read and the bytes after it, or None.
+-- The plain program that the private functions of reading are proved against. Of the public clauses
+-- only those of views reach it, by `shown`, which the law `shown_values` pins to `Canon`.
+-- Each function reads from the front of a list: what it read and the bytes after it, or None.
 use Rattle.std.specs.Prelude.{◌≡◌, ℕ, zero, suc, ◌-◌, ◌/◌, ◌%◌, ◌^◌, List, [], ◌∷◌, length, take, drop, true, false, Option, Some, None, option_map, Result, Ok, Err, nat_lt, ◌==◌, if◌then◌else◌}
 use Rattle.std.specs.Str.{is_utf8}
 use Rattle.std.specs.Int.{Width, w8, w16, w32, w64, byte_len, from_be_bytes}

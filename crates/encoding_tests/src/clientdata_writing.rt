@@ -203,9 +203,9 @@ const LONG: &[(usize, usize)] = &[
 ];
 
 /// How many bytes the text has, and whether it is verified against its own record.
-fn long_text(alloc: Global, count: usize) -> Result<(usize, bool), Fail> {
+fn long_text(alloc: Global, count: usize) -> Result<(usize, bool), AllocError> {
     let challenge = joined(alloc, &[], &[(&[], 0xff, count)])?;
-    let origin = String::from_utf8(joined(alloc, &[], &[(&[], b'a', count)])?)?;
+    let origin = "a".repeat(alloc, count)?;
     let record = ClientData {
         kind: Kind::Get,
         challenge,

@@ -306,3 +306,31 @@ fn interleaved(rt: HostRuntime) -> Result<(), Fail> {
     assert_eq!(rt; state_after(&mut device), Idle);
     Ok(())
 }
+
+/// Packets on channels 2 and 3.
+const BETWEEN: &[&[u8]] = &[&[0, 0, 0, 2, 0x91], &[0, 0, 0, 2, 0], &[0, 0, 0, 3, 0x81]];
+
+/// Gives a device these packets.
+fn disturb(device: &mut Device) {
+    for bytes in BETWEEN {
+        take(device, &packet(bytes));
+    }
+}
+
+/// Whether a device takes a request of 117 bytes `66` on channel 1 among them, and works on it then.
+fn is_requested_among(device: &mut Device) -> Result<bool, Fail> {
+    let payload = [0x66; 117];
+    for packet in frame(1, CTAPHID_CBOR, payload.as_slice())? {
+        take(device, &packet);
+        disturb(device);
+    }
+    Ok(device.working() == Some(1) && device.request() == payload.as_slice())
+}
+
+#[test]
+fn interleaved_request(rt: HostRuntime) -> Result<(), Fail> {
+    let mut device = device_doing(rt.alloc(), Idle)?;
+    take(&mut device, &packet(INIT));
+    assert!(rt; is_requested_among(&mut device)?);
+    Ok(())
+}

@@ -17,6 +17,8 @@ mod literals;
 #[cfg(test)]
 mod maps;
 #[cfg(test)]
+mod pairs;
+#[cfg(test)]
 mod parts;
 #[cfg(test)]
 mod pieces;

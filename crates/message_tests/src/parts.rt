@@ -201,28 +201,6 @@ const ID_AND: Piece<'static> = (b"\xa2\x62id", 0, 0);
 
 const T: Piece<'static> = (TYPE, 0, 0);
 
-const LEVELS: &[Level] = &[
-    ("hash", &[M4, K1], HASH, &[R, U, P]),
-    ("rp", &[M4, H, K2], RP, &[U, P]),
-    ("rp id", &[M4, H, K2, ID_ALONE], RP_ID, &[U, P]),
-    ("user", &[M4, H, R, K3], USER, &[P]),
-    ("user id", &[M4, H, R, K3, ID_ALONE], ID, &[P]),
-    ("parameters", &[M4, H, R, U, K4], LIST, &[]),
-    ("parameter", &[M4, H, R, U, P1], PARAMETERS, &[]),
-    ("exclude list", &[M5, H, R, U, P, K5], LIST, &[]),
-    ("excluded", &[M5, H, R, U, P, E1], DESCRIPTOR, &[]),
-    ("excluded id", &[M5, H, R, U, P, E1, ID_AND], ID, &[T]),
-    ("extensions", &[M5, H, R, U, P, K6], EXTENSIONS, &[]),
-    ("options", &[M5, H, R, U, P, K7], OPTIONS, &[]),
-    ("assertion rp id", &[A2, K1], RP_ID, &[G]),
-    ("assertion hash", &[A2, I, K2], HASH, &[]),
-    ("allow list", &[A3, I, G, K3], LIST, &[]),
-    ("allowed", &[A3, I, G, L1], DESCRIPTOR, &[]),
-    ("allowed id", &[A3, I, G, L1, ID_AND], ID, &[T]),
-    ("assertion extensions", &[A3, I, G, K4], EXTENSIONS, &[]),
-    ("assertion options", &[A3, I, G, K5], OPTIONS, &[]),
-];
-
 /// The status of a request of these pieces, a part of the table, and these pieces; 0 where it is read and
 /// written again as it came.
 fn status_of(
@@ -237,13 +215,88 @@ fn status_of(
     answer(alloc, bytes.as_slice())
 }
 
-#[test]
-fn levels(rt: HostRuntime) -> Result<(), Fail> {
-    for (level, before, parts, behind) in LEVELS {
-        for (name, front, count, status) in *parts {
-            let answered = status_of(rt.alloc(), before, (*front, 97, *count), behind)?;
-            assert_eq!(rt; answered, *status, "{level}: {name}");
+/// The name of the first of these parts that, between these pieces, isn't answered by its status.
+fn wrong_part<'a>(
+    alloc: Global,
+    before: &[Piece],
+    parts: &'a [Part<'a>],
+    behind: &[Piece],
+) -> Result<Option<&'a str>, AllocError> {
+    for (name, front, count, status) in parts {
+        if status_of(alloc, before, (*front, 97, *count), behind)? != *status {
+            return Ok(Some(name));
         }
+    }
+    Ok(None)
+}
+
+/// Levels of makeCredential up to the user.
+const MEMBERS: &[Level] = &[
+    ("hash", &[M4, K1], HASH, &[R, U, P]),
+    ("rp", &[M4, H, K2], RP, &[U, P]),
+    ("rp id", &[M4, H, K2, ID_ALONE], RP_ID, &[U, P]),
+    ("user", &[M4, H, R, K3], USER, &[P]),
+    ("user id", &[M4, H, R, K3, ID_ALONE], ID, &[P]),
+];
+
+#[test]
+fn members(rt: HostRuntime) -> Result<(), Fail> {
+    for (level, before, parts, behind) in MEMBERS {
+        let wrong = wrong_part(rt.alloc(), before, parts, behind)?;
+        assert!(rt; wrong.is_none(), "{level}: {wrong:?}");
+    }
+    Ok(())
+}
+
+/// Levels of its lists.
+const LISTS: &[Level] = &[
+    ("parameters", &[M4, H, R, U, K4], LIST, &[]),
+    ("parameter", &[M4, H, R, U, P1], PARAMETERS, &[]),
+    ("exclude list", &[M5, H, R, U, P, K5], LIST, &[]),
+    ("excluded", &[M5, H, R, U, P, E1], DESCRIPTOR, &[]),
+    ("excluded id", &[M5, H, R, U, P, E1, ID_AND], ID, &[T]),
+];
+
+#[test]
+fn lists(rt: HostRuntime) -> Result<(), Fail> {
+    for (level, before, parts, behind) in LISTS {
+        let wrong = wrong_part(rt.alloc(), before, parts, behind)?;
+        assert!(rt; wrong.is_none(), "{level}: {wrong:?}");
+    }
+    Ok(())
+}
+
+/// Levels of its other members, and of those of getAssertion that are required.
+const OTHERS: &[Level] = &[
+    ("extensions", &[M5, H, R, U, P, K6], EXTENSIONS, &[]),
+    ("options", &[M5, H, R, U, P, K7], OPTIONS, &[]),
+    ("assertion rp id", &[A2, K1], RP_ID, &[G]),
+    ("assertion hash", &[A2, I, K2], HASH, &[]),
+];
+
+#[test]
+fn others(rt: HostRuntime) -> Result<(), Fail> {
+    for (level, before, parts, behind) in OTHERS {
+        let wrong = wrong_part(rt.alloc(), before, parts, behind)?;
+        assert!(rt; wrong.is_none(), "{level}: {wrong:?}");
+    }
+    Ok(())
+}
+
+/// Levels of the others.
+const ALLOWED: &[Level] = &[
+    ("allow list", &[A3, I, G, K3], LIST, &[]),
+    ("allowed", &[A3, I, G, L1], DESCRIPTOR, &[]),
+    ("allowed id", &[A3, I, G, L1, ID_AND], ID, &[T]),
+    ("assertion extensions", &[A3, I, G, K4], EXTENSIONS, &[]),
+    ("assertion options", &[A3, I, G, K5], OPTIONS, &[]),
+];
+
+#[test]
+fn allowed(rt: HostRuntime) -> Result<(), Fail> {
+    for (level, before, parts, behind) in ALLOWED {
+        let wrong = wrong_part(rt.alloc(), before, parts, behind)?;
+        assert!(rt; wrong.is_none(), "{level}: {wrong:?}");
     }
     Ok(())
 }

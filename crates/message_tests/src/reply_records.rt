@@ -142,11 +142,11 @@ fn are_texts(alloc: Global, found: &[String], texts: &[Text]) -> Result<bool, Al
 }
 
 fn are_options(found: &[(String, bool)], options: &[(&str, bool)]) -> bool {
-    found.len() == options.len()
-        && found
-            .iter()
-            .zip(options.iter())
-            .all(|(f, o)| f.0.as_str() == o.0 && f.1 == o.1)
+    let mut same = found.len() == options.len();
+    for (found, option) in found.iter().zip(options.iter()) {
+        same = same && found.0.as_str() == option.0 && found.1 == option.1;
+    }
+    same
 }
 
 fn is_information(alloc: Global, found: &InfoReply, i: &Info) -> Result<bool, AllocError> {
@@ -176,13 +176,19 @@ fn is_unfit(alloc: Global, reply: Reply) -> bool {
     matches!(write_reply(alloc, reply), Err(Error::Unfit))
 }
 
+/// Whether the bytes are read as this message.
+fn reads_creation(alloc: Global, bytes: &[u8], c: &Creation) -> Result<bool, AllocError> {
+    let message = read_reply(alloc, Kind::MakeCredential, bytes);
+    match &message {
+        Ok(Reply::MakeCredential(found)) => is_creation(alloc, found, c),
+        _ => Ok(false),
+    }
+}
+
 /// Whether the pieces are read as this reply, and it is written as they are.
 fn is_creation_row(alloc: Global, c: &Creation, pieces: &[Piece]) -> Result<bool, AllocError> {
     let bytes = joined(alloc, pieces)?;
-    let read = match read_reply(alloc, Kind::MakeCredential, bytes.as_slice()) {
-        Ok(Reply::MakeCredential(found)) => is_creation(alloc, &found, c)?,
-        _ => false,
-    };
+    let read = reads_creation(alloc, bytes.as_slice(), c)?;
     let Some(statement) = value_of(alloc, c.statement) else {
         return Ok(false);
     };
@@ -197,12 +203,18 @@ fn is_unfit_creation(alloc: Global, c: &Creation) -> Result<bool, AllocError> {
     Ok(is_unfit(alloc, creation_of(alloc, c, statement)?))
 }
 
+/// Whether the bytes are read as this message.
+fn reads_assertion(alloc: Global, bytes: &[u8], a: &Assertion) -> bool {
+    let message = read_reply(alloc, Kind::GetAssertion, bytes);
+    match &message {
+        Ok(Reply::GetAssertion(found)) => is_assertion(found, a),
+        _ => false,
+    }
+}
+
 fn is_assertion_row(alloc: Global, a: &Assertion, pieces: &[Piece]) -> Result<bool, AllocError> {
     let bytes = joined(alloc, pieces)?;
-    let read = match read_reply(alloc, Kind::GetAssertion, bytes.as_slice()) {
-        Ok(Reply::GetAssertion(found)) => is_assertion(&found, a),
-        _ => false,
-    };
+    let read = reads_assertion(alloc, bytes.as_slice(), a);
     let seen = match read_assertion(bytes.as_slice()) {
         Ok(found) => is_view(&found, a),
         Err(_) => false,
@@ -211,22 +223,34 @@ fn is_assertion_row(alloc: Global, a: &Assertion, pieces: &[Piece]) -> Result<bo
     Ok(read && seen && is_written(alloc, reply, bytes.as_slice()))
 }
 
+/// Whether the bytes are read as this message.
+fn reads_next(alloc: Global, bytes: &[u8], a: &Assertion) -> bool {
+    let message = read_reply(alloc, Kind::GetNextAssertion, bytes);
+    match &message {
+        Ok(Reply::GetNextAssertion(found)) => is_assertion(found, a),
+        _ => false,
+    }
+}
+
 fn is_next_row(alloc: Global, a: &Assertion, pieces: &[Piece]) -> Result<bool, AllocError> {
     let bytes = joined(alloc, pieces)?;
-    let read = match read_reply(alloc, Kind::GetNextAssertion, bytes.as_slice()) {
-        Ok(Reply::GetNextAssertion(found)) => is_assertion(&found, a),
-        _ => false,
-    };
+    let read = reads_next(alloc, bytes.as_slice(), a);
     let reply = Reply::GetNextAssertion(assertion_of(alloc, a)?);
     Ok(read && is_written(alloc, reply, bytes.as_slice()))
 }
 
+/// Whether the bytes are read as this message.
+fn reads_information(alloc: Global, bytes: &[u8], i: &Info) -> Result<bool, AllocError> {
+    let message = read_reply(alloc, Kind::GetInfo, bytes);
+    match &message {
+        Ok(Reply::GetInfo(found)) => is_information(alloc, found, i),
+        _ => Ok(false),
+    }
+}
+
 fn is_information_row(alloc: Global, i: &Info, pieces: &[Piece]) -> Result<bool, AllocError> {
     let bytes = joined(alloc, pieces)?;
-    let read = match read_reply(alloc, Kind::GetInfo, bytes.as_slice()) {
-        Ok(Reply::GetInfo(found)) => is_information(alloc, &found, i)?,
-        _ => false,
-    };
+    let read = reads_information(alloc, bytes.as_slice(), i)?;
     Ok(read && is_written(alloc, information_of(alloc, i)?, bytes.as_slice()))
 }
 

@@ -86,7 +86,10 @@ fn creation_of(alloc: Global, c: &Creation) -> Result<Request, AllocError> {
     let user = user_of(alloc, c.user)?;
     let pub_key_cred_params = parameters_of(alloc, c.algorithms)?;
     let exclude_list = descriptors_if_there(alloc, c.excluded)?;
-    let options = c.options.map(|(rk, up, uv)| CreationOptions { rk, up, uv });
+    let options = match c.options {
+        Some((rk, up, uv)) => Some(CreationOptions { rk, up, uv }),
+        None => None,
+    };
     Ok(Request::MakeCredential(MakeCredential {
         client_data_hash: bytes_of(alloc, c.hash)?,
         rp,
@@ -100,7 +103,10 @@ fn creation_of(alloc: Global, c: &Creation) -> Result<Request, AllocError> {
 fn assertion_of(alloc: Global, a: &Assertion) -> Result<Request, AllocError> {
     let rp_id = text_of(alloc, a.rp_id)?;
     let allow_list = descriptors_if_there(alloc, a.allowed)?;
-    let options = a.options.map(|(up, uv)| AssertionOptions { up, uv });
+    let options = match a.options {
+        Some((up, uv)) => Some(AssertionOptions { up, uv }),
+        None => None,
+    };
     Ok(Request::GetAssertion(GetAssertion {
         rp_id,
         client_data_hash: bytes_of(alloc, a.hash)?,
@@ -109,24 +115,28 @@ fn assertion_of(alloc: Global, a: &Assertion) -> Result<Request, AllocError> {
     }))
 }
 
-fn are_descriptors(found: &Option<Vec<Descriptor>>, ids: Option<&[Id]>) -> bool {
+fn are_descriptors(found: &[Descriptor], ids: &[Id]) -> bool {
+    let mut same = found.len() == ids.len();
+    for (found, id) in found.iter().zip(ids.iter()) {
+        same = same && is_bytes(found.id.as_slice(), id.0) && found.kind.as_str() == id.1;
+    }
+    same
+}
+
+fn are_descriptors_if_there(found: &Option<Vec<Descriptor>>, ids: Option<&[Id]>) -> bool {
     match (found, ids) {
-        (Some(found), Some(ids)) => {
-            found.len() == ids.len()
-                && found.iter().zip(ids.iter()).all(|(d, id)| is_bytes(d.id.as_slice(), id.0)
-                    && d.kind.as_str() == id.1)
-        }
+        (Some(found), Some(ids)) => are_descriptors(found.as_slice(), ids),
         (None, None) => true,
         _ => false,
     }
 }
 
 fn are_parameters(found: &[Parameters], algorithms: &[i128]) -> bool {
-    found.len() == algorithms.len()
-        && found
-            .iter()
-            .zip(algorithms.iter())
-            .all(|(p, alg)| p.alg == *alg && p.kind.as_str() == KEY)
+    let mut same = found.len() == algorithms.len();
+    for (found, alg) in found.iter().zip(algorithms.iter()) {
+        same = same && found.alg == *alg && found.kind.as_str() == KEY;
+    }
+    same
 }
 
 fn is_rp(
@@ -157,7 +167,7 @@ fn is_creation(alloc: Global, found: &MakeCredential, c: &Creation) -> Result<bo
             && is_rp(alloc, &found.rp, c.rp)?
             && is_user(alloc, &found.user, c.user)?
             && are_parameters(found.pub_key_cred_params.as_slice(), c.algorithms)
-            && are_descriptors(&found.exclude_list, c.excluded)
+            && are_descriptors_if_there(&found.exclude_list, c.excluded)
             && options == c.options,
     )
 }
@@ -170,7 +180,7 @@ fn is_assertion(alloc: Global, found: &GetAssertion, a: &Assertion) -> Result<bo
     Ok(
         is_text(alloc, found.rp_id.as_str(), a.rp_id)?
             && is_bytes(found.client_data_hash.as_slice(), a.hash)
-            && are_descriptors(&found.allow_list, a.allowed)
+            && are_descriptors_if_there(&found.allow_list, a.allowed)
             && options == a.options,
     )
 }
@@ -188,22 +198,34 @@ fn is_unfit(alloc: Global, request: &Request) -> bool {
     matches!(write_request(alloc, request), Err(Error::Unfit))
 }
 
+/// Whether the bytes are read as this message.
+fn reads_creation(alloc: Global, bytes: &[u8], c: &Creation) -> Result<bool, AllocError> {
+    let message = read_request(alloc, bytes);
+    match &message {
+        Ok(Request::MakeCredential(found)) => is_creation(alloc, found, c),
+        _ => Ok(false),
+    }
+}
+
 /// Whether the pieces are read as this request, and it is written as they are.
 fn is_creation_row(alloc: Global, c: &Creation, pieces: &[Piece]) -> Result<bool, AllocError> {
     let bytes = joined(alloc, pieces)?;
-    let read = match read_request(alloc, bytes.as_slice()) {
-        Ok(Request::MakeCredential(found)) => is_creation(alloc, &found, c)?,
-        _ => false,
-    };
+    let read = reads_creation(alloc, bytes.as_slice(), c)?;
     Ok(read && is_written(alloc, &creation_of(alloc, c)?, bytes.as_slice()))
+}
+
+/// Whether the bytes are read as this message.
+fn reads_assertion(alloc: Global, bytes: &[u8], a: &Assertion) -> Result<bool, AllocError> {
+    let message = read_request(alloc, bytes);
+    match &message {
+        Ok(Request::GetAssertion(found)) => is_assertion(alloc, found, a),
+        _ => Ok(false),
+    }
 }
 
 fn is_assertion_row(alloc: Global, a: &Assertion, pieces: &[Piece]) -> Result<bool, AllocError> {
     let bytes = joined(alloc, pieces)?;
-    let read = match read_request(alloc, bytes.as_slice()) {
-        Ok(Request::GetAssertion(found)) => is_assertion(alloc, &found, a)?,
-        _ => false,
-    };
+    let read = reads_assertion(alloc, bytes.as_slice(), a)?;
     Ok(read && is_written(alloc, &assertion_of(alloc, a)?, bytes.as_slice()))
 }
 
@@ -563,19 +585,24 @@ fn assertions(rt: HostRuntime) -> Result<(), Fail> {
     Ok(())
 }
 
-/// Whether a command byte alone is read as this request, and it is written so.
-fn is_command(alloc: Global, command: u8) -> bool {
-    let request = match read_request(alloc, &[command]) {
-        Ok(request) => request,
-        Err(_) => return false,
-    };
-    let named = match &request {
+/// The command byte of a request without a map, 0 for the others.
+fn command_of(request: &Request) -> u8 {
+    match request {
         Request::GetInfo => 4,
         Request::Reset => 7,
         Request::GetNextAssertion => 8,
         Request::MakeCredential(_) | Request::GetAssertion(_) => 0,
-    };
-    named == command && is_written(alloc, &request, &[command])
+    }
+}
+
+/// Whether a command byte alone is read as its request, and that is written so.
+fn is_command(alloc: Global, command: u8) -> bool {
+    match read_request(alloc, &[command]) {
+        Ok(request) => {
+            command_of(&request) == command && is_written(alloc, &request, &[command])
+        }
+        Err(_) => false,
+    }
 }
 
 #[test]

@@ -14,8 +14,8 @@ mod running;
 #[cfg(test)]
 mod scripts;
 #[cfg(test)]
-mod site;
-#[cfg(test)]
 mod streams;
+#[cfg(test)]
+mod table;
 #[cfg(test)]
 mod words;

@@ -1,0 +1,182 @@
+-- From lines and groups of steps to the steps of a sign-in.
+use Rattle.std.proofs.Common.{◌≡◌, ℕ, List, ◌++◌, Some, map, refl, subst, sym, false}
+use Rattle.first_line.proofs.Laws.{first_at, first_before, first_behind, each_joined}
+use Rattle.first_line.specs.Lines.{Each, FirstStop, here, later, FirstFailing}
+use Rattle.clientdata.specs.declared.record.Kind.TheVariants.{Get}
+use Rattle.std.specs.Prelude.{Option}
+use Rattle.std.specs.Option.{ForSome}
+use Rattle.sha2.specs.Sha256.{sha256}
+use Rattle.authdata.specs.Flags.{is_set, AT, BE}
+use Rattle.authdata.specs.Layout.{AuthenticatorData, AuthOf}
+use Rattle.authdata.proofs.Unique.{one_value}
+use Rattle.verification.specs.Records.{Credential, SignIn}
+use Rattle.verification.specs.Shared.{Relation, IsFor, IsPresent, IsVerifiedAs}
+use Rattle.verification.specs.Authentication.{Attempt, Passes, PassesAll, IsCounted, credential_steps, client_data_steps, auth_data_steps, signature_steps}
+use Rattle.verification.specs.ClientData.{Says, lines}
+use Rattle.verification.specs.Answers.{FailsIn, IsNotBare, IsRefused, never, step_of}
+use Rattle.verification.specs.declared.client_data.ClientDataLine.{ClientDataLine}
+use Rattle.verification.specs.declared.client_data.ClientDataLine.TheVariants as line
+use Rattle.verification.specs.declared.refusal.SignInError.{SignInError}
+use Rattle.verification.specs.declared.refusal.SignInError.TheVariants as errors
+use Rattle.verification.specs.declared.refusal.SignInRefusal.{SignInRefusal}
+use Rattle.verification.specs.declared.refusal.SignInRefusal.TheVariants as step
+
+-- the first of other lines that these stand for
+pub first_image : {L M : Type 0} {Passed : L → Type 0} {Stops : L → Type 0} {More : M → Type 0} {Ends : M → Type 0} (f : L → M) {lines : List L} {line : L}
+    → ((x : L) → Passed x → More (f x)) → ((x : L) → Stops x → Ends (f x)) → FirstStop Passed Stops lines line → FirstStop More Ends (map f lines) (f line)
+first_image f p s (here line more stops) = here (f line) (map f more) (s line stops)
+first_image f p s (later x more line passed first) = later (f x) (map f more) (f line) (p x passed) (first_image f p s first)
+
+-- the first of the same lines, by what follows for each of them
+pub first_along : {L : Type 0} {Passed : L → Type 0} {Stops : L → Type 0} {More : L → Type 0} {Ends : L → Type 0} {lines : List L} {line : L}
+    → Each (λ x. (Passed x → More x) × (Stops x → Ends x)) lines → FirstStop Passed Stops lines line → FirstStop More Ends lines line
+first_along by (here line more stops) = here line more (by.0.1 stops)
+first_along by (later x more line passed first) = later x more line (by.0.0 passed) (first_along by.1 first)
+
+-- a line on client data is the step of its name
+line_passes : (x : Attempt) (e : SignIn) → x.session ≡ Some e → (l : ClientDataLine) → Says Get e.challenge x.rp x.response.client_data l → Passes never x (step_of l)
+line_passes x e is line.Readable says = says
+line_passes x e is line.Type says = says
+line_passes x e is line.Challenge says = λ other other_is. let same : e ≡ other = cc in rw (sym same) says
+line_passes x e is line.Origin says = says
+line_passes x e is line.TokenBinding says = says
+
+line_says : (x : Attempt) (e : SignIn) → x.session ≡ Some e → (l : ClientDataLine) → Passes never x (step_of l) → Says Get e.challenge x.rp x.response.client_data l
+line_says x e is line.Readable passes = passes
+line_says x e is line.Type passes = passes
+line_says x e is line.Challenge passes = passes e is
+line_says x e is line.Origin passes = passes
+line_says x e is line.TokenBinding passes = passes
+
+pub client_data_fails : (x : Attempt) (e : SignIn) (l : ClientDataLine) → x.session ≡ Some e → FirstFailing (Says Get e.challenge x.rp x.response.client_data) lines l
+    → FirstFailing (Passes never x) client_data_steps (step_of l)
+client_data_fails x e l is first = first_image step_of (line_passes x e is) (λ m no passes. no (line_says x e is m passes)) first
+
+-- what holds of authenticator data holds of all that the bytes are
+pub of_all : (P : AuthenticatorData → Type 0) (a : AuthenticatorData) (bs : List ℕ) → AuthOf a bs → P a → (b : AuthenticatorData) → AuthOf b bs → P b
+of_all P a bs h p b k = subst P (one_value a b bs h k) p
+
+-- what holds of a session's expectation holds of whatever is expected
+pub of_some : {A : Type 0} (P : A → Type 0) (o : Option A) (x : A) → o ≡ Some x → P x → (y : A) → o ≡ Some y → P y
+of_some P o x is p y other = let same : x ≡ y = cc in subst P same p
+
+-- ---- the authenticator data
+
+-- the response's authenticator data are these, with AT clear
+pub record HasBare (x : Attempt) (a : AuthenticatorData) : Type 0 where
+  pub spelled : AuthOf a x.response.auth_data
+  pub bare : is_set a.flags AT ≡ false
+
+pub unbare : (x : Attempt) (e : SignInError) → IsNotBare x.response.auth_data e → FailsIn never x auth_data_steps e
+unbare x (errors.Refused step.BadAuthenticatorData) none = first_at 0 refl tt (λ passes. none passes.0 passes.1 passes.2)
+unbare x (errors.Refused w) none = absurd none
+unbare x errors.Memory none = tt
+
+pub wrong_party : (x : Attempt) (a : AuthenticatorData) → HasBare x a → (IsFor x.rp a → ⊥) → FirstFailing (Passes never x) auth_data_steps step.WrongRelyingParty
+wrong_party x a has other = first_at 1 refl ((a, has.spelled, has.bare), tt) (λ passes. other (passes a has.spelled))
+
+pub not_present : (x : Attempt) (a : AuthenticatorData) → HasBare x a → IsFor x.rp a → (IsPresent a → ⊥) → FirstFailing (Passes never x) auth_data_steps step.UserNotPresent
+not_present x a has party absent =
+    first_at 2 refl ((a, has.spelled, has.bare), (of_all (IsFor x.rp) a _ has.spelled party, tt)) (λ passes. absent (passes a has.spelled))
+
+pub not_verified : (x : Attempt) (e : SignIn) (a : AuthenticatorData) → x.session ≡ Some e → HasBare x a → IsFor x.rp a → IsPresent a → (IsVerifiedAs e.verified a → ⊥)
+    → FirstFailing (Passes never x) auth_data_steps step.UserNotVerified
+not_verified x e a is has party present unverified =
+    first_at 3 refl ((a, has.spelled, has.bare), (of_all (IsFor x.rp) a _ has.spelled party, (of_all IsPresent a _ has.spelled present, tt)))
+    (λ passes. unverified (passes e is a has.spelled))
+
+pub data_passes : (x : Attempt) (e : SignIn) (a : AuthenticatorData) → x.session ≡ Some e → HasBare x a → IsFor x.rp a → IsPresent a → IsVerifiedAs e.verified a
+    → Each (Passes never x) auth_data_steps
+data_passes x e a is has party present verified =
+    let Verified : SignIn → Type 0 = λ f. (b : AuthenticatorData) → AuthOf b x.response.auth_data → IsVerifiedAs f.verified b in (
+      (a, has.spelled, has.bare),
+      (
+        of_all (IsFor x.rp) a _ has.spelled party,
+        (
+          of_all IsPresent a _ has.spelled present,
+          (of_some Verified x.session e is (of_all (IsVerifiedAs e.verified) a _ has.spelled verified), tt),
+        ),
+      ),
+    )
+
+-- ---- the signature, the counter and the mark of eligibility
+
+-- the credential that the response is judged by, and the authenticator data
+pub record HasBoth (x : Attempt) (c : Credential) (a : AuthenticatorData) : Type 0 where
+  pub credential : x.credential ≡ Some c
+  pub spelled : AuthOf a x.response.auth_data
+
+-- the message that is signed
+abbrev pub message_of : Attempt → List ℕ
+message_of x = x.response.auth_data ++ sha256 x.response.client_data
+
+module _ (valid : Relation) (x : Attempt) (c : Credential) (a : AuthenticatorData) (has : HasBoth x c a) where
+  abbrev IsValid : Credential → Type 0
+  IsValid d = valid d.key (message_of x) x.response.signature
+
+  abbrev IsCountedFor : Credential → Type 0
+  IsCountedFor d = (b : AuthenticatorData) → AuthOf b x.response.auth_data → IsCounted d.sign_count b.sign_count
+
+  abbrev IsEligibleFor : Credential → Type 0
+  IsEligibleFor d = ForSome d.eligible (λ e. (b : AuthenticatorData) → AuthOf b x.response.auth_data → is_set b.flags BE ≡ e)
+
+  signed : IsValid c → Passes valid x step.BadSignature
+  signed v = of_some IsValid x.credential c has.credential v
+
+  counted : IsCounted c.sign_count a.sign_count → Passes valid x step.CounterNotGreater
+  counted k = of_some IsCountedFor x.credential c has.credential (of_all (λ b. IsCounted c.sign_count b.sign_count) a _ has.spelled k)
+
+  eligible : ForSome c.eligible (λ e. is_set a.flags BE ≡ e) → Passes valid x step.EligibilityChanged
+  eligible k = of_some IsEligibleFor x.credential c has.credential (λ e is. of_all (λ b. is_set b.flags BE ≡ e) a _ has.spelled (k e is))
+
+  pub bad_signature : (IsValid c → ⊥) → FirstFailing (Passes valid x) signature_steps step.BadSignature
+  bad_signature invalid = first_at 0 refl tt (λ passes. invalid (passes c has.credential))
+
+  pub not_greater : IsValid c → (IsCounted c.sign_count a.sign_count → ⊥) → FirstFailing (Passes valid x) signature_steps step.CounterNotGreater
+  not_greater v uncounted = first_at 1 refl (signed v, tt) (λ passes. uncounted (passes c has.credential a has.spelled))
+
+  pub changed : IsValid c → IsCounted c.sign_count a.sign_count → (ForSome c.eligible (λ e. is_set a.flags BE ≡ e) → ⊥)
+      → FirstFailing (Passes valid x) signature_steps step.EligibilityChanged
+  changed v k other = first_at 2 refl (signed v, (counted k, tt)) (λ passes. other (λ e is. passes c has.credential e is a has.spelled))
+
+  pub signature_passes : IsValid c → IsCounted c.sign_count a.sign_count → ForSome c.eligible (λ e. is_set a.flags BE ≡ e)
+      → Each (Passes valid x) signature_steps
+  signature_passes v k e = (signed v, (counted k, (eligible e, tt)))
+
+-- ---- the groups joined
+
+-- the steps that do not look at the signature are passed whatever is valid
+as_any : (valid : Relation) (x : Attempt) → Each (λ w. (Passes never x w → Passes valid x w) × ((Passes never x w → ⊥) → Passes valid x w → ⊥)) credential_steps
+as_any valid x =
+    ((λ h. h, λ h. h), ((λ h. h, λ h. h), ((λ h. h, λ h. h), ((λ h. h, λ h. h), tt))))
+
+client_as_any : (valid : Relation) (x : Attempt) → Each (λ w. (Passes never x w → Passes valid x w) × ((Passes never x w → ⊥) → Passes valid x w → ⊥)) client_data_steps
+client_as_any valid x =
+    ((λ h. h, λ h. h), ((λ h. h, λ h. h), ((λ h. h, λ h. h), ((λ h. h, λ h. h), ((λ h. h, λ h. h), tt)))))
+
+data_as_any : (valid : Relation) (x : Attempt) → Each (λ w. (Passes never x w → Passes valid x w) × ((Passes never x w → ⊥) → Passes valid x w → ⊥)) auth_data_steps
+data_as_any valid x =
+    ((λ h. h, λ h. h), ((λ h. h, λ h. h), ((λ h. h, λ h. h), ((λ h. h, λ h. h), tt))))
+
+module _ (valid : Relation) (x : Attempt) where
+  pub credential_fails : (w : SignInRefusal) → FirstFailing (Passes never x) credential_steps w → IsRefused valid x (errors.Refused w)
+  credential_fails w first = first_before _ (first_along (as_any valid x) first)
+
+  pub client_fails : Each (Passes never x) credential_steps → (e : SignInError) → FailsIn never x client_data_steps e → IsRefused valid x e
+  client_fails a (errors.Refused w) first = first_behind credential_steps a (first_before _ (first_along (client_as_any valid x) first))
+  client_fails a errors.Memory first = a
+
+  pub data_fails : Each (Passes never x) credential_steps → Each (Passes never x) client_data_steps → (e : SignInError) → FailsIn never x auth_data_steps e → IsRefused valid x e
+  data_fails a b (errors.Refused w) first = first_behind credential_steps a (first_behind client_data_steps b (first_before _ (first_along (data_as_any valid x) first)))
+  data_fails a b errors.Memory first = a
+
+  pub signature_fails : Each (Passes never x) credential_steps → Each (Passes never x) client_data_steps → Each (Passes never x) auth_data_steps
+      → (w : SignInRefusal) → FirstFailing (Passes valid x) signature_steps w → IsRefused valid x (errors.Refused w)
+  signature_fails a b c w first = first_behind credential_steps a (first_behind client_data_steps b (first_behind auth_data_steps c first))
+
+  pub all_pass : Each (Passes never x) credential_steps → Each (Passes never x) client_data_steps → Each (Passes never x) auth_data_steps
+      → Each (Passes valid x) signature_steps → PassesAll valid x
+  all_pass a b c d =
+      each_joined (Passes valid x) credential_steps (client_data_steps ++ (auth_data_steps ++ signature_steps)) a
+      (each_joined (Passes valid x) client_data_steps (auth_data_steps ++ signature_steps) b
+      (each_joined (Passes valid x) auth_data_steps signature_steps c d))

@@ -1,0 +1,18 @@
+use Rattle.std.proofs.Common.{refl, rules}
+use Rattle.first_line.proofs.Laws.{first_at}
+use Rattle.verification.proofs.client_data.check_client_data.Goals as goal
+
+pub returns-in-Err-Unreadable-clause-refused : goal.returns-in-Err-Unreadable-clause-refused
+returns-in-Err-Unreadable-clause-refused c = first_at 0 refl (search rules) (search rules)
+
+pub returns-then-ne-clause-refused : goal.returns-then-ne-clause-refused
+returns-then-ne-clause-refused c = first_at 1 refl (search rules) (search rules)
+
+pub returns-then-ne-2-clause-refused : goal.returns-then-ne-2-clause-refused
+returns-then-ne-2-clause-refused c = first_at 2 refl (search rules) (search rules)
+
+pub returns-then-not-has_origin-clause-refused : goal.returns-then-not-has_origin-clause-refused
+returns-then-not-has_origin-clause-refused c = first_at 3 refl (search rules) (search rules)
+
+pub returns-in-Other-clause-refused : goal.returns-in-Other-clause-refused
+returns-in-Other-clause-refused c = first_at 4 refl (search rules) (search rules)

@@ -1,0 +1,93 @@
+-- The steps that verify an authentication assertion (WebAuthn Level 2, section 7.2), and the rules on backup
+-- that profile 2 adds.
+use Rattle.std.specs.Prelude.{◌≡◌, ◌<◌, ◌⊎◌, ℕ, List, [], ◌∷◌, ◌++◌, Option, Some, None, IsSome, false, Contains}
+use Rattle.std.specs.Option.{ForSome}
+use Rattle.sha2.specs.Sha256.{sha256}
+use Rattle.first_line.specs.Lines.{Each, FirstFailing}
+use Rattle.clientdata.specs.Reading.{seen_of}
+use Rattle.clientdata.specs.declared.record.Kind.TheVariants.{Get}
+use Rattle.authdata.specs.Flags.{is_set, AT, BE}
+use Rattle.authdata.specs.Layout.{AuthenticatorData, AuthOf}
+use Rattle.authdata.specs.Responses.{Assertion}
+use Rattle.verification.specs.Records.{RelyingParty, Credential, SignIn}
+use Rattle.verification.specs.Shared.{Relation, HasType, HasChallenge, HasOrigin, HasNoBinding, IsFor, IsPresent, IsVerifiedAs}
+use Rattle.verification.specs.declared.refusal.SignInRefusal.{SignInRefusal}
+use Rattle.verification.specs.declared.refusal.SignInRefusal.TheVariants as step
+
+-- a sign-in as it is judged: the relying party; what the session expects, where one is open for sign-in; the
+-- credential of the response's id, where one is registered; and the response
+pub record Attempt : Type 0 where
+  pub rp : RelyingParty
+  pub session : Option SignIn
+  pub credential : Option Credential
+  pub response : Assertion
+
+-- each user that is named, by the session or by the response, is this one, and at least one is named
+abbrev pub AreUser : Option (List ℕ) → Option (List ℕ) → List ℕ → Type 0
+AreUser None None user = ⊥
+AreUser (Some x) None user = x ≡ user
+AreUser None (Some y) user = y ≡ user
+AreUser (Some x) (Some y) user = (x ≡ user) × (y ≡ user)
+
+-- the counter has grown, or neither side counts
+abbrev pub IsCounted : ℕ → ℕ → Type 0
+IsCounted stored received = ((stored ≡ 0) × (received ≡ 0)) ⊎ (stored < received)
+
+-- the response passes a step, where it passes the earlier ones
+abbrev pub Passes : Relation → Attempt → SignInRefusal → Type 0
+-- the session is open, for sign-in
+Passes valid x step.SessionNotOpen = IsSome x.session
+-- the credential is listed, where there is a list
+Passes valid x step.CredentialNotAllowed = ForSome x.session (λ e. (e.allow ≡ []) ⊎ Contains e.allow x.response.credential)
+-- the credential is registered and not retired
+Passes valid x step.UnknownCredential = IsSome x.credential × ForSome x.credential (λ c. c.retired ≡ false)
+-- each user that is named is the credential's
+Passes valid x step.OtherUser = ForSome x.session (λ e. ForSome x.credential (λ c. AreUser e.user x.response.user c.user))
+-- the client data can be read
+Passes valid x step.UnreadableClientData = IsSome (seen_of x.response.client_data)
+-- their type is webauthn.get
+Passes valid x step.WrongType = ForSome (seen_of x.response.client_data) (HasType Get)
+-- their challenge is the session's
+Passes valid x step.WrongChallenge = ForSome x.session (λ e. ForSome (seen_of x.response.client_data) (HasChallenge e.challenge))
+-- their origin is one of the relying party's
+Passes valid x step.WrongOrigin = ForSome (seen_of x.response.client_data) (HasOrigin x.rp)
+-- token binding is not used
+Passes valid x step.TokenBinding = ForSome (seen_of x.response.client_data) HasNoBinding
+-- the bytes are authenticator data with AT clear
+Passes valid x step.BadAuthenticatorData = (a : AuthenticatorData) × AuthOf a x.response.auth_data × (is_set a.flags AT ≡ false)
+-- rpIdHash is the hash of the rp id
+Passes valid x step.WrongRelyingParty = (a : AuthenticatorData) → AuthOf a x.response.auth_data → IsFor x.rp a
+-- UP is set
+Passes valid x step.UserNotPresent = (a : AuthenticatorData) → AuthOf a x.response.auth_data → IsPresent a
+-- UV is set, where the session requires it
+Passes valid x step.UserNotVerified = ForSome x.session (λ e. (a : AuthenticatorData) → AuthOf a x.response.auth_data → IsVerifiedAs e.verified a)
+-- the signature is valid over the authenticator data as they came, then the hash of the client data
+Passes valid x step.BadSignature = ForSome x.credential (λ c. valid c.key (x.response.auth_data ++ sha256 x.response.client_data) x.response.signature)
+-- the counter has grown
+Passes valid x step.CounterNotGreater = ForSome x.credential (λ c. (a : AuthenticatorData) → AuthOf a x.response.auth_data → IsCounted c.sign_count a.sign_count)
+-- BE is what it was, where that is known
+Passes valid x step.EligibilityChanged = ForSome x.credential (λ c. ForSome c.eligible (λ e. (a : AuthenticatorData) → AuthOf a x.response.auth_data → is_set a.flags BE ≡ e))
+
+-- the steps in their order: on the session and the credential; on the client data; on the authenticator data;
+-- on the signature, the counter and the mark of eligibility
+abbrev pub credential_steps : List SignInRefusal
+credential_steps = step.SessionNotOpen ∷ step.CredentialNotAllowed ∷ step.UnknownCredential ∷ step.OtherUser ∷ []
+
+abbrev pub client_data_steps : List SignInRefusal
+client_data_steps = step.UnreadableClientData ∷ step.WrongType ∷ step.WrongChallenge ∷ step.WrongOrigin ∷ step.TokenBinding ∷ []
+
+abbrev pub auth_data_steps : List SignInRefusal
+auth_data_steps = step.BadAuthenticatorData ∷ step.WrongRelyingParty ∷ step.UserNotPresent ∷ step.UserNotVerified ∷ []
+
+abbrev pub signature_steps : List SignInRefusal
+signature_steps = step.BadSignature ∷ step.CounterNotGreater ∷ step.EligibilityChanged ∷ []
+
+abbrev pub steps : List SignInRefusal
+steps = credential_steps ++ (client_data_steps ++ (auth_data_steps ++ signature_steps))
+
+abbrev pub PassesAll : Relation → Attempt → Type 0
+PassesAll valid x = Each (Passes valid x) steps
+
+-- the first step that the response does not pass: it passes each earlier one
+abbrev pub IsFirstFailing : Relation → Attempt → SignInRefusal → Type 0
+IsFirstFailing valid x w = FirstFailing (Passes valid x) steps w

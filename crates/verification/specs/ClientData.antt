@@ -1,0 +1,28 @@
+-- The lines on client data that both ceremonies have, for a ceremony's type and challenge. Private functions are
+-- proved against these; the steps of the ceremonies say the same of their own response.
+use Rattle.std.specs.Prelude.{ℕ, List, [], ◌∷◌, IsSome}
+use Rattle.std.specs.Option.{ForSome}
+use Rattle.clientdata.specs.Reading.{seen_of}
+use Rattle.clientdata.specs.declared.record.Kind.{Kind}
+use Rattle.first_line.specs.Lines.{FirstFailing}
+use Rattle.verification.specs.Records.{RelyingParty}
+use Rattle.verification.specs.Shared.{HasType, HasChallenge, HasOrigin, HasNoBinding}
+use Rattle.verification.specs.declared.client_data.ClientDataError.{ClientDataError}
+use Rattle.verification.specs.declared.client_data.ClientDataError.TheVariants as errors
+use Rattle.verification.specs.declared.client_data.ClientDataLine.{ClientDataLine}
+use Rattle.verification.specs.declared.client_data.ClientDataLine.TheVariants as line
+
+abbrev pub Says : Kind → List ℕ → RelyingParty → List ℕ → ClientDataLine → Type 0
+Says kind challenge rp t line.Readable = IsSome (seen_of t)
+Says kind challenge rp t line.Type = ForSome (seen_of t) (HasType kind)
+Says kind challenge rp t line.Challenge = ForSome (seen_of t) (HasChallenge challenge)
+Says kind challenge rp t line.Origin = ForSome (seen_of t) (HasOrigin rp)
+Says kind challenge rp t line.TokenBinding = ForSome (seen_of t) HasNoBinding
+
+abbrev pub lines : List ClientDataLine
+lines = line.Readable ∷ line.Type ∷ line.Challenge ∷ line.Origin ∷ line.TokenBinding ∷ []
+
+-- the first line that fails is named; want of memory says nothing
+abbrev pub Fails : Kind → List ℕ → RelyingParty → List ℕ → ClientDataError → Type 0
+Fails kind challenge rp t (errors.Fails line) = FirstFailing (Says kind challenge rp t) lines line
+Fails kind challenge rp t errors.Memory = Unit {0}

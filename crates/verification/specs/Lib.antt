@@ -1,0 +1,10 @@
+pub mod Records
+pub mod Shared
+pub mod ClientData
+pub mod Authentication
+pub mod Registration
+pub mod Answers
+pub mod RegistrationAnswers
+pub mod Views
+pub mod Numbers
+pub mod Attested

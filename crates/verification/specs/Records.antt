@@ -1,0 +1,35 @@
+-- What a relying party is, keeps of a credential, and expects of a ceremony (WebAuthn Level 2, section 7).
+use Rattle.std.specs.Prelude.{ℕ, List, Bool, Option}
+use Rattle.cose.specs.declared.key.Alg.{Alg}
+use Rattle.cose.specs.declared.key.CoseKey.{CoseKey}
+
+-- its rp id, and the origins that its pages have
+pub record RelyingParty : Type 0 where
+  pub rp_id : List ℕ
+  pub origins : List (List ℕ)
+
+-- a registered credential: its id, the user handle, the public key, the signature counter last received,
+-- whether it is eligible for backup, where that is known, and whether it is retired
+pub record Credential : Type 0 where
+  pub id : List ℕ
+  pub user : List ℕ
+  pub key : CoseKey
+  pub sign_count : ℕ
+  pub eligible : Option Bool
+  pub retired : Bool
+
+-- what a sign-in expects: a user, where one is named; the credentials that may answer, where there are any
+-- listed; whether the user is to be verified; and the challenge
+pub record SignIn : Type 0 where
+  pub user : Option (List ℕ)
+  pub allow : List (List ℕ)
+  pub verified : Bool
+  pub challenge : List ℕ
+
+-- what a registration expects: the user, the algorithms offered, whether the user is to be verified, and the
+-- challenge
+pub record Registration : Type 0 where
+  pub user : List ℕ
+  pub algorithms : List Alg
+  pub verified : Bool
+  pub challenge : List ℕ

@@ -1,0 +1,44 @@
+-- The lines that sections 7.1 and 7.2 of WebAuthn Level 2 have in common: on client data (5.8.1) and on
+-- authenticator data (6.1).
+use Rattle.std.specs.Prelude.{◌≡◌, ◌⊎◌, ℕ, List, Bool, true, Contains}
+use Rattle.sha2.specs.Sha256.{sha256}
+use Rattle.cose.specs.declared.key.CoseKey.{CoseKey}
+use Rattle.clientdata.specs.Serialised.{challenge_text_of, type_of}
+use Rattle.clientdata.specs.declared.record.Kind.{Kind}
+use Rattle.clientdata.specs.declared.seen.Binding.TheVariants.{Absent, Supported}
+use Rattle.clientdata.specs.declared.seen.Seen.{Seen}
+use Rattle.authdata.specs.Flags.{is_set, UP, UV}
+use Rattle.authdata.specs.Layout.{AuthenticatorData}
+use Rattle.verification.specs.Records.{RelyingParty}
+
+-- a scheme's relation: the signature is valid for the message under the key
+abbrev pub Relation : Type 1
+Relation = CoseKey → List ℕ → List ℕ → Type 0
+
+-- the type is the ceremony's
+abbrev pub HasType : Kind → Seen → Type 0
+HasType kind seen = seen.kind ≡ type_of kind
+
+-- the challenge is the text of this one
+abbrev pub HasChallenge : List ℕ → Seen → Type 0
+HasChallenge challenge seen = seen.challenge ≡ challenge_text_of challenge
+
+-- the origin is one of the relying party's
+abbrev pub HasOrigin : RelyingParty → Seen → Type 0
+HasOrigin rp seen = Contains rp.origins seen.origin
+
+-- token binding is absent, or supported and not used
+abbrev pub HasNoBinding : Seen → Type 0
+HasNoBinding seen = (seen.binding ≡ Absent) ⊎ (seen.binding ≡ Supported)
+
+-- rpIdHash is the hash of the rp id
+abbrev pub IsFor : RelyingParty → AuthenticatorData → Type 0
+IsFor rp a = a.rp_id_hash ≡ sha256 rp.rp_id
+
+-- UP is set
+abbrev pub IsPresent : AuthenticatorData → Type 0
+IsPresent a = is_set a.flags UP ≡ true
+
+-- UV is set, where it is required
+abbrev pub IsVerifiedAs : Bool → AuthenticatorData → Type 0
+IsVerifiedAs required a = required ≡ true → is_set a.flags UV ≡ true

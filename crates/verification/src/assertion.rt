@@ -1,0 +1,246 @@
+//! Judging an authentication assertion (WebAuthn Level 2, section 7.2).
+
+ghost use Rattle.std.specs.Prelude.{◌≡◌, ◌↔◌, ◌⊎◌, ◌++◌, [], Contains, IfErr, IfOk, IsTrue, OnOk, Some, false, map, option_map, true};
+ghost use Rattle.std.specs.Option.{ForSome};
+ghost use Rattle.sha2.specs.Sha256.{sha256};
+ghost use Rattle.first_line.specs.Lines.{Each, FirstFailing};
+ghost use Rattle.authdata.specs.Flags.{is_set, AT, BE};
+ghost use Rattle.authdata.specs.Layout.{AuthOf, auth_view};
+ghost use Rattle.verification.specs.Authentication.{AreUser, IsCounted, Passes, PassesAll};
+ghost use Rattle.verification.specs.Authentication.{credential_steps, client_data_steps, auth_data_steps, signature_steps};
+ghost use Rattle.verification.specs.Answers.{FailsIn, IsNotBare, IsRefused, Tells, never, step_of};
+ghost use Rattle.verification.specs.Views.{attempt_of, credential_of, sign_in_of};
+
+use crate::client_data::{ClientDataError, ClientDataLine, check_client_data};
+use crate::flag::is_verified_as;
+use crate::party::RelyingParty;
+use crate::record::{AssertionParts, CredentialView, SignInSession};
+use crate::refusal::{SignInError, SignInRefusal};
+use authdata::{AuthData, flags, read};
+use clientdata::{Kind, hash};
+use cose::{CoseKey, Verifier};
+use std::alloc::Global;
+
+/// A sign-in to be judged.
+#[derive(Clone, Copy, Drop)]
+pub struct SignInAttempt<'a> {
+    /// The relying party.
+    pub party: &'a RelyingParty,
+    /// What the session expects; none where it is not open, or is one for registration.
+    pub session: Option<&'a SignInSession>,
+    /// The credential whose id the response has; none where there is none.
+    pub credential: Option<CredentialView<'a>>,
+    /// The client's answer.
+    pub response: AssertionParts<'a>,
+}
+
+/// What an assertion that passes each step says.
+#[derive(Clone, Copy, Debug, PartialEq, Eq, Drop)]
+pub struct VerifiedAssertion {
+    /// The signature counter that was received: the credential's from now on.
+    pub sign_count: u32,
+    /// Whether the credential is eligible for backup (BE), to be stored where it was unknown.
+    pub eligible: bool,
+    /// Whether the credential is backed up now (BS).
+    pub backed_up: bool,
+}
+
+/// Whether each user that is named is this one, and at least one is named.
+fn are_user(expected: &Option<Vec<u8>>, named: Option<&[u8]>, user: &[u8]) -> bool
+    ensures { IsTrue result ↔ AreUser (option_map (λ u. u.items) expected.now) (option_map (λ u. u.now) named.entry) user.now }
+{
+    match (expected, named) {
+        (None, None) => false,
+        (Some(expected), None) => expected.as_slice() == user,
+        (None, Some(named)) => named == user,
+        (Some(expected), Some(named)) => expected.as_slice() == user && named == user,
+    }
+}
+
+/// Whether an id is listed, or there is no list.
+fn is_allowed(allow: &[Vec<u8>], id: &[u8]) -> bool
+    ensures { IsTrue result ↔ ((map (λ v. v.items) allow.now ≡ []) ⊎ Contains (map (λ v. v.items) allow.now) id.now) }
+{
+    if allow.is_empty() {
+        return true;
+    }
+    for allowed in allow {
+        if allowed.as_slice() == id {
+            return true;
+        }
+    }
+    false
+}
+
+/// Whether a counter has grown, or neither side counts.
+fn is_counted(stored: u32, received: u32) -> bool
+    ensures { IsTrue result ↔ IsCounted stored received }
+{
+    stored < received || (stored == 0 && received == 0)
+}
+
+/// What the step on client data is, of those of a sign-in.
+fn refusal_of(line: ClientDataLine) -> SignInRefusal
+    ensures { result ≡ step_of line }
+{
+    match line {
+        ClientDataLine::Readable => SignInRefusal::UnreadableClientData,
+        ClientDataLine::Type => SignInRefusal::WrongType,
+        ClientDataLine::Challenge => SignInRefusal::WrongChallenge,
+        ClientDataLine::Origin => SignInRefusal::WrongOrigin,
+        ClientDataLine::TokenBinding => SignInRefusal::TokenBinding,
+    }
+}
+
+/// Whether the signature is valid over the authenticator data as they came, then the hash of the client data.
+fn is_signed<V: Verifier>(verifier: &V, key: &CoseKey, response: &AssertionParts<'_>) -> bool
+    ensures { IsTrue result ↔ V.valid verifier.now key.now
+        (response.now.auth_data.now ++ sha256 response.now.client_data.now) response.now.signature.now }
+{
+    let hash = hash(response.client_data);
+    verifier.verify(key, [response.auth_data, &hash], response.signature)
+}
+
+/// Whether the mark of eligibility is what it was, where that is known.
+fn is_eligible_as(known: Option<bool>, flags: u8) -> bool
+    ensures { IsTrue result ↔ ForSome known (λ eligible. is_set flags BE ≡ eligible) }
+{
+    match known {
+        None => true,
+        Some(eligible) => flags::is_set(flags, flags::BE) == eligible,
+    }
+}
+
+/// The authenticator data that the bytes are, which attest no credential.
+fn bare_data(alloc: Global, bytes: &[u8]) -> Result<AuthData, SignInError>
+    ensures found { IfOk result (λ a. AuthOf (auth_view a) bytes.now × (is_set a.flags AT ≡ false)) }
+    ensures refused { IfErr result (IsNotBare bytes.now) }
+{
+    match read(alloc, bytes) {
+        Ok(data) => {
+            if flags::is_set(data.flags, flags::AT) {
+                return Err(SignInError::Refused(SignInRefusal::BadAuthenticatorData));
+            }
+            Ok(data)
+        }
+        Err(authdata::Error::Memory) => Err(SignInError::Memory),
+        Err(_) => Err(SignInError::Refused(SignInRefusal::BadAuthenticatorData)),
+    }
+}
+
+impl<'a> SignInAttempt<'a> {
+    /// The session and the credential, where the steps on them are passed.
+    fn expected(&self) -> Result<(&'a SignInSession, CredentialView<'a>), SignInRefusal>
+        ensures passes { OnOk result (Each (Passes never (attempt_of self.now)) credential_steps) }
+        ensures session { IfOk result (λ x. (attempt_of self.now).session ≡ Some (sign_in_of x.0.now)) }
+        ensures credential { IfOk result (λ x. (attempt_of self.now).credential ≡ Some (credential_of x.1)) }
+        ensures refused { IfErr result (FirstFailing (Passes never (attempt_of self.now)) credential_steps) }
+    {
+        let Some(session) = self.session else {
+            return Err(SignInRefusal::SessionNotOpen);
+        };
+        if !is_allowed(&session.allow, self.response.credential) {
+            return Err(SignInRefusal::CredentialNotAllowed);
+        }
+        let Some(credential) = self.credential else {
+            return Err(SignInRefusal::UnknownCredential);
+        };
+        if credential.retired {
+            return Err(SignInRefusal::UnknownCredential);
+        }
+        if !are_user(&session.user, self.response.user, credential.user) {
+            return Err(SignInRefusal::OtherUser);
+        }
+        Ok((session, credential))
+    }
+
+    /// Whether the steps on client data are passed, those of a session that is open.
+    fn check_client_data(&self, alloc: Global, session: &SignInSession) -> Result<(), SignInError>
+        requires { (attempt_of self.now).session ≡ Some (sign_in_of session.now) }
+        ensures passes { OnOk result (Each (Passes never (attempt_of self.now)) client_data_steps) }
+        ensures refused { IfErr result (FailsIn never (attempt_of self.now) client_data_steps) }
+    {
+        match check_client_data(
+            alloc,
+            self.response.client_data,
+            Kind::Get,
+            &session.challenge,
+            self.party,
+        ) {
+            Ok(()) => Ok(()),
+            Err(ClientDataError::Fails(line)) => Err(SignInError::Refused(refusal_of(line))),
+            Err(ClientDataError::Memory) => Err(SignInError::Memory),
+        }
+    }
+
+    /// The authenticator data, where the steps on them are passed.
+    fn auth_data(&self, alloc: Global, session: &SignInSession) -> Result<AuthData, SignInError>
+        requires { (attempt_of self.now).session ≡ Some (sign_in_of session.now) }
+        ensures passes { OnOk result (Each (Passes never (attempt_of self.now)) auth_data_steps) }
+        ensures found { IfOk result (λ a. AuthOf (auth_view a) self.now.response.auth_data.now) }
+        ensures refused { IfErr result (FailsIn never (attempt_of self.now) auth_data_steps) }
+    {
+        let data = match bare_data(alloc, self.response.auth_data) {
+            Ok(data) => data,
+            Err(error) => return Err(error),
+        };
+        if !self.party.is_hash(&data.rp_id_hash) {
+            return Err(SignInError::Refused(SignInRefusal::WrongRelyingParty));
+        }
+        if !flags::is_set(data.flags, flags::UP) {
+            return Err(SignInError::Refused(SignInRefusal::UserNotPresent));
+        }
+        if !is_verified_as(session.verified, data.flags) {
+            return Err(SignInError::Refused(SignInRefusal::UserNotVerified));
+        }
+        Ok(data)
+    }
+
+    /// Whether the steps on the signature, the counter and the mark of eligibility are passed.
+    fn check_signature<V: Verifier>(
+        &self,
+        verifier: &V,
+        credential: &CredentialView<'_>,
+        auth_data: &AuthData,
+    ) -> Result<(), SignInRefusal>
+        requires credential { (attempt_of self.now).credential ≡ Some (credential_of credential.now) }
+        requires auth_data { AuthOf (auth_view auth_data.now) self.now.response.auth_data.now }
+        ensures passes { OnOk result (Each (Passes (V.valid verifier.now) (attempt_of self.now)) signature_steps) }
+        ensures refused { IfErr result (FirstFailing (Passes (V.valid verifier.now) (attempt_of self.now)) signature_steps) }
+    {
+        if !is_signed(verifier, credential.key, &self.response) {
+            return Err(SignInRefusal::BadSignature);
+        }
+        if !is_counted(credential.sign_count, auth_data.sign_count) {
+            return Err(SignInRefusal::CounterNotGreater);
+        }
+        if !is_eligible_as(credential.eligible, auth_data.flags) {
+            return Err(SignInRefusal::EligibilityChanged);
+        }
+        Ok(())
+    }
+}
+
+/// Judges an assertion: what it says where it passes each step of section 7.2, or the first step that it does
+/// not pass.
+///
+/// Memory is taken by the reader of the client data alone; want of it is answered only where the first four
+/// steps, on the session and the credential, are passed.
+pub fn verify_assertion<V: Verifier>(
+    alloc: Global,
+    verifier: &V,
+    attempt: &SignInAttempt<'_>,
+) -> Result<VerifiedAssertion, SignInError>
+    ensures accepted { IfOk result (λ x. PassesAll (V.valid verifier.now) (attempt_of attempt.now) × Tells (attempt_of attempt.now) x) }
+    ensures refused { IfErr result (IsRefused (V.valid verifier.now) (attempt_of attempt.now)) }
+{
+    let (session, credential) = attempt.expected()?;
+    attempt.check_client_data(alloc, session)?;
+    let data = attempt.auth_data(alloc, session)?;
+    attempt.check_signature(verifier, &credential, &data)?;
+    Ok(VerifiedAssertion {
+        sign_count: data.sign_count,
+        eligible: flags::is_set(data.flags, flags::BE),
+        backed_up: flags::is_set(data.flags, flags::BS),
+    })
+}

@@ -1,0 +1,20 @@
+//! The steps by which a relying party verifies a sign-in (WebAuthn Level 2, section 7.2) and a registration
+//! (section 7.1), for a site that keeps its own sessions and credentials: each call judges one response by what
+//! it is handed, and keeps nothing.
+#![tactic(auto)]
+
+mod assertion;
+mod client_data;
+mod flag;
+mod party;
+mod record;
+mod refusal;
+mod registration;
+
+pub use assertion::{SignInAttempt, VerifiedAssertion, verify_assertion};
+pub use party::{Policy, RelyingParty};
+pub use record::{
+    AssertionParts, CredentialView, RegistrationParts, RegistrationSession, SignInSession,
+};
+pub use refusal::{RegistrationError, RegistrationRefusal, SignInError, SignInRefusal};
+pub use registration::{RegistrationAttempt, VerifiedRegistration, verify_registration};

@@ -1,0 +1,80 @@
+//! The relying party.
+
+ghost use Rattle.std.specs.Prelude.{◌≡◌, ◌↔◌, Contains, IfOk, IsTrue, string_bytes};
+ghost use Rattle.sha2.specs.Sha256.{sha256};
+ghost use Rattle.verification.specs.Views.{texts_of};
+
+use sha2::{Digest, Sha256};
+use std::alloc::{AllocError, Global};
+use std::marker::Model;
+
+/// Which attestations a relying party accepts at registration (WebAuthn Level 2, section 7.1).
+#[derive(Clone, Copy, Debug, PartialEq, Eq, Drop)]
+pub struct Policy {
+    /// No attestation.
+    pub accept_none: bool,
+    /// Self attestation: a signature of the credential's own key.
+    pub accept_self: bool,
+}
+
+/// A relying party: its rp id with the hash of it, which is made once, and its origins.
+#[derive(Drop)]
+pub struct RelyingParty {
+    rp_id: String,
+    rp_id_hash: [u8; 32],
+    origins: Vec<String>,
+    ghost hashed: { rp_id_hash ≡ sha256 (string_bytes rp_id) },
+}
+
+impl Model for RelyingParty {
+    ghost use Rattle.std.specs.Prelude.{map, string_bytes};
+    ghost use Rattle.verification.specs.Records.{RelyingParty as Party};
+
+    ghost Value = { Party };
+
+    ghost view = { λ p. record { rp_id = string_bytes p.rp_id; origins = map string_bytes p.origins.items } };
+}
+
+impl RelyingParty {
+    /// A relying party of this rp id and these origins, of which each is compared as a text. Nothing is asked of
+    /// their lengths.
+    pub fn new(alloc: Global, rp_id: &str, origins: &[&str]) -> Result<RelyingParty, AllocError>
+        ensures { IfOk result (λ p. p ≡ record { rp_id = rp_id.now; origins = texts_of origins.now }) }
+    {
+        let mut copies = Vec::new(alloc);
+        for origin in origins {
+            copies.push(String::from_str(alloc, origin)?)?;
+        }
+        Ok(RelyingParty {
+            rp_id: String::from_str(alloc, rp_id)?,
+            rp_id_hash: Sha256::digest(rp_id),
+            origins: copies,
+        })
+    }
+
+    /// The rp id.
+    pub fn rp_id(&self) -> &str
+        ensures { result.now ≡ self.now.rp_id }
+    {
+        self.rp_id.as_str()
+    }
+
+    /// Whether a hash is that of the rp id.
+    pub(crate) fn is_hash(&self, hash: &[u8; 32]) -> bool
+        ensures { IsTrue result ↔ (hash.now ≡ sha256 self.now.rp_id) }
+    {
+        self.rp_id_hash == *hash
+    }
+
+    /// Whether a text is one of the origins.
+    pub(crate) fn has_origin(&self, text: &str) -> bool
+        ensures { IsTrue result ↔ Contains self.now.origins text.now }
+    {
+        for origin in &self.origins {
+            if origin.as_str() == text {
+                return true;
+            }
+        }
+        false
+    }
+}

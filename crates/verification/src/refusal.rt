@@ -1,0 +1,208 @@
+//! Why a response is refused.
+
+ghost use Rattle.std.specs.Prelude.{◌≡◌};
+ghost use Rattle.verification.specs.Numbers.{sign_in_number, registration_number};
+ghost use Rattle.verification.specs.declared.refusal.SignInError.TheVariants as sign_ins;
+ghost use Rattle.verification.specs.declared.refusal.RegistrationError.TheVariants as registrations;
+
+use thiserror::Error as ErrorType;
+
+/// The step of section 7.2 at which a sign-in is refused, the first that fails. The program prints `W` and
+/// the number.
+#[derive(Clone, Copy, Debug, PartialEq, Eq, Drop, ErrorType)]
+pub enum SignInRefusal {
+    /// 1: the session is not open, or is one for registration.
+    #[error("the session is not open for sign-in")]
+    SessionNotOpen,
+    /// 2: the session lists the credentials that may answer, and this is none of them.
+    #[error("the credential is not one that the session allows")]
+    CredentialNotAllowed,
+    /// 3: no credential with this id is registered, or it is retired.
+    #[error("no credential with this id is registered")]
+    UnknownCredential,
+    /// 4: the session or the response names another user than the credential's, or neither names one.
+    #[error("the credential is not the user's")]
+    OtherUser,
+    /// 5: the client data cannot be read.
+    #[error("the client data cannot be read")]
+    UnreadableClientData,
+    /// 6: the type of the client data is not `webauthn.get`.
+    #[error("the client data are not of a sign-in")]
+    WrongType,
+    /// 7: the challenge is not the session's.
+    #[error("the challenge is not the session's")]
+    WrongChallenge,
+    /// 8: the origin is none of the relying party's.
+    #[error("the origin is not the relying party's")]
+    WrongOrigin,
+    /// 9: token binding is used.
+    #[error("token binding is used")]
+    TokenBinding,
+    /// 10: the bytes are no authenticator data, or they attest a credential.
+    #[error("the authenticator data cannot be read, or they attest a credential")]
+    BadAuthenticatorData,
+    /// 11: the relying party's hash is not SHA-256 of the rp id.
+    #[error("the authenticator data are for another relying party")]
+    WrongRelyingParty,
+    /// 12: the flag of user presence is clear.
+    #[error("the user was not present")]
+    UserNotPresent,
+    /// 13: the session requires verification, and its flag is clear.
+    #[error("the user was not verified")]
+    UserNotVerified,
+    /// 14: the signature is not valid over the authenticator data as they came, then the hash of the client
+    /// data.
+    #[error("the signature is not valid")]
+    BadSignature,
+    /// 15: the received or the stored counter is not 0, and the received one is not greater.
+    #[error("the signature counter is not greater than the one stored")]
+    CounterNotGreater,
+    /// 16: whether the credential is eligible for backup is known, and the flag says otherwise.
+    #[error("the credential's eligibility for backup has changed")]
+    EligibilityChanged,
+}
+
+impl SignInRefusal {
+    /// The number of the step.
+    pub fn number(self) -> u8
+        ensures { result ≡ sign_in_number self }
+    {
+        match self {
+            SignInRefusal::SessionNotOpen => 1,
+            SignInRefusal::CredentialNotAllowed => 2,
+            SignInRefusal::UnknownCredential => 3,
+            SignInRefusal::OtherUser => 4,
+            SignInRefusal::UnreadableClientData => 5,
+            SignInRefusal::WrongType => 6,
+            SignInRefusal::WrongChallenge => 7,
+            SignInRefusal::WrongOrigin => 8,
+            SignInRefusal::TokenBinding => 9,
+            SignInRefusal::BadAuthenticatorData => 10,
+            SignInRefusal::WrongRelyingParty => 11,
+            SignInRefusal::UserNotPresent => 12,
+            SignInRefusal::UserNotVerified => 13,
+            SignInRefusal::BadSignature => 14,
+            SignInRefusal::CounterNotGreater => 15,
+            SignInRefusal::EligibilityChanged => 16,
+        }
+    }
+}
+
+/// The step of section 7.1 at which a registration is refused, the first that fails. The program prints `G`
+/// and the number.
+#[derive(Clone, Copy, Debug, PartialEq, Eq, Drop, ErrorType)]
+pub enum RegistrationRefusal {
+    /// 1: the session is not open, or is one for sign-in.
+    #[error("the session is not open for registration")]
+    SessionNotOpen,
+    /// 2: the client data cannot be read.
+    #[error("the client data cannot be read")]
+    UnreadableClientData,
+    /// 3: the type of the client data is not `webauthn.create`.
+    #[error("the client data are not of a registration")]
+    WrongType,
+    /// 4: the challenge is not the session's.
+    #[error("the challenge is not the session's")]
+    WrongChallenge,
+    /// 5: the origin is none of the relying party's.
+    #[error("the origin is not the relying party's")]
+    WrongOrigin,
+    /// 6: token binding is used.
+    #[error("token binding is used")]
+    TokenBinding,
+    /// 7: the bytes are no attestation object, or its authenticator data cannot be read or attest no
+    /// credential.
+    #[error("the attestation object cannot be read, or attests no credential")]
+    BadAttestationObject,
+    /// 8: the relying party's hash is not SHA-256 of the rp id.
+    #[error("the authenticator data are for another relying party")]
+    WrongRelyingParty,
+    /// 9: the flag of user presence is clear.
+    #[error("the user was not present")]
+    UserNotPresent,
+    /// 10: the session requires verification, and its flag is clear.
+    #[error("the user was not verified")]
+    UserNotVerified,
+    /// 11: the key's algorithm was not offered.
+    #[error("the key's algorithm was not offered")]
+    AlgorithmNotOffered,
+    /// 12: the format of the attestation statement is neither `none` nor `packed`.
+    #[error("the attestation statement's format is unknown")]
+    UnknownFormat,
+    /// 13: the attestation statement is not what its format asks for.
+    #[error("the attestation statement is not valid")]
+    BadStatement,
+    /// 14: the relying party does not accept such an attestation.
+    #[error("the attestation is not accepted")]
+    AttestationNotAccepted,
+    /// 15: a credential with this id is registered, to anyone, retired or not.
+    #[error("the credential is registered")]
+    CredentialRegistered,
+    /// 16: there is no room for another credential.
+    #[error("there is no room for another credential")]
+    TableFull,
+}
+
+impl RegistrationRefusal {
+    /// The number of the step.
+    pub fn number(self) -> u8
+        ensures { result ≡ registration_number self }
+    {
+        match self {
+            RegistrationRefusal::SessionNotOpen => 1,
+            RegistrationRefusal::UnreadableClientData => 2,
+            RegistrationRefusal::WrongType => 3,
+            RegistrationRefusal::WrongChallenge => 4,
+            RegistrationRefusal::WrongOrigin => 5,
+            RegistrationRefusal::TokenBinding => 6,
+            RegistrationRefusal::BadAttestationObject => 7,
+            RegistrationRefusal::WrongRelyingParty => 8,
+            RegistrationRefusal::UserNotPresent => 9,
+            RegistrationRefusal::UserNotVerified => 10,
+            RegistrationRefusal::AlgorithmNotOffered => 11,
+            RegistrationRefusal::UnknownFormat => 12,
+            RegistrationRefusal::BadStatement => 13,
+            RegistrationRefusal::AttestationNotAccepted => 14,
+            RegistrationRefusal::CredentialRegistered => 15,
+            RegistrationRefusal::TableFull => 16,
+        }
+    }
+}
+
+/// Why a sign-in has no answer: a step refuses it, or there was no memory.
+#[derive(Clone, Copy, Debug, PartialEq, Eq, Drop, ErrorType)]
+pub enum SignInError {
+    /// The first step that fails.
+    #[error("{0}")]
+    Refused(SignInRefusal),
+    /// There was no memory.
+    #[error("out of memory")]
+    Memory,
+}
+
+impl From<SignInRefusal> for SignInError {
+    ghost from_gives = { λ step e. e ≡ sign_ins.Refused step };
+
+    fn from(step: SignInRefusal) -> SignInError {
+        SignInError::Refused(step)
+    }
+}
+
+/// Why a registration has no answer: a step refuses it, or there was no memory.
+#[derive(Clone, Copy, Debug, PartialEq, Eq, Drop, ErrorType)]
+pub enum RegistrationError {
+    /// The first step that fails.
+    #[error("{0}")]
+    Refused(RegistrationRefusal),
+    /// There was no memory.
+    #[error("out of memory")]
+    Memory,
+}
+
+impl From<RegistrationRefusal> for RegistrationError {
+    ghost from_gives = { λ step e. e ≡ registrations.Refused step };
+
+    fn from(step: RegistrationRefusal) -> RegistrationError {
+        RegistrationError::Refused(step)
+    }
+}
