@@ -6,6 +6,7 @@ pub mod Appended
 pub mod Firsts
 pub mod Shows
 pub mod Known
+pub mod Elements
 pub mod Loop
 pub mod Walks
 pub mod Decoding

@@ -1,10 +1,10 @@
 -- What the bytes of a view show.
-use Rattle.std.proofs.Common.{◌≡◌, ◌≢◌, ℕ, zero, suc, ◌-◌, ◌<◌, ◌≤◌, drop, Bool, true, false, eqb, List, [], ◌∷◌, ◌++◌, length, take, Option, Some, None, refl, sym, ap, subst, ◌∙◌, append-nil, arith}
+use Rattle.std.proofs.Common.{◌≡◌, ◌≢◌, ℕ, zero, suc, ◌-◌, ◌<◌, ◌≤◌, drop, true, false, eqb, List, [], ◌∷◌, ◌++◌, length, take, Option, Some, None, refl, sym, ap, subst, ◌∙◌, append-nil, arith}
 use Rattle.std.proofs.lemmas.Bool.Decides.{nat_tests}
 use Rattle.std.proofs.lemmas.List.{take_at, take-append-drop, length-append, length-drop}
 use Rattle.ccbor.specs.Item.{Item, uint, nint, bytes, text, array, map, boolean, Items, no_items, item, Pairs, no_pairs, pair}
 use Rattle.ccbor.specs.Canon.{spelling, spelling_of_pairs, count_of_items, count_of_pairs, Fits, ItemsFit, PairsFit, Canon}
-use Rattle.ccbor.specs.Access.{is_same_key, split_key}
+use Rattle.ccbor.specs.Access.{pairs_first}
 use Rattle.ccbor.specs.Reading.{head_at, item_at, pairs_at}
 use Rattle.ccbor.specs.Viewing.{read_or, shown, shown_pairs, ArePairs, major_in, argument_in, body_in, parts_in}
 use Rattle.ccbor.proofs.Numbers.{some_is, head_again}
@@ -153,7 +153,7 @@ module _ (v : Item) (bs a rest : List ℕ) (c : Canon v a) (e : bs ≡ a ++ rest
       let cut : take (length a) bs ≡ a = ap (take (length a)) e ∙ take_at a rest (length a) refl in
       (v, length a, omega (arith, ap length e, length-append a rest, some), subst (λ (l : List ℕ). Canon v l) (sym cut) c)
 
-module _ (key : Item) (n : ℕ) (bs : List ℕ) (are : ArePairs (shown_pairs (n, bs)) n bs) (some : n ≢ 0) (found value rest : List ℕ)
+module _ (n : ℕ) (bs : List ℕ) (are : ArePairs (shown_pairs (n, bs)) n bs) (some : n ≢ 0) (found value rest : List ℕ)
     (first : (k v : Item) (ps : Pairs) (m : ℕ) → ArePairs (pair k v ps) m bs → Canon k found × Canon v value × ((l : ℕ) → m ≡ suc l → ArePairs ps l rest)) where
   opened : (k v : Item) × (qs : Pairs) × (shown_pairs (n, bs) ≡ pair k v qs)
   opened = some_pairs (shown_pairs (n, bs)) n are.count some
@@ -164,14 +164,14 @@ module _ (key : Item) (n : ℕ) (bs : List ℕ) (are : ArePairs (shown_pairs (n,
   rest_are : ArePairs opened.2 (n - 1) rest
   rest_are = parted.2 (n - 1) (omega (arith, some))
 
+  pub key_shows : Canon (shown found) found
+  key_shows = shows opened.0 found parted.0
+
   pub value_shows : Canon (shown value) value
   value_shows = shows opened.1 value parted.1
 
   pub rest_shows : ArePairs (shown_pairs (n - 1, rest)) (n - 1) rest
   rest_shows = shows_pairs opened.2 (n - 1) rest rest_are
 
-  module _ (same : Bool) (is : (x : Item) → Canon x found → same ≡ is_same_key x key) where
-    pub split_shown : same ≡ true → Some (shown value, shown_pairs (n - 1, rest)) ≡ split_key key (shown_pairs (n, bs))
-    split_shown t =
-        let same_is : is_same_key opened.0 key ≡ true = sym (is opened.0 parted.0) ∙ t in
-        rw (opened.3, same_is, shown_is opened.1 value parted.1, shown_pairs_is opened.2 (n - 1) rest rest_are) refl
+  pub first_shown : Some (shown found, shown value, shown_pairs (n - 1, rest)) ≡ pairs_first (shown_pairs (n, bs))
+  first_shown = rw (opened.3, shown_is opened.0 found parted.0, shown_is opened.1 value parted.1, shown_pairs_is opened.2 (n - 1) rest rest_are) refl

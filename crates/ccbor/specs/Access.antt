@@ -1,7 +1,8 @@
 -- What a value is, kind by kind, and what a map has at a key.
-use Rattle.std.specs.Prelude.{ℕ, List, Bool, true, false, Option, Some, None, option_and_then, ◌==◌, if◌then◌else◌}
+use Rattle.std.specs.Prelude.{ℕ, zero, suc, List, Bool, true, false, Option, Some, None, option_and_then, ◌==◌, if◌then◌else◌}
 use Rattle.std.specs.Str.{bytes_eq}
-use Rattle.ccbor.specs.Item.{Item, uint, nint, bytes, text, array, map, boolean, Items, Pairs, no_pairs, pair}
+use Rattle.ccbor.specs.Item.{Item, uint, nint, bytes, text, array, map, boolean, Items, no_items, item, Pairs, no_pairs, pair}
+use Rattle.ccbor.specs.Canon.{count_of_items, count_of_pairs}
 use Rattle.ccbor.specs.declared.value.Key.{Key}
 use Rattle.ccbor.specs.declared.value.Key.TheVariants as keys
 
@@ -65,3 +66,32 @@ split_key k (pair l v ps) = if is_same_key l k then Some (v, ps) else None
 abbrev pub is_end : Pairs → Bool
 is_end no_pairs = true
 is_end (pair k v ps) = false
+
+-- the first pair, and the pairs behind it
+abbrev pub pairs_first : Pairs → Option (Item × Item × Pairs)
+pairs_first no_pairs = None
+pairs_first (pair k v ps) = Some (k, v, ps)
+
+-- how many items an array has, or pairs a map; other values have none
+abbrev pub len_in : Item → ℕ
+len_in (array xs) = count_of_items xs
+len_in (map ps) = count_of_pairs ps
+len_in _ = 0
+
+-- the pair at this place
+abbrev pub pair_at : ℕ → Pairs → Option (Item × Item)
+pair_at n no_pairs = None
+pair_at zero (pair k v ps) = Some (k, v)
+pair_at (suc n) (pair k v ps) = pair_at n ps
+
+abbrev pub pair_in : ℕ → Item → Option (Item × Item)
+pair_in n x = option_and_then (pair_at n) (pairs_in x)
+
+-- the item at this place
+abbrev pub item_at : ℕ → Items → Option Item
+item_at n no_items = None
+item_at zero (item x xs) = Some x
+item_at (suc n) (item x xs) = item_at n xs
+
+abbrev pub item_in : ℕ → Item → Option Item
+item_in n x = option_and_then (item_at n) (items_in x)

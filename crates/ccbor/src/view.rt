@@ -1,21 +1,22 @@
 //! Values that are read where they lie: nothing is copied, and no memory is taken.
 
-ghost use Rattle.std.specs.Prelude.{◌≡◌, ◌⊎◌, ◌<◌, ◌≤◌, ℕ, List, suc, length, take, option_map, IfOk, IfErr, IsErrOf, MatchOption};
+ghost use Rattle.std.specs.Prelude.{◌≡◌, ◌⊎◌, ◌<◌, ◌≤◌, ℕ, List, suc, length, take, ◌+◌, option_map, IfOk, IfErr, IfSome, IsErrOf, MatchOption};
 ghost use Rattle.ccbor.specs.declared.error.Error.TheVariants as errors;
 ghost use Rattle.ccbor.specs.Item.{Item, Pairs, no_pairs, pair};
 ghost use Rattle.ccbor.specs.Canon.{Canon};
-ghost use Rattle.ccbor.specs.Access.{uint_in, bytes_in, pairs_in, key_item, is_same_key, split_key, is_end};
+ghost use Rattle.ccbor.specs.Access.{uint_in, nint_in, bool_in, bytes_in, text_in, pairs_in, len_in, item_in, pair_in, pairs_first, key_item, is_same_key, member, split_key, is_end};
 ghost use Rattle.ccbor.specs.View.{view};
 ghost use Rattle.ccbor.specs.Viewing.{ArePairs, parts_in, shown, shown_pairs};
 
 use crate::error::Error;
-use crate::head::{BYTES, MAP, NEGATIVE, TEXT, UNSIGNED, head_at};
+use crate::head::{ARRAY, BYTES, MAP, NEGATIVE, SIMPLE, TEXT, TRUE, UNSIGNED, head_at};
 use crate::passing::front;
 use crate::reading::item_at;
 use crate::skipping::known_front;
 use crate::value::{Key, MAX_DEPTH, Value};
 use std::alloc::{AllocError, Global};
 use std::marker::Model;
+use std::str;
 
 /// A value, as the bytes of its canonical encoding show it. A contract sees these bytes.
 #[derive(Drop)]
@@ -175,6 +176,46 @@ impl<'a> View<'a> {
         Some(n)
     }
 
+    /// The argument n, if this is the negative number -1 - n.
+    pub fn as_nint(&self) -> Option<u64>
+        ensures { result ≡ nint_in (shown self.now) }
+    {
+        let (n, _) = parts(self.bytes, NEGATIVE)?;
+        Some(n)
+    }
+
+    /// Which it is, if this is false or true.
+    pub fn as_bool(&self) -> Option<bool>
+        ensures { result ≡ bool_in (shown self.now) }
+    {
+        let (n, _) = parts(self.bytes, SIMPLE)?;
+        Some(n == u64::from(TRUE))
+    }
+
+    /// The text, if this is one.
+    pub fn as_text(&self) -> Option<&'a str>
+        ensures { option_map (λ b. b.now) result ≡ text_in (shown self.now) }
+    {
+        let (_, content) = parts(self.bytes, TEXT)?;
+        match str::from_utf8(content) {
+            Ok(text) => Some(text),
+            Err(_) => None,
+        }
+    }
+
+    /// How many items an array has, or pairs a map; 0 of another value.
+    pub fn len(&self) -> usize
+        ensures { result ≡ len_in (shown self.now) }
+    {
+        if let Some((count, _)) = parts(self.bytes, ARRAY) {
+            return count as usize;
+        }
+        match parts(self.bytes, MAP) {
+            Some((count, _)) => count as usize,
+            None => 0,
+        }
+    }
+
     /// The bytes, if this is a byte string.
     pub fn as_bytes(&self) -> Option<&'a [u8]>
         ensures { option_map (λ b. b.now) result ≡ bytes_in (shown self.now) }
@@ -191,6 +232,49 @@ impl<'a> View<'a> {
         Some(MapView { bytes, left })
     }
 
+    /// The item at this place, if this is an array that has one there.
+    pub fn item(&self, index: usize) -> Option<View<'a>>
+        ensures { option_map shown result ≡ item_in index (shown self.now) }
+    {
+        let (count, mut rest) = parts(self.bytes, ARRAY)?;
+        if count <= index as u64 {
+            return None;
+        }
+        for _ in 0..index {
+            let (_, after) = known_front(rest)?;
+            rest = after;
+        }
+        let (item, _) = known_front(rest)?;
+        Some(View { bytes: item })
+    }
+
+    /// The pair of key and value at this place, if this is a map that has one there.
+    pub fn pair(&self, index: usize) -> Option<(View<'a>, View<'a>)>
+        ensures { option_map (λ r. (shown r.0, shown r.1)) result ≡ pair_in index (shown self.now) }
+    {
+        let mut pairs = self.as_map()?;
+        for _ in 0..index {
+            let (_, _, rest) = pairs.split_first()?;
+            pairs = rest;
+        }
+        let (key, value, _) = pairs.split_first()?;
+        Some((key, value))
+    }
+
+    /// The value at this key, if this is a map that has it.
+    pub fn get(&self, key: Key<'_>) -> Option<View<'a>>
+        ensures { option_map shown result ≡ member (key_item key.entry) (shown self.now) }
+    {
+        let mut pairs = self.as_map()?;
+        while let Some((found, value, rest)) = pairs.split_first() {
+            if found.is_key(key) {
+                return Some(value);
+            }
+            pairs = rest;
+        }
+        None
+    }
+
     /// Whether the value is this key.
     pub fn is_key(&self, key: Key<'_>) -> bool
         ensures { result ≡ is_same_key (shown self.now) (key_item key.entry) }
@@ -200,25 +284,36 @@ impl<'a> View<'a> {
 }
 
 impl<'a> MapView<'a> {
-    /// If the first pair has this key, its value and the pairs behind it.
-    pub fn split_key(&self, key: Key<'_>) -> Option<(View<'a>, MapView<'a>)>
-        ensures { option_map (λ r. (shown r.0, shown_pairs r.1)) result
-            ≡ split_key (key_item key.entry) (shown_pairs self.now) }
+    /// The first pair's key and value, and the pairs behind it.
+    pub fn split_first(&self) -> Option<(View<'a>, View<'a>, MapView<'a>)>
+        ensures parts { option_map (λ r. (shown r.0, shown r.1, shown_pairs r.2)) result
+            ≡ pairs_first (shown_pairs self.now) }
+        ensures fewer { IfSome result (λ r. r.2.0 + 1 ≡ self.now.0) }
     {
         if self.left == 0 {
             return None;
         }
-        let (found, value, rest) = first_pair(self.bytes)?;
-        if !is_key(found, key) {
-            return None;
-        }
+        let (key, value, rest) = first_pair(self.bytes)?;
         Some((
+            View { bytes: key },
             View { bytes: value },
             MapView {
                 bytes: rest,
                 left: self.left - 1,
             },
         ))
+    }
+
+    /// If the first pair has this key, its value and the pairs behind it.
+    pub fn split_key(&self, key: Key<'_>) -> Option<(View<'a>, MapView<'a>)>
+        ensures { option_map (λ r. (shown r.0, shown_pairs r.1)) result
+            ≡ split_key (key_item key.entry) (shown_pairs self.now) }
+    {
+        let (found, value, rest) = self.split_first()?;
+        if !found.is_key(key) {
+            return None;
+        }
+        Some((value, rest))
     }
 
     /// Whether no pairs are left.

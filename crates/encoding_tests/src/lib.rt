@@ -16,6 +16,8 @@ mod cbor_sizes;
 #[cfg(test)]
 mod cbor_values;
 #[cfg(test)]
+mod cbor_views;
+#[cfg(test)]
 mod clientdata_reading;
 #[cfg(test)]
 mod clientdata_writing;
