@@ -1,40 +1,39 @@
 -- The first refusal that applies.
-use Rattle.std.proofs.Common.{◌≡◌, ℕ, ◌+◌, ◌≤◌, ◌<◌, ◌^◌, false, List, [], ◌∷◌, ◌++◌, length, drop, Option, Some, None, option_map, is_some, refl, sym, ap, ◌∙◌, append_assoc, append-nil, arith, ◌⊎◌, inl, inr}
+use Rattle.std.proofs.Common.{◌≡◌, ℕ, ◌<◌, ◌^◌, false, List, [], ◌∷◌, ◌++◌, length, drop, Option, Some, None, option_map, is_some, refl, sym, ap, ◌∙◌, append_assoc, append-nil, arith, inl, inr}
 use Rattle.std.specs.Prelude.{IfSome}
 use Rattle.std.specs.Int.{w32, to_be_bytes}
+use Rattle.first_line.specs.Lines.{First}
 use Rattle.first_line.proofs.Laws.{first_at, first_behind}
 use Rattle.authdata.specs.declared.error.Error.{Error}
 use Rattle.authdata.specs.declared.error.Error.TheVariants as errors
-use Rattle.authdata.specs.declared.auth.Attested.{Attested}
-use Rattle.authdata.specs.Flags.{is_set, AT, ED}
-use Rattle.authdata.specs.Layout.{AttestedCredential, AuthenticatorData, AuthOf, IsAttestedCredential, IsAuthenticatorData, attested_bytes, credential_view, data_bytes}
-use Rattle.authdata.specs.Refusals.{flags_in, Applies, Refused, IsAttested, BeginsWithKey, id_len_in}
-use Rattle.authdata.specs.Private.{RefusedLater}
+use Rattle.authdata.specs.declared.auth.AttestedView.{AttestedView}
+use Rattle.authdata.specs.Flags.{is_set, HasBackup, AT, ED}
+use Rattle.authdata.specs.Layout.{AttestedCredential, AuthenticatorData, AuthOf, IsAttestedCredential, IsAuthenticatorData, attested_bytes, credential_shown, data_bytes}
+use Rattle.authdata.specs.Refusals.{flags_in, Applies, IsAttested, later_order, order}
+use Rattle.authdata.specs.Private.{WrongCredential}
 
-pub lifted : (bs : List ℕ) (e : Error) → (Applies bs errors.Short → ⊥) → (Applies bs errors.Extensions → ⊥) → RefusedLater bs e → Refused bs e
-lifted bs e s x h m = first_behind (errors.Short ∷ errors.Extensions ∷ []) (s, (x, tt)) (h m)
+pub lifted : (bs : List ℕ) (e : Error) → (Applies bs errors.Short → ⊥) → (Applies bs errors.Extensions → ⊥) → (Applies bs errors.BadBackup → ⊥)
+    → First (Applies bs) later_order e → First (Applies bs) order e
+lifted bs e s x b h = first_behind (errors.Short ∷ errors.Extensions ∷ errors.BadBackup ∷ []) (s, (x, (b, tt))) h
 
-pub short_first : (bs : List ℕ) → Applies bs errors.Short → Refused bs errors.Short
-short_first bs p m = first_at 0 refl tt p
+pub short_first : (bs : List ℕ) → Applies bs errors.Short → First (Applies bs) order errors.Short
+short_first bs p = first_at 0 refl tt p
 
-pub extensions_first : (bs : List ℕ) → (Applies bs errors.Short → ⊥) → Applies bs errors.Extensions → Refused bs errors.Extensions
-extensions_first bs s p m = first_at 1 refl (s, tt) p
+pub extensions_first : (bs : List ℕ) → (Applies bs errors.Short → ⊥) → Applies bs errors.Extensions → First (Applies bs) order errors.Extensions
+extensions_first bs s p = first_at 1 refl (s, tt) p
 
-pub extra_first : (bs : List ℕ) → (Applies bs errors.Short → ⊥) → (Applies bs errors.Extensions → ⊥) → (Applies bs errors.BadId → ⊥) → (Applies bs errors.BadKey → ⊥)
-    → Applies bs errors.ExtraBytes → Refused bs errors.ExtraBytes
-extra_first bs s x i k p m = first_at 4 refl (s, (x, (i, (k, tt)))) p
+pub backup_first : (bs : List ℕ) → (Applies bs errors.Short → ⊥) → (Applies bs errors.Extensions → ⊥) → Applies bs errors.BadBackup → First (Applies bs) order errors.BadBackup
+backup_first bs s x p = first_at 2 refl (s, (x, tt)) p
+
+pub extra_first : (bs : List ℕ) → (Applies bs errors.Short → ⊥) → (Applies bs errors.Extensions → ⊥) → (Applies bs errors.BadBackup → ⊥) → (Applies bs errors.BadId → ⊥)
+    → (Applies bs errors.BadKey → ⊥) → Applies bs errors.ExtraBytes → First (Applies bs) order errors.ExtraBytes
+extra_first bs s x b i k p = first_at 5 refl (s, (x, (b, (i, (k, tt))))) p
 
 -- what reading the credential found wrong
-pub credential_refused : (bs : List ℕ) (e : Error) → (e ≡ errors.Memory) ⊎ ((e ≡ errors.BadId) ⊎ (e ≡ errors.BadKey)) → IsAttested bs
-    → (e ≡ errors.BadId → (1 ≤ id_len_in bs) × (id_len_in bs ≤ 64) → ⊥)
-    → (e ≡ errors.BadKey → ((1 ≤ id_len_in bs) × (id_len_in bs ≤ 64)) × (BeginsWithKey (drop (55 + id_len_in bs) bs) → ⊥))
-    → RefusedLater bs e
-credential_refused bs e which at i k m = elim which [
-  | inl p ↦ absurd (m p)
-  | inr q ↦ elim q [
-    | inl p ↦ rw p (first_at 0 refl tt (at, i p))
-    | inr p ↦ rw p (first_at 1 refl ((λ h. h.1 (k p).0), tt) (at, (k p).1))
-  ]
+pub credential_refused : (bs : List ℕ) (e : Error) → IsAttested bs → WrongCredential bs e → First (Applies bs) later_order e
+credential_refused bs e at wrong = elim wrong [
+  | inl p ↦ rw p.0 (first_at 0 refl tt (at, p.1))
+  | inr p ↦ rw p.0 (first_at 1 refl ((λ h. h.1 p.1), tt) (at, p.2))
 ]
 
 -- the bytes are the parts, and what is left
@@ -50,14 +49,15 @@ is_some-map f (Some x) = refl
 abbrev pub auth_from : List ℕ → ℕ → ℕ → Option AttestedCredential → AuthenticatorData
 auth_from hash flags count m = record { rp_id_hash = hash; flags = flags; sign_count = count; attested = m }
 
-pub auth_is : (bs hash : List ℕ) (flags count : ℕ) (o : Option Attested) → length hash ≡ 32 → flags < 256 → count < 2 ^ 32 → flags ≡ flags_in bs
-    → is_set (flags_in bs) AT ≡ is_some o → is_set flags ED ≡ false → IfSome (option_map credential_view o) IsAttestedCredential → IsAuthenticatorData (auth_from hash flags count (option_map credential_view o))
-auth_is bs hash flags count o len f c same at ed m = record {
+pub auth_is : (bs hash : List ℕ) (flags count : ℕ) (o : Option AttestedView) → length hash ≡ 32 → flags < 256 → count < 2 ^ 32 → flags ≡ flags_in bs
+    → is_set (flags_in bs) AT ≡ is_some o → is_set flags ED ≡ false → HasBackup flags → IfSome (option_map credential_shown o) IsAttestedCredential → IsAuthenticatorData (auth_from hash flags count (option_map credential_shown o))
+auth_is bs hash flags count o len f c same at ed backup m = record {
   rp_id_hash = len;
   flags = f;
   sign_count = c;
-  attested_flag = ap (λ (n : ℕ). is_set n AT) same ∙ at ∙ sym (is_some-map credential_view o);
+  attested_flag = ap (λ (n : ℕ). is_set n AT) same ∙ at ∙ sym (is_some-map credential_shown o);
   no_extensions = ed;
+  backup = backup;
   attested = m;
 }
 

@@ -1,18 +1,19 @@
 -- No refusal applies to the bytes of authenticator data.
-use Rattle.std.proofs.Common.{◌≡◌, ◌≢◌, ◌+◌, ◌^◌, ◌<◌, ℕ, suc, true, false, List, [], ◌∷◌, ◌++◌, Option, Some, None, length, is_some, sym, ◌∙◌, ap, refl, subst, arith, take, drop, get_or, append_assoc, append-nil, inl, inr}
+use Rattle.std.proofs.Common.{◌≡◌, ◌+◌, ◌^◌, ◌<◌, ℕ, suc, true, false, List, [], ◌∷◌, ◌++◌, Option, Some, None, length, is_some, sym, ◌∙◌, ap, refl, subst, arith, take, drop, get_or, append_assoc, append-nil, inl, inr}
 use Rattle.std.specs.Prelude.{IfSome}
 use Rattle.std.specs.Int.{w16, w32, to_be_bytes, from_be_bytes}
 use Rattle.std.proofs.lemmas.List.{length-append, drop_at}
 use Rattle.std.proofs.lemmas.Nat.{from_be_bytes-to_be_bytes_2}
+use Rattle.first_line.specs.Lines.{First}
 use Rattle.first_line.proofs.Laws.{stops_at}
 use Rattle.ccbor.specs.Canon.{Canon}
 use Rattle.cose.specs.Keys.{IsKey, item_of}
 use Rattle.cose.proofs.KeyLemmas.{key_canon}
 use Rattle.authdata.specs.declared.error.Error.{Error}
 use Rattle.authdata.specs.declared.error.Error.TheVariants as errors
-use Rattle.authdata.specs.Flags.{is_set, AT, ED}
+use Rattle.authdata.specs.Flags.{is_set, HasBackup, AT, ED}
 use Rattle.authdata.specs.Layout.{AttestedCredential, AuthenticatorData, AuthOf, IsAttestedCredential, IsAuthenticatorData, attested_bytes, key_bytes}
-use Rattle.authdata.specs.Refusals.{Applies, Refused, IsAttested, flags_in, id_len_in}
+use Rattle.authdata.specs.Refusals.{Applies, IsAttested, flags_in, id_len_in, order}
 use Rattle.authdata.proofs.Unique.{length-data, length-full, one_front}
 
 at_end : (a : List ℕ) (x : ℕ) (b : List ℕ) (n : ℕ) → length a ≡ n → get_or (a ++ x ∷ b) n 0 ≡ x
@@ -88,6 +89,7 @@ none_applies a bs errors.Extensions h p =
     let set : is_set a.flags ED ≡ true = ap (λ (f : ℕ). is_set f ED) (sym f) ∙ p in
     let clear = h.0.no_extensions in
     absurd cc
+none_applies a bs errors.BadBackup h p = p (subst HasBackup (sym (flags_are a bs h)) h.0.backup)
 none_applies a bs errors.BadId h p =
     let some = some_credential a bs h p.0 in
     let i = id_len_is a some.0 bs h some.1 in
@@ -110,5 +112,9 @@ key_inside a c bs h e =
     let same : drop (55 + length c.id) bs ≡ key_bytes c.key = ap (λ (n : ℕ). drop (55 + n) bs) (sym (id_len_is a c bs h e)) ∙ key_is a c bs h e in
     (is.key, subst (λ (l : List ℕ). Canon (item_of c.key) l) (sym same) (key_canon c.key is.key))
 
-pub not_refused : (a : AuthenticatorData) (bs : List ℕ) (e : Error) → Refused bs e → e ≢ errors.Memory → AuthOf a bs → ⊥
-not_refused a bs e r m h = none_applies a bs e h (stops_at (r m))
+pub not_refused : (a : AuthenticatorData) (bs : List ℕ) (e : Error) → First (Applies bs) order e → AuthOf a bs → ⊥
+not_refused a bs e first h = none_applies a bs e h (stops_at first)
+
+-- the first refusal that applies is no want of memory
+pub no_memory : (bs : List ℕ) (e : Error) → First (Applies bs) order e → e ≡ errors.Memory → ⊥
+no_memory bs e first is = subst (λ (x : Error). Applies bs x) is (stops_at first)

@@ -1,5 +1,5 @@
 -- The flags of authenticator data: WebAuthn, section 6.1.
-use Rattle.std.specs.Prelude.{ℕ, Bool, not, bit_and, ◌==◌}
+use Rattle.std.specs.Prelude.{◌≡◌, ℕ, Bool, true, not, bit_and, ◌==◌}
 
 -- user present
 abbrev pub UP : ℕ
@@ -26,3 +26,7 @@ ED = 0x80
 
 abbrev pub is_set : ℕ → ℕ → Bool
 is_set flags flag = not (bit_and flags flag == 0)
+
+-- a credential that is backed up may be backed up: a rule of profile 2
+abbrev pub HasBackup : ℕ → Type 0
+HasBackup flags = is_set flags BS ≡ true → is_set flags BE ≡ true

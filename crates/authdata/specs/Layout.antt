@@ -6,7 +6,9 @@ use Rattle.cose.specs.declared.key.CoseKey.{CoseKey}
 use Rattle.cose.specs.Keys.{item_of, IsKey}
 use Rattle.authdata.specs.declared.auth.Attested.{Attested}
 use Rattle.authdata.specs.declared.auth.AuthData.{AuthData}
-use Rattle.authdata.specs.Flags.{is_set, AT, ED}
+use Rattle.authdata.specs.declared.auth.AttestedView.{AttestedView}
+use Rattle.authdata.specs.declared.auth.AuthView.{AuthView}
+use Rattle.authdata.specs.Flags.{is_set, HasBackup, AT, ED}
 
 -- attested credential data, without where it lies in memory: aaguid, credentialId,
 -- credentialPublicKey (6.5.1)
@@ -47,13 +49,14 @@ pub record IsAttestedCredential (c : AttestedCredential) : Type 0 where
   pub id_high : length c.id ≤ 64
   pub key : IsKey c.key
 
--- AT is set exactly if a credential is attested, and there are no extensions
+-- AT is set exactly if a credential is attested, there are no extensions, and BS is set only with BE
 pub record IsAuthenticatorData (a : AuthenticatorData) : Type 0 where
   pub rp_id_hash : length a.rp_id_hash ≡ 32
   pub flags : a.flags < 256
   pub sign_count : a.sign_count < 2 ^ 32
   pub attested_flag : is_set a.flags AT ≡ is_some a.attested
   pub no_extensions : is_set a.flags ED ≡ false
+  pub backup : HasBackup a.flags
   pub attested : IfSome a.attested IsAttestedCredential
 
 -- the bytes are those of the authenticator data
@@ -70,4 +73,15 @@ auth_view a = record {
   flags = a.flags;
   sign_count = a.sign_count;
   attested = option_map credential_view a.attested;
+}
+
+abbrev pub credential_shown : AttestedView → AttestedCredential
+credential_shown c = record { aaguid = c.aaguid; id = c.id.now; key = c.key }
+
+abbrev pub auth_shown : AuthView → AuthenticatorData
+auth_shown a = record {
+  rp_id_hash = a.rp_id_hash;
+  flags = a.flags;
+  sign_count = a.sign_count;
+  attested = option_map credential_shown a.attested;
 }

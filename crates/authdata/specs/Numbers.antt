@@ -15,3 +15,4 @@ refusal_number errors.ExtraBytes = Some 12
 refusal_number errors.Shape = Some 13
 refusal_number errors.UnknownFormat = Some 14
 refusal_number errors.BadStatement = Some 15
+refusal_number errors.BadBackup = Some 28

@@ -1,15 +1,16 @@
 -- What private functions are proved against; no public clause cites it.
-use Rattle.std.specs.Prelude.{◌≡◌, ◌≢◌, ℕ, List}
-use Rattle.first_line.specs.Lines.{First}
+use Rattle.std.specs.Prelude.{◌≡◌, ◌⊎◌, ◌+◌, ℕ, List, drop}
 use Rattle.ccbor.specs.Item.{Item, map, text, bytes, no_pairs, pair}
 use Rattle.authdata.specs.declared.error.Error.{Error}
 use Rattle.authdata.specs.declared.error.Error.TheVariants as errors
 use Rattle.authdata.specs.Objects.{Attestation, IsMap, object_item}
-use Rattle.authdata.specs.Refusals.{Applies, later_order}
+use Rattle.authdata.specs.Refusals.{BeginsWithKey, IsIdLength, id_len_in}
 
--- the first refusal that applies of those behind Extensions
-abbrev pub RefusedLater : List ℕ → Error → Type 0
-RefusedLater bs e = e ≢ errors.Memory → First (Applies bs) later_order e
+-- what is wrong with attested credential data: the id's length, or what follows the id
+abbrev pub WrongCredential : List ℕ → Error → Type 0
+WrongCredential bs e =
+    ((e ≡ errors.BadId) × (IsIdLength (id_len_in bs) → ⊥))
+    ⊎ ((e ≡ errors.BadKey) × IsIdLength (id_len_in bs) × (BeginsWithKey (drop (55 + id_len_in bs) bs) → ⊥))
 
 -- the item is the object's value
 abbrev pub ObjectItem : Attestation → Item → Type 0

@@ -1,12 +1,12 @@
 -- Why bytes are no authenticator data: the first of these that applies.
-use Rattle.std.specs.Prelude.{◌≡◌, ◌≢◌, ℕ, ◌+◌, ◌<◌, ◌≤◌, true, List, [], ◌∷◌, ◌++◌, length, take, drop, slice_index, ◌⊎◌}
+use Rattle.std.specs.Prelude.{◌≡◌, ◌≢◌, ℕ, ◌+◌, ◌<◌, ◌≤◌, true, IsSome, List, [], ◌∷◌, ◌++◌, length, take, drop, slice_index, ◌⊎◌}
 use Rattle.std.specs.Int.{w16, from_be_bytes}
 use Rattle.first_line.specs.Lines.{First}
 use Rattle.cose.specs.declared.key.CoseKey.{CoseKey}
 use Rattle.cose.specs.Keys.{IsKey}
 use Rattle.authdata.specs.declared.error.Error.{Error}
 use Rattle.authdata.specs.declared.error.Error.TheVariants as errors
-use Rattle.authdata.specs.Flags.{is_set, AT, ED}
+use Rattle.authdata.specs.Flags.{is_set, HasBackup, AT, ED}
 use Rattle.authdata.specs.Layout.{AuthenticatorData, AuthOf, key_bytes}
 
 -- the flags, and the length of the credential id, where they are there
@@ -27,11 +27,12 @@ abbrev pub BeginsWithKey : List ℕ → Type 0
 BeginsWithKey bs = (key : CoseKey) × (rest : List ℕ) × IsKey key × (bs ≡ key_bytes key ++ rest)
 
 -- Short: the fixed part, or with a credential what stands before its key, is not there whole.
--- Extensions: ED is set. BadId: the credential id's length. BadKey: what follows the credential id.
--- ExtraBytes: a front is authenticator data, and bytes follow it.
+-- Extensions: ED is set. BadBackup: BS is set and BE is clear (profile 2). BadId: the credential id's length.
+-- BadKey: what follows the credential id. ExtraBytes: a front is authenticator data, and bytes follow it.
 abbrev pub Applies : List ℕ → Error → Type 0
 Applies bs errors.Short = (length bs < 37) ⊎ (IsAttested bs × (length bs < 55 + id_len_in bs))
 Applies bs errors.Extensions = is_set (flags_in bs) ED ≡ true
+Applies bs errors.BadBackup = HasBackup (flags_in bs) → ⊥
 Applies bs errors.BadId = IsAttested bs × (IsIdLength (id_len_in bs) → ⊥)
 Applies bs errors.BadKey = IsAttested bs × (BeginsWithKey (drop (55 + id_len_in bs) bs) → ⊥)
 Applies bs errors.ExtraBytes =
@@ -50,14 +51,13 @@ abbrev pub order : List Error
 order =
     errors.Short
     ∷ errors.Extensions
+    ∷ errors.BadBackup
     ∷ later_order
 
 -- what an answered refusal says of the bytes; want of memory says nothing
 abbrev pub Refused : List ℕ → Error → Type 0
 Refused bs e = e ≢ errors.Memory → First (Applies bs) order e
 
--- a credential is read, for which memory is taken: Short, Extensions and BadId are told before
+-- the bytes are authenticator data that attest a credential: memory is taken for its id
 abbrev pub TakesMemory : List ℕ → Type 0
-TakesMemory bs =
-    IsAttested bs × (Applies bs errors.Short → ⊥)
-    × (Applies bs errors.Extensions → ⊥) × (Applies bs errors.BadId → ⊥)
+TakesMemory bs = (a : AuthenticatorData) × AuthOf a bs × IsSome a.attested

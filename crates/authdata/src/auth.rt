@@ -1,7 +1,7 @@
 //! Authenticator data.
 
 ghost use Rattle.std.specs.Prelude.{◌≡◌, ◌≤◌, length, is_some, false};
-ghost use Rattle.authdata.specs.Flags.{is_set, AT, ED};
+ghost use Rattle.authdata.specs.Flags.{is_set, HasBackup, AT, ED};
 
 use cose::CoseKey;
 
@@ -26,7 +26,7 @@ pub struct AuthData {
     /// SHA-256 of the relying party's id.
     pub rp_id_hash: [u8; 32],
     /// The flags, by the bits of `flags`; the reserved ones are kept as they came. `AT` is set
-    /// exactly if a credential is attested, and `ED` is clear.
+    /// exactly if a credential is attested, `ED` is clear, and `BS` is set only with `BE`.
     pub flags: u8,
     /// The signature counter.
     pub sign_count: u32,
@@ -34,4 +34,29 @@ pub struct AuthData {
     pub attested: Option<Attested>,
     ghost attested_flag: { is_set flags AT ≡ is_some attested },
     ghost no_extensions: { is_set flags ED ≡ false },
+    ghost backup: { HasBackup flags },
+}
+
+/// Attested credential data, read where they lie.
+#[derive(Clone, Copy, Debug, Drop)]
+pub struct AttestedView<'a> {
+    /// The kind of the authenticator.
+    pub aaguid: [u8; 16],
+    /// The credential id, of 1 to 64 bytes.
+    pub id: &'a [u8],
+    /// The credential's public key.
+    pub key: CoseKey,
+}
+
+/// Authenticator data, read where they lie: the members of `AuthData`.
+#[derive(Clone, Copy, Debug, Drop)]
+pub struct AuthView<'a> {
+    /// SHA-256 of the relying party's id.
+    pub rp_id_hash: [u8; 32],
+    /// The flags, as in `AuthData`.
+    pub flags: u8,
+    /// The signature counter.
+    pub sign_count: u32,
+    /// The attested credential, if there is one.
+    pub attested: Option<AttestedView<'a>>,
 }

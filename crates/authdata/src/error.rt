@@ -24,6 +24,9 @@ pub enum Error {
     /// Extension data is included.
     #[error("the authenticator data has extensions")]
     Extensions,
+    /// The credential is backed up and may not be (BS without BE).
+    #[error("the credential is marked as backed up and not as eligible for it")]
+    BadBackup,
     /// The credential id has no byte or more than 64.
     #[error("the credential id has no byte or more than 64")]
     BadId,
@@ -61,6 +64,7 @@ impl Error {
             Error::Shape => Some(13),
             Error::UnknownFormat => Some(14),
             Error::BadStatement => Some(15),
+            Error::BadBackup => Some(28),
         }
     }
 }

@@ -1,8 +1,8 @@
 //! The flags of authenticator data (WebAuthn section 6.1), each by its bit. The other bits are
 //! reserved.
 
-ghost use Rattle.std.specs.Prelude.{◌≡◌};
-ghost use Rattle.authdata.specs.Flags.{is_set};
+ghost use Rattle.std.specs.Prelude.{◌≡◌, ◌↔◌, IsTrue};
+ghost use Rattle.authdata.specs.Flags.{is_set, HasBackup};
 
 /// User present.
 pub const UP: u8 = 0x01;
@@ -27,4 +27,11 @@ pub fn is_set(flags: u8, flag: u8) -> bool
     ensures { result ≡ is_set flags flag }
 {
     flags & flag != 0
+}
+
+/// Whether `BS` is set only with `BE`.
+pub(crate) fn has_backup(flags: u8) -> bool
+    ensures { IsTrue result ↔ HasBackup flags }
+{
+    !is_set(flags, BS) || is_set(flags, BE)
 }

@@ -13,7 +13,7 @@ ghost use Rattle.authdata.specs.Statements.{Statement};
 ghost use Rattle.authdata.specs.declared.error.Error.{Error};
 ghost use Rattle.authdata.specs.declared.statement.AttestationType.{AttestationType};
 
-use crate::flags::{AT, ED, UP, UV};
+use crate::flags::{AT, BE, BS, ED, UP, UV};
 use cose::Verifier;
 
 /// Bytes are those of one authenticator data at most, and none of these byte lists begins
@@ -65,8 +65,9 @@ pub fn one_statement<V: Verifier>()
         → Statement (V.valid scheme) o key hash s → r ≡ s }
 {}
 
-/// The flags are the bits 0, 2, 6 and 7 of their byte (WebAuthn section 6.1).
+/// The flags are the bits 0, 2, 6 and 7 of their byte (WebAuthn section 6.1); the marks of profile 2 are the
+/// bits 3 and 4.
 pub fn flag_bits()
-    ensures code { (UP ≡ 0x01) × (UV ≡ 0x04) × (AT ≡ 0x40) × (ED ≡ 0x80) }
-    ensures definitions { (bits.UP ≡ 0x01) × (bits.UV ≡ 0x04) × (bits.AT ≡ 0x40) × (bits.ED ≡ 0x80) }
+    ensures code { (UP ≡ 0x01) × (UV ≡ 0x04) × (BE ≡ 0x08) × (BS ≡ 0x10) × (AT ≡ 0x40) × (ED ≡ 0x80) }
+    ensures definitions { (bits.UP ≡ 0x01) × (bits.UV ≡ 0x04) × (bits.BE ≡ 0x08) × (bits.BS ≡ 0x10) × (bits.AT ≡ 0x40) × (bits.ED ≡ 0x80) }
 {}

@@ -13,11 +13,11 @@ mod response;
 mod statement;
 mod writing;
 
-pub use auth::{Attested, AuthData};
+pub use auth::{Attested, AttestedView, AuthData, AuthView};
 pub use error::Error;
 pub use law::{flag_bits, key_inside, one_object, one_reading, one_refusal, one_statement, sizes};
 pub use object::AttestationObject;
-pub use reading::read;
+pub use reading::{read, read_view};
 pub use response::{AssertionResponse, RegistrationResponse};
 pub use statement::{AttestationType, check_statement};
 pub use writing::write;

@@ -1,31 +1,27 @@
 //! Parts of authenticator data.
 
-ghost use Rattle.std.specs.Prelude.{◌↔◌, ◌≡◌, ◌+◌, ◌<◌, ◌⊎◌, ◌++◌, length, IfOk, IfErr, IsErrOf, IsTrue, true};
+ghost use Rattle.std.specs.Prelude.{◌↔◌, ◌≡◌, ◌<◌, ◌++◌, length, IfOk, IfErr, IsTrue};
 ghost use Rattle.cose.specs.Keys.{IsKey};
-ghost use Rattle.authdata.specs.Flags.{is_set, AT};
 ghost use Rattle.authdata.specs.Layout.{key_bytes};
 ghost use Rattle.authdata.specs.Refusals.{Applies, BeginsWithKey, id_len_in};
 ghost use Rattle.authdata.specs.declared.error.Error.TheVariants as errors;
 
 use crate::error::Error;
 use crate::flags;
-use ccbor::decode;
+use ccbor::View;
 use cose::CoseKey;
-use std::alloc::Global;
 
 /// The key at the front, and the bytes behind it.
-pub fn key_front(alloc: Global, bytes: &[u8]) -> Result<(CoseKey, &[u8]), Error>
+pub fn key_front(bytes: &[u8]) -> Result<(CoseKey, &[u8]), Error>
     ensures found { IfOk result (λ x. IsKey x.0 × (bytes.now ≡ key_bytes x.0 ++ x.1.now)) }
-    ensures none { IsErrOf result Error.BadKey → BeginsWithKey bytes.now → ⊥ }
-    ensures errors { IfErr result (λ e. (e ≡ errors.Memory) ⊎ (e ≡ errors.BadKey)) }
+    ensures none { IfErr result (λ e. (e ≡ errors.BadKey) × (BeginsWithKey bytes.now → ⊥)) }
 {
-    match decode(alloc, bytes) {
-        Ok((value, len)) => match CoseKey::from_value(&value) {
-            Ok(key) => Ok((key, &bytes[len..])),
-            Err(_) => Err(Error::BadKey),
-        },
-        Err(ccbor::Error::NotCanonical) => Err(Error::BadKey),
-        Err(_) => Err(Error::Memory),
+    let Ok((value, len)) = View::check(bytes) else {
+        return Err(Error::BadKey);
+    };
+    match CoseKey::from_view(&value) {
+        Ok(key) => Ok((key, &bytes[len..])),
+        Err(_) => Err(Error::BadKey),
     }
 }
 

@@ -2,10 +2,11 @@
 
 ghost use Rattle.std.specs.Prelude.{◌≡◌, IfOk, IsErr};
 ghost use Rattle.ccbor.specs.View.{view};
+ghost use Rattle.ccbor.specs.Viewing.{shown};
 ghost use Rattle.cose.specs.Keys.{alg_of, argument_of, number_of, x_of, KeyOf};
 
-use crate::reading::{eddsa, es256};
-use ccbor::Value;
+use crate::{reading, viewing};
+use ccbor::{Value, View};
 use std::alloc::{AllocError, Global};
 use thiserror::Error;
 
@@ -119,10 +120,28 @@ impl CoseKey {
         let Some(pairs) = value.as_map() else {
             return Err(NotAKey);
         };
-        if let Some(key) = es256(pairs) {
+        if let Some(key) = reading::es256(pairs) {
             return Ok(key);
         }
-        match eddsa(pairs) {
+        match reading::eddsa(pairs) {
+            Some(key) => Ok(key),
+            None => Err(NotAKey),
+        }
+    }
+
+    /// The key that has this value, read where its encoding lies: as `from_value`.
+    pub fn from_view(value: &View<'_>) -> Result<CoseKey, NotAKey>
+        ensures found { IfOk result (λ k. KeyOf k (shown value.now)) }
+        // It is refused only if no key has it.
+        ensures none { IsErr result → (k : CoseKey) → KeyOf k (shown value.now) → ⊥ }
+    {
+        let Some(pairs) = value.as_map() else {
+            return Err(NotAKey);
+        };
+        if let Some(key) = viewing::es256(&pairs) {
+            return Ok(key);
+        }
+        match viewing::eddsa(&pairs) {
             Some(key) => Ok(key),
             None => Err(NotAKey),
         }

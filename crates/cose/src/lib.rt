@@ -8,6 +8,7 @@ mod law;
 mod list;
 mod reading;
 mod scheme;
+mod viewing;
 
 pub use bench::BenchScheme;
 pub use key::{Alg, CoseKey, NotAKey};

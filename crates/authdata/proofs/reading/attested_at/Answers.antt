@@ -1,12 +1,10 @@
-use Rattle.std.proofs.Common.{ap, sym, Err}
+use Rattle.std.proofs.Common.{sym}
 use Rattle.authdata.proofs.Joins.{to_the_end}
 use Rattle.authdata.proofs.Firsts.{credential_refused}
 use Rattle.authdata.proofs.reading.attested_at.Goals as goal
 
 pub returns-in-Err-clause-refused : goal.returns-in-Err-clause-refused
-returns-in-Err-clause-refused c =
-    let k = c.in-Err.ensures in
-    credential_refused c.args.bytes.now _ k.errors (sym c.if-is_set.ensures) (λ p. k.bad_id (ap Err p)) (λ p. k.bad_key (ap Err p))
+returns-in-Err-clause-refused c = credential_refused c.args.bytes.now _ (sym c.if-is_set.ensures) c.in-Err.ensures.refused
 
 pub returns-else-is_set-clause-found : goal.returns-else-is_set-clause-found
 returns-else-is_set-clause-found c = sym (to_the_end 37 c.args.bytes.now)

@@ -1,54 +1,12 @@
-use Rattle.std.proofs.Common.{◌≡◌, ◌<◌, ◌^◌, length, option_map, ap, sym, ◌∙◌, arith, rules}
-use Rattle.authdata.specs.Flags.{is_set, ED}
-use Rattle.authdata.specs.Layout.{credential_view, IsAuthenticatorData}
-use Rattle.authdata.proofs.Firsts.{lifted, short_first, extensions_first, extra_first, auth_from, auth_is, extra_applies, auth_found}
-use Rattle.authdata.proofs.NoRefusal.{not_refused}
+use Rattle.std.proofs.Common.{◌≡◌}
+use Rattle.std.proofs.lemmas.Result.{err_from_is_err_and}
+use Rattle.authdata.specs.declared.error.Error.TheVariants as errors
+use Rattle.authdata.proofs.NoRefusal.{no_memory}
 use Rattle.authdata.proofs.reading.read.Goals as goal
 
-pub returns-then-is_short-clause-refused : goal.returns-then-is_short-clause-refused
-returns-then-is_short-clause-refused c = short_first c.args.bytes.now (c.is_short.ensures.0 c.if-is_short.true)
-
-pub returns-then-is_set-clause-refused : goal.returns-then-is_set-clause-refused
-returns-then-is_set-clause-refused c =
-    extensions_first c.args.bytes.now (λ s. let t = c.is_short.ensures.1 s in let f = c.if-is_short.false in absurd cc)
-    (ap (λ n. is_set n ED) (sym c.in-Some.ensures.flags) ∙ sym c.if-is_set.ensures)
-
-pub returns-in-Err-clause-refused : goal.returns-in-Err-clause-refused
-returns-in-Err-clause-refused c =
-    lifted c.args.bytes.now _ (λ s. let t = c.is_short.ensures.1 s in let f = c.if-is_short.false in absurd cc)
-    (λ s. let t = ap (λ n. is_set n ED) c.in-Some.ensures.flags ∙ s in let f = c.if-is_set.ensures in absurd cc) c.in-Err.ensures.refused
-
-pub returns-then-rest-gt0-clause-refused : goal.returns-then-rest-gt0-clause-refused
-returns-then-rest-gt0-clause-refused c =
-    let bs = c.args.bytes.now in
-    let k = c.in-Ok.ensures in
-    let len : length c.in-Some.hash.now ≡ 32 = c.in-Some.ensures.hash in
-    let count : c.in-Some.sign_count < 2 ^ 32 = search rules in
-    let flags : c.in-Some.flags < 256 = search rules in
-    let is : IsAuthenticatorData (auth_from c.in-Some.hash.now c.in-Some.flags c.in-Some.sign_count (option_map credential_view c.in-Ok.attested)) =
-    auth_is bs c.in-Some.hash.now c.in-Some.flags c.in-Some.sign_count c.in-Ok.attested len flags count c.in-Some.ensures.flags k.flag (sym c.if-is_set.ensures) k.is in
-    let some : 0 < length c.in-Ok.rest.now = omega arith in
-    extra_first bs (λ s. let t = c.is_short.ensures.1 s in let f = c.if-is_short.false in absurd cc)
-    (λ s. let t = ap (λ n. is_set n ED) c.in-Some.ensures.flags ∙ s in let f = c.if-is_set.ensures in absurd cc) k.good_id k.good_key
-    (extra_applies bs c.in-Some.field-0-3.now c.in-Ok.rest.now _ is c.in-Some.ensures.parts c.in-Some.ensures.rest k.found some)
-
-pub returns-else-rest-gt0-clause-found : goal.returns-else-rest-gt0-clause-found
-returns-else-rest-gt0-clause-found c =
-    let bs = c.args.bytes.now in
-    let k = c.in-Ok.ensures in
-    let len : length c.in-Some.hash.now ≡ 32 = c.in-Some.ensures.hash in
-    let count : c.in-Some.sign_count < 2 ^ 32 = search rules in
-    let flags : c.in-Some.flags < 256 = search rules in
-    let is : IsAuthenticatorData (auth_from c.in-Some.hash.now c.in-Some.flags c.in-Some.sign_count (option_map credential_view c.in-Ok.attested)) =
-    auth_is bs c.in-Some.hash.now c.in-Some.flags c.in-Some.sign_count c.in-Ok.attested len flags count c.in-Some.ensures.flags k.flag (sym c.if-is_set.ensures) k.is in
-    let none : length c.in-Ok.rest.now ≡ 0 = omega arith in
-    auth_found bs c.in-Some.field-0-3.now c.in-Ok.rest.now _ is c.in-Some.ensures.parts c.in-Some.ensures.rest k.found none
-
-pub returns-then-is_short-clause-none : goal.returns-then-is_short-clause-none
-returns-then-is_short-clause-none c = λ m a h. not_refused a c.args.bytes.now _ (returns-then-is_short-clause-refused c) m h
-
-pub returns-then-rest-gt0-clause-none : goal.returns-then-rest-gt0-clause-none
-returns-then-rest-gt0-clause-none c = λ m a h. not_refused a c.args.bytes.now _ (returns-then-rest-gt0-clause-refused c) m h
-
-pub returns-in-Err-clause-none : goal.returns-in-Err-clause-none
-returns-in-Err-clause-none c = λ m a h. not_refused a c.args.bytes.now _ (returns-in-Err-clause-refused c) m h
+pub returns-in_err-view-clause-memory : goal.returns-in_err-view-clause-memory
+returns-in_err-view-clause-memory c = λ m.
+    let p = err_from_is_err_and c.from_residual.result c.from_residual.ensures.1 in
+    let first = c.in_err-view.ensures.refused in
+    let same : c.in_err-view.field-0.0 ≡ errors.Memory = cc in
+    absurd (no_memory c.args.bytes.now c.in_err-view.field-0.0 first same)

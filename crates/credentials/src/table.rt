@@ -1,0 +1,236 @@
+//! The table.
+
+ghost use Rattle.std.specs.Prelude.{◌≡◌, ◌≢◌, ◌<◌, ◌↔◌, ◌++◌, [], ◌∷◌, ℕ, List, length, map, true, false, position, Some, None, IfOk, IfSome, IsErrOf, IsTrue, OnErr, OnOk, option_map};
+ghost use Rattle.std.specs.Option.{ForSome};
+ghost use Rattle.std.specs.Str.{bytes_eq};
+ghost use Rattle.std.specs.Iterator.{YieldsFirstBy, item_count};
+ghost use Rattle.verification.specs.Views.{credential_of as credential_shown};
+ghost use Rattle.credentials.specs.Table.{AreRows, IsRow, IsTable, IsWithin, row_of, retired, signed_in, with_row};
+ghost use Rattle.credentials.specs.Views.{credential_of, credentials_of, kept_of};
+ghost use Rattle.credentials.specs.declared.table.Error.TheVariants as errors;
+
+use crate::row::{Kept, Row};
+use indexmap::IndexMap;
+use indexmap::map::Iter;
+use std::alloc::{AllocError, AllocFailed, Global};
+use std::marker::Model;
+use verification::CredentialView;
+
+/// The most bytes of a credential id.
+pub const MAX_ID: usize = 64;
+
+/// The most bytes of a user handle.
+pub const MAX_USER: usize = 64;
+
+/// The most credentials of a table, retired ones too.
+pub const MAX_ROWS: usize = 65_536;
+
+/// Why rows are no table.
+#[derive(Clone, Copy, Debug, PartialEq, Eq, Drop, thiserror::Error)]
+pub enum Error {
+    /// 23: an id or a user handle is not of 1 to 64 bytes, an id stands twice, or there are more than 65,536 rows.
+    #[error("the credentials are not a table that a site can have")]
+    BadTable,
+    /// There was no memory.
+    #[error("out of memory")]
+    Memory,
+}
+
+impl<T: Drop> From<AllocFailed<T>> for Error {
+    ghost from_gives = { λ _ e. e ≡ errors.Memory };
+
+    fn from(_e: AllocFailed<T>) -> Error {
+        Error::Memory
+    }
+}
+
+/// The registered credentials, in order of registration. A contract sees their list.
+#[derive(Drop)]
+pub struct Table {
+    rows: IndexMap<Vec<u8>, Kept>,
+    ghost limits: { IsTable (map (λ e. kept_of e.0.items e.1) rows.entries) },
+}
+
+impl Model for Table {
+    ghost use Rattle.std.specs.Prelude.{List, map};
+    ghost use Rattle.verification.specs.Records.{Credential};
+    ghost use Rattle.credentials.specs.Views.{kept_of};
+
+    ghost Value = { List Credential };
+
+    ghost view = { λ t. map (λ e. kept_of e.0.items e.1) t.rows.entries };
+}
+
+/// Whether an id or a user handle has 1 to `most` bytes.
+fn is_within(bytes: &[u8], most: usize) -> bool
+    ensures { IsTrue result ↔ IsWithin most bytes.now }
+{
+    1 <= bytes.len() && bytes.len() <= most
+}
+
+impl Row {
+    /// Whether the id and the user handle are within their limits.
+    pub fn is_within_limits(&self) -> bool
+        ensures { IsTrue result ↔ IsRow (credential_of self.now) }
+    {
+        is_within(&self.id, MAX_ID) && is_within(&self.user, MAX_USER)
+    }
+}
+
+/// A credential as it is shown.
+fn shown<'a>(id: &'a Vec<u8>, kept: &'a Kept) -> CredentialView<'a>
+    ensures { credential_shown result ≡ kept_of id.now.items kept.now }
+{
+    CredentialView {
+        id,
+        user: &kept.user,
+        key: &kept.key,
+        sign_count: kept.sign_count,
+        eligible: kept.eligible,
+        retired: kept.retired,
+    }
+}
+
+impl Table {
+    /// A table without credentials, which takes no memory.
+    pub fn new(alloc: Global) -> Table
+        ensures { result ≡ [] }
+    {
+        Table {
+            rows: IndexMap::new(alloc),
+        }
+    }
+
+    /// How many credentials there are.
+    pub fn len(&self) -> usize
+        ensures { result ≡ length self.now }
+    {
+        self.rows.len()
+    }
+
+    /// Whether there is room for no more.
+    pub fn is_full(&self) -> bool
+        ensures { IsTrue result ↔ (length self.now ≡ 65536) }
+    {
+        self.rows.len() == MAX_ROWS
+    }
+
+    /// The credential of an id, and its place.
+    pub fn find(&self, id: &[u8]) -> Option<(usize, CredentialView<'_>)>
+        ensures place { option_map (λ x. x.0) result ≡ position (λ row. bytes_eq row.id id.now) self.now }
+        ensures row { option_map (λ x. credential_shown x.1) result ≡ row_of id.now self.now }
+    {
+        let (place, id, kept) = self.rows.get_full(id)?;
+        Some((place, shown(id, kept)))
+    }
+
+    /// The credential of an id.
+    pub fn row(&self, id: &[u8]) -> Option<CredentialView<'_>>
+        ensures { option_map credential_shown result ≡ row_of id.now self.now }
+    {
+        let (id, kept) = self.rows.get_key_value(id)?;
+        Some(shown(id, kept))
+    }
+
+    /// Whether a credential has this id, retired or not.
+    pub fn has(&self, id: &[u8]) -> bool
+        ensures { result ≡ false ↔ (row_of id.now self.now ≡ None) }
+    {
+        self.rows.contains_key(id)
+    }
+
+    /// Stores what a sign-in brought, in the credential that `find` found at this place.
+    pub fn store(&mut self, place: usize, sign_count: u32, eligible: bool)
+        ensures { (id : List ℕ) → position (λ row. bytes_eq row.id id) self.old ≡ Some place
+            → self.new ≡ with_row id (signed_in sign_count eligible) self.old }
+    {
+        if let Some(kept) = self.rows.get_index_mut(place) {
+            kept.sign_count = sign_count;
+            kept.eligible = Some(eligible);
+        }
+    }
+
+    /// Retires the credential of an id. True where there is one that was not retired.
+    pub fn retire(&mut self, id: &[u8]) -> bool
+        ensures told { IsTrue result ↔ (row_of id.now self.old ≢ None) × ForSome (row_of id.now self.old) (λ row. row.retired ≡ false) }
+        ensures after { self.new ≡ with_row id.now retired self.old }
+    {
+        match self.rows.get_mut(id) {
+            Some(kept) => {
+                let was = kept.retired;
+                kept.retired = true;
+                !was
+            }
+            None => false,
+        }
+    }
+
+    /// Adds a credential behind the others. Where there is no memory nothing has changed.
+    pub fn push(&mut self, row: Row) -> Result<(), Error>
+        requires limits { IsRow (credential_of row) }
+        requires absent { row_of row.id.items self.old ≡ None }
+        requires room { length self.old < 65536 }
+        ensures pushed { OnOk result (self.new ≡ self.old ++ credential_of row ∷ []) }
+        ensures unchanged { OnErr result (self.new ≡ self.old) }
+        ensures memory { IfErr result (λ e. e ≡ errors.Memory) }
+    {
+        let Row {
+            id,
+            user,
+            key,
+            sign_count,
+            eligible,
+            retired,
+        } = row;
+        let kept = Kept {
+            user,
+            key,
+            sign_count,
+            eligible,
+            retired,
+        };
+        self.rows.insert(id, kept)?;
+        Ok(())
+    }
+
+    /// The table of these credentials, in this order.
+    ///
+    /// `BadTable` is answered only where they are none, and `Memory` only where there was none.
+    pub fn from_rows(alloc: Global, rows: Vec<Row>) -> Result<Table, Error>
+        ensures made { IfOk result (λ t. t ≡ credentials_of rows.items) }
+        ensures bad { IsErrOf result Error.BadTable → IsTable (credentials_of rows.items) → ⊥ }
+    {
+        let mut table = Table::new(alloc);
+        for row in rows {
+            if !row.is_within_limits() || table.has(&row.id) || table.is_full() {
+                return Err(Error::BadTable);
+            }
+            table.push(row)?;
+        }
+        Ok(table)
+    }
+
+    /// The credentials in order of registration.
+    pub fn rows(&self) -> Rows<'_>
+        ensures { map (λ e. kept_of e.0.items e.1) result.0 ≡ self.now }
+    {
+        Rows(self.rows.iter())
+    }
+}
+
+/// The registered credentials in order of registration.
+#[derive(Drop)]
+pub struct Rows<'a>(Iter<'a, Vec<u8>, Kept>);
+
+impl<'a> Iterator for Rows<'a> {
+    type Item = CredentialView<'a>;
+
+    ghost next_gives = { YieldsFirstBy credential_shown (λ s. map (λ e. kept_of e.0.items e.1) s.0) };
+
+    ghost remaining = { item_count (λ s. map (λ e. kept_of e.0.items e.1) s.0) };
+
+    fn next(&mut self) -> Option<CredentialView<'a>> {
+        let (id, kept) = self.0.next()?;
+        Some(shown(id, kept))
+    }
+}
