@@ -13,7 +13,7 @@ use Rattle.verification.specs.Records.{Credential, SignIn}
 use Rattle.verification.specs.Shared.{Relation, IsFor, IsPresent, IsVerifiedAs}
 use Rattle.verification.specs.Authentication.{Attempt, Passes, PassesAll, IsCounted, credential_steps, client_data_steps, auth_data_steps, signature_steps}
 use Rattle.verification.specs.ClientData.{Says, lines}
-use Rattle.verification.specs.Answers.{FailsIn, IsNotBare, IsRefused, never, step_of}
+use Rattle.verification.specs.Answers.{FailsIn, IsRefused, never, step_of}
 use Rattle.verification.specs.declared.client_data.ClientDataLine.{ClientDataLine}
 use Rattle.verification.specs.declared.client_data.ClientDataLine.TheVariants as line
 use Rattle.verification.specs.declared.refusal.SignInError.{SignInError}
@@ -67,10 +67,8 @@ pub record HasBare (x : Attempt) (a : AuthenticatorData) : Type 0 where
   pub spelled : AuthOf a x.response.auth_data
   pub bare : is_set a.flags AT ≡ false
 
-pub unbare : (x : Attempt) (e : SignInError) → IsNotBare x.response.auth_data e → FailsIn never x auth_data_steps e
-unbare x (errors.Refused step.BadAuthenticatorData) none = first_at 0 refl tt (λ passes. none passes.0 passes.1 passes.2)
-unbare x (errors.Refused w) none = absurd none
-unbare x errors.Memory none = tt
+pub unbare : (x : Attempt) → ((a : AuthenticatorData) → AuthOf a x.response.auth_data → is_set a.flags AT ≡ false → ⊥) → FirstFailing (Passes never x) auth_data_steps step.BadAuthenticatorData
+unbare x none = first_at 0 refl tt (λ passes. none passes.0 passes.1 passes.2)
 
 pub wrong_party : (x : Attempt) (a : AuthenticatorData) → HasBare x a → (IsFor x.rp a → ⊥) → FirstFailing (Passes never x) auth_data_steps step.WrongRelyingParty
 wrong_party x a has other = first_at 1 refl ((a, has.spelled, has.bare), tt) (λ passes. other (passes a has.spelled))
@@ -166,9 +164,9 @@ module _ (valid : Relation) (x : Attempt) where
   client_fails a (errors.Refused w) first = first_behind credential_steps a (first_before _ (first_along (client_as_any valid x) first))
   client_fails a errors.Memory first = a
 
-  pub data_fails : Each (Passes never x) credential_steps → Each (Passes never x) client_data_steps → (e : SignInError) → FailsIn never x auth_data_steps e → IsRefused valid x e
-  data_fails a b (errors.Refused w) first = first_behind credential_steps a (first_behind client_data_steps b (first_before _ (first_along (data_as_any valid x) first)))
-  data_fails a b errors.Memory first = a
+  pub data_fails : Each (Passes never x) credential_steps → Each (Passes never x) client_data_steps
+      → (w : SignInRefusal) → FirstFailing (Passes never x) auth_data_steps w → IsRefused valid x (errors.Refused w)
+  data_fails a b w first = first_behind credential_steps a (first_behind client_data_steps b (first_before _ (first_along (data_as_any valid x) first)))
 
   pub signature_fails : Each (Passes never x) credential_steps → Each (Passes never x) client_data_steps → Each (Passes never x) auth_data_steps
       → (w : SignInRefusal) → FirstFailing (Passes valid x) signature_steps w → IsRefused valid x (errors.Refused w)

@@ -1,7 +1,7 @@
 -- What a judgement answers.
-use Rattle.std.specs.Prelude.{◌≡◌, ℕ, List, false}
+use Rattle.std.specs.Prelude.{◌≡◌, List}
 use Rattle.first_line.specs.Lines.{Each, FirstFailing}
-use Rattle.authdata.specs.Flags.{is_set, AT, BE, BS}
+use Rattle.authdata.specs.Flags.{is_set, BE, BS}
 use Rattle.authdata.specs.Layout.{AuthenticatorData, AuthOf}
 use Rattle.verification.specs.Shared.{Relation}
 use Rattle.verification.specs.Authentication.{Attempt, Passes, IsFirstFailing, credential_steps}
@@ -41,9 +41,3 @@ step_of line.Type = step.WrongType
 step_of line.Challenge = step.WrongChallenge
 step_of line.Origin = step.WrongOrigin
 step_of line.TokenBinding = step.TokenBinding
-
--- the bytes are no authenticator data with AT clear; want of memory says nothing
-abbrev pub IsNotBare : List ℕ → SignInError → Type 0
-IsNotBare bs (errors.Refused step.BadAuthenticatorData) = (a : AuthenticatorData) → AuthOf a bs → is_set a.flags AT ≡ false → ⊥
-IsNotBare bs (errors.Refused w) = ⊥
-IsNotBare bs errors.Memory = Unit {0}

@@ -1,14 +1,14 @@
 //! Judging an authentication assertion (WebAuthn Level 2, section 7.2).
 
-ghost use Rattle.std.specs.Prelude.{◌≡◌, ◌↔◌, ◌⊎◌, ◌++◌, [], Contains, IfErr, IfOk, IsTrue, OnOk, Some, false, map, option_map, true};
+ghost use Rattle.std.specs.Prelude.{◌≡◌, ◌↔◌, ◌⊎◌, ◌++◌, [], Contains, IfErr, IfOk, IfSome, IsTrue, None, OnOk, Some, false, map, option_map, true};
 ghost use Rattle.std.specs.Option.{ForSome};
 ghost use Rattle.sha2.specs.Sha256.{sha256};
 ghost use Rattle.first_line.specs.Lines.{Each, FirstFailing};
 ghost use Rattle.authdata.specs.Flags.{is_set, AT, BE};
-ghost use Rattle.authdata.specs.Layout.{AuthOf, auth_view};
+ghost use Rattle.authdata.specs.Layout.{AuthOf, AuthenticatorData, auth_shown};
 ghost use Rattle.verification.specs.Authentication.{AreUser, IsCounted, Passes, PassesAll};
 ghost use Rattle.verification.specs.Authentication.{credential_steps, client_data_steps, auth_data_steps, signature_steps};
-ghost use Rattle.verification.specs.Answers.{FailsIn, IsNotBare, IsRefused, Tells, never, step_of};
+ghost use Rattle.verification.specs.Answers.{FailsIn, IsRefused, Tells, never, step_of};
 ghost use Rattle.verification.specs.Views.{attempt_of, credential_of, sign_in_of};
 
 use crate::client_data::{ClientDataError, ClientDataLine, check_client_data};
@@ -16,7 +16,7 @@ use crate::flag::is_verified_as;
 use crate::party::RelyingParty;
 use crate::record::{AssertionParts, CredentialView, SignInSession};
 use crate::refusal::{SignInError, SignInRefusal};
-use authdata::{AuthData, flags, read};
+use authdata::{AuthView, flags, read_view};
 use clientdata::{Kind, hash};
 use cose::{CoseKey, Verifier};
 use std::alloc::Global;
@@ -112,20 +112,17 @@ fn is_eligible_as(known: Option<bool>, flags: u8) -> bool
 }
 
 /// The authenticator data that the bytes are, which attest no credential.
-fn bare_data(alloc: Global, bytes: &[u8]) -> Result<AuthData, SignInError>
-    ensures found { IfOk result (λ a. AuthOf (auth_view a) bytes.now × (is_set a.flags AT ≡ false)) }
-    ensures refused { IfErr result (IsNotBare bytes.now) }
+fn bare_data(bytes: &[u8]) -> Option<AuthView<'_>>
+    ensures found { IfSome result (λ a. AuthOf (auth_shown a) bytes.now × (is_set a.flags AT ≡ false)) }
+    ensures none { result ≡ None → (a : AuthenticatorData) → AuthOf a bytes.now → is_set a.flags AT ≡ false → ⊥ }
 {
-    match read(alloc, bytes) {
-        Ok(data) => {
-            if flags::is_set(data.flags, flags::AT) {
-                return Err(SignInError::Refused(SignInRefusal::BadAuthenticatorData));
-            }
-            Ok(data)
-        }
-        Err(authdata::Error::Memory) => Err(SignInError::Memory),
-        Err(_) => Err(SignInError::Refused(SignInRefusal::BadAuthenticatorData)),
+    let Ok(data) = read_view(bytes) else {
+        return None;
+    };
+    if flags::is_set(data.flags, flags::AT) {
+        return None;
     }
+    Some(data)
 }
 
 impl<'a> SignInAttempt<'a> {
@@ -174,24 +171,23 @@ impl<'a> SignInAttempt<'a> {
     }
 
     /// The authenticator data, where the steps on them are passed.
-    fn auth_data(&self, alloc: Global, session: &SignInSession) -> Result<AuthData, SignInError>
+    fn auth_data(&self, session: &SignInSession) -> Result<AuthView<'a>, SignInRefusal>
         requires { (attempt_of self.now).session ≡ Some (sign_in_of session.now) }
         ensures passes { OnOk result (Each (Passes never (attempt_of self.now)) auth_data_steps) }
-        ensures found { IfOk result (λ a. AuthOf (auth_view a) self.now.response.auth_data.now) }
-        ensures refused { IfErr result (FailsIn never (attempt_of self.now) auth_data_steps) }
+        ensures found { IfOk result (λ a. AuthOf (auth_shown a) self.now.response.auth_data.now) }
+        ensures refused { IfErr result (FirstFailing (Passes never (attempt_of self.now)) auth_data_steps) }
     {
-        let data = match bare_data(alloc, self.response.auth_data) {
-            Ok(data) => data,
-            Err(error) => return Err(error),
+        let Some(data) = bare_data(self.response.auth_data) else {
+            return Err(SignInRefusal::BadAuthenticatorData);
         };
         if !self.party.is_hash(&data.rp_id_hash) {
-            return Err(SignInError::Refused(SignInRefusal::WrongRelyingParty));
+            return Err(SignInRefusal::WrongRelyingParty);
         }
         if !flags::is_set(data.flags, flags::UP) {
-            return Err(SignInError::Refused(SignInRefusal::UserNotPresent));
+            return Err(SignInRefusal::UserNotPresent);
         }
         if !is_verified_as(session.verified, data.flags) {
-            return Err(SignInError::Refused(SignInRefusal::UserNotVerified));
+            return Err(SignInRefusal::UserNotVerified);
         }
         Ok(data)
     }
@@ -201,10 +197,10 @@ impl<'a> SignInAttempt<'a> {
         &self,
         verifier: &V,
         credential: &CredentialView<'_>,
-        auth_data: &AuthData,
+        auth_data: &AuthView<'_>,
     ) -> Result<(), SignInRefusal>
         requires credential { (attempt_of self.now).credential ≡ Some (credential_of credential.now) }
-        requires auth_data { AuthOf (auth_view auth_data.now) self.now.response.auth_data.now }
+        requires auth_data { AuthOf (auth_shown auth_data.now) self.now.response.auth_data.now }
         ensures passes { OnOk result (Each (Passes (V.valid verifier.now) (attempt_of self.now)) signature_steps) }
         ensures refused { IfErr result (FirstFailing (Passes (V.valid verifier.now) (attempt_of self.now)) signature_steps) }
     {
@@ -236,7 +232,7 @@ pub fn verify_assertion<V: Verifier>(
 {
     let (session, credential) = attempt.expected()?;
     attempt.check_client_data(alloc, session)?;
-    let data = attempt.auth_data(alloc, session)?;
+    let data = attempt.auth_data(session)?;
     attempt.check_signature(verifier, &credential, &data)?;
     Ok(VerifiedAssertion {
         sign_count: data.sign_count,
