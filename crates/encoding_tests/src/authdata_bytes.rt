@@ -2,7 +2,7 @@
 //! WebAuthn, sections 6.1 and 6.5.1.
 
 use crate::pieces::{Piece, joined};
-use authdata::{Attested, AuthData, Error, flags, read, write};
+use authdata::{Attested, AuthData, Error, flags, read, read_view, write};
 use cose::CoseKey;
 use std::alloc::{AllocError, Global};
 use std::test::Fail;
@@ -42,6 +42,33 @@ const ROWS: &[(&str, &[Piece], Option<Error>)] = &[
         Some(Error::Short),
     ),
     ("bare", &[(&[1, 0, 0, 0, 1], 0, 0)], None),
+    (
+        "BS without BE",
+        &[(&[0x11, 0, 0, 0, 0], 0, 0)],
+        Some(Error::BadBackup),
+    ),
+    ("BE alone", &[(&[0x09, 0, 0, 0, 0], 0, 0)], None),
+    ("BE and BS", &[(&[0x19, 0, 0, 0, 0], 0, 0)], None),
+    (
+        "ED before BS without BE",
+        &[(&[0x91, 0, 0, 0, 0], 0, 0)],
+        Some(Error::Extensions),
+    ),
+    (
+        "too short before BS without BE",
+        &[(&[0x51, 0, 0, 0, 0], 0, 0)],
+        Some(Error::Short),
+    ),
+    (
+        "BS without BE before a bad id",
+        &[(&[0x51, 0, 0, 0, 0], 0, 16), (&[0, 0], 0, 0)],
+        Some(Error::BadBackup),
+    ),
+    (
+        "BS without BE before a byte more",
+        &[(&[0x11, 0, 0, 0, 0, 0], 0, 0)],
+        Some(Error::BadBackup),
+    ),
     (
         "bare, and a byte",
         &[(&[1, 0, 0, 0, 1, 0], 0, 0)],
@@ -158,11 +185,12 @@ fn is_read(alloc: Global, bytes: &[u8]) -> Result<bool, AllocError> {
     }
 }
 
-/// Why the bytes are refused, if they are.
+/// Why the bytes are refused, if they are; want of memory where the two readers differ.
 fn refusal(alloc: Global, bytes: &[u8]) -> Option<Error> {
-    match read(alloc, bytes) {
-        Ok(_) => None,
-        Err(e) => Some(e),
+    match (read(alloc, bytes), read_view(bytes)) {
+        (Ok(_), Ok(_)) => None,
+        (Err(e), Err(f)) => Some(if e == f { e } else { Error::Memory }),
+        _ => Some(Error::Memory),
     }
 }
 
@@ -228,6 +256,20 @@ fn members_read(rt: HostRuntime) -> Result<(), Fail> {
     Ok(())
 }
 
+#[test]
+fn members_viewed(rt: HostRuntime) -> Result<(), Fail> {
+    let bytes = joined(rt.alloc(), &H, FULL)?;
+    let auth = read_view(bytes.as_slice())?;
+    assert_eq!(rt; auth.rp_id_hash, H);
+    assert_eq!(rt; auth.flags, 0x45);
+    assert_eq!(rt; auth.sign_count, 16_909_060);
+    let attested = auth.attested.ok_or("a credential")?;
+    assert_eq!(rt; attested.aaguid, AAGUID);
+    assert_eq!(rt; attested.id, [0x0a, 0x0b, 0x0c].as_slice());
+    assert_eq!(rt; attested.key, CoseKey::Es256 { x: X, y: Y });
+    Ok(())
+}
+
 /// The attested credential of `FULL`.
 fn full_credential(alloc: Global) -> Result<Attested, AllocError> {
     Ok(Attested {
@@ -285,29 +327,34 @@ fn is_flagged(alloc: Global, bytes: &[u8], flags: u8, attested: bool) -> bool {
     }
 }
 
+/// Why flags are refused, if they are: `ED` is bit 7, and bit 4, `BS`, is set only with bit 3, `BE`.
+fn refused_flags(flags: u8) -> Option<Error> {
+    if 128 <= flags {
+        Some(Error::Extensions)
+    } else if flags / 16 % 2 == 1 && flags / 8 % 2 == 0 {
+        Some(Error::BadBackup)
+    } else {
+        None
+    }
+}
+
 /// Whether these flags without a credential are answered as they have to be.
-fn is_bare(alloc: Global, flags: u8, at: bool, ed: bool) -> Result<bool, AllocError> {
+fn is_bare(alloc: Global, flags: u8, at: bool) -> Result<bool, AllocError> {
     let bytes = flagged(alloc, flags, &[])?;
-    Ok(match (at, ed) {
+    Ok(match (at, refused_flags(flags)) {
         (true, _) => refusal(alloc, bytes.as_slice()) == Some(Error::Short),
-        (false, true) => refusal(alloc, bytes.as_slice()) == Some(Error::Extensions),
-        (false, false) => is_flagged(alloc, bytes.as_slice(), flags, false),
+        (false, None) => is_flagged(alloc, bytes.as_slice(), flags, false),
+        (false, refused) => refusal(alloc, bytes.as_slice()) == refused,
     })
 }
 
 /// Whether these flags with a credential are answered as they have to be.
-fn is_full(
-    alloc: Global,
-    flags: u8,
-    at: bool,
-    ed: bool,
-    credential: &[u8],
-) -> Result<bool, AllocError> {
+fn is_full(alloc: Global, flags: u8, at: bool, credential: &[u8]) -> Result<bool, AllocError> {
     let bytes = flagged(alloc, flags, credential)?;
-    Ok(match (at, ed) {
-        (_, true) => refusal(alloc, bytes.as_slice()) == Some(Error::Extensions),
-        (false, false) => refusal(alloc, bytes.as_slice()) == Some(Error::ExtraBytes),
-        (true, false) => is_flagged(alloc, bytes.as_slice(), flags, true),
+    Ok(match (at, refused_flags(flags)) {
+        (true, None) => is_flagged(alloc, bytes.as_slice(), flags, true),
+        (false, None) => refusal(alloc, bytes.as_slice()) == Some(Error::ExtraBytes),
+        (_, refused) => refusal(alloc, bytes.as_slice()) == refused,
     })
 }
 
@@ -317,10 +364,9 @@ fn every_flags(rt: HostRuntime) -> Result<(), Fail> {
     let credential = joined(alloc, &[], &[(&[], 0, 16), ID, KEY])?;
     for flags in 0..=255u8 {
         let at = flags / 64 % 2 == 1;
-        let ed = 128 <= flags;
-        assert!(rt; is_bare(alloc, flags, at, ed)?, "{flags}");
+        assert!(rt; is_bare(alloc, flags, at)?, "{flags}");
         assert!(rt;
-            is_full(alloc, flags, at, ed, credential.as_slice())?,
+            is_full(alloc, flags, at, credential.as_slice())?,
             "{flags}"
         );
     }
@@ -331,6 +377,8 @@ fn every_flags(rt: HostRuntime) -> Result<(), Fail> {
 const FLAGS: &[(u8, u8)] = &[
     (flags::UP, 0x01),
     (flags::UV, 0x04),
+    (flags::BE, 0x08),
+    (flags::BS, 0x10),
     (flags::AT, 0x40),
     (flags::ED, 0x80),
 ];
@@ -385,6 +433,11 @@ const REFUSALS: &[(Error, Option<u8>, &str)] = &[
         Error::Extensions,
         Some(9),
         "the authenticator data has extensions",
+    ),
+    (
+        Error::BadBackup,
+        Some(28),
+        "the credential is marked as backed up and not as eligible for it",
     ),
     (
         Error::BadId,

@@ -19,6 +19,9 @@ const BAD_KEY: &str =
 const EXTENSIONS: &str =
     "ba7816bf8f01cfea414140de5dae2223b00361a396177a9cb410ff61f20015ad8000000000";
 
+const BAD_BACKUP: &str =
+    "ba7816bf8f01cfea414140de5dae2223b00361a396177a9cb410ff61f20015ad1100000000";
+
 const EXTRA: &str = "ba7816bf8f01cfea414140de5dae2223b00361a396177a9cb410ff61f20015ad010000000100";
 
 const SHORT: &str = "ba7816bf8f01cfea414140de5dae2223b00361a396177a9cb410ff61f20015ad01000000";
@@ -90,6 +93,7 @@ const REFUSED: &[(&str, &str, u8, &str)] = &[
     ("cbor", "000", 2, "bad hex\n"),
     ("authdata", SHORT, 1, "fault 8 Short\n"),
     ("authdata", EXTENSIONS, 1, "fault 9 Extensions\n"),
+    ("authdata", BAD_BACKUP, 1, "fault 28 BadBackup\n"),
     ("authdata", BAD_ID, 1, "fault 10 BadId\n"),
     ("authdata", BAD_KEY, 1, "fault 11 BadKey\n"),
     ("authdata", EXTRA, 1, "fault 12 ExtraBytes\n"),
