@@ -6,12 +6,12 @@ use Rattle.verification.specs.Records.{Credential}
 -- the credential of an id
 abbrev pub row_of : List ℕ → List Credential → Option Credential
 row_of id [] = None
-row_of id (row ∷ rows) = if bytes_eq row.id id then Some row else row_of id rows
+row_of id (row ∷ rows) = if bytes_eq id row.id then Some row else row_of id rows
 
 -- the same credentials, that of the id changed
 abbrev pub with_row : List ℕ → (Credential → Credential) → List Credential → List Credential
 with_row id change [] = []
-with_row id change (row ∷ rows) = if bytes_eq row.id id then change row ∷ rows else row ∷ with_row id change rows
+with_row id change (row ∷ rows) = if bytes_eq id row.id then change row ∷ rows else row ∷ with_row id change rows
 
 -- a credential after a sign-in: with the signature counter received and the mark of eligibility (BE) received
 abbrev pub signed_in : ℕ → Bool → Credential → Credential

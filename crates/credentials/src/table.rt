@@ -1,11 +1,11 @@
 //! The table.
 
-ghost use Rattle.std.specs.Prelude.{◌≡◌, ◌≢◌, ◌<◌, ◌↔◌, ◌++◌, [], ◌∷◌, ℕ, List, length, map, true, false, position, Some, None, IfOk, IfSome, IsErrOf, IsTrue, OnErr, OnOk, option_map};
+ghost use Rattle.std.specs.Prelude.{◌≡◌, ◌<◌, ◌≤◌, ◌↔◌, ◌++◌, [], ◌∷◌, length, map, true, false, slice_get, Some, None, IfErr, IfOk, IfSome, IsErrOf, IsSome, IsTrue, OnErr, OnOk, option_map};
 ghost use Rattle.std.specs.Option.{ForSome};
-ghost use Rattle.std.specs.Str.{bytes_eq};
 ghost use Rattle.std.specs.Iterator.{YieldsFirstBy, item_count};
+ghost use Rattle.verification.specs.Records.{Credential};
 ghost use Rattle.verification.specs.Views.{credential_of as credential_shown};
-ghost use Rattle.credentials.specs.Table.{AreRows, IsRow, IsTable, IsWithin, row_of, retired, signed_in, with_row};
+ghost use Rattle.credentials.specs.Table.{IsRow, IsTable, IsWithin, row_of, retired, signed_in, with_row};
 ghost use Rattle.credentials.specs.Views.{credential_of, credentials_of, kept_of};
 ghost use Rattle.credentials.specs.declared.table.Error.TheVariants as errors;
 
@@ -48,17 +48,19 @@ impl<T: Drop> From<AllocFailed<T>> for Error {
 #[derive(Drop)]
 pub struct Table {
     rows: IndexMap<Vec<u8>, Kept>,
-    ghost limits: { IsTable (map (λ e. kept_of e.0.items e.1) rows.entries) },
 }
 
 impl Model for Table {
     ghost use Rattle.std.specs.Prelude.{List, map};
     ghost use Rattle.verification.specs.Records.{Credential};
+    ghost use Rattle.credentials.specs.Table.{IsTable};
     ghost use Rattle.credentials.specs.Views.{kept_of};
 
     ghost Value = { List Credential };
 
     ghost view = { λ t. map (λ e. kept_of e.0.items e.1) t.rows.entries };
+
+    ghost invariant = { λ t. IsTable (map (λ e. kept_of e.0.items e.1) t.rows.entries) };
 }
 
 /// Whether an id or a user handle has 1 to `most` bytes.
@@ -110,14 +112,14 @@ impl Table {
 
     /// Whether there is room for no more.
     pub fn is_full(&self) -> bool
-        ensures { IsTrue result ↔ (length self.now ≡ 65536) }
+        ensures { IsTrue result ↔ (65536 ≤ length self.now) }
     {
-        self.rows.len() == MAX_ROWS
+        MAX_ROWS <= self.rows.len()
     }
 
     /// The credential of an id, and its place.
     pub fn find(&self, id: &[u8]) -> Option<(usize, CredentialView<'_>)>
-        ensures place { option_map (λ x. x.0) result ≡ position (λ row. bytes_eq row.id id.now) self.now }
+        ensures place { IfSome result (λ x. slice_get self.now x.0 ≡ Some (credential_shown x.1)) }
         ensures row { option_map (λ x. credential_shown x.1) result ≡ row_of id.now self.now }
     {
         let (place, id, kept) = self.rows.get_full(id)?;
@@ -139,10 +141,10 @@ impl Table {
         self.rows.contains_key(id)
     }
 
-    /// Stores what a sign-in brought, in the credential that `find` found at this place.
+    /// Stores what a sign-in brought, in the credential at a place, which `find` found.
     pub fn store(&mut self, place: usize, sign_count: u32, eligible: bool)
-        ensures { (id : List ℕ) → position (λ row. bytes_eq row.id id) self.old ≡ Some place
-            → self.new ≡ with_row id (signed_in sign_count eligible) self.old }
+        ensures { (row : Credential) → slice_get self.old place ≡ Some row
+            → self.new ≡ with_row row.id (signed_in sign_count eligible) self.old }
     {
         if let Some(kept) = self.rows.get_index_mut(place) {
             kept.sign_count = sign_count;
@@ -150,19 +152,44 @@ impl Table {
         }
     }
 
-    /// Retires the credential of an id. True where there is one that was not retired.
-    pub fn retire(&mut self, id: &[u8]) -> bool
-        ensures told { IsTrue result ↔ (row_of id.now self.old ≢ None) × ForSome (row_of id.now self.old) (λ row. row.retired ≡ false) }
-        ensures after { self.new ≡ with_row id.now retired self.old }
+    /// Retires the credential at a place.
+    fn retire_at(&mut self, place: usize)
+        ensures { (row : Credential) → slice_get self.old place ≡ Some row
+            → self.new ≡ with_row row.id retired self.old }
     {
-        match self.rows.get_mut(id) {
-            Some(kept) => {
-                let was = kept.retired;
-                kept.retired = true;
-                !was
-            }
-            None => false,
+        if let Some(kept) = self.rows.get_index_mut(place) {
+            kept.retired = true;
         }
+    }
+
+    /// Retires the credential of an id: true where there is one that was not retired. Else nothing changes.
+    pub fn retire(&mut self, id: &[u8]) -> bool
+        ensures told { IsTrue result ↔ IsSome (row_of id.now self.old) × ForSome (row_of id.now self.old) (λ row. row.retired ≡ false) }
+        ensures after { result ≡ true → self.new ≡ with_row id.now retired self.old }
+        ensures unchanged { result ≡ false → self.new ≡ self.old }
+    {
+        let place = match self.find(id) {
+            None => return false,
+            Some((place, row)) => {
+                if row.retired {
+                    return false;
+                }
+                place
+            }
+        };
+        self.retire_at(place);
+        true
+    }
+
+    /// Whether a credential may stand behind the others: it is within its limits, its id is not taken, and there is
+    /// room.
+    fn admits(&self, row: &Row) -> bool
+        ensures { IsTrue result ↔ IsRow (credential_of row.now) × (row_of row.now.id.items self.now ≡ None) × (length self.now < 65536) }
+    {
+        if self.has(&row.id) {
+            return false;
+        }
+        row.is_within_limits() && !self.is_full()
     }
 
     /// Adds a credential behind the others. Where there is no memory nothing has changed.
@@ -202,7 +229,7 @@ impl Table {
     {
         let mut table = Table::new(alloc);
         for row in rows {
-            if !row.is_within_limits() || table.has(&row.id) || table.is_full() {
+            if !table.admits(&row) {
                 return Err(Error::BadTable);
             }
             table.push(row)?;
