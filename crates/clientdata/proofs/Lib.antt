@@ -4,3 +4,5 @@ pub mod Escapes
 pub mod OneText
 pub mod Texts
 pub mod ReadBack
+pub mod Plain
+pub mod Whole

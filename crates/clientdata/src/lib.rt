@@ -5,6 +5,7 @@
 mod challenge;
 mod digest;
 mod error;
+mod expected;
 mod law;
 mod quoting;
 mod record;
@@ -15,6 +16,7 @@ mod text;
 pub use challenge::challenge_text;
 pub use digest::hash;
 pub use error::Error;
+pub use expected::is_serialised;
 pub use law::{challenge_texts, digest_lengths, serialised_texts};
 pub use quoting::quoted_text;
 pub use record::{ClientData, Kind};
