@@ -1,8 +1,9 @@
 -- The lines on client data that both ceremonies have, for a ceremony's type and challenge. Private functions are
 -- proved against these; the steps of the ceremonies say the same of their own response.
-use Rattle.std.specs.Prelude.{ℕ, List, [], ◌∷◌, IsSome}
+use Rattle.std.specs.Prelude.{◌≡◌, ℕ, Bool, List, [], ◌∷◌, Contains, IsSome, IsUtf8}
 use Rattle.std.specs.Option.{ForSome}
 use Rattle.clientdata.specs.Reading.{seen_of}
+use Rattle.clientdata.specs.Serialised.{client_data_text}
 use Rattle.clientdata.specs.declared.record.Kind.{Kind}
 use Rattle.first_line.specs.Lines.{FirstFailing}
 use Rattle.verification.specs.Records.{RelyingParty}
@@ -26,3 +27,8 @@ lines = line.Readable ∷ line.Type ∷ line.Challenge ∷ line.Origin ∷ line.
 abbrev pub Fails : Kind → List ℕ → RelyingParty → List ℕ → ClientDataError → Type 0
 Fails kind challenge rp t (errors.Fails line) = FirstFailing (Says kind challenge rp t) lines line
 Fails kind challenge rp t errors.Memory = Unit {0}
+
+-- the bytes are the serialised client data (section 5.8.1.1) of this ceremony and challenge, for one of the origins
+abbrev pub IsSerialised : Kind → List ℕ → RelyingParty → List ℕ → Type 0
+IsSerialised kind challenge rp t =
+    (origin : List ℕ) × (cross : Bool) × Contains rp.origins origin × IsUtf8 origin × (t ≡ client_data_text kind challenge origin cross)

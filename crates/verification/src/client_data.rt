@@ -34,7 +34,8 @@ impl From<AllocError> for ClientDataError {
     }
 }
 
-/// Judges client data as those of a ceremony of this kind and challenge.
+/// Judges client data as those of a ceremony of this kind and challenge. What is serialised is read back, so client
+/// data that are the expected text are not read.
 pub(crate) fn check_client_data(
     alloc: Global,
     bytes: &[u8],
@@ -45,6 +46,9 @@ pub(crate) fn check_client_data(
     ensures passes { OnOk result (Each (Says kind challenge.now party.now bytes.now) lines) }
     ensures refused { IfErr result (Fails kind challenge.now party.now bytes.now) }
 {
+    if party.expects(bytes, kind, challenge) {
+        return Ok(());
+    }
     let seen = match read(alloc, bytes) {
         Ok(seen) => seen,
         Err(clientdata::Error::Unreadable) => {

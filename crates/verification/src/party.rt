@@ -2,8 +2,10 @@
 
 ghost use Rattle.std.specs.Prelude.{◌≡◌, ◌↔◌, Contains, IfOk, IsTrue, string_bytes};
 ghost use Rattle.sha2.specs.Sha256.{sha256};
+ghost use Rattle.verification.specs.ClientData.{IsSerialised};
 ghost use Rattle.verification.specs.Views.{texts_of};
 
+use clientdata::{Kind, is_serialised};
 use sha2::{Digest, Sha256};
 use std::alloc::{AllocError, Global};
 use std::marker::Model;
@@ -72,6 +74,19 @@ impl RelyingParty {
     {
         for origin in &self.origins {
             if origin.as_str() == text {
+                return true;
+            }
+        }
+        false
+    }
+
+    /// Whether the bytes are the serialised client data of this ceremony and challenge for one of the origins, which
+    /// then need not be read. It takes no memory, and may miss where an origin is not plain ASCII.
+    pub(crate) fn expects(&self, bytes: &[u8], kind: Kind, challenge: &[u8; 32]) -> bool
+        ensures { IsTrue result → IsSerialised kind challenge.now self.now bytes.now }
+    {
+        for origin in &self.origins {
+            if is_serialised(bytes, kind, challenge, origin) {
                 return true;
             }
         }

@@ -1,5 +1,6 @@
 use Rattle.std.proofs.Common.{refl, rules}
 use Rattle.first_line.proofs.Laws.{first_at}
+use Rattle.verification.proofs.Expected.{expected_says}
 use Rattle.verification.proofs.client_data.check_client_data.Goals as goal
 
 pub returns-in-Err-Unreadable-clause-refused : goal.returns-in-Err-Unreadable-clause-refused
@@ -16,3 +17,6 @@ returns-then-not-has_origin-clause-refused c = first_at 3 refl (search rules) (s
 
 pub returns-in-Other-clause-refused : goal.returns-in-Other-clause-refused
 returns-in-Other-clause-refused c = first_at 4 refl (search rules) (search rules)
+
+pub returns-then-expects-clause-passes : goal.returns-then-expects-clause-passes
+returns-then-expects-clause-passes c = expected_says c.args.kind c.args.challenge.now c.args.bytes.now c.args.party.now (c.expects.ensures c.if-expects.true)
