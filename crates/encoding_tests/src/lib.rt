@@ -18,6 +18,8 @@ mod cbor_values;
 #[cfg(test)]
 mod cbor_views;
 #[cfg(test)]
+mod clientdata_expected;
+#[cfg(test)]
 mod clientdata_reading;
 #[cfg(test)]
 mod clientdata_writing;

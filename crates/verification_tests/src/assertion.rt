@@ -1,8 +1,8 @@
 //! One assertion that is accepted, and what is refused of it when one thing or two are changed.
 
 use crate::client_data::{
-    BOUND_SIGN_IN, REGISTRATION, SIGN_IN_OF_A_LONGER_ORIGIN, SIGN_IN_OF_ANOTHER_CHALLENGE,
-    SIGN_IN_OF_NO_ORIGIN, SIGN_IN_OF_THE_SECOND_ORIGIN,
+    BOUND_SIGN_IN, CROSS_ORIGIN_SIGN_IN, REGISTRATION, SIGN_IN_OF_A_LONGER_ORIGIN, SIGN_IN_OF_ANOTHER_CHALLENGE,
+    SIGN_IN_OF_NO_ORIGIN, SIGN_IN_OF_THE_SECOND_ORIGIN, SPACED_SIGN_IN,
 };
 use crate::sign_in::{ACCEPTED, CREDENTIAL, Case, EXPECTED, Expected, STORED, judged, number};
 use authdata::flags::{AT, BE, BS, UP, UV};
@@ -19,13 +19,19 @@ fn accepts(rt: HostRuntime) -> Result<(), Fail> {
             eligible: None,
             ..STORED
         }),
-        flags: UP | UV | BS,
+        flags: UP | UV,
         sign_count: 4294967295,
         ..ACCEPTED
     };
     let verified = judged(rt.alloc(), &case)?;
     assert_eq!(rt; verified.sign_count, 4294967295);
-    assert!(rt; !verified.eligible && verified.backed_up);
+    assert!(rt; !verified.eligible && !verified.backed_up);
+    let case = Case {
+        flags: UP | UV | BE | BS,
+        ..ACCEPTED
+    };
+    let verified = judged(rt.alloc(), &case)?;
+    assert!(rt; verified.eligible && verified.backed_up);
     Ok(())
 }
 
@@ -197,6 +203,30 @@ const CASES: &[(&str, Case, u8)] = &[
             ..ACCEPTED
         },
         10,
+    ),
+    (
+        "backed up and not eligible for it",
+        Case {
+            flags: UP | UV | BS,
+            ..ACCEPTED
+        },
+        10,
+    ),
+    (
+        "cross-origin",
+        Case {
+            client_data: CROSS_ORIGIN_SIGN_IN,
+            ..ACCEPTED
+        },
+        0,
+    ),
+    (
+        "a space behind the client data",
+        Case {
+            client_data: SPACED_SIGN_IN,
+            ..ACCEPTED
+        },
+        0,
     ),
     (
         "a credential attested",

@@ -8,6 +8,13 @@ pub(crate) const CHALLENGE: [u8; 32] = [
 pub(crate) const SIGN_IN: &[u8] =
     b"{\"type\":\"webauthn.get\",\"challenge\":\"AAAAAAAAAAEAAAAAAAAAAAAAAAAAAAAAAAAAAAAAAAA\",\"origin\":\"https://abc\",\"crossOrigin\":false}";
 
+pub(crate) const CROSS_ORIGIN_SIGN_IN: &[u8] =
+    b"{\"type\":\"webauthn.get\",\"challenge\":\"AAAAAAAAAAEAAAAAAAAAAAAAAAAAAAAAAAAAAAAAAAA\",\"origin\":\"https://def\",\"crossOrigin\":true}";
+
+/// The serialised text with a space behind it, so that it has to be read.
+pub(crate) const SPACED_SIGN_IN: &[u8] =
+    b"{\"type\":\"webauthn.get\",\"challenge\":\"AAAAAAAAAAEAAAAAAAAAAAAAAAAAAAAAAAAAAAAAAAA\",\"origin\":\"https://abc\",\"crossOrigin\":false} ";
+
 /// The challenge has the number 2.
 pub(crate) const SIGN_IN_OF_ANOTHER_CHALLENGE: &[u8] =
     b"{\"type\":\"webauthn.get\",\"challenge\":\"AAAAAAAAAAIAAAAAAAAAAAAAAAAAAAAAAAAAAAAAAAA\",\"origin\":\"https://abc\",\"crossOrigin\":false}";

@@ -1,4 +1,5 @@
-//! Tests of `verification`, by public calls only: each step of a sign-in and of a registration.
+//! Tests of `verification` and `credentials`, by public calls only: each step of a sign-in and of a registration, and
+//! the table of credentials.
 #![tactic(auto)]
 
 #[cfg(test)]
@@ -9,3 +10,5 @@ mod client_data;
 mod registration;
 #[cfg(test)]
 mod sign_in;
+#[cfg(test)]
+mod table;

@@ -4,7 +4,7 @@ use crate::client_data::{
     BOUND_REGISTRATION, CHALLENGE, REGISTRATION, REGISTRATION_OF_ANOTHER_CHALLENGE,
     REGISTRATION_OF_ANOTHER_ORIGIN, SIGN_IN,
 };
-use authdata::flags::{AT, BE, UP, UV};
+use authdata::flags::{AT, BE, BS, UP, UV};
 use clientdata::hash;
 use cose::{Alg, BenchScheme, Signer};
 use sha2::{Digest, Sha256};
@@ -233,6 +233,14 @@ const CASES: &[(&str, Case, u8)] = &[
         "a byte behind the object",
         Case {
             behind: &[0],
+            ..ACCEPTED
+        },
+        7,
+    ),
+    (
+        "backed up and not eligible for it",
+        Case {
+            flags: UP | UV | BS | AT,
             ..ACCEPTED
         },
         7,

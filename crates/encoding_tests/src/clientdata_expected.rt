@@ -1,0 +1,51 @@
+//! Client data that are the expected text: the texts are WebAuthn's (section 5.8.1.1), written out, the texts of
+//! challenges what another program gives for them.
+
+use clientdata::{Kind, is_serialised};
+
+/// The number 1 in 8 bytes, then 24 bytes 0.
+const CHALLENGE: [u8; 32] = [
+    0, 0, 0, 0, 0, 0, 0, 1, 0, 0, 0, 0, 0, 0, 0, 0, 0, 0, 0, 0, 0, 0, 0, 0, 0, 0, 0, 0, 0, 0, 0, 0,
+];
+
+/// 32 bytes 0xff.
+const HIGHEST: [u8; 32] = [0xff; 32];
+
+const SIGN_IN: &str = "{\"type\":\"webauthn.get\",\"challenge\":\"AAAAAAAAAAEAAAAAAAAAAAAAAAAAAAAAAAAAAAAAAAA\",\"origin\":\"https://abc\",\"crossOrigin\":false}";
+
+const CROSS_ORIGIN: &str = "{\"type\":\"webauthn.get\",\"challenge\":\"AAAAAAAAAAEAAAAAAAAAAAAAAAAAAAAAAAAAAAAAAAA\",\"origin\":\"https://abc\",\"crossOrigin\":true}";
+
+const REGISTRATION: &str = "{\"type\":\"webauthn.create\",\"challenge\":\"__________________________________________8\",\"origin\":\"https://abc\",\"crossOrigin\":false}";
+
+const SPACED: &str = "{\"type\": \"webauthn.get\",\"challenge\":\"AAAAAAAAAAEAAAAAAAAAAAAAAAAAAAAAAAAAAAAAAAA\",\"origin\":\"https://abc\",\"crossOrigin\":false}";
+
+const LONGER: &str = "{\"type\":\"webauthn.get\",\"challenge\":\"AAAAAAAAAAEAAAAAAAAAAAAAAAAAAAAAAAAAAAAAAAA\",\"origin\":\"https://abc\",\"crossOrigin\":false,\"x\":1}";
+
+const ESCAPED: &str = "{\"type\":\"webauthn.get\",\"challenge\":\"AAAAAAAAAAEAAAAAAAAAAAAAAAAAAAAAAAAAAAAAAAA\",\"origin\":\"a\\\"b\",\"crossOrigin\":false}";
+
+const UNESCAPED: &str = "{\"type\":\"webauthn.get\",\"challenge\":\"AAAAAAAAAAEAAAAAAAAAAAAAAAAAAAAAAAAAAAAAAAA\",\"origin\":\"a\"b\",\"crossOrigin\":false}";
+
+/// A text, the ceremony, challenge and origin, and whether it is told as their text.
+const ROWS: &[(&str, Kind, [u8; 32], &str, bool)] = &[
+    (SIGN_IN, Kind::Get, CHALLENGE, "https://abc", true),
+    (CROSS_ORIGIN, Kind::Get, CHALLENGE, "https://abc", true),
+    (REGISTRATION, Kind::Create, HIGHEST, "https://abc", true),
+    (SIGN_IN, Kind::Create, CHALLENGE, "https://abc", false),
+    (SIGN_IN, Kind::Get, HIGHEST, "https://abc", false),
+    (SIGN_IN, Kind::Get, CHALLENGE, "https://ab", false),
+    (SIGN_IN, Kind::Get, CHALLENGE, "https://abcd", false),
+    (SIGN_IN, Kind::Get, CHALLENGE, "", false),
+    (SPACED, Kind::Get, CHALLENGE, "https://abc", false),
+    (LONGER, Kind::Get, CHALLENGE, "https://abc", false),
+    (ESCAPED, Kind::Get, CHALLENGE, "a\"b", false),
+    (UNESCAPED, Kind::Get, CHALLENGE, "a\"b", false),
+    ("", Kind::Get, CHALLENGE, "https://abc", false),
+];
+
+#[test]
+fn told(rt: HostRuntime) {
+    for (text, kind, challenge, origin, wanted) in ROWS {
+        let told = is_serialised(text.as_bytes(), *kind, challenge, origin);
+        assert_eq!(rt; told, *wanted, "{text} {origin}");
+    }
+}
