@@ -13,7 +13,7 @@ use Rattle.client.specs.declared.error.RequestError.TheVariants as refusals
 use Rattle.client.specs.Origins.{IsOriginOn, IsRpIdOf}
 use Rattle.client.specs.Asked.{IsWritten}
 
--- what `url` refuses is a fault of the text, or memory ran out, which is all that a text of 4 GB is too
+-- what `url` refuses is a fault of the text, or memory ran out, as which a URL of 4 GB counts
 abbrev pub IsFault : ParseError → RequestError → Type 0
 IsFault fault refusals.BadOrigin = IsOutOfRoom fault → ⊥
 IsFault fault refusals.Memory = IsOutOfRoom fault

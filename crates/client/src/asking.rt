@@ -1,6 +1,6 @@
 //! Asking an authenticator (WebAuthn Level 2, sections 5.1.3 and 5.1.4).
 
-ghost use Rattle.std.specs.Prelude.{IfErr, IfOk};
+ghost use Rattle.std.specs.Prelude.{IfErr, IfOk, OnOk};
 ghost use Rattle.client.specs.Asked.{Asks, IsRefused, PassesAll, registration_call, sent_view, sign_in_call};
 ghost use Rattle.client.specs.Options.{registration_view, sign_in_view};
 
@@ -29,7 +29,7 @@ pub fn assertion_request(
     options: &RequestOptions<'_>,
     cid: u32,
 ) -> Result<Outgoing, RequestError>
-    ensures passes { IfOk result (λ out. PassesAll (sign_in_call origin.now (sign_in_view options.now))) }
+    ensures passes { OnOk result (PassesAll (sign_in_call origin.now (sign_in_view options.now))) }
     ensures asks { IfOk result (λ out. Asks (sign_in_call origin.now (sign_in_view options.now)) cid (sent_view out)) }
     ensures refused { IfErr result (IsRefused (sign_in_call origin.now (sign_in_view options.now))) }
 {
@@ -59,7 +59,7 @@ pub fn creation_request(
     options: &CreationOptions<'_>,
     cid: u32,
 ) -> Result<Outgoing, RequestError>
-    ensures passes { IfOk result (λ out. PassesAll (registration_call origin.now (registration_view options.now))) }
+    ensures passes { OnOk result (PassesAll (registration_call origin.now (registration_view options.now))) }
     ensures asks { IfOk result (λ out. Asks (registration_call origin.now (registration_view options.now)) cid (sent_view out)) }
     ensures refused { IfErr result (IsRefused (registration_call origin.now (registration_view options.now))) }
 {

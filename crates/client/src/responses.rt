@@ -31,8 +31,8 @@ pub fn assertion_response(reply: AssertionReply, client_data: Vec<u8>) -> Assert
 /// its request.
 ///
 /// Refused as [`ResponseError::Unfit`] (1) where the reply's statement is no map, or has no canonical encoding
-/// with three levels of nesting. A reply that was read always makes an object. Otherwise only
-/// [`ResponseError::Memory`] is answered. After either error both are dropped.
+/// with three levels of nesting. Otherwise only [`ResponseError::Memory`] is answered. After either error
+/// both are dropped.
 pub fn creation_response(
     alloc: Global,
     reply: CreationReply,
