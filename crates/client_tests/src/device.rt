@@ -2,7 +2,6 @@
 
 ghost use Rattle.std.specs.Prelude.{◌≡◌, ◌≤◌, [], IsTrue};
 
-use ctapmsg::{Request, read_request};
 use hidframe::Packet;
 use hidlink::{Device, Step};
 use std::alloc::{AllocError, Global};
@@ -57,13 +56,5 @@ pub fn payload(alloc: Global, packets: &[Packet]) -> Result<Option<Vec<u8>>, All
         Ok(Some(Vec::from_slice(alloc, device.request())?))
     } else {
         Ok(None)
-    }
-}
-
-/// The same, read.
-pub fn request(alloc: Global, packets: &[Packet]) -> Result<Option<Request>, AllocError> {
-    match payload(alloc, packets)? {
-        Some(bytes) => Ok(read_request(alloc, &bytes).ok()),
-        None => Ok(None),
     }
 }

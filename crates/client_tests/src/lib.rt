@@ -11,4 +11,6 @@ mod messages;
 #[cfg(test)]
 mod origins;
 #[cfg(test)]
+mod refusals;
+#[cfg(test)]
 mod responses;

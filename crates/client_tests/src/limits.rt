@@ -1,10 +1,8 @@
 //! The limits of the options, and the order of the refusals.
 
 use crate::device::payload;
-use client::{
-    CreationOptions, RequestError, RequestOptions, ResponseError, assertion_request,
-    creation_request,
-};
+use crate::refusals::{registration_refusal, sign_in_refusal};
+use client::{CreationOptions, RequestError, RequestOptions, ResponseError, creation_request};
 use cose::Alg;
 use std::alloc::{AllocError, Global};
 use std::test::Fail;
@@ -63,7 +61,7 @@ fn sign_ins(rt: HostRuntime) {
             allow,
             uv: true,
         };
-        let found = assertion_request(alloc, origin, &options, 1).err();
+        let found = sign_in_refusal(alloc, origin, &options);
         assert_eq!(rt; found, *expected, "{origin} {rp_id}");
     }
 }
@@ -85,7 +83,7 @@ fn own_rp_id(
         allow: EIGHT,
         uv: true,
     };
-    Ok(assertion_request(alloc, origin.as_str(), &options, 1).err())
+    Ok(sign_in_refusal(alloc, origin.as_str(), &options))
 }
 
 #[test]
@@ -213,27 +211,24 @@ fn registrations(rt: HostRuntime) -> Result<(), Fail> {
     for (origin, rp_id, user_id, exclude, count, expected) in REGISTRATIONS {
         let rp_name = name(alloc, *count)?;
         let options = options(rp_id, user_id, exclude, &rp_name);
-        let found = creation_request(alloc, origin, &options, 1).err();
+        let found = registration_refusal(alloc, origin, &options);
         assert_eq!(rt; found, *expected, "{origin} {rp_id} {count}");
     }
     Ok(())
 }
 
-/// How many bytes the message has that a device takes, and in how many packets.
-fn longest(alloc: Global) -> Result<(usize, usize), Fail> {
+/// How many packets the longest request has, and how many bytes a device takes from them.
+#[test]
+fn longest_request(rt: HostRuntime) -> Result<(), Fail> {
+    let alloc = rt.alloc();
     let rp_name = name(alloc, 7501)?;
     let options = options("abc", &[1], &[], &rp_name);
     let out = creation_request(alloc, "https://abc", &options, 2)?;
-    let length = match payload(alloc, &out.packets)? {
-        Some(bytes) => bytes.len(),
-        None => 0,
-    };
-    Ok((length, out.packets.len()))
-}
-
-#[test]
-fn longest_message(rt: HostRuntime) -> Result<(), Fail> {
-    assert_eq!(rt; longest(rt.alloc())?, (7609, 129));
+    assert_eq!(rt; out.packets.len(), 129);
+    assert_eq!(rt;
+        payload(alloc, &out.packets)?.map(|bytes| bytes.len()),
+        Some(7609)
+    );
     Ok(())
 }
 

@@ -1,13 +1,13 @@
 //! What the client writes. The expected texts and messages are written by hand, the hashes are those of
 //! another program, Python's hashlib, over the texts.
 
-use crate::device::{packet, payload, request};
+use crate::device::{packet, payload};
 use client::{
     CreationOptions, Outgoing, RequestOptions, assertion_request, creation_request, next_request,
 };
 use clientdata::{Kind, read};
 use cose::Alg;
-use ctapmsg::{GetAssertion, MakeCredential, Request};
+use ctapmsg::{GetAssertion, MakeCredential, Request, read_request};
 use std::alloc::{AllocError, Global};
 use std::test::Fail;
 
@@ -174,11 +174,10 @@ fn goes_out(
     alloc: Global,
     out: &Outgoing,
     client_data: &str,
-    message: &[&[u8]],
+    message: &[u8],
 ) -> Result<bool, AllocError> {
-    let expected = joined(alloc, message)?;
     let taken = match payload(alloc, &out.packets)? {
-        Some(bytes) => bytes.as_slice() == expected.as_slice(),
+        Some(bytes) => bytes.as_slice() == message,
         None => false,
     };
     Ok(taken && out.client_data.as_slice() == client_data.as_bytes())
@@ -188,8 +187,9 @@ fn goes_out(
 fn sign_ins(rt: HostRuntime) -> Result<(), Fail> {
     let alloc = rt.alloc();
     for row in SIGN_INS {
+        let message = joined(alloc, &row.message)?;
         let out = assertion_request(alloc, row.origin, &row.options, 2)?;
-        assert!(rt; goes_out(alloc, &out, row.client_data, &row.message)?);
+        assert!(rt; goes_out(alloc, &out, row.client_data, &message)?);
     }
     Ok(())
 }
@@ -198,16 +198,17 @@ fn sign_ins(rt: HostRuntime) -> Result<(), Fail> {
 fn registrations(rt: HostRuntime) -> Result<(), Fail> {
     let alloc = rt.alloc();
     for row in REGISTRATIONS {
+        let message = joined(alloc, &row.message)?;
         let out = creation_request(alloc, row.origin, &row.options, 2)?;
-        assert!(rt; goes_out(alloc, &out, row.client_data, &row.message)?);
+        assert!(rt; goes_out(alloc, &out, row.client_data, &message)?);
     }
     Ok(())
 }
 
-/// Whether the request that is read is the one of these options.
-fn is_sign_in(found: &Option<Request>, options: &RequestOptions<'_>, hash: &[u8]) -> bool {
-    match found {
-        Some(Request::GetAssertion(read)) => is_of_options(read, options, hash),
+/// Whether an authenticator reads the request of these options from the message.
+fn is_sign_in(alloc: Global, message: &[u8], options: &RequestOptions<'_>, hash: &[u8]) -> bool {
+    match &read_request(alloc, message) {
+        Ok(Request::GetAssertion(read)) => is_of_options(read, options, hash),
         _ => false,
     }
 }
@@ -231,17 +232,21 @@ fn is_of_options(read: &GetAssertion, options: &RequestOptions<'_>, hash: &[u8])
 fn sign_ins_read(rt: HostRuntime) -> Result<(), Fail> {
     let alloc = rt.alloc();
     for row in SIGN_INS {
-        let out = assertion_request(alloc, row.origin, &row.options, 2)?;
-        let found = request(alloc, &out.packets)?;
-        assert!(rt; is_sign_in(&found, &row.options, row.message[1]));
+        let message = joined(alloc, &row.message)?;
+        assert!(rt; is_sign_in(alloc, &message, &row.options, row.message[1]));
     }
     Ok(())
 }
 
-/// Whether the request that is read is the one of these options.
-fn is_registration(found: &Option<Request>, options: &CreationOptions<'_>, hash: &[u8]) -> bool {
-    match found {
-        Some(Request::MakeCredential(read)) => is_of_creation_options(read, options, hash),
+/// Whether an authenticator reads the request of these options from the message.
+fn is_registration(
+    alloc: Global,
+    message: &[u8],
+    options: &CreationOptions<'_>,
+    hash: &[u8],
+) -> bool {
+    match &read_request(alloc, message) {
+        Ok(Request::MakeCredential(read)) => is_of_creation_options(read, options, hash),
         _ => false,
     }
 }
@@ -272,9 +277,8 @@ fn is_of_creation_options(
 fn registrations_read(rt: HostRuntime) -> Result<(), Fail> {
     let alloc = rt.alloc();
     for row in REGISTRATIONS {
-        let out = creation_request(alloc, row.origin, &row.options, 2)?;
-        let found = request(alloc, &out.packets)?;
-        assert!(rt; is_registration(&found, &row.options, row.message[1]));
+        let message = joined(alloc, &row.message)?;
+        assert!(rt; is_registration(alloc, &message, &row.options, row.message[1]));
     }
     Ok(())
 }
@@ -292,31 +296,12 @@ fn is_read(alloc: Global, bytes: &[u8], kind: Kind, challenge: &str, origin: &st
 }
 
 #[test]
-fn client_data_read(rt: HostRuntime) -> Result<(), Fail> {
+fn client_data_read(rt: HostRuntime) {
     let alloc = rt.alloc();
-    let row = &SIGN_INS[1];
-    let out = assertion_request(alloc, row.origin, &row.options, 2)?;
-    assert!(rt;
-        is_read(
-            alloc,
-            &out.client_data,
-            Kind::Get,
-            "AAEC",
-            "https://a.example"
-        )
-    );
-    let row = &REGISTRATIONS[1];
-    let out = creation_request(alloc, row.origin, &row.options, 2)?;
-    assert!(rt;
-        is_read(
-            alloc,
-            &out.client_data,
-            Kind::Create,
-            "AAEC",
-            "https://a.example:8443"
-        )
-    );
-    Ok(())
+    let text = SIGN_INS[1].client_data.as_bytes();
+    assert!(rt; is_read(alloc, text, Kind::Get, "AAEC", "https://a.example"));
+    let text = CLIENT_DATA.as_bytes();
+    assert!(rt; is_read(alloc, text, Kind::Create, "AAEC", "https://a.example:8443"));
 }
 
 /// The front of the first packet of the first sign-in, on channel 0x01020304, and of the next request there.
@@ -335,7 +320,10 @@ fn packets(rt: HostRuntime) -> Result<(), Fail> {
 
 #[test]
 fn next_requests(rt: HostRuntime) -> Result<(), Fail> {
-    let found = request(rt.alloc(), &[next_request(2)])?;
-    assert!(rt; matches!(&found, Some(Request::GetNextAssertion)));
+    let taken = payload(rt.alloc(), &[next_request(2)])?;
+    let message: &[u8] = &[8];
+    assert!(rt; matches!(&taken, Some(bytes) if bytes.as_slice() == message));
+    let found = read_request(rt.alloc(), message);
+    assert!(rt; matches!(&found, Ok(Request::GetNextAssertion)));
     Ok(())
 }

@@ -1,32 +1,20 @@
 //! Who may ask for which relying party (WebAuthn Level 2, sections 5.1.3 and 5.1.4).
 
-use client::{CreationOptions, RequestError, RequestOptions, assertion_request, creation_request};
+use crate::refusals::{registration_refusal, sign_in_refusal};
+use client::{CreationOptions, RequestError, RequestOptions};
 use cose::Alg;
 use std::alloc::{AllocError, Global};
 use std::test::Fail;
 
 /// What an origin's call for an rp id is refused as, if it is, by both calls; `TooLong` where they differ.
 fn refusal(alloc: Global, origin: &str, rp_id: &str) -> Option<RequestError> {
-    let sign_in = sign_in_refusal(alloc, origin, rp_id);
-    if sign_in == registration_refusal(alloc, origin, rp_id) {
-        sign_in
-    } else {
-        Some(RequestError::TooLong)
-    }
-}
-
-fn sign_in_refusal(alloc: Global, origin: &str, rp_id: &str) -> Option<RequestError> {
-    let options = RequestOptions {
+    let sign_in = RequestOptions {
         challenge: &[1],
         rp_id,
         allow: &[],
         uv: false,
     };
-    assertion_request(alloc, origin, &options, 1).err()
-}
-
-fn registration_refusal(alloc: Global, origin: &str, rp_id: &str) -> Option<RequestError> {
-    let options = CreationOptions {
+    let registration = CreationOptions {
         challenge: &[1],
         rp_id,
         rp_name: "",
@@ -38,7 +26,12 @@ fn registration_refusal(alloc: Global, origin: &str, rp_id: &str) -> Option<Requ
         rk: false,
         uv: false,
     };
-    creation_request(alloc, origin, &options, 1).err()
+    let found = sign_in_refusal(alloc, origin, &sign_in);
+    if found == registration_refusal(alloc, origin, &registration) {
+        found
+    } else {
+        Some(RequestError::TooLong)
+    }
 }
 
 /// Origins and rp ids that are taken.
