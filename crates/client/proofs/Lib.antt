@@ -1,0 +1,4 @@
+mod Suffixes
+mod Single
+mod Messages
+mod Refusals

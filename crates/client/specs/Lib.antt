@@ -1,0 +1,6 @@
+pub mod Numbers
+pub mod Options
+pub mod Origins
+pub mod Asked
+pub mod Responses
+pub mod Steps

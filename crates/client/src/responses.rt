@@ -1,0 +1,60 @@
+//! The responses that a client hands to a relying party.
+
+ghost use Rattle.std.specs.Prelude.{◌≡◌, ℕ, IfOk, IsErrOf, List};
+ghost use Rattle.authdata.specs.Objects.{ObjectOf};
+ghost use Rattle.authdata.specs.Responses.{assertion_view};
+ghost use Rattle.ctapmsg.specs.ReplyView.{assertion_reply_view, creation_reply_view};
+ghost use Rattle.client.specs.Responses.{object_of, response_of};
+ghost use Rattle.client.specs.declared.error.ResponseError.TheVariants as errors;
+
+use crate::error::ResponseError;
+use authdata::{AssertionResponse, AttestationObject, RegistrationResponse};
+use ctapmsg::{AssertionReply, CreationReply};
+use std::alloc::Global;
+
+/// The response of a sign-in (`AuthenticatorAssertionResponse`, WebAuthn Level 2, section 5.2.2): the members
+/// of the authenticator's reply, unchanged, and the client data that were sent with its request. Takes no memory.
+pub fn assertion_response(reply: AssertionReply, client_data: Vec<u8>) -> AssertionResponse
+    ensures { assertion_view result ≡ response_of (assertion_reply_view reply) client_data.items }
+{
+    AssertionResponse {
+        credential: reply.credential,
+        user: reply.user,
+        auth_data: reply.auth_data,
+        signature: reply.signature,
+        client_data,
+    }
+}
+
+/// The response of a registration (`AuthenticatorAttestationResponse`, WebAuthn Level 2, section 5.2.1): the
+/// attestation object (section 6.5.4) of the authenticator's reply, and the client data that were sent with
+/// its request.
+///
+/// Refused as [`ResponseError::Unfit`] (1) where the reply's statement is no map, or has no canonical encoding
+/// with three levels of nesting. Otherwise only [`ResponseError::Memory`] is answered. After either error
+/// both are dropped.
+pub fn creation_response(
+    alloc: Global,
+    reply: CreationReply,
+    client_data: Vec<u8>,
+) -> Result<RegistrationResponse, ResponseError>
+    ensures object { IfOk result (λ r. ObjectOf (object_of (creation_reply_view reply)) r.object.items) }
+    ensures client_data { IfOk result (λ r. r.client_data.items ≡ client_data.items) }
+    // It is called unfit only if there is no such object.
+    ensures unfit { IsErrOf result errors.Unfit
+        → (bytes : List ℕ) → ObjectOf (object_of (creation_reply_view reply)) bytes → ⊥ }
+{
+    let object = AttestationObject {
+        fmt: reply.fmt,
+        auth_data: reply.auth_data,
+        statement: reply.statement,
+    };
+    match object.write(alloc) {
+        Ok(object) => Ok(RegistrationResponse {
+            object,
+            client_data,
+        }),
+        Err(authdata::Error::Unfit) => Err(ResponseError::Unfit),
+        Err(_) => Err(ResponseError::Memory),
+    }
+}

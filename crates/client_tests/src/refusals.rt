@@ -1,0 +1,20 @@
+//! What a call is refused as, if it is.
+
+use client::{CreationOptions, RequestError, RequestOptions, assertion_request, creation_request};
+use std::alloc::Global;
+
+pub fn sign_in_refusal(
+    alloc: Global,
+    origin: &str,
+    options: &RequestOptions<'_>,
+) -> Option<RequestError> {
+    assertion_request(alloc, origin, options, 1).err()
+}
+
+pub fn registration_refusal(
+    alloc: Global,
+    origin: &str,
+    options: &CreationOptions<'_>,
+) -> Option<RequestError> {
+    creation_request(alloc, origin, options, 1).err()
+}
