@@ -1,0 +1,7 @@
+pub mod Tests
+pub mod Ordered
+pub mod Rebuilt
+pub mod Sound
+pub mod Complete
+pub mod OneContent
+pub mod Tables

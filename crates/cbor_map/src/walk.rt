@@ -1,0 +1,53 @@
+//! The members of a map, taken one after another in a table's order, where they lie. No memory is taken.
+
+ghost use Rattle.std.specs.Prelude.{◌≡◌, option_map, Some};
+ghost use Rattle.ccbor.specs.Access.{key_item, split_key, is_end, pairs_in};
+ghost use Rattle.ccbor.specs.Viewing.{shown, shown_pairs};
+ghost use Rattle.cbor_map.specs.Reading.{Gives, only_if, take_key};
+
+use crate::error::Error;
+use ccbor::{Key, MapView, View};
+
+/// The members of a map; another value is [`Error::Shape`].
+pub fn members<'a>(value: &View<'a>) -> Result<MapView<'a>, Error>
+    ensures { Gives shown_pairs result (pairs_in (shown value.now)) }
+{
+    match value.as_map() {
+        Some(pairs) => Ok(pairs),
+        None => Err(Error::Shape),
+    }
+}
+
+/// The value of the first member, whose key must be this one, and the members behind it; else
+/// [`Error::Shape`].
+pub fn required<'a>(members: &MapView<'a>, key: Key<'_>) -> Result<(View<'a>, MapView<'a>), Error>
+    ensures { Gives (λ m. (shown m.0, shown_pairs m.1)) result
+        (split_key (key_item key.entry) (shown_pairs members.now)) }
+{
+    match members.split_key(key) {
+        Some(first) => Ok(first),
+        None => Err(Error::Shape),
+    }
+}
+
+/// The value of the first member if its key is this one, and the members behind it; else all members.
+pub fn optional<'a>(members: MapView<'a>, key: Key<'_>) -> (Option<View<'a>>, MapView<'a>)
+    ensures { (option_map shown result.0, shown_pairs result.1)
+        ≡ take_key (key_item key.entry) (shown_pairs members.entry) }
+{
+    match members.split_key(key) {
+        Some((value, rest)) => (Some(value), rest),
+        None => (None, members),
+    }
+}
+
+/// Refused as [`Error::Shape`] if members are left.
+pub fn end(members: &MapView<'_>) -> Result<(), Error>
+    ensures { Gives (λ u. u) result (only_if (is_end (shown_pairs members.now)) (Some tt)) }
+{
+    if members.is_end() {
+        Ok(())
+    } else {
+        Err(Error::Shape)
+    }
+}
