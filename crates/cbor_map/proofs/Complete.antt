@@ -12,7 +12,7 @@ use Rattle.cbor_map.specs.declared.fault.Fault.{Fault}
 use Rattle.cbor_map.specs.declared.fault.Fault.TheVariants as faults
 use Rattle.cbor_map.specs.Table.{Holds, a_number, some_bytes, a_text, a_truth, any_map, that_text, unsigned, truths, list_of, record_of, not_empty, sized, Members, no_more, listed, fails, size_of, any_item, is_listed, all_keys, all_truths, in_member, has_fault, in_members, Clean}
 use Rattle.cbor_map.specs.Content.{Content, Contents, optional}
-use Rattle.cbor_map.specs.Reading.{only_if, is_within, number_in, each_truth, each_in, maybe, take_key, taken_from, read_in, members_in}
+use Rattle.cbor_map.specs.Reading.{checked, is_within, number_in, each_truth, each_in, maybe, take_key, taken_from, read_in, members_in}
 use Rattle.cbor_map.proofs.Tests.{or_none, holds}
 use Rattle.cbor_map.proofs.Ordered.{IsOrdered, IsOrderedFrom, differ_back}
 use Rattle.cbor_map.proofs.Rebuilt.{in_order, in_order_is}
@@ -140,7 +140,7 @@ complete_record ms ordered complete (of.map ps) (suc d) fits clean =
     (read.0, ap (members_in ms) (sym (in_order_is ms d [] ps ordered fits.1 keys)) ∙ read.1)
 complete_record ms ordered complete _ d fits clean = let e = clean faults.AnotherKind in absurd cc
 
-tested : {A : Type 0} (b : Bool) (o : Option A) (c : A) → b ≡ true → o ≡ Some c → only_if b o ≡ Some c
+tested : {A : Type 0} (b : Bool) (o : Option A) (c : A) → b ≡ true → o ≡ Some c → (checked b >>= λ u. o) ≡ Some c
 tested true o c e read = read
 tested false o c e read = absurd cc
 

@@ -1,4 +1,5 @@
 pub mod Tests
+pub mod Fronts
 pub mod Ordered
 pub mod Rebuilt
 pub mod Sound

@@ -13,7 +13,7 @@ use Rattle.ccbor.proofs.AccessLemmas.{same_key, split_key_takes, pairs_in_is, it
 use Rattle.cbor_map.specs.declared.fault.Fault.{Fault}
 use Rattle.cbor_map.specs.Table.{Holds, a_number, some_bytes, a_text, a_truth, any_map, that_text, unsigned, truths, list_of, record_of, not_empty, sized, Members, no_more, listed, size_of, any_item, is_listed, all_keys, all_truths, has_fault, in_members, Clean}
 use Rattle.cbor_map.specs.Content.{Content, Contents, Member, number_item, truth_pair, item_of, members_item}
-use Rattle.cbor_map.specs.Reading.{only_if, is_within, number_in, named_truth, each_truth, each_in, maybe, take_key, taken_from, read_in, members_in}
+use Rattle.cbor_map.specs.Reading.{checked, is_within, number_in, named_truth, each_truth, each_in, maybe, take_key, taken_from, read_in, members_in}
 use Rattle.cbor_map.proofs.Tests.{none_or}
 use Rattle.cbor_map.proofs.Ordered.{IsOrdered, IsOrderedFrom, differ, not_there, listed_too}
 
@@ -29,7 +29,7 @@ pub record AreMembers (ms : Members) (ps : Pairs) (c : Contents ms) : Type 0 whe
 abbrev pub AreSound : Members → Type 0
 AreSound ms = (ps : Pairs) (c : Contents ms) → members_in ms ps ≡ Some c → AreMembers ms ps c
 
-cond_some_of : {A : Type 0} (b : Bool) (o : Option A) (c : A) → only_if b o ≡ Some c → (b ≡ true) × (o ≡ Some c)
+cond_some_of : {A : Type 0} (b : Bool) (o : Option A) (c : A) → (checked b >>= λ u. o) ≡ Some c → (b ≡ true) × (o ≡ Some c)
 cond_some_of true o c e = (refl, e)
 cond_some_of false o c e = absurd cc
 

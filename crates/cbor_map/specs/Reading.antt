@@ -28,6 +28,10 @@ number_in _ = None
 abbrev pub only_if : {A : Type 0} → Bool → Option A → Option A
 only_if test read = if test then read else None
 
+-- the test holds
+abbrev pub checked : Bool → Option (Unit {0})
+checked test = only_if test (Some tt)
+
 abbrev pub is_within : ℕ → ℕ → Item → Bool
 is_within low high x = nat_le low (size_of x) && nat_le (size_of x) high
 
@@ -67,15 +71,15 @@ abbrev mutual
   read_in some_bytes x = bytes_in x
   read_in a_text x = text_in x
   read_in a_truth x = bool_in x
-  read_in any_map x = only_if (is_some (pairs_in x)) (Some x)
-  read_in (that_text t) x = only_if (is_same_key x (of.text t)) (Some tt)
+  read_in any_map x = checked (is_some (pairs_in x)) >>= λ u. Some x
+  read_in (that_text t) x = checked (is_same_key x (of.text t))
   read_in (unsigned low) x = uint_in x >>= λ n. only_if (nat_le low n) (Some n)
   read_in truths x = pairs_in x >>= each_truth
   read_in (list_of h) x = items_in x >>= each_in (read_in h)
   read_in (record_of ms) x = pairs_in x >>= members_in ms
-  read_in (not_empty fault h) x = only_if (nat_lt 0 (size_of x)) (read_in h x)
-  read_in (sized low high fault h) x = only_if (is_within low high x) (read_in h x)
+  read_in (not_empty fault h) x = checked (nat_lt 0 (size_of x)) >>= λ u. read_in h x
+  read_in (sized low high fault h) x = checked (is_within low high x) >>= λ u. read_in h x
 
   pub members_in : (ms : Members) → Pairs → Option (Contents ms)
-  members_in no_more ps = only_if (is_end ps) (Some tt)
+  members_in no_more ps = checked (is_end ps)
   members_in (listed k required h ms) ps = member_in required k (read_in h) (members_in ms) ps

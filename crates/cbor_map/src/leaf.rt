@@ -1,13 +1,65 @@
-//! Values that are no maps and no arrays. Those of another kind are [`Error::Shape`].
+//! The values inside maps and arrays. Those of another kind or size are [`Error::Shape`].
 
-ghost use Rattle.std.specs.Prelude.{◌≡◌, ◌^◌, ◌<◌, string_bytes};
-ghost use Rattle.ccbor.specs.Access.{uint_in, bytes_in, text_in, bool_in};
+ghost use Rattle.std.specs.Prelude.{◌≡◌, nat_lt, is_some, string_bytes};
+ghost use Rattle.ccbor.specs.Item.{text};
+ghost use Rattle.ccbor.specs.Access.{bytes_in, text_in, bool_in, pairs_in, is_same_key};
 ghost use Rattle.ccbor.specs.Viewing.{shown};
-ghost use Rattle.cbor_map.specs.Reading.{Gives, is_within, number_in};
+ghost use Rattle.cbor_map.specs.Reading.{Gives, checked, is_within, number_in, read_in};
+ghost use Rattle.cbor_map.specs.Table.{size_of, unsigned};
 
 use crate::error::Error;
-use ccbor::View;
+use ccbor::{Key, View};
 use std::alloc::Global;
+
+/// The bytes of a string, or the items of an array.
+fn size_of(value: &View<'_>) -> u64
+    ensures { result ≡ size_of (shown value.now) }
+{
+    if let Some(content) = value.as_bytes() {
+        return content.len() as u64;
+    }
+    if let Some(text) = value.as_text() {
+        return text.len() as u64;
+    }
+    match value.as_array() {
+        Some(_) => value.len() as u64,
+        None => 0,
+    }
+}
+
+/// Refused as [`Error::Shape`] unless the value has so many bytes or items, from low to high.
+pub fn sized(value: &View<'_>, low: u64, high: u64) -> Result<(), Error>
+    ensures { Gives (λ u. u) result (checked (is_within low high (shown value.now))) }
+{
+    let size = size_of(value);
+    if low <= size && size <= high {
+        Ok(())
+    } else {
+        Err(Error::Shape)
+    }
+}
+
+/// Refused as [`Error::Shape`] if the value has no byte and no item.
+pub fn not_empty(value: &View<'_>) -> Result<(), Error>
+    ensures { Gives (λ u. u) result (checked (nat_lt 0 (size_of (shown value.now)))) }
+{
+    if 0 < size_of(value) {
+        Ok(())
+    } else {
+        Err(Error::Shape)
+    }
+}
+
+/// Refused as [`Error::Shape`] unless the value is this text.
+pub fn that_text(value: &View<'_>, content: &str) -> Result<(), Error>
+    ensures { Gives (λ u. u) result (checked (is_same_key (shown value.now) (text content.now))) }
+{
+    if value.is_key(Key::Text(content)) {
+        Ok(())
+    } else {
+        Err(Error::Shape)
+    }
+}
 
 /// The number.
 pub fn number(value: &View<'_>) -> Result<i128, Error>
@@ -22,12 +74,22 @@ pub fn number(value: &View<'_>) -> Result<i128, Error>
     }
 }
 
-/// The unsigned number.
-pub fn unsigned(value: &View<'_>) -> Result<u64, Error>
-    ensures { Gives (λ n. n) result (uint_in (shown value.now)) }
+/// The unsigned number, at least this one.
+pub fn unsigned(value: &View<'_>, low: u64) -> Result<u64, Error>
+    ensures { Gives (λ n. n) result (read_in (unsigned low) (shown value.now)) }
 {
     match value.as_uint() {
-        Some(n) => Ok(n),
+        Some(n) if low <= n => Ok(n),
+        _ => Err(Error::Shape),
+    }
+}
+
+/// Refused as [`Error::Shape`] unless the value is a map.
+pub fn any_map(value: &View<'_>) -> Result<(), Error>
+    ensures { Gives (λ u. u) result (checked (is_some (pairs_in (shown value.now)))) }
+{
+    match value.as_map() {
+        Some(_) => Ok(()),
         None => Err(Error::Shape),
     }
 }

@@ -14,6 +14,6 @@ pub use building::{bytes_value, push_if_there, push_member, text_value};
 pub use error::Error;
 pub use fault::Fault;
 pub use faults::gravest;
-pub use leaf::{bytes, number, text, truth, unsigned};
+pub use leaf::{any_map, bytes, not_empty, number, sized, text, that_text, truth, unsigned};
 pub use table::Holds;
-pub use walk::{end, members, optional, required};
+pub use walk::{end, items, members, optional, required};

@@ -1,12 +1,23 @@
-//! The members of a map, taken one after another in a table's order, where they lie. No memory is taken.
+//! The items of an array, and the members of a map taken one after another in a table's order, where
+//! they lie. No memory is taken.
 
-ghost use Rattle.std.specs.Prelude.{◌≡◌, option_map, Some};
-ghost use Rattle.ccbor.specs.Access.{key_item, split_key, is_end, pairs_in};
-ghost use Rattle.ccbor.specs.Viewing.{shown, shown_pairs};
-ghost use Rattle.cbor_map.specs.Reading.{Gives, only_if, take_key};
+ghost use Rattle.std.specs.Prelude.{◌≡◌, option_map};
+ghost use Rattle.ccbor.specs.Access.{key_item, split_key, is_end, items_in, pairs_in};
+ghost use Rattle.ccbor.specs.Viewing.{shown, shown_items, shown_pairs};
+ghost use Rattle.cbor_map.specs.Reading.{Gives, checked, take_key};
 
 use crate::error::Error;
-use ccbor::{Key, MapView, View};
+use ccbor::{ArrayView, Key, MapView, View};
+
+/// The items of an array; another value is [`Error::Shape`].
+pub fn items<'a>(value: &View<'a>) -> Result<ArrayView<'a>, Error>
+    ensures { Gives shown_items result (items_in (shown value.now)) }
+{
+    match value.as_array() {
+        Some(items) => Ok(items),
+        None => Err(Error::Shape),
+    }
+}
 
 /// The members of a map; another value is [`Error::Shape`].
 pub fn members<'a>(value: &View<'a>) -> Result<MapView<'a>, Error>
@@ -43,7 +54,7 @@ pub fn optional<'a>(members: MapView<'a>, key: Key<'_>) -> (Option<View<'a>>, Ma
 
 /// Refused as [`Error::Shape`] if members are left.
 pub fn end(members: &MapView<'_>) -> Result<(), Error>
-    ensures { Gives (λ u. u) result (only_if (is_end (shown_pairs members.now)) (Some tt)) }
+    ensures { Gives (λ u. u) result (checked (is_end (shown_pairs members.now))) }
 {
     if members.is_end() {
         Ok(())
