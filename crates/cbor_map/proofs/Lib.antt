@@ -6,3 +6,4 @@ pub mod Sound
 pub mod Complete
 pub mod OneContent
 pub mod Tables
+pub mod Laws

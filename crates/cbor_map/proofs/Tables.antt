@@ -43,3 +43,6 @@ holds-ThatText t = search (rules, the_lemmas)
 
 pub holds-Unsigned : (low : ℕ) → holds_view (table.Unsigned low) ≡ unsigned low
 holds-Unsigned low = search (rules, the_lemmas)
+
+-- all of them
+pub ruleset tables = (holds-Bytes, holds-Text, holds-Truth, holds-AnyMap, holds-List, holds-Record, holds-Sized, holds-Number, holds-NotEmpty, holds-Truths, holds-ThatText, holds-Unsigned)

@@ -19,6 +19,11 @@ abbrev pub Gives : {X Y : Type 0} → (X → Y) → Result X Error → Option Y 
 Gives view (Ok x) read = read ≡ Some (view x)
 Gives view (Err e) read = Fails e read
 
+-- the same of a function that takes no memory
+abbrev pub Yields : {X Y E : Type 0} → (X → Y) → Result X E → Option Y → Type 0
+Yields view (Ok x) read = read ≡ Some (view x)
+Yields view (Err e) read = read ≡ None
+
 abbrev pub number_in : Item → Option ℤ
 number_in (of.uint n) = Some (pos n)
 number_in (of.nint n) = Some (negsuc n)

@@ -16,6 +16,19 @@ pub enum Error {
     Shape,
 }
 
+/// The value is not of this table: the refusal of what takes no memory.
+#[derive(Clone, Copy, Debug, PartialEq, Eq, Drop, thiserror::Error)]
+#[error("the value has another shape")]
+pub struct Shape;
+
+impl From<Shape> for Error {
+    ghost from_gives = { λ _ e. e ≡ errors.Shape };
+
+    fn from(_e: Shape) -> Error {
+        Error::Shape
+    }
+}
+
 impl From<AllocError> for Error {
     ghost from_gives = { λ _ e. e ≡ errors.Memory };
 

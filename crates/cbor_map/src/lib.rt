@@ -11,7 +11,7 @@ mod table;
 mod walk;
 
 pub use building::{bytes_value, push_if_there, push_member, text_value};
-pub use error::Error;
+pub use error::{Error, Shape};
 pub use fault::Fault;
 pub use faults::gravest;
 pub use leaf::{any_map, bytes, not_empty, number, sized, text, that_text, truth, unsigned};
