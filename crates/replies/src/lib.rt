@@ -2,11 +2,12 @@
 #![tactic(auto)]
 
 mod maps;
+mod reading;
 mod reply;
 mod tables;
 mod values;
+mod writing;
 
-pub use maps::{assertion_reply, creation_reply, info};
+pub use reading::{read_assertion, read_reply};
 pub use reply::{AssertionReply, AssertionView, CreationReply, InfoReply, Kind, Reply};
-pub use tables::{creation_reply_fault, assertion_reply_fault, next_reply_fault, info_fault};
-pub use values::{assertion_reply_value, creation_reply_value, info_value};
+pub use writing::write_reply;
