@@ -8,7 +8,7 @@ use Rattle.ctapmsg.specs.Requests.{RequestMessage, make_credential, get_assertio
 use Rattle.ctapmsg.specs.RequestView.{assertion_view}
 use Rattle.ctapmsg.specs.Fields.{Gives, assertion_at}
 use Rattle.ctapmsg.specs.Status.{IsRequest, Refused}
-use Rattle.ctapmsg.specs.declared.error.Error.{Error}
+use Rattle.ctap_status.specs.declared.error.Error.{Error}
 use Rattle.ctapmsg.specs.declared.request.GetAssertion.{GetAssertion}
 use Rattle.ctapmsg.proofs.AssertionRead.{assertion_complete, assertion_again}
 use Rattle.ctapmsg.proofs.OneRank.{same_item}

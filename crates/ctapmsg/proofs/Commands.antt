@@ -3,7 +3,7 @@ use Rattle.std.proofs.Common.{◌≡◌, ◌||◌, ℕ, true, false, List, [], �
 use Rattle.first_line.specs.Lines.{First}
 use Rattle.ctapmsg.specs.Fields.{Alone}
 use Rattle.ctapmsg.specs.Status.{Rank, unknown_command, bytes_behind, status_of, ranks, has_map, has_none, Applies, Refused}
-use Rattle.ctapmsg.specs.declared.error.Error.{Error}
+use Rattle.ctap_status.specs.declared.error.Error.{Error}
 use Rattle.ctapmsg.proofs.OneRank.{applies_first}
 use Rattle.ctapmsg.specs.declared.request.Request.{Request}
 

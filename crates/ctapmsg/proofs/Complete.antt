@@ -4,12 +4,11 @@ use Rattle.ccbor.specs.Item as of
 use Rattle.ccbor.specs.Item.{Item, Items, no_items, item, Pairs, no_pairs, pair}
 use Rattle.ccbor.specs.Canon.{spelling, Fits, ItemsFit, PairsFit}
 use Rattle.ccbor.specs.Reading.{◌>>=◌}
-use Rattle.ccbor.specs.View.{items_of, pairs_of}
-use Rattle.ccbor.specs.Access.{value_at, uint_in, is_same_key, bytes_in, text_in, bool_in, pairs_in}
-use Rattle.ctapmsg.specs.Schema.{Holds, a_number, some_bytes, a_text, a_truth, any_map, that_text, unsigned, truths, list_of, record_of, not_empty, sized, Members, clean_if, rank_in, rank_of_items, rank_of_members, member_rank, all_keys, is_listed, all_truths}
+use Rattle.ccbor.specs.View.{items_of}
+use Rattle.ccbor.specs.Access.{value_at, is_same_key, bytes_in, text_in, bool_in, pairs_in}
+use Rattle.ctapmsg.specs.Schema.{Holds, a_number, some_bytes, a_text, a_truth, any_map, list_of, record_of, not_empty, sized, Members, clean_if, rank_in, rank_of_items, rank_of_members, member_rank, all_keys, is_listed}
 use Rattle.ctapmsg.specs.Entities.{number_item}
-use Rattle.ctapmsg.specs.Fields.{maybe, each_at, each_truth, truths_at, texts_at, number_in, item_in}
-use Rattle.ctapmsg.specs.Replies.{the_item, texts_item, truth_pair, truths_item}
+use Rattle.ctapmsg.specs.Fields.{maybe, each_at, number_in}
 use Rattle.ccbor.proofs.AccessLemmas.{same_key}
 use Rattle.ctapmsg.proofs.Rebuilt.{Rising, in_order, in_order_is}
 
@@ -65,42 +64,6 @@ reads_number = record { reads = go } where
   go (of.uint n) d le fits = (pos n, refl, refl)
   go (of.nint n) d le fits = (negsuc n, refl, refl)
   go _ d le fits = absurd (omega arith)
-
-pub reads_item : Reads any_map item_in the_item
-reads_item = record { reads = λ x d le fits. (x, refl, refl) }
-
-pub reads_unsigned : (low : ℕ) → Reads (unsigned low) uint_in of.uint
-reads_unsigned low = record { reads = go } where
-  go : (x : Item) (d : ℕ) → 9 ≤ rank_in (unsigned low) x → Fits d x → (a : ℕ) × (uint_in x ≡ Some a) × (x ≡ of.uint a)
-  go (of.uint n) d le fits = (n, refl, refl)
-  go _ d le fits = absurd (omega arith)
-
--- a member that is one text
-pub only_text : (t : List ℕ) (o : Option Item) → 9 ≤ member_rank (rank_in (that_text t)) true o → o ≡ Some (of.text t)
-only_text t (Some x) le = ap (λ (i : Item). Some i) (same_key x (of.text t) (clean (is_same_key x (of.text t)) 4 (omega arith) le))
-only_text t None le = absurd (omega arith)
-
-truths_read : (ps : Pairs) → all_truths ps ≡ true → (a : List (List ℕ × Bool)) × (each_truth ps ≡ Some a) × (ps ≡ pairs_of (map truth_pair a))
-truths_read no_pairs e = ([], refl, refl)
-truths_read (pair (of.text k) (of.boolean b) ps) e =
-    let rest = truths_read ps e in
-    ((k, b) ∷ rest.0, rw rest.1 refl, ap (λ (qs : Pairs). pair (of.text k) (of.boolean b) qs) rest.2)
-truths_read (pair _ _ ps) e = absurd cc
-
-pub reads_truths : Reads truths truths_at truths_item
-unfolding truths_at
-reads_truths = record { reads = go } where
-  go : (x : Item) (d : ℕ) → 9 ≤ rank_in truths x → Fits d x → (a : List (List ℕ × Bool)) × (truths_at x ≡ Some a) × (x ≡ truths_item a)
-  go (of.map ps) d le fits = let a = truths_read ps (clean (all_truths ps) 4 (omega arith) le) in (a.0, a.1, ap of.map a.2)
-  go _ d le fits = absurd (omega arith)
-
-truths_each : (os : List (List ℕ × Bool)) → each_truth (pairs_of (map truth_pair os)) ≡ Some os
-truths_each [] = refl
-truths_each (o ∷ os) = rw (truths_each os) refl
-
-pub truths_again : (os : List (List ℕ × Bool)) → truths_at (truths_item os) ≡ Some os
-unfolding truths_at
-truths_again os = truths_each os
 
 -- ---- arrays
 
@@ -160,23 +123,3 @@ record_is ms (of.map ps) (suc d) rising le fits =
       fits = λ k v e. held_fits k d [] ps v fits.1 e;
     }
 record_is ms _ d rising le fits = absurd (omega arith)
-
--- ---- texts
-
-pub reads_texts : Reads (list_of a_text) texts_at texts_item
-unfolding texts_at
-reads_texts = record { reads = go } where
-  go : (x : Item) (d : ℕ) → 9 ≤ rank_in (list_of a_text) x → Fits d x → (a : List (List ℕ)) × (texts_at x ≡ Some a) × (x ≡ texts_item a)
-  go (of.array xs) zero le fits = absurd fits.1
-  go (of.array xs) (suc d) le fits =
-      let a = each_read a_text text_in of.text reads_text xs d le fits.1 in
-      (a.0, a.1, ap of.array a.2)
-  go _ d le fits = absurd (omega arith)
-
-texts_each : (xs : List (List ℕ)) → each_at text_in (items_of (map of.text xs)) ≡ Some xs
-texts_each [] = refl
-texts_each (x ∷ xs) = rw (texts_each xs) refl
-
-pub texts_again : (xs : List (List ℕ)) → texts_at (texts_item xs) ≡ Some xs
-unfolding texts_at
-texts_again xs = texts_each xs

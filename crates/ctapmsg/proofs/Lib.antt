@@ -12,7 +12,3 @@ pub mod CreationAnswered
 pub mod AssertionAnswered
 pub mod Commands
 pub mod Unwritten
-pub mod AssertionTaken
-pub mod RepliesRead
-pub mod RepliesAnswered
-pub mod RepliesUnwritten

@@ -7,8 +7,8 @@ use Rattle.ctapmsg.specs.Schema.{Holds, a_number, some_bytes, a_text, a_truth, a
 use Rattle.ctapmsg.specs.Requests.{map_of, creation_members, assertion_members}
 use Rattle.ctapmsg.specs.Fields.{Fails, map_status}
 use Rattle.ctapmsg.specs.Status.{Rank, another_kind, unlisted_key, missing_member, invalid_size, over_limit, status_of, ranks, has_map, has_none, Fault, Applies, NoStatus, Refused}
-use Rattle.ctapmsg.specs.declared.error.Error.{Error}
-use Rattle.ctapmsg.specs.declared.error.Error.TheVariants as errors
+use Rattle.ctap_status.specs.declared.error.Error.{Error}
+use Rattle.ctap_status.specs.declared.error.Error.TheVariants as errors
 use Rattle.first_line.specs.Lines.{First}
 use Rattle.ctapmsg.proofs.Low.{rank_of_members_low}
 use Rattle.ctapmsg.proofs.OneRank.{applies_first, same_item}

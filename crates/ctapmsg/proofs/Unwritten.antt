@@ -4,8 +4,8 @@ use Rattle.std.proofs.lemmas.Bool.{cases_Bool, eqb-true}
 use Rattle.std.proofs.lemmas.Bool.Decides.{nat_tests}
 use Rattle.std.specs.Prelude.{IsErrOf}
 use Rattle.ccbor.specs.Item.{Item}
-use Rattle.ctapmsg.specs.declared.error.Error.{Error}
-use Rattle.ctapmsg.specs.declared.error.Error.TheVariants as errors
+use Rattle.ctap_status.specs.declared.error.Error.{Error}
+use Rattle.ctap_status.specs.declared.error.Error.TheVariants as errors
 use Rattle.ccbor.specs.Canon.{Canon, Fits, ItemsFit}
 use Rattle.ccbor.specs.View.{items_of}
 use Rattle.ctapmsg.specs.Schema.{rank_in}

@@ -3,8 +3,8 @@ use Rattle.std.specs.Prelude.{◌≡◌, ℕ, ◌^◌, List, [], ◌∷◌, Bool
 use Rattle.ccbor.specs.Item.{Item}
 use Rattle.ccbor.specs.View.{view}
 use Rattle.ccbor.specs.declared.value.Value.{Value}
-use Rattle.ctapmsg.specs.declared.error.Error.{Error}
-use Rattle.ctapmsg.specs.declared.error.Error.TheVariants as errors
+use Rattle.ctap_status.specs.declared.error.Error.{Error}
+use Rattle.ctap_status.specs.declared.error.Error.TheVariants as errors
 use Rattle.ctapmsg.specs.Entities.{CredentialParameters}
 use Rattle.ctapmsg.specs.Requests.{RequestMessage, RequestOf}
 use Rattle.ctapmsg.specs.Status.{NoStatus}

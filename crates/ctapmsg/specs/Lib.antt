@@ -9,5 +9,4 @@ pub mod Replies
 pub mod ReplyView
 pub mod Fields
 pub mod Building
-pub mod Pieces
 pub mod StatusNumbers

@@ -6,8 +6,8 @@ use Rattle.ccbor.specs.Item.{Item, Pairs}
 use Rattle.ccbor.specs.Canon.{Canon}
 use Rattle.ctapmsg.specs.Schema.{rank_in}
 use Rattle.ctapmsg.specs.Requests.{RequestMessage, RequestOf, map_of}
-use Rattle.ctapmsg.specs.declared.error.Error.{Error}
-use Rattle.ctapmsg.specs.declared.error.Error.TheVariants as errors
+use Rattle.ctap_status.specs.declared.error.Error.{Error}
+use Rattle.ctap_status.specs.declared.error.Error.TheVariants as errors
 
 -- the ranks of a request's faults
 pub data Rank : Type 0 where

@@ -6,7 +6,7 @@ ghost use Rattle.ctapmsg.specs.Fields.{Gives, assertion_at};
 ghost use Rattle.ctapmsg.specs.RequestView.{assertion_view};
 
 use crate::entities::{assertion_options_if_there, descriptors_if_there};
-use crate::error::Error;
+use ctap_status::Error;
 use crate::fields::{bytes_at, text_at};
 use crate::request::GetAssertion;
 use ccbor::{Key, Value};

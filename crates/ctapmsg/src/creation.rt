@@ -10,7 +10,7 @@ ghost use Rattle.ctapmsg.specs.RequestView.{rp_view, user_view, parameters_view,
 use crate::entities::{
     creation_options_if_there, descriptors_if_there, parameter_list, relying_party, user,
 };
-use crate::error::Error;
+use ctap_status::Error;
 use crate::fields::bytes_at;
 use crate::request::{MakeCredential, Parameters, RelyingParty, User};
 use ccbor::{Key, Value};

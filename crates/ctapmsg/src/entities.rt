@@ -6,7 +6,7 @@ ghost use Rattle.ccbor.specs.Item as of;
 ghost use Rattle.ctapmsg.specs.Fields.{Gives, maybe, each_at, descriptor_at, descriptors_at, rp_at, user_at, parameters_at, parameter_list_at, creation_options_at, assertion_options_at};
 ghost use Rattle.ctapmsg.specs.RequestView.{descriptor_view, rp_view, user_view, parameters_view, creation_options_view, assertion_options_view};
 
-use crate::error::Error;
+use ctap_status::Error;
 use crate::fields::{bytes_at, number_at, text_at, text_if_there, truth_if_there};
 use crate::request::{
     AssertionOptions, CreationOptions, Descriptor, Parameters, RelyingParty, User,

@@ -5,7 +5,7 @@ ghost use Rattle.ccbor.specs.View.{view};
 ghost use Rattle.ccbor.specs.Access.{member, key_item, bytes_in, text_in, bool_in};
 ghost use Rattle.ctapmsg.specs.Fields.{Gives, need, maybe, number_in};
 
-use crate::error::Error;
+use ctap_status::Error;
 use ccbor::{Key, Value};
 use std::alloc::Global;
 

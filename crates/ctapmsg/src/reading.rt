@@ -11,13 +11,13 @@ ghost use Rattle.ctapmsg.specs.Status.{has_map, Refused, IsRequest};
 
 use crate::assertion::assertion;
 use crate::creation::creation;
-use crate::error::Error;
+use ctap_status::Error;
 use crate::ranks::CLEAN;
 use crate::request::{
     GET_ASSERTION, GET_INFO, GET_NEXT_ASSERTION, GetAssertion, MAKE_CREDENTIAL, MakeCredential,
     RESET, Request,
 };
-use crate::status::{
+use ctap_status::status::{
     CBOR_UNEXPECTED_TYPE, INVALID_CBOR, INVALID_COMMAND, INVALID_PARAMETER, LIMIT_EXCEEDED,
     MISSING_PARAMETER,
 };

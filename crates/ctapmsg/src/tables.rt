@@ -2,13 +2,11 @@
 
 ghost use Rattle.std.specs.Prelude.{◌≡◌};
 ghost use Rattle.ccbor.specs.View.{view};
-ghost use Rattle.ctapmsg.specs.Schema.{rank_in, record_of, no_more};
-ghost use Rattle.ctapmsg.specs.Replies.{creation_reply_members, assertion_reply_members, next_reply_members, info_members, reply_members};
+ghost use Rattle.ctapmsg.specs.Schema.{rank_in, record_of};
 ghost use Rattle.ctapmsg.specs.Requests.{creation_members, assertion_members, map_of};
 
 use crate::holds::Holds;
 use crate::ranks::rank_in;
-use crate::reply::Kind;
 use crate::request::MAKE_CREDENTIAL;
 use ccbor::{Key, Value};
 
@@ -70,49 +68,6 @@ const ASSERTION: Holds = Holds::Record(&[
     (Key::Uint(5), false, ASSERTION_OPTIONS),
 ]);
 
-const CREDENTIAL: Holds = Holds::Record(&[
-    (Key::Text("id"), true, Holds::Sized(1, 64, 8, &Holds::Bytes)),
-    (Key::Text("type"), true, Holds::ThatText("public-key")),
-]);
-
-const REPLY_USER: Holds = Holds::Record(&[(
-    Key::Text("id"),
-    true,
-    Holds::Sized(1, 64, 8, &Holds::Bytes),
-)]);
-
-const CREATION_REPLY: Holds = Holds::Record(&[
-    (Key::Uint(1), true, Holds::Text),
-    (Key::Uint(2), true, Holds::Bytes),
-    (Key::Uint(3), true, Holds::AnyMap),
-]);
-
-const ASSERTION_REPLY: Holds = Holds::Record(&[
-    (Key::Uint(1), true, CREDENTIAL),
-    (Key::Uint(2), true, Holds::Bytes),
-    (Key::Uint(3), true, Holds::Bytes),
-    (Key::Uint(4), false, REPLY_USER),
-    (Key::Uint(5), false, Holds::Unsigned(2)),
-]);
-
-const NEXT_REPLY: Holds = Holds::Record(&[
-    (Key::Uint(1), true, CREDENTIAL),
-    (Key::Uint(2), true, Holds::Bytes),
-    (Key::Uint(3), true, Holds::Bytes),
-    (Key::Uint(4), false, REPLY_USER),
-]);
-
-const INFO: Holds = Holds::Record(&[
-    (Key::Uint(1), true, Holds::List(&Holds::Text)),
-    (Key::Uint(3), true, Holds::Sized(16, 16, 8, &Holds::Bytes)),
-    (Key::Uint(4), true, Holds::Truths),
-    (Key::Uint(5), true, Holds::Unsigned(0)),
-    (Key::Uint(7), true, Holds::Unsigned(0)),
-    (Key::Uint(8), true, Holds::Unsigned(0)),
-]);
-
-const NOTHING: Holds = Holds::Record(&[]);
-
 /// The rank of the gravest fault in a makeCredential request's map.
 fn creation_rank(value: &Value) -> u8
     ensures { result ≡ rank_in (record_of creation_members) (view value.now) }
@@ -135,53 +90,5 @@ pub fn map_rank(command: u8, value: &Value) -> u8
         creation_rank(value)
     } else {
         assertion_rank(value)
-    }
-}
-
-/// The rank of the gravest fault in a makeCredential reply's map.
-fn creation_reply_rank(value: &Value) -> u8
-    ensures { result ≡ rank_in (record_of creation_reply_members) (view value.now) }
-{
-    rank_in(&CREATION_REPLY, value)
-}
-
-/// The rank of the gravest fault in a getAssertion reply's map.
-fn assertion_reply_rank(value: &Value) -> u8
-    ensures { result ≡ rank_in (record_of assertion_reply_members) (view value.now) }
-{
-    rank_in(&ASSERTION_REPLY, value)
-}
-
-/// The rank of the gravest fault in a getNextAssertion reply's map.
-fn next_reply_rank(value: &Value) -> u8
-    ensures { result ≡ rank_in (record_of next_reply_members) (view value.now) }
-{
-    rank_in(&NEXT_REPLY, value)
-}
-
-/// The rank of the gravest fault in a getInfo reply's map.
-fn info_rank(value: &Value) -> u8
-    ensures { result ≡ rank_in (record_of info_members) (view value.now) }
-{
-    rank_in(&INFO, value)
-}
-
-/// The rank of the gravest fault in a map that has no members.
-fn no_rank(value: &Value) -> u8
-    ensures { result ≡ rank_in (record_of no_more) (view value.now) }
-{
-    rank_in(&NOTHING, value)
-}
-
-/// The rank of the gravest fault in the map that answers a command; of no map for reset.
-pub fn reply_rank(kind: Kind, value: &Value) -> u8
-    ensures { result ≡ rank_in (record_of (reply_members kind)) (view value.now) }
-{
-    match kind {
-        Kind::MakeCredential => creation_reply_rank(value),
-        Kind::GetAssertion => assertion_reply_rank(value),
-        Kind::GetNextAssertion => next_reply_rank(value),
-        Kind::GetInfo => info_rank(value),
-        Kind::Reset => no_rank(value),
     }
 }

@@ -7,7 +7,7 @@ ghost use Rattle.ctapmsg.specs.Building.{seen, member_list, is_number, all_numbe
 ghost use Rattle.ctapmsg.specs.Entities.{number_item, descriptor_item, descriptors_item, rp_item, user_item, parameters_item, parameter_list_item, creation_options_item, assertion_options_item};
 ghost use Rattle.ctapmsg.specs.RequestView.{descriptor_view, rp_view, user_view, parameters_view, creation_options_view, assertion_options_view};
 
-use crate::error::Error;
+use ctap_status::Error;
 use crate::request::{
     AssertionOptions, CreationOptions, Descriptor, Parameters, RelyingParty, User,
 };

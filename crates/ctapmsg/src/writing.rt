@@ -8,9 +8,9 @@ ghost use Rattle.ctapmsg.specs.Schema.{rank_in};
 ghost use Rattle.ctapmsg.specs.Requests.{map_of, creation_item, assertion_item, make_credential, get_assertion, RequestOf};
 ghost use Rattle.ctapmsg.specs.RequestView.{parameters_view, creation_view, assertion_view, request_view};
 ghost use Rattle.ctapmsg.specs.Status.{NoStatus};
-ghost use Rattle.ctapmsg.specs.declared.error.Error.TheVariants as errors;
+ghost use Rattle.ctap_status.specs.declared.error.Error.TheVariants as errors;
 
-use crate::error::Error;
+use ctap_status::Error;
 use crate::ranks::CLEAN;
 use crate::request::{
     GET_ASSERTION, GET_INFO, GET_NEXT_ASSERTION, GetAssertion, MAKE_CREDENTIAL, MakeCredential,
