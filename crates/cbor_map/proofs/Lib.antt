@@ -7,3 +7,4 @@ pub mod Complete
 pub mod OneContent
 pub mod Tables
 pub mod Laws
+pub mod Maps

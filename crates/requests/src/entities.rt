@@ -48,7 +48,7 @@ pub fn descriptors(alloc: Global, value: &View<'_>) -> Result<Vec<Descriptor>, E
 /// A text that may be absent.
 fn text_if_there(alloc: Global, held: Option<View<'_>>) -> Result<Option<String>, Error>
     ensures { Gives (λ o. option_map (λ s. string_bytes s) o) result
-        (maybe text_in (option_map shown held)) }
+        (maybe text_in (option_map shown held.entry)) }
 {
     match held {
         Some(value) => Ok(Some(text(alloc, &value)?)),
@@ -58,7 +58,7 @@ fn text_if_there(alloc: Global, held: Option<View<'_>>) -> Result<Option<String>
 
 /// A truth value that may be absent.
 fn truth_if_there(held: Option<View<'_>>) -> Result<Option<bool>, Shape>
-    ensures { Yields (λ b. b) result (maybe bool_in (option_map shown held)) }
+    ensures { Yields (λ b. b) result (maybe bool_in (option_map shown held.entry)) }
 {
     match held {
         Some(value) => Ok(Some(truth(&value)?)),
