@@ -1,18 +1,17 @@
 -- A value that has no fault against a table is read by it.
-use Rattle.std.proofs.Common.{◌≡◌, ℕ, zero, suc, Bool, true, false, cond, not, List, [], ◌∷◌, map, Option, Some, None, refl, sym, ap, subst, ◌∙◌, ℤ, pos, negsuc, nat_le, nat_lt}
+use Rattle.std.proofs.Common.{◌≡◌, ℕ, zero, suc, Bool, true, false, cond, List, [], ◌∷◌, Option, Some, None, refl, sym, ap, subst, ◌∙◌, pos, negsuc, nat_le, nat_lt}
 use Rattle.ccbor.specs.Item as of
 use Rattle.ccbor.specs.Item.{Item, Items, no_items, item, Pairs, no_pairs, pair}
 use Rattle.ccbor.specs.Canon.{before, spelling, Fits, ItemsFit, PairsFit}
 use Rattle.ccbor.specs.Reading.{◌>>=◌}
-use Rattle.ccbor.specs.Access.{member, value_at, split_key, is_same_key, is_end, bytes_in, text_in, bool_in, uint_in, items_in, pairs_in}
-use Rattle.ccbor.proofs.Numbers.{some_is}
+use Rattle.ccbor.specs.Access.{value_at, split_key, is_same_key}
 use Rattle.ccbor.proofs.AccessLemmas.{same_key}
 use Rattle.ccbor.proofs.KeyOrder.{before_trans}
 use Rattle.cbor_map.specs.declared.fault.Fault.{Fault}
 use Rattle.cbor_map.specs.declared.fault.Fault.TheVariants as faults
-use Rattle.cbor_map.specs.Table.{Holds, a_number, some_bytes, a_text, a_truth, any_map, that_text, unsigned, truths, list_of, record_of, not_empty, sized, Members, no_more, listed, fails, size_of, any_item, is_listed, all_keys, all_truths, in_member, has_fault, in_members, Clean}
+use Rattle.cbor_map.specs.Table.{Holds, a_number, some_bytes, a_text, a_truth, any_map, that_text, unsigned, truths, list_of, record_of, not_empty, sized, Members, no_more, listed, fails, size_of, any_item, is_listed, all_keys, all_truths, has_fault, in_members, Clean}
 use Rattle.cbor_map.specs.Content.{Content, Contents, optional}
-use Rattle.cbor_map.specs.Reading.{checked, is_within, number_in, each_truth, each_in, maybe, take_key, taken_from, read_in, members_in}
+use Rattle.cbor_map.specs.Reading.{checked, is_within, each_truth, each_in, read_in, members_in}
 use Rattle.cbor_map.proofs.Tests.{or_none, holds}
 use Rattle.cbor_map.proofs.Ordered.{IsOrdered, IsOrderedFrom, differ_back}
 use Rattle.cbor_map.proofs.Rebuilt.{in_order, in_order_is}

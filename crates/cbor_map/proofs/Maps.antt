@@ -1,11 +1,10 @@
 -- A member that is any map, where it is read, is a map.
-use Rattle.std.proofs.Common.{◌≡◌, ℕ, Bool, true, false, Option, Some, None, refl, sym, ap, subst, ◌∙◌}
+use Rattle.std.proofs.Common.{◌≡◌, true, false, Option, Some, None, sym, subst}
 use Rattle.ccbor.specs.Item as of
 use Rattle.ccbor.specs.Item.{Item, Pairs}
-use Rattle.ccbor.specs.Reading.{◌>>=◌}
-use Rattle.ccbor.specs.Access.{split_key, pairs_in}
+use Rattle.ccbor.specs.Access.{split_key}
 use Rattle.ccbor.proofs.Numbers.{bind_some, some_is}
-use Rattle.cbor_map.specs.Table.{Holds, a_number, some_bytes, a_text, a_truth, any_map, that_text, unsigned, truths, list_of, record_of, not_empty, sized, Members, no_more, listed}
+use Rattle.cbor_map.specs.Table.{Holds, any_map, record_of, Members, no_more, listed}
 use Rattle.cbor_map.specs.Content.{Content, Contents}
 use Rattle.cbor_map.specs.Reading.{maybe, take_key, read_in, members_in}
 

@@ -1,12 +1,11 @@
 -- A value of a table has one content.
-use Rattle.std.proofs.Common.{◌≡◌, ℕ, Bool, true, false, List, [], ◌∷◌, map, Option, Some, None, refl, sym, ap, ◌∙◌, ℤ, pos, negsuc}
-use Rattle.ccbor.specs.Item as of
-use Rattle.ccbor.specs.Item.{Item, Items, Pairs, no_pairs, pair}
+use Rattle.std.proofs.Common.{◌≡◌, ℕ, Bool, true, false, List, [], ◌∷◌, map, Some, None, refl, sym, ap, ◌∙◌, pos, negsuc}
+use Rattle.ccbor.specs.Item.{Item, Pairs, pair}
 use Rattle.ccbor.specs.Canon.{before, spelling}
 use Rattle.ccbor.specs.View.{items_of, pairs_of}
 use Rattle.ccbor.proofs.KeyOrder.{before_trans, before_itself}
 use Rattle.cbor_map.specs.Table.{Holds, a_number, some_bytes, a_text, a_truth, any_map, that_text, unsigned, truths, list_of, record_of, not_empty, sized, Members, no_more, listed}
-use Rattle.cbor_map.specs.Content.{Content, Contents, number_item, truth_pair, item_of, members_item}
+use Rattle.cbor_map.specs.Content.{Content, Contents, truth_pair, item_of, members_item}
 use Rattle.cbor_map.proofs.Ordered.{IsOrdered, IsOrderedFrom}
 
 abbrev pub HasOne : Holds → Type 0

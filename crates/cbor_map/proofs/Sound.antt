@@ -1,19 +1,19 @@
 -- What is read by a table is the content of the value, and the value has no fault.
-use Rattle.std.proofs.Common.{◌≡◌, ℕ, Bool, true, false, cond, List, [], ◌∷◌, map, Option, Some, None, refl, sym, ap, subst, ◌∙◌, ◌||◌, ◌&&◌, ℤ, pos, negsuc, nat_le, nat_lt, is_some}
+use Rattle.std.proofs.Common.{◌≡◌, ℕ, Bool, true, false, List, [], ◌∷◌, map, Option, Some, None, refl, sym, ap, subst, ◌∙◌, pos, negsuc, nat_le, nat_lt}
 use Rattle.std.proofs.lemmas.Option.{cond_some}
 use Rattle.ccbor.specs.Item as of
 use Rattle.ccbor.specs.Item.{Item, Items, no_items, item, Pairs, no_pairs, pair}
 use Rattle.ccbor.specs.Canon.{before, spelling}
 use Rattle.ccbor.specs.Reading.{◌>>=◌}
 use Rattle.ccbor.specs.View.{items_of, pairs_of}
-use Rattle.ccbor.specs.Access.{member, value_at, split_key, is_same_key, is_end, bytes_in, text_in, bool_in, uint_in, items_in, pairs_in}
+use Rattle.ccbor.specs.Access.{split_key, is_same_key}
 use Rattle.ccbor.proofs.Numbers.{bind_some, some_is}
 use Rattle.ccbor.proofs.KeyOrder.{before_trans}
-use Rattle.ccbor.proofs.AccessLemmas.{same_key, split_key_takes, pairs_in_is, items_in_is, uint_in_is, end_is}
+use Rattle.ccbor.proofs.AccessLemmas.{same_key, split_key_takes}
 use Rattle.cbor_map.specs.declared.fault.Fault.{Fault}
 use Rattle.cbor_map.specs.Table.{Holds, a_number, some_bytes, a_text, a_truth, any_map, that_text, unsigned, truths, list_of, record_of, not_empty, sized, Members, no_more, listed, size_of, any_item, is_listed, all_keys, all_truths, has_fault, in_members, Clean}
-use Rattle.cbor_map.specs.Content.{Content, Contents, Member, number_item, truth_pair, item_of, members_item}
-use Rattle.cbor_map.specs.Reading.{checked, is_within, number_in, named_truth, each_truth, each_in, maybe, take_key, taken_from, read_in, members_in}
+use Rattle.cbor_map.specs.Content.{Content, Contents, number_item, truth_pair, item_of, members_item}
+use Rattle.cbor_map.specs.Reading.{checked, is_within, each_truth, each_in, maybe, taken_from, read_in, members_in}
 use Rattle.cbor_map.proofs.Tests.{none_or}
 use Rattle.cbor_map.proofs.Ordered.{IsOrdered, IsOrderedFrom, differ, not_there, listed_too}
 
@@ -69,8 +69,7 @@ truths_read : (ps : Pairs) (c : List (List ℕ × Bool)) → each_truth ps ≡ S
 truths_read no_pairs c e = (ap (λ (os : List (List ℕ × Bool)). pairs_of (map truth_pair os)) (some_is [] c e), refl)
 truths_read (pair (of.text k) (of.boolean b) ps) c e =
     let rest = bind_some (each_truth ps) (λ (os : List (List ℕ × Bool)). Some ((k, b) ∷ os)) c e in
-    let inner = truths_read ps rest.0 rest.1 in
-    (
+    let inner = truths_read ps rest.0 rest.1 in (
       ap (λ (qs : Pairs). pair (of.text k) (of.boolean b) qs) inner.0 ∙ ap (λ (os : List (List ℕ × Bool)). pairs_of (map truth_pair os)) (some_is ((k, b) ∷ rest.0) c rest.2),
       inner.1,
     )
@@ -88,8 +87,7 @@ each_sound h sound (item x xs) cs e =
     let a = bind_some (read_in h x) (λ a. each_in (read_in h) xs >>= λ rest. Some (a ∷ rest)) cs e in
     let r = bind_some (each_in (read_in h) xs) (λ rest. Some (a.0 ∷ rest)) cs a.2 in
     let first = sound x a.0 a.1 in
-    let inner = each_sound h sound xs r.0 r.1 in
-    (
+    let inner = each_sound h sound xs r.0 r.1 in (
       ap (λ (i : Item). item i xs) first.0 ∙ ap (λ (is : Items). item (item_of h a.0) is) inner.0 ∙ ap (λ (l : List (Content h)). items_of (map (item_of h) l)) (some_is (a.0 ∷ r.0) cs r.2),
       λ f. none_or (has_fault f h x) (any_item (has_fault f h) xs) (first.1 f) (inner.1 f),
     )

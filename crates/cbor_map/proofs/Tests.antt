@@ -1,10 +1,9 @@
 -- What follows where a value has no fault, and where it has none by its tests.
-use Rattle.std.proofs.Common.{◌≡◌, ℕ, eqb, Bool, true, false, ◌||◌, Option, Some, None, refl, sym, ◌∙◌}
-use Rattle.std.proofs.lemmas.Bool.{false_from_ne_true}
+use Rattle.std.proofs.Common.{◌≡◌, Bool, true, false, ◌||◌, None, refl}
 use Rattle.cbor_map.specs.declared.fault.Fault.{Fault}
 use Rattle.cbor_map.specs.declared.fault.Fault.TheVariants as faults
 use Rattle.ccbor.specs.Item.{Item}
-use Rattle.cbor_map.specs.Table.{Holds, place, fails, within, has_fault, gravest, Clean}
+use Rattle.cbor_map.specs.Table.{Holds, fails, has_fault, gravest, Clean}
 
 pub or_none : (a b : Bool) → (a || b) ≡ false → (a ≡ false) × (b ≡ false)
 or_none false b e = (refl, e)
@@ -21,10 +20,6 @@ holds faults.UnlistedKey false e = absurd cc
 holds faults.MissingMember false e = absurd cc
 holds faults.InvalidSize false e = absurd cc
 holds faults.OverLimit false e = absurd cc
-
-pub there : {A : Type 0} (inside : Fault → A → Bool) (o : Option A) → ((f : Fault) → within f (inside f) o ≡ false) → (a : A) × (o ≡ Some a) × ((f : Fault) → inside f a ≡ false)
-there inside (Some a) clean = (a, refl, clean)
-there inside None clean = let e = clean faults.AnotherKind in absurd cc
 
 -- ---- the gravest fault
 

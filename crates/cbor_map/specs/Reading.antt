@@ -63,9 +63,6 @@ taken_from None ps = (None, ps)
 abbrev pub take_key : Item → Pairs → Option Item × Pairs
 take_key k ps = taken_from (split_key k ps) ps
 
-abbrev pub then_members : {A B : Type 0} → (Pairs → Option B) → Pairs → Option A → Option (A × B)
-then_members members ps read = read >>= λ a. members ps >>= λ rest. Some (a, rest)
-
 abbrev pub member_in : {A B : Type 0} → (required : Bool) → Item → (Item → Option A) → (Pairs → Option B) → Pairs → Option (Member required A × B)
 member_in true k f members ps = split_key k ps >>= λ m. f m.0 >>= λ a. members m.1 >>= λ rest. Some (a, rest)
 member_in false k f members ps = maybe f (take_key k ps).0 >>= λ a. members (take_key k ps).1 >>= λ rest. Some (a, rest)

@@ -56,9 +56,5 @@ pub fn optional<'a>(members: MapView<'a>, key: Key<'_>) -> (Option<View<'a>>, Ma
 pub fn end(members: &MapView<'_>) -> Result<(), Shape>
     ensures { Yields (λ u. u) result (checked (is_end (shown_pairs members.now))) }
 {
-    if members.is_end() {
-        Ok(())
-    } else {
-        Err(Shape)
-    }
+    if members.is_end() { Ok(()) } else { Err(Shape) }
 }

@@ -1,12 +1,11 @@
 -- What the bytes of a reply say of it.
 use Rattle.std.proofs.Common.{◌≡◌, ◌≢◌, ℕ, List, [], ◌∷◌, Option, Some, None, option_map, refl, sym, ap, subst, ◌∙◌, true, Result, Ok, Err}
 use Rattle.std.specs.Prelude.{IsErrOf}
-use Rattle.replies.specs.Pieces.{WrittenValue, WrittenMap}
+use Rattle.replies.specs.Pieces.{WrittenMap}
 use Rattle.ccbor.specs.Item.{Item}
 use Rattle.ccbor.specs.Canon.{head, before, Canon}
-use Rattle.ccbor.proofs.Numbers.{some_is}
 use Rattle.ccbor.proofs.Decoding.{one_reading}
-use Rattle.cbor_map.specs.Table.{Holds, record_of, Members, has_fault, gravest, Clean}
+use Rattle.cbor_map.specs.Table.{record_of, Members, has_fault, gravest}
 use Rattle.cbor_map.specs.Content.{Contents, item_of}
 use Rattle.cbor_map.specs.Reading.{Fails, read_in}
 use Rattle.cbor_map.specs.declared.error.Error.{Error as MapError}
@@ -19,8 +18,7 @@ use Rattle.cbor_map.proofs.Laws.{read_is, read_clean, clean_read, unread_faulty,
 use Rattle.cbor_map.proofs.Tests.{clean_if_none, none_if_clean}
 use Rattle.ctap_status.specs.declared.error.Error.{Error}
 use Rattle.ctap_status.specs.declared.error.Error.TheVariants as errors
-use Rattle.replies.specs.Replies.{credential_content, reply_user_members, reply_user_content, Creation, creation_reply_members, creation_reply_content, creation_reply_item, Assertion, assertion_reply_members, assertion_reply_content, assertion_reply_item, next_reply_members, Info, info_members, info_content, info_item, ReplyMessage, creation_reply, assertion_reply, next_reply, info_reply, reset_reply, kind_of, MapReply, ReplyOf, IsReply, IsNoReply, ReplyRefused}
-use Rattle.replies.specs.declared.reply.Kind.{Kind}
+use Rattle.replies.specs.Replies.{credential_content, reply_user_members, reply_user_content, Creation, creation_reply_members, creation_reply_content, Assertion, assertion_reply_members, assertion_reply_content, assertion_reply_item, next_reply_members, Info, info_members, info_content, ReplyMessage, creation_reply, assertion_reply, next_reply, info_reply, reset_reply, kind_of, MapReply, ReplyOf, IsReply, IsNoReply, ReplyRefused}
 use Rattle.replies.specs.declared.reply.Kind.TheVariants as kinds
 
 pub same_item : (v w : Item) (bs : List ℕ) → Canon v bs → Canon w bs → v ≡ w
@@ -172,18 +170,34 @@ module _ (v : Item) (rest : List ℕ) (canon : Canon v rest) where
         only is reset_reply k h = absurd cc
 
   pub next_none : read_in (record_of assertion_reply_members) v ≡ None → ReplyRefused kinds.GetNextAssertion (0 ∷ rest) errors.Shape
-  next_none none = (rest, refl, (v, canon, λ e.
-      let c = clean_read (record_of next_reply_members) next_ordered v 4 canon.0 e in
-      let is = read_is (record_of next_reply_members) next_ordered v c.0 c.1 in
-      let fit : gravest (record_of assertion_reply_members) v ≡ None = none_if_clean (record_of assertion_reply_members) v (λ f. ap (has_fault f (record_of assertion_reply_members)) is ∙ same_faults c.0 f ∙ ap (has_fault f (record_of next_reply_members)) (sym is) ∙ clean_if_none (record_of next_reply_members) v e f) in
-      unread_faulty (record_of assertion_reply_members) assertion_ordered v 4 canon.0 none fit))
+  next_none none = (
+    rest,
+    refl,
+    (
+      v,
+      canon,
+      λ e.
+          let c = clean_read (record_of next_reply_members) next_ordered v 4 canon.0 e in
+          let is = read_is (record_of next_reply_members) next_ordered v c.0 c.1 in
+          let fit : gravest (record_of assertion_reply_members) v ≡ None = none_if_clean (record_of assertion_reply_members) v (λ f. ap (has_fault f (record_of assertion_reply_members)) is ∙ same_faults c.0 f ∙ ap (has_fault f (record_of next_reply_members)) (sym is) ∙ clean_if_none (record_of next_reply_members) v e f) in
+          unread_faulty (record_of assertion_reply_members) assertion_ordered v 4 canon.0 none fit,
+    ),
+  )
 
   pub next_numbered : (q : Assertion) (n : ℕ) → read_in (record_of assertion_reply_members) v ≡ Some (assertion_reply_content q) → q.number ≡ Some n → ReplyRefused kinds.GetNextAssertion (0 ∷ rest) errors.Shape
-  next_numbered q n read some = (rest, refl, (v, canon, λ e.
-      let is = read_is (record_of assertion_reply_members) assertion_ordered v (assertion_reply_content q) read in
-      let fault = ap (has_fault faults.UnlistedKey (record_of next_reply_members)) is ∙ numbered_fault q n some in
-      let clean = clean_if_none (record_of next_reply_members) v e faults.UnlistedKey in
-      let both = sym fault ∙ clean in absurd cc))
+  next_numbered q n read some = (
+    rest,
+    refl,
+    (
+      v,
+      canon,
+      λ e.
+          let is = read_is (record_of assertion_reply_members) assertion_ordered v (assertion_reply_content q) read in
+          let fault = ap (has_fault faults.UnlistedKey (record_of next_reply_members)) is ∙ numbered_fault q n some in
+          let clean = clean_if_none (record_of next_reply_members) v e faults.UnlistedKey in
+          let both = sym fault ∙ clean in absurd cc,
+    ),
+  )
 
 -- ---- what is refused, want of memory aside, is no reply
 

@@ -1,8 +1,8 @@
 -- What the private functions of replies are proved against; no public clause cites it.
-use Rattle.std.specs.Prelude.{◌≡◌, ℕ, List, ◌∷◌, None, Result, Ok, Err}
+use Rattle.std.specs.Prelude.{◌≡◌, ℕ, List, ◌∷◌, Result, Ok, Err}
 use Rattle.ccbor.specs.Item.{Item}
 use Rattle.ccbor.specs.Canon.{Canon}
-use Rattle.cbor_map.specs.Table.{Members, record_of, gravest}
+use Rattle.cbor_map.specs.Table.{Members}
 use Rattle.ctap_status.specs.declared.error.Error.{Error}
 use Rattle.ctap_status.specs.declared.error.Error.TheVariants as errors
 use Rattle.replies.specs.Replies.{MapReply}

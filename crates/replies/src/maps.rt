@@ -10,8 +10,8 @@ ghost use Rattle.replies.specs.ReplyView.{creation_reply_view, assertion_seen, i
 
 use crate::reply::{AssertionView, CreationReply, InfoReply};
 use cbor_map::{
-    Error, Shape, any_map, bytes, end, items, members, optional, required, sized, text, that_text, truth,
-    unsigned,
+    Error, Shape, any_map, bytes, end, items, members, optional, required, sized, text, that_text,
+    truth, unsigned,
 };
 use ccbor::{Key, View};
 use std::alloc::Global;

@@ -40,7 +40,11 @@ const NEXT_REPLY: Holds = Holds::Record(&[
 
 const INFO: Holds = Holds::Record(&[
     (Key::Uint(1), true, Holds::List(&Holds::Text)),
-    (Key::Uint(3), true, Holds::Sized(16, 16, Fault::OverLimit, &Holds::Bytes)),
+    (
+        Key::Uint(3),
+        true,
+        Holds::Sized(16, 16, Fault::OverLimit, &Holds::Bytes),
+    ),
     (Key::Uint(4), true, Holds::Truths),
     (Key::Uint(5), true, Holds::Unsigned(0)),
     (Key::Uint(7), true, Holds::Unsigned(0)),
