@@ -72,6 +72,11 @@ abbrev pub pairs_first : Pairs → Option (Item × Item × Pairs)
 pairs_first no_pairs = None
 pairs_first (pair k v ps) = Some (k, v, ps)
 
+-- the first item, and the items behind it
+abbrev pub items_first : Items → Option (Item × Items)
+items_first no_items = None
+items_first (item x xs) = Some (x, xs)
+
 -- how many items an array has, or pairs a map; other values have none
 abbrev pub len_in : Item → ℕ
 len_in (array xs) = count_of_items xs

@@ -1,14 +1,20 @@
 -- What encoded bytes show, where they lie: a value, or the pairs of a map that are left.
 use Rattle.std.specs.Prelude.{◌≡◌, ◌==◌, ℕ, List, [], length, Option, Some, None, if◌then◌else◌}
-use Rattle.ccbor.specs.Item.{Item, uint, nint, bytes, text, array, map, boolean, Pairs, no_pairs}
-use Rattle.ccbor.specs.Canon.{count_of_items, count_of_pairs, spelling_of_items, spelling_of_pairs, PairsFit}
-use Rattle.ccbor.specs.Reading.{Read, item_at, pairs_at}
+use Rattle.ccbor.specs.Item.{Item, uint, nint, bytes, text, array, map, boolean, Items, no_items, Pairs, no_pairs}
+use Rattle.ccbor.specs.Canon.{count_of_items, count_of_pairs, spelling_of_items, spelling_of_pairs, ItemsFit, PairsFit}
+use Rattle.ccbor.specs.Reading.{Read, item_at, items_at, pairs_at}
 
 -- the bytes are these n pairs, as they may stand in a map
 pub record ArePairs (ps : Pairs) (n : ℕ) (bs : List ℕ) : Type 0 where
   pub count : n ≡ count_of_pairs ps
   pub spelled : bs ≡ spelling_of_pairs ps
   pub fit : PairsFit 3 [] ps
+
+-- the bytes are these n items, as they may stand in an array
+pub record AreItems (xs : Items) (n : ℕ) (bs : List ℕ) : Type 0 where
+  pub count : n ≡ count_of_items xs
+  pub spelled : bs ≡ spelling_of_items xs
+  pub fit : ItemsFit 3 xs
 
 abbrev pub read_or : {A : Type 0} → A → Read A → A
 read_or other (Some x) = x.0
@@ -21,6 +27,10 @@ shown bs = read_or (uint 0) (item_at 4 bs)
 -- the n pairs that the bytes encode, which are the only ones; none where they encode no such
 abbrev pub shown_pairs : ℕ × List ℕ → Pairs
 shown_pairs m = read_or no_pairs (pairs_at (item_at 3) [] m.0 m.1)
+
+-- the n items that the bytes encode, which are the only ones; none where they encode no such
+abbrev pub shown_items : ℕ × List ℕ → Items
+shown_items m = read_or no_items (items_at (item_at 3) m.0 m.1)
 
 -- ---- what private functions are proved against
 

@@ -48,5 +48,5 @@ pub use error::Error;
 pub use law::{nothing_first, one_spelling, shown_values};
 pub use reading::{decode, decode_all};
 pub use value::{Key, MAX_DEPTH, Value};
-pub use view::{MapView, View};
+pub use view::{ArrayView, MapView, View};
 pub use writing::encode;

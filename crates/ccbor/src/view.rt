@@ -4,9 +4,9 @@ ghost use Rattle.std.specs.Prelude.{◌≡◌, ◌⊎◌, ◌<◌, ◌≤◌, �
 ghost use Rattle.ccbor.specs.declared.error.Error.TheVariants as errors;
 ghost use Rattle.ccbor.specs.Item.{Item, Pairs, no_pairs, pair};
 ghost use Rattle.ccbor.specs.Canon.{Canon};
-ghost use Rattle.ccbor.specs.Access.{uint_in, nint_in, bool_in, bytes_in, text_in, pairs_in, len_in, item_in, pair_in, pairs_first, key_item, is_same_key, member, split_key, is_end};
+ghost use Rattle.ccbor.specs.Access.{uint_in, nint_in, bool_in, bytes_in, text_in, items_in, pairs_in, len_in, item_in, pair_in, items_first, pairs_first, key_item, is_same_key, member, split_key, is_end};
 ghost use Rattle.ccbor.specs.View.{view};
-ghost use Rattle.ccbor.specs.Viewing.{ArePairs, parts_in, shown, shown_pairs};
+ghost use Rattle.ccbor.specs.Viewing.{ArePairs, parts_in, shown, shown_items, shown_pairs};
 
 use crate::error::Error;
 use crate::head::{ARRAY, BYTES, MAP, NEGATIVE, SIMPLE, TEXT, TRUE, UNSIGNED, head_at};
@@ -34,6 +34,25 @@ impl<'a> Model for View<'a> {
     ghost view = { λ v. v.bytes.now };
 
     ghost invariant = { λ v. Canon (shown v.bytes.now) v.bytes.now };
+}
+
+/// The items of an array that are left, as their encoding shows them. A contract sees how many
+/// there are, and their bytes.
+#[derive(Drop)]
+pub struct ArrayView<'a> {
+    bytes: &'a [u8],
+    left: u64,
+}
+
+impl<'a> Model for ArrayView<'a> {
+    ghost use Rattle.std.specs.Prelude.{ℕ, List};
+    ghost use Rattle.ccbor.specs.Viewing.{AreItems, shown_items};
+
+    ghost Value = { ℕ × List ℕ };
+
+    ghost view = { λ m. (m.left, m.bytes.now) };
+
+    ghost invariant = { λ m. AreItems (shown_items (m.left, m.bytes.now)) m.left m.bytes.now };
 }
 
 /// The pairs of a map that are left, as their encoding shows them. A contract sees how
@@ -224,6 +243,14 @@ impl<'a> View<'a> {
         Some(content)
     }
 
+    /// The items, if this is an array.
+    pub fn as_array(&self) -> Option<ArrayView<'a>>
+        ensures { option_map shown_items result ≡ items_in (shown self.now) }
+    {
+        let (left, bytes) = parts(self.bytes, ARRAY)?;
+        Some(ArrayView { bytes, left })
+    }
+
     /// The pairs of key and value, if this is a map.
     pub fn as_map(&self) -> Option<MapView<'a>>
         ensures { option_map shown_pairs result ≡ pairs_in (shown self.now) }
@@ -280,6 +307,27 @@ impl<'a> View<'a> {
         ensures { result ≡ is_same_key (shown self.now) (key_item key.entry) }
     {
         is_key(self.bytes, key)
+    }
+}
+
+impl<'a> ArrayView<'a> {
+    /// The first item, and the items behind it.
+    pub fn split_first(&self) -> Option<(View<'a>, ArrayView<'a>)>
+        ensures parts { option_map (λ r. (shown r.0, shown_items r.1)) result
+            ≡ items_first (shown_items self.now) }
+        ensures fewer { IfSome result (λ r. r.1.0 + 1 ≡ self.now.0) }
+    {
+        if self.left == 0 {
+            return None;
+        }
+        let (item, rest) = known_front(self.bytes)?;
+        Some((
+            View { bytes: item },
+            ArrayView {
+                bytes: rest,
+                left: self.left - 1,
+            },
+        ))
     }
 }
 

@@ -12,11 +12,11 @@ use Rattle.first_line.proofs.Laws.{first_at, none_first, one_first}
 use Rattle.ccbor.specs.Item.{Item}
 use Rattle.ccbor.specs.Canon.{Canon}
 use Rattle.ctapmsg.specs.Replies.{HasOtherShape, assertion_reply_item}
-use Rattle.ctapmsg.specs.declared.reply.Kind.TheVariants as kinds
-use Rattle.ctapmsg.specs.declared.error.Error.TheVariants as refusals
-use Rattle.ctapmsg.proofs.OneRank.{same_item}
-use Rattle.ctapmsg.proofs.AssertionTaken.{assertion_items}
-use Rattle.ctapmsg.proofs.RepliesAnswered.{never_both}
+use Rattle.replies.specs.declared.reply.Kind.TheVariants as kinds
+use Rattle.ctap_status.specs.declared.error.Error.TheVariants as refusals
+use Rattle.replies.proofs.Laws.{same_item}
+use Rattle.replies.proofs.Laws.{assertion_items}
+use Rattle.replies.proofs.Laws.{never_both}
 use Rattle.site.specs.State.{State}
 use Rattle.site.specs.Steps.{Relation, IsFirstFailing, steps}
 use Rattle.site.specs.declared.error.SignInRefusal.{SignInRefusal}

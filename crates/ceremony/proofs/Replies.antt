@@ -1,9 +1,9 @@
 -- What a message that is no reply says, in the sign-in's words.
 use Rattle.std.proofs.Common.{ℕ, List}
 use Rattle.ctapmsg.specs.Replies.{ReplyRefused}
-use Rattle.ctapmsg.specs.declared.reply.Kind.TheVariants as kinds
-use Rattle.ctapmsg.specs.declared.error.Error.{Error as MessageError}
-use Rattle.ctapmsg.specs.declared.error.Error.TheVariants as messages
+use Rattle.replies.specs.declared.reply.Kind.TheVariants as kinds
+use Rattle.ctap_status.specs.declared.error.Error.{Error as MessageError}
+use Rattle.ctap_status.specs.declared.error.Error.TheVariants as messages
 use Rattle.ceremony.specs.MessageErrors.{IsOfReply, unread}
 use Rattle.ceremony.specs.Reply.{IsUnread}
 

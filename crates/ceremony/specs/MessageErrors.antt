@@ -1,6 +1,6 @@
 -- A refusal of `ctapmsg`'s as one of the sign-in's.
-use Rattle.ctapmsg.specs.declared.error.Error.{Error as MessageError}
-use Rattle.ctapmsg.specs.declared.error.Error.TheVariants as messages
+use Rattle.ctap_status.specs.declared.error.Error.{Error as MessageError}
+use Rattle.ctap_status.specs.declared.error.Error.TheVariants as messages
 use Rattle.ceremony.specs.declared.error.Error.{Error}
 use Rattle.ceremony.specs.declared.error.Error.TheVariants as errors
 

@@ -2,8 +2,8 @@
 use Rattle.std.specs.Prelude.{ℕ, List}
 use Rattle.ctapmsg.specs.Replies.{Assertion, assertion_reply, ReplyRefused}
 use Rattle.ctapmsg.specs.Replies as messages
-use Rattle.ctapmsg.specs.declared.reply.Kind.TheVariants as kinds
-use Rattle.ctapmsg.specs.declared.error.Error.TheVariants as refusals
+use Rattle.replies.specs.declared.reply.Kind.TheVariants as kinds
+use Rattle.ctap_status.specs.declared.error.Error.TheVariants as refusals
 use Rattle.ceremony.specs.declared.error.Error.{Error}
 use Rattle.ceremony.specs.declared.error.Error.TheVariants as errors
 

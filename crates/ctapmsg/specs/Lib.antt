@@ -1,13 +1,9 @@
 pub mod Numbers
+pub mod StatusNumbers
 pub mod Schema
-pub mod HoldsView
 pub mod Entities
 pub mod Requests
 pub mod RequestView
 pub mod Status
 pub mod Replies
 pub mod ReplyView
-pub mod Fields
-pub mod Building
-pub mod Pieces
-pub mod StatusNumbers

@@ -1,13 +1,2 @@
--- The numbers of this product's refusals. Want of memory is none, and a request's status is a byte of CTAP.
-use Rattle.std.specs.Prelude.{ℕ, Option, Some, None}
-use Rattle.ctapmsg.specs.declared.error.Error.{Error}
-use Rattle.ctapmsg.specs.declared.error.Error.TheVariants as errors
-
-abbrev pub refusal_number : Error → Option ℕ
-refusal_number errors.Memory = None
-refusal_number errors.Unfit = Some 1
-refusal_number errors.NotCanonical = Some 2
-refusal_number errors.Shape = Some 13
-refusal_number errors.Empty = Some 17
-refusal_number (errors.Refused s) = Some 18
-refusal_number (errors.Status s) = None
+-- The numbers of refusals; the crate `ctap_status` defines them.
+pub use Rattle.ctap_status.specs.Numbers.{refusal_number}

@@ -1,0 +1,10 @@
+pub mod Tests
+pub mod Fronts
+pub mod Ordered
+pub mod Rebuilt
+pub mod Sound
+pub mod Complete
+pub mod OneContent
+pub mod Tables
+pub mod Laws
+pub mod Maps

@@ -1,0 +1,212 @@
+-- What is read by a table is the content of the value, and the value has no fault.
+use Rattle.std.proofs.Common.{◌≡◌, ℕ, Bool, true, false, List, [], ◌∷◌, map, Option, Some, None, refl, sym, ap, subst, ◌∙◌, pos, negsuc, nat_le, nat_lt}
+use Rattle.std.proofs.lemmas.Option.{cond_some}
+use Rattle.ccbor.specs.Item as of
+use Rattle.ccbor.specs.Item.{Item, Items, no_items, item, Pairs, no_pairs, pair}
+use Rattle.ccbor.specs.Canon.{before, spelling}
+use Rattle.ccbor.specs.Reading.{◌>>=◌}
+use Rattle.ccbor.specs.View.{items_of, pairs_of}
+use Rattle.ccbor.specs.Access.{split_key, is_same_key}
+use Rattle.ccbor.proofs.Numbers.{bind_some, some_is}
+use Rattle.ccbor.proofs.KeyOrder.{before_trans}
+use Rattle.ccbor.proofs.AccessLemmas.{same_key, split_key_takes}
+use Rattle.cbor_map.specs.declared.fault.Fault.{Fault}
+use Rattle.cbor_map.specs.Table.{Holds, a_number, some_bytes, a_text, a_truth, any_map, that_text, unsigned, truths, list_of, record_of, not_empty, sized, Members, no_more, listed, size_of, any_item, is_listed, all_keys, all_truths, has_fault, in_members, Clean}
+use Rattle.cbor_map.specs.Content.{Content, Contents, number_item, truth_pair, item_of, members_item}
+use Rattle.cbor_map.specs.Reading.{checked, is_within, each_truth, each_in, maybe, taken_from, read_in, members_in}
+use Rattle.cbor_map.proofs.Tests.{none_or}
+use Rattle.cbor_map.proofs.Ordered.{IsOrdered, IsOrderedFrom, differ, not_there, listed_too}
+
+abbrev pub IsSound : Holds → Type 0
+IsSound h = (x : Item) (c : Content h) → read_in h x ≡ Some c → (x ≡ item_of h c) × Clean h x
+
+-- these are the pairs of the members' contents, and they have no fault
+pub record AreMembers (ms : Members) (ps : Pairs) (c : Contents ms) : Type 0 where
+  pub is : ps ≡ members_item ms c
+  pub keys : all_keys (is_listed ms) ps ≡ true
+  pub clean : (f : Fault) → in_members f ms (of.map ps) ≡ false
+
+abbrev pub AreSound : Members → Type 0
+AreSound ms = (ps : Pairs) (c : Contents ms) → members_in ms ps ≡ Some c → AreMembers ms ps c
+
+cond_some_of : {A : Type 0} (b : Bool) (o : Option A) (c : A) → (checked b >>= λ u. o) ≡ Some c → (b ≡ true) × (o ≡ Some c)
+cond_some_of true o c e = (refl, e)
+cond_some_of false o c e = absurd cc
+
+-- ---- values that are no records
+
+sound_number : IsSound a_number
+sound_number (of.uint n) c e = (ap number_item (some_is (pos n) c e), λ f. refl)
+sound_number (of.nint n) c e = (ap number_item (some_is (negsuc n) c e), λ f. refl)
+sound_number _ c e = absurd cc
+
+sound_bytes : IsSound some_bytes
+sound_bytes (of.bytes bs) c e = (ap of.bytes (some_is bs c e), λ f. refl)
+sound_bytes _ c e = absurd cc
+
+sound_text : IsSound a_text
+sound_text (of.text s) c e = (ap of.text (some_is s c e), λ f. refl)
+sound_text _ c e = absurd cc
+
+sound_truth : IsSound a_truth
+sound_truth (of.boolean b) c e = (ap of.boolean (some_is b c e), λ f. refl)
+sound_truth _ c e = absurd cc
+
+sound_map : IsSound any_map
+sound_map (of.map ps) c e = (some_is (of.map ps) c e, λ f. refl)
+sound_map _ c e = absurd cc
+
+sound_that : (t : List ℕ) → IsSound (that_text t)
+sound_that t x c e =
+    let s = cond_some (is_same_key x (of.text t)) tt c e in
+    (same_key x (of.text t) s.0, λ f. rw s.0 refl)
+
+sound_unsigned : (low : ℕ) → IsSound (unsigned low)
+sound_unsigned low (of.uint n) c e = let s = cond_some (nat_le low n) n c e in (ap of.uint s.1, λ f. rw s.0 refl)
+sound_unsigned low _ c e = absurd cc
+
+truths_read : (ps : Pairs) (c : List (List ℕ × Bool)) → each_truth ps ≡ Some c → (ps ≡ pairs_of (map truth_pair c)) × (all_truths ps ≡ true)
+truths_read no_pairs c e = (ap (λ (os : List (List ℕ × Bool)). pairs_of (map truth_pair os)) (some_is [] c e), refl)
+truths_read (pair (of.text k) (of.boolean b) ps) c e =
+    let rest = bind_some (each_truth ps) (λ (os : List (List ℕ × Bool)). Some ((k, b) ∷ os)) c e in
+    let inner = truths_read ps rest.0 rest.1 in (
+      ap (λ (qs : Pairs). pair (of.text k) (of.boolean b) qs) inner.0 ∙ ap (λ (os : List (List ℕ × Bool)). pairs_of (map truth_pair os)) (some_is ((k, b) ∷ rest.0) c rest.2),
+      inner.1,
+    )
+truths_read (pair _ _ ps) c e = absurd cc
+
+sound_truths : IsSound truths
+sound_truths (of.map ps) c e = let r = truths_read ps c e in (ap of.map r.0, λ f. rw r.1 refl)
+sound_truths _ c e = absurd cc
+
+-- ---- lists
+
+each_sound : (h : Holds) → IsSound h → (xs : Items) (cs : List (Content h)) → each_in (read_in h) xs ≡ Some cs → (xs ≡ items_of (map (item_of h) cs)) × ((f : Fault) → any_item (has_fault f h) xs ≡ false)
+each_sound h sound no_items cs e = (ap (λ (l : List (Content h)). items_of (map (item_of h) l)) (some_is [] cs e), λ f. refl)
+each_sound h sound (item x xs) cs e =
+    let a = bind_some (read_in h x) (λ a. each_in (read_in h) xs >>= λ rest. Some (a ∷ rest)) cs e in
+    let r = bind_some (each_in (read_in h) xs) (λ rest. Some (a.0 ∷ rest)) cs a.2 in
+    let first = sound x a.0 a.1 in
+    let inner = each_sound h sound xs r.0 r.1 in (
+      ap (λ (i : Item). item i xs) first.0 ∙ ap (λ (is : Items). item (item_of h a.0) is) inner.0 ∙ ap (λ (l : List (Content h)). items_of (map (item_of h) l)) (some_is (a.0 ∷ r.0) cs r.2),
+      λ f. none_or (has_fault f h x) (any_item (has_fault f h) xs) (first.1 f) (inner.1 f),
+    )
+
+sound_list : (h : Holds) → IsSound h → IsSound (list_of h)
+sound_list h sound (of.array xs) c e = let r = each_sound h sound xs c e in (ap of.array r.0, r.1)
+sound_list h sound _ c e = absurd cc
+
+-- ---- records
+
+split_same : (k : Item) (ps : Pairs) (m : Item × Pairs) → split_key k ps ≡ Some m → is_same_key k k ≡ true
+split_same k no_pairs m e = absurd cc
+split_same k (pair l v ps) m e =
+    let s = cond_some (is_same_key l k) (v, ps) m e in
+    ap (λ (i : Item). is_same_key i k) (sym (same_key l k s.0)) ∙ s.0
+
+-- a front pair before all of a table's keys has no part in it
+passes : (f : Fault) (k v : Item) (ps : Pairs) (ms : Members) (last : List ℕ) → ((x : List ℕ) → before last x ≡ true → before (spelling k) x ≡ true) → IsOrderedFrom last ms
+    → in_members f ms (of.map (pair k v ps)) ≡ in_members f ms (of.map ps)
+passes f k v ps no_more last up ordered = refl
+passes f k v ps (listed l r h ms) last up ordered =
+    let after = up (spelling l) ordered.0 in
+    let other = differ k l after in
+    let inner = passes f k v ps ms (spelling l) (λ x b. before_trans (spelling k) (spelling l) x after b) ordered.2 in
+    rw (other, inner) refl
+
+front : (k : Item) (r : Bool) (h : Holds) (ms : Members) (v : Item) (ps : Pairs) → IsOrderedFrom (spelling k) ms → is_same_key k k ≡ true → Clean h v
+    → all_keys (is_listed ms) ps ≡ true → ((f : Fault) → in_members f ms (of.map ps) ≡ false)
+    → (all_keys (is_listed (listed k r h ms)) (pair k v ps) ≡ true) × ((f : Fault) → in_members f (listed k r h ms) (of.map (pair k v ps)) ≡ false)
+front k r h ms v ps ordered same clean keys rest = (
+  rw (same, listed_too k r h ms ps keys) refl,
+  λ f. rw (same, clean f, passes f k v ps ms (spelling k) (λ x b. b) ordered) (rest f),
+)
+
+sound_required : (k : Item) (h : Holds) (ms : Members) → IsOrderedFrom (spelling k) ms → IsSound h → AreSound ms → AreSound (listed k true h ms)
+sound_required k h ms ordered sound others ps c e =
+    let m = bind_some (split_key k ps) _ c e in
+    let a = bind_some (read_in h m.0.0) _ c m.2 in
+    let r = bind_some (members_in ms m.0.1) _ c a.2 in
+    let value = sound m.0.0 a.0 a.1 in
+    let rest = others m.0.1 r.0 r.1 in
+    let is = split_key_takes k ps m.0 m.1 in
+    let whole = front k true h ms m.0.0 m.0.1 ordered (split_same k ps m.0 m.1) value.1 rest.keys rest.clean in
+    record {
+      is = is ∙ ap (λ (i : Item). pair k i m.0.1) value.0 ∙ ap (λ (q : Pairs). pair k (item_of h a.0) q) rest.is ∙ ap (members_item (listed k true h ms)) (some_is (a.0, r.0) c r.2);
+      keys = subst (λ (q : Pairs). all_keys (is_listed (listed k true h ms)) q ≡ true) (sym is) whole.0;
+      clean = λ f. subst (λ (q : Pairs). in_members f (listed k true h ms) (of.map q) ≡ false) (sym is) (whole.1 f);
+    }
+
+optional_there : (k : Item) (h : Holds) (ms : Members) → IsOrderedFrom (spelling k) ms → IsSound h → AreSound ms → (ps : Pairs) (c : Contents (listed k false h ms)) (m : Item × Pairs) → split_key k ps ≡ Some m
+    → (maybe (read_in h) (Some m.0) >>= λ a. members_in ms m.1 >>= λ rest. Some (a, rest)) ≡ Some c → AreMembers (listed k false h ms) ps c
+optional_there k h ms ordered sound others ps c m s e =
+    let b = bind_some (maybe (read_in h) (Some m.0)) _ c e in
+    let a = bind_some (read_in h m.0) (λ a. Some (Some a)) b.0 b.1 in
+    let r = bind_some (members_in ms m.1) _ c b.2 in
+    let value = sound m.0 a.0 a.1 in
+    let rest = others m.1 r.0 r.1 in
+    let is = split_key_takes k ps m s in
+    let whole = front k false h ms m.0 m.1 ordered (split_same k ps m s) value.1 rest.keys rest.clean in
+    let made : Contents (listed k false h ms) = (Some a.0, r.0) in
+    let same : made ≡ c = ap (λ (o : Option (Content h)). (o, r.0)) (some_is (Some a.0) b.0 a.2) ∙ some_is (b.0, r.0) c r.2 in
+    record {
+      is = is ∙ ap (λ (i : Item). pair k i m.1) value.0 ∙ ap (λ (q : Pairs). pair k (item_of h a.0) q) rest.is ∙ ap (members_item (listed k false h ms)) same;
+      keys = subst (λ (q : Pairs). all_keys (is_listed (listed k false h ms)) q ≡ true) (sym is) whole.0;
+      clean = λ f. subst (λ (q : Pairs). in_members f (listed k false h ms) (of.map q) ≡ false) (sym is) (whole.1 f);
+    }
+
+optional_absent : (k : Item) (h : Holds) (ms : Members) → IsOrderedFrom (spelling k) ms → AreSound ms → (ps : Pairs) (c : Contents (listed k false h ms))
+    → (members_in ms ps >>= λ rest. Some (None, rest)) ≡ Some c → AreMembers (listed k false h ms) ps c
+optional_absent k h ms ordered others ps c e =
+    let r = bind_some (members_in ms ps) _ c e in
+    let rest = others ps r.0 r.1 in
+    let made : Contents (listed k false h ms) = (None, r.0) in
+    record {
+      is = rest.is ∙ ap (members_item (listed k false h ms)) (some_is made c r.2);
+      keys = listed_too k false h ms ps rest.keys;
+      clean = λ f. rw (not_there k ms ps ordered rest.keys) (rest.clean f);
+    }
+
+sound_optional : (k : Item) (h : Holds) (ms : Members) → IsOrderedFrom (spelling k) ms → IsSound h → AreSound ms → AreSound (listed k false h ms)
+sound_optional k h ms ordered sound others ps c e = go (split_key k ps) refl e where
+  go : (o : Option (Item × Pairs)) → split_key k ps ≡ o → (maybe (read_in h) (taken_from o ps).0 >>= λ a. members_in ms (taken_from o ps).1 >>= λ rest. Some (a, rest)) ≡ Some c → AreMembers (listed k false h ms) ps c
+  go (Some m) s g = optional_there k h ms ordered sound others ps c m s g
+  go None s g = optional_absent k h ms ordered others ps c g
+
+sound_end : AreSound no_more
+sound_end no_pairs c e = record { is = refl; keys = refl; clean = λ f. refl }
+sound_end (pair k v ps) c e = absurd cc
+
+sound_record : (ms : Members) → AreSound ms → IsSound (record_of ms)
+sound_record ms sound (of.map ps) c e =
+    let m = sound ps c e in
+    (ap of.map m.is, λ f. rw m.keys (m.clean f))
+sound_record ms sound _ c e = absurd cc
+
+-- ---- each table
+
+mutual
+  pub sound : (h : Holds) → IsOrdered h → IsSound h
+  sound a_number o = sound_number
+  sound some_bytes o = sound_bytes
+  sound a_text o = sound_text
+  sound a_truth o = sound_truth
+  sound any_map o = sound_map
+  sound (that_text t) o = sound_that t
+  sound (unsigned low) o = sound_unsigned low
+  sound truths o = sound_truths
+  sound (list_of h) o = sound_list h (sound h o)
+  sound (record_of ms) o = sound_record ms (sound_members ms [] o)
+  sound (not_empty here h) o = λ x c e.
+      let s = cond_some_of (nat_lt 0 (size_of x)) (read_in h x) c e in
+      let inner = sound h o x c s.1 in
+      (inner.0, λ f. rw (inner.1 f, s.0) refl)
+  sound (sized low high here h) o = λ x c e.
+      let s = cond_some_of (is_within low high x) (read_in h x) c e in
+      let inner = sound h o x c s.1 in
+      (inner.0, λ f. rw (inner.1 f, s.0) refl)
+
+  sound_members : (ms : Members) (last : List ℕ) → IsOrderedFrom last ms → AreSound ms
+  sound_members no_more last o = sound_end
+  sound_members (listed k true h ms) last o = sound_required k h ms o.2 (sound h o.1) (sound_members ms (spelling k) o.2)
+  sound_members (listed k false h ms) last o = sound_optional k h ms o.2 (sound h o.1) (sound_members ms (spelling k) o.2)

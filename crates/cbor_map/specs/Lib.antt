@@ -1,0 +1,5 @@
+pub mod Table
+pub mod TableView
+pub mod Content
+pub mod Reading
+pub mod Building

@@ -1,7 +1,0 @@
-use Rattle.std.proofs.Common.{◌≡◌, drop}
-use Rattle.ccbor.specs.View.{pairs_view}
-use Rattle.ctapmsg.specs.Schema.{all_truths}
-use Rattle.ctapmsg.proofs.ranks.all_truths.Given as goal
-
-abbrev pub invariant-loop-key : goal.invariant-loop-key
-invariant-loop-key l = all_truths (pairs_view (drop l.key-index l.pairs)) ≡ all_truths (pairs_view l.pairs)

@@ -1,8 +1,0 @@
-use Rattle.std.proofs.Common.{◌≡◌, take, map}
-use Rattle.std.specs.Prelude.{string_bytes}
-use Rattle.ctapmsg.specs.Building.{seen}
-use Rattle.ctapmsg.specs.Replies.{truth_pair}
-use Rattle.ctapmsg.proofs.reply_values.truths_value.Given as goal
-
-abbrev pub invariant-loop-name : goal.invariant-loop-name
-invariant-loop-name l = seen l.pairs.items ≡ map truth_pair (map (λ o. (string_bytes o.0, o.1)) (take l.name-index l.options))

@@ -1,7 +1,0 @@
-use Rattle.ctapmsg.proofs.HoldsLemmas.{holds-Record, holds-Sized, holds-Bytes, holds-ThatText}
-use Rattle.ctapmsg.proofs.tables.next_reply_rank.Goals as goal
-
-pub returns : goal.returns
-returns c =
-    let h = simp (holds-Record, holds-Sized, holds-Bytes, holds-ThatText) at c.rank_in.ensures in
-    h

@@ -1,0 +1,20 @@
+use Rattle.replies.specs.Replies.{creation_reply_members, assertion_reply_members, next_reply_members, info_members, creation_reply_item, assertion_reply_item, info_item}
+use Rattle.replies.specs.ReplyView.{creation_reply_view, assertion_reply_view, info_view}
+use Rattle.replies.proofs.Laws.{unfit_map}
+use Rattle.replies.proofs.writing.write_reply.Goals as goal
+
+pub returns-in-MakeCredential-clause-unfit : goal.returns-in-MakeCredential-clause-unfit
+returns-in-MakeCredential-clause-unfit c =
+    rw c.in-MakeCredential.is (unfit_map (λ v. v.items) creation_reply_members (creation_reply_item (creation_reply_view c.in-MakeCredential.reply)) c.creation_reply_bytes.result c.creation_reply_bytes.ensures)
+
+pub returns-in-GetAssertion-clause-unfit : goal.returns-in-GetAssertion-clause-unfit
+returns-in-GetAssertion-clause-unfit c =
+    rw c.in-GetAssertion.is (unfit_map (λ v. v.items) assertion_reply_members (assertion_reply_item (assertion_reply_view c.in-GetAssertion.reply)) c.assertion_reply_bytes.result c.assertion_reply_bytes.ensures)
+
+pub returns-in-GetNextAssertion-clause-unfit : goal.returns-in-GetNextAssertion-clause-unfit
+returns-in-GetNextAssertion-clause-unfit c =
+    rw c.in-GetNextAssertion.is (unfit_map (λ v. v.items) next_reply_members (assertion_reply_item (assertion_reply_view c.in-GetNextAssertion.reply)) c.next_reply_bytes.result c.next_reply_bytes.ensures)
+
+pub returns-in-GetInfo-clause-unfit : goal.returns-in-GetInfo-clause-unfit
+returns-in-GetInfo-clause-unfit c =
+    rw c.in-GetInfo.is (unfit_map (λ v. v.items) info_members (info_item (info_view c.in-GetInfo.reply)) c.info_reply_bytes.result c.info_reply_bytes.ensures)

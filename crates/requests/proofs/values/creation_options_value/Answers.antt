@@ -1,0 +1,14 @@
+use Rattle.std.proofs.Common.{◌∙◌, ap, codes}
+use Rattle.ccbor.specs.Item.{map, text}
+use Rattle.ccbor.proofs.Views.{view-Map}
+use Rattle.cbor_map.specs.Building.{seen}
+use Rattle.requests.proofs.Options.{three_options}
+use Rattle.requests.proofs.values.creation_options_value.Goals as goal
+
+pub returns : goal.returns
+returns c =
+    view-Map c.push_if_there-3.new.pairs
+    ∙ ap map (three_options (text (codes "rk")) (text (codes "up")) c.args.options.now.rk c.args.options.now.up
+    (seen c.new-pairs.result.items) (seen c.push_if_there.new.pairs.items) (seen c.push_if_there-2.new.pairs.items) _ _
+    (ap seen c.new-pairs.ensures.items) c.truth_if_there.ensures c.in_ok-push_if_there.ensures c.truth_if_there-2.ensures c.in_ok-push_if_there-2.ensures
+    (text (codes "uv")) c.args.options.now.uv (seen c.push_if_there-3.new.pairs.items) _ c.truth_if_there-3.ensures c.in_ok-push_if_there-3.ensures)

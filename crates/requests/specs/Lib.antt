@@ -1,0 +1,5 @@
+pub mod Entities
+pub mod Requests
+pub mod RequestView
+pub mod Status
+pub mod Pieces
