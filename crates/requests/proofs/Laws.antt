@@ -1,16 +1,16 @@
 -- What the bytes of a request say of it.
-use Rattle.std.proofs.Common.{◌≡◌, ◌≢◌, ℕ, Bool, true, false, List, [], ◌∷◌, map, Option, Some, None, option_map, refl, sym, ap, subst, ◌∙◌}
+use Rattle.std.proofs.Common.{◌≡◌, ◌≢◌, ℕ, List, [], ◌∷◌, map, Option, Some, None, option_map, refl, sym, ap, subst, ◌∙◌}
 use Rattle.ccbor.specs.Item as of
 use Rattle.ccbor.specs.Item.{Item, Pairs}
 use Rattle.ccbor.specs.Canon.{head, before, Canon}
 use Rattle.ccbor.proofs.Numbers.{some_is}
-use Rattle.cbor_map.specs.Table.{Holds, record_of, gravest, any_map}
+use Rattle.cbor_map.specs.Table.{record_of, gravest, any_map}
 use Rattle.cbor_map.specs.Content.{Contents, item_of}
 use Rattle.cbor_map.specs.Reading.{read_in}
 use Rattle.cbor_map.proofs.Ordered.{IsOrdered}
 use Rattle.cbor_map.proofs.Laws.{read_is, read_clean, unread_faulty, one_read}
 use Rattle.cbor_map.proofs.Maps.{IsMapIfThere, read_maps}
-use Rattle.requests.specs.Entities.{CredentialDescriptor, descriptor_members, descriptor_content, RpEntity, rp_members, rp_content, UserEntity, user_members, user_content, CredentialParameters, parameters_members, parameters_content, CreationFlags, creation_options_members, creation_options_content, AssertionFlags, assertion_options_members, assertion_options_content}
+use Rattle.requests.specs.Entities.{CredentialDescriptor, descriptor_members, descriptor_content, RpEntity, rp_members, UserEntity, user_members, CredentialParameters, parameters_members, parameters_content, CreationFlags, creation_options_members, creation_options_content, AssertionFlags, assertion_options_members, assertion_options_content}
 use Rattle.requests.specs.Requests.{RequestMessage, make_credential, get_assertion, get_next_assertion, get_info, reset, CreationRequest, creation_members, creation_content, creation_item, AssertionRequest, assertion_members, assertion_content, assertion_item, RequestOf}
 use Rattle.requests.specs.Pieces.{forget_creation, forget_assertion}
 use Rattle.requests.specs.Status.{IsRequest}

@@ -1,6 +1,5 @@
 -- What isn't written has no bytes that no rank applies to.
-use Rattle.std.proofs.Common.{◌≡◌, ◌^◌, ◌<◌, ℕ, true, false, eqb, List, [], ◌∷◌, map, Option, Some, None, refl, sym, subst, ◌∙◌, inl, inr, arith, Result, Ok, Err, IfOk, IfErr, ◌⊎◌, nat_lt, ℤ, pos, negsuc}
-use Rattle.std.proofs.lemmas.Bool.{cases_Bool, eqb-true}
+use Rattle.std.proofs.Common.{◌≡◌, ◌^◌, ◌<◌, ℕ, true, false, List, [], ◌∷◌, map, Option, Some, None, refl, sym, subst, ◌∙◌, inl, inr, arith, Result, Ok, Err, IfOk, IfErr, ◌⊎◌, nat_lt, ℤ, pos, negsuc}
 use Rattle.std.proofs.lemmas.Bool.Decides.{nat_tests}
 use Rattle.std.specs.Prelude.{IsErrOf}
 use Rattle.ccbor.specs.Item.{Item}

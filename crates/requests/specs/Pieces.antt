@@ -1,7 +1,6 @@
 -- What the private functions of requests are proved against; no public clause cites it.
 use Rattle.std.specs.Prelude.{◌≡◌, ℕ, ◌^◌, List, [], ◌∷◌, Bool, true, false, ◌&&◌, nat_lt, None, Result, Ok, Err, ℤ, pos, negsuc}
 use Rattle.ccbor.specs.Item.{Item}
-use Rattle.ccbor.specs.Canon.{Canon}
 use Rattle.ccbor.specs.View.{view}
 use Rattle.ccbor.specs.declared.value.Value.{Value}
 use Rattle.cbor_map.specs.Content.{Contents}

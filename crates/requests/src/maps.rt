@@ -13,9 +13,7 @@ ghost use Rattle.requests.specs.RequestView.{descriptor_view, creation_options_v
 use crate::entities::{
     assertion_options, creation_options, descriptors, parameter_list, relying_party, user,
 };
-use crate::request::{
-    AssertionOptions, CreationOptions, Descriptor, GetAssertion, MakeCredential,
-};
+use crate::request::{AssertionOptions, CreationOptions, Descriptor, GetAssertion, MakeCredential};
 use cbor_map::{
     Error, Shape, any_map, bytes, end, members, not_empty, optional, required, sized, text,
 };

@@ -10,17 +10,29 @@ use cbor_map::{Fault, Holds, gravest};
 use ccbor::{Key, Value};
 
 const DESCRIPTOR: Holds = Holds::Record(&[
-    (Key::Text("id"), true, Holds::Sized(1, 64, Fault::OverLimit, &Holds::Bytes)),
+    (
+        Key::Text("id"),
+        true,
+        Holds::Sized(1, 64, Fault::OverLimit, &Holds::Bytes),
+    ),
     (Key::Text("type"), true, Holds::Text),
 ]);
 
 const RELYING_PARTY: Holds = Holds::Record(&[
-    (Key::Text("id"), true, Holds::Sized(1, 253, Fault::OverLimit, &Holds::Text)),
+    (
+        Key::Text("id"),
+        true,
+        Holds::Sized(1, 253, Fault::OverLimit, &Holds::Text),
+    ),
     (Key::Text("name"), false, Holds::Text),
 ]);
 
 const USER: Holds = Holds::Record(&[
-    (Key::Text("id"), true, Holds::Sized(1, 64, Fault::OverLimit, &Holds::Bytes)),
+    (
+        Key::Text("id"),
+        true,
+        Holds::Sized(1, 64, Fault::OverLimit, &Holds::Bytes),
+    ),
     (Key::Text("name"), false, Holds::Text),
     (Key::Text("displayName"), false, Holds::Text),
 ]);
@@ -42,7 +54,11 @@ const ASSERTION_OPTIONS: Holds = Holds::Record(&[
 ]);
 
 const CREATION: Holds = Holds::Record(&[
-    (Key::Uint(1), true, Holds::Sized(32, 32, Fault::InvalidSize, &Holds::Bytes)),
+    (
+        Key::Uint(1),
+        true,
+        Holds::Sized(32, 32, Fault::InvalidSize, &Holds::Bytes),
+    ),
     (Key::Uint(2), true, RELYING_PARTY),
     (Key::Uint(3), true, USER),
     (Key::Uint(4), true, Holds::List(&PARAMETERS)),
@@ -56,12 +72,23 @@ const CREATION: Holds = Holds::Record(&[
 ]);
 
 const ASSERTION: Holds = Holds::Record(&[
-    (Key::Uint(1), true, Holds::Sized(1, 253, Fault::OverLimit, &Holds::Text)),
-    (Key::Uint(2), true, Holds::Sized(32, 32, Fault::InvalidSize, &Holds::Bytes)),
+    (
+        Key::Uint(1),
+        true,
+        Holds::Sized(1, 253, Fault::OverLimit, &Holds::Text),
+    ),
+    (
+        Key::Uint(2),
+        true,
+        Holds::Sized(32, 32, Fault::InvalidSize, &Holds::Bytes),
+    ),
     (
         Key::Uint(3),
         false,
-        Holds::NotEmpty(Fault::InvalidSize, &Holds::Sized(0, 8, Fault::OverLimit, &Holds::List(&DESCRIPTOR))),
+        Holds::NotEmpty(
+            Fault::InvalidSize,
+            &Holds::Sized(0, 8, Fault::OverLimit, &Holds::List(&DESCRIPTOR)),
+        ),
     ),
     (Key::Uint(4), false, Holds::AnyMap),
     (Key::Uint(5), false, ASSERTION_OPTIONS),

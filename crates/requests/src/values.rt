@@ -141,9 +141,24 @@ fn creation_options_value(alloc: Global, options: &CreationOptions) -> Result<Va
         ≡ item_of (record_of creation_options_members) (creation_options_content (creation_options_view options.now))) }
 {
     let mut pairs = Vec::new(alloc);
-    push_if_there(alloc, &mut pairs, Key::Text("rk"), truth_if_there(options.rk))?;
-    push_if_there(alloc, &mut pairs, Key::Text("up"), truth_if_there(options.up))?;
-    push_if_there(alloc, &mut pairs, Key::Text("uv"), truth_if_there(options.uv))?;
+    push_if_there(
+        alloc,
+        &mut pairs,
+        Key::Text("rk"),
+        truth_if_there(options.rk),
+    )?;
+    push_if_there(
+        alloc,
+        &mut pairs,
+        Key::Text("up"),
+        truth_if_there(options.up),
+    )?;
+    push_if_there(
+        alloc,
+        &mut pairs,
+        Key::Text("uv"),
+        truth_if_there(options.uv),
+    )?;
     Ok(Value::Map(pairs))
 }
 
@@ -166,8 +181,18 @@ fn assertion_options_value(alloc: Global, options: &AssertionOptions) -> Result<
         ≡ item_of (record_of assertion_options_members) (assertion_options_content (assertion_options_view options.now))) }
 {
     let mut pairs = Vec::new(alloc);
-    push_if_there(alloc, &mut pairs, Key::Text("up"), truth_if_there(options.up))?;
-    push_if_there(alloc, &mut pairs, Key::Text("uv"), truth_if_there(options.uv))?;
+    push_if_there(
+        alloc,
+        &mut pairs,
+        Key::Text("up"),
+        truth_if_there(options.up),
+    )?;
+    push_if_there(
+        alloc,
+        &mut pairs,
+        Key::Text("uv"),
+        truth_if_there(options.uv),
+    )?;
     Ok(Value::Map(pairs))
 }
 
