@@ -1,6 +1,6 @@
 -- Lists that others are the images of.
 use Rattle.std.proofs.Common.{◌≡◌, ◌<◌, ◌+◌, ℕ, zero, suc, List, [], ◌∷◌, ◌++◌, Bool, true, false, cond, Option, Some, None, map, refl, ap, sym, ◌∙◌, arith, take, drop, slice_index_or, length, append_assoc, append-nil, ◌≤◌, ◌&&◌}
-use Rattle.std.specs.Prelude.{find, filter, option_map, position, remove, MatchOption}
+use Rattle.std.specs.Prelude.{find, filter, option_map, position, remove, MatchOption, Result, Ok, Err, OnOk}
 use Rattle.std.specs.List.{list_any}
 use Rattle.std.proofs.lemmas.List.{take-append-le, drop-append-le, map-append}
 use Rattle.std.proofs.lemmas.List.Elements.{filter_more}
@@ -71,3 +71,7 @@ passed_more f p xs i d lt is = ap (map f) (filter_more p xs i d lt) ∙ rw is (m
 pub failed_more : {X Y : Type 0} (f : X → Y) (p : X → Bool) (xs : List X) (i : ℕ) (d : X) → i < length xs → p (slice_index_or xs i d) ≡ false
     → map f (filter p (take (i + 1) xs)) ≡ map f (filter p (take i xs))
 failed_more f p xs i d lt is = ap (map f) (filter_more p xs i d lt) ∙ rw is (ap (map f) (append-nil (filter p (take i xs))))
+
+pub on_ok : {T E : Type 0} (r : Result T E) (P Q : Type 0) → (P → Q) → OnOk r P → OnOk r Q
+on_ok (Ok x) P Q f h = f h
+on_ok (Err e) P Q f h = tt

@@ -14,4 +14,4 @@ returns-in-Ok-clause-stepped g c =
 pub returns-in-Err-Status-clause-stepped : goal.returns-in-Err-Status-clause-stepped
 returns-in-Err-Status-clause-stepped g c =
     unread (g.S.Verifier.valid c.args.scheme.now) (g.S.Signer.public_of c.args.scheme.now) c.args.self.now c.refuse.new.self c.args.channel c.args.request.now c.args.consent c.args.words c.in-Err-Status.status c.refuse.result
-    (rw c.in-Err-Status.field-0-is at c.in-Err-Status.ensures.refused) c.refuse.ensures.reply c.refuse.ensures.ok
+    (rw c.in-Err-Status.field-0-is at c.in-Err-Status.ensures.refused) (rw c.in-Err-Status.field-0-is at c.refuse.ensures.reply) c.refuse.ensures.ok
