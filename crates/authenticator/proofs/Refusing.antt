@@ -2,7 +2,7 @@
 use Rattle.std.proofs.Common.{◌≡◌, ◌<◌, ◌+◌, ◌++◌, ℕ, List, [], ◌∷◌, Bool, true, false, cond, not, ◌&&◌, ◌||◌, Option, Some, None, Vec, Global, refl, sym, ap, ◌∙◌, subst, rules}
 use Rattle.std.specs.Prelude.{Result, Ok, Err, IfOk, OnOk, option_map, nat_le, ◌==◌}
 use Rattle.first_line.specs.Lines.{first_true}
-use Rattle.ctapmsg.specs.Requests.{AssertionRequest, CreationRequest, RequestMessage, get_assertion}
+use Rattle.ctapmsg.specs.Requests.{AssertionRequest, CreationRequest, RequestMessage}
 use Rattle.ctapmsg.specs.Replies.{Assertion, Creation, ReplyMessage, ReplyOf, creation_reply}
 use Rattle.cose.specs.Schemes.{Validity}
 use Rattle.cose.specs.declared.key.Alg.{Alg}
@@ -11,7 +11,7 @@ use Rattle.authdata.specs.Layout.{AuthOf}
 use Rattle.authenticator.specs.State.{Asked, Credential, Remembered, State, forgotten}
 use Rattle.authenticator.specs.Credentials.{credential_of, with_counter}
 use Rattle.authenticator.specs.Orders.{assertion_flags, assertion_order, candidates, first_is_at_end, first_supported, is_at_end, is_empty, is_false, is_true, kept, next_order, remembered_on}
-use Rattle.authenticator.specs.Private.{Comes, FirstHappens, Happens, IsAttested, consent_order}
+use Rattle.authenticator.specs.Private.{Comes, FirstHappens, AssertionHappens, IsAttested, consent_order}
 use Rattle.authenticator.specs.Steps.{Answers, Carries, Creates, Entry, FirstAnswers, IsAssertion, Keys, Outcome, Unless, asked_by, assertion, creation_data, key_of, new_credential, refusal, remembering}
 use Rattle.authenticator.specs.declared.consent.Consent.{Consent}
 use Rattle.authenticator.specs.declared.consent.Words.{Words}
@@ -107,15 +107,15 @@ end_due : (a : State) (q : AssertionRequest) (consent : Consent) (id : List ℕ)
 end_due a q consent id ids e some =
     ap (λ ids. first_true (others a ids)) some ∙ sym (two_none (unmet a q) (denied q consent) 0x2C 0x27 (others a (candidates a.credentials q.rp_id q.allow_list)) (sym e))
 
-pub first_happens : {E : Type 0} (valid : Validity) (public : Keys) (old new : State) (channel : ℕ) (consent : Consent) (words : Words) (q : AssertionRequest) (id : List ℕ) (ids : List (List ℕ)) (asked : Asked) (r : Result (Vec ℕ Global) E)
+pub first_happens : {E : Type 0} (valid : Validity) (public : Keys) (old new : State) (channel : ℕ) (consent : Consent) (q : AssertionRequest) (id : List ℕ) (ids : List (List ℕ)) (asked : Asked) (r : Result (Vec ℕ Global) E)
     → None ≡ first_true (consent_order old q consent) → id ∷ ids ≡ candidates old.credentials q.rp_id q.allow_list → asked ≡ asked_by channel q consent
-    → IfOk r (λ v. FirstHappens valid public old (id ∷ ids) asked v.items new) → IfOk r (λ v. Happens valid public old channel consent words (get_assertion q) v.items new)
-first_happens valid public old new channel consent words q id ids asked (Ok v) none some is h =
+    → IfOk r (λ v. FirstHappens valid public old (id ∷ ids) asked v.items new) → IfOk r (λ v. AssertionHappens valid public old channel q consent v.items new)
+first_happens valid public old new channel consent q id ids asked (Ok v) none some is h =
     let P : Option ℕ → List (List ℕ) → Asked → Type 0 = λ o l a. Comes (λ out. Unless o old out (FirstAnswers valid public old l a out)) v.items new in
     let one : P (first_true (assertion_order old q consent)) (id ∷ ids) asked = subst (λ (o : Option ℕ). P o (id ∷ ids) asked) (end_due old q consent id ids none some) h in
     let two : P (first_true (assertion_order old q consent)) (candidates old.credentials q.rp_id q.allow_list) asked = subst (λ (l : List (List ℕ)). P (first_true (assertion_order old q consent)) l asked) some one in
     subst (λ (a : Asked). P (first_true (assertion_order old q consent)) (candidates old.credentials q.rp_id q.allow_list) a) is two
-first_happens valid public old new channel consent words q id ids asked (Err e) none some is h = tt
+first_happens valid public old new channel consent q id ids asked (Err e) none some is h = tt
 
 -- ---- getNextAssertion
 

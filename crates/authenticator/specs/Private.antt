@@ -8,8 +8,8 @@ use Rattle.authdata.specs.declared.statement.AttestationType.{AttestationType}
 use Rattle.ctapmsg.specs.Replies.{Assertion, Creation, ReplyMessage, ReplyOf}
 use Rattle.ctapmsg.specs.Requests.{AssertionRequest, CreationRequest, RequestMessage, make_credential}
 use Rattle.authenticator.specs.State.{Asked, State}
-use Rattle.authenticator.specs.Orders.{assertion_flags, creation_order, first_is_at_end, is_false, is_true, first_supported, next_order, remembered_on}
-use Rattle.authenticator.specs.Steps.{Attests, Carries, Entry, FirstAnswers, Keys, NextAnswers, Outcome, Unless}
+use Rattle.authenticator.specs.Orders.{assertion_flags, assertion_order, candidates, creation_order, first_is_at_end, is_false, is_true, first_supported, next_order, remembered_on}
+use Rattle.authenticator.specs.Steps.{Attests, Carries, Creates, Entry, FirstAnswers, Keys, NextAnswers, Outcome, Unless, asked_by}
 use Rattle.authenticator.specs.declared.consent.Consent.{Consent}
 use Rattle.authenticator.specs.declared.consent.Words.{Words}
 
@@ -72,6 +72,17 @@ consent_order a q consent =
 abbrev pub FirstHappens : Validity → Keys → State → List (List ℕ) → Asked → List ℕ → State → Type 0
 FirstHappens valid public old ids asked reply new =
     Comes (λ out. Unless (first_true ((first_is_at_end old.credentials ids, 0x7F) ∷ [])) old out (FirstAnswers valid public old ids asked out)) reply new
+
+-- a makeCredential
+abbrev pub CreationHappens : Validity → Keys → State → CreationRequest → Consent → Words → List ℕ → State → Type 0
+CreationHappens valid public old q consent words reply new =
+    Comes (λ out. Unless (first_true (creation_order old q consent words)) old out (Creates valid public old q consent words out)) reply new
+
+-- a getAssertion
+abbrev pub AssertionHappens : Validity → Keys → State → ℕ → AssertionRequest → Consent → List ℕ → State → Type 0
+AssertionHappens valid public old channel q consent reply new =
+    Comes (λ out. Unless (first_true (assertion_order old q consent)) old out
+    (FirstAnswers valid public old (candidates old.credentials q.rp_id q.allow_list) (asked_by channel q consent) out)) reply new
 
 -- a getNextAssertion
 abbrev pub NextHappens : Validity → Keys → State → ℕ → List ℕ → State → Type 0

@@ -129,10 +129,10 @@ impl Authenticator {
     {
         match request {
             Request::MakeCredential(request) => {
-                self.make_credential(scheme, channel, request, consent, words)
+                self.make_credential(scheme, request, consent, words)
             }
             Request::GetAssertion(request) => {
-                self.get_assertion(scheme, channel, request, consent, &words)
+                self.get_assertion(scheme, channel, request, consent)
             }
             Request::GetNextAssertion => self.get_next_assertion(scheme, channel),
             Request::GetInfo => self.get_info(),

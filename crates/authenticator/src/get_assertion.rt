@@ -3,17 +3,16 @@
 ghost use Rattle.std.specs.Prelude.{◌≡◌, ◌<◌, ◌≤◌, ◌∷◌, IfOk, IfSome, MatchOption, OnErr, length, option_map, reverse, true};
 ghost use Rattle.first_line.specs.Lines.{first_true};
 ghost use Rattle.ctapmsg.specs.RequestView.{assertion_view};
-ghost use Rattle.ctapmsg.specs.Requests as requests;
 ghost use Rattle.authenticator.specs.Credentials.{credential_of, with_counter};
 ghost use Rattle.authenticator.specs.Orders.{candidates, is_at_end, remembered_on};
-ghost use Rattle.authenticator.specs.Private.{FirstHappens, Happens, IsCount, NextHappens, consent_order};
+ghost use Rattle.authenticator.specs.Private.{AssertionHappens, FirstHappens, IsCount, NextHappens, consent_order};
 ghost use Rattle.authenticator.specs.State.{Remembered};
 ghost use Rattle.authenticator.specs.Steps.{asked_by, number_with, remembering};
 ghost use Rattle.authenticator.specs.Views.{asked_view, credential_view, credentials_view, ids_of, remembered_view};
 
 use crate::assertion::assertion;
 use crate::authenticator::Authenticator;
-use crate::consent::{Consent, Words};
+use crate::consent::Consent;
 use crate::credential::StoredCredential;
 use crate::credentials::{candidates_for, find, set_counter};
 use crate::options::{assertion_options, is_denied, is_false, is_true, is_unmet};
@@ -146,9 +145,8 @@ impl Authenticator {
         channel: u32,
         request: GetAssertion,
         consent: Consent,
-        words: &Words,
     ) -> Result<Vec<u8>, AllocError>
-        ensures done { IfOk result (λ reply. Happens (S.valid scheme.now) (S.public_of scheme.now) self.old channel consent words.now (requests.get_assertion (assertion_view request)) reply.items self.new) }
+        ensures done { IfOk result (λ reply. AssertionHappens (S.valid scheme.now) (S.public_of scheme.now) self.old channel (assertion_view request) consent reply.items self.new) }
         ensures size { IfOk result (λ reply. length reply.items ≤ 7609) }
         ensures err { OnErr result (self.new ≡ self.old) }
     {

@@ -2,9 +2,8 @@
 
 ghost use Rattle.std.specs.Prelude.{◌≡◌, ◌<◌, ◌≤◌, ◌++◌, ◌∷◌, ◌||◌, [], IfOk, MatchOption, OnErr, OnOk, ℤ, length, map, nat_le, option_map, remove};
 ghost use Rattle.ctapmsg.specs.RequestView.{creation_view, parameters_view};
-ghost use Rattle.ctapmsg.specs.Requests as requests;
 ghost use Rattle.authenticator.specs.Orders.{creation_flags, first_supported, is_false, is_true, kept, supported, supported_by};
-ghost use Rattle.authenticator.specs.Private.{Happens, IsChoice, IsUser};
+ghost use Rattle.authenticator.specs.Private.{CreationHappens, IsChoice, IsUser};
 ghost use Rattle.authenticator.specs.State.{forgotten};
 ghost use Rattle.authenticator.specs.Steps.{new_credential};
 ghost use Rattle.authenticator.specs.Views.{credential_view, credentials_view};
@@ -161,13 +160,12 @@ impl Authenticator {
     pub(crate) fn make_credential<S: Signer>(
         &mut self,
         scheme: &S,
-        channel: u32,
         request: MakeCredential,
         consent: Consent,
         words: Words,
     ) -> Result<Vec<u8>, AllocError>
         requires { IsUser request.user.id.items }
-        ensures done { IfOk result (λ reply. Happens (S.valid scheme.now) (S.public_of scheme.now) self.old channel consent words (requests.make_credential (creation_view request)) reply.items self.new) }
+        ensures done { IfOk result (λ reply. CreationHappens (S.valid scheme.now) (S.public_of scheme.now) self.old (creation_view request) consent words reply.items self.new) }
         ensures size { IfOk result (λ reply. length reply.items ≤ 7609) }
         ensures err { OnErr result (self.new ≡ self.old) }
     {

@@ -129,7 +129,7 @@ fn read(alloc: Global, kind: Kind, bytes: &[u8]) -> Result<Answer, AllocError> {
 }
 
 /// What the authenticator answers to a call.
-pub fn answer(
+pub fn answered(
     alloc: Global,
     authenticator: &mut Authenticator,
     channel: u32,
@@ -159,9 +159,9 @@ pub fn first_other(
     calls: &[Call],
 ) -> Result<Option<(usize, Answer)>, AllocError> {
     for (place, (channel, pieces, given, word, wanted)) in calls.iter().enumerate() {
-        let answered = answer(alloc, authenticator, *channel, pieces, *given, *word)?;
-        if answered != *wanted {
-            return Ok(Some((place, answered)));
+        let found = answered(alloc, authenticator, *channel, pieces, *given, *word)?;
+        if found != *wanted {
+            return Ok(Some((place, found)));
         }
     }
     Ok(None)

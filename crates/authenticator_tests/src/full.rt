@@ -52,7 +52,7 @@ fn make(alloc: Global, authenticator: &mut Authenticator, number: u8) -> Result<
 fn filled(alloc: Global) -> Result<Option<Authenticator>, AllocError> {
     let mut authenticator = Authenticator::new(alloc, [0; 16], false, AttestationType::None);
     let first = &[M5, H, RP, USER1, EDDSA, RK];
-    if answer(alloc, &mut authenticator, 1, first, PRESENT, 1)? != Made(1, 0x41, -8) {
+    if answered(alloc, &mut authenticator, 1, first, PRESENT, 1)? != Made(1, 0x41, -8) {
         return Ok(None);
     }
     for number in 0..255 {

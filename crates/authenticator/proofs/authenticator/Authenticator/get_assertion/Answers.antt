@@ -24,6 +24,6 @@ returns-in_default-found-clause-done g c =
 
 pub returns-clause-done : goal.returns-clause-done
 returns-clause-done g c =
-    first_happens (g.S.Verifier.valid c.args.scheme.now) (g.S.Signer.public_of c.args.scheme.now) c.args.self.now c.answer_first.new.self c.args.channel c.args.consent c.args.words.now (assertion_view c.args.request)
+    first_happens (g.S.Verifier.valid c.args.scheme.now) (g.S.Signer.public_of c.args.scheme.now) c.args.self.now c.answer_first.new.self c.args.channel c.args.consent (assertion_view c.args.request)
     c.in-Some-found.candidates.first (reverse c.in-Some-found.candidates.later.items) (asked_view c.asked_by-asked.result) c.answer_first.result
     c.in_default.ensures (ap ids_of (sym c.in-Some-found.is) ∙ c.in_ok-found.ensures) c.asked_by-asked.ensures c.answer_first.ensures.done
