@@ -53,10 +53,11 @@ Unless None old out Succeeds = Succeeds
 
 -- ---- signatures
 
--- how the public keys of secrets are made, and any signature of 1 to 128 bytes that is valid
+-- the public key of an algorithm and a secret
 abbrev pub Keys : Type 0
 Keys = Alg → List ℕ → CoseKey
 
+-- any 1 to 128 bytes that are valid
 abbrev pub IsSignature : Validity → CoseKey → List ℕ → List ℕ → Type 0
 IsSignature valid key message signature =
     (1 ≤ length signature) × (length signature ≤ 128) × valid key message signature

@@ -18,3 +18,4 @@ mod signing;
 pub use authenticator::Authenticator;
 pub use consent::{Consent, Words};
 pub use law::step_laws;
+pub use make_credential::MAX_CREDENTIALS;

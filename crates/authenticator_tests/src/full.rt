@@ -2,26 +2,55 @@
 
 use crate::answers::*;
 use crate::requests::*;
+use Answer::{Asserted, Made, Status};
 use authdata::AttestationType;
 use authenticator::{Authenticator, Consent, Words};
 use cose::BenchScheme;
 use std::alloc::{AllocError, Global};
 use std::test::Fail;
 
-use Answer::{Asserted, Made, Status};
-
 // Where the id 01 is a resident credential of user 01, and 256 are stored.
 const FULL: &[Call] = &[
     (1, &[M4, H, RP, USER2, EDDSA], PRESENT, 2, Status(0x28)),
     (1, &[M5, H, RP, USER2, EDDSA, RK], PRESENT, 2, Status(0x28)),
-    (1, &[M5, H, OTHER_RP, USER1, EDDSA, RK], PRESENT, 2, Status(0x28)),
-    (1, &[M5, H, RP, USER1, EDDSA, NO_RK], PRESENT, 2, Status(0x28)),
+    (
+        1,
+        &[M5, H, OTHER_RP, USER1, EDDSA, RK],
+        PRESENT,
+        2,
+        Status(0x28),
+    ),
+    (
+        1,
+        &[M5, H, RP, USER1, EDDSA, NO_RK],
+        PRESENT,
+        2,
+        Status(0x28),
+    ),
     (1, &[M4, H, RP, USER2, RS256], PRESENT, 2, Status(0x26)),
-    (1, &[M5, H, RP, USER2, EDDSA, NO_UP], PRESENT, 2, Status(0x2c)),
+    (
+        1,
+        &[M5, H, RP, USER2, EDDSA, NO_UP],
+        PRESENT,
+        2,
+        Status(0x2c),
+    ),
     (1, &[M4, H, RP, USER2, EDDSA], NONE, 2, Status(0x27)),
-    (1, &[M5, H, RP, USER2, EDDSA, EXCLUDED, T], PRESENT, 2, Status(0x19)),
+    (
+        1,
+        &[M5, H, RP, USER2, EDDSA, EXCLUDED, T],
+        PRESENT,
+        2,
+        Status(0x19),
+    ),
     (1, &[M4, H, RP, USER2, EDDSA], PRESENT, 1, Status(0x7f)),
-    (1, &[M5, H, RP, USER1, EDDSA, RK], PRESENT, 2, Made(2, 0x41, -8)),
+    (
+        1,
+        &[M5, H, RP, USER1, EDDSA, RK],
+        PRESENT,
+        2,
+        Made(2, 0x41, -8),
+    ),
     (1, &[A2, I, G], PRESENT, 0, Asserted(2, 1, 0, 1, 1)),
     (1, &[A3, I, G, L1, D1, T], PRESENT, 0, Status(0x2e)),
     (1, &[M4, H, RP, USER2, EDDSA], PRESENT, 3, Status(0x28)),

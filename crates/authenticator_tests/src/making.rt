@@ -3,14 +3,13 @@
 
 use crate::answers::*;
 use crate::requests::*;
+use Answer::{Asserted, Made};
 use authdata::{AttestationObject, AttestationType, check_statement};
 use authenticator::{Authenticator, Consent, Words};
 use cose::{Alg, BenchScheme, Signer};
 use ctapmsg::{Kind, Reply, read_reply};
 use std::alloc::{AllocError, Global};
 use std::test::Fail;
-
-use Answer::{Asserted, Made};
 
 /// The statement of a credential of the secret 01, as an authenticator attests it that was made so.
 fn statement(
@@ -68,7 +67,13 @@ fn statements(rt: HostRuntime) -> Result<(), Fail> {
 
 // Each of two authenticators that were handed the same words has a counter of its own.
 const SAME: &[Call] = &[
-    (1, &[M5, H, RP, USER1, EDDSA, RK], PRESENT, 1, Made(1, 0x41, -8)),
+    (
+        1,
+        &[M5, H, RP, USER1, EDDSA, RK],
+        PRESENT,
+        1,
+        Made(1, 0x41, -8),
+    ),
     (1, &[A2, I, G], PRESENT, 0, Asserted(1, 1, 0, 1, 1)),
 ];
 

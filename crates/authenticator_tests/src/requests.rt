@@ -30,7 +30,11 @@ pub const EDDSA: Piece = (b"\x04\x81\xa2\x63alg\x27\x64type\x6apublic-key", 0, 0
 pub const ES256: Piece = (b"\x04\x81\xa2\x63alg\x26\x64type\x6apublic-key", 0, 0);
 
 /// The algorithm -257; and EdDSA of another type.
-pub const RS256: Piece = (b"\x04\x81\xa2\x63alg\x39\x01\x00\x64type\x6apublic-key", 0, 0);
+pub const RS256: Piece = (
+    b"\x04\x81\xa2\x63alg\x39\x01\x00\x64type\x6apublic-key",
+    0,
+    0,
+);
 
 pub const OTHER_TYPE: Piece = (b"\x04\x81\xa2\x63alg\x27\x64type\x6apublic-kez", 0, 0);
 

@@ -3,13 +3,12 @@
 
 use crate::answers::*;
 use crate::requests::*;
+use Answer::{Asserted, Information, Made, Reset, Status};
 use authdata::AttestationType;
 use authenticator::{Authenticator, Consent, Words};
 use cose::BenchScheme;
 use std::alloc::{AllocError, Global};
 use std::test::Fail;
-
-use Answer::{Asserted, Information, Made, Reset, Status};
 
 const MAKE1: &[Piece] = &[M5, H, RP, USER1, EDDSA, RK];
 
@@ -47,7 +46,13 @@ const NEW: &[Call] = &[
     (1, ASK, PRESENT, 0, Status(0x2e)),
     (1, &[M4, H, RP, USER1, RS256], PRESENT, 1, Status(0x26)),
     (1, &[M4, H, RP, USER1, OTHER_TYPE], PRESENT, 1, Status(0x26)),
-    (1, &[M5, H, RP, USER1, EDDSA, NO_UP], PRESENT, 1, Status(0x2c)),
+    (
+        1,
+        &[M5, H, RP, USER1, EDDSA, NO_UP],
+        PRESENT,
+        1,
+        Status(0x2c),
+    ),
     (1, &[M5, H, RP, USER1, EDDSA, UV], VERIFIED, 1, Status(0x2c)),
     (1, &[RESET], NONE, 0, Status(0x27)),
     (1, &[RESET], PRESENT, 0, Reset),
@@ -55,7 +60,13 @@ const NEW: &[Call] = &[
     (1, &[NEXT], PRESENT, 0, Status(0x30)),
     (1, &[], PRESENT, 0, Status(0x01)),
     (1, &[(b"\x02", 0, 0)], PRESENT, 0, Status(0x12)),
-    (1, &[M4, H, RP, USER1, TWO_ALGORITHMS], PRESENT, 1, Made(1, 0x41, -8)),
+    (
+        1,
+        &[M4, H, RP, USER1, TWO_ALGORITHMS],
+        PRESENT,
+        1,
+        Made(1, 0x41, -8),
+    ),
 ];
 
 // Each other command between a getAssertion and a getNextAssertion, and what follows a reset.
@@ -94,7 +105,13 @@ const AGAIN: &[Call] = &[
     (1, ASK, PRESENT, 0, Asserted(3, 1, 2, 1, 1)),
     (1, &[NEXT], NONE, 0, Asserted(2, 2, 0, 1, 2)),
     (1, &[A3, I, G, L1, D1, T], PRESENT, 0, Status(0x2e)),
-    (1, &[A3, I, G, L1, (b"\xa2\x62id\x58\x20", 4, 32), T], PRESENT, 0, Asserted(4, 0, 0, 1, 1)),
+    (
+        1,
+        &[A3, I, G, L1, (b"\xa2\x62id\x58\x20", 4, 32), T],
+        PRESENT,
+        0,
+        Asserted(4, 0, 0, 1, 1),
+    ),
 ];
 
 fn first_wrong(alloc: Global, calls: &[Call]) -> Result<Option<(usize, Answer)>, AllocError> {
