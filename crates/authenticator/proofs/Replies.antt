@@ -175,17 +175,23 @@ told_short id auth sig (Some x) (Some k) i a s u = let le = u.1 in omega arith
 
 pub assertion_message : (r : Assertion) → FitsReply r → IsMessage (assertion_reply r)
 assertion_message r h =
-    message (assertion_reply r) (assertion_reply_item r)
-    (spelling (assertion_reply_item r), refl, (told_fits r.credential r.auth_data r.signature r.user r.number h.credential h.auth_data h.signature h.user h.number, refl),
-      told_clean r.credential r.auth_data r.signature r.user r.number h.credential h.user h.number)
+    message (assertion_reply r) (assertion_reply_item r) (
+      spelling (assertion_reply_item r),
+      refl,
+      (told_fits r.credential r.auth_data r.signature r.user r.number h.credential h.auth_data h.signature h.user h.number, refl),
+      told_clean r.credential r.auth_data r.signature r.user r.number h.credential h.user h.number,
+    )
     (told_short r.credential r.auth_data r.signature r.user r.number h.credential h.auth_data h.signature h.user)
 
 next_with : (r : Assertion) (number : Option ℕ) → number ≡ None → FitsReply (told r.credential r.auth_data r.signature r.user number) → IsMessage (next_reply (told r.credential r.auth_data r.signature r.user number))
 next_with r None e h =
     let s = told r.credential r.auth_data r.signature r.user None in
-    message (next_reply s) (assertion_reply_item s)
-    (spelling (assertion_reply_item s), refl, (told_fits r.credential r.auth_data r.signature r.user None h.credential h.auth_data h.signature h.user tt, refl),
-      next_clean r.credential r.auth_data r.signature r.user h.credential h.user)
+    message (next_reply s) (assertion_reply_item s) (
+      spelling (assertion_reply_item s),
+      refl,
+      (told_fits r.credential r.auth_data r.signature r.user None h.credential h.auth_data h.signature h.user tt, refl),
+      next_clean r.credential r.auth_data r.signature r.user h.credential h.user,
+    )
     (told_short r.credential r.auth_data r.signature r.user None h.credential h.auth_data h.signature h.user)
 next_with r (Some k) e h = absurd cc
 
@@ -196,11 +202,49 @@ next_message r e h = next_with r r.number e h
 
 info_fits : (aaguid : List ℕ) (uv : Bool) → length aaguid ≡ 16 → Fits 4 (info_item (info_of aaguid uv))
 unfolding head before
-info_fits aaguid uv l =
-    (omega arith, (refl, refl, omega arith, (omega arith, ((omega arith, plain (codes "FIDO_2_0") refl), tt)), (refl, refl, omega arith, omega arith, (refl, refl, omega arith, (omega arith,
-      (refl, refl, (omega arith, plain (codes "rk") refl), tt, (refl, refl, (omega arith, plain (codes "up") refl), tt, (refl, refl, (omega arith, plain (codes "uv") refl), tt,
-      (refl, refl, (omega arith, plain (codes "plat") refl), tt, tt))))),
-      (refl, refl, omega arith, omega arith, (refl, refl, omega arith, omega arith, (refl, refl, omega arith, omega arith, tt)))))))
+info_fits aaguid uv l = (
+  omega arith,
+  (
+    refl,
+    refl,
+    omega arith,
+    (omega arith, ((omega arith, plain (codes "FIDO_2_0") refl), tt)),
+    (
+      refl,
+      refl,
+      omega arith,
+      omega arith,
+      (
+        refl,
+        refl,
+        omega arith,
+        (
+          omega arith,
+          (
+            refl,
+            refl,
+            (omega arith, plain (codes "rk") refl),
+            tt,
+            (
+              refl,
+              refl,
+              (omega arith, plain (codes "up") refl),
+              tt,
+              (
+                refl,
+                refl,
+                (omega arith, plain (codes "uv") refl),
+                tt,
+                (refl, refl, (omega arith, plain (codes "plat") refl), tt, tt),
+              ),
+            ),
+          ),
+        ),
+        (refl, refl, omega arith, omega arith, (refl, refl, omega arith, omega arith, (refl, refl, omega arith, omega arith, tt))),
+      ),
+    ),
+  ),
+)
 
 pub info_message : (r : Info) (aaguid : List ℕ) (uv : Bool) → r ≡ info_of aaguid uv → length aaguid ≡ 16 → IsMessage (info_reply r)
 info_message r aaguid uv e l =

@@ -111,7 +111,7 @@ answers valid public old id asked later message count out s f r is =
       keeps = subst (Keeps old.credentials) (sym e) (keeps_with id old.credentials c (c.counter + 1) is.found (omega arith));
       entries = All-same IsSound out.signed (entry ∷ []) is.signed (All-cons IsSound entry [] (inl sound) (All-nil IsSound));
       counted = All-same (IsCounted public old.credentials out.state.credentials) out.signed (entry ∷ []) is.signed
-      (All-cons (IsCounted public old.credentials out.state.credentials) entry [] here (All-nil (IsCounted public old.credentials out.state.credentials)));
+          (All-cons (IsCounted public old.credentials out.state.credentials) entry [] here (All-nil (IsCounted public old.credentials out.state.credentials)));
       made = All-same (IsStored public out.state.credentials) out.made [] is.made (All-nil (IsStored public out.state.credentials));
     }
 
@@ -212,7 +212,7 @@ creates valid public old q consent words out s w l none is =
     }) in
     let other : IsCounted public old.credentials out.state.credentials entry = λ k. let bad : attestation ≡ assertion = k in absurd cc in
     let stored : IsStored public out.state.credentials key =
-        (words.id, new, ap (credential_of words.id) e ∙ last_push stay new (stayed.none words.id none), refl) in
+    (words.id, new, ap (credential_of words.id) e ∙ last_push stay new (stayed.none words.id none), refl) in
     record {
       state = subst SoundState (sym is.state) (record { unique = unique_made old.credentials stay new stayed none; remembered = tt });
       keeps = subst (Keeps old.credentials) (sym e) (keeps_made old.credentials stay new stayed none);
@@ -237,7 +237,7 @@ carries valid public old channel bs consent words (make_credential q) out s w is
 carries valid public old channel bs consent words (get_assertion q) out s w is h =
     unless public (first_true (assertion_order old q consent)) old out (FirstAnswers valid public old (candidates old.credentials q.rp_id q.allow_list) (asked_by channel q consent) out) s
     (λ e answered. first_answers valid public old (candidates old.credentials q.rp_id q.allow_list) (asked_by channel q consent) out s
-      (follows old channel q consent (assertion_hashed q bs is) e) (later_candidates old.credentials q.rp_id q.allow_list s.unique) answered) h
+    (follows old channel q consent (assertion_hashed q bs is) e) (later_candidates old.credentials q.rp_id q.allow_list s.unique) answered) h
 carries valid public old channel bs consent words get_next_assertion out s w is h =
     unless public (first_true (next_order old channel)) old out (NextAnswers valid public old (remembered_on channel old.remembered) out) s
     (λ e answered. next_answers valid public old (remembered_on channel old.remembered) out s (on_channel old.credentials channel old.remembered s.remembered) answered) h

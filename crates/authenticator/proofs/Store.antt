@@ -110,7 +110,7 @@ pub listed_some : (cs : List Credential) (rp : List ℕ) (ds : List Descriptor) 
     → Some c ≡ credential_of d.id.items cs → later ≡ [] → c.id ∷ reverse later ≡ candidates cs rp (Some (map descriptor_view ds))
 listed_some cs rp ds d c later some is none =
     let listed : d.id.items ∷ [] ≡ candidates cs rp (Some (map descriptor_view ds)) =
-        sym (ap (λ (x : Option CredentialDescriptor). option_to_list (option_map (λ d. d.id) x)) (find_mapped descriptor_view (is_stored_for rp cs) ds ∙ ap (option_map descriptor_view) (sym some))) in
+    sym (ap (λ (x : Option CredentialDescriptor). option_to_list (option_map (λ d. d.id) x)) (find_mapped descriptor_view (is_stored_for rp cs) ds ∙ ap (option_map descriptor_view) (sym some))) in
     ap (λ ids. c.id ∷ reverse ids) none ∙ ap (λ id. id ∷ []) (has_id d.id.items cs c (sym is)) ∙ listed
 
 pub listed_gone : (cs : List Credential) (rp : List ℕ) (ds : List Descriptor) (d : Descriptor) → Some d ≡ find (λ d. is_stored_for rp cs (descriptor_view d)) ds

@@ -103,7 +103,7 @@ Attests valid key hash consent types.None r signed =
 Attests valid key hash consent types.SelfSigned r signed =
     (r.fmt ≡ codes "packed")
     × ((signature : List ℕ) × IsSignature valid key (r.auth_data ++ hash) signature
-        × (r.statement ≡ packed_statement (alg_of key) signature))
+    × (r.statement ≡ packed_statement (alg_of key) signature))
     × (signed ≡ record { key = key; message = r.auth_data ++ hash; purpose = attestation; consent = consent } ∷ [])
 
 -- a credential is made

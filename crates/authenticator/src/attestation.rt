@@ -96,8 +96,14 @@ impl Authenticator {
             }),
             AttestationType::SelfSigned => {
                 let hash = request.client_data_hash.as_slice();
-                let signature =
-                    signature(alloc, scheme, alg, &words.secret, auth_data.as_slice(), hash)?;
+                let signature = signature(
+                    alloc,
+                    scheme,
+                    alg,
+                    &words.secret,
+                    auth_data.as_slice(),
+                    hash,
+                )?;
                 Ok(CreationReply {
                     fmt: String::from_str(alloc, "packed")?,
                     auth_data,

@@ -39,11 +39,11 @@ impl Model for Authenticator {
     ghost Value = { State };
 
     ghost view = { λ a. record {
-        aaguid = a.aaguid;
-        uv = a.uv;
-        attest = a.attest;
-        credentials = credentials_view a.credentials.items;
-        remembered = option_map remembered_view a.remembered
+      aaguid = a.aaguid;
+      uv = a.uv;
+      attest = a.attest;
+      credentials = credentials_view a.credentials.items;
+      remembered = option_map remembered_view a.remembered;
     } };
 }
 

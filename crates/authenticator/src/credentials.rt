@@ -1,6 +1,6 @@
 //! The credentials that an authenticator stores, in order of creation.
 
-ghost use Rattle.std.specs.Prelude.{◌≡◌, ◌<◌, ◌++◌, ◌∷◌, [], IfOk, MatchOption, OnErr, OnOk, filter, length, map, option_map, position, remove, reverse, string_bytes};
+ghost use Rattle.std.specs.Prelude.{◌≡◌, ◌<◌, ◌++◌, ◌∷◌, [], IfOk, MatchOption, OnErr, OnOk, count_by, filter, length, map, option_map, position, remove, reverse, string_bytes};
 ghost use Rattle.std.specs.List.{list_any};
 ghost use Rattle.std.specs.Prelude as list;
 ghost use Rattle.std.specs.Str.{bytes_eq};
@@ -29,7 +29,10 @@ fn first_of<'a>(credentials: &'a [StoredCredential], id: &[u8]) -> Option<&'a St
 }
 
 /// The credential of an id.
-pub(crate) fn find<'a>(credentials: &'a [StoredCredential], id: &[u8]) -> Option<&'a StoredCredential>
+pub(crate) fn find<'a>(
+    credentials: &'a [StoredCredential],
+    id: &[u8],
+) -> Option<&'a StoredCredential>
     ensures { option_map (λ c. credential_view c.now) result ≡ credential_of id.now (credentials_view credentials.entry.now) }
 {
     first_of(credentials, id)
@@ -103,6 +106,16 @@ impl StoredCredential {
     }
 }
 
+/// How many resident credentials the relying party has.
+fn count_residents(credentials: &[StoredCredential], rp_id: &str) -> usize
+    ensures { result ≡ count_by (λ c. is_resident_for rp_id.now (credential_view c)) credentials.now }
+{
+    credentials
+        .iter()
+        .filter(|c| c.is_resident_for(rp_id))
+        .count()
+}
+
 /// The ids of the relying party's resident credentials, in order of creation.
 fn resident_ids(
     alloc: Global,
@@ -111,7 +124,8 @@ fn resident_ids(
 ) -> Result<Vec<[u8; 32]>, AllocError>
     ensures { IfOk result (λ v. v.items ≡ map (λ c. c.id) (filter (λ c. is_resident_for rp_id.now (credential_view c)) credentials.now)) }
 {
-    let mut ids = Vec::new(alloc);
+    let count = count_residents(credentials, rp_id);
+    let mut ids = Vec::with_capacity(alloc, count)?;
     for credential in credentials {
         if credential.is_resident_for(rp_id) {
             ids.push(credential.id)?;

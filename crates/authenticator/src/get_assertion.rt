@@ -81,7 +81,11 @@ impl Authenticator {
     }
 
     /// Who may answer a getAssertion.
-    fn candidates(&self, alloc: Global, request: &GetAssertion) -> Result<Option<Candidates>, AllocError>
+    fn candidates(
+        &self,
+        alloc: Global,
+        request: &GetAssertion,
+    ) -> Result<Option<Candidates>, AllocError>
         ensures { IfOk result (λ o. ids_of o ≡ candidates self.now.credentials (assertion_view request.now).rp_id (assertion_view request.now).allow_list) }
     {
         candidates_for(

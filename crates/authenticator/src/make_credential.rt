@@ -97,7 +97,10 @@ fn put(
 {
     let overwritten = overwritten(credentials.as_slice(), &request);
     let MakeCredential {
-        rp, user, options, ..
+        rp,
+        user,
+        options,
+        ..
     } = request;
     let RelyingParty { id: rp_id, .. } = rp;
     let User { id: user, .. } = user;
@@ -133,7 +136,11 @@ impl Authenticator {
         if is_denied(true, options.uv, consent) {
             return Err(OPERATION_DENIED);
         }
-        if is_excluded(&self.credentials, request.rp.id.as_str(), &request.exclude_list) {
+        if is_excluded(
+            &self.credentials,
+            request.rp.id.as_str(),
+            &request.exclude_list,
+        ) {
             return Err(CREDENTIAL_EXCLUDED);
         }
         if find(&self.credentials, &words.id).is_some() {

@@ -36,7 +36,10 @@ pub(crate) struct RememberedAssertion {
 }
 
 /// What is to be remembered once the first has answered.
-pub(crate) fn remember(asked: AskedAssertion, mut later: Vec<[u8; 32]>) -> Option<RememberedAssertion>
+pub(crate) fn remember(
+    asked: AskedAssertion,
+    mut later: Vec<[u8; 32]>,
+) -> Option<RememberedAssertion>
     ensures { option_map remembered_view result ≡ remembering (asked_view asked) (reverse later.items) }
 {
     let first = later.pop()?;
