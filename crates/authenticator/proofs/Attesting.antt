@@ -1,0 +1,34 @@
+-- Attestations of new credentials.
+use Rattle.std.proofs.Common.{◌≡◌, ◌≤◌, ◌++◌, ℕ, List, [], ◌∷◌, length, refl, sym, ap, ◌∙◌, subst, arith}
+use Rattle.std.specs.Prelude.{codes}
+use Rattle.cose.specs.Keys.{alg_of, encoded_length}
+use Rattle.cose.specs.Schemes.{Validity}
+use Rattle.cose.specs.declared.key.CoseKey.{CoseKey}
+use Rattle.cose.specs.declared.key.CoseKey.TheVariants as keys
+use Rattle.authdata.specs.Layout.{AuthOf}
+use Rattle.authdata.specs.Statements.{packed_statement}
+use Rattle.authdata.specs.declared.statement.AttestationType.{AttestationType}
+use Rattle.authdata.specs.declared.statement.AttestationType.TheVariants as types
+use Rattle.authdata.proofs.Unique.{length-exact}
+use Rattle.ctapmsg.specs.Replies.{Creation}
+use Rattle.ctapmsg.specs.Requests.{CreationRequest}
+use Rattle.authenticator.specs.State.{State}
+use Rattle.authenticator.specs.Private.{IsAttested}
+use Rattle.authenticator.specs.Steps.{Entry, IsSignature, attestation, creation_data}
+use Rattle.authenticator.specs.declared.consent.Consent.{Consent}
+
+pub attested_packed : (valid : Validity) (key : CoseKey) (hash : List ℕ) (consent : Consent) (attest : AttestationType) (r : Creation) (signature : List ℕ)
+    → attest ≡ types.SelfSigned → r.fmt ≡ codes "packed" → IsSignature valid key (r.auth_data ++ hash) signature → r.statement ≡ packed_statement (alg_of key) signature
+    → IsAttested valid key hash consent attest r
+attested_packed valid key hash consent attest r signature e f s st =
+    let entry : Entry = record { key = key; message = r.auth_data ++ hash; purpose = attestation; consent = consent } in
+    subst (λ (a : AttestationType). IsAttested valid key hash consent a r) (sym e) (entry ∷ [], (f, (signature, s, st), refl))
+
+at_most_77 : (key : CoseKey) → encoded_length key ≤ 77
+at_most_77 (keys.Es256 x y) = omega arith
+at_most_77 (keys.EdDsa x) = omega arith
+
+pub creation_length : (a : State) (q : CreationRequest) (id : List ℕ) (key : CoseKey) (bs : List ℕ) → AuthOf (creation_data a q id key) bs → length id ≡ 32 → length bs ≤ 164
+creation_length a q id key bs h l =
+    let exact = length-exact (creation_data a q id key) (record { aaguid = a.aaguid; id = id; key = key }) bs h refl in
+    omega (arith, exact, at_most_77 key, l)

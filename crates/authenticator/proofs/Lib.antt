@@ -1,0 +1,9 @@
+pub mod Lists
+pub mod Store
+pub mod Replies
+pub mod Attesting
+pub mod Refusing
+pub mod Asked
+pub mod Calls
+pub mod Stored
+pub mod Soundness

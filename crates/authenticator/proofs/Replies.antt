@@ -1,0 +1,255 @@
+-- Replies have bytes, and few enough of them.
+use Rattle.std.proofs.Common.{◌≡◌, ◌+◌, ◌^◌, ◌<◌, ◌≤◌, ◌++◌, ℕ, List, [], ◌∷◌, Bool, true, false, Option, Some, None, length, refl, sym, ap, ◌∙◌, subst, arith, IsUtf8, nat_lt, rules}
+use Rattle.std.specs.Prelude.{codes, nat_le, slice_index, zero, suc, IfSome, if◌then◌else◌}
+use Rattle.std.specs.Int.{w8, w16, w32, w64, to_be_bytes}
+use Rattle.std.proofs.lemmas.List.{length-append}
+use Rattle.std.proofs.lemmas.Bool.{ltb-true}
+use Rattle.std.proofs.lemmas.Str.{IsUtf8-from_ascii}
+use Rattle.std.specs.List.{list_all}
+use Rattle.authenticator.proofs.Lists.{and_left, and_right}
+use Rattle.ccbor.specs.Item as of
+use Rattle.ccbor.specs.Item.{Item, Items, Pairs, no_items, item, no_pairs, pair}
+use Rattle.ccbor.specs.Canon.{head, before, spelling, spelling_of_items, spelling_of_pairs, count_of_items, count_of_pairs, Fits}
+use Rattle.cose.specs.Keys.{alg_of, alg_item}
+use Rattle.cose.specs.declared.key.CoseKey.{CoseKey}
+use Rattle.cose.specs.declared.key.CoseKey.TheVariants as keys
+use Rattle.cose.specs.Schemes.{Validity}
+use Rattle.authdata.specs.Statements.{none_statement, packed_statement}
+use Rattle.authdata.specs.declared.statement.AttestationType.{AttestationType}
+use Rattle.authdata.specs.declared.statement.AttestationType.TheVariants as types
+use Rattle.ctapmsg.specs.Schema.{rank_in, record_of}
+use Rattle.ctapmsg.specs.Replies.{Creation, Assertion, Info, ReplyMessage, ReplyOf, MapReply, creation_reply, assertion_reply, next_reply, info_reply, reset_reply, creation_reply_item, creation_reply_members, assertion_reply_item, assertion_reply_members, next_reply_members, info_item, info_members, credential_item, reply_user_item}
+use Rattle.authenticator.specs.Private.{IsMessage, FitsReply, IsUser, IsCount}
+use Rattle.authenticator.specs.Steps.{Attests, Entry, info_of}
+use Rattle.authenticator.specs.declared.consent.Consent.{Consent}
+
+-- ---- texts of ASCII
+
+below : (bs : List ℕ) → list_all (λ b. nat_lt b 128) bs ≡ true → (i : ℕ) → slice_index bs i < 128
+below [] e i = omega arith
+below (x ∷ xs) e zero = ltb-true x 128 (and_left (nat_lt x 128) _ e)
+below (x ∷ xs) e (suc i) = below xs (and_right (nat_lt x 128) _ e) i
+
+plain : (bs : List ℕ) → list_all (λ b. nat_lt b 128) bs ≡ true → IsUtf8 bs
+plain bs e = IsUtf8-from_ascii bs (below bs e)
+
+-- ---- at most so many bytes
+
+abbrev mutual
+  cost : Item → ℕ
+  cost (of.uint n) = 9
+  cost (of.nint n) = 9
+  cost (of.bytes bs) = 9 + length bs
+  cost (of.text bs) = 9 + length bs
+  cost (of.array xs) = 9 + cost_of_items xs
+  cost (of.map ps) = 9 + cost_of_pairs ps
+  cost (of.boolean b) = 1
+
+  cost_of_items : Items → ℕ
+  cost_of_items no_items = 0
+  cost_of_items (item x xs) = cost x + cost_of_items xs
+
+  cost_of_pairs : Pairs → ℕ
+  cost_of_pairs no_pairs = 0
+  cost_of_pairs (pair k v ps) = cost k + (cost v + cost_of_pairs ps)
+
+either_short : (b : Bool) (x y : List ℕ) → length x ≤ 9 → length y ≤ 9 → length (if b then x else y) ≤ 9
+either_short true x y h g = h
+either_short false x y h g = g
+
+head_short : (m n : ℕ) → length (head m n) ≤ 9
+unfolding head
+head_short m n =
+    either_short (nat_lt n 24) _ _ (omega arith) (either_short (nat_lt n (2 ^ 8)) _ _ (omega arith) (either_short (nat_lt n (2 ^ 16)) _ _ (omega arith)
+    (either_short (nat_lt n (2 ^ 32)) _ _ (omega arith) (omega arith))))
+
+mutual
+  short : (x : Item) → length (spelling x) ≤ cost x
+  short (of.uint n) = head_short 0 n
+  short (of.nint n) = head_short 1 n
+  short (of.bytes bs) = omega (arith, head_short 2 (length bs), length-append (head 2 (length bs)) bs)
+  short (of.text bs) = omega (arith, head_short 3 (length bs), length-append (head 3 (length bs)) bs)
+  short (of.array xs) = omega (arith, head_short 4 (count_of_items xs), short_items xs, length-append (head 4 (count_of_items xs)) (spelling_of_items xs))
+  short (of.map ps) = omega (arith, head_short 5 (count_of_pairs ps), short_pairs ps, length-append (head 5 (count_of_pairs ps)) (spelling_of_pairs ps))
+  short (of.boolean b) = omega arith
+
+  short_items : (xs : Items) → length (spelling_of_items xs) ≤ cost_of_items xs
+  short_items no_items = omega arith
+  short_items (item x xs) = omega (arith, short x, short_items xs, length-append (spelling x) (spelling_of_items xs))
+
+  short_pairs : (ps : Pairs) → length (spelling_of_pairs ps) ≤ cost_of_pairs ps
+  short_pairs no_pairs = omega arith
+  short_pairs (pair k v ps) =
+      omega (arith, short k, short v, short_pairs ps, length-append (spelling k) (spelling v ++ spelling_of_pairs ps), length-append (spelling v) (spelling_of_pairs ps))
+
+-- a reply whose map fits
+message : (r : ReplyMessage) (v : Item) → ReplyOf r (0 ∷ spelling v) → cost v ≤ 7608 → IsMessage r
+message r v spelled le = record { bytes = 0 ∷ spelling v; spelled = spelled; size = omega (arith, short v) }
+
+-- ---- makeCredential
+
+creation_fits : (r : Creation) (ps : Pairs) → r.statement ≡ of.map ps → Fits 3 (of.map ps) → IsUtf8 r.fmt → length r.fmt ≤ 10 → length r.auth_data ≤ 164 → Fits 4 (creation_reply_item r)
+unfolding head before
+creation_fits r ps e s u f a =
+    (omega arith, (refl, refl, omega arith, (omega arith, u), (refl, refl, omega arith, omega arith, (refl, refl, omega arith, subst (Fits 3) (sym e) s, tt))))
+
+creation_clean : (r : Creation) (ps : Pairs) → r.statement ≡ of.map ps → rank_in (record_of creation_reply_members) (creation_reply_item r) ≡ 9
+creation_clean r ps e = rw e refl
+
+creation_with : (r : Creation) (ps : Pairs) → r.statement ≡ of.map ps → Fits 3 (of.map ps) → IsUtf8 r.fmt → length r.fmt ≤ 10 → length r.auth_data ≤ 164 → cost r.statement ≤ 1000 → IsMessage (creation_reply r)
+creation_with r ps e s u f a le =
+    message (creation_reply r) (creation_reply_item r) (spelling (creation_reply_item r), refl, (creation_fits r ps e s u f a, refl), creation_clean r ps e) (omega arith)
+
+packed_fits : (key : CoseKey) (sig : List ℕ) → length sig ≤ 128 → Fits 3 (packed_statement (alg_of key) sig)
+unfolding head before
+packed_fits (keys.Es256 x y) sig le =
+    (omega arith, (refl, refl, (omega arith, plain (codes "alg") refl), omega arith, (refl, refl, (omega arith, plain (codes "sig") refl), omega arith, tt)))
+packed_fits (keys.EdDsa x) sig le =
+    (omega arith, (refl, refl, (omega arith, plain (codes "alg") refl), omega arith, (refl, refl, (omega arith, plain (codes "sig") refl), omega arith, tt)))
+
+named : (fmt : List ℕ) (name : List ℕ) → fmt ≡ name → IsUtf8 name → IsUtf8 fmt
+named fmt name e u = subst IsUtf8 (sym e) u
+
+pub creation_message : (valid : Validity) (key : CoseKey) (hash : List ℕ) (consent : Consent) (attest : AttestationType) (r : Creation) (signed : List Entry)
+    → Attests valid key hash consent attest r signed → length r.auth_data ≤ 164 → IsMessage (creation_reply r)
+creation_message valid key hash consent types.None r signed h a =
+    creation_with r no_pairs h.1 (omega arith, tt) (named r.fmt (codes "none") h.0 (plain (codes "none") refl))
+    (let l : length r.fmt ≡ 4 = ap length h.0 in omega arith) a (let l : cost r.statement ≡ 9 = ap cost h.1 in omega arith)
+creation_message valid key hash consent types.SelfSigned r signed h a =
+    let sig = h.1.0 in
+    let le : length sig ≤ 128 = h.1.1.1 in
+    let l : cost r.statement ≡ 9 + (12 + (9 + (12 + (9 + length sig)))) = ap cost h.1.2 ∙ omega arith in
+    creation_with r (pair (of.text (codes "alg")) (alg_item (alg_of key)) (pair (of.text (codes "sig")) (of.bytes sig) no_pairs)) h.1.2 (packed_fits key sig le)
+    (named r.fmt (codes "packed") h.0 (plain (codes "packed") refl))
+    (let m : length r.fmt ≡ 6 = ap length h.0 in omega arith) a (omega arith)
+
+-- ---- getAssertion and getNextAssertion
+
+abbrev told : List ℕ → List ℕ → List ℕ → Option (List ℕ) → Option ℕ → Assertion
+told id auth sig user number = record { credential = id; auth_data = auth; signature = sig; user = user; number = number }
+
+le_true : (a b : ℕ) → a ≤ b → nat_le a b ≡ true
+le_true a b h = search (rules, h)
+
+credential_fits : (id : List ℕ) → length id ≡ 32 → Fits 3 (credential_item id)
+unfolding head before
+credential_fits id l =
+    (omega arith, (refl, refl, (omega arith, plain (codes "id") refl), omega arith, (refl, refl, (omega arith, plain (codes "type") refl), (omega arith, plain (codes "public-key") refl), tt)))
+
+user_fits : (u : List ℕ) → IsUser u → Fits 3 (reply_user_item u)
+unfolding head before
+user_fits u h = let g = h.1 in (omega arith, (refl, refl, (omega arith, plain (codes "id") refl), omega arith, tt))
+
+told_fits : (id auth sig : List ℕ) (user : Option (List ℕ)) (number : Option ℕ) → length id ≡ 32 → length auth ≡ 37 → length sig ≤ 128 → IfSome user IsUser → IfSome number IsCount
+    → Fits 4 (assertion_reply_item (told id auth sig user number))
+unfolding head before
+told_fits id auth sig None None i a s u n =
+    (omega arith, (refl, refl, omega arith, credential_fits id i, (refl, refl, omega arith, omega arith, (refl, refl, omega arith, omega arith, tt))))
+told_fits id auth sig (Some x) None i a s u n =
+    (omega arith, (refl, refl, omega arith, credential_fits id i, (refl, refl, omega arith, omega arith, (refl, refl, omega arith, omega arith, (refl, refl, omega arith, user_fits x u, tt)))))
+told_fits id auth sig None (Some k) i a s u n =
+    let m = n.1 in
+    (omega arith, (refl, refl, omega arith, credential_fits id i, (refl, refl, omega arith, omega arith, (refl, refl, omega arith, omega arith, (refl, refl, omega arith, m, tt)))))
+told_fits id auth sig (Some x) (Some k) i a s u n =
+    let m = n.1 in
+    (omega arith, (refl, refl, omega arith, credential_fits id i, (refl, refl, omega arith, omega arith, (refl, refl, omega arith, omega arith, (refl, refl, omega arith, user_fits x u, (refl, refl, omega arith, m, tt))))))
+
+told_clean : (id auth sig : List ℕ) (user : Option (List ℕ)) (number : Option ℕ) → length id ≡ 32 → IfSome user IsUser → IfSome number IsCount
+    → rank_in (record_of assertion_reply_members) (assertion_reply_item (told id auth sig user number)) ≡ 9
+told_clean id auth sig None None i u n = rw i refl
+told_clean id auth sig (Some x) None i u n = rw (i, le_true 1 (length x) u.0, le_true (length x) 64 u.1) refl
+told_clean id auth sig None (Some k) i u n = rw (i, le_true 2 k n.0) refl
+told_clean id auth sig (Some x) (Some k) i u n = rw (i, le_true 1 (length x) u.0, le_true (length x) 64 u.1, le_true 2 k n.0) refl
+
+next_clean : (id auth sig : List ℕ) (user : Option (List ℕ)) → length id ≡ 32 → IfSome user IsUser
+    → rank_in (record_of next_reply_members) (assertion_reply_item (told id auth sig user None)) ≡ 9
+next_clean id auth sig None i u = rw i refl
+next_clean id auth sig (Some x) i u = rw (i, le_true 1 (length x) u.0, le_true (length x) 64 u.1) refl
+
+told_short : (id auth sig : List ℕ) (user : Option (List ℕ)) (number : Option ℕ) → length id ≡ 32 → length auth ≡ 37 → length sig ≤ 128 → IfSome user IsUser
+    → cost (assertion_reply_item (told id auth sig user number)) ≤ 7608
+told_short id auth sig None None i a s u = omega arith
+told_short id auth sig None (Some k) i a s u = omega arith
+told_short id auth sig (Some x) None i a s u = let le = u.1 in omega arith
+told_short id auth sig (Some x) (Some k) i a s u = let le = u.1 in omega arith
+
+pub assertion_message : (r : Assertion) → FitsReply r → IsMessage (assertion_reply r)
+assertion_message r h =
+    message (assertion_reply r) (assertion_reply_item r) (
+      spelling (assertion_reply_item r),
+      refl,
+      (told_fits r.credential r.auth_data r.signature r.user r.number h.credential h.auth_data h.signature h.user h.number, refl),
+      told_clean r.credential r.auth_data r.signature r.user r.number h.credential h.user h.number,
+    )
+    (told_short r.credential r.auth_data r.signature r.user r.number h.credential h.auth_data h.signature h.user)
+
+next_with : (r : Assertion) (number : Option ℕ) → number ≡ None → FitsReply (told r.credential r.auth_data r.signature r.user number) → IsMessage (next_reply (told r.credential r.auth_data r.signature r.user number))
+next_with r None e h =
+    let s = told r.credential r.auth_data r.signature r.user None in
+    message (next_reply s) (assertion_reply_item s) (
+      spelling (assertion_reply_item s),
+      refl,
+      (told_fits r.credential r.auth_data r.signature r.user None h.credential h.auth_data h.signature h.user tt, refl),
+      next_clean r.credential r.auth_data r.signature r.user h.credential h.user,
+    )
+    (told_short r.credential r.auth_data r.signature r.user None h.credential h.auth_data h.signature h.user)
+next_with r (Some k) e h = absurd cc
+
+pub next_message : (r : Assertion) → r.number ≡ None → FitsReply r → IsMessage (next_reply r)
+next_message r e h = next_with r r.number e h
+
+-- ---- getInfo
+
+info_fits : (aaguid : List ℕ) (uv : Bool) → length aaguid ≡ 16 → Fits 4 (info_item (info_of aaguid uv))
+unfolding head before
+info_fits aaguid uv l = (
+  omega arith,
+  (
+    refl,
+    refl,
+    omega arith,
+    (omega arith, ((omega arith, plain (codes "FIDO_2_0") refl), tt)),
+    (
+      refl,
+      refl,
+      omega arith,
+      omega arith,
+      (
+        refl,
+        refl,
+        omega arith,
+        (
+          omega arith,
+          (
+            refl,
+            refl,
+            (omega arith, plain (codes "rk") refl),
+            tt,
+            (
+              refl,
+              refl,
+              (omega arith, plain (codes "up") refl),
+              tt,
+              (
+                refl,
+                refl,
+                (omega arith, plain (codes "uv") refl),
+                tt,
+                (refl, refl, (omega arith, plain (codes "plat") refl), tt, tt),
+              ),
+            ),
+          ),
+        ),
+        (refl, refl, omega arith, omega arith, (refl, refl, omega arith, omega arith, (refl, refl, omega arith, omega arith, tt))),
+      ),
+    ),
+  ),
+)
+
+pub info_message : (r : Info) (aaguid : List ℕ) (uv : Bool) → r ≡ info_of aaguid uv → length aaguid ≡ 16 → IsMessage (info_reply r)
+info_message r aaguid uv e l =
+    rw e (message (info_reply (info_of aaguid uv)) (info_item (info_of aaguid uv))
+    (spelling (info_item (info_of aaguid uv)), refl, (info_fits aaguid uv l, refl), rw l refl) (omega arith))
+
+pub reset_message : IsMessage reset_reply
+reset_message = record { bytes = 0 ∷ []; spelled = refl; size = omega arith }

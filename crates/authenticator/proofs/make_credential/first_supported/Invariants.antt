@@ -1,0 +1,7 @@
+use Rattle.std.proofs.Common.{◌≡◌, drop, map}
+use Rattle.ctapmsg.specs.RequestView.{parameters_view}
+use Rattle.authenticator.specs.Orders.{first_supported}
+use Rattle.authenticator.proofs.make_credential.first_supported.Given as goal
+
+abbrev pub invariant-loop-parameters : goal.invariant-loop-parameters
+invariant-loop-parameters l = first_supported (map parameters_view (drop l.parameters-index l.list)) ≡ first_supported (map parameters_view l.list)

@@ -1,0 +1,117 @@
+-- What holds of each step, from a state in which it held: the laws that an account of whole runs needs.
+use Rattle.std.specs.Prelude.{◌≡◌, ◌≤◌, ◌⊎◌, ℕ, ◌+◌, List, [], ◌∷◌, ◌++◌, length, Bool, true, Option, Some, None, All, IfSome}
+use Rattle.cose.specs.Schemes.{Validity}
+use Rattle.cose.specs.declared.key.CoseKey.{CoseKey}
+use Rattle.authdata.specs.Flags.{is_set, UP, UV}
+use Rattle.authdata.specs.Layout.{AttestedCredential, AuthenticatorData, AuthOf}
+use Rattle.authdata.specs.declared.statement.AttestationType.{AttestationType}
+use Rattle.authenticator.specs.State.{Credential, Asked, Remembered, State, new_state}
+use Rattle.authenticator.specs.Credentials.{credential_of}
+use Rattle.authenticator.specs.Steps.{Entry, Outcome, Keys, Step, assertion, attestation, key_of}
+use Rattle.authenticator.specs.declared.consent.Consent.{Consent}
+use Rattle.authenticator.specs.declared.consent.Words.{Words}
+
+-- ---- states
+
+-- each id stands once
+abbrev pub IsUnique : List Credential → Type 0
+IsUnique [] = Unit {0}
+IsUnique (c ∷ cs) = (credential_of c.id cs ≡ None) × IsUnique cs
+
+-- the id is that of a resident credential
+abbrev pub IsResident : List Credential → List ℕ → Type 0
+IsResident cs id = (c : Credential) × (credential_of id cs ≡ Some c) × (c.resident ≡ true)
+
+-- the flags follow the consent that was given to the request
+pub record FollowsConsent (asked : Asked) : Type 0 where
+  pub hash : length asked.hash ≡ 32
+  pub present : asked.up ≡ true → asked.consent.present ≡ true
+  pub verified : asked.uv ≡ true → asked.consent.verified ≡ true
+
+pub record SoundRemembered (cs : List Credential) (r : Remembered) : Type 0 where
+  pub asked : FollowsConsent r.asked
+  pub next : IsResident cs r.next
+  pub later : All (IsResident cs) r.later
+
+pub record SoundState (a : State) : Type 0 where
+  pub unique : IsUnique a.credentials
+  pub remembered : IfSome a.remembered (SoundRemembered a.credentials)
+
+-- ---- entries
+
+-- an assertion: its message is 37 bytes of authenticator data and a hash; its counter is at least 1; UP is set
+-- only if presence was given to the request, UV only if verification was
+pub record SoundAssertion (e : Entry) : Type 0 where
+  pub purpose : e.purpose ≡ assertion
+  pub auth : AuthenticatorData
+  pub bytes : List ℕ
+  pub hash : List ℕ
+  pub spelled : AuthOf auth bytes
+  pub bare : auth.attested ≡ None
+  pub message : e.message ≡ bytes ++ hash
+  pub hash_length : length hash ≡ 32
+  pub size : length e.message ≡ 69
+  pub counts : 1 ≤ auth.sign_count
+  pub present : is_set auth.flags UP ≡ true → e.consent.present ≡ true
+  pub verified : is_set auth.flags UV ≡ true → e.consent.verified ≡ true
+
+-- an attestation: its message is authenticator data that attest a credential, and a hash
+pub record SoundAttestation (e : Entry) : Type 0 where
+  pub purpose : e.purpose ≡ attestation
+  pub auth : AuthenticatorData
+  pub attested : AttestedCredential
+  pub bytes : List ℕ
+  pub hash : List ℕ
+  pub spelled : AuthOf auth bytes
+  pub full : auth.attested ≡ Some attested
+  pub message : e.message ≡ bytes ++ hash
+  pub hash_length : length hash ≡ 32
+  pub size : 161 ≤ length e.message
+
+abbrev pub IsSound : Entry → Type 0
+IsSound e = SoundAssertion e ⊎ SoundAttestation e
+
+-- an assertion's counter is one above that of a stored credential, which has it from then on
+pub record Counted (public : Keys) (old new : List Credential) (e : Entry) : Type 0 where
+  pub credential : Credential
+  pub found : credential_of credential.id old ≡ Some credential
+  pub key : e.key ≡ key_of public credential
+  pub auth : AuthenticatorData
+  pub bytes : List ℕ
+  pub hash : List ℕ
+  pub spelled : AuthOf auth bytes
+  pub message : e.message ≡ bytes ++ hash
+  pub count : auth.sign_count ≡ credential.counter + 1
+  pub after : credential_of credential.id new ≡ Some (record credential { counter = credential.counter + 1 })
+
+abbrev pub IsCounted : Keys → List Credential → List Credential → Entry → Type 0
+IsCounted public old new e = e.purpose ≡ assertion → Counted public old new e
+
+-- ---- credentials
+
+-- a credential that is still stored is the same, and its counter has not fallen
+abbrev pub Keeps : List Credential → List Credential → Type 0
+Keeps old new = (id : List ℕ) (c : Credential) → credential_of id old ≡ Some c
+    → (credential_of id new ≡ None)
+    ⊎ ((d : Credential) × (credential_of id new ≡ Some d) × (c.counter ≤ d.counter) × (record d { counter = c.counter } ≡ c))
+
+-- a key that is made is that of a stored credential
+abbrev pub IsStored : Keys → List Credential → CoseKey → Type 0
+IsStored public cs key = (id : List ℕ) × (c : Credential) × (credential_of id cs ≡ Some c) × (key ≡ key_of public c)
+
+-- ---- steps
+
+pub record SoundOutcome (public : Keys) (old : State) (out : Outcome) : Type 0 where
+  pub state : SoundState out.state
+  pub keeps : Keeps old.credentials out.state.credentials
+  pub entries : All IsSound out.signed
+  pub counted : All (IsCounted public old.credentials out.state.credentials) out.signed
+  pub made : All (IsStored public out.state.credentials) out.made
+
+pub record StepLaws (valid : Validity) (public : Keys) : Type 0 where
+  -- a new authenticator's state is sound
+  pub begins : (aaguid : List ℕ) (uv : Bool) (attest : AttestationType) → SoundState (new_state aaguid uv attest)
+  -- and each step keeps it so
+  pub sound : (old : State) (channel : ℕ) (bs : List ℕ) (consent : Consent) (words : Words) (out : Outcome)
+      → SoundState old → length words.id ≡ 32 → Step valid public old channel bs consent words out
+      → SoundOutcome public old out

@@ -1,0 +1,32 @@
+-- What the authenticator's types stand for.
+use Rattle.std.specs.Prelude.{ℕ, List, [], ◌∷◌, Option, Some, None, map, reverse, option_map, string_bytes}
+use Rattle.authenticator.specs.State.{Credential, Asked, Remembered}
+use Rattle.authenticator.specs.declared.credential.StoredCredential.{StoredCredential}
+use Rattle.authenticator.specs.declared.remembered.AskedAssertion.{AskedAssertion}
+use Rattle.authenticator.specs.declared.remembered.RememberedAssertion.{RememberedAssertion}
+use Rattle.authenticator.specs.declared.remembered.Candidates.{Candidates}
+
+abbrev pub credential_view : StoredCredential → Credential
+credential_view c = record {
+  id = c.id;
+  rp_id = string_bytes c.rp_id;
+  user = c.user.items;
+  secret = c.secret;
+  alg = c.alg;
+  resident = c.resident;
+  counter = c.counter;
+}
+
+abbrev pub credentials_view : List StoredCredential → List Credential
+credentials_view cs = map credential_view cs
+
+abbrev pub asked_view : AskedAssertion → Asked
+asked_view a = record { channel = a.channel; hash = a.hash.items; up = a.up; uv = a.uv; consent = a.consent }
+
+-- the later ones stand in order of creation, so the last of them comes first
+abbrev pub remembered_view : RememberedAssertion → Remembered
+remembered_view r = record { asked = asked_view r.asked; next = r.candidates.first; later = reverse r.candidates.later.items }
+
+abbrev pub ids_of : Option Candidates → List (List ℕ)
+ids_of None = []
+ids_of (Some c) = c.first ∷ reverse c.later.items

@@ -1,0 +1,26 @@
+//! A stored credential.
+
+ghost use Rattle.std.specs.Prelude.{◌≤◌, length};
+
+use cose::Alg;
+
+/// A public key credential source (WebAuthn Level 2, section 4).
+#[derive(Drop)]
+pub(crate) struct StoredCredential {
+    /// Its id.
+    pub id: [u8; 32],
+    /// The id of its relying party.
+    pub rp_id: String,
+    /// The user handle: 1 to 64 bytes.
+    pub user: Vec<u8>,
+    /// The secret of its key.
+    pub secret: [u8; 32],
+    /// The key's algorithm.
+    pub alg: Alg,
+    /// Whether it is resident (discoverable).
+    pub resident: bool,
+    /// The signature counter: that of its last assertion, or 0.
+    pub counter: u32,
+    ghost user_low: { 1 ≤ length user.items },
+    ghost user_high: { length user.items ≤ 64 },
+}

@@ -1,0 +1,202 @@
+//! authenticatorGetAssertion (CTAP 2.1, section 6.2) and authenticatorGetNextAssertion (section 6.3).
+
+ghost use Rattle.std.specs.Prelude.{◌≡◌, ◌<◌, ◌≤◌, ◌∷◌, IfOk, IfSome, MatchOption, OnErr, length, option_map, reverse, true};
+ghost use Rattle.first_line.specs.Lines.{first_true};
+ghost use Rattle.ctapmsg.specs.RequestView.{assertion_view};
+ghost use Rattle.authenticator.specs.Credentials.{credential_of, with_counter};
+ghost use Rattle.authenticator.specs.Orders.{candidates, is_at_end, remembered_on};
+ghost use Rattle.authenticator.specs.Private.{AssertionHappens, FirstHappens, IsCount, NextHappens, consent_order};
+ghost use Rattle.authenticator.specs.State.{Remembered};
+ghost use Rattle.authenticator.specs.Steps.{asked_by, number_with, remembering};
+ghost use Rattle.authenticator.specs.Views.{asked_view, credential_view, credentials_view, ids_of, remembered_view};
+
+use crate::assertion::assertion;
+use crate::authenticator::Authenticator;
+use crate::consent::Consent;
+use crate::credential::StoredCredential;
+use crate::credentials::{candidates_for, find, set_counter};
+use crate::options::{assertion_options, is_denied, is_false, is_true, is_unmet};
+use crate::remembered::{AskedAssertion, Candidates, RememberedAssertion, remember};
+use crate::reply::written;
+use cose::Signer;
+use ctapmsg::status::{INVALID_OPTION, NO_CREDENTIALS, NOT_ALLOWED, OPERATION_DENIED, OTHER};
+use ctapmsg::{GetAssertion, Reply};
+use std::alloc::{AllocError, Global};
+
+/// What a getAssertion asks.
+fn asked_by(channel: u32, request: GetAssertion, consent: Consent) -> AskedAssertion
+    ensures { asked_view result ≡ asked_by channel (assertion_view request) consent }
+{
+    let options = assertion_options(request.options);
+    AskedAssertion {
+        channel,
+        hash: request.client_data_hash,
+        up: !is_false(options.up),
+        uv: is_true(options.uv),
+        consent,
+    }
+}
+
+/// How many may answer, told where there are later ones.
+fn number_with(later: &[[u8; 32]]) -> Option<u64>
+    ensures count { result ≡ number_with (reverse later.now) }
+    ensures fits { IfSome result IsCount }
+{
+    if later.is_empty() {
+        return None;
+    }
+    Some(later.len() as u64 + 1)
+}
+
+impl Authenticator {
+    /// The getAssertion that is remembered, if it is this channel's.
+    fn remembered_on(&self, channel: u32) -> Option<&RememberedAssertion>
+        ensures { option_map (λ r. remembered_view r.now) result ≡ remembered_on channel self.now.remembered }
+    {
+        match &self.remembered {
+            Some(remembered) if remembered.asked.channel == channel => Some(remembered),
+            _ => None,
+        }
+    }
+
+    /// The credential of an id.
+    fn stored(&self, id: &[u8]) -> Option<&StoredCredential>
+        ensures { option_map (λ c. credential_view c.now) result ≡ credential_of id.now self.now.credentials }
+    {
+        find(&self.credentials, id)
+    }
+
+    /// The credential of an id, if its counter can grow.
+    fn countable(&self, id: &[u8]) -> Option<&StoredCredential>
+        ensures { MatchOption result
+            (is_at_end (credential_of id.now self.now.credentials) ≡ true)
+            (λ c. (credential_of id.now self.now.credentials ≡ Some (credential_view c.now)) × (c.now.counter < 4294967295)) }
+    {
+        let credential = self.stored(id)?;
+        if credential.counter < u32::MAX {
+            Some(credential)
+        } else {
+            None
+        }
+    }
+
+    /// Who may answer a getAssertion.
+    fn candidates(
+        &self,
+        alloc: Global,
+        request: &GetAssertion,
+    ) -> Result<Option<Candidates>, AllocError>
+        ensures { IfOk result (λ o. ids_of o ≡ candidates self.now.credentials (assertion_view request.now).rp_id (assertion_view request.now).allow_list) }
+    {
+        candidates_for(
+            alloc,
+            &self.credentials,
+            request.rp_id.as_str(),
+            &request.allow_list,
+        )
+    }
+
+    /// The status by which a getAssertion is refused for its options or for want of consent.
+    fn consent_refusal(&self, request: &GetAssertion, consent: Consent) -> Option<u8>
+        ensures { result ≡ first_true (consent_order self.now (assertion_view request.now) consent) }
+    {
+        let options = assertion_options(request.options);
+        if is_unmet(options.uv, self.uv) {
+            return Some(INVALID_OPTION);
+        }
+        if is_denied(!is_false(options.up), options.uv, consent) {
+            return Some(OPERATION_DENIED);
+        }
+        None
+    }
+
+    /// Stores the counter of a credential that has answered, and what is remembered from now on.
+    fn settle(&mut self, id: &[u8], counter: u32, remembered: Option<RememberedAssertion>)
+        ensures { self.new ≡ record self.old { credentials = with_counter id.now counter self.old.credentials; remembered = option_map remembered_view remembered } }
+    {
+        set_counter(&mut self.credentials, id, counter);
+        self.remembered = remembered;
+    }
+
+    /// The first candidate answers.
+    fn answer_first<S: Signer>(
+        &mut self,
+        scheme: &S,
+        asked: AskedAssertion,
+        candidates: Candidates,
+    ) -> Result<Vec<u8>, AllocError>
+        ensures done { IfOk result (λ reply. FirstHappens (S.valid scheme.now) (S.public_of scheme.now) self.old (ids_of (Some candidates)) (asked_view asked) reply.items self.new) }
+        ensures size { IfOk result (λ reply. length reply.items ≤ 7609) }
+        ensures err { OnErr result (self.new ≡ self.old) }
+    {
+        let alloc = self.allocator();
+        let Some(credential) = self.countable(&candidates.first) else {
+            return self.refuse(OTHER);
+        };
+        let number = number_with(&candidates.later);
+        let counter = credential.counter + 1;
+        let shown = assertion(alloc, scheme, credential, &asked, number)?;
+        let reply = written(alloc, Reply::GetAssertion(shown))?;
+        let Candidates { first, later } = candidates;
+        self.settle(&first, counter, remember(asked, later));
+        Ok(reply)
+    }
+
+    /// Answers a getAssertion.
+    pub(crate) fn get_assertion<S: Signer>(
+        &mut self,
+        scheme: &S,
+        channel: u32,
+        request: GetAssertion,
+        consent: Consent,
+    ) -> Result<Vec<u8>, AllocError>
+        ensures done { IfOk result (λ reply. AssertionHappens (S.valid scheme.now) (S.public_of scheme.now) self.old channel (assertion_view request) consent reply.items self.new) }
+        ensures size { IfOk result (λ reply. length reply.items ≤ 7609) }
+        ensures err { OnErr result (self.new ≡ self.old) }
+    {
+        if let Some(status) = self.consent_refusal(&request, consent) {
+            return self.refuse(status);
+        }
+        let found = self.candidates(self.allocator(), &request)?;
+        let Some(candidates) = found else {
+            return self.refuse(NO_CREDENTIALS);
+        };
+        let asked = asked_by(channel, request, consent);
+        self.answer_first(scheme, asked, candidates)
+    }
+
+    /// Stores the counter of the next candidate, which has answered, and remembers the later ones.
+    fn advance(&mut self, counter: u32)
+        ensures { (r : Remembered) → self.old.remembered ≡ Some r
+            → self.new ≡ record self.old { credentials = with_counter r.next counter self.old.credentials; remembered = remembering r.asked r.later } }
+    {
+        if let Some(remembered) = self.remembered.take() {
+            let Candidates { first, later } = remembered.candidates;
+            self.settle(&first, counter, remember(remembered.asked, later));
+        }
+    }
+
+    /// Answers a getNextAssertion.
+    pub(crate) fn get_next_assertion<S: Signer>(
+        &mut self,
+        scheme: &S,
+        channel: u32,
+    ) -> Result<Vec<u8>, AllocError>
+        ensures done { IfOk result (λ reply. NextHappens (S.valid scheme.now) (S.public_of scheme.now) self.old channel reply.items self.new) }
+        ensures size { IfOk result (λ reply. length reply.items ≤ 7609) }
+        ensures err { OnErr result (self.new ≡ self.old) }
+    {
+        let alloc = self.allocator();
+        let Some(remembered) = self.remembered_on(channel) else {
+            return self.refuse(NOT_ALLOWED);
+        };
+        let Some(credential) = self.countable(&remembered.candidates.first) else {
+            return self.refuse(OTHER);
+        };
+        let counter = credential.counter + 1;
+        let shown = assertion(alloc, scheme, credential, &remembered.asked, None)?;
+        let reply = written(alloc, Reply::GetNextAssertion(shown))?;
+        self.advance(counter);
+        Ok(reply)
+    }
+}

@@ -1,0 +1,18 @@
+//! The laws of an authenticator's steps.
+
+ghost use Rattle.authenticator.specs.Laws.{StepLaws};
+
+use cose::Signer;
+
+/// A new authenticator stores and remembers nothing, and of each step from a sound state:
+///
+/// - each signing is an attestation, of a message of at least 161 bytes, or an assertion, of exactly 69 bytes with
+///   a counter of at least 1, with UP set only if presence was given to its request, and UV only if verification
+///   was; so also of a getNextAssertion, for the consent given to the getAssertion that it goes on with;
+/// - a stored credential's counter never falls, and an assertion's is one above what it was;
+/// - each id stands once;
+/// - what is remembered has flags that follow its consent, and names resident credentials;
+/// - a key that is made is that of a stored credential.
+pub fn step_laws<S: Signer>()
+    ensures { (scheme : S) → StepLaws (S.valid scheme) (S.public_of scheme) }
+{}

@@ -1,0 +1,189 @@
+//! authenticatorMakeCredential (CTAP 2.1, section 6.1).
+
+ghost use Rattle.std.specs.Prelude.{◌≡◌, ◌<◌, ◌≤◌, ◌++◌, ◌∷◌, ◌||◌, [], IfOk, MatchOption, OnErr, OnOk, ℤ, length, map, nat_le, option_map, remove};
+ghost use Rattle.ctapmsg.specs.RequestView.{creation_view, parameters_view};
+ghost use Rattle.authenticator.specs.Orders.{creation_flags, first_supported, is_false, is_true, kept, supported, supported_by};
+ghost use Rattle.authenticator.specs.Private.{CreationHappens, IsChoice, IsUser};
+ghost use Rattle.authenticator.specs.State.{forgotten};
+ghost use Rattle.authenticator.specs.Steps.{new_credential};
+ghost use Rattle.authenticator.specs.Views.{credential_view, credentials_view};
+
+use crate::authenticator::Authenticator;
+use crate::consent::{Consent, Words};
+use crate::credential::StoredCredential;
+use crate::credentials::{find, is_excluded, is_public_key, resident_place, store};
+use crate::options::{creation_options, is_denied, is_false, is_true, is_unmet};
+use crate::reply::written;
+use cose::{Alg, Signer};
+use ctapmsg::status::{
+    CREDENTIAL_EXCLUDED, INVALID_OPTION, KEY_STORE_FULL, OPERATION_DENIED, OTHER,
+    UNSUPPORTED_ALGORITHM,
+};
+use ctapmsg::{MakeCredential, Parameters, RelyingParty, Reply, User};
+use std::alloc::AllocError;
+
+/// The most credentials of one authenticator.
+pub const MAX_CREDENTIALS: usize = 256;
+
+/// The algorithm of a COSE number, where it is supported (RFC 9053 section 2).
+fn supported(number: i128) -> Option<Alg>
+    ensures { result ≡ supported number }
+{
+    if number == -7 {
+        Some(Alg::Es256)
+    } else if number == -8 {
+        Some(Alg::EdDsa)
+    } else {
+        None
+    }
+}
+
+/// The algorithm that the parameters ask for, where it is supported.
+fn supported_by(parameters: &Parameters) -> Option<Alg>
+    ensures { result ≡ supported_by (parameters_view parameters.now) }
+{
+    if is_public_key(parameters.kind.as_str()) {
+        supported(parameters.alg)
+    } else {
+        None
+    }
+}
+
+/// The first algorithm that is supported.
+fn first_supported(list: &[Parameters]) -> Option<Alg>
+    ensures { result ≡ first_supported (map parameters_view list.now) }
+{
+    for parameters in list {
+        if let Some(alg) = supported_by(parameters) {
+            return Some(alg);
+        }
+    }
+    None
+}
+
+/// Where the credential stands that the new one takes the place of: a resident one of the same relying party and
+/// user, where the new one is to be resident.
+fn overwritten(credentials: &[StoredCredential], request: &MakeCredential) -> Option<usize>
+    ensures { MatchOption result
+        (kept (credentials_view credentials.now) (creation_view request.now) ≡ credentials_view credentials.now)
+        (λ i. (i < length credentials.now) × (kept (credentials_view credentials.now) (creation_view request.now) ≡ credentials_view (remove credentials.now i))) }
+{
+    if !is_true(creation_options(request.options).rk) {
+        return None;
+    }
+    resident_place(credentials, request.rp.id.as_str(), &request.user.id)
+}
+
+/// Whether no room is left for another credential.
+fn is_full(credentials: &[StoredCredential], request: &MakeCredential) -> bool
+    ensures { result ≡ nat_le 256 (length (kept (credentials_view credentials.now) (creation_view request.now))) }
+{
+    match overwritten(credentials, request) {
+        Some(_) => MAX_CREDENTIALS < credentials.len(),
+        None => MAX_CREDENTIALS <= credentials.len(),
+    }
+}
+
+/// Stores the new credential, in place of the one that it overwrites.
+fn put(
+    credentials: &mut Vec<StoredCredential>,
+    request: MakeCredential,
+    alg: Alg,
+    words: &Words,
+) -> Result<(), AllocError>
+    requires { IsUser request.user.id.items }
+    ensures ok { OnOk result (credentials_view credentials.new.items ≡ kept (credentials_view credentials.old.items) (creation_view request) ++ new_credential (creation_view request) alg words.now ∷ []) }
+    ensures err { OnErr result (credentials.new.items ≡ credentials.old.items) }
+{
+    let overwritten = overwritten(credentials.as_slice(), &request);
+    let MakeCredential {
+        rp,
+        user,
+        options,
+        ..
+    } = request;
+    let RelyingParty { id: rp_id, .. } = rp;
+    let User { id: user, .. } = user;
+    let credential = StoredCredential {
+        id: words.id,
+        rp_id,
+        user,
+        secret: words.secret,
+        alg,
+        resident: is_true(creation_options(options).rk),
+        counter: 0,
+    };
+    store(credentials, credential, overwritten)
+}
+
+impl Authenticator {
+    /// The algorithm of the new credential, or the status of the first line of the order that applies.
+    fn creation_choice(
+        &self,
+        request: &MakeCredential,
+        consent: Consent,
+        words: &Words,
+    ) -> Result<Alg, u8>
+        ensures { IsChoice self.now (creation_view request.now) consent words.now result }
+    {
+        let options = creation_options(request.options);
+        let Some(alg) = first_supported(&request.pub_key_cred_params) else {
+            return Err(UNSUPPORTED_ALGORITHM);
+        };
+        if is_false(options.up) || is_unmet(options.uv, self.uv) {
+            return Err(INVALID_OPTION);
+        }
+        if is_denied(true, options.uv, consent) {
+            return Err(OPERATION_DENIED);
+        }
+        if is_excluded(
+            &self.credentials,
+            request.rp.id.as_str(),
+            &request.exclude_list,
+        ) {
+            return Err(CREDENTIAL_EXCLUDED);
+        }
+        if find(&self.credentials, &words.id).is_some() {
+            return Err(OTHER);
+        }
+        if is_full(&self.credentials, request) {
+            return Err(KEY_STORE_FULL);
+        }
+        Ok(alg)
+    }
+
+    /// Stores the new credential; what was remembered is forgotten.
+    fn add(&mut self, request: MakeCredential, alg: Alg, words: &Words) -> Result<(), AllocError>
+        requires { IsUser request.user.id.items }
+        ensures ok { OnOk result (self.new ≡ record (forgotten self.old) { credentials = kept self.old.credentials (creation_view request) ++ new_credential (creation_view request) alg words.now ∷ [] }) }
+        ensures err { OnErr result (self.new ≡ self.old) }
+    {
+        put(&mut self.credentials, request, alg, words)?;
+        self.remembered = None;
+        Ok(())
+    }
+
+    /// Makes a credential.
+    pub(crate) fn make_credential<S: Signer>(
+        &mut self,
+        scheme: &S,
+        request: MakeCredential,
+        consent: Consent,
+        words: Words,
+    ) -> Result<Vec<u8>, AllocError>
+        requires { IsUser request.user.id.items }
+        ensures done { IfOk result (λ reply. CreationHappens (S.valid scheme.now) (S.public_of scheme.now) self.old (creation_view request) consent words reply.items self.new) }
+        ensures size { IfOk result (λ reply. length reply.items ≤ 7609) }
+        ensures err { OnErr result (self.new ≡ self.old) }
+    {
+        let alloc = self.allocator();
+        let alg = match self.creation_choice(&request, consent, &words) {
+            Ok(alg) => alg,
+            Err(status) => return self.refuse(status),
+        };
+        let shown = self.creation_reply(alloc, scheme, &request, alg, &words)?;
+        let reply = written(alloc, Reply::MakeCredential(shown))?;
+        self.add(request, alg, &words)?;
+        Ok(reply)
+    }
+}
