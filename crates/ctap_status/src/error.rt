@@ -68,6 +68,7 @@ impl<T: Drop> From<AllocFailed<T>> for Error {
 
 impl From<cbor_map::Error> for Error {
     ghost use Rattle.ctap_status.specs.Numbers.{of_map};
+
     ghost from_gives = { λ e f. f ≡ of_map e };
 
     fn from(e: cbor_map::Error) -> Error {
