@@ -4,7 +4,7 @@ use Rattle.std.specs.Prelude.{Result, Ok, Err, IfOk, OnOk}
 use Rattle.cose.specs.Schemes.{Validity}
 use Rattle.ctapmsg.specs.Requests.{RequestMessage}
 use Rattle.ctapmsg.specs.Status.{IsRequest, Refused}
-use Rattle.ctapmsg.specs.declared.error.Error.TheVariants as errors
+use Rattle.ctap_status.specs.declared.error.Error.TheVariants as errors
 use Rattle.authenticator.specs.State.{State, forgotten}
 use Rattle.authenticator.specs.Private.{Happens}
 use Rattle.authenticator.specs.Steps.{Keys, Outcome, Steps, refusal}

@@ -17,8 +17,8 @@ use Rattle.cose.specs.Schemes.{Validity}
 use Rattle.authdata.specs.Statements.{none_statement, packed_statement}
 use Rattle.authdata.specs.declared.statement.AttestationType.{AttestationType}
 use Rattle.authdata.specs.declared.statement.AttestationType.TheVariants as types
-use Rattle.ctapmsg.specs.Schema.{rank_in, record_of}
-use Rattle.ctapmsg.specs.Replies.{Creation, Assertion, Info, ReplyMessage, ReplyOf, MapReply, creation_reply, assertion_reply, next_reply, info_reply, reset_reply, creation_reply_item, creation_reply_members, assertion_reply_item, assertion_reply_members, next_reply_members, info_item, info_members, credential_item, reply_user_item}
+use Rattle.ctapmsg.specs.Schema.{gravest, item_of, record_of}
+use Rattle.ctapmsg.specs.Replies.{Creation, Assertion, Info, ReplyMessage, ReplyOf, MapReply, creation_reply, assertion_reply, next_reply, info_reply, reset_reply, creation_reply_item, creation_reply_members, assertion_reply_item, assertion_reply_members, next_reply_members, info_item, info_members, credential_members, credential_content, reply_user_members, reply_user_content}
 use Rattle.authenticator.specs.Private.{IsMessage, FitsReply, IsUser, IsCount}
 use Rattle.authenticator.specs.Steps.{Attests, Entry, info_of}
 use Rattle.authenticator.specs.declared.consent.Consent.{Consent}
@@ -93,7 +93,7 @@ unfolding head before
 creation_fits r ps e s u f a =
     (omega arith, (refl, refl, omega arith, (omega arith, u), (refl, refl, omega arith, omega arith, (refl, refl, omega arith, subst (Fits 3) (sym e) s, tt))))
 
-creation_clean : (r : Creation) (ps : Pairs) → r.statement ≡ of.map ps → rank_in (record_of creation_reply_members) (creation_reply_item r) ≡ 9
+creation_clean : (r : Creation) (ps : Pairs) → r.statement ≡ of.map ps → gravest (record_of creation_reply_members) (creation_reply_item r) ≡ None
 creation_clean r ps e = rw e refl
 
 creation_with : (r : Creation) (ps : Pairs) → r.statement ≡ of.map ps → Fits 3 (of.map ps) → IsUtf8 r.fmt → length r.fmt ≤ 10 → length r.auth_data ≤ 164 → cost r.statement ≤ 1000 → IsMessage (creation_reply r)
@@ -131,6 +131,12 @@ told id auth sig user number = record { credential = id; auth_data = auth; signa
 le_true : (a b : ℕ) → a ≤ b → nat_le a b ≡ true
 le_true a b h = search (rules, h)
 
+abbrev credential_item : List ℕ → Item
+credential_item id = item_of (record_of credential_members) (credential_content id)
+
+abbrev reply_user_item : List ℕ → Item
+reply_user_item id = item_of (record_of reply_user_members) (reply_user_content id)
+
 credential_fits : (id : List ℕ) → length id ≡ 32 → Fits 3 (credential_item id)
 unfolding head before
 credential_fits id l =
@@ -155,14 +161,14 @@ told_fits id auth sig (Some x) (Some k) i a s u n =
     (omega arith, (refl, refl, omega arith, credential_fits id i, (refl, refl, omega arith, omega arith, (refl, refl, omega arith, omega arith, (refl, refl, omega arith, user_fits x u, (refl, refl, omega arith, m, tt))))))
 
 told_clean : (id auth sig : List ℕ) (user : Option (List ℕ)) (number : Option ℕ) → length id ≡ 32 → IfSome user IsUser → IfSome number IsCount
-    → rank_in (record_of assertion_reply_members) (assertion_reply_item (told id auth sig user number)) ≡ 9
+    → gravest (record_of assertion_reply_members) (assertion_reply_item (told id auth sig user number)) ≡ None
 told_clean id auth sig None None i u n = rw i refl
 told_clean id auth sig (Some x) None i u n = rw (i, le_true 1 (length x) u.0, le_true (length x) 64 u.1) refl
 told_clean id auth sig None (Some k) i u n = rw (i, le_true 2 k n.0) refl
 told_clean id auth sig (Some x) (Some k) i u n = rw (i, le_true 1 (length x) u.0, le_true (length x) 64 u.1, le_true 2 k n.0) refl
 
 next_clean : (id auth sig : List ℕ) (user : Option (List ℕ)) → length id ≡ 32 → IfSome user IsUser
-    → rank_in (record_of next_reply_members) (assertion_reply_item (told id auth sig user None)) ≡ 9
+    → gravest (record_of next_reply_members) (assertion_reply_item (told id auth sig user None)) ≡ None
 next_clean id auth sig None i u = rw i refl
 next_clean id auth sig (Some x) i u = rw (i, le_true 1 (length x) u.0, le_true (length x) 64 u.1) refl
 

@@ -9,7 +9,7 @@ use Rattle.std.proofs.lemmas.Slice.Eq.{bytes_eq-Decides}
 use Rattle.ctapmsg.specs.Entities.{CredentialDescriptor}
 use Rattle.ctapmsg.specs.Requests.{CreationRequest}
 use Rattle.ctapmsg.specs.RequestView.{descriptor_view}
-use Rattle.ctapmsg.specs.declared.request.Descriptor.{Descriptor}
+use Rattle.requests.specs.declared.request.Descriptor.{Descriptor}
 use Rattle.std.proofs.lemmas.Grind.{common_steps}
 use Rattle.std.proofs.lemmas.List.Quantifiers.{position-Some}
 use Rattle.authenticator.specs.State.{Credential}
