@@ -1,5 +1,5 @@
 -- What a request that was read has: the sizes that its table asks for.
-use Rattle.std.proofs.Common.{◌≡◌, ◌≤◌, ◌&&◌, ℕ, List, ◌∷◌, Bool, true, false, length, refl, subst, arith}
+use Rattle.std.proofs.Common.{◌≡◌, ◌≤◌, ◌&&◌, ℕ, List, ◌∷◌, true, false, length, refl, subst, arith}
 use Rattle.std.specs.Prelude.{nat_le, not, Option, Some, None, option_map}
 use Rattle.std.proofs.lemmas.Bool.{leb-true}
 use Rattle.ccbor.specs.Item as of
@@ -9,7 +9,7 @@ use Rattle.ccbor.specs.Canon.{Canon}
 use Rattle.cbor_map.specs.declared.fault.Fault.{Fault}
 use Rattle.cbor_map.specs.declared.fault.Fault.TheVariants as faults
 use Rattle.cbor_map.proofs.Tests.{clean_if_none, holds, or_none}
-use Rattle.ctapmsg.specs.Schema.{Holds, Members, all_keys, fails, gravest, has_fault, in_member, in_members, is_listed, item_of, listed, members_item, no_more, record_of, sized, some_bytes}
+use Rattle.ctapmsg.specs.Schema.{Members, all_keys, fails, gravest, has_fault, in_member, in_members, is_listed, item_of, listed, members_item, no_more, record_of, sized, some_bytes}
 use Rattle.ctapmsg.specs.Entities.{UserEntity, user_content, user_members}
 use Rattle.ctapmsg.specs.Requests.{AssertionRequest, CreationRequest, RequestMessage, assertion_content, assertion_item, assertion_members, creation_content, creation_item, creation_members, get_assertion, make_credential, get_next_assertion, get_info, reset, map_of}
 use Rattle.ctapmsg.specs.Status.{NoStatus, IsRequest, has_map}

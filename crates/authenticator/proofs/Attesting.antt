@@ -1,5 +1,5 @@
 -- Attestations of new credentials.
-use Rattle.std.proofs.Common.{◌≡◌, ◌≤◌, ◌++◌, ℕ, List, [], ◌∷◌, length, refl, sym, ap, ◌∙◌, subst, arith}
+use Rattle.std.proofs.Common.{◌≡◌, ◌≤◌, ◌++◌, ℕ, List, [], ◌∷◌, length, refl, sym, subst, arith}
 use Rattle.std.specs.Prelude.{codes}
 use Rattle.cose.specs.Keys.{alg_of, encoded_length}
 use Rattle.cose.specs.Schemes.{Validity}

@@ -1,6 +1,6 @@
 -- Lists that others are the images of.
-use Rattle.std.proofs.Common.{◌≡◌, ◌<◌, ◌+◌, ℕ, zero, suc, List, [], ◌∷◌, ◌++◌, Bool, true, false, cond, Option, Some, None, map, refl, ap, sym, ◌∙◌, arith, take, drop, slice_index_or, length, append_assoc, append-nil, ◌≤◌, ◌&&◌}
-use Rattle.std.specs.Prelude.{find, filter, option_map, position, remove, MatchOption, Result, Ok, Err, OnOk}
+use Rattle.std.proofs.Common.{◌≡◌, ◌<◌, ◌+◌, ℕ, suc, List, [], ◌∷◌, ◌++◌, Bool, true, false, cond, Option, Some, None, map, refl, ap, sym, ◌∙◌, arith, take, drop, slice_index_or, length, append_assoc, append-nil, ◌≤◌, ◌&&◌}
+use Rattle.std.specs.Prelude.{find, filter, option_map, remove, MatchOption, Result, Ok, Err, OnOk}
 use Rattle.std.specs.List.{list_any}
 use Rattle.std.proofs.lemmas.List.{take-append-le, drop-append-le, map-append}
 use Rattle.std.proofs.lemmas.List.Elements.{filter_more}

@@ -1,18 +1,17 @@
 -- Orders of refusals, line by line; and what a refusal comes to.
 use Rattle.std.proofs.Common.{◌≡◌, ◌<◌, ◌+◌, ◌++◌, ℕ, List, [], ◌∷◌, Bool, true, false, cond, not, ◌&&◌, ◌||◌, Option, Some, None, Vec, Global, refl, sym, ap, ◌∙◌, subst, rules}
-use Rattle.std.specs.Prelude.{Result, Ok, Err, IfOk, OnOk, option_map, nat_le, ◌==◌}
+use Rattle.std.specs.Prelude.{Result, Ok, Err, IfOk, OnOk, nat_le, ◌==◌}
 use Rattle.first_line.specs.Lines.{first_true}
-use Rattle.ctapmsg.specs.Requests.{AssertionRequest, CreationRequest, RequestMessage}
+use Rattle.ctapmsg.specs.Requests.{AssertionRequest, CreationRequest}
 use Rattle.ctapmsg.specs.Replies.{Assertion, Creation, ReplyMessage, ReplyOf, creation_reply}
 use Rattle.cose.specs.Schemes.{Validity}
 use Rattle.cose.specs.declared.key.Alg.{Alg}
-use Rattle.cose.specs.declared.key.CoseKey.{CoseKey}
 use Rattle.authdata.specs.Layout.{AuthOf}
 use Rattle.authenticator.specs.State.{Asked, Credential, Remembered, State, forgotten}
 use Rattle.authenticator.specs.Credentials.{credential_of, with_counter}
 use Rattle.authenticator.specs.Orders.{assertion_flags, assertion_order, candidates, first_is_at_end, first_supported, is_at_end, is_empty, is_false, is_true, kept, next_order, remembered_on}
 use Rattle.authenticator.specs.Private.{Comes, FirstHappens, AssertionHappens, IsAttested, consent_order}
-use Rattle.authenticator.specs.Steps.{Answers, Carries, Creates, Entry, FirstAnswers, IsAssertion, Keys, Outcome, Unless, asked_by, assertion, creation_data, key_of, new_credential, refusal, remembering}
+use Rattle.authenticator.specs.Steps.{Answers, Creates, Entry, FirstAnswers, IsAssertion, Keys, Outcome, Unless, asked_by, assertion, creation_data, key_of, new_credential, refusal, remembering}
 use Rattle.authenticator.specs.declared.consent.Consent.{Consent}
 use Rattle.authenticator.specs.declared.consent.Words.{Words}
 

@@ -1,7 +1,6 @@
 -- Replies have bytes, and few enough of them.
 use Rattle.std.proofs.Common.{◌≡◌, ◌+◌, ◌^◌, ◌<◌, ◌≤◌, ◌++◌, ℕ, List, [], ◌∷◌, Bool, true, false, Option, Some, None, length, refl, sym, ap, ◌∙◌, subst, arith, IsUtf8, nat_lt, rules}
 use Rattle.std.specs.Prelude.{codes, nat_le, slice_index, zero, suc, IfSome, if◌then◌else◌}
-use Rattle.std.specs.Int.{w8, w16, w32, w64, to_be_bytes}
 use Rattle.std.proofs.lemmas.List.{length-append}
 use Rattle.std.proofs.lemmas.Bool.{ltb-true}
 use Rattle.std.proofs.lemmas.Str.{IsUtf8-from_ascii}
@@ -14,11 +13,11 @@ use Rattle.cose.specs.Keys.{alg_of, alg_item}
 use Rattle.cose.specs.declared.key.CoseKey.{CoseKey}
 use Rattle.cose.specs.declared.key.CoseKey.TheVariants as keys
 use Rattle.cose.specs.Schemes.{Validity}
-use Rattle.authdata.specs.Statements.{none_statement, packed_statement}
+use Rattle.authdata.specs.Statements.{packed_statement}
 use Rattle.authdata.specs.declared.statement.AttestationType.{AttestationType}
 use Rattle.authdata.specs.declared.statement.AttestationType.TheVariants as types
 use Rattle.ctapmsg.specs.Schema.{gravest, item_of, record_of}
-use Rattle.ctapmsg.specs.Replies.{Creation, Assertion, Info, ReplyMessage, ReplyOf, MapReply, creation_reply, assertion_reply, next_reply, info_reply, reset_reply, creation_reply_item, creation_reply_members, assertion_reply_item, assertion_reply_members, next_reply_members, info_item, info_members, credential_members, credential_content, reply_user_members, reply_user_content}
+use Rattle.ctapmsg.specs.Replies.{Creation, Assertion, Info, ReplyMessage, ReplyOf, creation_reply, assertion_reply, next_reply, info_reply, reset_reply, creation_reply_item, creation_reply_members, assertion_reply_item, assertion_reply_members, next_reply_members, info_item, credential_members, credential_content, reply_user_members, reply_user_content}
 use Rattle.authenticator.specs.Private.{IsMessage, FitsReply, IsUser, IsCount}
 use Rattle.authenticator.specs.Steps.{Attests, Entry, info_of}
 use Rattle.authenticator.specs.declared.consent.Consent.{Consent}

@@ -1,24 +1,24 @@
 -- Each step keeps a sound state, and signs as the laws say.
-use Rattle.std.proofs.Common.{◌≡◌, ◌≤◌, ◌+◌, ◌++◌, ℕ, List, [], ◌∷◌, Option, Some, None, Bool, true, false, length, sym, refl, subst, arith, ap, ◌∙◌, inl, inr}
-use Rattle.std.specs.Prelude.{if◌then◌else◌, ◌⊎◌, not, ◌&&◌, ◌||◌, All, IfSome, is_some, nat_le, ◌==◌}
+use Rattle.std.proofs.Common.{◌≡◌, ◌+◌, ◌++◌, ℕ, List, [], ◌∷◌, Option, Some, None, Bool, true, false, length, sym, refl, subst, arith, ap, ◌∙◌, inl, inr}
+use Rattle.std.specs.Prelude.{if◌then◌else◌, not, ◌&&◌, ◌||◌, All, IfSome, is_some, nat_le, ◌==◌}
 use Rattle.std.proofs.lemmas.List.{length-append}
 use Rattle.std.proofs.lemmas.List.Elements.{All-nil, All-cons, All-same}
-use Rattle.first_line.specs.Lines.{First, first_true}
+use Rattle.first_line.specs.Lines.{first_true}
 use Rattle.cose.specs.Schemes.{Validity}
 use Rattle.cose.specs.declared.key.CoseKey.{CoseKey}
 use Rattle.authdata.specs.Flags.{is_set, UP, UV}
-use Rattle.authdata.specs.Layout.{AttestedCredential, AuthOf}
+use Rattle.authdata.specs.Layout.{AttestedCredential}
 use Rattle.authdata.specs.declared.statement.AttestationType.{AttestationType}
 use Rattle.authdata.specs.declared.statement.AttestationType.TheVariants as types
 use Rattle.authdata.proofs.Unique.{length-bare, length-full}
 use Rattle.ctapmsg.specs.Replies.{Assertion, Creation, ReplyMessage}
 use Rattle.ctapmsg.specs.Requests.{AssertionRequest, CreationRequest, RequestMessage, get_assertion, get_info, get_next_assertion, make_credential, reset}
 use Rattle.ctapmsg.specs.Status.{IsRequest}
-use Rattle.authenticator.specs.State.{Asked, Credential, Remembered, State, forgotten, new_state}
+use Rattle.authenticator.specs.State.{Asked, Credential, Remembered, State, forgotten}
 use Rattle.authenticator.specs.Credentials.{credential_of, is_resident_of, with_counter}
-use Rattle.authenticator.specs.Orders.{assertion_flags, assertion_order, candidates, creation_flags, creation_order, first_is_at_end, first_supported, is_empty, is_excluded, is_false, is_true, kept, next_order, remembered_on, reset_order}
-use Rattle.authenticator.specs.Steps.{Answers, Attests, Carries, Creates, Entry, FirstAnswers, Informs, IsAssertion, Keys, NextAnswers, Outcome, Resets, Step, Unless, asked_by, assertion, assertion_data, attestation, creation_data, key_of, new_credential, refusal, remembering, up_bit, uv_bit}
-use Rattle.authenticator.specs.Laws.{Counted, FollowsConsent, IsCounted, IsResident, IsSound, IsStored, IsUnique, Keeps, SoundAssertion, SoundAttestation, SoundOutcome, SoundRemembered, SoundState, StepLaws}
+use Rattle.authenticator.specs.Orders.{assertion_flags, assertion_order, candidates, creation_flags, creation_order, first_is_at_end, is_empty, is_excluded, is_false, is_true, kept, next_order, remembered_on, reset_order}
+use Rattle.authenticator.specs.Steps.{Answers, Attests, Carries, Creates, Entry, FirstAnswers, Keys, NextAnswers, Outcome, Resets, Step, Unless, asked_by, assertion, assertion_data, attestation, creation_data, key_of, new_credential, refusal, remembering, up_bit, uv_bit}
+use Rattle.authenticator.specs.Laws.{FollowsConsent, IsCounted, IsResident, IsSound, IsStored, Keeps, SoundAssertion, SoundOutcome, SoundRemembered, SoundState, StepLaws}
 use Rattle.authenticator.specs.declared.consent.Consent.{Consent}
 use Rattle.authenticator.specs.declared.consent.Words.{Words}
 use Rattle.authenticator.proofs.Asked.{assertion_hashed, creation_hashed}

@@ -1,5 +1,5 @@
 -- The credentials that stored ones stand for.
-use Rattle.std.proofs.Common.{◌≡◌, ◌<◌, ◌+◌, ℕ, zero, suc, List, [], ◌∷◌, ◌++◌, Bool, true, false, Some, None, sym, ◌∙◌, ap, subst, arith, refl, length, drop, take, slice_index_or, slice_set, map, reverse, append-nil, Bor, Vec, Global, string_bytes}
+use Rattle.std.proofs.Common.{◌≡◌, ◌<◌, ℕ, zero, suc, List, [], ◌∷◌, ◌++◌, Bool, true, false, Some, None, sym, ◌∙◌, ap, arith, refl, length, slice_index_or, slice_set, map, reverse, append-nil, Bor, Vec, Global, string_bytes}
 use Rattle.std.specs.Prelude.{Option, filter, find, option_map, option_to_list, position, remove, MatchOption}
 use Rattle.std.proofs.lemmas.List.{map-append, reverse-append}
 use Rattle.authenticator.proofs.Lists.{and_right, any_mapped, filter_mapped, find_mapped, find_passes, map_mapped, option_map_map}

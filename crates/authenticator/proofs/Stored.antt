@@ -1,6 +1,6 @@
 -- Stored credentials: each id stands once, and what a change leaves of each.
-use Rattle.std.proofs.Common.{◌≡◌, ◌<◌, ◌≤◌, ◌+◌, ◌-◌, ℕ, suc, List, [], ◌∷◌, ◌++◌, Option, Some, None, Bool, true, false, cond, length, map, reverse, sym, ◌∙◌, ap, refl, subst, arith, inl, inr, get_or}
-use Rattle.std.specs.Prelude.{if◌then◌else◌, ◌⊎◌, ◌&&◌, All, filter, find, is_some, option_map, option_to_list}
+use Rattle.std.proofs.Common.{◌≡◌, ◌<◌, ◌≤◌, ◌-◌, ℕ, suc, List, [], ◌∷◌, ◌++◌, Option, Some, None, Bool, true, false, cond, length, map, reverse, sym, ◌∙◌, ap, refl, subst, arith, inl, inr, get_or}
+use Rattle.std.specs.Prelude.{if◌then◌else◌, ◌⊎◌, All, filter, find, option_map, option_to_list}
 use Rattle.std.specs.List.{AllByRecursion as Each}
 use Rattle.std.specs.Str.{bytes_eq}
 use Rattle.std.proofs.lemmas.Slice.Eq.{bytes_eq-Decides}

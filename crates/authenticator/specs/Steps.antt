@@ -3,7 +3,6 @@
 use Rattle.std.specs.Prelude.{◌≡◌, ◌≤◌, ◌⊎◌, ℕ, ◌+◌, List, [], ◌∷◌, ◌++◌, length, Bool, true, false, not, Option, Some, None, codes, if◌then◌else◌}
 use Rattle.sha2.specs.Sha256.{sha256}
 use Rattle.first_line.specs.Lines.{First, first_true}
-use Rattle.ccbor.specs.Item.{Item}
 use Rattle.cose.specs.Keys.{alg_of}
 use Rattle.cose.specs.Schemes.{Validity}
 use Rattle.cose.specs.declared.key.Alg.{Alg}

@@ -1,5 +1,5 @@
 -- What the authenticator's types stand for.
-use Rattle.std.specs.Prelude.{ℕ, List, [], ◌∷◌, Option, Some, None, map, reverse, option_map, string_bytes}
+use Rattle.std.specs.Prelude.{ℕ, List, [], ◌∷◌, Option, Some, None, map, reverse, string_bytes}
 use Rattle.authenticator.specs.State.{Credential, Asked, Remembered}
 use Rattle.authenticator.specs.declared.credential.StoredCredential.{StoredCredential}
 use Rattle.authenticator.specs.declared.remembered.AskedAssertion.{AskedAssertion}

@@ -15,6 +15,13 @@ use Rattle.verification.proofs.Steps.{of_some}
 pub expected_says : (kind : Kind) (challenge t : List ℕ) (rp : RelyingParty) → IsSerialised kind challenge rp t → Each (Says kind challenge rp t) lines
 expected_says kind challenge t rp (origin, cross, there, utf8, is) =
     let seen : Seen = record { kind = type_of kind; challenge = challenge_text_of challenge; origin = origin; binding = Absent } in
-    let e : seen_of t ≡ Some seen = ap seen_of is ∙ seen_of-text kind challenge origin cross utf8 in
-    (rw e refl, (of_some (HasType kind) (seen_of t) seen e refl, (of_some (HasChallenge challenge) (seen_of t) seen e refl,
-    (of_some (HasOrigin rp) (seen_of t) seen e there, (of_some HasNoBinding (seen_of t) seen e (inl refl), tt)))))
+    let e : seen_of t ≡ Some seen = ap seen_of is ∙ seen_of-text kind challenge origin cross utf8 in (
+      rw e refl,
+      (
+        of_some (HasType kind) (seen_of t) seen e refl,
+        (
+          of_some (HasChallenge challenge) (seen_of t) seen e refl,
+          (of_some (HasOrigin rp) (seen_of t) seen e there, (of_some HasNoBinding (seen_of t) seen e (inl refl), tt)),
+        ),
+      ),
+    )

@@ -1,4 +1,4 @@
-use Rattle.std.proofs.Common.{Bool, refl, ap, ◌∙◌}
+use Rattle.std.proofs.Common.{Bool, ap, ◌∙◌}
 use Rattle.ctapmsg.specs.Entities.{CreationFlags}
 use Rattle.ctapmsg.specs.RequestView.{creation_view}
 use Rattle.authenticator.specs.Orders.{is_true}

@@ -1,4 +1,4 @@
-use Rattle.std.proofs.Common.{◌≡◌, ◌∷◌, [], None, Option, ℕ, reverse, refl, sym, ap, ◌∙◌, ◌+◌, subst}
+use Rattle.std.proofs.Common.{◌≡◌, ◌∷◌, [], None, Option, ℕ, reverse, refl, ap, ◌∙◌, ◌+◌, subst}
 use Rattle.ctapmsg.specs.Replies.{assertion_reply}
 use Rattle.ctapmsg.specs.ReplyView.{assertion_reply_view}
 use Rattle.authenticator.specs.State.{Remembered}

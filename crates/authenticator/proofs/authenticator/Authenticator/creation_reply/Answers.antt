@@ -1,4 +1,4 @@
-use Rattle.std.proofs.Common.{sym, ap, ◌∙◌, refl, rules}
+use Rattle.std.proofs.Common.{sym, ap, ◌∙◌, rules}
 use Rattle.cose.specs.Keys.{alg_of}
 use Rattle.authdata.specs.Statements.{packed_statement}
 use Rattle.ctapmsg.specs.RequestView.{creation_view}

@@ -1,4 +1,4 @@
-use Rattle.std.proofs.Common.{◌≡◌, [], reverse, sym, ap, ◌∙◌}
+use Rattle.std.proofs.Common.{reverse, sym, ap, ◌∙◌}
 use Rattle.first_line.specs.Lines.{first_true}
 use Rattle.ctapmsg.specs.RequestView.{assertion_view}
 use Rattle.authenticator.specs.Orders.{assertion_order, candidates}

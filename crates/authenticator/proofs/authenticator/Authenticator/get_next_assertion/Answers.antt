@@ -1,4 +1,4 @@
-use Rattle.std.proofs.Common.{◌≡◌, ◌+◌, None, Option, sym, ap, ◌∙◌, subst}
+use Rattle.std.proofs.Common.{None, Option, subst}
 use Rattle.first_line.specs.Lines.{first_true}
 use Rattle.ctapmsg.specs.Replies.{next_reply}
 use Rattle.ctapmsg.specs.ReplyView.{assertion_reply_view}

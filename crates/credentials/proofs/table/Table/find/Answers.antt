@@ -1,4 +1,4 @@
-use Rattle.std.proofs.Common.{◌≡◌, Some, sym, ap, ◌∙◌}
+use Rattle.std.proofs.Common.{sym}
 use Rattle.credentials.proofs.Entries.{at_place, found, absent}
 use Rattle.credentials.proofs.table.Table.find.Goals as goal
 

@@ -1,13 +1,16 @@
 use Rattle.std.proofs.Common.{◌≡◌, ◌∷◌, [], ◌++◌, sym, ap, ◌∙◌, append_assoc, rules}
-use Rattle.credentials.specs.Views.{credential_of, credentials_of}
+use Rattle.credentials.specs.Views.{credential_of}
 use Rattle.credentials.proofs.Made.{admitted, joined}
 use Rattle.credentials.proofs.table.Table.from_rows.Goals as goal
 
 pub loop-row-preserved : goal.loop-row-preserved
 loop-row-preserved c =
-    let rest : c.loop-row.row-iterator.rest.items ≡ c.in-Some.row ∷ c.next.new.self.rest.items = search rules in
-    (tt, tt, c.in_ok-push.ensures.pushed ∙ ap (λ l. l ++ credential_of c.in-Some.row ∷ []) c.loop-row.invariant.2 ∙ sym (joined c.loop-row.yielded (c.in-Some.row ∷ [])),
-    c.loop-row.invariant.3 ∙ ap (λ l. c.loop-row.yielded ++ l) rest ∙ sym (append_assoc c.loop-row.yielded (c.in-Some.row ∷ []) c.next.new.self.rest.items))
+    let rest : c.loop-row.row-iterator.rest.items ≡ c.in-Some.row ∷ c.next.new.self.rest.items = search rules in (
+      tt,
+      tt,
+      c.in_ok-push.ensures.pushed ∙ ap (λ l. l ++ credential_of c.in-Some.row ∷ []) c.loop-row.invariant.2 ∙ sym (joined c.loop-row.yielded (c.in-Some.row ∷ [])),
+      c.loop-row.invariant.3 ∙ ap (λ l. c.loop-row.yielded ++ l) rest ∙ sym (append_assoc c.loop-row.yielded (c.in-Some.row ∷ []) c.next.new.self.rest.items),
+    )
 
 pub returns-then-not-admits-clause-bad : goal.returns-then-not-admits-clause-bad
 returns-then-not-admits-clause-bad c = λ _ table.

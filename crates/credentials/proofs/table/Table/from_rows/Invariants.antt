@@ -1,4 +1,4 @@
-use Rattle.std.proofs.Common.{◌≡◌, ◌++◌, map}
+use Rattle.std.proofs.Common.{◌≡◌, ◌++◌}
 use Rattle.credentials.specs.Views.{credentials_of}
 use Rattle.credentials.proofs.table.Table.from_rows.Given as goal
 

@@ -1,7 +1,7 @@
-use Rattle.std.proofs.Common.{◌≡◌, ◌≤◌, ◌+◌, ◌++◌, [], ◌∷◌, length, map, Some, None, sym, ap, ◌∙◌, subst, arith}
+use Rattle.std.proofs.Common.{◌≡◌, ◌≤◌, ◌+◌, ◌++◌, [], ◌∷◌, length, map, None, sym, ◌∙◌, subst, arith}
 use Rattle.std.proofs.lemmas.List.{length-append}
 use Rattle.indexmap.proofs.CallerLemmas.{insert_entry-new}
-use Rattle.credentials.proofs.Entries.{Entry, shown, none_kept, one_entry_more}
+use Rattle.credentials.proofs.Entries.{shown, none_kept, one_entry_more}
 use Rattle.credentials.proofs.RowLemmas.{one_more}
 use Rattle.credentials.specs.Table.{row_of, IsTable}
 use Rattle.credentials.specs.Views.{credential_of}

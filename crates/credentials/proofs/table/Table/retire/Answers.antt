@@ -1,4 +1,4 @@
-use Rattle.std.proofs.Common.{◌≡◌, Some, sym, ap, ◌∙◌}
+use Rattle.std.proofs.Common.{sym, ap, ◌∙◌}
 use Rattle.verification.specs.Records.{Credential}
 use Rattle.verification.specs.Views.{credential_of}
 use Rattle.credentials.specs.Table.{retired, with_row}

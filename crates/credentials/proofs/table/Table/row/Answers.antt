@@ -1,4 +1,4 @@
-use Rattle.std.proofs.Common.{◌≡◌, Some, sym, ap, ◌∙◌}
+use Rattle.std.proofs.Common.{sym}
 use Rattle.credentials.proofs.Entries.{found, absent}
 use Rattle.credentials.proofs.table.Table.row.Goals as goal
 

@@ -1,6 +1,4 @@
-use Rattle.std.proofs.Common.{◌≡◌, map, Some, None, slice_get, refl, sym, ap, ◌∙◌, subst}
-use Rattle.std.specs.Map.{values_of}
-use Rattle.verification.specs.Records.{Credential}
+use Rattle.std.proofs.Common.{◌≡◌, map, Some, slice_get, refl, sym, ap, ◌∙◌, subst}
 use Rattle.credentials.specs.Table.{IsTable, signed_in}
 use Rattle.credentials.proofs.Entries.{shown, stored, limits_stored, beyond}
 use Rattle.credentials.proofs.table.Table.store.Goals.{in-Some, in_default}
