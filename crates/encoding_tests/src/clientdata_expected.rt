@@ -11,19 +11,26 @@ const CHALLENGE: [u8; 32] = [
 /// 32 bytes 0xff.
 const HIGHEST: [u8; 32] = [0xff; 32];
 
-const SIGN_IN: &str = "{\"type\":\"webauthn.get\",\"challenge\":\"AAAAAAAAAAEAAAAAAAAAAAAAAAAAAAAAAAAAAAAAAAA\",\"origin\":\"https://abc\",\"crossOrigin\":false}";
+const SIGN_IN: &str =
+    "{\"type\":\"webauthn.get\",\"challenge\":\"AAAAAAAAAAEAAAAAAAAAAAAAAAAAAAAAAAAAAAAAAAA\",\"origin\":\"https://abc\",\"crossOrigin\":false}";
 
-const CROSS_ORIGIN: &str = "{\"type\":\"webauthn.get\",\"challenge\":\"AAAAAAAAAAEAAAAAAAAAAAAAAAAAAAAAAAAAAAAAAAA\",\"origin\":\"https://abc\",\"crossOrigin\":true}";
+const CROSS_ORIGIN: &str =
+    "{\"type\":\"webauthn.get\",\"challenge\":\"AAAAAAAAAAEAAAAAAAAAAAAAAAAAAAAAAAAAAAAAAAA\",\"origin\":\"https://abc\",\"crossOrigin\":true}";
 
-const REGISTRATION: &str = "{\"type\":\"webauthn.create\",\"challenge\":\"__________________________________________8\",\"origin\":\"https://abc\",\"crossOrigin\":false}";
+const REGISTRATION: &str =
+    "{\"type\":\"webauthn.create\",\"challenge\":\"__________________________________________8\",\"origin\":\"https://abc\",\"crossOrigin\":false}";
 
-const SPACED: &str = "{\"type\": \"webauthn.get\",\"challenge\":\"AAAAAAAAAAEAAAAAAAAAAAAAAAAAAAAAAAAAAAAAAAA\",\"origin\":\"https://abc\",\"crossOrigin\":false}";
+const SPACED: &str =
+    "{\"type\": \"webauthn.get\",\"challenge\":\"AAAAAAAAAAEAAAAAAAAAAAAAAAAAAAAAAAAAAAAAAAA\",\"origin\":\"https://abc\",\"crossOrigin\":false}";
 
-const LONGER: &str = "{\"type\":\"webauthn.get\",\"challenge\":\"AAAAAAAAAAEAAAAAAAAAAAAAAAAAAAAAAAAAAAAAAAA\",\"origin\":\"https://abc\",\"crossOrigin\":false,\"x\":1}";
+const LONGER: &str =
+    "{\"type\":\"webauthn.get\",\"challenge\":\"AAAAAAAAAAEAAAAAAAAAAAAAAAAAAAAAAAAAAAAAAAA\",\"origin\":\"https://abc\",\"crossOrigin\":false,\"x\":1}";
 
-const ESCAPED: &str = "{\"type\":\"webauthn.get\",\"challenge\":\"AAAAAAAAAAEAAAAAAAAAAAAAAAAAAAAAAAAAAAAAAAA\",\"origin\":\"a\\\"b\",\"crossOrigin\":false}";
+const ESCAPED: &str =
+    "{\"type\":\"webauthn.get\",\"challenge\":\"AAAAAAAAAAEAAAAAAAAAAAAAAAAAAAAAAAAAAAAAAAA\",\"origin\":\"a\\\"b\",\"crossOrigin\":false}";
 
-const UNESCAPED: &str = "{\"type\":\"webauthn.get\",\"challenge\":\"AAAAAAAAAAEAAAAAAAAAAAAAAAAAAAAAAAAAAAAAAAA\",\"origin\":\"a\"b\",\"crossOrigin\":false}";
+const UNESCAPED: &str =
+    "{\"type\":\"webauthn.get\",\"challenge\":\"AAAAAAAAAAEAAAAAAAAAAAAAAAAAAAAAAAAAAAAAAAA\",\"origin\":\"a\"b\",\"crossOrigin\":false}";
 
 /// A text, the ceremony, challenge and origin, and whether it is told as their text.
 const ROWS: &[(&str, Kind, [u8; 32], &str, bool)] = &[

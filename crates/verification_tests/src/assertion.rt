@@ -1,8 +1,9 @@
 //! One assertion that is accepted, and what is refused of it when one thing or two are changed.
 
 use crate::client_data::{
-    BOUND_SIGN_IN, CROSS_ORIGIN_SIGN_IN, REGISTRATION, SIGN_IN_OF_A_LONGER_ORIGIN, SIGN_IN_OF_ANOTHER_CHALLENGE,
-    SIGN_IN_OF_NO_ORIGIN, SIGN_IN_OF_THE_SECOND_ORIGIN, SPACED_SIGN_IN,
+    BOUND_SIGN_IN, CROSS_ORIGIN_SIGN_IN, REGISTRATION, SIGN_IN_OF_A_LONGER_ORIGIN,
+    SIGN_IN_OF_ANOTHER_CHALLENGE, SIGN_IN_OF_NO_ORIGIN, SIGN_IN_OF_THE_SECOND_ORIGIN,
+    SPACED_SIGN_IN,
 };
 use crate::sign_in::{ACCEPTED, CREDENTIAL, Case, EXPECTED, Expected, STORED, judged, number};
 use authdata::flags::{AT, BE, BS, UP, UV};

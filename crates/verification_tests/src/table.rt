@@ -41,13 +41,21 @@ fn table(alloc: Global, stored: &[Stored]) -> Result<Option<Table>, AllocError> 
 const TABLES: &[(&str, &[Stored], bool)] = &[
     ("none", &[], true),
     ("one", &[(&[10], &[1])], true),
-    ("three of one user", &[(&[10], &[1]), (&[11], &[1]), (&[10, 0], &[1])], true),
+    (
+        "three of one user",
+        &[(&[10], &[1]), (&[11], &[1]), (&[10, 0], &[1])],
+        true,
+    ),
     ("the longest", &[(ID_OF_64, ID_OF_64)], true),
     ("no id", &[(&[10], &[1]), (&[], &[1])], false),
     ("an id of 65 bytes", &[(ID_OF_65, &[1])], false),
     ("no user", &[(&[10], &[])], false),
     ("a user of 65 bytes", &[(&[10], ID_OF_65)], false),
-    ("an id twice", &[(&[10], &[1]), (&[11], &[1]), (&[10], &[2])], false),
+    (
+        "an id twice",
+        &[(&[10], &[1]), (&[11], &[1]), (&[10], &[2])],
+        false,
+    ),
 ];
 
 #[test]
