@@ -1,6 +1,6 @@
 //! Calls of an authenticator, and what is read from its replies.
 
-use crate::requests::{Piece, joined};
+use crate::pieces::{Piece, joined};
 use authdata::AuthData;
 use authenticator::{Authenticator, Consent, Words};
 use cose::{Alg, BenchScheme, CoseKey, Signer, Verifier};

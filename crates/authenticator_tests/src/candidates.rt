@@ -1,7 +1,7 @@
 //! Who answers a getAssertion (CTAP 2.1, section 6.2): allow lists and exclude lists, and whether presence is asked for.
 
 use crate::answers::*;
-use crate::requests::*;
+use crate::pieces::*;
 use Answer::{Asserted, Made, Status};
 use authdata::AttestationType;
 use authenticator::Authenticator;

@@ -1,7 +1,7 @@
 //! An authenticator that stores 256 credentials (CTAP 2.1, section 6.1).
 
 use crate::answers::*;
-use crate::requests::*;
+use crate::pieces::*;
 use Answer::{Asserted, Made, Status};
 use authdata::AttestationType;
 use authenticator::{Authenticator, Consent, Words};

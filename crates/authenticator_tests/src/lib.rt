@@ -13,6 +13,6 @@ mod making;
 #[cfg(test)]
 mod orders;
 #[cfg(test)]
-mod requests;
+mod pieces;
 #[cfg(test)]
 mod rows;

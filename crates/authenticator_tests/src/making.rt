@@ -2,7 +2,7 @@
 //! does, and two authenticators of one secret.
 
 use crate::answers::*;
-use crate::requests::*;
+use crate::pieces::*;
 use Answer::{Asserted, Made};
 use authdata::{AttestationObject, AttestationType, check_statement};
 use authenticator::{Authenticator, Consent, Words};

@@ -2,7 +2,7 @@
 //! status bytes of CTAP 2.1, section 8.2.
 
 use crate::answers::*;
-use crate::requests::*;
+use crate::pieces::*;
 use Answer::{Asserted, Made, Status};
 use authdata::AttestationType;
 use authenticator::Authenticator;

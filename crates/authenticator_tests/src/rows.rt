@@ -2,7 +2,7 @@
 //! sections 6.1 to 6.4 and 6.6.
 
 use crate::answers::*;
-use crate::requests::*;
+use crate::pieces::*;
 use Answer::{Asserted, Information, Made, Reset, Status};
 use authdata::AttestationType;
 use authenticator::{Authenticator, Consent, Words};

@@ -4,11 +4,11 @@ ghost use Rattle.std.specs.Prelude.{IfErr, IfOk, OnOk};
 ghost use Rattle.client.specs.Asked.{Asks, IsRefused, PassesAll, registration_call, sent_view, sign_in_call};
 ghost use Rattle.client.specs.Options.{registration_view, sign_in_view};
 
+use crate::building::{client_data, get_assertion, make_credential};
 use crate::error::RequestError;
 use crate::options::{CreationOptions, RequestOptions};
 use crate::origin::check_origin;
 use crate::outgoing::{Outgoing, packets_of};
-use crate::requests::{client_data, get_assertion, make_credential};
 use clientdata::Kind;
 use ctapmsg::Request;
 use std::alloc::Global;

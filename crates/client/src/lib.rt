@@ -4,13 +4,13 @@
 #![tactic(auto)]
 
 mod asking;
+mod building;
 mod entities;
 mod error;
 mod law;
 mod options;
 mod origin;
 mod outgoing;
-mod requests;
 mod responses;
 
 pub use asking::{assertion_request, creation_request};

@@ -1,7 +1,7 @@
 //! Replies to getInfo. The expected values are worked by hand from CTAP 2.1, sections 6.4 and 8.
 
 use crate::pieces::{Piece, ReplyRow, refusal_of};
-use crate::replies::{V, X};
+use crate::reply_rows::{V, X};
 use ctapmsg::Kind;
 use std::test::Fail;
 

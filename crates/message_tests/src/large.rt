@@ -2,7 +2,7 @@
 //! worked by hand from CTAP 2.1, sections 6 and 8.
 
 use crate::pieces::*;
-use crate::replies::{A, C, O, S, X};
+use crate::reply_rows::{A, C, O, S, X};
 use ctapmsg::Kind;
 use std::test::Fail;
 

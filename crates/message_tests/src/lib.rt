@@ -23,10 +23,10 @@ mod parts;
 #[cfg(test)]
 mod pieces;
 #[cfg(test)]
-mod replies;
-#[cfg(test)]
 mod reply_records;
+#[cfg(test)]
+mod reply_rows;
 #[cfg(test)]
 mod request_records;
 #[cfg(test)]
-mod requests;
+mod request_rows;

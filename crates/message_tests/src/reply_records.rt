@@ -3,7 +3,7 @@
 
 use crate::literals::*;
 use crate::pieces::{Piece, TYPE, joined};
-use crate::replies::{O, V, X};
+use crate::reply_rows::{O, V, X};
 use ccbor::Value;
 use ctapmsg::{
     AssertionReply, AssertionView, CreationReply, Error, InfoReply, Kind, Reply, read_assertion,
