@@ -130,8 +130,8 @@ impl Table {
     pub fn row(&self, id: &[u8]) -> Option<CredentialView<'_>>
         ensures { option_map credential_shown result ≡ row_of id.now self.now }
     {
-        let (id, kept) = self.rows.get_key_value(id)?;
-        Some(shown(id, kept))
+        let (_, row) = self.find(id)?;
+        Some(row)
     }
 
     /// Whether a credential has this id, retired or not.
