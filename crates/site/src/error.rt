@@ -4,7 +4,7 @@ ghost use Rattle.std.specs.Prelude.{◌≡◌};
 ghost use Rattle.site.specs.Numbers.{refusal_number};
 ghost use Rattle.site.specs.declared.error.Error.TheVariants as errors;
 
-use std::alloc::{AllocError, AllocFailed};
+use std::alloc::AllocError;
 
 /// Why no site is made; the first of these that applies.
 #[derive(Clone, Copy, Debug, PartialEq, Eq, Drop, thiserror::Error)]

@@ -7,7 +7,7 @@ mod registration;
 mod sign_in;
 mod site;
 
-pub use credentials::{Row, Rows};
+pub use credentials::{Row, Rows, Table};
 pub use error::Error;
 pub use law::site_laws;
 pub use registration::Registered;

@@ -14,7 +14,7 @@ use crate::error::Error;
 use cose::Alg;
 use credentials::{Row, Rows, Table, is_within};
 use sessions::{Sessions, Started};
-use std::alloc::Global;
+use std::alloc::{AllocError, Global};
 use std::marker::Model;
 use verification::{CredentialView, Policy, RelyingParty};
 
@@ -53,26 +53,64 @@ fn is_party(rp_id: &str, origins: &[&str]) -> bool
     is_within(rp_id.as_bytes(), MAX_RP_ID) && 1 <= origins.len()
 }
 
+/// A site of a relying party that is within its limits, with this table and this next session number.
+fn site_with(
+    alloc: Global,
+    rp_id: &str,
+    origins: &[&str],
+    policy: Policy,
+    table: Table,
+    next: u64,
+) -> Result<Site, AllocError>
+    requires party { IsParty (record { rp_id = rp_id.now; origins = texts_of origins.now }) }
+    requires next { 1 ≤ next }
+    ensures { IfOk result (λ s. s ≡ record { rp = record { rp_id = rp_id.now; origins = texts_of origins.now }; policy = policy; rows = table; sessions = none_open next }) }
+{
+    Ok(Site {
+        alloc,
+        party: RelyingParty::new(alloc, rp_id, origins)?,
+        policy,
+        table,
+        sessions: Sessions::new(alloc, next),
+    })
+}
+
 impl Site {
     /// A site without credentials.
     ///
     /// `BadInput` where the rp id is not of 1 to 253 bytes or there is no origin; `Memory` where there was none for
-    /// the copies of the texts. An origin is compared as a text (WebAuthn Level 2, section 7.2, step 13).
-    pub fn new(alloc: Global, rp_id: &str, origins: &[&str], policy: Policy) -> Result<Site, Error>
+    /// the copies of the texts. An origin is compared as a text.
+    pub fn new(
+        alloc: Global,
+        rp_id: &str,
+        origins: &[&str],
+        policy: Policy,
+    ) -> Result<Site, Error>
         ensures made { IfOk result (λ s. s ≡ record { rp = record { rp_id = rp_id.now; origins = texts_of origins.now }; policy = policy; rows = []; sessions = none_open 1 }) }
         ensures input { IsErrOf result Error.BadInput ↔ ¬ IsParty (record { rp_id = rp_id.now; origins = texts_of origins.now }) }
-        ensures memory { IfErr result (λ e. e ≢ errors.BadTable) }
+        ensures no_table { IfErr result (λ e. e ≢ errors.BadTable) }
+    {
+        Site::with_table(alloc, rp_id, origins, policy, Table::new(alloc))
+    }
+
+    /// A site with a table of credentials that is made.
+    ///
+    /// `BadInput` and `Memory` as for `new`.
+    pub fn with_table(
+        alloc: Global,
+        rp_id: &str,
+        origins: &[&str],
+        policy: Policy,
+        table: Table,
+    ) -> Result<Site, Error>
+        ensures made { IfOk result (λ s. s ≡ record { rp = record { rp_id = rp_id.now; origins = texts_of origins.now }; policy = policy; rows = table; sessions = none_open 1 }) }
+        ensures input { IsErrOf result Error.BadInput ↔ ¬ IsParty (record { rp_id = rp_id.now; origins = texts_of origins.now }) }
+        ensures no_table { IfErr result (λ e. e ≢ errors.BadTable) }
     {
         if !is_party(rp_id, origins) {
             return Err(Error::BadInput);
         }
-        Ok(Site {
-            alloc,
-            party: RelyingParty::new(alloc, rp_id, origins)?,
-            policy,
-            table: Table::new(alloc),
-            sessions: Sessions::new(alloc, 1),
-        })
+        Ok(site_with(alloc, rp_id, origins, policy, table, 1)?)
     }
 
     /// A site with these credentials, in order of registration.
@@ -90,13 +128,14 @@ impl Site {
         ensures input { IsErrOf result Error.BadInput ↔ ¬ IsParty (record { rp_id = rp_id.now; origins = texts_of origins.now }) }
         ensures table { IsErrOf result Error.BadTable → IsTable (credentials_of rows.items) → ⊥ }
     {
-        let mut site = Site::new(alloc, rp_id, origins, policy)?;
-        site.table = match Table::from_rows(alloc, rows) {
-            Ok(table) => table,
-            Err(credentials::Error::BadTable) => return Err(Error::BadTable),
-            Err(credentials::Error::Memory) => return Err(Error::Memory),
-        };
-        Ok(site)
+        if !is_party(rp_id, origins) {
+            return Err(Error::BadInput);
+        }
+        match Table::from_rows(alloc, rows) {
+            Ok(table) => Ok(site_with(alloc, rp_id, origins, policy, table, 1)?),
+            Err(credentials::Error::BadTable) => Err(Error::BadTable),
+            Err(credentials::Error::Memory) => Err(Error::Memory),
+        }
     }
 
     /// Begins a sign-in: of the account with this user handle, where it is known beforehand; with one of these
