@@ -12,7 +12,7 @@ ghost use Rattle.credentials.specs.declared.table.Error.TheVariants as errors;
 use crate::row::{Kept, Row};
 use indexmap::IndexMap;
 use indexmap::map::Iter;
-use std::alloc::{AllocError, AllocFailed, Global};
+use std::alloc::{AllocError, Global};
 use std::marker::Model;
 use verification::CredentialView;
 
@@ -36,10 +36,10 @@ pub enum Error {
     Memory,
 }
 
-impl<T: Drop> From<AllocFailed<T>> for Error {
+impl From<AllocError> for Error {
     ghost from_gives = { λ _ e. e ≡ errors.Memory };
 
-    fn from(_e: AllocFailed<T>) -> Error {
+    fn from(_e: AllocError) -> Error {
         Error::Memory
     }
 }
@@ -64,7 +64,7 @@ impl Model for Table {
 }
 
 /// Whether an id or a user handle has 1 to `most` bytes.
-fn is_within(bytes: &[u8], most: usize) -> bool
+pub fn is_within(bytes: &[u8], most: usize) -> bool
     ensures { IsTrue result ↔ IsWithin most bytes.now }
 {
     1 <= bytes.len() && bytes.len() <= most
@@ -183,7 +183,7 @@ impl Table {
 
     /// Whether a credential may stand behind the others: it is within its limits, its id is not taken, and there is
     /// room.
-    fn admits(&self, row: &Row) -> bool
+    pub fn admits(&self, row: &Row) -> bool
         ensures { IsTrue result ↔ IsRow (credential_of row.now) × (row_of row.now.id.items self.now ≡ None) × (length self.now < 65536) }
     {
         if self.has(&row.id) {
@@ -193,13 +193,12 @@ impl Table {
     }
 
     /// Adds a credential behind the others. Where there is no memory nothing has changed.
-    pub fn push(&mut self, row: Row) -> Result<(), Error>
+    pub fn push(&mut self, row: Row) -> Result<(), AllocError>
         requires limits { IsRow (credential_of row) }
         requires absent { row_of row.id.items self.old ≡ None }
         requires room { length self.old < 65536 }
         ensures pushed { OnOk result (self.new ≡ self.old ++ credential_of row ∷ []) }
         ensures unchanged { OnErr result (self.new ≡ self.old) }
-        ensures memory { IfErr result (λ e. e ≡ errors.Memory) }
     {
         let Row {
             id,
@@ -239,7 +238,8 @@ impl Table {
 
     /// The credentials in order of registration.
     pub fn rows(&self) -> Rows<'_>
-        ensures { map (λ e. kept_of e.0.items e.1) result.0 ≡ self.now }
+        ensures rows { map (λ e. kept_of e.0.items e.1) result.0 ≡ self.now }
+        ensures limits { IsTable self.now }
     {
         Rows(self.rows.iter())
     }
