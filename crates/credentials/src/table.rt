@@ -183,7 +183,7 @@ impl Table {
 
     /// Whether a credential may stand behind the others: it is within its limits, its id is not taken, and there is
     /// room.
-    fn admits(&self, row: &Row) -> bool
+    pub fn admits(&self, row: &Row) -> bool
         ensures { IsTrue result ↔ IsRow (credential_of row.now) × (row_of row.now.id.items self.now ≡ None) × (length self.now < 65536) }
     {
         if self.has(&row.id) {
@@ -238,7 +238,8 @@ impl Table {
 
     /// The credentials in order of registration.
     pub fn rows(&self) -> Rows<'_>
-        ensures { map (λ e. kept_of e.0.items e.1) result.0 ≡ self.now }
+        ensures rows { map (λ e. kept_of e.0.items e.1) result.0 ≡ self.now }
+        ensures limits { IsTable self.now }
     {
         Rows(self.rows.iter())
     }

@@ -1,0 +1,17 @@
+use Rattle.std.proofs.Common.{◌≡◌, ◌++◌, map}
+use Rattle.first_line.specs.Lines.{Each}
+use Rattle.ccbor.specs.View.{view}
+use Rattle.verification.specs.Views.{credential_of as credential_shown}
+use Rattle.credentials.specs.Table.{IsTable}
+use Rattle.credentials.specs.Views.{kept_of}
+use Rattle.saved_table.specs.Saved.{FitsVersion, credential_item}
+use Rattle.saved_table.proofs.saving.credential_values.Given as goal
+
+abbrev pub invariant-loop-row : goal.invariant-loop-row
+invariant-loop-row l =
+    (goal.iterator-loop-row).can_next l.row-iterator ×
+    (goal.iterator-loop-row).is_finite l.row-iterator ×
+    IsTable l.table ×
+    Each (FitsVersion 3) (map credential_shown l.yielded) ×
+    (map view l.values.items ≡ map credential_item (map credential_shown l.yielded)) ×
+    (l.table ≡ map credential_shown l.yielded ++ map (λ e. kept_of e.0.items e.1) l.row-iterator.0)

@@ -1,0 +1,86 @@
+//! Loading what was saved.
+
+ghost use Rattle.std.specs.Prelude.{◌≡◌, ◌↔◌, ℕ, List, map, IfOk, IsErrOf, IsTrue};
+ghost use Rattle.first_line.specs.Lines.{Each};
+ghost use Rattle.ccbor.specs.View.{items_of};
+ghost use Rattle.ccbor.specs.Viewing.{shown_items};
+ghost use Rattle.verification.specs.Records.{Credential};
+ghost use Rattle.credentials.specs.Table.{IsTable};
+ghost use Rattle.saved_table.specs.Saved.{Saved, FitsVersion, TableOf, credential_item};
+ghost use Rattle.saved_table.specs.Private.{IsOf};
+ghost use Rattle.saved_table.specs.Views.{table_members_of};
+ghost use Rattle.saved_table.specs.declared.error.Error.TheVariants as errors;
+
+use crate::error::Error;
+use crate::reading::{TableMembers, credential, table_members};
+use ccbor::{ArrayView, View};
+use credentials::Table;
+use std::alloc::Global;
+
+/// What was saved of a relying party.
+#[derive(Drop)]
+pub struct Loaded {
+    /// The credentials in order of registration.
+    pub table: Table,
+    /// The number of the next session, at least 1.
+    pub next: u64,
+}
+
+/// Whether these members are of a version that is known, of this rp id, and of a session number that is one.
+fn is_of(found: &TableMembers<'_>, rp_id: &str) -> bool
+    ensures { IsTrue result ↔ IsOf rp_id.now (table_members_of found.now) }
+{
+    1 <= found.version && found.version <= 3 && found.rp_id == rp_id && 1 <= found.next
+}
+
+/// The table of the credentials whose maps these are in a table of this version.
+fn credentials_in(alloc: Global, version: u64, items: ArrayView<'_>) -> Result<Table, Error>
+    ensures limits { IfOk result IsTable }
+    ensures read { IfOk result (λ t. Each (FitsVersion version) t
+        × (shown_items items.entry ≡ items_of (map credential_item t))) }
+    // It is refused only if there is none.
+    ensures none { IsErrOf result errors.BadTable → (rows : List Credential) → IsTable rows
+        → Each (FitsVersion version) rows → shown_items items.entry ≡ items_of (map credential_item rows) → ⊥ }
+{
+    let mut rest = items;
+    let mut table = Table::new(alloc);
+    while let Some((item, after)) = rest.split_first() {
+        let row = credential(alloc, version, &item)?;
+        if !table.admits(&row) {
+            return Err(Error::BadTable);
+        }
+        table.push(row)?;
+        rest = after;
+    }
+    Ok(table)
+}
+
+/// What was saved of the relying party of this rp id: bytes that [`save`](crate::save) appended, now or in the two
+/// versions before.
+///
+/// Refused as `BadTable` (23) where the bytes are of no version (1 to 3), not the whole of one canonical map, of
+/// another rp id, or where what they hold is no table: an id or a user handle that is not of 1 to 64 bytes, an id
+/// twice, more than 65,536 credentials, a counter above 2^32 - 1, a member that the version does not know. Otherwise
+/// only `Memory` is answered.
+pub fn load(alloc: Global, bytes: &[u8], rp_id: &str) -> Result<Loaded, Error>
+    ensures loaded { IfOk result (λ l. (version : ℕ)
+        × TableOf version (record { rp_id = rp_id.now; next = l.next; rows = l.table }) bytes.now) }
+    // It is refused only where the bytes are no such table.
+    ensures bad { IsErrOf result errors.BadTable → (version : ℕ) (saved : Saved) → saved.rp_id ≡ rp_id.now
+        → TableOf version saved bytes.now → ⊥ }
+{
+    let Ok(value) = View::check_all(bytes) else {
+        return Err(Error::BadTable);
+    };
+    let Some(found) = table_members(&value) else {
+        return Err(Error::BadTable);
+    };
+    if !is_of(&found, rp_id) {
+        return Err(Error::BadTable);
+    }
+    let table = credentials_in(alloc, found.version, found.credentials)?;
+    Ok(Loaded {
+        table,
+        next: found.next,
+    })
+}

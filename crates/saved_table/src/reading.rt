@@ -1,0 +1,141 @@
+//! Reading the members of a saved table's maps, where they lie.
+
+ghost use Rattle.std.specs.Prelude.{◌≡◌, ◌↔◌, IfOk, IsErrOf, IsTrue, option_map};
+ghost use Rattle.ccbor.specs.Access.{bool_in};
+ghost use Rattle.ccbor.specs.Viewing.{shown};
+ghost use Rattle.cbor_map.specs.Reading.{Yields, maybe, read_in};
+ghost use Rattle.cbor_map.specs.Table.{record_of};
+ghost use Rattle.verification.specs.Records.{Credential};
+ghost use Rattle.credentials.specs.Views.{credential_of};
+ghost use Rattle.saved_table.specs.Saved.{FitsVersion, credential_item};
+ghost use Rattle.saved_table.specs.Private.{AreMarks, credential_members, table_in};
+ghost use Rattle.saved_table.specs.Views.{members_content, table_members_of};
+ghost use Rattle.saved_table.specs.declared.error.Error.TheVariants as errors;
+
+use crate::error::Error;
+use cbor_map::{Shape, any_map, bytes, end, members, optional, required, truth, unsigned};
+use ccbor::{ArrayView, Key, View};
+use cose::CoseKey;
+use credentials::Row;
+use std::alloc::Global;
+
+/// The members of a table's map.
+#[derive(Drop)]
+pub struct TableMembers<'a> {
+    pub version: u64,
+    pub rp_id: &'a str,
+    pub next: u64,
+    pub credentials: ArrayView<'a>,
+}
+
+/// The members of a credential's map.
+#[derive(Drop)]
+struct CredentialMembers<'a> {
+    id: &'a [u8],
+    user: &'a [u8],
+    key: View<'a>,
+    sign_count: u64,
+    eligible: Option<bool>,
+    retired: Option<bool>,
+}
+
+/// The members of a table's map.
+#[tactic(auto, unfolding(crate::specs::Private::table_in))]
+pub fn table_members<'a>(value: &View<'a>) -> Option<TableMembers<'a>>
+    ensures { option_map table_members_of result ≡ table_in (shown value.now) }
+{
+    let rest = value.as_map()?;
+    let (held, rest) = rest.split_key(Key::Uint(1))?;
+    let version = held.as_uint()?;
+    let (held, rest) = rest.split_key(Key::Uint(2))?;
+    let rp_id = held.as_text()?;
+    let (held, rest) = rest.split_key(Key::Uint(3))?;
+    let next = held.as_uint()?;
+    let (held, rest) = rest.split_key(Key::Uint(4))?;
+    let credentials = held.as_array()?;
+    if !rest.is_end() {
+        return None;
+    }
+    Some(TableMembers {
+        version,
+        rp_id,
+        next,
+        credentials,
+    })
+}
+
+/// A truth value that may be absent.
+fn truth_if_there(held: Option<View<'_>>) -> Result<Option<bool>, Shape>
+    ensures { Yields (λ b. b) result (maybe bool_in (option_map shown held.entry)) }
+{
+    match held {
+        Some(value) => Ok(Some(truth(&value)?)),
+        None => Ok(None),
+    }
+}
+
+/// The members of a credential's map.
+fn credential_members<'a>(value: &View<'a>) -> Result<CredentialMembers<'a>, Shape>
+    ensures { Yields members_content result (read_in (record_of credential_members) (shown value.now)) }
+{
+    let rest = members(value)?;
+    let (held, rest) = required(&rest, Key::Uint(1))?;
+    let id = bytes(&held)?;
+    let (held, rest) = required(&rest, Key::Uint(2))?;
+    let user = bytes(&held)?;
+    let (key, rest) = required(&rest, Key::Uint(3))?;
+    any_map(&key)?;
+    let (held, rest) = required(&rest, Key::Uint(4))?;
+    let sign_count = unsigned(&held, 0)?;
+    let (held, rest) = optional(rest, Key::Uint(5));
+    let eligible = truth_if_there(held)?;
+    let (held, rest) = optional(rest, Key::Uint(6));
+    let retired = truth_if_there(held)?;
+    end(&rest)?;
+    Ok(CredentialMembers {
+        id,
+        user,
+        key,
+        sign_count,
+        eligible,
+        retired,
+    })
+}
+
+/// Whether a credential's marks of eligibility and retirement may stand in a table of this version.
+fn are_marks(version: u64, eligible: Option<bool>, retired: Option<bool>) -> bool
+    ensures { IsTrue result ↔ AreMarks version eligible retired }
+{
+    if retired == Some(false) {
+        return false;
+    }
+    (2 <= version || eligible.is_none()) && (3 <= version || retired.is_none())
+}
+
+/// The credential that has this map in a table of this version, copied out.
+pub fn credential(alloc: Global, version: u64, value: &View<'_>) -> Result<Row, Error>
+    ensures read { IfOk result (λ row. FitsVersion version (credential_of row)
+        × (shown value.now ≡ credential_item (credential_of row))) }
+    // It is refused only if no credential has it.
+    ensures none { IsErrOf result errors.BadTable
+        → (c : Credential) → FitsVersion version c → shown value.now ≡ credential_item c → ⊥ }
+{
+    let found = credential_members(value)?;
+    let Ok(key) = CoseKey::from_view(&found.key) else {
+        return Err(Error::BadTable);
+    };
+    let Ok(sign_count) = u32::try_from(found.sign_count) else {
+        return Err(Error::BadTable);
+    };
+    if !are_marks(version, found.eligible, found.retired) {
+        return Err(Error::BadTable);
+    }
+    Ok(Row {
+        id: Vec::from_slice(alloc, found.id)?,
+        user: Vec::from_slice(alloc, found.user)?,
+        key,
+        sign_count,
+        eligible: found.eligible,
+        retired: found.retired.is_some(),
+    })
+}
