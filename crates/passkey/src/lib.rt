@@ -7,6 +7,8 @@ mod program;
 mod replay;
 mod script;
 
-pub use ceremony::{Accepted, Error, sign_in_hash};
+pub use ceremony::{
+    Accepted, Act, Enrolled, Error, Fed, Live, ServeError, one_verdict, register, serve, sign_in,
+};
 pub use command_line::{Inspection, Subcommand, command, unhex};
 pub use program::{MAX_INPUT, run};
