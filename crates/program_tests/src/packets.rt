@@ -1,9 +1,13 @@
-//! The collector and the plain reader of a whole list, on the same random lists.
+//! The collector, the plain reader of a whole list, and sign-in by a list and packet by packet, on the same random
+//! lists.
 
+use ceremony::{Error, Live, sign_in};
+use cose::ListScheme;
 use hidframe::{Head, Packet};
 use hidlink::{Collector, DeadKind, Received, receive};
 use rand_core::Rng;
 use rand_pcg::Pcg32;
+use site::{Policy, SignInRefusal, Site};
 use std::alloc::Global;
 use std::test::Fail;
 
@@ -147,6 +151,51 @@ fn random_packet(rng: &mut Pcg32, next: &mut u8) -> Packet {
     Packet(bytes)
 }
 
+/// What a sign-in without an open session is refused for, by the list and packet by packet, with how many packets were
+/// taken; none where the two differ, or where either is accepted.
+fn refused(
+    alloc: Global,
+    packets: &[Packet],
+) -> Result<Option<(Error<SignInRefusal>, u64)>, Fail> {
+    let policy = Policy {
+        accept_none: true,
+        accept_self: true,
+    };
+    let mut site = Site::new(alloc, "abc", &["https://abc"], policy)?;
+    let scheme = ListScheme::new(alloc);
+    let mut live = Live::new(alloc, CHANNEL)?;
+    for packet in packets {
+        if live.feed(packet).is_err() {
+            break;
+        }
+    }
+    let whole = sign_in(alloc, &mut site, &scheme, 1, CHANNEL, b"", packets);
+    let single = live.finish(&mut site, &scheme, 1, b"");
+    Ok(match (whole, single) {
+        (Err(whole), Err(single)) if whole == single => Some((whole, live.fed())),
+        _ => None,
+    })
+}
+
+/// Whether a refusal is the one for what the packets give, after as many packets.
+fn is_for(given: &Given, packets: usize, refused: &(Error<SignInRefusal>, u64)) -> bool {
+    let taken = match given {
+        Given::Message(_, used) | Given::DeviceError(_, used) => *used,
+        Given::Dead(index, _) => index.saturating_add(1),
+        Given::Incomplete => packets,
+    };
+    let named = match (given, &refused.0) {
+        (Given::Message(..), Error::Reply(_)) => true,
+        (Given::DeviceError(code, _), Error::DeviceError(named)) => code == named,
+        (Given::Dead(index, kind), Error::Dead { index: at, kind: named }) => {
+            u64::try_from(*index).is_ok_and(|index| index == *at) && kind == named
+        }
+        (Given::Incomplete, Error::Incomplete) => true,
+        _ => false,
+    };
+    named && u64::try_from(taken).is_ok_and(|taken| taken == refused.1)
+}
+
 #[test]
 fn plain_reader_and_collector_agree(rt: HostRuntime) -> Result<(), Fail> {
     let mut rng = Pcg32::new(2026, 11);
@@ -173,6 +222,8 @@ fn plain_reader_and_collector_agree(rt: HostRuntime) -> Result<(), Fail> {
         if matches!(&wanted, Given::Message(..)) {
             messages = messages.saturating_add(1);
         }
+        let refused = refused(rt.alloc(), &packets)?.ok_or("the list and its packets differ")?;
+        assert!(rt; is_for(&wanted, packets.len(), &refused), "list {list}: {refused:?}");
         assert_eq!(rt; collected(rt.alloc(), &packets)?, wanted, "list {list}");
     }
     assert!(rt; messages > 400, "{messages} messages");
