@@ -6,16 +6,18 @@ mod check;
 #[cfg(test)]
 mod inspect;
 #[cfg(test)]
+mod line_rows;
+#[cfg(test)]
 mod lines;
 #[cfg(test)]
 mod packets;
 #[cfg(test)]
 mod running;
 #[cfg(test)]
-mod script_rows;
-#[cfg(test)]
 mod scripts;
 #[cfg(test)]
 mod streams;
+#[cfg(test)]
+mod verdict_rows;
 #[cfg(test)]
 mod words;

@@ -153,10 +153,7 @@ fn random_packet(rng: &mut Pcg32, next: &mut u8) -> Packet {
 
 /// What a sign-in without an open session is refused for, by the list and packet by packet, with how many packets were
 /// taken; none where the two differ, or where either is accepted.
-fn refused(
-    alloc: Global,
-    packets: &[Packet],
-) -> Result<Option<(Error<SignInRefusal>, u64)>, Fail> {
+fn refused(alloc: Global, packets: &[Packet]) -> Result<Option<(Error<SignInRefusal>, u64)>, Fail> {
     let policy = Policy {
         accept_none: true,
         accept_self: true,
@@ -165,7 +162,7 @@ fn refused(
     let scheme = ListScheme::new(alloc);
     let mut live = Live::new(alloc, CHANNEL)?;
     for packet in packets {
-        if live.feed(packet).is_err() {
+        if live.fed() > 100 || live.feed(packet).is_err() {
             break;
         }
     }
@@ -187,9 +184,13 @@ fn is_for(given: &Given, packets: usize, refused: &(Error<SignInRefusal>, u64)) 
     let named = match (given, &refused.0) {
         (Given::Message(..), Error::Reply(_)) => true,
         (Given::DeviceError(code, _), Error::DeviceError(named)) => code == named,
-        (Given::Dead(index, kind), Error::Dead { index: at, kind: named }) => {
-            u64::try_from(*index).is_ok_and(|index| index == *at) && kind == named
-        }
+        (
+            Given::Dead(index, kind),
+            Error::Dead {
+                index: at,
+                kind: named,
+            },
+        ) => { u64::try_from(*index).is_ok_and(|index| index == *at) && kind == named }
         (Given::Incomplete, Error::Incomplete) => true,
         _ => false,
     };
@@ -223,7 +224,10 @@ fn plain_reader_and_collector_agree(rt: HostRuntime) -> Result<(), Fail> {
             messages = messages.saturating_add(1);
         }
         let refused = refused(rt.alloc(), &packets)?.ok_or("the list and its packets differ")?;
-        assert!(rt; is_for(&wanted, packets.len(), &refused), "list {list}: {refused:?}");
+        assert!(rt;
+            is_for(&wanted, packets.len(), &refused),
+            "list {list}: {refused:?}"
+        );
         assert_eq!(rt; collected(rt.alloc(), &packets)?, wanted, "list {list}");
     }
     assert!(rt; messages > 400, "{messages} messages");

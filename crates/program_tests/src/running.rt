@@ -3,7 +3,9 @@
 use passkey::run;
 use std::alloc::{AllocError, Global};
 use std::io::Read;
-use std::test::Fail;
+
+/// What a script is for, the names of its lines, and of the lines that it prints.
+pub type Rows = &'static [(&'static str, &'static str, &'static str)];
 
 /// What a run is to end with: its status, and all of standard output and of standard error.
 #[derive(Clone, Copy, Drop)]
@@ -56,10 +58,4 @@ pub fn refuses<'a, R: Read>(
     let mut err = Vec::new(alloc);
     let status = run(alloc, words, reader, &mut out, &mut err);
     status == 2 && out.is_empty() && err.as_slice().starts_with(beginning.as_bytes())
-}
-
-/// Whether `passkey replay` ends so on these lines.
-pub fn replays(alloc: Global, lines: &[&str], wanted: &Wanted<'_>) -> Result<bool, Fail> {
-    let text = script(alloc, lines)?;
-    Ok(ends(alloc, &["passkey", "replay"], text.as_bytes(), wanted))
 }

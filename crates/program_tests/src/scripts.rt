@@ -1,47 +1,57 @@
 //! What `passkey replay` prints.
 
-use crate::running::{Wanted, ends, replays};
-use crate::script_rows::*;
-use std::alloc::Global;
+use crate::line_rows::{BAD_LINES, OTHERS};
+use crate::lines::named;
+use crate::running::{Wanted, ends};
+use crate::verdict_rows::VERDICTS;
+use std::alloc::{AllocError, Global};
 use std::test::Fail;
 
-/// Whether the script prints the text and ends well.
-fn prints(alloc: Global, lines: &[&str], out: &str) -> Result<bool, Fail> {
+/// The lines that a text names, parted by semicolons, each ended by a line feed.
+fn lines_of(alloc: Global, text: &str) -> Result<String, AllocError> {
+    let mut lines = String::new(alloc);
+    if text.is_empty() {
+        return Ok(lines);
+    }
+    for name in text.split(';') {
+        lines.push_str(named(name))?;
+        lines.push('\n')?;
+    }
+    Ok(lines)
+}
+
+/// Whether the script ends with this status, prints this, and says this on standard error.
+fn replays(alloc: Global, script: &str, status: u8, out: &str, err: &str) -> Result<bool, Fail> {
+    let out = lines_of(alloc, out)?;
     let wanted = Wanted {
-        status: 0,
-        out,
-        err: "",
+        status,
+        out: out.as_str(),
+        err,
     };
-    replays(alloc, lines, &wanted)
+    Ok(ends(alloc, &["passkey", "replay"], script.as_bytes(), &wanted))
 }
 
 /// Whether the script stops at its last line, and what was printed before stands.
-fn stops(alloc: Global, lines: &[&str], out: &str) -> Result<bool, Fail> {
-    let last = lines.len();
+fn stops(alloc: Global, script: &str, out: &str) -> Result<bool, Fail> {
+    let last = script.bytes().filter(|b| *b == b'\n').count();
     let err = format!(in alloc; "line {last}: bad script\n")?;
-    let wanted = Wanted {
-        status: 2,
-        out,
-        err: err.as_str(),
-    };
-    replays(alloc, lines, &wanted)
+    replays(alloc, script, 2, out, err.as_str())
 }
 
 #[test]
 fn printed_texts(rt: HostRuntime) -> Result<(), Fail> {
-    for rows in [VERDICTS, SESSIONS, OTHER_TEXTS] {
-        for (name, lines, out) in rows {
-            assert!(rt; prints(rt.alloc(), lines, out)?, "{name}");
+    for tables in [VERDICTS, OTHERS] {
+        for rows in tables {
+            for (name, script, out) in *rows {
+                let script = lines_of(rt.alloc(), script)?;
+                assert!(rt; replays(rt.alloc(), script.as_str(), 0, out, "")?, "{name}");
+            }
         }
     }
-    Ok(())
-}
-
-#[test]
-fn bad_lines(rt: HostRuntime) -> Result<(), Fail> {
-    for rows in [BAD_LINES, BAD_LINES_BEHIND] {
-        for (name, lines, out) in rows {
-            assert!(rt; stops(rt.alloc(), lines, out)?, "{name}");
+    for rows in BAD_LINES {
+        for (name, script, out) in *rows {
+            let script = lines_of(rt.alloc(), script)?;
+            assert!(rt; stops(rt.alloc(), script.as_str(), out)?, "{name}");
         }
     }
     Ok(())
