@@ -201,6 +201,24 @@ const REFUSED: &[(&str, &[u8])] = &[
     ("a fault in a value", b"\xa2\0\0\x01\xf6"),
 ];
 
+/// Whether the whole input is decoded as this value and viewed, if it is all of its bytes; else, whether bytes follow a
+/// value to both.
+fn is_decoded(alloc: Global, bytes: &[u8], value: &str, whole: bool) -> Result<bool, AllocError> {
+    let viewed = match View::check_all(bytes) {
+        Ok(view) => whole && view.span() == bytes,
+        Err(Error::Trailing) => !whole,
+        Err(_) => false,
+    };
+    match decode_all(alloc, bytes) {
+        Ok(found) => {
+            let text = format!(in alloc; "{found:?}")?;
+            Ok(viewed && whole && text.as_str() == value)
+        }
+        Err(Error::Trailing) => Ok(viewed && !whole),
+        Err(_) => Ok(false),
+    }
+}
+
 /// Whether the front of the bytes is decoded as this value, of this many bytes.
 fn is_front(alloc: Global, bytes: &[u8], value: &str, len: usize) -> Result<bool, AllocError> {
     match decode(alloc, bytes) {
@@ -212,33 +230,8 @@ fn is_front(alloc: Global, bytes: &[u8], value: &str, len: usize) -> Result<bool
     }
 }
 
-/// Whether the whole input is decoded as this value.
-fn is_whole(alloc: Global, bytes: &[u8], value: &str) -> Result<bool, AllocError> {
-    match decode_all(alloc, bytes) {
-        Ok(found) => {
-            let text = format!(in alloc; "{found:?}")?;
-            Ok(text.as_str() == value)
-        }
-        Err(_) => Ok(false),
-    }
-}
-
-/// Whether a view of the whole input has all of its bytes.
-fn is_viewed(bytes: &[u8]) -> bool {
-    match View::check_all(bytes) {
-        Ok(view) => view.span() == bytes,
-        Err(_) => false,
-    }
-}
-
-/// Whether bytes follow a value, to `decode_all` and to a view.
-fn has_trailing(alloc: Global, bytes: &[u8]) -> bool {
-    matches!(decode_all(alloc, bytes), Err(Error::Trailing))
-        && matches!(View::check_all(bytes), Err(Error::Trailing))
-}
-
 /// Whether no front of the bytes is a value, to each of the three calls.
-fn is_refused(alloc: Global, bytes: &[u8]) -> bool {
+pub fn is_refused(alloc: Global, bytes: &[u8]) -> bool {
     matches!(decode(alloc, bytes), Err(Error::NotCanonical))
         && matches!(decode_all(alloc, bytes), Err(Error::NotCanonical))
         && matches!(View::check_all(bytes), Err(Error::NotCanonical))
@@ -246,28 +239,16 @@ fn is_refused(alloc: Global, bytes: &[u8]) -> bool {
 
 #[test]
 fn decodes(rt: HostRuntime) -> Result<(), Fail> {
+    let alloc = rt.alloc();
     for (name, bytes, value, len) in ACCEPTED {
-        assert!(rt; is_front(rt.alloc(), bytes, value, *len)?, "{name}");
+        assert!(rt; is_front(alloc, bytes, value, *len)?, "{name}");
+        assert!(rt;
+            is_decoded(alloc, bytes, value, *len == bytes.len())?,
+            "{name}"
+        );
     }
-    Ok(())
-}
-
-#[test]
-fn decodes_all(rt: HostRuntime) -> Result<(), Fail> {
-    for (name, bytes, value, len) in ACCEPTED {
-        let accepted = if *len == bytes.len() {
-            is_whole(rt.alloc(), bytes, value)? && is_viewed(bytes)
-        } else {
-            has_trailing(rt.alloc(), bytes)
-        };
-        assert!(rt; accepted, "{name}");
-    }
-    Ok(())
-}
-
-#[test]
-fn refuses(rt: HostRuntime) {
     for (name, bytes) in REFUSED {
-        assert!(rt; is_refused(rt.alloc(), bytes), "{name}");
+        assert!(rt; is_refused(alloc, bytes), "{name}");
     }
+    Ok(())
 }
