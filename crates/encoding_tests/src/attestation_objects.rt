@@ -115,7 +115,7 @@ fn objects(rt: HostRuntime) -> Result<(), Fail> {
 }
 
 /// What is no object, and why.
-const REFUSED: &[(&str, &[Piece], Error)] = &[
+const SHAPES: &[(&str, &[Piece], Error)] = &[
     ("no bytes", &[(b"", 0, 0)], Error::NotCanonical),
     (
         "a byte behind",
@@ -149,6 +149,10 @@ const REFUSED: &[(&str, &[Piece], Error)] = &[
         &[(b"\xa2\x63fmt\x60\x67attStmt\xa0", 0, 0)],
         Error::Shape,
     ),
+];
+
+/// The same of members of other names, kinds and orders.
+const MEMBERS: &[(&str, &[Piece], Error)] = &[
     (
         "another member",
         &[(
@@ -269,9 +273,11 @@ fn written(alloc: Global, statement: Made) -> Result<Result<usize, Error>, Alloc
 #[test]
 fn refused(rt: HostRuntime) -> Result<(), Fail> {
     let alloc = rt.alloc();
-    for (name, pieces, wanted) in REFUSED {
-        let bytes = joined(alloc, &[], pieces)?;
-        assert!(rt; refusal(alloc, &bytes) == Some(*wanted), "{name}");
+    for table in [SHAPES, MEMBERS] {
+        for (name, pieces, wanted) in table {
+            let bytes = joined(alloc, &[], pieces)?;
+            assert!(rt; refusal(alloc, &bytes) == Some(*wanted), "{name}");
+        }
     }
     for (name, statement, wanted) in STATEMENTS {
         assert!(rt; written(alloc, *statement)? == *wanted, "{name}");

@@ -29,7 +29,7 @@ const ID: Piece = (&[0, 1, 0x0a], 0, 0);
 const KEY: Piece = (K, 0x11, 32);
 
 /// What comes behind the hash H, and by which refusal it is refused, if it is.
-const ROWS: &[(&str, &[Piece], Option<Error>)] = &[
+const BARE: &[(&str, &[Piece], Option<Error>)] = &[
     ("36 bytes", &[(&[1, 0, 0, 0], 0, 0)], Some(Error::Short)),
     (
         "ED alone",
@@ -74,6 +74,10 @@ const ROWS: &[(&str, &[Piece], Option<Error>)] = &[
         &[(&[1, 0, 0, 0, 1, 0], 0, 0)],
         Some(Error::ExtraBytes),
     ),
+];
+
+/// The same up to the id of a credential.
+const IDS: &[(&str, &[Piece], Option<Error>)] = &[
     ("54 bytes", &[Z, (&[0], 0, 0)], Some(Error::Short)),
     (
         "an id of 65 bytes that is not there",
@@ -101,6 +105,10 @@ const ROWS: &[(&str, &[Piece], Option<Error>)] = &[
         &[Z, (&[1, 0], 7, 256), KEY],
         Some(Error::BadId),
     ),
+];
+
+/// The same of keys.
+const KEYS: &[(&str, &[Piece], Option<Error>)] = &[
     ("no key", &[Z, ID], Some(Error::BadKey)),
     (
         "a number for a key",
@@ -135,6 +143,10 @@ const ROWS: &[(&str, &[Piece], Option<Error>)] = &[
         &[(&[0xc1, 0, 0, 0, 0], 0, 0)],
         Some(Error::Short),
     ),
+];
+
+/// The same of ids and keys that are read.
+const WHOLE: &[(&str, &[Piece], Option<Error>)] = &[
     ("an id of 16 bytes", &[Z, (&[0, 16], 7, 16), KEY], None),
     ("an id of 17 bytes", &[Z, (&[0, 17], 7, 17), KEY], None),
     ("an id of 32 bytes", &[Z, (&[0, 32], 7, 32), KEY], None),
@@ -145,6 +157,10 @@ const ROWS: &[(&str, &[Piece], Option<Error>)] = &[
         None,
     ),
     ("x of zeros", &[Z, ID, (K, 0, 32)], None),
+];
+
+/// The same of the hash alone and of long inputs.
+const LONG: &[(&str, &[Piece], Option<Error>)] = &[
     ("the hash alone", &[], Some(Error::Short)),
     (
         "7,000 bytes behind the key",
@@ -205,9 +221,11 @@ fn refusal(alloc: Global, bytes: &[u8]) -> Result<Option<Error>, AllocError> {
 #[test]
 fn readings(rt: HostRuntime) -> Result<(), Fail> {
     let alloc = rt.alloc();
-    for (name, pieces, refused) in ROWS {
-        let bytes = joined(alloc, &H, pieces)?;
-        assert!(rt; refusal(alloc, &bytes)? == *refused, "{name}");
+    for table in [BARE, IDS, KEYS, WHOLE, LONG] {
+        for (name, pieces, refused) in table {
+            let bytes = joined(alloc, &H, pieces)?;
+            assert!(rt; refusal(alloc, &bytes)? == *refused, "{name}");
+        }
     }
     for bytes in [&[], &H[..31]] {
         assert!(rt; refusal(alloc, bytes)? == Some(Error::Short));

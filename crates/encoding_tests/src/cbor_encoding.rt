@@ -9,7 +9,7 @@ use std::test::Fail;
 const ZERO: Leaf = Leaf::Uint(0);
 
 /// What a value is for, the value and its encoding, no bytes where it has none.
-const VALUES: &[(&str, Made, &[u8])] = &[
+const UNSIGNED: &[(&str, Made, &[u8])] = &[
     ("0", Made::Leaf(Leaf::Uint(0)), b"\0"),
     ("23", Made::Leaf(Leaf::Uint(23)), b"\x17"),
     ("24", Made::Leaf(Leaf::Uint(24)), b"\x18\x18"),
@@ -32,6 +32,10 @@ const VALUES: &[(&str, Made, &[u8])] = &[
         Made::Leaf(Leaf::Uint(18446744073709551615)),
         b"\x1b\xff\xff\xff\xff\xff\xff\xff\xff",
     ),
+];
+
+/// The same of negative numbers.
+const NEGATIVE: &[(&str, Made, &[u8])] = &[
     ("-1", Made::Leaf(Leaf::Nint(0)), b"\x20"),
     ("-24", Made::Leaf(Leaf::Nint(23)), b"\x37"),
     ("-25", Made::Leaf(Leaf::Nint(24)), b"\x38\x18"),
@@ -54,6 +58,10 @@ const VALUES: &[(&str, Made, &[u8])] = &[
         Made::Leaf(Leaf::Nint(18446744073709551615)),
         b"\x3b\xff\xff\xff\xff\xff\xff\xff\xff",
     ),
+];
+
+/// The same of other values.
+const OTHERS: &[(&str, Made, &[u8])] = &[
     ("false", Made::Leaf(Leaf::Bool(false)), b"\xf4"),
     ("true", Made::Leaf(Leaf::Bool(true)), b"\xf5"),
     ("a text", Made::Leaf(Leaf::Text("fmt")), b"\x63fmt"),
@@ -100,6 +108,10 @@ const VALUES: &[(&str, Made, &[u8])] = &[
         ]),
         b"\xa5\0\0\x18\x18\0\x20\0\x38\x18\0\x60\0",
     ),
+];
+
+/// The same of values that have none.
+const UNFIT: &[(&str, Made, &[u8])] = &[
     ("five deep", Made::Nested(5), b""),
     ("six deep", Made::Nested(6), b""),
     (
@@ -187,8 +199,10 @@ fn is_encoded(alloc: Global, made: Made, bytes: &[u8]) -> Result<bool, AllocErro
 
 #[test]
 fn encodes(rt: HostRuntime) -> Result<(), Fail> {
-    for (name, made, bytes) in VALUES {
-        assert!(rt; is_encoded(rt.alloc(), *made, bytes)?, "{name}");
+    for table in [UNSIGNED, NEGATIVE, OTHERS, UNFIT] {
+        for (name, made, bytes) in table {
+            assert!(rt; is_encoded(rt.alloc(), *made, bytes)?, "{name}");
+        }
     }
     Ok(())
 }

@@ -2,7 +2,7 @@
 //! the form of RFC 9053, section 7.2.
 
 use ccbor::{Error, Key, MapView, Value, View, decode_all, is_end, split_key, value_at};
-use std::alloc::Global;
+use std::alloc::{AllocError, Global};
 use std::test::Fail;
 
 /// What the accessors give of a value.
@@ -326,8 +326,11 @@ fn has_first(pairs: &MapView<'_>, keys: &[Key<'_>]) -> bool {
     pairs.is_end()
 }
 
-/// Whether a walk through the pairs takes these steps, and is then at the end, where no key is.
-fn is_walked(mut pairs: MapView<'_>, steps: &[Step]) -> bool {
+/// Whether a walk through the map's pairs takes these steps, and is then at the end, where no key is.
+fn is_walked(map: &View<'_>, steps: &[Step]) -> bool {
+    let Some(mut pairs) = map.as_map() else {
+        return false;
+    };
     for (others, key, span, content) in steps {
         if has_first(&pairs, others) {
             return false;
@@ -350,13 +353,6 @@ const ED25519: &[u8] =
 /// [[1, {0: h'02'}], "ab", 7]: what lies at place 1 and 2 stands behind a nested value.
 const NESTED: &[u8] = b"\x83\x82\x01\xa1\x00\x41\x02\x62ab\x07";
 
-/// A place, and the text or the number of NESTED's item there, if it is one.
-const ITEMS: &[(usize, Option<&str>, Option<u64>)] = &[
-    (0, None, None),
-    (1, Some("ab"), None),
-    (2, None, Some(7)),
-];
-
 /// The text or the number of an array's item at this place.
 fn item_is(array: &View<'_>, index: usize, text: Option<&str>, number: Option<u64>) -> bool {
     match array.item(index) {
@@ -364,9 +360,6 @@ fn item_is(array: &View<'_>, index: usize, text: Option<&str>, number: Option<u6
         None => false,
     }
 }
-
-/// A place of ED25519, the key there, and its number.
-const PAIRS: &[(usize, Key<'static>, u64)] = &[(0, Key::Uint(1), 1), (2, Key::Nint(0), 6)];
 
 /// Whether the pair at this place has this number as its value.
 fn pair_is(map: &View<'_>, index: usize, key: Key<'_>, number: u64) -> bool {
@@ -386,26 +379,44 @@ fn x(map: &Value) -> Option<&[u8]> {
     map.get(Key::Nint(1))?.as_bytes()
 }
 
+/// Whether the items of NESTED are seen, and nothing behind them.
+fn has_items(array: &View<'_>) -> bool {
+    item_is(array, 0, None, None)
+        && item_is(array, 1, Some("ab"), None)
+        && item_is(array, 2, None, Some(7))
+        && array.item(3).is_none()
+        && array.pair(0).is_none()
+}
+
+/// Whether pairs and members of ED25519 are seen, and no others.
+fn has_pairs(map: &View<'_>) -> bool {
+    pair_is(map, 0, Key::Uint(1), 1)
+        && pair_is(map, 2, Key::Nint(0), 6)
+        && map.pair(4).is_none()
+        && map.item(0).is_none()
+        && map.get(Key::Uint(2)).is_none()
+        && map.get(Key::Text("x")).is_none()
+        && viewed_x(map) == Some([0x11; 32].as_slice())
+        && map.span() == ED25519
+        && map.len() == 4
+}
+
+/// Whether ED25519 is copied out.
+fn is_copied(alloc: Global, map: &View<'_>) -> Result<bool, AllocError> {
+    let value = map.to_value(alloc)?;
+    Ok(match value.as_map() {
+        Some(pairs) => pairs.len() == 4 && x(&value) == Some([0x11; 32].as_slice()),
+        None => false,
+    })
+}
+
 #[test]
 fn places(rt: HostRuntime) -> Result<(), Fail> {
-    let array = View::check_all(NESTED)?;
-    for (index, text, number) in ITEMS {
-        assert!(rt; item_is(&array, *index, *text, *number), "{index}");
-    }
-    assert!(rt; array.item(3).is_none() && array.pair(0).is_none());
+    assert!(rt; has_items(&View::check_all(NESTED)?));
     let map = View::check_all(ED25519)?;
-    for (index, key, number) in PAIRS {
-        assert!(rt; pair_is(&map, *index, *key, *number), "{index}");
-    }
-    assert!(rt; map.pair(4).is_none() && map.item(0).is_none());
-    assert!(rt; map.get(Key::Uint(2)).is_none() && map.get(Key::Text("x")).is_none());
-    assert!(rt; map.span() == ED25519 && map.len() == 4);
-    let value = map.to_value(rt.alloc())?;
-    assert!(rt; viewed_x(&map) == Some([0x11; 32].as_slice()) && x(&value) == viewed_x(&map));
-    assert!(rt; matches!(value.as_map(), Some(pairs) if pairs.len() == 4));
+    assert!(rt; has_pairs(&map) && is_copied(rt.alloc(), &map)?);
     for (bytes, steps) in WALKS {
-        let pairs = View::check_all(bytes)?.as_map().ok_or("a map")?;
-        assert!(rt; is_walked(pairs, steps), "{bytes:?}");
+        assert!(rt; is_walked(&View::check_all(bytes)?, steps), "{bytes:?}");
     }
     Ok(())
 }

@@ -173,7 +173,7 @@ fn is_read(alloc: Global, bytes: &[u8], wanted: Wanted) -> bool {
 }
 
 /// Whole inputs in pieces, and what is read.
-const INPUTS: &[(&str, &[Piece], Wanted)] = &[
+const WHOLE: &[(&str, &[Piece], Wanted)] = &[
     (
         "empty texts",
         &[(br#"{"type":"x","challenge":"","origin":""}"#, 0, 0)],
@@ -240,6 +240,10 @@ const INPUTS: &[(&str, &[Piece], Wanted)] = &[
         &[(br#"{"type":"x","challenge":"","origin":["o"]}"#, 0, 0)],
         None,
     ),
+];
+
+/// The same of bytes that are no UTF-8, and of marks.
+const BYTES: &[(&str, &[Piece], Wanted)] = &[
     (
         "a byte order mark",
         &[(
@@ -301,6 +305,10 @@ const INPUTS: &[(&str, &[Piece], Wanted)] = &[
         &[(br#"{"type":"a\u0000b","challenge":"","origin":""}"#, 0, 0)],
         Some(("a\0b", "", "", Binding::Absent)),
     ),
+];
+
+/// The same of long inputs.
+const LONG: &[(&str, &[Piece], Wanted)] = &[
     (
         "126 arrays in an object",
         &[
@@ -387,9 +395,11 @@ fn readings(rt: HostRuntime) -> Result<(), Fail> {
         )?;
         assert!(rt; is_read(alloc, &bytes, wanted), "{name}");
     }
-    for &(name, pieces, wanted) in INPUTS {
-        let bytes = joined(alloc, &[], pieces)?;
-        assert!(rt; is_read(alloc, &bytes, wanted), "{name}");
+    for table in [WHOLE, BYTES, LONG] {
+        for &(name, pieces, wanted) in table {
+            let bytes = joined(alloc, &[], pieces)?;
+            assert!(rt; is_read(alloc, &bytes, wanted), "{name}");
+        }
     }
     for count in [255, 256, 7609, 65536] {
         let front: Piece = (br#"{"type":"x","challenge":"c","origin":""#, b'a', count);

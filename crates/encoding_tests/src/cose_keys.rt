@@ -85,7 +85,7 @@ const KEYS: &[(&str, &[Piece], CoseKey, usize)] = &[
 ];
 
 /// What an encoding is for that is the value of no key.
-const NO_KEYS: &[(&str, &[Piece])] = &[
+const MISSING: &[(&str, &[Piece])] = &[
     ("a number", &[(&[1], 0, 0)]),
     ("an array", &[(&[0x80], 0, 0)]),
     ("no members", &[(&[0xa0], 0, 0)]),
@@ -113,6 +113,10 @@ const NO_KEYS: &[(&str, &[Piece])] = &[
         "ES256 without y",
         &[(&[0xa4, 1, 2, 3, 0x26, 0x20, 1, 0x21, 0x58, 0x20], 2, 32)],
     ),
+];
+
+/// The same with more members, and with members of other kinds.
+const OTHER_MEMBERS: &[(&str, &[Piece])] = &[
     (
         "EdDSA with a key id",
         &[(
@@ -182,6 +186,10 @@ const NO_KEYS: &[(&str, &[Piece])] = &[
             (&[0x22, 0xf5], 0, 0),
         ],
     ),
+];
+
+/// The same with other lengths and numbers.
+const OTHER_VALUES: &[(&str, &[Piece])] = &[
     (
         "x of 31 bytes",
         &[(&[0xa4, 1, 1, 3, 0x27, 0x20, 6, 0x21, 0x58, 0x1f], 0x11, 31)],
@@ -256,6 +264,10 @@ const NO_KEYS: &[(&str, &[Piece])] = &[
             (&[0x22, 0x58, 0x20], 3, 32),
         ],
     ),
+];
+
+/// The same of other values, and with y missing or other labels.
+const MORE: &[(&str, &[Piece])] = &[
     ("bytes", &[(&[0x58, 0x20], 0x11, 32)]),
     ("a text", &[(&[0x78, 0x20], 0x61, 32)]),
     ("true", &[(&[0xf5], 0, 0)]),
@@ -330,9 +342,11 @@ fn keys(rt: HostRuntime) -> Result<(), Fail> {
             "{name}"
         );
     }
-    for (name, pieces) in NO_KEYS {
-        let bytes = joined(alloc, b"", pieces)?;
-        assert!(rt; is_key(alloc, &bytes, None)?, "{name}");
+    for table in [MISSING, OTHER_MEMBERS, OTHER_VALUES, MORE] {
+        for (name, pieces) in table {
+            let bytes = joined(alloc, b"", pieces)?;
+            assert!(rt; is_key(alloc, &bytes, None)?, "{name}");
+        }
     }
     let value = made_value(alloc, OTHER_ORDER)?;
     assert!(rt; CoseKey::from_value(&value) == Err(NotAKey));
