@@ -1,7 +1,7 @@
 //! Calls of an authenticator, and what is read from its replies.
 
 use crate::pieces::{Piece, joined};
-use authdata::AuthData;
+use authdata::{AttestationType, AuthData};
 use authenticator::{Authenticator, Consent, Words};
 use cose::{Alg, BenchScheme, CoseKey, Signer, Verifier};
 use ctapmsg::{AssertionReply, CreationReply, Error, Kind, Reply, read_reply};
@@ -165,4 +165,15 @@ pub fn first_other(
         }
     }
     Ok(None)
+}
+
+/// The place of the first call that a new authenticator answers otherwise, and that answer.
+pub fn first_wrong(
+    alloc: Global,
+    uv: bool,
+    attest: AttestationType,
+    calls: &[Call],
+) -> Result<Option<(usize, Answer)>, AllocError> {
+    let mut authenticator = Authenticator::new(alloc, [0; 16], uv, attest);
+    first_other(alloc, &mut authenticator, calls)
 }

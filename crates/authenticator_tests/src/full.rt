@@ -11,54 +11,102 @@ use std::test::Fail;
 
 // Where the id 01 is a resident credential of user 01, and 256 are stored.
 const FULL: &[Call] = &[
-    (1, &[M4, H, RP, USER2, EDDSA], PRESENT, 2, Status(0x28)),
-    (1, &[M5, H, RP, USER2, EDDSA, RK], PRESENT, 2, Status(0x28)),
     (
         1,
-        &[M5, H, OTHER_RP, USER1, EDDSA, RK],
+        &[CREATE_4, CREATE_HASH, RP, USER2, EDDSA],
         PRESENT,
         2,
         Status(0x28),
     ),
     (
         1,
-        &[M5, H, RP, USER1, EDDSA, NO_RK],
+        &[CREATE_5, CREATE_HASH, RP, USER2, EDDSA, RK],
         PRESENT,
         2,
         Status(0x28),
     ),
-    (1, &[M4, H, RP, USER2, RS256], PRESENT, 2, Status(0x26)),
     (
         1,
-        &[M5, H, RP, USER2, EDDSA, NO_UP],
+        &[CREATE_5, CREATE_HASH, OTHER_RP, USER1, EDDSA, RK],
+        PRESENT,
+        2,
+        Status(0x28),
+    ),
+    (
+        1,
+        &[CREATE_5, CREATE_HASH, RP, USER1, EDDSA, NO_RK],
+        PRESENT,
+        2,
+        Status(0x28),
+    ),
+    (
+        1,
+        &[CREATE_4, CREATE_HASH, RP, USER2, RS256],
+        PRESENT,
+        2,
+        Status(0x26),
+    ),
+    (
+        1,
+        &[CREATE_5, CREATE_HASH, RP, USER2, EDDSA, NO_UP],
         PRESENT,
         2,
         Status(0x2c),
     ),
-    (1, &[M4, H, RP, USER2, EDDSA], NONE, 2, Status(0x27)),
     (
         1,
-        &[M5, H, RP, USER2, EDDSA, EXCLUDED, T],
+        &[CREATE_4, CREATE_HASH, RP, USER2, EDDSA],
+        NONE,
+        2,
+        Status(0x27),
+    ),
+    (
+        1,
+        &[CREATE_5, CREATE_HASH, RP, USER2, EDDSA, EXCLUDED, TYPE],
         PRESENT,
         2,
         Status(0x19),
     ),
-    (1, &[M4, H, RP, USER2, EDDSA], PRESENT, 1, Status(0x7f)),
     (
         1,
-        &[M5, H, RP, USER1, EDDSA, RK],
+        &[CREATE_4, CREATE_HASH, RP, USER2, EDDSA],
+        PRESENT,
+        1,
+        Status(0x7f),
+    ),
+    (
+        1,
+        &[CREATE_5, CREATE_HASH, RP, USER1, EDDSA, RK],
         PRESENT,
         2,
         Made(2, 0x41, -8),
     ),
-    (1, &[A2, I, G], PRESENT, 0, Asserted(2, 1, 0, 1, 1)),
-    (1, &[A3, I, G, L1, D1, T], PRESENT, 0, Status(0x2e)),
-    (1, &[M4, H, RP, USER2, EDDSA], PRESENT, 3, Status(0x28)),
+    (
+        1,
+        &[GET_2, RP_ID, GET_HASH],
+        PRESENT,
+        0,
+        Asserted(2, 1, 0, 1, 1),
+    ),
+    (
+        1,
+        &[GET_3, RP_ID, GET_HASH, LIST_OF_1, DESCRIPTOR_01, TYPE],
+        PRESENT,
+        0,
+        Status(0x2e),
+    ),
+    (
+        1,
+        &[CREATE_4, CREATE_HASH, RP, USER2, EDDSA],
+        PRESENT,
+        3,
+        Status(0x28),
+    ),
 ];
 
 /// Makes a credential that isn't resident, whose id is a number and zero bytes; whether it was made.
 fn make(alloc: Global, authenticator: &mut Authenticator, number: u8) -> Result<bool, AllocError> {
-    let request = joined(alloc, &[M4, H, RP, USER1, EDDSA])?;
+    let request = joined(alloc, &[CREATE_4, CREATE_HASH, RP, USER1, EDDSA])?;
     let mut id = [0; 32];
     id[0] = number;
     let reply = authenticator.handle(
@@ -80,7 +128,7 @@ fn make(alloc: Global, authenticator: &mut Authenticator, number: u8) -> Result<
 /// An authenticator with the resident credential 01 and 255 others, if each was made.
 fn filled(alloc: Global) -> Result<Option<Authenticator>, AllocError> {
     let mut authenticator = Authenticator::new(alloc, [0; 16], false, AttestationType::None);
-    let first = &[M5, H, RP, USER1, EDDSA, RK];
+    let first = &[CREATE_5, CREATE_HASH, RP, USER1, EDDSA, RK];
     if answered(alloc, &mut authenticator, 1, first, PRESENT, 1)? != Made(1, 0x41, -8) {
         return Ok(None);
     }
@@ -104,6 +152,7 @@ fn outcome(alloc: Global) -> Result<Option<(usize, Option<(usize, Answer)>, usiz
 
 #[test]
 fn full(rt: HostRuntime) -> Result<(), Fail> {
-    assert_eq!(rt; outcome(rt.alloc())?, Some((256, None, 256)));
+    let outcome = outcome(rt.alloc())?;
+    assert!(rt; outcome == Some((256, None, 256)), "{outcome:?}");
     Ok(())
 }

@@ -6,14 +6,14 @@ use std::alloc::{AllocError, Global};
 pub type Piece = (&'static [u8], u8, usize);
 
 /// makeCredential and a map of 4, 5 or 6 members.
-pub const M4: Piece = (b"\x01\xa4", 0, 0);
+pub const CREATE_4: Piece = (b"\x01\xa4", 0, 0);
 
-pub const M5: Piece = (b"\x01\xa5", 0, 0);
+pub const CREATE_5: Piece = (b"\x01\xa5", 0, 0);
 
-pub const M6: Piece = (b"\x01\xa6", 0, 0);
+pub const CREATE_6: Piece = (b"\x01\xa6", 0, 0);
 
 /// Members of a makeCredential request: 32 bytes 22, an rp `abc`, a user, and EdDSA or ES256.
-pub const H: Piece = (b"\x01\x58\x20", 0x22, 32);
+pub const CREATE_HASH: Piece = (b"\x01\x58\x20", 0x22, 32);
 
 pub const RP: Piece = (b"\x02\xa1\x62id\x63abc", 0, 0);
 
@@ -36,7 +36,7 @@ pub const RS256: Piece = (
     0,
 );
 
-pub const OTHER_TYPE: Piece = (b"\x04\x81\xa2\x63alg\x27\x64type\x6apublic-kez", 0, 0);
+pub const EDDSA_OF_OTHER_TYPE: Piece = (b"\x04\x81\xa2\x63alg\x27\x64type\x6apublic-kez", 0, 0);
 
 /// The options of a makeCredential request.
 pub const RK: Piece = (b"\x07\xa1\x62rk\xf5", 0, 0);
@@ -51,47 +51,47 @@ pub const UV: Piece = (b"\x07\xa1\x62uv\xf5", 0, 0);
 pub const EXCLUDED: Piece = (b"\x05\x81\xa2\x62id\x58\x20", 1, 32);
 
 /// getAssertion and a map of 2, 3 or 4 members.
-pub const A2: Piece = (b"\x02\xa2", 0, 0);
+pub const GET_2: Piece = (b"\x02\xa2", 0, 0);
 
-pub const A3: Piece = (b"\x02\xa3", 0, 0);
+pub const GET_3: Piece = (b"\x02\xa3", 0, 0);
 
-pub const A4: Piece = (b"\x02\xa4", 0, 0);
+pub const GET_4: Piece = (b"\x02\xa4", 0, 0);
 
 /// Members of a getAssertion request: an rp id, and 32 bytes 22.
-pub const I: Piece = (b"\x01\x63abc", 0, 0);
+pub const RP_ID: Piece = (b"\x01\x63abc", 0, 0);
 
-pub const OTHER_I: Piece = (b"\x01\x63abd", 0, 0);
+pub const OTHER_RP_ID: Piece = (b"\x01\x63abd", 0, 0);
 
-pub const G: Piece = (b"\x02\x58\x20", 0x22, 32);
+pub const GET_HASH: Piece = (b"\x02\x58\x20", 0x22, 32);
 
 /// The options of a getAssertion request.
-pub const A_NO_UP: Piece = (b"\x05\xa1\x62up\xf4", 0, 0);
+pub const GET_NO_UP: Piece = (b"\x05\xa1\x62up\xf4", 0, 0);
 
-pub const A_UV: Piece = (b"\x05\xa1\x62uv\xf5", 0, 0);
+pub const GET_UV: Piece = (b"\x05\xa1\x62uv\xf5", 0, 0);
 
-pub const A_NO_UP_UV: Piece = (b"\x05\xa2\x62up\xf4\x62uv\xf5", 0, 0);
+pub const GET_NO_UP_UV: Piece = (b"\x05\xa2\x62up\xf4\x62uv\xf5", 0, 0);
 
 /// An allow list of so many descriptors.
-pub const L1: Piece = (b"\x03\x81", 0, 0);
+pub const LIST_OF_1: Piece = (b"\x03\x81", 0, 0);
 
-pub const L2: Piece = (b"\x03\x82", 0, 0);
+pub const LIST_OF_2: Piece = (b"\x03\x82", 0, 0);
 
-pub const L8: Piece = (b"\x03\x88", 0, 0);
+pub const LIST_OF_8: Piece = (b"\x03\x88", 0, 0);
 
-pub const L9: Piece = (b"\x03\x89", 0, 0);
+pub const LIST_OF_9: Piece = (b"\x03\x89", 0, 0);
 
 /// A descriptor of the id of 32 bytes 01, 02, 03 or 09, in two pieces: the id, and the type.
-pub const D1: Piece = (b"\xa2\x62id\x58\x20", 1, 32);
+pub const DESCRIPTOR_01: Piece = (b"\xa2\x62id\x58\x20", 1, 32);
 
-pub const D2: Piece = (b"\xa2\x62id\x58\x20", 2, 32);
+pub const DESCRIPTOR_02: Piece = (b"\xa2\x62id\x58\x20", 2, 32);
 
-pub const D3: Piece = (b"\xa2\x62id\x58\x20", 3, 32);
+pub const DESCRIPTOR_03: Piece = (b"\xa2\x62id\x58\x20", 3, 32);
 
-pub const D9: Piece = (b"\xa2\x62id\x58\x20", 9, 32);
+pub const DESCRIPTOR_09: Piece = (b"\xa2\x62id\x58\x20", 9, 32);
 
-pub const T: Piece = (b"\x64type\x6apublic-key", 0, 0);
+pub const TYPE: Piece = (b"\x64type\x6apublic-key", 0, 0);
 
-pub const OTHER_T: Piece = (b"\x64type\x6apublic-kez", 0, 0);
+pub const OTHER_TYPE: Piece = (b"\x64type\x6apublic-kez", 0, 0);
 
 /// getNextAssertion, getInfo and reset.
 pub const NEXT: Piece = (b"\x08", 0, 0);

@@ -10,13 +10,13 @@ use cose::BenchScheme;
 use std::alloc::{AllocError, Global};
 use std::test::Fail;
 
-const MAKE1: &[Piece] = &[M5, H, RP, USER1, EDDSA, RK];
+const MAKE1: &[Piece] = &[CREATE_5, CREATE_HASH, RP, USER1, EDDSA, RK];
 
-const MAKE2: &[Piece] = &[M5, H, RP, USER2, ES256, RK];
+const MAKE2: &[Piece] = &[CREATE_5, CREATE_HASH, RP, USER2, ES256, RK];
 
-const MAKE3: &[Piece] = &[M5, H, RP, USER3, EDDSA, RK];
+const MAKE3: &[Piece] = &[CREATE_5, CREATE_HASH, RP, USER3, EDDSA, RK];
 
-const ASK: &[Piece] = &[A2, I, G];
+const ASK: &[Piece] = &[GET_2, RP_ID, GET_HASH];
 
 // Three resident credentials answer, the most recent first; after another channel's getNextAssertion nothing is
 // remembered.
@@ -44,16 +44,34 @@ const TWO_ALGORITHMS: Piece = (
 const NEW: &[Call] = &[
     (1, ASK, NONE, 0, Status(0x27)),
     (1, ASK, PRESENT, 0, Status(0x2e)),
-    (1, &[M4, H, RP, USER1, RS256], PRESENT, 1, Status(0x26)),
-    (1, &[M4, H, RP, USER1, OTHER_TYPE], PRESENT, 1, Status(0x26)),
     (
         1,
-        &[M5, H, RP, USER1, EDDSA, NO_UP],
+        &[CREATE_4, CREATE_HASH, RP, USER1, RS256],
+        PRESENT,
+        1,
+        Status(0x26),
+    ),
+    (
+        1,
+        &[CREATE_4, CREATE_HASH, RP, USER1, EDDSA_OF_OTHER_TYPE],
+        PRESENT,
+        1,
+        Status(0x26),
+    ),
+    (
+        1,
+        &[CREATE_5, CREATE_HASH, RP, USER1, EDDSA, NO_UP],
         PRESENT,
         1,
         Status(0x2c),
     ),
-    (1, &[M5, H, RP, USER1, EDDSA, UV], VERIFIED, 1, Status(0x2c)),
+    (
+        1,
+        &[CREATE_5, CREATE_HASH, RP, USER1, EDDSA, UV],
+        VERIFIED,
+        1,
+        Status(0x2c),
+    ),
     (1, &[RESET], NONE, 0, Status(0x27)),
     (1, &[RESET], PRESENT, 0, Reset),
     (1, &[INFO], NONE, 0, Information),
@@ -62,7 +80,7 @@ const NEW: &[Call] = &[
     (1, &[(b"\x02", 0, 0)], PRESENT, 0, Status(0x12)),
     (
         1,
-        &[M4, H, RP, USER1, TWO_ALGORITHMS],
+        &[CREATE_4, CREATE_HASH, RP, USER1, TWO_ALGORITHMS],
         PRESENT,
         1,
         Made(1, 0x41, -8),
@@ -99,47 +117,46 @@ const BETWEEN: &[Call] = &[
 const AGAIN: &[Call] = &[
     (1, MAKE1, PRESENT, 1, Made(1, 0x41, -8)),
     (1, MAKE2, PRESENT, 2, Made(2, 0x41, -7)),
-    (1, &[M4, H, RP, USER1, EDDSA], PRESENT, 4, Made(4, 0x41, -8)),
+    (
+        1,
+        &[CREATE_4, CREATE_HASH, RP, USER1, EDDSA],
+        PRESENT,
+        4,
+        Made(4, 0x41, -8),
+    ),
     (1, ASK, PRESENT, 0, Asserted(2, 2, 2, 1, 1)),
     (1, MAKE1, PRESENT, 3, Made(3, 0x41, -8)),
     (1, ASK, PRESENT, 0, Asserted(3, 1, 2, 1, 1)),
     (1, &[NEXT], NONE, 0, Asserted(2, 2, 0, 1, 2)),
-    (1, &[A3, I, G, L1, D1, T], PRESENT, 0, Status(0x2e)),
     (
         1,
-        &[A3, I, G, L1, (b"\xa2\x62id\x58\x20", 4, 32), T],
+        &[GET_3, RP_ID, GET_HASH, LIST_OF_1, DESCRIPTOR_01, TYPE],
+        PRESENT,
+        0,
+        Status(0x2e),
+    ),
+    (
+        1,
+        &[
+            GET_3,
+            RP_ID,
+            GET_HASH,
+            LIST_OF_1,
+            (b"\xa2\x62id\x58\x20", 4, 32),
+            TYPE,
+        ],
         PRESENT,
         0,
         Asserted(4, 0, 0, 1, 1),
     ),
 ];
 
-fn first_wrong(alloc: Global, calls: &[Call]) -> Result<Option<(usize, Answer)>, AllocError> {
-    let mut authenticator = Authenticator::new(alloc, [0; 16], false, AttestationType::None);
-    first_other(alloc, &mut authenticator, calls)
-}
-
 #[test]
-fn three(rt: HostRuntime) -> Result<(), Fail> {
-    assert_eq!(rt; first_wrong(rt.alloc(), THREE)?, None);
-    Ok(())
-}
-
-#[test]
-fn new(rt: HostRuntime) -> Result<(), Fail> {
-    assert_eq!(rt; first_wrong(rt.alloc(), NEW)?, None);
-    Ok(())
-}
-
-#[test]
-fn between(rt: HostRuntime) -> Result<(), Fail> {
-    assert_eq!(rt; first_wrong(rt.alloc(), BETWEEN)?, None);
-    Ok(())
-}
-
-#[test]
-fn again(rt: HostRuntime) -> Result<(), Fail> {
-    assert_eq!(rt; first_wrong(rt.alloc(), AGAIN)?, None);
+fn rows(rt: HostRuntime) -> Result<(), Fail> {
+    for calls in [THREE, NEW, BETWEEN, AGAIN] {
+        let wrong = first_wrong(rt.alloc(), false, AttestationType::None, calls)?;
+        assert!(rt; wrong.is_none(), "{wrong:?}");
+    }
     Ok(())
 }
 
@@ -171,7 +188,6 @@ fn information(alloc: Global) -> Result<Vec<u8>, AllocError> {
 fn information_bytes(rt: HostRuntime) -> Result<(), Fail> {
     let wanted = joined(rt.alloc(), &INFORMATION)?;
     let reply = information(rt.alloc())?;
-    assert!(rt; reply.as_slice() == wanted.as_slice());
-    assert_eq!(rt; reply.len(), 60);
+    assert!(rt; reply.as_slice() == wanted.as_slice() && reply.len() == 60);
     Ok(())
 }

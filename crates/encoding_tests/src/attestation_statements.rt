@@ -1,6 +1,7 @@
 //! What attestation statements show (WebAuthn, sections 8.2 and 8.7). The signatures are SHA-256 of
 //! the bench key's x and the message, by Python's `hashlib`.
 
+use crate::attestation_objects::object;
 use authdata::{AttestationObject, AttestationType, Error, check_statement};
 use ccbor::Value;
 use cose::{Alg, BenchScheme, Signer};
@@ -40,11 +41,13 @@ enum Member {
     NoPairs,
 }
 
-/// What a statement is for, the format, the members, and what it shows.
+/// What a statement is for, the format, the members, the byte that the secret is 32 times and the byte that the hash is
+/// 32 times, and what is shown.
 type Row = (
     &'static str,
     &'static str,
     &'static [(&'static str, Member)],
+    (u8, u8),
     Result<AttestationType, Error>,
 );
 
@@ -56,9 +59,10 @@ const ROWS: &[Row] = &[
             ("alg", Member::OwnAlgorithm),
             ("sig", Member::Bytes(&SIGNATURE)),
         ],
+        (7, 0x22),
         Ok(AttestationType::SelfSigned),
     ),
-    ("none", "none", &[], Ok(AttestationType::None)),
+    ("none", "none", &[], (7, 0x22), Ok(AttestationType::None)),
     (
         "another alg",
         "packed",
@@ -66,6 +70,7 @@ const ROWS: &[Row] = &[
             ("alg", Member::OtherAlgorithm),
             ("sig", Member::Bytes(&SIGNATURE)),
         ],
+        (7, 0x22),
         Err(Error::BadStatement),
     ),
     (
@@ -75,6 +80,7 @@ const ROWS: &[Row] = &[
             ("alg", Member::Text("EdDSA")),
             ("sig", Member::Bytes(&SIGNATURE)),
         ],
+        (7, 0x22),
         Err(Error::BadStatement),
     ),
     (
@@ -84,6 +90,7 @@ const ROWS: &[Row] = &[
             ("alg", Member::WithoutSign),
             ("sig", Member::Bytes(&SIGNATURE)),
         ],
+        (7, 0x22),
         Err(Error::BadStatement),
     ),
     (
@@ -93,6 +100,7 @@ const ROWS: &[Row] = &[
             ("alg", Member::OwnAlgorithm),
             ("sig", Member::Bytes(&OF_THE_HASH)),
         ],
+        (7, 0x22),
         Err(Error::BadStatement),
     ),
     (
@@ -103,30 +111,35 @@ const ROWS: &[Row] = &[
             ("sig", Member::Bytes(&SIGNATURE)),
             ("x5c", Member::NoPairs),
         ],
+        (7, 0x22),
         Err(Error::BadStatement),
     ),
     (
         "no alg",
         "packed",
         &[("sig", Member::Bytes(&SIGNATURE))],
+        (7, 0x22),
         Err(Error::BadStatement),
     ),
     (
         "no sig",
         "packed",
         &[("alg", Member::OwnAlgorithm)],
+        (7, 0x22),
         Err(Error::BadStatement),
     ),
     (
         "sig a number",
         "packed",
         &[("alg", Member::OwnAlgorithm), ("sig", Member::Zero)],
+        (7, 0x22),
         Err(Error::BadStatement),
     ),
     (
         "no byte of a signature",
         "packed",
         &[("alg", Member::OwnAlgorithm), ("sig", Member::Bytes(&[]))],
+        (7, 0x22),
         Err(Error::BadStatement),
     ),
     (
@@ -136,13 +149,21 @@ const ROWS: &[Row] = &[
             ("alh", Member::OwnAlgorithm),
             ("sig", Member::Bytes(&SIGNATURE)),
         ],
+        (7, 0x22),
         Err(Error::BadStatement),
     ),
-    ("nothing", "packed", &[], Err(Error::BadStatement)),
+    (
+        "nothing",
+        "packed",
+        &[],
+        (7, 0x22),
+        Err(Error::BadStatement),
+    ),
     (
         "none with a member",
         "none",
         &[("alg", Member::OwnAlgorithm)],
+        (7, 0x22),
         Err(Error::BadStatement),
     ),
     (
@@ -152,15 +173,17 @@ const ROWS: &[Row] = &[
             ("alg", Member::OwnAlgorithm),
             ("sig", Member::Bytes(&SIGNATURE)),
         ],
+        (7, 0x22),
         Err(Error::BadStatement),
     ),
-    ("tpm", "tpm", &[], Err(Error::UnknownFormat)),
-    ("no format", "", &[], Err(Error::UnknownFormat)),
-    ("None", "None", &[], Err(Error::UnknownFormat)),
+    ("tpm", "tpm", &[], (7, 0x22), Err(Error::UnknownFormat)),
+    ("no format", "", &[], (7, 0x22), Err(Error::UnknownFormat)),
+    ("None", "None", &[], (7, 0x22), Err(Error::UnknownFormat)),
     (
         "packed and a space",
         "packed ",
         &[],
+        (7, 0x22),
         Err(Error::UnknownFormat),
     ),
     (
@@ -170,7 +193,28 @@ const ROWS: &[Row] = &[
             ("alg", Member::OwnAlgorithm),
             ("sig", Member::Bytes(&SIGNATURE)),
         ],
+        (7, 0x22),
         Err(Error::UnknownFormat),
+    ),
+    (
+        "another hash",
+        "packed",
+        &[
+            ("alg", Member::OwnAlgorithm),
+            ("sig", Member::Bytes(&SIGNATURE)),
+        ],
+        (7, 0x23),
+        Err(Error::BadStatement),
+    ),
+    (
+        "another key",
+        "packed",
+        &[
+            ("alg", Member::OwnAlgorithm),
+            ("sig", Member::Bytes(&SIGNATURE)),
+        ],
+        (8, 0x22),
+        Err(Error::BadStatement),
     ),
 ];
 
@@ -203,20 +247,11 @@ fn statement(
     Ok(Value::Map(pairs))
 }
 
-fn object(alloc: Global, fmt: &str, statement: Value) -> Result<AttestationObject, AllocError> {
-    Ok(AttestationObject {
-        fmt: String::from_str(alloc, fmt)?,
-        auth_data: Vec::from_slice(alloc, &AUTH_DATA)?,
-        statement,
-    })
-}
-
 /// What the object shows of the key of one byte 32 times and a hash of one byte 32 times.
 fn shown(
     object: &AttestationObject,
     alg: Alg,
-    secret: u8,
-    hash: u8,
+    (secret, hash): (u8, u8),
 ) -> Result<AttestationType, Error> {
     let key = BenchScheme.public(alg, &[secret; 32]);
     check_statement(&BenchScheme, object, &key, &[hash; 32])
@@ -226,48 +261,21 @@ fn shown(
 fn statements(rt: HostRuntime) -> Result<(), Fail> {
     let alloc = rt.alloc();
     for &(alg, own, other) in ALGORITHMS {
-        for (name, fmt, members, wanted) in ROWS {
-            let object = object(alloc, fmt, statement(alloc, members, own, other)?)?;
-            assert_eq!(rt; shown(&object, alg, 7, 0x22), *wanted, "{name}");
+        for (name, fmt, members, of, wanted) in ROWS {
+            let object = object(
+                alloc,
+                fmt,
+                &AUTH_DATA,
+                statement(alloc, members, own, other)?,
+            )?;
+            assert_eq!(rt; shown(&object, alg, *of), *wanted, "{name}");
         }
     }
-    Ok(())
-}
-
-#[test]
-fn other_keys_and_hashes(rt: HostRuntime) -> Result<(), Fail> {
-    let alloc = rt.alloc();
-    let members = &[
-        ("alg", Member::OwnAlgorithm),
-        ("sig", Member::Bytes(&SIGNATURE)),
-    ];
-    for &(alg, own, other) in ALGORITHMS {
-        let object = object(alloc, "packed", statement(alloc, members, own, other)?)?;
-        assert_eq!(rt;
-            shown(&object, alg, 7, 0x22),
-            Ok(AttestationType::SelfSigned)
-        );
-        assert_eq!(rt;
-            shown(&object, alg, 7, 0x23),
-            Err(Error::BadStatement),
-            "another hash"
-        );
-        assert_eq!(rt;
-            shown(&object, alg, 8, 0x22),
-            Err(Error::BadStatement),
-            "another key"
-        );
-    }
-    Ok(())
-}
-
-// The object of format none over 98 bytes, read from its own bytes.
-#[test]
-fn read_and_checked(rt: HostRuntime) -> Result<(), Fail> {
+    // The object of format none, read from its own bytes.
     let bytes = b"\xa3\x63fmt\x64none\x67attStmt\xa0\x68authData\x41\x05";
-    let object = AttestationObject::read(rt.alloc(), bytes)?;
+    let object = AttestationObject::read(alloc, bytes)?;
     assert_eq!(rt;
-        shown(&object, Alg::EdDsa, 7, 0x22),
+        shown(&object, Alg::EdDsa, (7, 0x22)),
         Ok(AttestationType::None)
     );
     Ok(())

@@ -2,7 +2,7 @@
 //! WebAuthn, sections 6.1 and 6.5.1.
 
 use crate::pieces::{Piece, joined};
-use authdata::{Attested, AuthData, Error, flags, read, read_view, write};
+use authdata::{Attested, AuthData, AuthView, Error, flags, read, read_view, write};
 use cose::CoseKey;
 use std::alloc::{AllocError, Global};
 use std::test::Fail;
@@ -29,7 +29,7 @@ const ID: Piece = (&[0, 1, 0x0a], 0, 0);
 const KEY: Piece = (K, 0x11, 32);
 
 /// What comes behind the hash H, and by which refusal it is refused, if it is.
-const ROWS: &[(&str, &[Piece], Option<Error>)] = &[
+const BARE: &[(&str, &[Piece], Option<Error>)] = &[
     ("36 bytes", &[(&[1, 0, 0, 0], 0, 0)], Some(Error::Short)),
     (
         "ED alone",
@@ -74,6 +74,10 @@ const ROWS: &[(&str, &[Piece], Option<Error>)] = &[
         &[(&[1, 0, 0, 0, 1, 0], 0, 0)],
         Some(Error::ExtraBytes),
     ),
+];
+
+/// The same up to the id of a credential.
+const IDS: &[(&str, &[Piece], Option<Error>)] = &[
     ("54 bytes", &[Z, (&[0], 0, 0)], Some(Error::Short)),
     (
         "an id of 65 bytes that is not there",
@@ -101,6 +105,10 @@ const ROWS: &[(&str, &[Piece], Option<Error>)] = &[
         &[Z, (&[1, 0], 7, 256), KEY],
         Some(Error::BadId),
     ),
+];
+
+/// The same of keys.
+const KEYS: &[(&str, &[Piece], Option<Error>)] = &[
     ("no key", &[Z, ID], Some(Error::BadKey)),
     (
         "a number for a key",
@@ -135,6 +143,10 @@ const ROWS: &[(&str, &[Piece], Option<Error>)] = &[
         &[(&[0xc1, 0, 0, 0, 0], 0, 0)],
         Some(Error::Short),
     ),
+];
+
+/// The same of ids and keys that are read.
+const WHOLE: &[(&str, &[Piece], Option<Error>)] = &[
     ("an id of 16 bytes", &[Z, (&[0, 16], 7, 16), KEY], None),
     ("an id of 17 bytes", &[Z, (&[0, 17], 7, 17), KEY], None),
     ("an id of 32 bytes", &[Z, (&[0, 32], 7, 32), KEY], None),
@@ -145,6 +157,10 @@ const ROWS: &[(&str, &[Piece], Option<Error>)] = &[
         None,
     ),
     ("x of zeros", &[Z, ID, (K, 0, 32)], None),
+];
+
+/// The same of the hash alone and of long inputs.
+const LONG: &[(&str, &[Piece], Option<Error>)] = &[
     ("the hash alone", &[], Some(Error::Short)),
     (
         "7,000 bytes behind the key",
@@ -177,38 +193,60 @@ const ROWS: &[(&str, &[Piece], Option<Error>)] = &[
     ),
 ];
 
-/// Whether the bytes are read, and written again as they were.
-fn is_read(alloc: Global, bytes: &[u8]) -> Result<bool, AllocError> {
-    match read(alloc, bytes) {
-        Ok(auth) => Ok(write(alloc, &auth)?.as_slice() == bytes),
-        Err(_) => Ok(false),
-    }
-}
-
-/// Why the bytes are refused, if they are; want of memory where the two readers differ.
-fn refusal(alloc: Global, bytes: &[u8]) -> Option<Error> {
-    match (read(alloc, bytes), read_view(bytes)) {
-        (Ok(_), Ok(_)) => None,
-        (Err(e), Err(f)) => Some(if e == f { e } else { Error::Memory }),
-        _ => Some(Error::Memory),
-    }
+/// Why the bytes are refused, if they are; want of memory where the two readers differ, or where they are written
+/// otherwise than they were read.
+fn refusal(alloc: Global, bytes: &[u8]) -> Result<Option<Error>, AllocError> {
+    let viewed = match read_view(bytes) {
+        Ok(_) => None,
+        Err(error) => Some(error),
+    };
+    let found = match read(alloc, bytes) {
+        Ok(auth) => {
+            let written = write(alloc, &auth)?;
+            if written.as_slice() == bytes {
+                None
+            } else {
+                Some(Error::Memory)
+            }
+        }
+        Err(error) => Some(error),
+    };
+    Ok(if found == viewed {
+        found
+    } else {
+        Some(Error::Memory)
+    })
 }
 
 #[test]
 fn readings(rt: HostRuntime) -> Result<(), Fail> {
     let alloc = rt.alloc();
-    for (name, pieces, refused) in ROWS {
-        let bytes = joined(alloc, &H, pieces)?;
-        assert_eq!(rt; refusal(alloc, bytes.as_slice()), *refused, "{name}");
-        assert!(rt;
-            refused.is_some() || is_read(alloc, bytes.as_slice())?,
-            "{name}"
-        );
+    for table in [BARE, IDS, KEYS, WHOLE, LONG] {
+        for (name, pieces, refused) in table {
+            let bytes = joined(alloc, &H, pieces)?;
+            assert!(rt; refusal(alloc, &bytes)? == *refused, "{name}");
+        }
     }
-    assert_eq!(rt; refusal(alloc, &[]), Some(Error::Short));
-    assert_eq!(rt; refusal(alloc, &H[..31]), Some(Error::Short));
+    for bytes in [&[], &H[..31]] {
+        assert!(rt; refusal(alloc, bytes)? == Some(Error::Short));
+    }
+    // Authenticator data with a credential, cut at each byte: no front of it is read.
+    for (pieces, len) in CUT {
+        let bytes = joined(alloc, &H, pieces)?;
+        assert!(rt; bytes.len() == *len);
+        for n in 0..bytes.len() {
+            let wanted = if n < 56 { Error::Short } else { Error::BadKey };
+            assert!(rt; refusal(alloc, &bytes[..n])? == Some(wanted), "{n}");
+        }
+    }
     Ok(())
 }
+
+/// Authenticator data with a credential, by its pieces behind H, and how many bytes they are.
+const CUT: &[(&[Piece], usize)] = &[
+    (&[Z, ID, KEY], 98),
+    (&[Z, ID, (E, 0x11, 32), (EY, 0x33, 32)], 133),
+];
 
 /// A record each of whose members is another, behind the hash H.
 const FULL: &[Piece] = &[
@@ -242,34 +280,6 @@ const Y: [u8; 32] = [
     0x66, 0x66, 0x66, 0x66, 0x66, 0x66, 0x66, 0x66, 0x66, 0x66, 0x66, 0x66, 0x66, 0x66, 0x66, 0x67,
 ];
 
-#[test]
-fn members_read(rt: HostRuntime) -> Result<(), Fail> {
-    let bytes = joined(rt.alloc(), &H, FULL)?;
-    let auth = read(rt.alloc(), bytes.as_slice())?;
-    assert_eq!(rt; auth.rp_id_hash, H);
-    assert_eq!(rt; auth.flags, 0x45);
-    assert_eq!(rt; auth.sign_count, 16_909_060);
-    let attested = auth.attested.ok_or("a credential")?;
-    assert_eq!(rt; attested.aaguid, AAGUID);
-    assert_eq!(rt; attested.id.as_slice(), [0x0a, 0x0b, 0x0c].as_slice());
-    assert_eq!(rt; attested.key, CoseKey::Es256 { x: X, y: Y });
-    Ok(())
-}
-
-#[test]
-fn members_viewed(rt: HostRuntime) -> Result<(), Fail> {
-    let bytes = joined(rt.alloc(), &H, FULL)?;
-    let auth = read_view(bytes.as_slice())?;
-    assert_eq!(rt; auth.rp_id_hash, H);
-    assert_eq!(rt; auth.flags, 0x45);
-    assert_eq!(rt; auth.sign_count, 16_909_060);
-    let attested = auth.attested.ok_or("a credential")?;
-    assert_eq!(rt; attested.aaguid, AAGUID);
-    assert_eq!(rt; attested.id, [0x0a, 0x0b, 0x0c].as_slice());
-    assert_eq!(rt; attested.key, CoseKey::Es256 { x: X, y: Y });
-    Ok(())
-}
-
 /// The attested credential of `FULL`.
 fn full_credential(alloc: Global) -> Result<Attested, AllocError> {
     Ok(Attested {
@@ -279,52 +289,54 @@ fn full_credential(alloc: Global) -> Result<Attested, AllocError> {
     })
 }
 
-#[test]
-fn members_written(rt: HostRuntime) -> Result<(), Fail> {
-    let auth = AuthData {
-        rp_id_hash: H,
-        flags: 0x45,
-        sign_count: 0x0102_0304,
-        attested: Some(full_credential(rt.alloc())?),
+/// Whether the view shows these members.
+fn shows(view: &AuthView<'_>, auth: &AuthData) -> bool {
+    let attested = match (&view.attested, &auth.attested) {
+        (Some(found), Some(wanted)) => {
+            found.aaguid == wanted.aaguid
+                && found.id == wanted.id.as_slice()
+                && found.key == wanted.key
+        }
+        (None, None) => true,
+        _ => false,
     };
-    let wanted = joined(rt.alloc(), &H, FULL)?;
-    let written = write(rt.alloc(), &auth)?;
-    assert_eq!(rt; written.as_slice(), wanted.as_slice());
-    assert_eq!(rt; read(rt.alloc(), written.as_slice())?, auth);
-    Ok(())
+    attested
+        && view.rp_id_hash == auth.rp_id_hash
+        && view.flags == auth.flags
+        && view.sign_count == auth.sign_count
+}
+
+/// Whether the bytes behind the hash H are read and viewed as these members, and these written as them.
+fn is_record(alloc: Global, auth: &AuthData, pieces: &[Piece]) -> Result<bool, AllocError> {
+    let bytes = joined(alloc, &H, pieces)?;
+    let Ok(viewed) = read_view(&bytes) else {
+        return Ok(false);
+    };
+    let Ok(found) = read(alloc, &bytes) else {
+        return Ok(false);
+    };
+    let written = write(alloc, auth)?;
+    Ok(shows(&viewed, auth) && found == *auth && written.as_slice() == bytes.as_slice())
 }
 
 #[test]
-fn bare_members_written(rt: HostRuntime) -> Result<(), Fail> {
-    let auth = AuthData {
+fn records(rt: HostRuntime) -> Result<(), Fail> {
+    let alloc = rt.alloc();
+    let full = AuthData {
+        rp_id_hash: H,
+        flags: 0x45,
+        sign_count: 16_909_060,
+        attested: Some(full_credential(alloc)?),
+    };
+    assert!(rt; is_record(alloc, &full, FULL)?);
+    let bare = AuthData {
         rp_id_hash: H,
         flags: 0x3f,
         sign_count: 0xfffe_fdfc,
         attested: None,
     };
-    let wanted = joined(rt.alloc(), &H, &[(&[0x3f, 0xff, 0xfe, 0xfd, 0xfc], 0, 0)])?;
-    let written = write(rt.alloc(), &auth)?;
-    assert_eq!(rt; written.as_slice(), wanted.as_slice());
-    assert_eq!(rt; read(rt.alloc(), written.as_slice())?, auth);
+    assert!(rt; is_record(alloc, &bare, &[(&[0x3f, 0xff, 0xfe, 0xfd, 0xfc], 0, 0)])?);
     Ok(())
-}
-
-/// A flags byte and a counter of 9, and what is behind them.
-fn flagged(alloc: Global, flags: u8, rest: &[u8]) -> Result<Vec<u8>, AllocError> {
-    let mut bytes = Vec::from_slice(alloc, &H)?;
-    bytes.extend_from_slice(&[flags, 0, 0, 0, 9])?;
-    bytes.extend_from_slice(rest)?;
-    Ok(bytes)
-}
-
-/// Whether the bytes are read with these flags, a counter of 9, and a credential or none.
-fn is_flagged(alloc: Global, bytes: &[u8], flags: u8, attested: bool) -> bool {
-    match read(alloc, bytes) {
-        Ok(auth) => {
-            auth.flags == flags && auth.sign_count == 9 && auth.attested.is_some() == attested
-        }
-        Err(_) => false,
-    }
 }
 
 /// Why flags are refused, if they are: `ED` is bit 7, and bit 4, `BS`, is set only with bit 3, `BE`.
@@ -338,23 +350,26 @@ fn refused_flags(flags: u8) -> Option<Error> {
     }
 }
 
-/// Whether these flags without a credential are answered as they have to be.
-fn is_bare(alloc: Global, flags: u8, at: bool) -> Result<bool, AllocError> {
-    let bytes = flagged(alloc, flags, &[])?;
-    Ok(match (at, refused_flags(flags)) {
-        (true, _) => refusal(alloc, bytes.as_slice()) == Some(Error::Short),
-        (false, None) => is_flagged(alloc, bytes.as_slice(), flags, false),
-        (false, refused) => refusal(alloc, bytes.as_slice()) == refused,
-    })
-}
-
-/// Whether these flags with a credential are answered as they have to be.
-fn is_full(alloc: Global, flags: u8, at: bool, credential: &[u8]) -> Result<bool, AllocError> {
-    let bytes = flagged(alloc, flags, credential)?;
-    Ok(match (at, refused_flags(flags)) {
-        (true, None) => is_flagged(alloc, bytes.as_slice(), flags, true),
-        (false, None) => refusal(alloc, bytes.as_slice()) == Some(Error::ExtraBytes),
-        (_, refused) => refusal(alloc, bytes.as_slice()) == refused,
+/// Whether flags and a counter of 9, with this behind them, are answered as they have to be where there is a credential
+/// or none.
+fn is_answered(alloc: Global, flags: u8, rest: &[u8], is_full: bool) -> Result<bool, AllocError> {
+    let mut bytes = Vec::from_slice(alloc, &H)?;
+    bytes.extend_from_slice(&[flags, 0, 0, 0, 9])?;
+    bytes.extend_from_slice(rest)?;
+    let has_credential = flags / 64 % 2 == 1;
+    let wanted = match refused_flags(flags) {
+        _ if has_credential && !is_full => Some(Error::Short),
+        None if is_full && !has_credential => Some(Error::ExtraBytes),
+        refused => refused,
+    };
+    Ok(match read(alloc, &bytes) {
+        Ok(auth) => {
+            wanted.is_none()
+                && auth.flags == flags
+                && auth.sign_count == 9
+                && auth.attested.is_some() == has_credential
+        }
+        Err(_) => wanted.is_some() && refusal(alloc, &bytes)? == wanted,
     })
 }
 
@@ -362,13 +377,18 @@ fn is_full(alloc: Global, flags: u8, at: bool, credential: &[u8]) -> Result<bool
 fn every_flags(rt: HostRuntime) -> Result<(), Fail> {
     let alloc = rt.alloc();
     let credential = joined(alloc, &[], &[(&[], 0, 16), ID, KEY])?;
-    for flags in 0..=255u8 {
-        let at = flags / 64 % 2 == 1;
-        assert!(rt; is_bare(alloc, flags, at)?, "{flags}");
+    for byte in 0..=255u8 {
+        assert!(rt; is_answered(alloc, byte, &[], false)?, "{byte}");
+        assert!(rt; is_answered(alloc, byte, &credential, true)?, "{byte}");
+        assert!(rt; flags::is_set(byte, flags::UP) == (byte % 2 == 1), "{byte}");
         assert!(rt;
-            is_full(alloc, flags, at, credential.as_slice())?,
-            "{flags}"
+            flags::is_set(byte, flags::UV) == (byte / 4 % 2 == 1),
+            "{byte}"
         );
+    }
+    for &(flag, bit) in FLAGS {
+        let is_bit = flag == bit && flags::is_set(bit, flag) && !flags::is_set(255 - bit, flag);
+        assert!(rt; is_bit, "{bit}");
     }
     Ok(())
 }
@@ -382,42 +402,6 @@ const FLAGS: &[(u8, u8)] = &[
     (flags::AT, 0x40),
     (flags::ED, 0x80),
 ];
-
-#[test]
-fn bits(rt: HostRuntime) {
-    for &(flag, bit) in FLAGS {
-        assert_eq!(rt; flag, bit, "{bit}");
-        assert!(rt;
-            flags::is_set(bit, flag) && !flags::is_set(255 - bit, flag),
-            "{bit}"
-        );
-    }
-    for byte in 0..=255u8 {
-        assert_eq!(rt; flags::is_set(byte, flags::UP), byte % 2 == 1);
-        assert_eq!(rt; flags::is_set(byte, flags::UV), byte / 4 % 2 == 1);
-    }
-}
-
-/// Authenticator data with a credential, by its pieces behind H, and how many bytes they are.
-const CUT: &[(&[Piece], usize)] = &[
-    (&[Z, ID, KEY], 98),
-    (&[Z, ID, (E, 0x11, 32), (EY, 0x33, 32)], 133),
-];
-
-// Authenticator data with a credential, cut at each byte: no front of it is read.
-#[test]
-fn cuts(rt: HostRuntime) -> Result<(), Fail> {
-    let alloc = rt.alloc();
-    for (pieces, len) in CUT {
-        let bytes = joined(alloc, &H, pieces)?;
-        assert_eq!(rt; bytes.len(), *len);
-        for n in 0..bytes.len() {
-            let wanted = if n < 56 { Error::Short } else { Error::BadKey };
-            assert_eq!(rt; refusal(alloc, &bytes.as_slice()[..n]), Some(wanted), "{n}");
-        }
-    }
-    Ok(())
-}
 
 /// A refusal, its number and its text.
 const REFUSALS: &[(Error, Option<u8>, &str)] = &[
@@ -470,9 +454,11 @@ const REFUSALS: &[(Error, Option<u8>, &str)] = &[
 #[test]
 fn refusals(rt: HostRuntime) -> Result<(), Fail> {
     for (error, number, text) in REFUSALS {
-        assert_eq!(rt; error.number(), *number);
         let printed = format!(in rt.alloc(); "{error}")?;
-        assert_eq!(rt; printed.as_str(), *text);
+        assert!(rt;
+            error.number() == *number && printed.as_str() == *text,
+            "{text}"
+        );
     }
     Ok(())
 }

@@ -7,7 +7,7 @@ use std::test::Fail;
 
 /// What an input is for, the input, the value that `decode` reads from it as `{:?}` prints it, and
 /// how many bytes encode that value.
-const ACCEPTED: &[(&str, &[u8], &str, usize)] = &[
+const NUMBERS: &[(&str, &[u8], &str, usize)] = &[
     ("0 and a byte behind it", &[0x00, 0x00], "Uint(0)", 1),
     ("23 in the first byte", &[0x17], "Uint(23)", 1),
     ("24 in one byte", &[0x18, 0x18], "Uint(24)", 2),
@@ -34,6 +34,10 @@ const ACCEPTED: &[(&str, &[u8], &str, usize)] = &[
         "Nint(18446744073709551615)",
         9,
     ),
+];
+
+/// The same of other values.
+const OTHERS: &[(&str, &[u8], &str, usize)] = &[
     (
         "bytes, and one behind them",
         &[0x42, 1, 0xff, 0],
@@ -79,6 +83,10 @@ const ACCEPTED: &[(&str, &[u8], &str, usize)] = &[
         "Map([(Uint(1), Array([Map([(Uint(2), Map([]))])]))])",
         6,
     ),
+];
+
+/// The same of more of them.
+const MORE_OTHERS: &[(&str, &[u8], &str, usize)] = &[
     (
         "two negative numbers of one length",
         b"\xa2\x20\x01\x21\x02",
@@ -107,7 +115,7 @@ const ACCEPTED: &[(&str, &[u8], &str, usize)] = &[
 ];
 
 /// What an input is for, and an input of which no front is an encoding.
-const REFUSED: &[(&str, &[u8])] = &[
+const LONGER_FORMS: &[(&str, &[u8])] = &[
     ("nothing", b""),
     ("23 in one byte", b"\x18\x17"),
     ("255 in two bytes", b"\x19\0\xff"),
@@ -119,6 +127,10 @@ const REFUSED: &[(&str, &[u8])] = &[
     ("a longer length of an array", b"\x98\x01\0"),
     ("a longer length of a map", b"\xb8\x01\0\0"),
     ("false in one byte more", b"\xf8\x14"),
+];
+
+/// The same of keys.
+const KEYS: &[(&str, &[u8])] = &[
     ("a longer text before a shorter", b"\xa2\x63fmt\0\x62id\0"),
     ("a longer number before a shorter", b"\xa2\x18\x18\0\x00\0"),
     (
@@ -137,6 +149,10 @@ const REFUSED: &[(&str, &[u8])] = &[
     ("an array as a key", b"\xa1\x80\0"),
     ("a map as a key", b"\xa1\xa0\0"),
     ("true as a key", b"\xa1\xf5\0"),
+];
+
+/// The same of depths and kinds of values.
+const KINDS: &[(&str, &[u8])] = &[
     ("five arrays deep", b"\x81\x81\x81\x81\x80"),
     ("five maps deep", b"\xa1\0\xa1\0\xa1\0\xa1\0\xa0"),
     ("a tag", b"\xc0\0"),
@@ -148,6 +164,10 @@ const REFUSED: &[(&str, &[u8])] = &[
     ("undefined", b"\xf7"),
     ("another simple value", b"\xf0"),
     ("a simple value in one byte more", b"\xf8\xff"),
+];
+
+/// The same of indefinite lengths, infos and texts.
+const UNENDED: &[(&str, &[u8])] = &[
     ("bytes of indefinite length", b"\x5f\x41a\xff"),
     ("a text of indefinite length", b"\x7f\x61a\xff"),
     ("an array of indefinite length", b"\x9f\0\xff"),
@@ -162,6 +182,10 @@ const REFUSED: &[(&str, &[u8])] = &[
     ("a longer form of a character", b"\x62\xc0\x80"),
     ("a surrogate", b"\x63\xed\xa0\x80"),
     ("a character above the last one", b"\x64\xf4\x90\x80\x80"),
+];
+
+/// The same of inputs that end too soon.
+const CUT: &[(&str, &[u8])] = &[
     ("no byte of one", b"\x18"),
     ("one byte of two", b"\x19\x01"),
     ("three bytes of four", b"\x1a\x01\0\0"),
@@ -184,6 +208,10 @@ const REFUSED: &[(&str, &[u8])] = &[
         "2^64 - 1 pairs",
         b"\xbb\xff\xff\xff\xff\xff\xff\xff\xff\0\0",
     ),
+];
+
+/// The same of faults further inside.
+const INNER: &[(&str, &[u8])] = &[
     (
         "a longer number in a map in an array",
         b"\x81\xa1\0\x18\x17",
@@ -201,6 +229,24 @@ const REFUSED: &[(&str, &[u8])] = &[
     ("a fault in a value", b"\xa2\0\0\x01\xf6"),
 ];
 
+/// Whether the whole input is decoded as this value and viewed, if it is all of its bytes; else, whether bytes follow a
+/// value to both.
+fn is_decoded(alloc: Global, bytes: &[u8], value: &str, whole: bool) -> Result<bool, AllocError> {
+    let viewed = match View::check_all(bytes) {
+        Ok(view) => whole && view.span() == bytes,
+        Err(Error::Trailing) => !whole,
+        Err(_) => false,
+    };
+    match decode_all(alloc, bytes) {
+        Ok(found) => {
+            let text = format!(in alloc; "{found:?}")?;
+            Ok(viewed && whole && text.as_str() == value)
+        }
+        Err(Error::Trailing) => Ok(viewed && !whole),
+        Err(_) => Ok(false),
+    }
+}
+
 /// Whether the front of the bytes is decoded as this value, of this many bytes.
 fn is_front(alloc: Global, bytes: &[u8], value: &str, len: usize) -> Result<bool, AllocError> {
     match decode(alloc, bytes) {
@@ -212,33 +258,8 @@ fn is_front(alloc: Global, bytes: &[u8], value: &str, len: usize) -> Result<bool
     }
 }
 
-/// Whether the whole input is decoded as this value.
-fn is_whole(alloc: Global, bytes: &[u8], value: &str) -> Result<bool, AllocError> {
-    match decode_all(alloc, bytes) {
-        Ok(found) => {
-            let text = format!(in alloc; "{found:?}")?;
-            Ok(text.as_str() == value)
-        }
-        Err(_) => Ok(false),
-    }
-}
-
-/// Whether a view of the whole input has all of its bytes.
-fn is_viewed(bytes: &[u8]) -> bool {
-    match View::check_all(bytes) {
-        Ok(view) => view.span() == bytes,
-        Err(_) => false,
-    }
-}
-
-/// Whether bytes follow a value, to `decode_all` and to a view.
-fn has_trailing(alloc: Global, bytes: &[u8]) -> bool {
-    matches!(decode_all(alloc, bytes), Err(Error::Trailing))
-        && matches!(View::check_all(bytes), Err(Error::Trailing))
-}
-
 /// Whether no front of the bytes is a value, to each of the three calls.
-fn is_refused(alloc: Global, bytes: &[u8]) -> bool {
+pub fn is_refused(alloc: Global, bytes: &[u8]) -> bool {
     matches!(decode(alloc, bytes), Err(Error::NotCanonical))
         && matches!(decode_all(alloc, bytes), Err(Error::NotCanonical))
         && matches!(View::check_all(bytes), Err(Error::NotCanonical))
@@ -246,28 +267,20 @@ fn is_refused(alloc: Global, bytes: &[u8]) -> bool {
 
 #[test]
 fn decodes(rt: HostRuntime) -> Result<(), Fail> {
-    for (name, bytes, value, len) in ACCEPTED {
-        assert!(rt; is_front(rt.alloc(), bytes, value, *len)?, "{name}");
+    let alloc = rt.alloc();
+    for table in [NUMBERS, OTHERS, MORE_OTHERS] {
+        for (name, bytes, value, len) in table {
+            assert!(rt; is_front(alloc, bytes, value, *len)?, "{name}");
+            assert!(rt;
+                is_decoded(alloc, bytes, value, *len == bytes.len())?,
+                "{name}"
+            );
+        }
+    }
+    for table in [LONGER_FORMS, KEYS, KINDS, UNENDED, CUT, INNER] {
+        for (name, bytes) in table {
+            assert!(rt; is_refused(alloc, bytes), "{name}");
+        }
     }
     Ok(())
-}
-
-#[test]
-fn decodes_all(rt: HostRuntime) -> Result<(), Fail> {
-    for (name, bytes, value, len) in ACCEPTED {
-        let accepted = if *len == bytes.len() {
-            is_whole(rt.alloc(), bytes, value)? && is_viewed(bytes)
-        } else {
-            has_trailing(rt.alloc(), bytes)
-        };
-        assert!(rt; accepted, "{name}");
-    }
-    Ok(())
-}
-
-#[test]
-fn refuses(rt: HostRuntime) {
-    for (name, bytes) in REFUSED {
-        assert!(rt; is_refused(rt.alloc(), bytes), "{name}");
-    }
 }

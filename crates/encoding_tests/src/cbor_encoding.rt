@@ -1,36 +1,15 @@
 //! What `ccbor` encodes and what has no encoding. The expected bytes are worked by hand from RFC
 //! 8949 and CTAP 2.1, "Message Encoding".
 
-use ccbor::{Error, Value, encode};
+use crate::made::{Leaf, Made, made_value};
+use ccbor::{Error, encode};
 use std::alloc::{AllocError, Global};
 use std::test::Fail;
 
-/// A key of a map, or what is none.
-#[derive(Clone, Copy)]
-enum Leaf {
-    Uint(u64),
-    Nint(u64),
-    Bytes(&'static [u8]),
-    Text(&'static str),
-    Bool(bool),
-    NoItems,
-    NoPairs,
-}
+const ZERO: Leaf = Leaf::Uint(0);
 
-/// A value to be made.
-#[derive(Clone, Copy)]
-enum Made {
-    Leaf(Leaf),
-    /// The number 1, so many times in an array.
-    Ones(u64),
-    /// True, in so many arrays.
-    Nested(u64),
-    /// A map of these keys, the value 0 at each.
-    Keys(&'static [Leaf]),
-}
-
-/// What a value is for, the value and its encoding.
-const ENCODED: &[(&str, Made, &[u8])] = &[
+/// What a value is for, the value and its encoding, no bytes where it has none.
+const UNSIGNED: &[(&str, Made, &[u8])] = &[
     ("0", Made::Leaf(Leaf::Uint(0)), b"\0"),
     ("23", Made::Leaf(Leaf::Uint(23)), b"\x17"),
     ("24", Made::Leaf(Leaf::Uint(24)), b"\x18\x18"),
@@ -53,6 +32,10 @@ const ENCODED: &[(&str, Made, &[u8])] = &[
         Made::Leaf(Leaf::Uint(18446744073709551615)),
         b"\x1b\xff\xff\xff\xff\xff\xff\xff\xff",
     ),
+];
+
+/// The same of negative numbers.
+const NEGATIVE: &[(&str, Made, &[u8])] = &[
     ("-1", Made::Leaf(Leaf::Nint(0)), b"\x20"),
     ("-24", Made::Leaf(Leaf::Nint(23)), b"\x37"),
     ("-25", Made::Leaf(Leaf::Nint(24)), b"\x38\x18"),
@@ -75,6 +58,10 @@ const ENCODED: &[(&str, Made, &[u8])] = &[
         Made::Leaf(Leaf::Nint(18446744073709551615)),
         b"\x3b\xff\xff\xff\xff\xff\xff\xff\xff",
     ),
+];
+
+/// The same of other values.
+const OTHERS: &[(&str, Made, &[u8])] = &[
     ("false", Made::Leaf(Leaf::Bool(false)), b"\xf4"),
     ("true", Made::Leaf(Leaf::Bool(true)), b"\xf5"),
     ("a text", Made::Leaf(Leaf::Text("fmt")), b"\x63fmt"),
@@ -97,169 +84,125 @@ const ENCODED: &[(&str, Made, &[u8])] = &[
     ("four deep", Made::Nested(4), b"\x81\x81\x81\x81\xf5"),
     (
         "a shorter text before a lower one",
-        Made::Keys(&[Leaf::Text("id"), Leaf::Text("fmt")]),
+        Made::Pairs(&[(Leaf::Text("id"), ZERO), (Leaf::Text("fmt"), ZERO)]),
         b"\xa2\x62id\0\x63fmt\0",
     ),
     (
         "a longer number before a shorter negative one",
-        Made::Keys(&[Leaf::Uint(24), Leaf::Nint(0)]),
+        Made::Pairs(&[(Leaf::Uint(24), ZERO), (Leaf::Nint(0), ZERO)]),
         b"\xa2\x18\x18\0\x20\0",
     ),
     (
         "two negative numbers of one length",
-        Made::Keys(&[Leaf::Nint(0), Leaf::Nint(1)]),
+        Made::Pairs(&[(Leaf::Nint(0), ZERO), (Leaf::Nint(1), ZERO)]),
         b"\xa2\x20\0\x21\0",
     ),
     (
         "keys of each kind",
-        Made::Keys(&[
-            Leaf::Uint(0),
-            Leaf::Uint(24),
-            Leaf::Nint(0),
-            Leaf::Nint(24),
-            Leaf::Text(""),
+        Made::Pairs(&[
+            (Leaf::Uint(0), ZERO),
+            (Leaf::Uint(24), ZERO),
+            (Leaf::Nint(0), ZERO),
+            (Leaf::Nint(24), ZERO),
+            (Leaf::Text(""), ZERO),
         ]),
         b"\xa5\0\0\x18\x18\0\x20\0\x38\x18\0\x60\0",
     ),
 ];
 
-/// What a value is for that has no encoding, and the value.
-const UNFIT: &[(&str, Made)] = &[
-    ("five deep", Made::Nested(5)),
-    ("six deep", Made::Nested(6)),
+/// The same of values that have none.
+const UNFIT: &[(&str, Made, &[u8])] = &[
+    ("five deep", Made::Nested(5), b""),
+    ("six deep", Made::Nested(6), b""),
     (
         "an array as a key",
-        Made::Keys(&[Leaf::Uint(0), Leaf::NoItems]),
+        Made::Pairs(&[(Leaf::Uint(0), ZERO), (Leaf::NoItems, ZERO)]),
+        b"",
     ),
     (
         "a map as a key",
-        Made::Keys(&[Leaf::Uint(0), Leaf::NoPairs]),
+        Made::Pairs(&[(Leaf::Uint(0), ZERO), (Leaf::NoPairs, ZERO)]),
+        b"",
     ),
     (
         "a longer text first",
-        Made::Keys(&[Leaf::Text("fmt"), Leaf::Text("id")]),
+        Made::Pairs(&[(Leaf::Text("fmt"), ZERO), (Leaf::Text("id"), ZERO)]),
+        b"",
     ),
     (
         "a higher text first",
-        Made::Keys(&[Leaf::Text("b"), Leaf::Text("a")]),
+        Made::Pairs(&[(Leaf::Text("b"), ZERO), (Leaf::Text("a"), ZERO)]),
+        b"",
     ),
     (
         "a longer number first",
-        Made::Keys(&[Leaf::Uint(24), Leaf::Uint(0)]),
+        Made::Pairs(&[(Leaf::Uint(24), ZERO), (Leaf::Uint(0), ZERO)]),
+        b"",
     ),
     (
         "a higher number first",
-        Made::Keys(&[Leaf::Uint(1), Leaf::Uint(0)]),
+        Made::Pairs(&[(Leaf::Uint(1), ZERO), (Leaf::Uint(0), ZERO)]),
+        b"",
     ),
     (
         "a negative number first",
-        Made::Keys(&[Leaf::Nint(0), Leaf::Uint(24)]),
+        Made::Pairs(&[(Leaf::Nint(0), ZERO), (Leaf::Uint(24), ZERO)]),
+        b"",
     ),
     (
         "a higher negative number first",
-        Made::Keys(&[Leaf::Nint(1), Leaf::Nint(0)]),
+        Made::Pairs(&[(Leaf::Nint(1), ZERO), (Leaf::Nint(0), ZERO)]),
+        b"",
     ),
     (
         "a text before a number",
-        Made::Keys(&[Leaf::Text(""), Leaf::Uint(0)]),
+        Made::Pairs(&[(Leaf::Text(""), ZERO), (Leaf::Uint(0), ZERO)]),
+        b"",
     ),
     (
         "a number twice",
-        Made::Keys(&[Leaf::Uint(1), Leaf::Uint(1)]),
+        Made::Pairs(&[(Leaf::Uint(1), ZERO), (Leaf::Uint(1), ZERO)]),
+        b"",
     ),
     (
         "a negative number twice",
-        Made::Keys(&[Leaf::Nint(1), Leaf::Nint(1)]),
+        Made::Pairs(&[(Leaf::Nint(1), ZERO), (Leaf::Nint(1), ZERO)]),
+        b"",
     ),
     (
         "a text twice",
-        Made::Keys(&[Leaf::Text("a"), Leaf::Text("a")]),
+        Made::Pairs(&[(Leaf::Text("a"), ZERO), (Leaf::Text("a"), ZERO)]),
+        b"",
     ),
     (
         "true as a key",
-        Made::Keys(&[Leaf::Uint(1), Leaf::Bool(true)]),
+        Made::Pairs(&[(Leaf::Uint(1), ZERO), (Leaf::Bool(true), ZERO)]),
+        b"",
     ),
     (
         "bytes as a key",
-        Made::Keys(&[Leaf::Uint(1), Leaf::Bytes(&[1])]),
+        Made::Pairs(&[(Leaf::Uint(1), ZERO), (Leaf::Bytes(&[1]), ZERO)]),
+        b"",
     ),
 ];
 
-fn leaf_value(alloc: Global, made: Leaf) -> Result<Value, AllocError> {
-    Ok(match made {
-        Leaf::Uint(n) => Value::Uint(n),
-        Leaf::Nint(n) => Value::Nint(n),
-        Leaf::Bytes(content) => Value::Bytes(Vec::from_slice(alloc, content)?),
-        Leaf::Text(content) => Value::Text(String::from_str(alloc, content)?),
-        Leaf::Bool(b) => Value::Bool(b),
-        Leaf::NoItems => Value::Array(Vec::new(alloc)),
-        Leaf::NoPairs => Value::Map(Vec::new(alloc)),
-    })
-}
-
-fn array_of_ones(alloc: Global, count: u64) -> Result<Value, AllocError> {
-    let mut items = Vec::new(alloc);
-    for _ in 0..count {
-        items.push(Value::Uint(1))?;
-    }
-    Ok(Value::Array(items))
-}
-
-fn nested_arrays(alloc: Global, depth: u64) -> Result<Value, AllocError> {
-    let mut value = Value::Bool(true);
-    for _ in 0..depth {
-        let mut items = Vec::new(alloc);
-        items.push(value)?;
-        value = Value::Array(items);
-    }
-    Ok(value)
-}
-
-fn map_of_keys(alloc: Global, keys: &[Leaf]) -> Result<Value, AllocError> {
-    let mut pairs = Vec::new(alloc);
-    for key in keys {
-        pairs.push((leaf_value(alloc, *key)?, Value::Uint(0)))?;
-    }
-    Ok(Value::Map(pairs))
-}
-
-fn made_value(alloc: Global, made: Made) -> Result<Value, AllocError> {
-    match made {
-        Made::Leaf(made) => leaf_value(alloc, made),
-        Made::Ones(count) => array_of_ones(alloc, count),
-        Made::Nested(depth) => nested_arrays(alloc, depth),
-        Made::Keys(keys) => map_of_keys(alloc, keys),
-    }
-}
-
-/// Whether the value is appended as these bytes.
+/// Whether the value is appended as these bytes, or for no bytes refused, and the output as it was.
 fn is_encoded(alloc: Global, made: Made, bytes: &[u8]) -> Result<bool, AllocError> {
     let value = made_value(alloc, made)?;
     let mut out = Vec::from_slice(alloc, b"before")?;
-    let answer = encode(&value, &mut out);
-    Ok(answer.is_ok() && out.as_slice().strip_prefix(b"before") == Some(bytes))
-}
-
-/// Whether the value is refused, and the output as it was.
-fn is_unfit(alloc: Global, made: Made) -> Result<bool, AllocError> {
-    let value = made_value(alloc, made)?;
-    let mut out = Vec::from_slice(alloc, b"before")?;
-    let answer = encode(&value, &mut out);
-    Ok(matches!(answer, Err(Error::Unfit)) && out.as_slice() == b"before".as_slice())
+    let fits = match encode(&value, &mut out) {
+        Ok(()) => !bytes.is_empty(),
+        Err(error) => bytes.is_empty() && matches!(error, Error::Unfit),
+    };
+    Ok(fits && out.as_slice().strip_prefix(b"before") == Some(bytes))
 }
 
 #[test]
 fn encodes(rt: HostRuntime) -> Result<(), Fail> {
-    for (name, made, bytes) in ENCODED {
-        assert!(rt; is_encoded(rt.alloc(), *made, bytes)?, "{name}");
-    }
-    Ok(())
-}
-
-#[test]
-fn has_no_encoding(rt: HostRuntime) -> Result<(), Fail> {
-    for (name, made) in UNFIT {
-        assert!(rt; is_unfit(rt.alloc(), *made)?, "{name}");
+    for table in [UNSIGNED, NEGATIVE, OTHERS, UNFIT] {
+        for (name, made, bytes) in table {
+            assert!(rt; is_encoded(rt.alloc(), *made, bytes)?, "{name}");
+        }
     }
     Ok(())
 }

@@ -1,6 +1,8 @@
 //! Numbers, lengths and counts at each border of a head (RFC 8949, section 3), and inputs as long
 //! as a message of CTAPHID can be, 7,609 bytes: each call answers with ample memory.
 
+use crate::cbor_decoding::is_refused;
+use crate::pieces::joined;
 use ccbor::{Error, Value, View, decode, decode_all, encode};
 use std::alloc::{AllocError, Global};
 use std::test::Fail;
@@ -44,34 +46,29 @@ const COUNTS: &[(usize, u8, &[u8])] = &[
     (65536, 0x1a, b"\0\x01\0\0"),
 ];
 
-/// The major types in the first byte of a head.
+/// The major type of negative numbers in the first byte of a head.
 const NEGATIVE: u8 = 0x20;
 
-const BYTES: u8 = 0x40;
-
-const TEXT: u8 = 0x60;
-
-const ARRAY: u8 = 0x80;
-
-const MAP: u8 = 0xa0;
-
-/// One byte so many times.
-fn repeated(alloc: Global, byte: u8, count: usize) -> Result<Vec<u8>, AllocError> {
-    let mut bytes = Vec::new(alloc);
-    for _ in 0..count {
-        bytes.push(byte)?;
-    }
-    Ok(bytes)
+/// What a head counts.
+#[derive(Clone, Copy)]
+enum Counted {
+    /// Bytes, each of them the letter a.
+    Bytes,
+    /// Letters a.
+    Text,
+    /// Numbers 1.
+    Items,
+    /// The value true at each of the keys 0, 1 and so on.
+    Pairs,
 }
 
-/// The first byte, the rest of the head, and what is behind it.
-fn headed(alloc: Global, first: u8, rest: &[u8], content: &[u8]) -> Result<Vec<u8>, AllocError> {
-    let mut bytes = Vec::new(alloc);
-    bytes.push(first)?;
-    bytes.extend_from_slice(rest)?;
-    bytes.extend_from_slice(content)?;
-    Ok(bytes)
-}
+/// What is counted, its major type in the first byte of a head, and the byte that is repeated behind the head.
+const KINDS: &[(Counted, u8, u8)] = &[
+    (Counted::Bytes, 0x40, 0x61),
+    (Counted::Text, 0x60, 0x61),
+    (Counted::Items, 0x80, 1),
+    (Counted::Pairs, 0xa0, 0),
+];
 
 /// Whether the value is encoded as these bytes.
 fn is_written(alloc: Global, value: &Value, bytes: &[u8]) -> bool {
@@ -79,114 +76,25 @@ fn is_written(alloc: Global, value: &Value, bytes: &[u8]) -> bool {
     encode(value, &mut out).is_ok() && out.as_slice() == bytes
 }
 
-/// Whether these are the bytes of the number n, read, written and viewed.
-fn is_unsigned(alloc: Global, number: u64, bytes: &[u8]) -> bool {
+/// Whether these are the bytes of the number n, or of -1 - n, read, written and viewed.
+fn is_number(alloc: Global, bytes: &[u8], number: u64, negative: bool) -> bool {
     let Ok((value, len)) = decode(alloc, bytes) else {
         return false;
     };
     let Ok(view) = View::check_all(bytes) else {
         return false;
     };
-    value.as_uint() == Some(number)
-        && len == bytes.len()
-        && view.as_uint() == Some(number)
-        && is_written(alloc, &Value::Uint(number), bytes)
-}
-
-/// Whether these are the bytes of the number -1 - n, read, written and viewed.
-fn is_negative(alloc: Global, number: u64, bytes: &[u8]) -> bool {
-    let Ok((value, len)) = decode(alloc, bytes) else {
-        return false;
+    let (found, viewed, made) = if negative {
+        (value.as_nint(), view.as_nint(), Value::Nint(number))
+    } else {
+        (value.as_uint(), view.as_uint(), Value::Uint(number))
     };
-    let Ok(view) = View::check_all(bytes) else {
-        return false;
-    };
-    value.as_nint() == Some(number)
+    found == Some(number)
+        && viewed == Some(number)
         && len == bytes.len()
-        && view.as_uint().is_none()
+        && view.as_uint().is_none() == negative
         && view.span() == bytes
-        && is_written(alloc, &Value::Nint(number), bytes)
-}
-
-#[test]
-fn numbers_at_borders(rt: HostRuntime) -> Result<(), Fail> {
-    let alloc = rt.alloc();
-    for &(number, first, rest) in NUMBERS {
-        let bytes = headed(alloc, first, rest, &[])?;
-        assert!(rt; is_unsigned(alloc, number, bytes.as_slice()), "{number}");
-        let bytes = headed(alloc, first | NEGATIVE, rest, &[])?;
-        assert!(rt;
-            is_negative(alloc, number, bytes.as_slice()),
-            "-1 - {number}"
-        );
-    }
-    Ok(())
-}
-
-/// Whether the bytes are not canonical without the last of them, and trail with one more.
-fn ends_there(alloc: Global, mut bytes: Vec<u8>) -> Result<bool, AllocError> {
-    bytes.push(0)?;
-    let trailing = matches!(decode_all(alloc, bytes.as_slice()), Err(Error::Trailing))
-        && matches!(View::check_all(bytes.as_slice()), Err(Error::Trailing));
-    let _zero = bytes.pop();
-    let _last = bytes.pop();
-    Ok(trailing && is_refused(alloc, bytes.as_slice()))
-}
-
-/// Whether no front of the bytes is a value, to each of the three calls.
-fn is_refused(alloc: Global, bytes: &[u8]) -> bool {
-    matches!(decode(alloc, bytes), Err(Error::NotCanonical))
-        && matches!(decode_all(alloc, bytes), Err(Error::NotCanonical))
-        && matches!(View::check_all(bytes), Err(Error::NotCanonical))
-}
-
-/// Whether these are the bytes of a byte string with this content.
-fn is_byte_string(alloc: Global, bytes: &[u8], content: &[u8]) -> bool {
-    let Ok((value, len)) = decode(alloc, bytes) else {
-        return false;
-    };
-    let Ok(view) = View::check_all(bytes) else {
-        return false;
-    };
-    value.as_bytes() == Some(content)
-        && len == bytes.len()
-        && view.as_bytes() == Some(content)
-        && is_written(alloc, &value, bytes)
-}
-
-#[test]
-fn byte_strings(rt: HostRuntime) -> Result<(), Fail> {
-    let alloc = rt.alloc();
-    for &(count, first, rest) in COUNTS {
-        let content = repeated(alloc, 0x61, count)?;
-        let bytes = headed(alloc, first | BYTES, rest, content.as_slice())?;
-        let is_string = is_byte_string(alloc, bytes.as_slice(), content.as_slice());
-        assert!(rt; is_string && ends_there(alloc, bytes)?, "{count}");
-    }
-    Ok(())
-}
-
-/// Whether these are the bytes of a text with this content.
-fn is_text(alloc: Global, bytes: &[u8], content: &[u8]) -> bool {
-    let Ok((value, len)) = decode(alloc, bytes) else {
-        return false;
-    };
-    let Some(text) = value.as_text() else {
-        return false;
-    };
-    text.as_bytes() == content && len == bytes.len() && is_written(alloc, &value, bytes)
-}
-
-#[test]
-fn texts(rt: HostRuntime) -> Result<(), Fail> {
-    let alloc = rt.alloc();
-    for &(count, first, rest) in COUNTS {
-        let content = repeated(alloc, 0x61, count)?;
-        let bytes = headed(alloc, first | TEXT, rest, content.as_slice())?;
-        let is_string = is_text(alloc, bytes.as_slice(), content.as_slice());
-        assert!(rt; is_string && ends_there(alloc, bytes)?, "{count}");
-    }
-    Ok(())
+        && is_written(alloc, &made, bytes)
 }
 
 /// Whether each value is the number 1.
@@ -197,55 +105,6 @@ fn are_ones(items: &[Value]) -> bool {
         }
     }
     true
-}
-
-/// Whether these are the bytes of an array of so many ones.
-fn is_array(alloc: Global, bytes: &[u8], count: usize) -> bool {
-    let Ok((value, len)) = decode(alloc, bytes) else {
-        return false;
-    };
-    let Some(items) = value.as_array() else {
-        return false;
-    };
-    items.len() == count
-        && are_ones(items)
-        && len == bytes.len()
-        && is_written(alloc, &value, bytes)
-}
-
-#[test]
-fn arrays(rt: HostRuntime) -> Result<(), Fail> {
-    let alloc = rt.alloc();
-    for &(count, first, rest) in COUNTS {
-        let items = repeated(alloc, 1, count)?;
-        let bytes = headed(alloc, first | ARRAY, rest, items.as_slice())?;
-        let is_ones = is_array(alloc, bytes.as_slice(), count);
-        assert!(rt; is_ones && ends_there(alloc, bytes)?, "{count}");
-    }
-    Ok(())
-}
-
-/// Appends the number's encoding, as a key of a map.
-fn push_key(bytes: &mut Vec<u8>, key: u16) -> Result<(), AllocError> {
-    let [high, low] = key.to_be_bytes();
-    if 0 < high {
-        return bytes.extend_from_slice(&[0x19, high, low]);
-    }
-    if 23 < low {
-        return bytes.extend_from_slice(&[0x18, low]);
-    }
-    bytes.push(low)?;
-    Ok(())
-}
-
-/// A map's head, and the value true at each of the keys 0, 1 and so on, so many of them.
-fn counted_map(alloc: Global, first: u8, rest: &[u8], count: usize) -> Result<Vec<u8>, AllocError> {
-    let mut bytes = headed(alloc, first | MAP, rest, &[])?;
-    for n in 0..count {
-        push_key(&mut bytes, (n % 65536) as u16)?;
-        bytes.push(0xf5)?;
-    }
-    Ok(bytes)
 }
 
 /// Whether the pairs are true at each of the keys 0, 1 and so on.
@@ -260,64 +119,120 @@ fn are_counted(pairs: &[(Value, Value)]) -> bool {
     true
 }
 
-/// Whether these are the bytes of a map of so many pairs.
-fn is_map(alloc: Global, bytes: &[u8], count: usize) -> bool {
-    let Ok((value, len)) = decode(alloc, bytes) else {
-        return false;
-    };
-    let Some(pairs) = value.as_map() else {
-        return false;
-    };
-    pairs.len() == count
-        && are_counted(pairs)
-        && len == bytes.len()
-        && is_viewed_map(bytes)
-        && is_written(alloc, &value, bytes)
-}
-
-/// Whether a view of the bytes is a map.
-fn is_viewed_map(bytes: &[u8]) -> bool {
-    match View::check_all(bytes) {
-        Ok(view) => view.as_map().is_some(),
-        Err(_) => false,
+/// Whether the value is what is counted, so many times; its content, if it has some, ends the bytes.
+fn has(value: &Value, counted: Counted, count: usize, bytes: &[u8]) -> bool {
+    match counted {
+        Counted::Bytes => match value.as_bytes() {
+            Some(content) => content.len() == count && bytes.ends_with(content),
+            None => false,
+        },
+        Counted::Text => match value.as_text() {
+            Some(text) => text.len() == count && bytes.ends_with(text.as_bytes()),
+            None => false,
+        },
+        Counted::Items => match value.as_array() {
+            Some(items) => items.len() == count && are_ones(items),
+            None => false,
+        },
+        Counted::Pairs => match value.as_map() {
+            Some(pairs) => pairs.len() == count && are_counted(pairs),
+            None => false,
+        },
     }
 }
 
+/// Whether these are the bytes of what is counted, read, written and viewed.
+fn is_counted(alloc: Global, bytes: &[u8], counted: Counted, count: usize) -> bool {
+    let Ok((value, len)) = decode(alloc, bytes) else {
+        return false;
+    };
+    let Ok(view) = View::check_all(bytes) else {
+        return false;
+    };
+    has(&value, counted, count, bytes)
+        && len == bytes.len()
+        && view.span() == bytes
+        && view.as_bytes() == value.as_bytes()
+        && view.as_map().is_some() == value.as_map().is_some()
+        && is_written(alloc, &value, bytes)
+}
+
+/// Whether the bytes are not canonical without the last of them, and trail with one more.
+fn ends_there(alloc: Global, mut bytes: Vec<u8>) -> Result<bool, AllocError> {
+    bytes.push(0)?;
+    let trailing = matches!(decode_all(alloc, bytes.as_slice()), Err(Error::Trailing))
+        && matches!(View::check_all(bytes.as_slice()), Err(Error::Trailing));
+    bytes.truncate(bytes.len().saturating_sub(2));
+    Ok(trailing && is_refused(alloc, bytes.as_slice()))
+}
+
+/// Appends the number's encoding, as a key of a map, and true behind it.
+fn push_pair(bytes: &mut Vec<u8>, key: u16) -> Result<(), AllocError> {
+    let [high, low] = key.to_be_bytes();
+    if 0 < high {
+        bytes.extend_from_slice(&[0x19, high, low, 0xf5])
+    } else if 23 < low {
+        bytes.extend_from_slice(&[0x18, low, 0xf5])
+    } else {
+        bytes.extend_from_slice(&[low, 0xf5])
+    }
+}
+
+/// The head, and what is counted behind it.
+fn counted_bytes(
+    alloc: Global,
+    head: (u8, &'static [u8]),
+    kind: &(Counted, u8, u8),
+    count: usize,
+) -> Result<Vec<u8>, AllocError> {
+    let (counted, major, byte) = *kind;
+    let front = [head.0 | major];
+    if !matches!(counted, Counted::Pairs) {
+        return joined(alloc, &front, &[(head.1, byte, count)]);
+    }
+    let mut bytes = joined(alloc, &front, &[(head.1, 0, 0)])?;
+    for n in 0..count {
+        push_pair(&mut bytes, (n % 65536) as u16)?;
+    }
+    Ok(bytes)
+}
+
 #[test]
-fn maps(rt: HostRuntime) -> Result<(), Fail> {
+fn borders(rt: HostRuntime) -> Result<(), Fail> {
     let alloc = rt.alloc();
+    for &(number, first, rest) in NUMBERS {
+        for (major, negative) in [(0, false), (NEGATIVE, true)] {
+            let bytes = joined(alloc, &[first | major], &[(rest, 0, 0)])?;
+            assert!(rt;
+                is_number(alloc, &bytes, number, negative),
+                "{number} {negative}"
+            );
+        }
+    }
     for &(count, first, rest) in COUNTS {
-        let bytes = counted_map(alloc, first, rest, count)?;
-        let is_counted = is_map(alloc, bytes.as_slice(), count);
-        assert!(rt; is_counted && ends_there(alloc, bytes)?, "{count}");
+        for kind in KINDS {
+            let bytes = counted_bytes(alloc, (first, rest), kind, count)?;
+            let is_counted = is_counted(alloc, &bytes, kind.0, count);
+            assert!(rt;
+                is_counted && ends_there(alloc, bytes)?,
+                "{count} of {}",
+                kind.1
+            );
+        }
     }
     Ok(())
 }
 
-/// A map of so many pairs, the last of which has the key 0 again.
-fn repeated_map(alloc: Global, count: u64) -> Result<Value, AllocError> {
+/// Whether a map of so many pairs, and then the key 0 again, is refused and not for want of memory.
+fn is_unfit(alloc: Global, count: u64) -> Result<bool, AllocError> {
     let mut pairs = Vec::new(alloc);
     for n in 0..count {
         pairs.push((Value::Uint(n), Value::Bool(true)))?;
     }
     pairs.push((Value::Uint(0), Value::Bool(true)))?;
-    Ok(Value::Map(pairs))
-}
-
-/// Whether the value is refused and not for want of memory.
-fn is_unfit(alloc: Global, value: &Value) -> bool {
     let mut out = Vec::new(alloc);
-    matches!(encode(value, &mut out), Err(Error::Unfit)) && out.is_empty()
-}
-
-#[test]
-fn large_maps_without_encoding(rt: HostRuntime) -> Result<(), Fail> {
-    let alloc = rt.alloc();
-    for count in [1, 24, 256, 4000] {
-        let value = repeated_map(alloc, count)?;
-        assert!(rt; is_unfit(alloc, &value), "{count}");
-    }
-    Ok(())
+    let answer = encode(&Value::Map(pairs), &mut out);
+    Ok(matches!(answer, Err(Error::Unfit)) && out.is_empty())
 }
 
 /// A fault behind a long front: the head, one byte so many times, and the bytes of the fault.
@@ -360,13 +275,14 @@ const FAULTS: &[(&str, u8, &[u8], u8, usize, &[u8])] = &[
 ];
 
 #[test]
-fn faults_behind_long_fronts(rt: HostRuntime) -> Result<(), Fail> {
+fn large_values_without_encoding(rt: HostRuntime) -> Result<(), Fail> {
     let alloc = rt.alloc();
+    for count in [1, 24, 256, 4000] {
+        assert!(rt; is_unfit(alloc, count)?, "{count}");
+    }
     for &(name, first, rest, byte, count, fault) in FAULTS {
-        let front = repeated(alloc, byte, count)?;
-        let mut bytes = headed(alloc, first, rest, front.as_slice())?;
-        bytes.extend_from_slice(fault)?;
-        assert!(rt; is_refused(alloc, bytes.as_slice()), "{name}");
+        let bytes = joined(alloc, &[first], &[(rest, byte, count), (fault, 0, 0)])?;
+        assert!(rt; is_refused(alloc, &bytes), "{name}");
     }
     Ok(())
 }

@@ -53,6 +53,6 @@ const ROWS: &[(&str, Kind, [u8; 32], &str, bool)] = &[
 fn told(rt: HostRuntime) {
     for (text, kind, challenge, origin, wanted) in ROWS {
         let told = is_serialised(text.as_bytes(), *kind, challenge, origin);
-        assert_eq!(rt; told, *wanted, "{text} {origin}");
+        assert!(rt; told == *wanted, "{text} {origin}");
     }
 }

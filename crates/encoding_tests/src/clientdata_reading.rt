@@ -9,6 +9,9 @@ use std::test::Fail;
 /// What is read: type, challenge, origin and token binding; or nothing.
 type Wanted = Option<(&'static str, &'static str, &'static str, Binding)>;
 
+/// The members x, c and o, and no token binding.
+const PLAIN: Wanted = Some(("x", "c", "o", Binding::Absent));
+
 /// What follows the members `type`, `challenge` and `origin`, and what is read.
 const MEMBERS: &[(&str, &str, Wanted)] = &[
     (
@@ -169,81 +172,118 @@ fn is_read(alloc: Global, bytes: &[u8], wanted: Wanted) -> bool {
     }
 }
 
-#[test]
-fn readings(rt: HostRuntime) -> Result<(), Fail> {
-    for &(name, members, wanted) in MEMBERS {
-        let text = format!(in rt.alloc();
-            r#"{{"type":"x","challenge":"c","origin":"o"{members}}}"#
-        )?;
-        assert!(rt; is_read(rt.alloc(), text.as_bytes(), wanted), "{name}");
-    }
-    Ok(())
-}
-
-/// Whole inputs, and what is read.
-const INPUTS: &[(&str, &[u8], Wanted)] = &[
+/// Whole inputs in pieces, and what is read.
+const WHOLE: &[(&str, &[Piece], Wanted)] = &[
     (
         "empty texts",
-        br#"{"type":"x","challenge":"","origin":""}"#,
+        &[(br#"{"type":"x","challenge":"","origin":""}"#, 0, 0)],
         Some(("x", "", "", Binding::Absent)),
     ),
     (
         "empty texts, present",
-        br#"{"type":"x","challenge":"","origin":"","tokenBinding":{"status":"present"}}"#,
+        &[(
+            br#"{"type":"x","challenge":"","origin":"","tokenBinding":{"status":"present"}}"#,
+            0,
+            0,
+        )],
         Some(("x", "", "", Binding::Other)),
     ),
     (
         "empty texts, supported",
-        br#"{"type":"x","challenge":"","origin":"","tokenBinding":{"status":"supported"}}"#,
+        &[(
+            br#"{"type":"x","challenge":"","origin":"","tokenBinding":{"status":"supported"}}"#,
+            0,
+            0,
+        )],
         Some(("x", "", "", Binding::Supported)),
     ),
     (
         "another order",
-        b" {\"origin\":\"o\",\"type\":\"x\",\"challenge\":\"c\"}\n",
+        &[(
+            b" {\"origin\":\"o\",\"type\":\"x\",\"challenge\":\"c\"}\n",
+            0,
+            0,
+        )],
         Some(("x", "c", "o", Binding::Absent)),
     ),
-    ("nothing", b"", None),
-    ("an array", b"[]", None),
-    ("a text", b"\"type\"", None),
-    ("no members", b"{}", None),
-    ("no type", br#"{"challenge":"","origin":""}"#, None),
-    ("no challenge", br#"{"type":"","origin":""}"#, None),
-    ("no origin", br#"{"type":"x","challenge":""}"#, None),
+    ("nothing", &[(b"", 0, 0)], None),
+    ("an array", &[(b"[]", 0, 0)], None),
+    ("a text", &[(b"\"type\"", 0, 0)], None),
+    ("no members", &[(b"{}", 0, 0)], None),
+    (
+        "no type",
+        &[(br#"{"challenge":"","origin":""}"#, 0, 0)],
+        None,
+    ),
+    (
+        "no challenge",
+        &[(br#"{"type":"","origin":""}"#, 0, 0)],
+        None,
+    ),
+    (
+        "no origin",
+        &[(br#"{"type":"x","challenge":""}"#, 0, 0)],
+        None,
+    ),
     (
         "a type that is no text",
-        br#"{"type":1,"challenge":"","origin":""}"#,
+        &[(br#"{"type":1,"challenge":"","origin":""}"#, 0, 0)],
         None,
     ),
     (
         "a challenge that is no text",
-        br#"{"type":"x","challenge":null,"origin":""}"#,
+        &[(br#"{"type":"x","challenge":null,"origin":""}"#, 0, 0)],
         None,
     ),
     (
         "an origin that is no text",
-        br#"{"type":"x","challenge":"","origin":["o"]}"#,
+        &[(br#"{"type":"x","challenge":"","origin":["o"]}"#, 0, 0)],
         None,
     ),
+];
+
+/// The same of bytes that are no UTF-8, and of marks.
+const BYTES: &[(&str, &[Piece], Wanted)] = &[
     (
         "a byte order mark",
-        b"\xef\xbb\xbf{\"type\":\"x\",\"challenge\":\"\",\"origin\":\"\"}",
+        &[(
+            b"\xef\xbb\xbf{\"type\":\"x\",\"challenge\":\"\",\"origin\":\"\"}",
+            0,
+            0,
+        )],
         None,
     ),
-    ("no UTF-8", b"\xff", None),
+    ("no UTF-8", &[(b"\xff", 0, 0)], None),
     (
         "no UTF-8 in a text",
-        b"{\"type\":\"\xc3\x28\",\"challenge\":\"\",\"origin\":\"\"}",
+        &[(
+            b"{\"type\":\"\xc3\x28\",\"challenge\":\"\",\"origin\":\"\"}",
+            0,
+            0,
+        )],
         None,
     ),
     (
         "a surrogate's bytes",
-        b"{\"type\":\"\xed\xa0\x80\",\"challenge\":\"\",\"origin\":\"\"}",
+        &[(
+            b"{\"type\":\"\xed\xa0\x80\",\"challenge\":\"\",\"origin\":\"\"}",
+            0,
+            0,
+        )],
         None,
     ),
-    ("cut", br#"{"type":"x","challenge":"","origin":"""#, None),
+    (
+        "cut",
+        &[(br#"{"type":"x","challenge":"","origin":"""#, 0, 0)],
+        None,
+    ),
     (
         "each member another",
-        br#"{"type":"webauthn.get","challenge":"AAEC","origin":"https://a.example","crossOrigin":true,"tokenBinding":{"status":"supported"}}"#,
+        &[(
+            br#"{"type":"webauthn.get","challenge":"AAEC","origin":"https://a.example","crossOrigin":true,"tokenBinding":{"status":"supported"}}"#,
+            0,
+            0,
+        )],
         Some((
             "webauthn.get",
             "AAEC",
@@ -253,26 +293,22 @@ const INPUTS: &[(&str, &[u8], Wanted)] = &[
     ),
     (
         "a mark inside",
-        b"{\"type\":\"\xef\xbb\xbf\",\"challenge\":\"\",\"origin\":\"\"}",
+        &[(
+            b"{\"type\":\"\xef\xbb\xbf\",\"challenge\":\"\",\"origin\":\"\"}",
+            0,
+            0,
+        )],
         Some(("\u{feff}", "", "", Binding::Absent)),
     ),
     (
         "NUL by an escape",
-        br#"{"type":"a\u0000b","challenge":"","origin":""}"#,
+        &[(br#"{"type":"a\u0000b","challenge":"","origin":""}"#, 0, 0)],
         Some(("a\0b", "", "", Binding::Absent)),
     ),
 ];
 
-#[test]
-fn whole_inputs(rt: HostRuntime) {
-    for &(name, bytes, wanted) in INPUTS {
-        assert!(rt; is_read(rt.alloc(), bytes, wanted), "{name}");
-    }
-}
-
-/// The members before and after a long part, the byte that is repeated, how often, and whether it
-/// is read.
-const LONG: &[(&str, &[Piece], bool)] = &[
+/// The same of long inputs.
+const LONG: &[(&str, &[Piece], Wanted)] = &[
     (
         "126 arrays in an object",
         &[
@@ -284,7 +320,7 @@ const LONG: &[(&str, &[Piece], bool)] = &[
             (b"", b']', 126),
             (b"}", 0, 0),
         ],
-        true,
+        PLAIN,
     ),
     (
         "127 arrays in an object",
@@ -297,7 +333,7 @@ const LONG: &[(&str, &[Piece], bool)] = &[
             (b"", b']', 127),
             (b"}", 0, 0),
         ],
-        false,
+        None,
     ),
     (
         "a member of 70,000 letters",
@@ -309,12 +345,12 @@ const LONG: &[(&str, &[Piece], bool)] = &[
             ),
             (b"\"}", 0, 0),
         ],
-        true,
+        PLAIN,
     ),
     (
         "70,000 spaces behind",
         &[(br#"{"type":"x","challenge":"c","origin":"o"}"#, b' ', 70000)],
-        true,
+        PLAIN,
     ),
     (
         "70,000 letters, not ended",
@@ -323,7 +359,7 @@ const LONG: &[(&str, &[Piece], bool)] = &[
             b'a',
             70000,
         )],
-        false,
+        None,
     ),
     (
         "70,000 letters and no UTF-8",
@@ -335,23 +371,9 @@ const LONG: &[(&str, &[Piece], bool)] = &[
             ),
             (b"\xff\"}", 0, 0),
         ],
-        false,
+        None,
     ),
 ];
-
-#[test]
-fn long_inputs(rt: HostRuntime) -> Result<(), Fail> {
-    for &(name, pieces, readable) in LONG {
-        let bytes = joined(rt.alloc(), &[], pieces)?;
-        let wanted = if readable {
-            Some(("x", "c", "o", Binding::Absent))
-        } else {
-            None
-        };
-        assert!(rt; is_read(rt.alloc(), bytes.as_slice(), wanted), "{name}");
-    }
-    Ok(())
-}
 
 /// Whether an origin of one letter so many times is read.
 fn is_long_origin(alloc: Global, bytes: &[u8], count: usize) -> bool {
@@ -362,27 +384,46 @@ fn is_long_origin(alloc: Global, bytes: &[u8], count: usize) -> bool {
 }
 
 #[test]
-fn long_origins(rt: HostRuntime) -> Result<(), Fail> {
+fn readings(rt: HostRuntime) -> Result<(), Fail> {
+    let alloc = rt.alloc();
+    for &(name, members, wanted) in MEMBERS {
+        let behind: [Piece; 2] = [(members.as_bytes(), 0, 0), (b"}", 0, 0)];
+        let bytes = joined(
+            alloc,
+            br#"{"type":"x","challenge":"c","origin":"o""#,
+            &behind,
+        )?;
+        assert!(rt; is_read(alloc, &bytes, wanted), "{name}");
+    }
+    for table in [WHOLE, BYTES, LONG] {
+        for &(name, pieces, wanted) in table {
+            let bytes = joined(alloc, &[], pieces)?;
+            assert!(rt; is_read(alloc, &bytes, wanted), "{name}");
+        }
+    }
     for count in [255, 256, 7609, 65536] {
         let front: Piece = (br#"{"type":"x","challenge":"c","origin":""#, b'a', count);
-        let bytes = joined(rt.alloc(), &[], &[front, (b"\"}", 0, 0)])?;
-        assert!(rt;
-            is_long_origin(rt.alloc(), bytes.as_slice(), count),
-            "{count}"
-        );
+        let bytes = joined(alloc, &[], &[front, (b"\"}", 0, 0)])?;
+        assert!(rt; is_long_origin(alloc, &bytes, count), "{count}");
     }
     Ok(())
 }
 
+/// A refusal, its number and its text.
+const REFUSALS: &[(Error, Option<u8>, &str)] = &[
+    (Error::Unreadable, Some(16), "the client data can't be read"),
+    (Error::Memory, None, "out of memory"),
+];
+
 #[test]
 fn names(rt: HostRuntime) -> Result<(), Fail> {
-    let refused = format!(in rt.alloc(); "{}", Error::Unreadable)?;
-    assert_eq!(rt; refused.as_str(), "the client data can't be read");
-    let wanting = format!(in rt.alloc(); "{}", Error::Memory)?;
-    assert_eq!(rt; wanting.as_str(), "out of memory");
-    assert_eq!(rt; Error::Unreadable.number(), Some(16));
-    assert_eq!(rt; Error::Memory.number(), None);
-    assert_eq!(rt; Kind::Create.text(), "webauthn.create");
-    assert_eq!(rt; Kind::Get.text(), "webauthn.get");
+    for (error, number, text) in REFUSALS {
+        let printed = format!(in rt.alloc(); "{error}")?;
+        assert!(rt;
+            error.number() == *number && printed.as_str() == *text,
+            "{text}"
+        );
+    }
+    assert!(rt; Kind::Create.text() == "webauthn.create" && Kind::Get.text() == "webauthn.get");
     Ok(())
 }

@@ -84,36 +84,28 @@ fn client_data(
     })
 }
 
-/// Whether the record is serialised as this text, and the text verified against the record.
-fn is_written(alloc: Global, record: &ClientData, text: &str) -> Result<bool, AllocError> {
+/// Whether the record is serialised as this text, the text verified against the record, and read with its members.
+fn is_written(
+    alloc: Global,
+    record: &ClientData,
+    text: &str,
+    challenge: &str,
+) -> Result<bool, AllocError> {
     let written = serialise(alloc, record)?;
-    Ok(written.as_str() == text && limited_verify(alloc, text.as_bytes(), record)?)
-}
-
-/// Whether the text is read with these members.
-fn is_read(alloc: Global, text: &str, kind: Kind, challenge: &str, origin: &str) -> bool {
-    match read(alloc, text.as_bytes()) {
-        Ok(seen) => {
-            seen.kind.as_str() == kind.text()
-                && seen.challenge.as_str() == challenge
-                && seen.binding == Binding::Absent
-                && seen.origin.into_string().as_str() == origin
-        }
-        Err(_) => false,
-    }
-}
-
-#[test]
-fn texts(rt: HostRuntime) -> Result<(), Fail> {
-    let alloc = rt.alloc();
-    for &(name, kind, challenge, origin, cross, encoded, text) in TEXTS {
-        let record = client_data(alloc, kind, challenge, origin, cross)?;
-        assert!(rt; is_written(alloc, &record, text)?, "{name}");
-        assert!(rt; is_read(alloc, text, kind, encoded, origin), "{name}");
-        let found = challenge_text(alloc, challenge)?;
-        assert_eq!(rt; found.as_str(), encoded, "{name}");
-    }
-    Ok(())
+    let encoded = challenge_text(alloc, &record.challenge)?;
+    let verified = limited_verify(alloc, text.as_bytes(), record)?;
+    let Ok(seen) = read(alloc, text.as_bytes()) else {
+        return Ok(false);
+    };
+    Ok(
+        written.as_str() == text
+            && verified
+            && encoded.as_str() == challenge
+            && seen.kind.as_str() == record.kind.text()
+            && seen.challenge.as_str() == challenge
+            && seen.binding == Binding::Absent
+            && seen.origin.into_string().as_str() == record.origin.as_str(),
+    )
 }
 
 /// Texts, and whether they are verified against the record of a sign-in with challenge 00 01 02 at
@@ -182,17 +174,6 @@ const VERIFIED: &[(&str, &str, bool)] = &[
     ("nothing", "", false),
 ];
 
-#[test]
-fn verified(rt: HostRuntime) -> Result<(), Fail> {
-    let alloc = rt.alloc();
-    let record = client_data(alloc, Kind::Get, &[0, 1, 2], "https://a.example", false)?;
-    for &(name, text, wanted) in VERIFIED {
-        let found = limited_verify(alloc, text.as_bytes(), &record)?;
-        assert_eq!(rt; found, wanted, "{name}");
-    }
-    Ok(())
-}
-
 /// How many bytes a text has around a challenge of so many bytes and an origin of as many letters.
 const LONG: &[(usize, usize)] = &[
     (16, 108),
@@ -218,11 +199,21 @@ fn long_text(alloc: Global, count: usize) -> Result<(usize, bool), AllocError> {
 }
 
 #[test]
-fn long_texts(rt: HostRuntime) -> Result<(), Fail> {
+fn texts(rt: HostRuntime) -> Result<(), Fail> {
+    let alloc = rt.alloc();
+    for &(name, kind, challenge, origin, cross, encoded, text) in TEXTS {
+        let record = client_data(alloc, kind, challenge, origin, cross)?;
+        assert!(rt; is_written(alloc, &record, text, encoded)?, "{name}");
+    }
+    let record = client_data(alloc, Kind::Get, &[0, 1, 2], "https://a.example", false)?;
+    for &(name, text, wanted) in VERIFIED {
+        assert!(rt;
+            limited_verify(alloc, text.as_bytes(), &record)? == wanted,
+            "{name}"
+        );
+    }
     for &(count, len) in LONG {
-        let (found, verified) = long_text(rt.alloc(), count)?;
-        assert!(rt; verified, "{count}");
-        assert_eq!(rt; found, len, "{count}");
+        assert!(rt; long_text(alloc, count)? == (len, true), "{count}");
     }
     Ok(())
 }
@@ -240,15 +231,6 @@ const ENCODED: &[(&[u8], &str)] = &[
     (&[0, 0, 0], "AAAA"),
 ];
 
-#[test]
-fn challenges(rt: HostRuntime) -> Result<(), Fail> {
-    for &(bytes, text) in ENCODED {
-        let found = challenge_text(rt.alloc(), bytes)?;
-        assert_eq!(rt; found.as_str(), text);
-    }
-    Ok(())
-}
-
 /// A text, and the same as client data have it.
 const QUOTED: &[(&str, &str)] = &[
     ("", "\"\""),
@@ -256,15 +238,6 @@ const QUOTED: &[(&str, &str)] = &[
     ("\0\u{1f} \u{7f}/", "\"\\u0000\\u001f \u{7f}/\""),
     ("\n\t\r", "\"\\u000a\\u0009\\u000d\""),
 ];
-
-#[test]
-fn quoted(rt: HostRuntime) -> Result<(), Fail> {
-    for &(text, wanted) in QUOTED {
-        let found = quoted_text(rt.alloc(), text)?;
-        assert_eq!(rt; found.as_str(), wanted);
-    }
-    Ok(())
-}
 
 /// Bytes and their SHA-256, as NIST gives them for FIPS 180-4.
 const HASHED: &[(&[u8], [u8; 32])] = &[
@@ -287,8 +260,16 @@ const HASHED: &[(&[u8], [u8; 32])] = &[
 ];
 
 #[test]
-fn hashed(rt: HostRuntime) {
-    for &(bytes, digest) in HASHED {
-        assert_eq!(rt; hash(bytes), digest);
+fn parts(rt: HostRuntime) -> Result<(), Fail> {
+    let alloc = rt.alloc();
+    for &(bytes, text) in ENCODED {
+        assert!(rt; challenge_text(alloc, bytes)?.as_str() == text, "{text}");
     }
+    for &(text, wanted) in QUOTED {
+        assert!(rt; quoted_text(alloc, text)?.as_str() == wanted, "{text}");
+    }
+    for &(bytes, digest) in HASHED {
+        assert!(rt; hash(bytes) == digest);
+    }
+    Ok(())
 }

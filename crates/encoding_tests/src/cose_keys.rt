@@ -1,8 +1,9 @@
 //! COSE keys and their values. The expected bytes are worked by hand from RFC 9052, section 7, and
 //! RFC 9053, sections 2 and 7.
 
+use crate::made::{Leaf, Made, made_value};
 use crate::pieces::{Piece, joined};
-use ccbor::{Value, decode_all, encode};
+use ccbor::{decode_all, encode};
 use cose::{Alg, CoseKey, NotAKey};
 use std::alloc::{AllocError, Global};
 use std::test::Fail;
@@ -84,7 +85,7 @@ const KEYS: &[(&str, &[Piece], CoseKey, usize)] = &[
 ];
 
 /// What an encoding is for that is the value of no key.
-const NO_KEYS: &[(&str, &[Piece])] = &[
+const MISSING: &[(&str, &[Piece])] = &[
     ("a number", &[(&[1], 0, 0)]),
     ("an array", &[(&[0x80], 0, 0)]),
     ("no members", &[(&[0xa0], 0, 0)]),
@@ -112,6 +113,10 @@ const NO_KEYS: &[(&str, &[Piece])] = &[
         "ES256 without y",
         &[(&[0xa4, 1, 2, 3, 0x26, 0x20, 1, 0x21, 0x58, 0x20], 2, 32)],
     ),
+];
+
+/// The same with more members, and with members of other kinds.
+const OTHER_MEMBERS: &[(&str, &[Piece])] = &[
     (
         "EdDSA with a key id",
         &[(
@@ -181,6 +186,10 @@ const NO_KEYS: &[(&str, &[Piece])] = &[
             (&[0x22, 0xf5], 0, 0),
         ],
     ),
+];
+
+/// The same with other lengths and numbers.
+const OTHER_VALUES: &[(&str, &[Piece])] = &[
     (
         "x of 31 bytes",
         &[(&[0xa4, 1, 1, 3, 0x27, 0x20, 6, 0x21, 0x58, 0x1f], 0x11, 31)],
@@ -255,6 +264,10 @@ const NO_KEYS: &[(&str, &[Piece])] = &[
             (&[0x22, 0x58, 0x20], 3, 32),
         ],
     ),
+];
+
+/// The same of other values, and with y missing or other labels.
+const MORE: &[(&str, &[Piece])] = &[
     ("bytes", &[(&[0x58, 0x20], 0x11, 32)]),
     ("a text", &[(&[0x78, 0x20], 0x61, 32)]),
     ("true", &[(&[0xf5], 0, 0)]),
@@ -296,61 +309,47 @@ const NO_KEYS: &[(&str, &[Piece])] = &[
     ),
 ];
 
-/// Whether the bytes decode to the value of this key.
-fn is_read(alloc: Global, bytes: &[u8], key: &CoseKey) -> bool {
-    match decode_all(alloc, bytes) {
-        Ok(value) => CoseKey::from_value(&value) == Ok(*key),
-        Err(_) => false,
-    }
+/// Whether the bytes decode to the value of this key, and the key's value is encoded as them; for none, whether they
+/// decode to a value that is no key's.
+fn is_key(alloc: Global, bytes: &[u8], key: Option<&CoseKey>) -> Result<bool, AllocError> {
+    let Ok(value) = decode_all(alloc, bytes) else {
+        return Ok(false);
+    };
+    let found = CoseKey::from_value(&value);
+    let Some(key) = key else {
+        return Ok(found == Err(NotAKey));
+    };
+    let mut out = Vec::new(alloc);
+    let encoded = encode(&key.to_value(alloc)?, &mut out);
+    Ok(found == Ok(*key) && encoded.is_ok() && out.as_slice() == bytes)
 }
 
-/// Whether the key's value is encoded as these bytes.
-fn is_written(alloc: Global, bytes: &[u8], key: &CoseKey) -> Result<bool, AllocError> {
-    let value = key.to_value(alloc)?;
-    let mut out = Vec::new(alloc);
-    Ok(encode(&value, &mut out).is_ok() && out.as_slice() == bytes)
-}
+/// The members of a key in another order, which no encoding has.
+const OTHER_ORDER: Made = Made::Pairs(&[
+    (Leaf::Uint(3), Leaf::Nint(7)),
+    (Leaf::Uint(1), Leaf::Uint(1)),
+    (Leaf::Nint(0), Leaf::Uint(6)),
+    (Leaf::Nint(1), Leaf::Bytes(&[0x11; 32])),
+]);
 
 #[test]
 fn keys(rt: HostRuntime) -> Result<(), Fail> {
     let alloc = rt.alloc();
     for (name, pieces, key, len) in KEYS {
         let bytes = joined(alloc, b"", pieces)?;
-        assert_eq!(rt; bytes.len(), *len, "{name}");
-        assert!(rt; is_read(alloc, bytes.as_slice(), key), "{name}");
-        assert!(rt; is_written(alloc, bytes.as_slice(), key)?, "{name}");
+        assert!(rt;
+            bytes.len() == *len && is_key(alloc, &bytes, Some(key))?,
+            "{name}"
+        );
     }
-    Ok(())
-}
-
-/// Whether the bytes decode to a value that is no key's.
-fn is_no_key(alloc: Global, bytes: &[u8]) -> bool {
-    match decode_all(alloc, bytes) {
-        Ok(value) => CoseKey::from_value(&value) == Err(NotAKey),
-        Err(_) => false,
+    for table in [MISSING, OTHER_MEMBERS, OTHER_VALUES, MORE] {
+        for (name, pieces) in table {
+            let bytes = joined(alloc, b"", pieces)?;
+            assert!(rt; is_key(alloc, &bytes, None)?, "{name}");
+        }
     }
-}
-
-#[test]
-fn no_keys(rt: HostRuntime) -> Result<(), Fail> {
-    for (name, pieces) in NO_KEYS {
-        let bytes = joined(rt.alloc(), b"", pieces)?;
-        assert!(rt; is_no_key(rt.alloc(), bytes.as_slice()), "{name}");
-    }
-    Ok(())
-}
-
-// The members of a key in another order, which no encoding has.
-#[test]
-fn other_order(rt: HostRuntime) -> Result<(), Fail> {
-    let alloc = rt.alloc();
-    let x = Vec::from_slice(alloc, &[0x11; 32])?;
-    let mut pairs = Vec::new(alloc);
-    pairs.push((Value::Uint(3), Value::Nint(7)))?;
-    pairs.push((Value::Uint(1), Value::Uint(1)))?;
-    pairs.push((Value::Nint(0), Value::Uint(6)))?;
-    pairs.push((Value::Nint(1), Value::Bytes(x)))?;
-    assert_eq!(rt; CoseKey::from_value(&Value::Map(pairs)), Err(NotAKey));
+    let value = made_value(alloc, OTHER_ORDER)?;
+    assert!(rt; CoseKey::from_value(&value) == Err(NotAKey));
     Ok(())
 }
 
@@ -371,12 +370,10 @@ const ALGORITHMS: &[(Alg, i64, u64, CoseKey)] = &[
 #[test]
 fn numbers(rt: HostRuntime) -> Result<(), Fail> {
     for (alg, number, argument, key) in ALGORITHMS {
-        assert_eq!(rt; alg.number(), *number);
-        assert_eq!(rt; alg.argument(), *argument);
-        assert_eq!(rt; key.alg(), *alg);
+        let is_alg = alg.number() == *number && alg.argument() == *argument && key.alg() == *alg;
+        assert!(rt; is_alg, "{number}");
     }
-    assert_eq!(rt; NotAKey.number(), 7);
     let printed = format!(in rt.alloc(); "{NotAKey}")?;
-    assert_eq!(rt; printed.as_str(), "not the value of a COSE key");
+    assert!(rt; NotAKey.number() == 7 && printed.as_str() == "not the value of a COSE key");
     Ok(())
 }

@@ -16,8 +16,6 @@ mod cbor_sizes;
 #[cfg(test)]
 mod cbor_values;
 #[cfg(test)]
-mod cbor_views;
-#[cfg(test)]
 mod clientdata_expected;
 #[cfg(test)]
 mod clientdata_reading;
@@ -27,5 +25,7 @@ mod clientdata_writing;
 mod cose_keys;
 #[cfg(test)]
 mod cose_schemes;
+#[cfg(test)]
+mod made;
 #[cfg(test)]
 mod pieces;

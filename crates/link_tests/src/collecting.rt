@@ -41,7 +41,7 @@ const OTHER_NEXT: &[u8] = &[0, 0, 0, 2, 0];
 /// A name, packets (without their zeros), and what a collector of channel 1 gives of them.
 type Row<'a> = (&'a str, &'a [&'a [u8]], Received<'a>);
 
-const LISTS: &[Row] = &[
+const REPLIES: &[Row] = &[
     ("nothing", &[], Received::Incomplete),
     (
         "a reply",
@@ -76,6 +76,10 @@ const LISTS: &[Row] = &[
             used: 4,
         },
     ),
+];
+
+/// The same of packets out of order.
+const INTERRUPTED: &[Row] = &[
     (
         "a keepalive inside",
         &[FIRST, KEEPALIVE, SECOND],
@@ -116,6 +120,10 @@ const LISTS: &[Row] = &[
             kind: DeadKind::WrongCommand,
         },
     ),
+];
+
+/// The same of lengths and statuses.
+const LENGTHS: &[Row] = &[
     (
         "7,610 bytes",
         &[&[0, 0, 0, 1, 0x90, 0x1d, 0xba]],
@@ -188,23 +196,25 @@ fn gives(alloc: Global, fronts: &[&[u8]], wanted: Received) -> Result<bool, Allo
 
 #[test]
 fn lists_of_packets(rt: HostRuntime) -> Result<(), Fail> {
-    for (name, fronts, wanted) in LISTS {
-        assert!(rt; gives(rt.alloc(), fronts, *wanted)?, "{name}");
+    for table in [REPLIES, INTERRUPTED, LENGTHS] {
+        for (name, fronts, wanted) in table {
+            assert!(rt; gives(rt.alloc(), fronts, *wanted)?, "{name}");
+        }
     }
     Ok(())
 }
 
-#[test]
-fn answers_after_the_end(rt: HostRuntime) -> Result<(), Fail> {
-    let mut collector = Collector::new(rt.alloc(), 1)?;
+/// Whether a collector's outcome and its answers are as they have to be before its end and after it.
+fn is_ended(alloc: Global) -> Result<bool, AllocError> {
+    let mut collector = Collector::new(alloc, 1)?;
     let dead = Outcome::Dead(DeadKind::WrongSequence);
-    assert_eq!(rt; collector.outcome(), Outcome::More);
-    assert_eq!(rt; collector.feed(&packet(FIRST)), Ok(Outcome::More));
-    assert_eq!(rt; collector.feed(&packet(&[0, 0, 0, 1, 1])), Ok(dead));
-    assert_eq!(rt; collector.feed(&packet(SECOND)), Err(Ended));
-    assert_eq!(rt; collector.outcome(), dead);
-    assert_eq!(rt; Ended.number(), 5);
-    Ok(())
+    Ok(
+        collector.outcome() == Outcome::More
+            && collector.feed(&packet(FIRST)) == Ok(Outcome::More)
+            && collector.feed(&packet(&[0, 0, 0, 1, 1])) == Ok(dead)
+            && collector.feed(&packet(SECOND)) == Err(Ended)
+            && collector.outcome() == dead,
+    )
 }
 
 const KINDS: &[(DeadKind, u8)] = &[
@@ -217,10 +227,12 @@ const KINDS: &[(DeadKind, u8)] = &[
 ];
 
 #[test]
-fn kinds(rt: HostRuntime) {
+fn ends(rt: HostRuntime) -> Result<(), Fail> {
+    assert!(rt; is_ended(rt.alloc())? && Ended.number() == 5);
     for (kind, number) in KINDS {
-        assert_eq!(rt; kind.number(), *number);
+        assert!(rt; kind.number() == *number, "{number}");
     }
+    Ok(())
 }
 
 /// Whether the frames of this payload, collected again, give it.

@@ -10,7 +10,7 @@ pub type Wanted<'a> = (&'a [u8], Step, Doing);
 pub type Row<'a> = (&'a str, &'a [u8], Wanted<'a>, Wanted<'a>, Wanted<'a>);
 
 /// The rows, each with a column for a device that is idle, receives or works on channel 1.
-pub const RANKS: &[Row] = &[
+pub const CHANNELS: &[Row] = &[
     (
         "rank 1: channel 0",
         &[0x00, 0x00, 0x00, 0x00, 0x81, 0x00, 0x00],
@@ -90,6 +90,10 @@ pub const RANKS: &[Row] = &[
             Working,
         ),
     ),
+];
+
+/// The same of INIT.
+pub const INITS: &[Row] = &[
     (
         "rank 4 or 6: INIT on broadcast",
         &[
@@ -171,6 +175,10 @@ pub const RANKS: &[Row] = &[
             Idle,
         ),
     ),
+];
+
+/// The same of PING, CANCEL, CBOR and MSG.
+pub const COMMANDS: &[Row] = &[
     (
         "rank 9, 12 or 15: PING on the channel",
         &[0x00, 0x00, 0x00, 0x01, 0x81, 0x00, 0x01, 0xaa],
@@ -242,6 +250,10 @@ pub const RANKS: &[Row] = &[
             Working,
         ),
     ),
+];
+
+/// The same of lengths.
+pub const LENGTHS: &[Row] = &[
     (
         "rank 12 or 14: CBOR of no bytes",
         &[0x00, 0x00, 0x00, 0x02, 0x90, 0x00, 0x00],
@@ -314,6 +326,10 @@ pub const RANKS: &[Row] = &[
             Working,
         ),
     ),
+];
+
+/// The same of continuations.
+pub const CONTINUATIONS: &[Row] = &[
     (
         "the next continuation on the channel",
         &[0x00, 0x00, 0x00, 0x01, 0x00],

@@ -5,7 +5,7 @@ ghost use Rattle.std.specs.Prelude.{◌≡◌, ◌≤◌, ◌⊎◌, [], length}
 
 use crate::device::Doing::{self, Idle, Receiving, Working};
 use crate::device::{INIT, device_doing, state_after, take};
-use crate::device_ranks::{RANKS, Wanted};
+use crate::device_ranks::{CHANNELS, COMMANDS, CONTINUATIONS, INITS, LENGTHS, Wanted};
 use crate::framing::{packet, packet_or_none};
 use hidframe::ctaphid::{CTAPHID_CBOR, CTAPHID_PING};
 use hidframe::{Packet, frame, packet_at};
@@ -23,16 +23,15 @@ fn is_row(alloc: Global, bytes: &[u8], state: Doing, wanted: &Wanted) -> Result<
 
 #[test]
 fn ranks_in_each_state(rt: HostRuntime) -> Result<(), Fail> {
-    for (name, bytes, idle, receiving, working) in RANKS {
-        assert!(rt; is_row(rt.alloc(), bytes, Idle, idle)?, "{name} while idle");
-        assert!(rt;
-            is_row(rt.alloc(), bytes, Receiving, receiving)?,
-            "{name} while receiving"
-        );
-        assert!(rt;
-            is_row(rt.alloc(), bytes, Working, working)?,
-            "{name} while working"
-        );
+    for table in [CHANNELS, INITS, COMMANDS, LENGTHS, CONTINUATIONS] {
+        for (name, bytes, idle, receiving, working) in table {
+            for (state, wanted) in [(Idle, idle), (Receiving, receiving), (Working, working)] {
+                assert!(rt;
+                    is_row(rt.alloc(), bytes, state, wanted)?,
+                    "{name}: {state:?}"
+                );
+            }
+        }
     }
     Ok(())
 }
@@ -63,15 +62,6 @@ fn is_sent(device: &mut Device, cmd: u8, first: Option<Packet>, payload: &[u8]) 
         same = same && device.next_out() == packet_at(2, cmd, payload, i);
     }
     same
-}
-
-#[test]
-fn echoes(rt: HostRuntime) -> Result<(), Fail> {
-    let mut device = device_doing(rt.alloc(), Idle)?;
-    for len in [0, 1, 57, 58, 117, 7609] {
-        assert!(rt; is_echoed(&mut device, len)?, "at {len}");
-    }
-    Ok(())
 }
 
 /// Whether a device takes a request of `len` bytes `55` on channel 2, and works on it then.
@@ -116,8 +106,11 @@ fn is_answered(device: &mut Device, len: usize) -> bool
 }
 
 #[test]
-fn requests_and_answers(rt: HostRuntime) -> Result<(), Fail> {
+fn echoes_requests_and_answers(rt: HostRuntime) -> Result<(), Fail> {
     let mut device = device_doing(rt.alloc(), Idle)?;
+    for len in [0, 1, 57, 58, 117, 7609] {
+        assert!(rt; is_echoed(&mut device, len)?, "at {len}");
+    }
     for (request, answer) in [(7609, 58), (1, 7609), (57, 0), (58, 1), (117, 57)] {
         assert!(rt;
             is_requested(&mut device, request)?,
@@ -128,8 +121,7 @@ fn requests_and_answers(rt: HostRuntime) -> Result<(), Fail> {
             "an answer of {answer} bytes"
         );
     }
-    assert_eq!(rt; Refusal::NotWorking.number(), 6);
-    assert_eq!(rt; Refusal::TooLong.number(), 4);
+    assert!(rt; Refusal::NotWorking.number() == 6 && Refusal::TooLong.number() == 4);
     Ok(())
 }
 
@@ -194,7 +186,7 @@ fn states(rt: HostRuntime) -> Result<(), Fail> {
     assert!(rt; is_idle(&mut device_doing(rt.alloc(), Idle)?));
     assert!(rt; is_working(&mut device_doing(rt.alloc(), Working)?));
     assert!(rt; is_expiring(&mut device_doing(rt.alloc(), Receiving)?));
-    assert_eq!(rt; device_doing(rt.alloc(), Idle)?.channels(), 2);
+    assert!(rt; device_doing(rt.alloc(), Idle)?.channels() == 2);
     Ok(())
 }
 
@@ -228,11 +220,11 @@ fn assign_more(device: &mut Device) {
 #[test]
 fn channels(rt: HostRuntime) -> Result<(), Fail> {
     let mut device = Device::new(rt.alloc())?;
-    assert_eq!(rt; MAX_CHANNELS, 65_535);
-    assert!(rt; is_assigned(&mut device, FIRST, 1));
+    assert!(rt; MAX_CHANNELS == 65_535 && is_assigned(&mut device, FIRST, 1));
     assign_more(&mut device);
-    assert!(rt; is_assigned(&mut device, LAST, 65_535));
-    assert!(rt; is_assigned(&mut device, NO_MORE, 65_535));
+    assert!(rt;
+        is_assigned(&mut device, LAST, 65_535) && is_assigned(&mut device, NO_MORE, 65_535)
+    );
     Ok(())
 }
 
@@ -301,9 +293,12 @@ fn interleaved(rt: HostRuntime) -> Result<(), Fail> {
     let mut device = device_doing(rt.alloc(), Idle)?;
     for (name, bytes, step, sent) in INTERLEAVED {
         let taken = take(&mut device, &packet(bytes));
-        assert_eq!(rt; taken, (*step, packet_or_none(sent)), "{name}");
+        assert!(rt; taken == (*step, packet_or_none(sent)), "{name}");
     }
-    assert_eq!(rt; state_after(&mut device), Idle);
+    assert!(rt; state_after(&mut device) == Idle);
+    let mut device = device_doing(rt.alloc(), Idle)?;
+    take(&mut device, &packet(INIT));
+    assert!(rt; is_requested_among(&mut device)?);
     Ok(())
 }
 
@@ -325,12 +320,4 @@ fn is_requested_among(device: &mut Device) -> Result<bool, Fail> {
         disturb(device);
     }
     Ok(device.working() == Some(1) && device.request() == payload.as_slice())
-}
-
-#[test]
-fn interleaved_request(rt: HostRuntime) -> Result<(), Fail> {
-    let mut device = device_doing(rt.alloc(), Idle)?;
-    take(&mut device, &packet(INIT));
-    assert!(rt; is_requested_among(&mut device)?);
-    Ok(())
 }

@@ -83,7 +83,7 @@ fn head_of(packet: &Packet) -> (Said, usize, u8) {
 fn heads(rt: HostRuntime) {
     for (front, said, len, first) in HEADS {
         let head = head_of(&filled(front, 7));
-        assert_eq!(rt; head, (*said, *len, *first));
+        assert!(rt; head == (*said, *len, *first), "{front:?}");
     }
 }
 
@@ -135,7 +135,6 @@ fn lasts(rt: HostRuntime) -> Result<(), Fail> {
         assert!(rt; *len <= 7609);
         assert!(rt; ends_with(*len, *count, filled(front, *byte))?, "at {len}");
     }
-    assert_eq!(rt; last_packet(7610), Err(TooLong));
-    assert_eq!(rt; TooLong.number(), 4);
+    assert!(rt; last_packet(7610) == Err(TooLong) && TooLong.number() == 4);
     Ok(())
 }

@@ -17,6 +17,8 @@ mod literals;
 #[cfg(test)]
 mod maps;
 #[cfg(test)]
+mod names;
+#[cfg(test)]
 mod pairs;
 #[cfg(test)]
 mod parts;
@@ -30,3 +32,7 @@ mod reply_rows;
 mod request_records;
 #[cfg(test)]
 mod request_rows;
+#[cfg(test)]
+mod request_values;
+#[cfg(test)]
+mod rows;

@@ -1,302 +1,330 @@
 //! Each rank at each part of a request, and each two that one inner map can have. The expected values are
 //! worked by hand from CTAP 2.1, sections 6 and 8, and the order of the ranks (`maps.rt`).
 
-use crate::pieces::*;
+use crate::pieces::{answer, append_text};
 use std::alloc::{AllocError, Global};
 use std::test::Fail;
 
-/// A name, the bytes of a part of a request and a number of times the letter a, and the status
-/// that answers the request.
-type Part<'a> = (&'a str, &'a [u8], usize, u8);
+/// A name, the text of a part of a request, and the status that answers the request.
+type Part<'a> = (&'a str, &'a str, u8);
 
-/// A level of a request: the pieces before it, its rows, and the pieces behind it.
-type Level<'a> = (&'a str, &'a [Piece<'a>], &'a [Part<'a>], &'a [Piece<'a>]);
+/// A level of a request: the text before it, its rows, and the text behind it.
+type Level<'a> = (&'a str, &'a str, &'a [Part<'a>], &'a str);
 
 const HASH: &[Part<'static>] = &[
-    ("text", b"\x60", 0, 0x11),
-    ("no byte", b"\x40", 0, 0x02),
-    ("31 bytes", b"\x58\x1f", 31, 0x02),
-    ("33 bytes", b"\x58\x21", 33, 0x02),
-    ("long length", b"\x59\0\x20", 32, 0x12),
-    ("open end", b"\x5f\x58\x20", 32, 0x12),
-    ("31 bytes of 32", b"\x58\x20", 31, 0x12),
+    ("text", "60", 0x11),
+    ("no byte", "40", 0x02),
+    ("31 bytes", "581f 61*31", 0x02),
+    ("33 bytes", "5821 61*33", 0x02),
+    ("long length", "590020 61*32", 0x12),
+    ("open end", "5f5820 61*32", 0x12),
+    ("31 bytes of 32", "5820 61*31", 0x12),
 ];
 
 const RP_ID: &[Part<'static>] = &[
-    ("bytes", b"\x41a", 0, 0x11),
-    ("no byte", b"\x60", 0, 0x15),
-    ("254 bytes", b"\x78\xfe", 254, 0x15),
-    ("long length", b"\x78\x01a", 0, 0x12),
-    ("open end", b"\x7f\x61a\xff", 0, 0x12),
-    ("no UTF-8", b"\x61\xff", 0, 0x12),
+    ("bytes", "41 'a", 0x11),
+    ("no byte", "60", 0x15),
+    ("254 bytes", "78fe 61*254", 0x15),
+    ("long length", "7801 'a", 0x12),
+    ("open end", "7f61 'a ff", 0x12),
+    ("no UTF-8", "61ff", 0x12),
 ];
 
 /// The id of a user or of a descriptor.
 const ID: &[Part<'static>] = &[
-    ("text", b"\x61a", 0, 0x11),
-    ("no byte", b"\x40", 0, 0x15),
-    ("65 bytes", b"\x58\x41", 65, 0x15),
-    ("long length", b"\x58\x01a", 0, 0x12),
-    ("open end", b"\x5f\x41a\xff", 0, 0x12),
-    ("tag", b"\xc2\x41a", 0, 0x12),
+    ("text", "61 'a", 0x11),
+    ("no byte", "40", 0x15),
+    ("65 bytes", "5841 61*65", 0x15),
+    ("long length", "5801 'a", 0x12),
+    ("open end", "5f41 'a ff", 0x12),
+    ("tag", "c241 'a", 0x12),
 ];
 
 const RP: &[Part<'static>] = &[
-    ("text", b"\x61a", 0, 0x11),
-    ("name of bytes", b"\xa2\x62id\x61a\x64name\x40", 0, 0x11),
-    ("icon", b"\xa2\x62id\x61a\x64icon\x60", 0, 0x02),
-    ("no member", b"\xa0", 0, 0x14),
-    ("no id", b"\xa1\x64name\x60", 0, 0x14),
-    ("name before id", b"\xa2\x64name\x60\x62id\x61a", 0, 0x12),
-    ("id twice", b"\xa2\x62id\x61a\x62id\x61a", 0, 0x12),
-    ("key of bytes", b"\xa2\x41a\0\x62id\x61a", 0, 0x12),
-    ("long count", b"\xb8\x01\x62id\x61a", 0, 0x12),
-    ("low count", b"\xa1\x62id\x61a\x64name\x60", 0, 0x12),
-    ("open end", b"\xbf\x62id\x61a\xff", 0, 0x12),
-    ("tag", b"\xc0\xa1\x62id\x61a", 0, 0x12),
-    ("null", b"\xa2\x62id\x61a\x64name\xf6", 0, 0x12),
-    ("kind and key", b"\xa2\x62id\x40\x64icon\x60", 0, 0x11),
-    ("kind and missing", b"\xa1\x64name\x40", 0, 0x11),
-    ("kind and limit", b"\xa2\x62id\x60\x64name\x40", 0, 0x11),
-    ("key and missing", b"\xa1\x64icon\x60", 0, 0x02),
-    ("key and limit", b"\xa2\x62id\x60\x64icon\x60", 0, 0x02),
+    ("text", "61 'a", 0x11),
+    ("name of bytes", "a262 'id 61 'a 64 'name 40", 0x11),
+    ("icon", "a262 'id 61 'a 64 'icon 60", 0x02),
+    ("no member", "a0", 0x14),
+    ("no id", "a164 'name 60", 0x14),
+    ("name before id", "a264 'name 6062 'id 61 'a", 0x12),
+    ("id twice", "a262 'id 61 'a 62 'id 61 'a", 0x12),
+    ("key of bytes", "a241 'a 0062 'id 61 'a", 0x12),
+    ("long count", "b80162 'id 61 'a", 0x12),
+    ("low count", "a162 'id 61 'a 64 'name 60", 0x12),
+    ("open end", "bf62 'id 61 'a ff", 0x12),
+    ("tag", "c0a162 'id 61 'a", 0x12),
+    ("null", "a262 'id 61 'a 64 'name f6", 0x12),
+    ("kind and key", "a262 'id 4064 'icon 60", 0x11),
+    ("kind and missing", "a164 'name 40", 0x11),
+    ("kind and limit", "a262 'id 6064 'name 40", 0x11),
+    ("key and missing", "a164 'icon 60", 0x02),
+    ("key and limit", "a262 'id 6064 'icon 60", 0x02),
 ];
 
 const USER: &[Part<'static>] = &[
-    ("array", b"\x80", 0, 0x11),
-    ("name of bytes", b"\xa2\x62id\x41a\x64name\x40", 0, 0x11),
+    ("array", "80", 0x11),
+    ("name of bytes", "a262 'id 41 'a 64 'name 40", 0x11),
     (
         "displayName of bytes",
-        b"\xa2\x62id\x41a\x6bdisplayName\x40",
-        0,
+        "a262 'id 41 'a 6b 'displayName 40",
         0x11,
     ),
-    ("key 0", b"\xa2\0\0\x62id\x41a", 0, 0x02),
-    ("no member", b"\xa0", 0, 0x14),
-    ("no id", b"\xa1\x64name\x60", 0, 0x14),
-    ("name before id", b"\xa2\x64name\x60\x62id\x41a", 0, 0x12),
-    ("id twice", b"\xa2\x62id\x41a\x62id\x41a", 0, 0x12),
-    ("long count", b"\xb8\x01\x62id\x41a", 0, 0x12),
-    ("high count", b"\xa2\x62id\x41a", 0, 0x12),
-    ("open end", b"\xbf\x62id\x41a\xff", 0, 0x12),
-    ("tag", b"\xc0\xa1\x62id\x41a", 0, 0x12),
-    ("float", b"\xa2\x62id\x41a\x64name\xf9\0\0", 0, 0x12),
-    ("kind and key", b"\xa2\0\0\x62id\x60", 0, 0x11),
-    ("kind and missing", b"\xa1\x64name\x40", 0, 0x11),
-    ("kind and limit", b"\xa2\x62id\x40\x64name\x40", 0, 0x11),
-    ("key and missing", b"\xa1\0\0", 0, 0x02),
-    ("key and limit", b"\xa2\0\0\x62id\x40", 0, 0x02),
+    ("key 0", "a2000062 'id 41 'a", 0x02),
+    ("no member", "a0", 0x14),
+    ("no id", "a164 'name 60", 0x14),
+    ("name before id", "a264 'name 6062 'id 41 'a", 0x12),
+    ("id twice", "a262 'id 41 'a 62 'id 41 'a", 0x12),
+    ("long count", "b80162 'id 41 'a", 0x12),
+    ("high count", "a262 'id 41 'a", 0x12),
+    ("open end", "bf62 'id 41 'a ff", 0x12),
+    ("tag", "c0a162 'id 41 'a", 0x12),
+    ("float", "a262 'id 41 'a 64 'name f90000", 0x12),
+    ("kind and key", "a2000062 'id 60", 0x11),
+    ("kind and missing", "a164 'name 40", 0x11),
+    ("kind and limit", "a262 'id 4064 'name 40", 0x11),
+    ("key and missing", "a10000", 0x02),
+    ("key and limit", "a2000062 'id 40", 0x02),
 ];
 
 /// A list of parameters or of descriptors.
 const LIST: &[Part<'static>] = &[
-    ("map", b"\xa0", 0, 0x11),
-    ("text of 9 bytes", b"\x69", 9, 0x11),
-    ("long count", b"\x98\0", 0, 0x12),
-    ("open end", b"\x9f\xff", 0, 0x12),
-    ("tag", b"\xc1\x80", 0, 0x12),
-    ("cut", b"\x81", 0, 0x12),
+    ("map", "a0", 0x11),
+    ("text of 9 bytes", "69 61*9", 0x11),
+    ("long count", "9800", 0x12),
+    ("open end", "9fff", 0x12),
+    ("tag", "c180", 0x12),
+    ("cut", "81", 0x12),
 ];
 
 const PARAMETERS: &[Part<'static>] = &[
-    ("number", b"\0", 0, 0x11),
-    ("alg of text", b"\xa2\x63alg\x60\x64type\x60", 0, 0x11),
-    ("type of bytes", b"\xa2\x63alg\0\x64type\x40", 0, 0x11),
-    ("key 0", b"\xa3\0\0\x63alg\0\x64type\x60", 0, 0x02),
-    ("no member", b"\xa0", 0, 0x14),
-    ("no alg", b"\xa1\x64type\x60", 0, 0x14),
-    ("no type", b"\xa1\x63alg\0", 0, 0x14),
-    ("type before alg", b"\xa2\x64type\x60\x63alg\0", 0, 0x12),
-    ("twice", b"\xa3\x63alg\0\x63alg\0\x64type\x60", 0, 0x12),
-    ("long alg", b"\xa2\x63alg\x18\x07\x64type\x60", 0, 0x12),
-    ("big number", b"\xa2\x63alg\xc2\x40\x64type\x60", 0, 0x12),
-    ("float", b"\xa2\x63alg\xf9\0\0\x64type\x60", 0, 0x12),
-    ("open end", b"\xbf\x63alg\0\x64type\x60\xff", 0, 0x12),
-    ("cut", b"\xa2\x63alg\0", 0, 0x12),
-    ("kind and key", b"\xa3\0\0\x63alg\x60\x64type\x60", 0, 0x11),
-    ("kind and missing", b"\xa1\x63alg\x60", 0, 0x11),
-    ("key and missing", b"\xa1\0\0", 0, 0x02),
+    ("number", "00", 0x11),
+    ("alg of text", "a263 'alg 6064 'type 60", 0x11),
+    ("type of bytes", "a263 'alg 0064 'type 40", 0x11),
+    ("key 0", "a3000063 'alg 0064 'type 60", 0x02),
+    ("no member", "a0", 0x14),
+    ("no alg", "a164 'type 60", 0x14),
+    ("no type", "a163 'alg 00", 0x14),
+    ("type before alg", "a264 'type 6063 'alg 00", 0x12),
+    ("twice", "a363 'alg 0063 'alg 0064 'type 60", 0x12),
+    ("long alg", "a263 'alg 180764 'type 60", 0x12),
+    ("big number", "a263 'alg c24064 'type 60", 0x12),
+    ("float", "a263 'alg f9000064 'type 60", 0x12),
+    ("open end", "bf63 'alg 0064 'type 60ff", 0x12),
+    ("cut", "a263 'alg 00", 0x12),
+    ("kind and key", "a3000063 'alg 6064 'type 60", 0x11),
+    ("kind and missing", "a163 'alg 60", 0x11),
+    ("key and missing", "a10000", 0x02),
 ];
 
 const DESCRIPTOR: &[Part<'static>] = &[
-    ("number", b"\0", 0, 0x11),
-    ("type of bytes", b"\xa2\x62id\x41a\x64type\x40", 0, 0x11),
-    ("key 0", b"\xa3\0\0\x62id\x41a\x64type\x60", 0, 0x02),
-    ("no member", b"\xa0", 0, 0x14),
-    ("no id", b"\xa1\x64type\x60", 0, 0x14),
-    ("no type", b"\xa1\x62id\x41a", 0, 0x14),
-    ("type before id", b"\xa2\x64type\x60\x62id\x41a", 0, 0x12),
-    ("twice", b"\xa3\x62id\x41a\x62id\x41a\x64type\x60", 0, 0x12),
-    ("long count", b"\xb8\x02\x62id\x41a\x64type\x60", 0, 0x12),
-    ("open end", b"\xbf\x62id\x41a\x64type\x60\xff", 0, 0x12),
-    ("tag", b"\xc0\xa2\x62id\x41a\x64type\x60", 0, 0x12),
-    ("float", b"\xa2\x62id\x41a\x64type\xf9\0\0", 0, 0x12),
-    ("cut", b"\xa2\x62id\x41a", 0, 0x12),
-    ("order and kind", b"\xa2\x64type\x60\x62id\x60", 0, 0x12),
-    ("order and key", b"\xa3\x62id\x41a\0\0\x64type\x60", 0, 0x12),
-    ("twice and missing", b"\xa2\x62id\x41a\x62id\x41a", 0, 0x12),
-    ("order and limit", b"\xa2\x64type\x60\x62id\x40", 0, 0x12),
-    ("kind and key", b"\xa3\0\0\x62id\x60\x64type\x60", 0, 0x11),
-    ("kind and missing", b"\xa1\x62id\x60", 0, 0x11),
-    ("kind and limit", b"\xa2\x62id\x40\x64type\x40", 0, 0x11),
-    ("key and missing", b"\xa2\0\0\x62id\x41a", 0, 0x02),
-    ("key and limit", b"\xa3\0\0\x62id\x40\x64type\x60", 0, 0x02),
-    ("missing and limit", b"\xa1\x62id\x40", 0, 0x14),
+    ("number", "00", 0x11),
+    ("type of bytes", "a262 'id 41 'a 64 'type 40", 0x11),
+    ("key 0", "a3000062 'id 41 'a 64 'type 60", 0x02),
+    ("no member", "a0", 0x14),
+    ("no id", "a164 'type 60", 0x14),
+    ("no type", "a162 'id 41 'a", 0x14),
+    ("type before id", "a264 'type 6062 'id 41 'a", 0x12),
+    ("twice", "a362 'id 41 'a 62 'id 41 'a 64 'type 60", 0x12),
+    ("long count", "b80262 'id 41 'a 64 'type 60", 0x12),
+    ("open end", "bf62 'id 41 'a 64 'type 60ff", 0x12),
+    ("tag", "c0a262 'id 41 'a 64 'type 60", 0x12),
+    ("float", "a262 'id 41 'a 64 'type f90000", 0x12),
+    ("cut", "a262 'id 41 'a", 0x12),
+    ("order and kind", "a264 'type 6062 'id 60", 0x12),
+    ("order and key", "a362 'id 41 'a 000064 'type 60", 0x12),
+    ("twice and missing", "a262 'id 41 'a 62 'id 41 'a", 0x12),
+    ("order and limit", "a264 'type 6062 'id 40", 0x12),
+    ("kind and key", "a3000062 'id 6064 'type 60", 0x11),
+    ("kind and missing", "a162 'id 60", 0x11),
+    ("kind and limit", "a262 'id 4064 'type 40", 0x11),
+    ("key and missing", "a2000062 'id 41 'a", 0x02),
+    ("key and limit", "a3000062 'id 4064 'type 60", 0x02),
+    ("missing and limit", "a162 'id 40", 0x14),
 ];
 
 const EXTENSIONS: &[Part<'static>] = &[
-    ("number", b"\0", 0, 0x11),
-    ("array", b"\x80", 0, 0x11),
-    ("another order", b"\xa2\x61b\0\x61a\0", 0, 0x12),
-    ("key twice", b"\xa2\x61a\0\x61a\0", 0, 0x12),
-    ("key of bytes", b"\xa1\x41a\0", 0, 0x12),
-    ("long number", b"\xa1\x61a\x18\x01", 0, 0x12),
-    ("open end", b"\xbf\xff", 0, 0x12),
-    ("tag", b"\xa1\x61a\xc0\0", 0, 0x12),
-    ("float", b"\xa1\x61a\xf9\0\0", 0, 0x12),
-    ("five levels", b"\xa1\0\x81\x81\x80", 0, 0x12),
-    ("cut", b"\xa1\x61a", 0, 0x12),
+    ("number", "00", 0x11),
+    ("array", "80", 0x11),
+    ("another order", "a261 'b 0061 'a 00", 0x12),
+    ("key twice", "a261 'a 0061 'a 00", 0x12),
+    ("key of bytes", "a141 'a 00", 0x12),
+    ("long number", "a161 'a 1801", 0x12),
+    ("open end", "bfff", 0x12),
+    ("tag", "a161 'a c000", 0x12),
+    ("float", "a161 'a f90000", 0x12),
+    ("five levels", "a100818180", 0x12),
+    ("cut", "a161 'a", 0x12),
 ];
 
 const OPTIONS: &[Part<'static>] = &[
-    ("array", b"\x80", 0, 0x11),
-    ("up of a number", b"\xa1\x62up\x01", 0, 0x11),
-    ("uv of text", b"\xa1\x62uv\x60", 0, 0x11),
-    ("plat", b"\xa1\x64plat\xf5", 0, 0x02),
-    ("uv before up", b"\xa2\x62uv\xf5\x62up\xf5", 0, 0x12),
-    ("up twice", b"\xa2\x62up\xf5\x62up\xf5", 0, 0x12),
-    ("long count", b"\xb8\x01\x62up\xf5", 0, 0x12),
-    ("long truth value", b"\xa1\x62up\xf8\x15", 0, 0x12),
-    ("open end", b"\xbf\x62up\xf5\xff", 0, 0x12),
-    ("null", b"\xa1\x62up\xf6", 0, 0x12),
-    ("cut", b"\xa1\x62up", 0, 0x12),
-    ("order and kind", b"\xa2\x62uv\0\x62up\xf5", 0, 0x12),
-    ("order and key", b"\xa2\x64plat\xf5\x62up\xf5", 0, 0x12),
-    ("kind and key", b"\xa2\x62up\0\x64plat\xf5", 0, 0x11),
+    ("array", "80", 0x11),
+    ("up of a number", "a162 'up 01", 0x11),
+    ("uv of text", "a162 'uv 60", 0x11),
+    ("plat", "a164 'plat f5", 0x02),
+    ("uv before up", "a262 'uv f562 'up f5", 0x12),
+    ("up twice", "a262 'up f562 'up f5", 0x12),
+    ("long count", "b80162 'up f5", 0x12),
+    ("long truth value", "a162 'up f815", 0x12),
+    ("open end", "bf62 'up f5ff", 0x12),
+    ("null", "a162 'up f6", 0x12),
+    ("cut", "a162 'up", 0x12),
+    ("order and kind", "a262 'uv 0062 'up f5", 0x12),
+    ("order and key", "a264 'plat f562 'up f5", 0x12),
+    ("kind and key", "a262 'up 0064 'plat f5", 0x11),
 ];
 
-const K1: Piece<'static> = (b"\x01", 0, 0);
+/// Numbers at the borders of their heads' lengths, and longer heads than they need.
+const NUMBERS: &[Part<'static>] = &[
+    ("23", "17", 0),
+    ("24", "1818", 0),
+    ("255", "18ff", 0),
+    ("256", "190100", 0),
+    ("65,535", "19ffff", 0),
+    ("65,536", "1a00010000", 0),
+    ("2^32 - 1", "1affffffff", 0),
+    ("2^32", "1b0000000100000000", 0),
+    ("2^63", "1b8000000000000000", 0),
+    ("2^64 - 1", "1bffffffffffffffff", 0),
+    ("-24", "37", 0),
+    ("-25", "3818", 0),
+    ("-256", "38ff", 0),
+    ("-257", "390100", 0),
+    ("-65,536", "39ffff", 0),
+    ("-65,537", "3a00010000", 0),
+    ("-2^32", "3affffffff", 0),
+    ("-2^32 - 1", "3b0000000100000000", 0),
+    ("-2^64", "3bffffffffffffffff", 0),
+    ("23 in two bytes", "1817", 0x12),
+    ("255 in three", "1900ff", 0x12),
+    ("65,535 in five", "1a0000ffff", 0x12),
+    ("2^32 - 1 in nine", "1b00000000ffffffff", 0x12),
+    ("-24 in two bytes", "3817", 0x12),
+];
 
-const K2: Piece<'static> = (b"\x02", 0, 0);
+/// Levels of makeCredential up to the user.
+const MEMBERS: &[Level] = &[
+    ("hash", "create4 01", HASH, "rp user parameters"),
+    ("rp", "create4 create-hash 02", RP, "user parameters"),
+    (
+        "rp id",
+        "create4 create-hash 02 id-alone",
+        RP_ID,
+        "user parameters",
+    ),
+    ("user", "create4 create-hash rp 03", USER, "parameters"),
+    (
+        "user id",
+        "create4 create-hash rp 03 id-alone",
+        ID,
+        "parameters",
+    ),
+];
 
-const K3: Piece<'static> = (b"\x03", 0, 0);
+/// Levels of its lists.
+const LISTS: &[Level] = &[
+    ("parameters", "create4 create-hash rp user 04", LIST, ""),
+    (
+        "parameter",
+        "create4 create-hash rp user 0481",
+        PARAMETERS,
+        "",
+    ),
+    (
+        "exclude list",
+        "create5 create-hash rp user parameters 05",
+        LIST,
+        "",
+    ),
+    (
+        "excluded",
+        "create5 create-hash rp user parameters exclude1",
+        DESCRIPTOR,
+        "",
+    ),
+    (
+        "excluded id",
+        "create5 create-hash rp user parameters exclude1 id-and",
+        ID,
+        "type",
+    ),
+];
 
-const K4: Piece<'static> = (b"\x04", 0, 0);
+/// Levels of its other members, and of those of getAssertion that are required.
+const OTHERS: &[Level] = &[
+    ("alg", "create4 create-hash rp user alg", NUMBERS, "type"),
+    (
+        "extensions",
+        "create5 create-hash rp user parameters 06",
+        EXTENSIONS,
+        "",
+    ),
+    (
+        "options",
+        "create5 create-hash rp user parameters 07",
+        OPTIONS,
+        "",
+    ),
+    ("assertion rp id", "get2 01", RP_ID, "get-hash"),
+    ("assertion hash", "get2 rp-id 02", HASH, ""),
+];
 
-const K5: Piece<'static> = (b"\x05", 0, 0);
+/// Levels of the others.
+const ALLOWED: &[Level] = &[
+    ("allow list", "get3 rp-id get-hash 03", LIST, ""),
+    ("allowed", "get3 rp-id get-hash allow1", DESCRIPTOR, ""),
+    (
+        "allowed id",
+        "get3 rp-id get-hash allow1 id-and",
+        ID,
+        "type",
+    ),
+    (
+        "assertion extensions",
+        "get3 rp-id get-hash 04",
+        EXTENSIONS,
+        "",
+    ),
+    ("assertion options", "get3 rp-id get-hash 05", OPTIONS, ""),
+];
 
-const K6: Piece<'static> = (b"\x06", 0, 0);
-
-const K7: Piece<'static> = (b"\x07", 0, 0);
-
-const P1: Piece<'static> = (b"\x04\x81", 0, 0);
-
-const E1: Piece<'static> = (b"\x05\x81", 0, 0);
-
-const L1: Piece<'static> = (b"\x03\x81", 0, 0);
-
-const ID_ALONE: Piece<'static> = (b"\xa1\x62id", 0, 0);
-
-const ID_AND: Piece<'static> = (b"\xa2\x62id", 0, 0);
-
-const T: Piece<'static> = (TYPE, 0, 0);
-
-/// The status of a request of these pieces, a part of the table, and these pieces; 0 where it is read and
-/// written again as it came.
-fn status_of(
-    alloc: Global,
-    before: &[Piece],
-    part: Piece,
-    behind: &[Piece],
-) -> Result<u8, AllocError> {
-    let mut bytes = joined(alloc, before)?;
-    bytes.extend_from_slice(joined(alloc, &[part])?.as_slice())?;
-    bytes.extend_from_slice(joined(alloc, behind)?.as_slice())?;
+/// The status of the request of these texts, one after the other; 0 where it is read and written again as it came.
+fn status_of(alloc: Global, before: &str, part: &str, behind: &str) -> Result<u8, AllocError> {
+    let mut bytes = Vec::new(alloc);
+    append_text(alloc, &mut bytes, before)?;
+    append_text(alloc, &mut bytes, part)?;
+    append_text(alloc, &mut bytes, behind)?;
     answer(alloc, bytes.as_slice())
 }
 
-/// The name of the first of these parts that, between these pieces, isn't answered by its status.
-fn wrong_part<'a>(
+/// The first level and part that isn't answered by its status.
+fn first_wrong<'a>(
     alloc: Global,
-    before: &[Piece],
-    parts: &'a [Part<'a>],
-    behind: &[Piece],
-) -> Result<Option<&'a str>, AllocError> {
-    for (name, front, count, status) in parts {
-        if status_of(alloc, before, (*front, 97, *count), behind)? != *status {
-            return Ok(Some(name));
+    levels: &'a [Level<'a>],
+) -> Result<Option<(&'a str, &'a str)>, AllocError> {
+    for (level, before, parts, behind) in levels {
+        for (name, part, status) in *parts {
+            if status_of(alloc, before, part, behind)? != *status {
+                return Ok(Some((level, name)));
+            }
         }
     }
     Ok(None)
 }
 
-/// Levels of makeCredential up to the user.
-const MEMBERS: &[Level] = &[
-    ("hash", &[M4, K1], HASH, &[R, U, P]),
-    ("rp", &[M4, H, K2], RP, &[U, P]),
-    ("rp id", &[M4, H, K2, ID_ALONE], RP_ID, &[U, P]),
-    ("user", &[M4, H, R, K3], USER, &[P]),
-    ("user id", &[M4, H, R, K3, ID_ALONE], ID, &[P]),
-];
-
 #[test]
-fn members(rt: HostRuntime) -> Result<(), Fail> {
-    for (level, before, parts, behind) in MEMBERS {
-        let wrong = wrong_part(rt.alloc(), before, parts, behind)?;
-        assert!(rt; wrong.is_none(), "{level}: {wrong:?}");
+fn parts_of_creations(rt: HostRuntime) -> Result<(), Fail> {
+    for levels in [MEMBERS, LISTS] {
+        let wrong = first_wrong(rt.alloc(), levels)?;
+        assert!(rt; wrong.is_none(), "{wrong:?}");
     }
     Ok(())
 }
 
-/// Levels of its lists.
-const LISTS: &[Level] = &[
-    ("parameters", &[M4, H, R, U, K4], LIST, &[]),
-    ("parameter", &[M4, H, R, U, P1], PARAMETERS, &[]),
-    ("exclude list", &[M5, H, R, U, P, K5], LIST, &[]),
-    ("excluded", &[M5, H, R, U, P, E1], DESCRIPTOR, &[]),
-    ("excluded id", &[M5, H, R, U, P, E1, ID_AND], ID, &[T]),
-];
-
 #[test]
-fn lists(rt: HostRuntime) -> Result<(), Fail> {
-    for (level, before, parts, behind) in LISTS {
-        let wrong = wrong_part(rt.alloc(), before, parts, behind)?;
-        assert!(rt; wrong.is_none(), "{level}: {wrong:?}");
-    }
-    Ok(())
-}
-
-/// Levels of its other members, and of those of getAssertion that are required.
-const OTHERS: &[Level] = &[
-    ("extensions", &[M5, H, R, U, P, K6], EXTENSIONS, &[]),
-    ("options", &[M5, H, R, U, P, K7], OPTIONS, &[]),
-    ("assertion rp id", &[A2, K1], RP_ID, &[G]),
-    ("assertion hash", &[A2, I, K2], HASH, &[]),
-];
-
-#[test]
-fn others(rt: HostRuntime) -> Result<(), Fail> {
-    for (level, before, parts, behind) in OTHERS {
-        let wrong = wrong_part(rt.alloc(), before, parts, behind)?;
-        assert!(rt; wrong.is_none(), "{level}: {wrong:?}");
-    }
-    Ok(())
-}
-
-/// Levels of the others.
-const ALLOWED: &[Level] = &[
-    ("allow list", &[A3, I, G, K3], LIST, &[]),
-    ("allowed", &[A3, I, G, L1], DESCRIPTOR, &[]),
-    ("allowed id", &[A3, I, G, L1, ID_AND], ID, &[T]),
-    ("assertion extensions", &[A3, I, G, K4], EXTENSIONS, &[]),
-    ("assertion options", &[A3, I, G, K5], OPTIONS, &[]),
-];
-
-#[test]
-fn allowed(rt: HostRuntime) -> Result<(), Fail> {
-    for (level, before, parts, behind) in ALLOWED {
-        let wrong = wrong_part(rt.alloc(), before, parts, behind)?;
-        assert!(rt; wrong.is_none(), "{level}: {wrong:?}");
+fn other_parts(rt: HostRuntime) -> Result<(), Fail> {
+    for levels in [OTHERS, ALLOWED] {
+        let wrong = first_wrong(rt.alloc(), levels)?;
+        assert!(rt; wrong.is_none(), "{wrong:?}");
     }
     Ok(())
 }

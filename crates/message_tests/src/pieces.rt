@@ -1,53 +1,61 @@
-//! Requests and replies in pieces, and what comes of them.
+//! Requests and replies as the tables write them, and what comes of them.
+//!
+//! A text is words between spaces: bytes in hexadecimal digits, a byte with `*` and how often it stands, characters
+//! behind `'`, or a name of the tables of names, which stands for its own words.
 
+use crate::names::NAMES;
 use ctapmsg::{Error, Kind, read_reply, read_request, write_reply, write_request};
 use std::alloc::{AllocError, Global};
 
-/// Bytes, and then a number of times one byte.
-pub type Piece<'a> = (&'a [u8], u8, usize);
+/// A name, the text of a request, and the status that answers it.
+pub type Row<'a> = (&'a str, &'a str, u8);
 
-/// A name, the pieces of a request, and the status that answers it.
-pub type Row<'a> = (&'a str, &'a [Piece<'a>], u8);
+/// A name, the command, the text of a reply, and the number of its refusal, or 0 where it is read
+/// and written again as it came.
+pub type ReplyRow<'a> = (&'a str, Kind, &'a str, u8);
 
-/// makeCredential and a map of 4 or 5 members.
-pub const M4: Piece<'static> = (b"\x01\xa4", 0, 0);
-
-pub const M5: Piece<'static> = (b"\x01\xa5", 0, 0);
-
-/// Members of a makeCredential request: 32 bytes 22, `abc`, the user handle 0a, and ES256.
-pub const H: Piece<'static> = (b"\x01\x58\x20", 0x22, 32);
-
-pub const R: Piece<'static> = (b"\x02\xa1\x62id\x63abc", 0, 0);
-
-pub const U: Piece<'static> = (b"\x03\xa1\x62id\x41\x0a", 0, 0);
-
-pub const P: Piece<'static> = (b"\x04\x81\xa2\x63alg\x26\x64type\x6apublic-key", 0, 0);
-
-/// The member `type` of a type and algorithm.
-pub const TYPE: &[u8] = b"\x64type\x6apublic-key";
-
-/// getAssertion and a map of 2 or 3 members.
-pub const A2: Piece<'static> = (b"\x02\xa2", 0, 0);
-
-pub const A3: Piece<'static> = (b"\x02\xa3", 0, 0);
-
-/// Members of a getAssertion request: `abc` and 32 bytes 22.
-pub const I: Piece<'static> = (b"\x01\x63abc", 0, 0);
-
-pub const G: Piece<'static> = (b"\x02\x58\x20", 0x22, 32);
-
-/// A descriptor of the id 0a.
-pub const D: Piece<'static> = (b"\xa2\x62id\x41\x0a\x64type\x6apublic-key", 0, 0);
-
-/// The pieces, one after the other.
-pub fn joined(alloc: Global, pieces: &[Piece<'_>]) -> Result<Vec<u8>, AllocError> {
-    let mut bytes = Vec::new(alloc);
-    for (front, byte, count) in pieces {
-        bytes.extend_from_slice(front)?;
-        for _ in 0..*count {
-            bytes.push(*byte)?;
+/// What a name stands for; another word stands for itself.
+fn meaning(word: &str) -> &str {
+    for (name, words) in NAMES {
+        if *name == word {
+            return words;
         }
     }
+    word
+}
+
+/// Appends what a word stands for that is no name; a word that is none is an error.
+fn append(alloc: Global, bytes: &mut Vec<u8>, word: &str) -> Result<(), AllocError> {
+    if let Some(characters) = word.strip_prefix("'") {
+        return bytes.extend_from_slice(characters.as_bytes());
+    }
+    let (digits, count) = match word.split_once("*") {
+        Some((digits, count)) => (digits, count.parse().unwrap_or(0)),
+        None => (word, 1),
+    };
+    let Ok(part) = hex::decode(alloc, digits) else {
+        return Err(AllocError);
+    };
+    for _ in 0..count {
+        bytes.extend_from_slice(&part)?;
+    }
+    Ok(())
+}
+
+/// Appends the bytes of a text.
+pub fn append_text(alloc: Global, bytes: &mut Vec<u8>, text: &str) -> Result<(), AllocError> {
+    for name in text.split_whitespace() {
+        for word in meaning(name).split_whitespace() {
+            append(alloc, bytes, word)?;
+        }
+    }
+    Ok(())
+}
+
+/// The bytes of a text.
+pub fn bytes_of(alloc: Global, text: &str) -> Result<Vec<u8>, AllocError> {
+    let mut bytes = Vec::new(alloc);
+    append_text(alloc, &mut bytes, text)?;
     Ok(bytes)
 }
 
@@ -63,15 +71,11 @@ pub fn answer(alloc: Global, bytes: &[u8]) -> Result<u8, AllocError> {
     }
 }
 
-/// The status of a request of these pieces, or 0 where it is read and written again as it came.
-pub fn answer_to(alloc: Global, pieces: &[Piece]) -> Result<u8, AllocError> {
-    let bytes = joined(alloc, pieces)?;
+/// The status of the request of this text, or 0 where it is read and written again as it came.
+pub fn answer_to(alloc: Global, text: &str) -> Result<u8, AllocError> {
+    let bytes = bytes_of(alloc, text)?;
     answer(alloc, bytes.as_slice())
 }
-
-/// A name, the command, the pieces of a reply, and the number of its refusal, or 0 where it is read
-/// and written again as it came.
-pub type ReplyRow<'a> = (&'a str, Kind, &'a [Piece<'a>], u8);
 
 /// The number of a reply's refusal, or 0 where it is read and written again as it came.
 fn refused(alloc: Global, kind: Kind, bytes: &[u8]) -> u8 {
@@ -87,8 +91,8 @@ fn refused(alloc: Global, kind: Kind, bytes: &[u8]) -> u8 {
     }
 }
 
-/// The same of the reply of these pieces.
-pub fn refusal_of(alloc: Global, kind: Kind, pieces: &[Piece]) -> Result<u8, AllocError> {
-    let bytes = joined(alloc, pieces)?;
+/// The same of the reply of this text.
+pub fn refusal_of(alloc: Global, kind: Kind, text: &str) -> Result<u8, AllocError> {
+    let bytes = bytes_of(alloc, text)?;
     Ok(refused(alloc, kind, bytes.as_slice()))
 }
