@@ -1,11 +1,11 @@
 //! Running a script: `passkey replay`.
 
 use crate::script::{Fault, Line, parse_line};
-use ceremony::{Error, sign_in_hash};
+use ceremony::{Error, sign_in};
+use clientdata::{challenge_text, hash};
 use cose::{CoseKey, ListScheme};
 use hidframe::Packet;
-use sha2::{Digest, Sha256};
-use site::{Policy, Row, Site};
+use site::{BeginError, Policy, Row, SignInRefusal, Site, Table};
 use std::alloc::{AllocError, Global};
 use std::fmt::Write;
 use std::str;
@@ -16,8 +16,9 @@ struct Replay<'a> {
     rp_id: &'a str,
     origin: &'a str,
     site: Site,
-    takes_rows: bool,
-    hash: [u8; 32],
+    /// The rows so far, while a row may follow.
+    rows: Option<Table>,
+    client_data: &'a str,
     scheme: ListScheme,
     packets: Vec<Packet>,
 }
@@ -29,35 +30,17 @@ pub struct Ended {
     pub fault: Fault,
 }
 
-/// What a refused call of the site ends the script with.
-fn fault_of(error: site::Error) -> Fault {
-    match error {
-        site::Error::Memory => Fault::Memory,
-        site::Error::BadInput | site::Error::BadTable | site::Error::SignIn(_) => Fault::BadScript,
-    }
-}
-
-/// A site that accepts both kinds of attestation statement.
-fn site_with(alloc: Global, rp_id: &str, origin: &str, rows: Vec<Row>) -> Result<Site, Fault> {
+/// A site that accepts both kinds of attestation.
+fn site_with(alloc: Global, rp_id: &str, origin: &str, rows: Table) -> Result<Site, Fault> {
     let policy = Policy {
         accept_none: true,
         accept_self: true,
     };
-    Site::with_rows(alloc, rp_id, &[origin], policy, rows).map_err(fault_of)
-}
-
-/// Copies of the site's rows.
-fn rows_of(alloc: Global, site: &Site) -> Result<Vec<Row>, AllocError> {
-    let mut rows = Vec::new(alloc);
-    for row in site.rows() {
-        rows.push(Row {
-            id: Vec::from_slice(alloc, row.id)?,
-            user: Vec::from_slice(alloc, row.user)?,
-            key: *row.key,
-            count: row.count,
-        })?;
+    match Site::with_table(alloc, rp_id, &[origin], policy, rows) {
+        Ok(site) => Ok(site),
+        Err(site::Error::Memory) => Err(Fault::Memory),
+        Err(_) => Err(Fault::BadScript),
     }
-    Ok(rows)
 }
 
 /// Begins a script by its first line.
@@ -68,25 +51,35 @@ fn begin<'a>(alloc: Global, first: Line<'a>) -> Result<Replay<'a>, Fault> {
     Ok(Replay {
         rp_id,
         origin,
-        site: site_with(alloc, rp_id, origin, Vec::new(alloc))?,
-        takes_rows: true,
-        hash: Sha256::digest([].as_slice()),
+        site: site_with(alloc, rp_id, origin, Table::new(alloc))?,
+        rows: Some(Table::new(alloc)),
+        client_data: "",
         scheme: ListScheme::new(alloc),
         packets: Vec::new(alloc),
     })
 }
 
+/// Adds a row to those so far.
+fn add_row(rows: &mut Option<Table>, row: Row) -> Result<(), Fault> {
+    let Some(table) = rows else {
+        return Err(Fault::BadScript);
+    };
+    if !table.admits(&row) {
+        return Err(Fault::BadScript);
+    }
+    table.push(row)?;
+    Ok(())
+}
+
 /// Writes what a sign-in is refused for.
-fn write_refusal(error: &Error, out: &mut String) -> Result<(), AllocError> {
+fn write_refusal(error: &Error<SignInRefusal>, out: &mut String) -> Result<(), AllocError> {
     match error {
         Error::Incomplete => writeln!(out, "refused Incomplete"),
         Error::Dead { index, kind } => writeln!(out, "refused Dead {index} {kind:?}"),
         Error::DeviceError(code) => writeln!(out, "refused DeviceError {code:02x}"),
-        Error::Empty => writeln!(out, "refused Empty"),
-        Error::Status(code) => writeln!(out, "refused Status {code:02x}"),
-        Error::NotCanonical => writeln!(out, "refused NotCanonical"),
-        Error::Shape => writeln!(out, "refused Shape"),
-        Error::SignIn(step) => {
+        Error::Reply(ctapmsg::Error::Refused(code)) => writeln!(out, "refused Status {code:02x}"),
+        Error::Reply(reason) => writeln!(out, "refused {reason:?}"),
+        Error::Refused(step) => {
             let number = step.number();
             writeln!(out, "refused W{number}")
         }
@@ -99,22 +92,51 @@ fn write_table(alloc: Global, site: &Site, out: &mut String) -> Result<(), Alloc
     for row in site.rows() {
         let id = hex::encode(alloc, row.id)?;
         let user = hex::encode(alloc, row.user)?;
-        let count = row.count;
+        let count = row.sign_count;
         writeln!(out, "{id} {user} {count}")?;
     }
     Ok(())
 }
 
+/// Writes which of the registered credentials are eligible for backup.
+fn write_backup(alloc: Global, site: &Site, out: &mut String) -> Result<(), AllocError> {
+    for row in site.rows() {
+        let id = hex::encode(alloc, row.id)?;
+        let said = match row.eligible {
+            None => "unknown",
+            Some(false) => "no",
+            Some(true) => "yes",
+        };
+        writeln!(out, "{id} {said}")?;
+    }
+    Ok(())
+}
+
 impl<'a> Replay<'a> {
-    /// Adds a row, by a site made anew.
-    fn add_row(&mut self, alloc: Global, row: Row) -> Result<(), Fault> {
-        if !self.takes_rows {
-            return Err(Fault::BadScript);
+    /// Begins a sign-in, and writes its number and its challenge.
+    fn begin_sign_in(
+        &mut self,
+        alloc: Global,
+        user: Option<Vec<u8>>,
+        verified: bool,
+        words: [u8; 24],
+        allow: &[Vec<u8>],
+        out: &mut String,
+    ) -> Result<(), Fault> {
+        let allow: Vec<&[u8]> = allow.iter().map(|id| id.as_slice()).collect(alloc)?;
+        match self
+            .site
+            .begin_sign_in(user.as_deref(), &allow, verified, words)
+        {
+            Ok(started) => {
+                let number = started.session;
+                let challenge = challenge_text(alloc, &started.challenge)?;
+                writeln!(out, "session {number} {challenge}")?;
+                Ok(())
+            }
+            Err(BeginError::Memory) => Err(Fault::Memory),
+            Err(_) => Err(Fault::BadScript),
         }
-        let mut rows = rows_of(alloc, &self.site)?;
-        rows.push(row)?;
-        self.site = site_with(alloc, self.rp_id, self.origin, rows)?;
-        Ok(())
     }
 
     /// Lists a signature as valid.
@@ -126,18 +148,25 @@ impl<'a> Replay<'a> {
         sig: &[u8],
     ) -> Result<(), AllocError> {
         let mut message = Vec::from_slice(alloc, auth_data)?;
-        message.extend_from_slice(&self.hash)?;
+        message.extend_from_slice(&hash(self.client_data.as_bytes()))?;
         self.scheme.add(key, &message, sig)
     }
 
     /// Writes the verdict on the packets.
-    fn sign_in(&mut self, alloc: Global, cid: u32, out: &mut String) -> Result<(), AllocError> {
-        let verdict = sign_in_hash(
+    fn sign_in(
+        &mut self,
+        alloc: Global,
+        session: u64,
+        cid: u32,
+        out: &mut String,
+    ) -> Result<(), AllocError> {
+        let verdict = sign_in(
             alloc,
             &mut self.site,
             &self.scheme,
+            session,
             cid,
-            &self.hash,
+            self.client_data.as_bytes(),
             &self.packets,
         );
         match verdict {
@@ -151,29 +180,25 @@ impl<'a> Replay<'a> {
         }
     }
 
-    /// Runs a line that is not the first.
-    fn step(&mut self, alloc: Global, line: Line<'a>, out: &mut String) -> Result<(), Fault> {
-        if let Line::Row {
-            id,
-            user,
-            key,
-            count,
-        } = line
-        {
-            return self.add_row(
-                alloc,
-                Row {
-                    id,
-                    user,
-                    key,
-                    count,
-                },
-            );
+    /// Makes the site of the rows so far, before the first line behind them.
+    fn close_rows(&mut self, alloc: Global) -> Result<(), Fault> {
+        if let Some(rows) = self.rows.take() {
+            self.site = site_with(alloc, self.rp_id, self.origin, rows)?;
         }
-        self.takes_rows = false;
+        Ok(())
+    }
+
+    /// Runs a line that is neither the first nor a row.
+    fn step(&mut self, alloc: Global, line: Line<'a>, out: &mut String) -> Result<(), Fault> {
         match line {
-            Line::Site { .. } | Line::Row { .. } => return Err(Fault::BadScript),
-            Line::Hash(hash) => self.hash = hash,
+            Line::Site { .. } | Line::Row(_) => return Err(Fault::BadScript),
+            Line::Session {
+                user,
+                verified,
+                words,
+                allow,
+            } => self.begin_sign_in(alloc, user, verified, words, &allow, out)?,
+            Line::Client(text) => self.client_data = text,
             Line::Valid {
                 key,
                 auth_data,
@@ -181,8 +206,14 @@ impl<'a> Replay<'a> {
             } => self.add_valid(alloc, key, &auth_data, &sig)?,
             Line::Packet(packet) => self.packets.push(packet)?,
             Line::Clear => self.packets.clear(),
-            Line::SignIn { cid } => self.sign_in(alloc, cid, out)?,
+            Line::SignIn { session, cid } => self.sign_in(alloc, session, cid, out)?,
             Line::Table => write_table(alloc, &self.site, out)?,
+            Line::Backup => write_backup(alloc, &self.site, out)?,
+            Line::Retire(id) => {
+                if !self.site.retire(&id) {
+                    return Err(Fault::BadScript);
+                }
+            }
         }
         Ok(())
     }
@@ -199,13 +230,15 @@ fn run_line<'a>(
         return Err(Fault::BadScript);
     };
     let line = parse_line(alloc, text)?;
-    match state {
-        Some(replay) => replay.step(alloc, line, out),
-        None => {
-            *state = Some(begin(alloc, line)?);
-            Ok(())
-        }
+    let Some(replay) = state else {
+        *state = Some(begin(alloc, line)?);
+        return Ok(());
+    };
+    if let Line::Row(row) = line {
+        return add_row(&mut replay.rows, row);
     }
+    replay.close_rows(alloc)?;
+    replay.step(alloc, line, out)
 }
 
 /// Runs a script; what it prints is appended to `out`, also where it ends early.

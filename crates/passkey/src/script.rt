@@ -3,10 +3,11 @@
 ghost use Rattle.std.specs.Prelude.{◌≡◌};
 ghost use Rattle.passkey.specs.declared.script.Fault.TheVariants as faults;
 
-use ccbor::decode_all;
+use ccbor::View;
 use command_line::unhex;
 use cose::CoseKey;
 use hidframe::Packet;
+use site::Row;
 use std::alloc::{AllocError, AllocFailed, Global};
 
 /// A line of a script.
@@ -18,15 +19,17 @@ pub enum Line<'a> {
         origin: &'a str,
     },
     /// `row <id> <user> <key> <count>`: a registered credential, directly behind `site` or `row`.
-    Row {
-        id: Vec<u8>,
-        user: Vec<u8>,
-        key: CoseKey,
-        count: u32,
+    Row(Row),
+    /// `session <user or -> <0 or 1> <words> [ids]`: a sign-in begins; 1 requires verification.
+    Session {
+        user: Option<Vec<u8>>,
+        verified: bool,
+        words: [u8; 24],
+        allow: Vec<Vec<u8>>,
     },
-    /// `hash <64 hex digits>`: the hash of the client data from here on.
-    Hash([u8; 32]),
-    /// `valid <key> <auth data> <sig>`: the signature is valid for the data, then the current hash.
+    /// `client <text>`: the client data from here on.
+    Client(&'a str),
+    /// `valid <key> <auth data> <sig>`: the signature is valid for the data, then the hash of the client data.
     Valid {
         key: CoseKey,
         auth_data: Vec<u8>,
@@ -36,12 +39,17 @@ pub enum Line<'a> {
     Packet(Packet),
     /// `clear`: no packets any more.
     Clear,
-    /// `signin 0 <channel>`: the site's verdict on the packets.
+    /// `signin <session> <channel>`: the verdict on the packets.
     SignIn {
+        session: u64,
         cid: u32,
     },
     /// `table`: the registered credentials.
     Table,
+    /// `backup`: which of them are eligible for backup.
+    Backup,
+    /// `retire <id>`: the credential is retired.
+    Retire(Vec<u8>),
 }
 
 /// Why a script ends.
@@ -83,19 +91,56 @@ fn array<const N: usize>(alloc: Global, field: &str) -> Result<[u8; N], Fault> {
 /// The COSE key of a field in hex.
 fn key(alloc: Global, field: &str) -> Result<CoseKey, Fault> {
     let encoded = bytes(alloc, field)?;
-    match decode_all(alloc, &encoded) {
-        Ok(value) => CoseKey::from_value(&value).map_err(|_| Fault::BadScript),
-        Err(ccbor::Error::Memory) => Err(Fault::Memory),
-        Err(_) => Err(Fault::BadScript),
+    let Ok(value) = View::check_all(&encoded) else {
+        return Err(Fault::BadScript);
+    };
+    CoseKey::from_view(&value).map_err(|_| Fault::BadScript)
+}
+
+/// Whether a field has one or more decimal digits and nothing else.
+fn is_decimal(field: &str) -> bool {
+    !field.is_empty() && field.bytes().all(|b| b.is_ascii_digit())
+}
+
+/// The credential of a `row` line, which is not retired, and whose eligibility for backup is unknown.
+fn row(alloc: Global, id: &str, user: &str, found: &str, count: &str) -> Result<Row, Fault> {
+    if !is_decimal(count) {
+        return Err(Fault::BadScript);
+    }
+    Ok(Row {
+        id: bytes(alloc, id)?,
+        user: bytes(alloc, user)?,
+        key: key(alloc, found)?,
+        sign_count: count.parse::<u32>().map_err(|_| Fault::BadScript)?,
+        eligible: None,
+        retired: false,
+    })
+}
+
+/// The user handle of a field, `-` for none.
+fn user(alloc: Global, field: &str) -> Result<Option<Vec<u8>>, Fault> {
+    if field == "-" {
+        return Ok(None);
+    }
+    Ok(Some(bytes(alloc, field)?))
+}
+
+/// The truth value of a field, `0` or `1`.
+fn truth(field: &str) -> Result<bool, Fault> {
+    match field {
+        "0" => Ok(false),
+        "1" => Ok(true),
+        _ => Err(Fault::BadScript),
     }
 }
 
-/// The number of one or more decimal digits.
-fn decimal(field: &str) -> Result<u32, Fault> {
-    if !field.bytes().all(|b| b.is_ascii_digit()) {
-        return Err(Fault::BadScript);
+/// The ids of fields in hex.
+fn ids(alloc: Global, fields: &[&str]) -> Result<Vec<Vec<u8>>, Fault> {
+    let mut ids = Vec::new(alloc);
+    for field in fields {
+        ids.push(bytes(alloc, field)?)?;
     }
-    field.parse::<u32>().map_err(|_| Fault::BadScript)
+    Ok(ids)
 }
 
 /// The packet that begins with these bytes and goes on with zeros.
@@ -108,18 +153,29 @@ fn packet(bytes: &[u8]) -> Result<Packet, Fault> {
     Ok(Packet(filled))
 }
 
+/// The number of a session.
+fn session(field: &str) -> Result<u64, Fault> {
+    if !is_decimal(field) {
+        return Err(Fault::BadScript);
+    }
+    field.parse::<u64>().map_err(|_| Fault::BadScript)
+}
+
 /// The line that a text is.
 pub fn parse_line<'a>(alloc: Global, text: &'a str) -> Result<Line<'a>, Fault> {
+    if let Some(client_data) = text.strip_prefix("client ") {
+        return Ok(Line::Client(client_data));
+    }
     let fields: Vec<&str> = text.split(' ').collect(alloc)?;
     match fields.as_slice() {
         ["site", rp_id, origin] => Ok(Line::Site { rp_id, origin }),
-        ["row", id, user, found, count] => Ok(Line::Row {
-            id: bytes(alloc, id)?,
-            user: bytes(alloc, user)?,
-            key: key(alloc, found)?,
-            count: decimal(count)?,
+        ["row", id, user, found, count] => Ok(Line::Row(row(alloc, id, user, found, count)?)),
+        ["session", named, verified, words, listed @ ..] => Ok(Line::Session {
+            user: user(alloc, named)?,
+            verified: truth(verified)?,
+            words: array(alloc, words)?,
+            allow: ids(alloc, listed)?,
         }),
-        ["hash", hash] => Ok(Line::Hash(array(alloc, hash)?)),
         ["valid", found, auth_data, sig] => Ok(Line::Valid {
             key: key(alloc, found)?,
             auth_data: bytes(alloc, auth_data)?,
@@ -127,10 +183,13 @@ pub fn parse_line<'a>(alloc: Global, text: &'a str) -> Result<Line<'a>, Fault> {
         }),
         ["packet", found] => Ok(Line::Packet(packet(&bytes(alloc, found)?)?)),
         ["clear"] => Ok(Line::Clear),
-        ["signin", "0", channel] => Ok(Line::SignIn {
+        ["signin", number, channel] => Ok(Line::SignIn {
+            session: session(number)?,
             cid: u32::from_be_bytes(array(alloc, channel)?),
         }),
         ["table"] => Ok(Line::Table),
+        ["backup"] => Ok(Line::Backup),
+        ["retire", id] => Ok(Line::Retire(bytes(alloc, id)?)),
         _ => Err(Fault::BadScript),
     }
 }

@@ -1,4 +1,4 @@
-//! Tests of the program `passkey` and of the site's table: printed texts, statuses and rows from outside.
+//! Tests of the program `passkey`, from outside: printed texts and statuses.
 #![tactic(auto)]
 
 #[cfg(test)]
@@ -12,10 +12,10 @@ mod packets;
 #[cfg(test)]
 mod running;
 #[cfg(test)]
+mod script_rows;
+#[cfg(test)]
 mod scripts;
 #[cfg(test)]
 mod streams;
-#[cfg(test)]
-mod table;
 #[cfg(test)]
 mod words;

@@ -13,7 +13,7 @@ use Rattle.std.specs.Map.{lookup}
 use Rattle.std.specs.BTreeMap as tree
 use Rattle.std.specs.BTreeMap.{BTreeMap}
 use Rattle.std.specs.FinMap as finite
-use Rattle.std.specs.FinMap.{same_map, find, get-from_entries, get-insert, get-remove, nat_cmp-IsAntisymmetric, get-empty, len-empty, len-insert, len-remove, gets}
+use Rattle.std.specs.FinMap.{same_map, find, get-from_entries, get-insert, get-remove, nat_cmp-IsAntisymmetric, get-empty, len-insert, len-remove, gets}
 use Rattle.sessions.specs.Views.{expected_by, expected_in, entry_of}
 use Rattle.sessions.specs.declared.session.Session.{Session}
 

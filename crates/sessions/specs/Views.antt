@@ -1,8 +1,7 @@
 -- What the crate's types stand for.
-use Rattle.std.specs.Prelude.{◌≡◌, ℕ, List, map, option_map}
+use Rattle.std.specs.Prelude.{ℕ, List, map}
 use Rattle.std.specs.FinMap as finite
 use Rattle.std.specs.Ordering.{nat_cmp}
-use Rattle.std.specs.Borrow.{Bor}
 use Rattle.verification.specs.Views.{sign_in_of, registration_of}
 use Rattle.sessions.specs.declared.session.Session.{Session}
 use Rattle.sessions.specs.declared.session.Session.TheVariants as variants

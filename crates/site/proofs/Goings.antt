@@ -1,6 +1,6 @@
 -- What happens to a site, and what it keeps.
-use Rattle.std.proofs.Common.{◌≡◌, ◌<◌, ◌≤◌, ◌-◌, ◌^◌, ℕ, List, [], ◌∷◌, ◌++◌, Option, Some, None, Bool, true, false, sym, ◌∙◌, ap, refl, subst, arith, inl, inr}
-use Rattle.std.specs.Prelude.{◌⊎◌, IsSome, is_some, take, drop}
+use Rattle.std.proofs.Common.{◌≡◌, ◌<◌, ◌≤◌, ◌-◌, ◌^◌, ℕ, List, [], ◌∷◌, ◌++◌, Option, Some, None, true, false, sym, ◌∙◌, ap, refl, subst, arith, inl, inr}
+use Rattle.std.specs.Prelude.{◌⊎◌, IsSome, take, drop}
 use Rattle.std.specs.Int.{w64, to_be_bytes, from_be_bytes}
 use Rattle.std.proofs.lemmas.Nat.{from_be_bytes-to_be_bytes_8}
 use Rattle.std.proofs.lemmas.List.{drop_at, take_at}
@@ -8,7 +8,7 @@ use Rattle.std.proofs.lemmas.Grind.{common_steps}
 use Rattle.std.specs.FinMap.{gets}
 use Rattle.std.specs.FinMap as finite
 use Rattle.authdata.specs.Flags.{is_set, BE}
-use Rattle.authdata.specs.Layout.{AuthenticatorData, AttestedCredential, AuthOf}
+use Rattle.authdata.specs.Layout.{AuthenticatorData, AuthOf}
 use Rattle.authdata.specs.Responses.{Assertion}
 use Rattle.authdata.specs.Responses as responses
 use Rattle.verification.specs.Records.{RelyingParty, Credential, Registration, SignIn}
@@ -19,10 +19,12 @@ use Rattle.verification.specs.Registration as registration
 use Rattle.verification.specs.Registration.{Attests}
 use Rattle.credentials.specs.Table.{row_of, with_row, signed_in, retired}
 use Rattle.credentials.proofs.RowLemmas.{found_id}
+use Rattle.saved_table.specs.Saved.{TableOf}
+use Rattle.saved_table.proofs.Tables.{one_saved}
 use Rattle.sessions.specs.Sessions.{Expected, ForSignIn, ForRegistration, Opening, OpensSignIn, OpensRegistration, begun, challenge_of, closed, expected_of, for_registration, for_sign_in, sign_in_at}
-use Rattle.site.specs.State.{State, IsAfterRegistration, IsAfterSignIn, attempt_in, enrolment_in, none_open, registered}
-use Rattle.site.specs.Laws.{GoesOn, IsFresh, IsGone, IsKept, IsNumbered, Keeps, SiteLaws, Takes, after_abandon, after_begin, after_restart, after_retire, challenge_in}
-use Rattle.site.proofs.Judged.{no_row, same_attempt, some_row}
+use Rattle.site.specs.State.{State, IsAfterRegistration, IsAfterSignIn, attempt_in, enrolment_in, registered, saved_of}
+use Rattle.site.specs.Laws.{GoesOn, IsFresh, IsGone, IsNumbered, Keeps, SiteLaws, Takes, after_abandon, after_begin, after_restart, after_retire, challenge_in}
+use Rattle.site.proofs.Judged.{no_row, same_attempt}
 use Rattle.site.proofs.Kept.{KeptBy, kept_changed, kept_here, kept_onward, row_before, row_changed}
 
 -- ---- going on
@@ -207,6 +209,11 @@ registered_refused : (valid : Relation) (s : State) (n : ℕ) (r : responses.Reg
     → registration.Attested r (λ o a c. row_of c.id s.rows ≡ None)
 registered_refused valid s n r passes o a c attests = no_row (row_of c.id s.rows) (passes.1.1.1.1.1.1.1.1.1.1.1.1.1.1.0 o a c attests)
 
+one_table : (s t : State) (v w : ℕ) (bs : List ℕ) → TableOf v (saved_of s) bs → TableOf w (saved_of t) bs → (t.rows ≡ s.rows) × (t.sessions.next ≡ s.sessions.next)
+one_table s t v w bs a b =
+    let same = (one_saved v w (saved_of s) (saved_of t) bs a b).1 in
+    (ap (λ x. x.rows) (sym same), ap (λ x. x.next) (sym same))
+
 pub laws : (valid : Relation) → SiteLaws valid
 laws valid = record {
   stays = stays;
@@ -224,4 +231,5 @@ laws valid = record {
   judged = judged;
   retired_refused = retired_refused valid;
   registered_refused = registered_refused valid;
+  one_saved = one_table;
 }

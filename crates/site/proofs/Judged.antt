@@ -1,5 +1,5 @@
 -- A response as it is judged, by what the table and the sessions answer.
-use Rattle.std.proofs.Common.{◌≡◌, ◌<◌, ◌≤◌, ◌↔◌, ℕ, List, sym, ◌∙◌, ap, refl, subst, inl, inr, arith, nat_lt, length}
+use Rattle.std.proofs.Common.{◌≡◌, ◌<◌, ◌≤◌, ◌↔◌, ℕ, List, ◌∙◌, ap, refl, subst, inl, inr, arith, nat_lt, length}
 use Rattle.std.proofs.lemmas.Grind.{common_steps}
 use Rattle.std.proofs.lemmas.Bool.{cases_Bool}
 use Rattle.std.specs.Prelude.{Bool, true, false, not, Option, Some, None, IfSome, IsSome, IsTrue, is_some, option_map}

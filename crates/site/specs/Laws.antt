@@ -10,8 +10,9 @@ use Rattle.verification.specs.Shared.{Relation}
 use Rattle.verification.specs.Authentication as authentication
 use Rattle.verification.specs.Registration as registration
 use Rattle.credentials.specs.Table.{row_of, with_row, signed_in, retired}
+use Rattle.saved_table.specs.Saved.{TableOf}
 use Rattle.sessions.specs.Sessions.{Expected, ForSignIn, ForRegistration, Opening, begun, challenge_of, closed, sign_in_at}
-use Rattle.site.specs.State.{State, attempt_in, enrolment_in, IsAfterSignIn, IsAfterRegistration, none_open}
+use Rattle.site.specs.State.{State, attempt_in, enrolment_in, IsAfterSignIn, IsAfterRegistration, none_open, saved_of}
 
 -- the credential is still there: its key and its user are what they were, its counter has not fallen, what is known
 -- of its eligibility is known, and if it was retired it is
@@ -98,3 +99,6 @@ pub record SiteLaws (valid : Relation) : Type 0 where
       → authentication.PassesAll valid (attempt_in s n r) → ⊥
   pub registered_refused : (s : State) (n : ℕ) (r : responses.Registration) → registration.PassesAll valid (enrolment_in s n r)
       → registration.Attested r (λ o a c. row_of c.id s.rows ≡ None)
+  -- what was saved is loaded: the same bytes are those of one table and one next number
+  pub one_saved : (s t : State) (v w : ℕ) (bytes : List ℕ) → TableOf v (saved_of s) bytes → TableOf w (saved_of t) bytes
+      → (t.rows ≡ s.rows) × (t.sessions.next ≡ s.sessions.next)

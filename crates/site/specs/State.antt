@@ -1,7 +1,7 @@
 -- What a relying party keeps (WebAuthn Level 2, section 7), and how its calls change it.
 use Rattle.std.specs.Prelude.{◌≡◌, ◌≤◌, ℕ, List, [], ◌∷◌, ◌++◌, length, is_some, not, nat_lt, Some, false}
 use Rattle.std.specs.FinMap as finite
-use Rattle.authdata.specs.Flags.{is_set, BE, BS}
+use Rattle.authdata.specs.Flags.{is_set, BE}
 use Rattle.authdata.specs.Layout.{AuthenticatorData, AttestedCredential, AuthOf}
 use Rattle.authdata.specs.Objects.{Attestation}
 use Rattle.authdata.specs.Responses.{Assertion}
@@ -10,7 +10,8 @@ use Rattle.verification.specs.Records.{RelyingParty, Credential, Registration}
 use Rattle.verification.specs.Authentication.{Attempt}
 use Rattle.verification.specs.Registration.{Enrolment, Attests}
 use Rattle.verification.specs.declared.party.Policy.{Policy}
-use Rattle.credentials.specs.Table.{row_of, with_row, signed_in, retired, IsWithin}
+use Rattle.credentials.specs.Table.{row_of, with_row, signed_in, IsWithin}
+use Rattle.saved_table.specs.Saved.{Saved}
 use Rattle.sessions.specs.Sessions.{Open, closed, registration_at, sign_in_at}
 
 -- the relying party; the attestations that it accepts; its credentials in order of registration; its sessions
@@ -27,6 +28,10 @@ IsParty rp = IsWithin 253 rp.rp_id × (1 ≤ length rp.origins)
 -- no session is open
 abbrev pub none_open : ℕ → Open
 none_open next = record { expected = finite.empty; next = next }
+
+-- what is kept over a restart
+abbrev pub saved_of : State → Saved
+saved_of s = record { rp_id = s.rp.rp_id; next = s.sessions.next; rows = s.rows }
 
 -- ---- sign-in
 

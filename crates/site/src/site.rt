@@ -1,18 +1,20 @@
 //! The site.
 
-ghost use Rattle.std.specs.Prelude.{◌≡◌, ◌≢◌, ◌↔◌, ◌≤◌, ◌<◌, [], IfErr, IfOk, IfSome, IsErrOf, IsSome, IsTrue, OnErr, OnOk, false, is_some, length, map, option_map, true};
+ghost use Rattle.std.specs.Prelude.{◌≡◌, ◌≢◌, ◌↔◌, ◌≤◌, ◌<◌, [], IfErr, IfOk, IfSome, IsErrOf, IsSome, IsTrue, OnErr, OnOk, ℕ, false, is_some, length, map, option_map, true};
 ghost use Rattle.std.specs.FinMap as finite;
 ghost use Rattle.std.specs.Option.{ForSome};
 ghost use Rattle.verification.specs.Views.{credential_of as credential_shown, texts_of};
 ghost use Rattle.credentials.specs.Table.{IsTable, retired, row_of, with_row};
 ghost use Rattle.credentials.specs.Views.{credentials_of, kept_of};
 ghost use Rattle.sessions.specs.Sessions.{IsRefused, OpensRegistration, OpensSignIn, PassesAll, begun, challenge_of, closed};
-ghost use Rattle.site.specs.State.{IsParty, none_open};
+ghost use Rattle.saved_table.specs.Saved.{AppendsTable, Saved, TableOf};
+ghost use Rattle.site.specs.State.{IsParty, none_open, saved_of};
 ghost use Rattle.site.specs.declared.error.Error.TheVariants as errors;
 
 use crate::error::Error;
 use cose::Alg;
 use credentials::{Row, Rows, Table, is_within};
+use saved_table::{Loaded, save};
 use sessions::{Sessions, Started};
 use std::alloc::{AllocError, Global};
 use std::marker::Model;
@@ -80,12 +82,7 @@ impl Site {
     ///
     /// `BadInput` where the rp id is not of 1 to 253 bytes or there is no origin; `Memory` where there was none for
     /// the copies of the texts. An origin is compared as a text.
-    pub fn new(
-        alloc: Global,
-        rp_id: &str,
-        origins: &[&str],
-        policy: Policy,
-    ) -> Result<Site, Error>
+    pub fn new(alloc: Global, rp_id: &str, origins: &[&str], policy: Policy) -> Result<Site, Error>
         ensures made { IfOk result (λ s. s ≡ record { rp = record { rp_id = rp_id.now; origins = texts_of origins.now }; policy = policy; rows = []; sessions = none_open 1 }) }
         ensures input { IsErrOf result Error.BadInput ↔ ¬ IsParty (record { rp_id = rp_id.now; origins = texts_of origins.now }) }
         ensures no_table { IfErr result (λ e. e ≢ errors.BadTable) }
@@ -136,6 +133,44 @@ impl Site {
             Err(credentials::Error::BadTable) => Err(Error::BadTable),
             Err(credentials::Error::Memory) => Err(Error::Memory),
         }
+    }
+
+    /// The site that was saved, by `save` or in an earlier version of its bytes, without open sessions; the session
+    /// numbers go on.
+    ///
+    /// `BadInput` as for `new`; then `BadTable` where the bytes are not what is saved of a site with this rp id, in
+    /// version 1, 2 or 3.
+    pub fn load(
+        alloc: Global,
+        bytes: &[u8],
+        rp_id: &str,
+        origins: &[&str],
+        policy: Policy,
+    ) -> Result<Site, Error>
+        ensures loaded { IfOk result (λ s. ((version : ℕ) × TableOf version (saved_of s) bytes.now)
+            × (s ≡ record { rp = record { rp_id = rp_id.now; origins = texts_of origins.now }; policy = policy; rows = s.rows; sessions = none_open s.sessions.next })) }
+        ensures input { IsErrOf result Error.BadInput ↔ ¬ IsParty (record { rp_id = rp_id.now; origins = texts_of origins.now }) }
+        ensures table { IsErrOf result Error.BadTable → (version : ℕ) (saved : Saved) → saved.rp_id ≡ rp_id.now → TableOf version saved bytes.now → ⊥ }
+    {
+        if !is_party(rp_id, origins) {
+            return Err(Error::BadInput);
+        }
+        match saved_table::load(alloc, bytes, rp_id) {
+            Ok(Loaded { table, next }) => {
+                Ok(site_with(alloc, rp_id, origins, policy, table, next)?)
+            }
+            Err(saved_table::Error::BadTable) => Err(Error::BadTable),
+            Err(saved_table::Error::Memory) => Err(Error::Memory),
+        }
+    }
+
+    /// Appends what is kept of the site over a restart: its rp id, the number of the next session, and the
+    /// credentials, retired ones too. Where there is no memory nothing is appended.
+    pub fn save(&self, out: &mut Vec<u8>) -> Result<(), AllocError>
+        ensures saved { OnOk result (AppendsTable (saved_of self.now) out.old.items out.new.items) }
+        ensures unchanged { OnErr result (out.new.items ≡ out.old.items) }
+    {
+        save(self.party.rp_id(), self.sessions.next(), &self.table, out)
     }
 
     /// Begins a sign-in: of the account with this user handle, where it is known beforehand; with one of these

@@ -1,4 +1,3 @@
-use Rattle.std.proofs.Common.{rules}
 use Rattle.sessions.proofs.Limits.{within_at}
 use Rattle.sessions.proofs.sessions.are_ids.Goals as goal
 

@@ -1,4 +1,4 @@
-use Rattle.std.proofs.Common.{◌≡◌, ◌<◌, ◌∙◌, ap, arith, refl, rules, sym, subst, length}
+use Rattle.std.proofs.Common.{◌<◌, arith, refl, rules, sym, subst}
 use Rattle.std.specs.FinMap as finite
 use Rattle.first_line.proofs.Laws.{first_at}
 use Rattle.sessions.proofs.sessions.Sessions.admit.Goals as goal

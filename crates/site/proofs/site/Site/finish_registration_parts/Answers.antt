@@ -1,9 +1,9 @@
 use Rattle.std.proofs.Common.{◌≡◌, ◌∙◌, ap, sym, subst, ◌++◌, ◌∷◌, []}
-use Rattle.std.specs.Prelude.{None, Some, is_some, option_map}
+use Rattle.std.specs.Prelude.{None, is_some, option_map}
 use Rattle.std.proofs.lemmas.Result.{err_from_is_err_and}
 use Rattle.verification.specs.Registration.{IsFirstFailing, PassesAll}
 use Rattle.verification.specs.RegistrationAnswers.{IsRefused}
-use Rattle.verification.specs.Views.{enrolment_of, registration_of, registration_response_of}
+use Rattle.verification.specs.Views.{registration_of, registration_response_of}
 use Rattle.credentials.specs.Table.{IsWithin, row_of}
 use Rattle.site.proofs.Judged.{admitted_as, same_row, all_pass, attested_limits, has_room, is_full, no_row, said_full, said_row, same_enrolment, same_state, some_seen, table_fails}
 use Rattle.site.proofs.site.Site.finish_registration_parts.Goals as goal
