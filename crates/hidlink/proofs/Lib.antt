@@ -14,3 +14,5 @@ pub mod Steps
 pub mod Calls
 pub mod Hearing
 pub mod Telling
+pub mod Whole
+pub mod Cancels
