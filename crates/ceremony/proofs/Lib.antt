@@ -1,4 +1,3 @@
-pub mod Replies
-pub mod Verdicts
-pub mod Lists
-pub mod OneVerdict
+pub mod Taken
+pub mod Feeding
+pub mod Acting

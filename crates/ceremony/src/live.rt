@@ -1,0 +1,105 @@
+//! A ceremony's packets, one at a time.
+
+ghost use Rattle.std.specs.Prelude.{◌≡◌, ◌≤◌, ◌<◌, ◌+◌, ◌^◌, ◌++◌, [], ◌∷◌, List, ℕ, IfOk, OnOk, OnErr};
+ghost use Rattle.hidframe.specs.declared.Packet.{Packet};
+ghost use Rattle.hidlink.specs.Feeds.{Answers};
+ghost use Rattle.hidlink.specs.Wire.{Got};
+ghost use Rattle.ceremony.specs.Packets as packets;
+ghost use Rattle.ceremony.specs.Packets.{HasGot};
+
+use hidframe::Packet;
+use hidlink::{Collector, Ended, Outcome};
+use std::alloc::{AllocError, Global};
+use std::marker::Model;
+
+/// Whether more packets are wanted.
+#[derive(Clone, Copy, Debug, PartialEq, Eq, Drop)]
+pub enum Fed {
+    /// More packets are wanted.
+    More,
+    /// A message is complete, or none can come any more.
+    Ready,
+}
+
+/// A ceremony whose packets come one at a time. It makes room for one message, of at most 7,609 bytes, when it is made.
+#[derive(Drop)]
+pub struct Live {
+    pub(crate) collector: Collector,
+    pub(crate) taken: u64,
+}
+
+impl Model for Live {
+    ghost use Rattle.std.specs.Prelude.{List};
+    ghost use Rattle.hidframe.specs.declared.Packet.{Packet};
+    ghost use Rattle.ceremony.specs.Packets.{Collected, HasGot};
+
+    ghost Value = { Collected };
+
+    ghost view = { λ l. record { cid = l.collector.cid; shown = l.collector.shown; taken = l.taken } };
+
+    ghost invariant = { λ l. (ps : List Packet) × HasGot (record { cid = l.collector.cid; shown = l.collector.shown; taken = l.taken }) ps };
+}
+
+/// Hands a packet to a collector.
+fn collect(collector: &mut Collector, packet: &Packet) -> Result<Fed, Ended>
+    ensures channel { collector.new.cid ≡ collector.old.cid }
+    ensures got { (ps : List Packet) → Got collector.old.cid ps collector.old.shown
+        → Got collector.old.cid (ps ++ packet.now ∷ []) collector.new.shown }
+    ensures answer { (ps : List Packet) → Got collector.old.cid ps collector.old.shown
+        → packets.Answers collector.old.cid ps packet.now result }
+{
+    match collector.feed(packet) {
+        Ok(outcome) => match outcome {
+            Outcome::More => Ok(Fed::More),
+            _ => Ok(Fed::Ready),
+        },
+        Err(ended) => Err(ended),
+    }
+}
+
+impl Live {
+    /// A ceremony on channel `cid`. Takes the memory that its packets need.
+    pub fn new(alloc: Global, cid: u32) -> Result<Self, AllocError>
+        ensures channel { IfOk result (λ l. l.cid ≡ cid) }
+        ensures got { IfOk result (λ l. HasGot l []) }
+    {
+        Ok(Live {
+            collector: Collector::new(alloc, cid)?,
+            taken: 0,
+        })
+    }
+
+    /// Begins anew, on channel `cid`, in the room that it has. Takes no memory.
+    pub fn restart(&mut self, cid: u32)
+        ensures channel { self.new.cid ≡ cid }
+        ensures got { HasGot self.new [] }
+    {
+        self.collector.restart(cid);
+        self.taken = 0;
+    }
+
+    /// Takes a packet that came from the device after the request was sent, of this channel or another.
+    ///
+    /// Refused as [`Ended`] (5) after `Ready`: the packet changes nothing. Takes no memory. The caller sees to it that
+    /// fewer than 2^64 - 1 packets are taken.
+    pub fn feed(&mut self, packet: &Packet) -> Result<Fed, Ended>
+        requires { self.old.taken + 1 < 2 ^ 64 }
+        ensures channel { self.new.cid ≡ self.old.cid }
+        ensures got { (ps : List Packet) → HasGot self.old ps → HasGot self.new (ps ++ packet.now ∷ []) }
+        ensures answer { (ps : List Packet) → HasGot self.old ps → packets.Answers self.old.cid ps packet.now result }
+    {
+        let fed = match collect(&mut self.collector, packet) {
+            Ok(fed) => fed,
+            Err(ended) => return Err(ended),
+        };
+        self.taken += 1;
+        Ok(fed)
+    }
+
+    /// How many packets it has taken: those up to the one that was answered `Ready`. Takes no memory.
+    pub fn fed(&self) -> u64
+        ensures { result ≡ self.now.taken }
+    {
+        self.taken
+    }
+}
