@@ -17,10 +17,10 @@ other_id x y e = elim (cases_Bool (bytes_eq y x)) [
 ]
 
 -- the first of more rows has the id, or it is found behind it
-here : (id : List ℕ) (r : Credential) (rows : List Credential) → bytes_eq id r.id ≡ true → row_of id (r ∷ rows) ≡ Some r
+pub here : (id : List ℕ) (r : Credential) (rows : List Credential) → bytes_eq id r.id ≡ true → row_of id (r ∷ rows) ≡ Some r
 here id r rows e = ap (λ b. cond b (Some r) (row_of id rows)) e
 
-behind : (id : List ℕ) (r : Credential) (rows : List Credential) → bytes_eq id r.id ≡ false → row_of id (r ∷ rows) ≡ row_of id rows
+pub behind : (id : List ℕ) (r : Credential) (rows : List Credential) → bytes_eq id r.id ≡ false → row_of id (r ∷ rows) ≡ row_of id rows
 behind id r rows e = ap (λ b. cond b (Some r) (row_of id rows)) e
 
 -- an id that none has is another than the first's, and none behind has it
@@ -71,10 +71,10 @@ pub record Keeps (change : Credential → Credential) : Type 0 where
   pub id : (r : Credential) → (change r).id ≡ r.id
   pub user : (r : Credential) → (change r).user ≡ r.user
 
-with_here : (id : List ℕ) (change : Credential → Credential) (r : Credential) (rows : List Credential) → bytes_eq id r.id ≡ true → with_row id change (r ∷ rows) ≡ change r ∷ rows
+pub with_here : (id : List ℕ) (change : Credential → Credential) (r : Credential) (rows : List Credential) → bytes_eq id r.id ≡ true → with_row id change (r ∷ rows) ≡ change r ∷ rows
 with_here id change r rows e = ap (λ b. cond b (change r ∷ rows) (r ∷ with_row id change rows)) e
 
-with_behind : (id : List ℕ) (change : Credential → Credential) (r : Credential) (rows : List Credential) → bytes_eq id r.id ≡ false → with_row id change (r ∷ rows) ≡ r ∷ with_row id change rows
+pub with_behind : (id : List ℕ) (change : Credential → Credential) (r : Credential) (rows : List Credential) → bytes_eq id r.id ≡ false → with_row id change (r ∷ rows) ≡ r ∷ with_row id change rows
 with_behind id change r rows e = ap (λ b. cond b (change r ∷ rows) (r ∷ with_row id change rows)) e
 
 pub length-changed : (id : List ℕ) (change : Credential → Credential) (rows : List Credential) → length (with_row id change rows) ≡ length rows

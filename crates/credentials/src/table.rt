@@ -12,7 +12,7 @@ ghost use Rattle.credentials.specs.declared.table.Error.TheVariants as errors;
 use crate::row::{Kept, Row};
 use indexmap::IndexMap;
 use indexmap::map::Iter;
-use std::alloc::{AllocError, AllocFailed, Global};
+use std::alloc::{AllocError, Global};
 use std::marker::Model;
 use verification::CredentialView;
 
@@ -36,10 +36,10 @@ pub enum Error {
     Memory,
 }
 
-impl<T: Drop> From<AllocFailed<T>> for Error {
+impl From<AllocError> for Error {
     ghost from_gives = { λ _ e. e ≡ errors.Memory };
 
-    fn from(_e: AllocFailed<T>) -> Error {
+    fn from(_e: AllocError) -> Error {
         Error::Memory
     }
 }
@@ -64,7 +64,7 @@ impl Model for Table {
 }
 
 /// Whether an id or a user handle has 1 to `most` bytes.
-fn is_within(bytes: &[u8], most: usize) -> bool
+pub fn is_within(bytes: &[u8], most: usize) -> bool
     ensures { IsTrue result ↔ IsWithin most bytes.now }
 {
     1 <= bytes.len() && bytes.len() <= most
@@ -193,13 +193,12 @@ impl Table {
     }
 
     /// Adds a credential behind the others. Where there is no memory nothing has changed.
-    pub fn push(&mut self, row: Row) -> Result<(), Error>
+    pub fn push(&mut self, row: Row) -> Result<(), AllocError>
         requires limits { IsRow (credential_of row) }
         requires absent { row_of row.id.items self.old ≡ None }
         requires room { length self.old < 65536 }
         ensures pushed { OnOk result (self.new ≡ self.old ++ credential_of row ∷ []) }
         ensures unchanged { OnErr result (self.new ≡ self.old) }
-        ensures memory { IfErr result (λ e. e ≡ errors.Memory) }
     {
         let Row {
             id,

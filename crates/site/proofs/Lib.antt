@@ -1,2 +1,3 @@
-pub mod Tables
-pub mod Order
+pub mod Judged
+pub mod Kept
+pub mod Goings

@@ -1,30 +1,26 @@
--- What a sign-in answers.
-use Rattle.std.specs.Prelude.{◌≡◌, ℕ, List, option_map}
+-- What the calls of a site answer.
+use Rattle.std.specs.Prelude.{◌≡◌, ℕ, List}
 use Rattle.std.specs.Option.{ForSome}
-use Rattle.site.specs.State.{State, row_of}
-use Rattle.site.specs.Steps.{Relation, Assertion, IsFirstFailing}
-use Rattle.site.specs.declared.error.Error.{Error}
-use Rattle.site.specs.declared.error.Error.TheVariants as errors
-use Rattle.site.specs.declared.sign_in.AssertionParts.{AssertionParts}
+use Rattle.authdata.specs.Flags.{is_set, BS}
+use Rattle.authdata.specs.Layout.{AuthenticatorData, AttestedCredential, AuthOf}
+use Rattle.authdata.specs.Objects.{Attestation}
+use Rattle.authdata.specs.Responses.{Assertion}
+use Rattle.authdata.specs.Responses as responses
+use Rattle.verification.specs.Registration.{Attests}
+use Rattle.credentials.specs.Table.{row_of}
+use Rattle.site.specs.State.{State}
 use Rattle.site.specs.declared.sign_in.SignedIn.{SignedIn}
+use Rattle.site.specs.declared.registration.Registered.{Registered}
 
--- the assertion that is lent
-abbrev pub assertion_of : AssertionParts → Assertion
-assertion_of p = record {
-  credential = p.credential.now;
-  user = option_map (λ u. u.now) p.user;
-  auth_data = p.auth_data.now;
-  signature = p.signature.now;
-}
-
--- who signed in, and with which credential: the user is that of the credential's row
+-- who signed in, with which credential, and whether it is backed up: the user is that of the credential, the mark
+-- is what came
 abbrev pub IsSignedIn : State → Assertion → SignedIn → Type 0
 IsSignedIn s r x =
-    ForSome (row_of r.credential s.rows) (λ row. x.user.items ≡ row.user) × (x.credential.items ≡ r.credential)
+    ForSome (row_of r.credential s.rows) (λ row. x.user.items ≡ row.user)
+    × (x.credential.items ≡ r.credential)
+    × ((a : AuthenticatorData) × AuthOf a r.auth_data × (x.backed_up ≡ is_set a.flags BS))
 
--- a step is named that is the first to fail; want of memory says nothing
-abbrev pub Refused : Relation → State → List ℕ → Assertion → Error → Type 0
-Refused valid s hash r (errors.SignIn w) = IsFirstFailing valid s hash r w
-Refused valid s hash r errors.Memory = Unit {0}
-Refused valid s hash r errors.BadInput = ⊥
-Refused valid s hash r errors.BadTable = ⊥
+-- the credential that the response attests
+abbrev pub IsRegistered : responses.Registration → Registered → Type 0
+IsRegistered r x =
+    (o : Attestation) × (a : AuthenticatorData) × (c : AttestedCredential) × Attests r o a c × (x.credential.items ≡ c.id)

@@ -1,5 +1,5 @@
 pub mod State
-pub mod Views
-pub mod Numbers
-pub mod Steps
 pub mod Answers
+pub mod Laws
+pub mod Numbers
+pub mod Codes

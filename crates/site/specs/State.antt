@@ -1,51 +1,73 @@
--- What a relying party keeps (WebAuthn Level 2, section 7).
-use Rattle.std.specs.Prelude.{◌≡◌, ◌≤◌, ℕ, List, [], ◌∷◌, length, Option, Some, None, if◌then◌else◌}
-use Rattle.std.specs.Str.{bytes_eq}
-use Rattle.cose.specs.declared.key.CoseKey.{CoseKey}
-use Rattle.site.specs.declared.row.Policy.{Policy}
+-- What a relying party keeps (WebAuthn Level 2, section 7), and how its calls change it.
+use Rattle.std.specs.Prelude.{◌≡◌, ◌≤◌, ℕ, List, [], ◌∷◌, ◌++◌, length, is_some, not, nat_lt, Some, false}
+use Rattle.std.specs.FinMap as finite
+use Rattle.authdata.specs.Flags.{is_set, BE, BS}
+use Rattle.authdata.specs.Layout.{AuthenticatorData, AttestedCredential, AuthOf}
+use Rattle.authdata.specs.Objects.{Attestation}
+use Rattle.authdata.specs.Responses.{Assertion}
+use Rattle.authdata.specs.Responses as responses
+use Rattle.verification.specs.Records.{RelyingParty, Credential, Registration}
+use Rattle.verification.specs.Authentication.{Attempt}
+use Rattle.verification.specs.Registration.{Enrolment, Attests}
+use Rattle.verification.specs.declared.party.Policy.{Policy}
+use Rattle.credentials.specs.Table.{row_of, with_row, signed_in, retired, IsWithin}
+use Rattle.sessions.specs.Sessions.{Open, closed, registration_at, sign_in_at}
 
--- a registered credential: its id, the user handle, the public key and the counter last received
-pub record Credential : Type 0 where
-  pub id : List ℕ
-  pub user : List ℕ
-  pub key : CoseKey
-  pub count : ℕ
-
--- the credentials stand in order of registration
+-- the relying party; the attestations that it accepts; its credentials in order of registration; its sessions
 pub record State : Type 0 where
-  pub rp_id : List ℕ
-  pub origins : List (List ℕ)
+  pub rp : RelyingParty
   pub policy : Policy
   pub rows : List Credential
-
--- the credential of an id
-abbrev pub row_of : List ℕ → List Credential → Option Credential
-row_of id [] = None
-row_of id (row ∷ rows) = if bytes_eq row.id id then Some row else row_of id rows
-
--- the same credentials, that of the id with another counter
-abbrev pub with_count : List ℕ → ℕ → List Credential → List Credential
-with_count id n [] = []
-with_count id n (row ∷ rows) =
-    if bytes_eq row.id id then (record row { count = n }) ∷ rows else row ∷ with_count id n rows
-
--- from 1 to n bytes
-abbrev pub IsWithin : ℕ → List ℕ → Type 0
-IsWithin n bs = (1 ≤ length bs) × (length bs ≤ n)
+  pub sessions : Open
 
 -- an rp id of 1 to 253 bytes, and at least one origin
-abbrev pub IsInput : List ℕ → List (List ℕ) → Type 0
-IsInput rp_id origins = IsWithin 253 rp_id × (1 ≤ length origins)
+abbrev pub IsParty : RelyingParty → Type 0
+IsParty rp = IsWithin 253 rp.rp_id × (1 ≤ length rp.origins)
 
--- ids and user handles of 1 to 64 bytes
-abbrev pub IsRow : Credential → Type 0
-IsRow row = IsWithin 64 row.id × IsWithin 64 row.user
+-- no session is open
+abbrev pub none_open : ℕ → Open
+none_open next = record { expected = finite.empty; next = next }
 
--- each credential is within its limits, and none behind it has its id
-abbrev pub AreRows : List Credential → Type 0
-AreRows [] = Unit {0}
-AreRows (row ∷ rows) = IsRow row × (row_of row.id rows ≡ None) × AreRows rows
+-- ---- sign-in
 
--- at most 65,536 credentials, each within its limits, no two of one id
-abbrev pub IsTable : List Credential → Type 0
-IsTable rows = (length rows ≤ 65536) × AreRows rows
+-- a response as it is judged in a session
+abbrev pub attempt_in : State → ℕ → Assertion → Attempt
+attempt_in s n r = record { rp = s.rp; session = sign_in_at n s.sessions; credential = row_of r.credential s.rows; response = r }
+
+-- after a sign-in is accepted: the credential has the signature counter and the mark of eligibility that came, and
+-- the session is closed
+abbrev pub IsAfterSignIn : State → ℕ → Assertion → State → Type 0
+IsAfterSignIn s n r new =
+    (a : AuthenticatorData) × AuthOf a r.auth_data
+    × (new ≡ record s { rows = with_row r.credential (signed_in a.sign_count (is_set a.flags BE)) s.rows; sessions = closed n s.sessions })
+
+-- ---- registration
+
+-- a response as it is judged in a session
+abbrev pub enrolment_in : State → ℕ → responses.Registration → Enrolment
+enrolment_in s n r = record {
+  rp = s.rp;
+  policy = s.policy;
+  session = registration_at n s.sessions;
+  response = r;
+  is_registered = λ id. is_some (row_of id s.rows);
+  is_full = not (nat_lt (length s.rows) 65536);
+}
+
+-- the credential that is registered: with the session's user, and the counter and the mark of eligibility that came
+abbrev pub registered : Registration → AuthenticatorData → AttestedCredential → Credential
+registered e a c = record {
+  id = c.id;
+  user = e.user;
+  key = c.key;
+  sign_count = a.sign_count;
+  eligible = Some (is_set a.flags BE);
+  retired = false;
+}
+
+-- after a registration is accepted: the credential stands last, and the session is closed
+abbrev pub IsAfterRegistration : State → ℕ → responses.Registration → State → Type 0
+IsAfterRegistration s n r new =
+    (e : Registration) × (o : Attestation) × (a : AuthenticatorData) × (c : AttestedCredential)
+    × (registration_at n s.sessions ≡ Some e) × Attests r o a c
+    × (new ≡ record s { rows = s.rows ++ registered e a c ∷ []; sessions = closed n s.sessions })

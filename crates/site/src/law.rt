@@ -1,11 +1,11 @@
-//! A law of the steps.
+//! The laws of a site.
 
-ghost use Rattle.std.specs.Prelude.{map};
-ghost use Rattle.std.specs.List.Sorted.{IsStrictlyIncreasing};
-ghost use Rattle.site.specs.Numbers.{step_number};
-ghost use Rattle.site.specs.Steps.{steps};
+ghost use Rattle.site.specs.Laws.{SiteLaws};
 
-/// The steps are tested in the order of their numbers.
-pub fn steps_in_order()
-    ensures { IsStrictlyIncreasing (map step_number steps) }
+use cose::Verifier;
+
+/// What holds of every site, whatever is asked of it, as relations between its states; the calls cite the same
+/// definitions.
+pub fn site_laws<V: Verifier>()
+    ensures { (verifier : V) → SiteLaws (V.valid verifier) }
 {}

@@ -1,15 +1,20 @@
-//! The relying party's side of WebAuthn Level 2: the table of credentials (section 7) and the steps that
-//! verify an authentication assertion (section 7.2).
+//! A relying party with its own table of credentials and its own sessions (WebAuthn Level 2, section 7).
 #![tactic(auto)]
 
 mod error;
 mod law;
-mod row;
+mod registration;
 mod sign_in;
 mod site;
 
-pub use error::{Error, SignInRefusal};
-pub use law::steps_in_order;
-pub use row::{Policy, Row, RowView, Rows};
-pub use sign_in::{AssertionParts, SignedIn};
-pub use site::{MAX_ID, MAX_ROWS, MAX_RP_ID, MAX_USER, Site};
+pub use credentials::{Row, Rows, Table};
+pub use error::Error;
+pub use law::site_laws;
+pub use registration::Registered;
+pub use sessions::{Error as BeginError, Started};
+pub use sign_in::SignedIn;
+pub use site::{MAX_RP_ID, Site};
+pub use verification::{
+    AssertionParts, CredentialView, Policy, RegistrationError, RegistrationParts,
+    RegistrationRefusal, SignInError, SignInRefusal,
+};

@@ -1,145 +1,122 @@
-//! The table of credentials.
+//! The site.
 
-ghost use Rattle.std.specs.Prelude.{◌≡◌, ◌≤◌, ◌<◌, ◌≢◌, ◌↔◌, ℕ, List, length, map, slice_index_or, IfOk, IfErr, IsErrOf, IsTrue, MatchOption, Option, Some, None, string_bytes, option_map, position};
-ghost use Rattle.std.specs.Str.{bytes_eq};
-ghost use Rattle.site.specs.State.{IsWithin, IsInput, IsRow, AreRows, IsTable, row_of, with_count};
-ghost use Rattle.site.specs.Views.{credential_of, credentials_of, texts_of};
-ghost use Rattle.site.specs.declared.row.Row.{Row};
-ghost use Rattle.site.specs.declared.error.SignInRefusal.{SignInRefusal};
+ghost use Rattle.std.specs.Prelude.{◌≡◌, ◌≢◌, ◌↔◌, ◌≤◌, ◌<◌, [], IfErr, IfOk, IfSome, IsErrOf, IsSome, IsTrue, OnErr, OnOk, false, is_some, length, map, option_map, true};
+ghost use Rattle.std.specs.FinMap as finite;
+ghost use Rattle.std.specs.Option.{ForSome};
+ghost use Rattle.verification.specs.Views.{credential_of as credential_shown, texts_of};
+ghost use Rattle.credentials.specs.Table.{IsTable, retired, row_of, with_row};
+ghost use Rattle.credentials.specs.Views.{credentials_of, kept_of};
+ghost use Rattle.sessions.specs.Sessions.{IsRefused, OpensRegistration, OpensSignIn, PassesAll, begun, challenge_of, closed};
+ghost use Rattle.site.specs.State.{IsParty, none_open};
 ghost use Rattle.site.specs.declared.error.Error.TheVariants as errors;
 
-use crate::error::{Error, SignInRefusal};
-use crate::row::{Policy, Row, Rows};
+use crate::error::Error;
+use cose::Alg;
+use credentials::{Row, Rows, Table, is_within};
+use sessions::{Sessions, Started};
 use std::alloc::{AllocError, Global};
 use std::marker::Model;
+use verification::{CredentialView, Policy, RelyingParty};
 
 /// The most bytes of an rp id.
 pub const MAX_RP_ID: usize = 253;
 
-/// The most bytes of a credential id.
-pub const MAX_ID: usize = 64;
-
-/// The most bytes of a user handle.
-pub const MAX_USER: usize = 64;
-
-/// The most credentials of a site.
-pub const MAX_ROWS: usize = 65_536;
-
-/// A relying party: its rp id, its origins, what it accepts at registration, and the registered
-/// credentials.
+/// A relying party: its rp id and origins, what it accepts at registration, the registered credentials, and the
+/// sessions that are open.
 #[derive(Drop)]
 pub struct Site {
-    rp_id: String,
-    origins: Vec<String>,
-    policy: Policy,
-    rows: Vec<Row>,
+    pub(crate) alloc: Global,
+    pub(crate) party: RelyingParty,
+    pub(crate) policy: Policy,
+    pub(crate) table: Table,
+    pub(crate) sessions: Sessions,
 }
 
 impl Model for Site {
-    ghost use Rattle.std.specs.Prelude.{map, string_bytes};
-    ghost use Rattle.site.specs.State.{State};
-    ghost use Rattle.site.specs.Views.{credentials_of};
+    ghost use Rattle.std.specs.Prelude.{◌≤◌};
+    ghost use Rattle.site.specs.State.{State, IsParty};
+    ghost use Rattle.site.specs.Codes.{state_code};
 
     ghost Value = { State };
 
-    ghost view = { λ s. record { rp_id = string_bytes s.rp_id; origins = map string_bytes s.origins.items; policy = s.policy; rows = credentials_of s.rows.items } };
-}
+    ghost coded = { state_code };
 
-/// Whether a text or an id has 1 to `most` bytes.
-fn is_within(bytes: &[u8], most: usize) -> bool
-    ensures { IsTrue result ↔ IsWithin most bytes.now }
-{
-    1 <= bytes.len() && bytes.len() <= most
+    ghost view = { λ s. record { rp = s.party; policy = s.policy; rows = s.table; sessions = s.sessions } };
+
+    ghost invariant = { λ s. IsParty s.party × (1 ≤ s.sessions.next) };
 }
 
 /// Whether an rp id and origins are within their limits.
-fn is_input(rp_id: &str, origins: &[&str]) -> bool
-    ensures { IsTrue result ↔ IsInput rp_id.now (texts_of origins.now) }
+fn is_party(rp_id: &str, origins: &[&str]) -> bool
+    ensures { IsTrue result ↔ IsParty (record { rp_id = rp_id.now; origins = texts_of origins.now }) }
 {
     is_within(rp_id.as_bytes(), MAX_RP_ID) && 1 <= origins.len()
 }
 
-/// Whether a row is within its limits.
-fn is_row(row: &Row) -> bool
-    ensures { IsTrue result ↔ IsRow (credential_of row.now) }
+/// A site of a relying party that is within its limits, with this table and this next session number.
+fn site_with(
+    alloc: Global,
+    rp_id: &str,
+    origins: &[&str],
+    policy: Policy,
+    table: Table,
+    next: u64,
+) -> Result<Site, AllocError>
+    requires party { IsParty (record { rp_id = rp_id.now; origins = texts_of origins.now }) }
+    requires next { 1 ≤ next }
+    ensures { IfOk result (λ s. s ≡ record { rp = record { rp_id = rp_id.now; origins = texts_of origins.now }; policy = policy; rows = table; sessions = none_open next }) }
 {
-    is_within(&row.id, MAX_ID) && is_within(&row.user, MAX_USER)
-}
-
-/// The first place of an id.
-fn position_of(rows: &[Row], id: &[u8]) -> Option<usize>
-    ensures { result ≡ position (λ row. bytes_eq row.id.items id.now) rows.now }
-{
-    rows.iter().position(|row| row.id.as_slice() == id)
-}
-
-/// Where the row of an id stands.
-pub(crate) fn place_of(rows: &[Row], id: &[u8]) -> Option<usize>
-    ensures place { result ≡ position (λ row. bytes_eq row.id.items id.now) rows.now }
-    ensures found { MatchOption result (row_of id.now (credentials_of rows.now) ≡ None)
-        (λ i. (i < length rows.now) × ((d : Row) → row_of id.now (credentials_of rows.now) ≡ Some (credential_of (slice_index_or rows.now i d)))) }
-{
-    position_of(rows, id)
-}
-
-/// Whether no row has the id.
-fn is_new(rows: &[Row], id: &[u8]) -> bool
-    ensures { IsTrue result ↔ (row_of id.now (credentials_of rows.now) ≡ None) }
-{
-    match place_of(rows, id) {
-        None => true,
-        Some(_) => false,
-    }
-}
-
-/// Whether each row is within its limits, and none behind it has its id.
-fn are_rows(rows: &[Row]) -> bool
-    ensures { IsTrue result ↔ AreRows (credentials_of rows.now) }
-{
-    for (i, row) in rows.iter().enumerate() {
-        if !is_row(row) {
-            return false;
-        }
-        if !is_new(&rows[i + 1..], &row.id) {
-            return false;
-        }
-    }
-    true
-}
-
-/// Whether the rows are a table.
-fn is_table(rows: &[Row]) -> bool
-    ensures { IsTrue result ↔ IsTable (credentials_of rows.now) }
-{
-    rows.len() <= MAX_ROWS && are_rows(rows)
-}
-
-/// Writes the count into the row of the id.
-fn set_count(rows: &mut [Row], id: &[u8], count: u32)
-    ensures { credentials_of rows.new ≡ with_count id.now count (credentials_of rows.old) }
-{
-    if let Some(i) = position_of(rows, id) {
-        rows[i].count = count;
-    }
-}
-
-/// Copies of the texts.
-fn owned(alloc: Global, texts: &[&str]) -> Result<Vec<String>, AllocError>
-    ensures { IfOk result (λ v. map string_bytes v.items ≡ texts_of texts.now) }
-{
-    let mut copies = Vec::new(alloc);
-    for text in texts {
-        copies.push(String::from_str(alloc, text)?)?;
-    }
-    Ok(copies)
+    Ok(Site {
+        alloc,
+        party: RelyingParty::new(alloc, rp_id, origins)?,
+        policy,
+        table,
+        sessions: Sessions::new(alloc, next),
+    })
 }
 
 impl Site {
+    /// A site without credentials.
+    ///
+    /// `BadInput` where the rp id is not of 1 to 253 bytes or there is no origin; `Memory` where there was none for
+    /// the copies of the texts. An origin is compared as a text.
+    pub fn new(
+        alloc: Global,
+        rp_id: &str,
+        origins: &[&str],
+        policy: Policy,
+    ) -> Result<Site, Error>
+        ensures made { IfOk result (λ s. s ≡ record { rp = record { rp_id = rp_id.now; origins = texts_of origins.now }; policy = policy; rows = []; sessions = none_open 1 }) }
+        ensures input { IsErrOf result Error.BadInput ↔ ¬ IsParty (record { rp_id = rp_id.now; origins = texts_of origins.now }) }
+        ensures no_table { IfErr result (λ e. e ≢ errors.BadTable) }
+    {
+        Site::with_table(alloc, rp_id, origins, policy, Table::new(alloc))
+    }
+
+    /// A site with a table of credentials that is made.
+    ///
+    /// `BadInput` and `Memory` as for `new`.
+    pub fn with_table(
+        alloc: Global,
+        rp_id: &str,
+        origins: &[&str],
+        policy: Policy,
+        table: Table,
+    ) -> Result<Site, Error>
+        ensures made { IfOk result (λ s. s ≡ record { rp = record { rp_id = rp_id.now; origins = texts_of origins.now }; policy = policy; rows = table; sessions = none_open 1 }) }
+        ensures input { IsErrOf result Error.BadInput ↔ ¬ IsParty (record { rp_id = rp_id.now; origins = texts_of origins.now }) }
+        ensures no_table { IfErr result (λ e. e ≢ errors.BadTable) }
+    {
+        if !is_party(rp_id, origins) {
+            return Err(Error::BadInput);
+        }
+        Ok(site_with(alloc, rp_id, origins, policy, table, 1)?)
+    }
+
     /// A site with these credentials, in order of registration.
     ///
-    /// `BadInput` where the rp id is not of 1 to 253 bytes or there is no origin; then `BadTable` where an
-    /// id or a user handle is not of 1 to 64 bytes, an id stands twice, or there are more than 65,536
-    /// rows; `Memory` where there was none for the copies of the texts.
+    /// `BadInput` as for `new`; then `BadTable` where an id or a user handle is not of 1 to 64 bytes, an id stands
+    /// twice, or there are more than 65,536 credentials.
     pub fn with_rows(
         alloc: Global,
         rp_id: &str,
@@ -147,59 +124,93 @@ impl Site {
         policy: Policy,
         rows: Vec<Row>,
     ) -> Result<Site, Error>
-        ensures made { IfOk result (λ s. s ≡ record { rp_id = rp_id.now; origins = texts_of origins.now; policy = policy; rows = credentials_of rows.items }) }
-        ensures input { IsErrOf result Error.BadInput ↔ ¬ IsInput rp_id.now (texts_of origins.now) }
-        ensures table { IsErrOf result Error.BadTable ↔ (IsInput rp_id.now (texts_of origins.now) × ¬ IsTable (credentials_of rows.items)) }
-        ensures good { IfOk result (λ _. IsInput rp_id.now (texts_of origins.now) × IsTable (credentials_of rows.items)) }
-        ensures no_step { IfErr result (λ e. (w : SignInRefusal) → e ≢ errors.SignIn w) }
+        ensures made { IfOk result (λ s. s ≡ record { rp = record { rp_id = rp_id.now; origins = texts_of origins.now }; policy = policy; rows = credentials_of rows.items; sessions = none_open 1 }) }
+        ensures input { IsErrOf result Error.BadInput ↔ ¬ IsParty (record { rp_id = rp_id.now; origins = texts_of origins.now }) }
+        ensures table { IsErrOf result Error.BadTable → IsTable (credentials_of rows.items) → ⊥ }
     {
-        if !is_input(rp_id, origins) {
+        if !is_party(rp_id, origins) {
             return Err(Error::BadInput);
         }
-        if !is_table(&rows) {
-            return Err(Error::BadTable);
+        match Table::from_rows(alloc, rows) {
+            Ok(table) => Ok(site_with(alloc, rp_id, origins, policy, table, 1)?),
+            Err(credentials::Error::BadTable) => Err(Error::BadTable),
+            Err(credentials::Error::Memory) => Err(Error::Memory),
         }
-        let origins = owned(alloc, origins)?;
-        let rp_id = String::from_str(alloc, rp_id)?;
-        Ok(Site {
-            rp_id,
-            origins,
-            policy,
-            rows,
-        })
     }
 
-    /// The rp id.
-    pub(crate) fn rp_id(&self) -> &str
-        ensures { result.now ≡ self.now.rp_id }
+    /// Begins a sign-in: of the account with this user handle, where it is known beforehand; with one of these
+    /// credentials, where any are listed, at most 8; with the user verified or not. The words are 24 random bytes,
+    /// never used before.
+    ///
+    /// `BadInput` where the user handle or an id is not of 1 to 64 bytes or more than 8 ids are listed, then
+    /// `SessionsFull` where 1,024 sessions are open, then `Exhausted` where the next number is 2^64 - 1; `Memory`
+    /// where there was none for the copies or the session. Then nothing has changed.
+    pub fn begin_sign_in(
+        &mut self,
+        user: Option<&[u8]>,
+        allow: &[&[u8]],
+        verified: bool,
+        words: [u8; 24],
+    ) -> Result<Started, sessions::Error>
+        ensures passes { OnOk result (PassesAll self.old.sessions (OpensSignIn (option_map (λ u. u.now) user.entry) (map (λ id. id.now) allow.now) verified words)) }
+        ensures started { IfOk result (λ s. (s.session ≡ self.old.sessions.next) × (s.challenge ≡ challenge_of self.old.sessions.next words)) }
+        ensures begun { OnOk result (self.new ≡ record self.old { sessions = begun self.old.sessions (OpensSignIn (option_map (λ u. u.now) user.entry) (map (λ id. id.now) allow.now) verified words) }) }
+        ensures refused { IfErr result (IsRefused self.old.sessions (OpensSignIn (option_map (λ u. u.now) user.entry) (map (λ id. id.now) allow.now) verified words)) }
+        ensures unchanged { OnErr result (self.new ≡ self.old) }
     {
-        self.rp_id.as_str()
+        self.sessions.begin_sign_in(user, allow, verified, words)
     }
 
-    /// The allocator that the table uses.
-    pub(crate) fn allocator(&self) -> Global {
-        *self.rows.allocator()
-    }
-
-    /// The row of an id.
-    pub(crate) fn row_of(&self, id: &[u8]) -> Option<&Row>
-        ensures { option_map (λ row. credential_of row.now) result ≡ row_of id.now self.now.rows }
+    /// Begins a registration for the account with this user handle, with these algorithms offered, and with the user
+    /// verified or not. The words are 24 random bytes, never used before.
+    ///
+    /// `BadInput` where the user handle is not of 1 to 64 bytes or no algorithm is offered, then as for a sign-in.
+    pub fn begin_registration(
+        &mut self,
+        user: &[u8],
+        algorithms: &[Alg],
+        verified: bool,
+        words: [u8; 24],
+    ) -> Result<Started, sessions::Error>
+        ensures passes { OnOk result (PassesAll self.old.sessions (OpensRegistration user.now algorithms.now verified words)) }
+        ensures started { IfOk result (λ s. (s.session ≡ self.old.sessions.next) × (s.challenge ≡ challenge_of self.old.sessions.next words)) }
+        ensures begun { OnOk result (self.new ≡ record self.old { sessions = begun self.old.sessions (OpensRegistration user.now algorithms.now verified words) }) }
+        ensures refused { IfErr result (IsRefused self.old.sessions (OpensRegistration user.now algorithms.now verified words)) }
+        ensures unchanged { OnErr result (self.new ≡ self.old) }
     {
-        let place = place_of(&self.rows, id)?;
-        Some(&self.rows[place])
+        self.sessions
+            .begin_registration(user, algorithms, verified, words)
     }
 
-    /// Stores the count of the credential.
-    pub(crate) fn store(&mut self, id: &[u8], count: u32)
-        ensures { self.new ≡ record self.old { rows = with_count id.now count self.old.rows } }
+    /// Closes a session: true exactly where it was open. It takes no memory.
+    pub fn abandon(&mut self, session: u64) -> bool
+        ensures told { result ≡ is_some (finite.get self.old.sessions.expected session) }
+        ensures closed { self.new ≡ record self.old { sessions = closed session self.old.sessions } }
     {
-        set_count(&mut self.rows, id, count);
+        self.sessions.close(session)
     }
 
-    /// The credentials in order of registration.
+    /// Retires the credential of an id: true where there is one that was not retired; else nothing changes. A retired
+    /// credential signs in no more, stays in its place, and its id stays taken. It takes no memory.
+    pub fn retire(&mut self, id: &[u8]) -> bool
+        ensures told { IsTrue result ↔ IsSome (row_of id.now self.old.rows) × ForSome (row_of id.now self.old.rows) (λ row. row.retired ≡ false) }
+        ensures after { result ≡ true → self.new ≡ record self.old { rows = with_row id.now retired self.old.rows } }
+        ensures unchanged { result ≡ false → self.new ≡ self.old }
+    {
+        self.table.retire(id)
+    }
+
+    /// The credential of an id, retired or not. It takes no memory.
+    pub fn row(&self, id: &[u8]) -> Option<CredentialView<'_>>
+        ensures { option_map credential_shown result ≡ row_of id.now self.now.rows }
+    {
+        self.table.row(id)
+    }
+
+    /// The credentials in order of registration. It takes no memory.
     pub fn rows(&self) -> Rows<'_>
-        ensures { credentials_of result.0.now ≡ self.now.rows }
+        ensures { map (λ e. kept_of e.0.items e.1) result.0 ≡ self.now.rows }
     {
-        Rows(&self.rows)
+        self.table.rows()
     }
 }

@@ -5,6 +5,7 @@ ghost use Rattle.verification.specs.Numbers.{sign_in_number, registration_number
 ghost use Rattle.verification.specs.declared.refusal.SignInError.TheVariants as sign_ins;
 ghost use Rattle.verification.specs.declared.refusal.RegistrationError.TheVariants as registrations;
 
+use std::alloc::AllocError;
 use thiserror::Error as ErrorType;
 
 /// The step of section 7.2 at which a sign-in is refused, the first that fails. The program prints `W` and
@@ -188,6 +189,14 @@ impl From<SignInRefusal> for SignInError {
     }
 }
 
+impl From<AllocError> for SignInError {
+    ghost from_gives = { λ _ e. e ≡ sign_ins.Memory };
+
+    fn from(_e: AllocError) -> SignInError {
+        SignInError::Memory
+    }
+}
+
 /// Why a registration has no answer: a step refuses it, or there was no memory.
 #[derive(Clone, Copy, Debug, PartialEq, Eq, Drop, ErrorType)]
 pub enum RegistrationError {
@@ -204,5 +213,13 @@ impl From<RegistrationRefusal> for RegistrationError {
 
     fn from(step: RegistrationRefusal) -> RegistrationError {
         RegistrationError::Refused(step)
+    }
+}
+
+impl From<AllocError> for RegistrationError {
+    ghost from_gives = { λ _ e. e ≡ registrations.Memory };
+
+    fn from(_e: AllocError) -> RegistrationError {
+        RegistrationError::Memory
     }
 }

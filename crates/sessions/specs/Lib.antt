@@ -1,0 +1,4 @@
+pub mod Sessions
+pub mod Views
+pub mod Codes
+pub mod Numbers

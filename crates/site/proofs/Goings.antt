@@ -1,0 +1,227 @@
+-- What happens to a site, and what it keeps.
+use Rattle.std.proofs.Common.{◌≡◌, ◌<◌, ◌≤◌, ◌-◌, ◌^◌, ℕ, List, [], ◌∷◌, ◌++◌, Option, Some, None, Bool, true, false, sym, ◌∙◌, ap, refl, subst, arith, inl, inr}
+use Rattle.std.specs.Prelude.{◌⊎◌, IsSome, is_some, take, drop}
+use Rattle.std.specs.Int.{w64, to_be_bytes, from_be_bytes}
+use Rattle.std.proofs.lemmas.Nat.{from_be_bytes-to_be_bytes_8}
+use Rattle.std.proofs.lemmas.List.{drop_at, take_at}
+use Rattle.std.proofs.lemmas.Grind.{common_steps}
+use Rattle.std.specs.FinMap.{gets}
+use Rattle.std.specs.FinMap as finite
+use Rattle.authdata.specs.Flags.{is_set, BE}
+use Rattle.authdata.specs.Layout.{AuthenticatorData, AttestedCredential, AuthOf}
+use Rattle.authdata.specs.Responses.{Assertion}
+use Rattle.authdata.specs.Responses as responses
+use Rattle.verification.specs.Records.{RelyingParty, Credential, Registration, SignIn}
+use Rattle.verification.specs.Shared.{Relation}
+use Rattle.verification.specs.Authentication as authentication
+use Rattle.verification.specs.Authentication.{IsCounted}
+use Rattle.verification.specs.Registration as registration
+use Rattle.verification.specs.Registration.{Attests}
+use Rattle.credentials.specs.Table.{row_of, with_row, signed_in, retired}
+use Rattle.credentials.proofs.RowLemmas.{found_id}
+use Rattle.sessions.specs.Sessions.{Expected, ForSignIn, ForRegistration, Opening, OpensSignIn, OpensRegistration, begun, challenge_of, closed, expected_of, for_registration, for_sign_in, sign_in_at}
+use Rattle.site.specs.State.{State, IsAfterRegistration, IsAfterSignIn, attempt_in, enrolment_in, none_open, registered}
+use Rattle.site.specs.Laws.{GoesOn, IsFresh, IsGone, IsKept, IsNumbered, Keeps, SiteLaws, Takes, after_abandon, after_begin, after_restart, after_retire, challenge_in}
+use Rattle.site.proofs.Judged.{no_row, same_attempt, some_row}
+use Rattle.site.proofs.Kept.{KeptBy, kept_changed, kept_here, kept_onward, row_before, row_changed}
+
+-- ---- going on
+
+stays : (s : State) → GoesOn s s
+stays s = record {
+  rows = λ id row e. kept_here s.rows row (ap (λ x. row_of x s.rows) (found_id id s.rows row e) ∙ e);
+  gone = λ n h. h;
+  rp = refl;
+}
+
+onward : (s t u : State) → GoesOn s t → GoesOn t u → GoesOn s u
+onward s t u a b = record {
+  rows = λ id row e.
+      let x = a.rows id row e in
+      let mine = found_id row.id t.rows x.now x.found in
+      kept_onward u.rows t.rows row x (b.rows row.id x.now x.found) mine;
+  gone = λ n h. b.gone n (a.gone n h);
+  rp = b.rp ∙ a.rp;
+}
+
+-- ---- sessions
+
+gone_closed : (s : State) (rows : List Credential) (k n : ℕ) → IsGone s n → IsGone (record s { rows = rows; sessions = closed k s.sessions }) n
+gone_closed s rows k n (lt, none) = (lt, grind (arith, gets, common_steps, none))
+
+gone_begun : (s : State) (o : Opening) (n : ℕ) → IsGone s n → IsGone (after_begin s o) n
+gone_begun s o n (lt, none) = (omega arith, grind (arith, gets, common_steps, none, lt))
+
+gone_restarted : (s : State) (n : ℕ) → IsGone s n → IsGone (after_restart s) n
+gone_restarted s n (lt, none) = (lt, grind (arith, gets, common_steps))
+
+fresh_closed : (s : State) (rows : List Credential) (k : ℕ) → IsFresh s → IsFresh (record s { rows = rows; sessions = closed k s.sessions })
+fresh_closed s rows k fresh n is = grind (arith, gets, common_steps, fresh n, is)
+
+fresh_begun : (s : State) (o : Opening) → IsFresh s → IsFresh (after_begin s o)
+fresh_begun s o fresh n is = grind (arith, gets, common_steps, fresh n, is)
+
+fresh_restarted : (s : State) → IsFresh (after_restart s)
+fresh_restarted s n is = grind (arith, gets, common_steps, is)
+
+gone_now : (s : State) (rows : List Credential) (n : ℕ) → IsFresh s → IsSome (finite.get s.sessions.expected n) → IsGone (record s { rows = rows; sessions = closed n s.sessions }) n
+gone_now s rows n fresh is = (fresh n is, grind (arith, gets, common_steps))
+
+none_there : {X : Type 0} (o : Option X) → IsSome o → o ≡ None → ⊥
+none_there None is e = let bad : false ≡ true = is in cc
+none_there (Some x) is e = let bad : Some x ≡ None = e in cc
+
+empty_fresh : (s : State) → s.sessions.expected ≡ finite.empty → IsFresh s
+empty_fresh s e n is =
+    let none : finite.get s.sessions.expected n ≡ None = rw e (grind (arith, gets, common_steps)) in
+    absurd (none_there (finite.get s.sessions.expected n) is none)
+
+-- ---- challenges
+
+still : (s : State) (k n : ℕ) (e : Expected) → finite.get (closed k s.sessions).expected n ≡ Some e → finite.get s.sessions.expected n ≡ Some e
+still s k n e h = grind (arith, gets, common_steps, h)
+
+numbered_closed : (s : State) (rows : List Credential) (k : ℕ) → IsNumbered s → IsNumbered (record s { rows = rows; sessions = closed k s.sessions })
+numbered_closed s rows k f n e h = f n e (still s k n e h)
+
+new_challenge : (n : ℕ) (o : Opening) → (words : List ℕ) × (challenge_in (expected_of n o) ≡ challenge_of n words)
+new_challenge n (OpensSignIn user allow verified words) = (words, refl)
+new_challenge n (OpensRegistration user algorithms verified words) = (words, refl)
+
+begun_or : (s : State) (o : Opening) (n : ℕ) (e : Expected) → finite.get (begun s.sessions o).expected n ≡ Some e
+    → ((n ≡ s.sessions.next) × (e ≡ expected_of s.sessions.next o)) ⊎ (finite.get s.sessions.expected n ≡ Some e)
+begun_or s o n e h = grind (arith, gets, common_steps, h)
+
+numbered_begun : (s : State) (o : Opening) → s.sessions.next < 2 ^ 64 - 1 → IsNumbered s → IsNumbered (after_begin s o)
+numbered_begun s o lt f n e h = elim (begun_or s o n e h) [
+  | inl (here, is) ↦
+      let c = new_challenge s.sessions.next o in
+      (omega arith, (c.0, ap challenge_in is ∙ c.1 ∙ ap (λ k. challenge_of k c.0) (sym here)))
+  | inr old ↦ f n e old
+]
+
+numbered_empty : (s : State) → s.sessions.expected ≡ finite.empty → IsNumbered s
+numbered_empty s e n x h = let none : finite.get s.sessions.expected n ≡ None = rw e (grind (arith, gets, common_steps)) in let bad : None ≡ Some x = sym none ∙ h in cc
+
+one_number : (n k : ℕ) (v w : List ℕ) → n < 2 ^ 64 → k < 2 ^ 64 → challenge_of n v ≡ challenge_of k w → (n ≡ k) × (v ≡ w)
+one_number n k v w ln lk e =
+    let front : to_be_bytes w64 n ≡ to_be_bytes w64 k = sym (take_at (to_be_bytes w64 n) v 8 refl) ∙ ap (take 8) e ∙ take_at (to_be_bytes w64 k) w 8 refl in
+    let rest : v ≡ w = sym (drop_at (to_be_bytes w64 n) v 8 refl) ∙ ap (drop 8) e ∙ drop_at (to_be_bytes w64 k) w 8 refl in
+    (sym (from_be_bytes-to_be_bytes_8 n ln) ∙ ap (from_be_bytes w64) front ∙ from_be_bytes-to_be_bytes_8 k lk, rest)
+
+is_open_by : (o : Option Expected) (e : SignIn) → for_sign_in o ≡ Some e → o ≡ Some (ForSignIn e)
+is_open_by None e h = let bad : None ≡ Some e = h in cc
+is_open_by (Some (ForSignIn x)) e h = let k : Some x ≡ Some e = h in cc
+is_open_by (Some (ForRegistration x)) e h = let bad : None ≡ Some e = h in cc
+
+some_sign_in : (o : Option Expected) → IsSome (for_sign_in o) → IsSome o
+some_sign_in None h = h
+some_sign_in (Some e) h = refl
+
+some_registration : (o : Option Expected) (e : Registration) → for_registration o ≡ Some e → IsSome o
+some_registration None e h = let bad : None ≡ Some e = h in cc
+some_registration (Some x) e h = refl
+
+-- ---- what happens
+
+retire_keeps : (x : Credential) → KeptBy retired x
+retire_keeps x = record { id = refl; key = refl; user = refl; sign_count = omega arith; eligible = λ known is. is; retired = λ is. refl }
+
+not_lower : (stored received : ℕ) → IsCounted stored received → stored ≤ received
+not_lower stored received = elim [ inl (x, y) ↦ omega arith | inr lt ↦ omega arith ]
+
+goes_closed : (s : State) (n : ℕ) → GoesOn s (after_abandon s n)
+goes_closed s n = record { rows = (stays s).rows; gone = λ k h. gone_closed s s.rows n k h; rp = refl }
+
+goes_begun : (s : State) (o : Opening) → GoesOn s (after_begin s o)
+goes_begun s o = record { rows = (stays s).rows; gone = λ n h. gone_begun s o n h; rp = refl }
+
+goes_restarted : (s : State) → GoesOn s (after_restart s)
+goes_restarted s = record { rows = (stays s).rows; gone = λ n h. gone_restarted s n h; rp = refl }
+
+goes_retired : (s : State) (id : List ℕ) → GoesOn s (after_retire s id)
+goes_retired s id = record {
+  rows = λ k row e. kept_changed id retired s.rows k row (λ x. refl) (λ x is. retire_keeps x) e;
+  gone = λ n h. h;
+  rp = refl;
+}
+
+-- what a sign-in that passes stores keeps the credential
+sign_in_keeps : (valid : Relation) (s : State) (n : ℕ) (r : Assertion) (a : AuthenticatorData) → authentication.PassesAll valid (attempt_in s n r) → AuthOf a r.auth_data
+    → (x : Credential) → row_of r.credential s.rows ≡ Some x → KeptBy (signed_in a.sign_count (is_set a.flags BE)) x
+sign_in_keeps valid s n r a passes is x there = record {
+  id = refl;
+  key = refl;
+  user = refl;
+  sign_count = not_lower x.sign_count a.sign_count (passes.1.1.1.1.1.1.1.1.1.1.1.1.1.1.0 x there a is);
+  eligible = λ known e. ap Some (passes.1.1.1.1.1.1.1.1.1.1.1.1.1.1.1.0 x there known e a is);
+  retired = λ e. e;
+}
+
+signs_in : (valid : Relation) (s : State) (n : ℕ) (r : Assertion) (t : State) → IsFresh s → authentication.PassesAll valid (attempt_in s n r) → IsAfterSignIn s n r t → Keeps s t × Takes s t n
+signs_in valid s n r t fresh passes (a, is_auth, after) =
+    let change = signed_in a.sign_count (is_set a.flags BE) in
+    let rows = with_row r.credential change s.rows in
+    let was : IsSome (finite.get s.sessions.expected n) = some_sign_in (finite.get s.sessions.expected n) passes.0 in
+    let goes : GoesOn s (record s { rows = rows; sessions = closed n s.sessions }) = record {
+      rows = λ k row e. kept_changed r.credential change s.rows k row (λ x. refl) (sign_in_keeps valid s n r a passes is_auth) e;
+      gone = λ k h. gone_closed s rows n k h;
+      rp = refl;
+    } in
+    let here : Keeps s (record s { rows = rows; sessions = closed n s.sessions }) × Takes s (record s { rows = rows; sessions = closed n s.sessions }) n =
+    (record { numbered = numbered_closed s rows n; fresh = fresh_closed s rows n fresh; goes_on = goes }, record { was_open = was; gone = gone_now s rows n fresh was }) in
+    subst (λ x. Keeps s x × Takes s x n) (sym after) here
+
+registers : (s : State) (n : ℕ) (r : responses.Registration) (t : State) → IsFresh s → IsAfterRegistration s n r t → Keeps s t × Takes s t n
+registers s n r t fresh (e, o, a, c, open_for, attests, after) =
+    let rows = s.rows ++ registered e a c ∷ [] in
+    let was : IsSome (finite.get s.sessions.expected n) = some_registration (finite.get s.sessions.expected n) e open_for in
+    let goes : GoesOn s (record s { rows = rows; sessions = closed n s.sessions }) = record {
+      rows = λ k row there. kept_here rows row (ap (λ x. row_of x rows) (found_id k s.rows row there) ∙ row_before k s.rows (registered e a c ∷ []) row there);
+      gone = λ k h. gone_closed s rows n k h;
+      rp = refl;
+    } in
+    let here : Keeps s (record s { rows = rows; sessions = closed n s.sessions }) × Takes s (record s { rows = rows; sessions = closed n s.sessions }) n =
+    (record { numbered = numbered_closed s rows n; fresh = fresh_closed s rows n fresh; goes_on = goes }, record { was_open = was; gone = gone_now s rows n fresh was }) in
+    subst (λ x. Keeps s x × Takes s x n) (sym after) here
+
+stores : (s : State) (n : ℕ) (r : Assertion) (t : State) (row : Credential) → IsAfterSignIn s n r t → row_of r.credential s.rows ≡ Some row
+    → (a : AuthenticatorData) × AuthOf a r.auth_data × (row_of r.credential t.rows ≡ Some (signed_in a.sign_count (is_set a.flags BE) row))
+stores s n r t row (a, is_auth, after) found =
+    (a, is_auth, ap (λ x. row_of r.credential x.rows) after ∙ row_changed r.credential (signed_in a.sign_count (is_set a.flags BE)) s.rows row (λ x. refl) found)
+
+abbrev attempt_of_party : RelyingParty → State → ℕ → Assertion → authentication.Attempt
+attempt_of_party rp s n r = record (attempt_in s n r) { rp = rp }
+
+judged : (s t : State) (n : ℕ) (r : Assertion) → t.rp ≡ s.rp → sign_in_at n t.sessions ≡ sign_in_at n s.sessions
+    → row_of r.credential t.rows ≡ row_of r.credential s.rows → attempt_in t n r ≡ attempt_in s n r
+judged s t n r parties sessions rows =
+    same_attempt t.rp r (sign_in_at n t.sessions) (sign_in_at n s.sessions) (row_of r.credential t.rows) (row_of r.credential s.rows) sessions rows
+    ∙ ap (λ rp. attempt_of_party rp s n r) parties
+
+retired_refused : (valid : Relation) (s : State) (n : ℕ) (r : Assertion) (row : Credential) → row_of r.credential s.rows ≡ Some row → row.retired ≡ true
+    → authentication.PassesAll valid (attempt_in s n r) → ⊥
+retired_refused valid s n r row there is passes = let no : row.retired ≡ false = passes.1.1.0.1 row there in absurd cc
+
+registered_refused : (valid : Relation) (s : State) (n : ℕ) (r : responses.Registration) → registration.PassesAll valid (enrolment_in s n r)
+    → registration.Attested r (λ o a c. row_of c.id s.rows ≡ None)
+registered_refused valid s n r passes o a c attests = no_row (row_of c.id s.rows) (passes.1.1.1.1.1.1.1.1.1.1.1.1.1.1.0 o a c attests)
+
+pub laws : (valid : Relation) → SiteLaws valid
+laws valid = record {
+  stays = stays;
+  onward = onward;
+  starts = λ s e. (empty_fresh s e, numbered_empty s e);
+  begins = λ s o lt fresh. record { numbered = numbered_begun s o lt; fresh = fresh_begun s o fresh; goes_on = goes_begun s o };
+  abandons = λ s n fresh. record { numbered = numbered_closed s s.rows n; fresh = fresh_closed s s.rows n fresh; goes_on = goes_closed s n };
+  retires = λ s id fresh. record { numbered = λ h. h; fresh = fresh; goes_on = goes_retired s id };
+  restarts = λ s fresh. record { numbered = λ _. numbered_empty (after_restart s) refl; fresh = fresh_restarted s; goes_on = goes_restarted s };
+  signs_in = signs_in valid;
+  registers = λ s n r t fresh passes after. registers s n r t fresh after;
+  stores = stores;
+  one_number = one_number;
+  is_open = λ s n e h. is_open_by (finite.get s.sessions.expected n) e h;
+  judged = judged;
+  retired_refused = retired_refused valid;
+  registered_refused = registered_refused valid;
+}

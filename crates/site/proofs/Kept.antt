@@ -1,0 +1,105 @@
+-- What a credential keeps.
+use Rattle.std.proofs.Common.{◌≡◌, ◌≤◌, ℕ, List, [], ◌∷◌, ◌++◌, Option, Some, None, Bool, true, false, sym, ◌∙◌, ap, refl, subst, arith, inl, inr}
+use Rattle.std.proofs.lemmas.Bool.{cases_Bool}
+use Rattle.std.specs.Str.{bytes_eq}
+use Rattle.verification.specs.Records.{Credential}
+use Rattle.credentials.specs.Table.{row_of, with_row}
+use Rattle.credentials.proofs.RowLemmas.{behind, found_id, here, with_behind, with_here}
+use Rattle.std.specs.Cmp.Lexicographic.{bytes_decides}
+use Rattle.site.specs.Laws.{IsKept}
+
+some_row : (a b : Credential) → Some a ≡ Some b → a ≡ b
+some_row a b e = cc
+
+-- ids that differ from one do not equal what equals it
+not_both : (id k x : List ℕ) → bytes_eq id k ≡ false → bytes_eq id x ≡ true → bytes_eq k x ≡ false
+not_both id k x apart is = elim (cases_Bool (bytes_eq k x)) [
+  | inl same ↦ let bad = (bytes_decides id k).1 ((bytes_decides id x).0 is ∙ sym ((bytes_decides k x).0 same)) in absurd cc
+  | inr differs ↦ differs
+]
+
+-- a row that is there is kept
+pub kept_here : (rows : List Credential) (row : Credential) → row_of row.id rows ≡ Some row → IsKept row rows
+kept_here rows row e = record { now = row; found = e; key = refl; user = refl; sign_count = omega arith; eligible = λ known is. is; retired = λ is. is }
+
+pub kept_onward : (rows more : List Credential) (row : Credential) (x : IsKept row more) → IsKept x.now rows → x.now.id ≡ row.id → IsKept row rows
+kept_onward rows more row x y same =
+    let a = x.sign_count in
+    let b = y.sign_count in
+    record {
+      now = y.now;
+      found = subst (λ id. row_of id rows ≡ Some y.now) same y.found;
+      key = y.key ∙ x.key;
+      user = y.user ∙ x.user;
+      sign_count = omega (arith, a, b);
+      eligible = λ known is. y.eligible known (x.eligible known is);
+      retired = λ is. y.retired (x.retired is);
+    }
+
+-- what a change keeps of a row
+pub record KeptBy (change : Credential → Credential) (row : Credential) : Type 0 where
+  pub id : (change row).id ≡ row.id
+  pub key : (change row).key ≡ row.key
+  pub user : (change row).user ≡ row.user
+  pub sign_count : row.sign_count ≤ (change row).sign_count
+  pub eligible : (known : Bool) → row.eligible ≡ Some known → (change row).eligible ≡ Some known
+  pub retired : row.retired ≡ true → (change row).retired ≡ true
+
+pub changed_kept : (rows : List Credential) (row : Credential) (change : Credential → Credential) → KeptBy change row → row_of row.id rows ≡ Some (change row) → IsKept row rows
+changed_kept rows row change k e =
+    record { now = change row; found = e; key = k.key; user = k.user; sign_count = k.sign_count; eligible = k.eligible; retired = k.retired }
+
+-- the row that was changed
+pub row_changed : (id : List ℕ) (change : Credential → Credential) (rows : List Credential) (row : Credential) → ((x : Credential) → (change x).id ≡ x.id) → row_of id rows ≡ Some row
+    → row_of id (with_row id change rows) ≡ Some (change row)
+row_changed id change [] row same e = let bad : None ≡ Some row = e in cc
+row_changed id change (r ∷ rs) row same e =
+    elim (cases_Bool (bytes_eq id r.id)) [
+      | inl first ↦
+          let is : r ≡ row = some_row r row (sym (here id r rs first) ∙ e) in
+          ap (row_of id) (with_here id change r rs first) ∙ here id (change r) rs (ap (bytes_eq id) (same r) ∙ first) ∙ ap (λ x. Some (change x)) is
+      | inr there ↦
+          ap (row_of id) (with_behind id change r rs there) ∙ behind id r (with_row id change rs) there ∙ row_changed id change rs row same (sym (behind id r rs there) ∙ e)
+    ]
+
+-- another row, or the same, where one was changed
+row_beside : (id k : List ℕ) (change : Credential → Credential) (rows : List Credential) (row : Credential) → ((x : Credential) → (change x).id ≡ x.id) → row_of k rows ≡ Some row
+    → bytes_eq id k ≡ false → ((r : Credential) → bytes_eq id r.id ≡ true → bytes_eq k r.id ≡ false) → row_of k (with_row id change rows) ≡ Some row
+row_beside id k change [] row same e other apart = let bad : None ≡ Some row = e in cc
+row_beside id k change (r ∷ rs) row same e other apart =
+    elim (cases_Bool (bytes_eq id r.id)) [
+      | inl first ↦
+          let away : bytes_eq k r.id ≡ false = apart r first in
+          ap (row_of k) (with_here id change r rs first) ∙ behind k (change r) rs (ap (bytes_eq k) (same r) ∙ away) ∙ sym (behind k r rs away) ∙ e
+      | inr there ↦ elim (cases_Bool (bytes_eq k r.id)) [
+        | inl mine ↦
+            ap (row_of k) (with_behind id change r rs there) ∙ here k r (with_row id change rs) mine ∙ sym (here k r rs mine) ∙ e
+        | inr not_mine ↦
+            ap (row_of k) (with_behind id change r rs there) ∙ behind k r (with_row id change rs) not_mine
+            ∙ row_beside id k change rs row same (sym (behind k r rs not_mine) ∙ e) other apart
+      ]
+    ]
+
+-- each row is kept where one is changed by a change that keeps it
+pub kept_changed : (id : List ℕ) (change : Credential → Credential) (rows : List Credential) (k : List ℕ) (row : Credential) → ((x : Credential) → (change x).id ≡ x.id)
+    → ((x : Credential) → row_of id rows ≡ Some x → KeptBy change x) → row_of k rows ≡ Some row → IsKept row (with_row id change rows)
+kept_changed id change rows k row same keeps e =
+    let mine : row.id ≡ k = found_id k rows row e in
+    elim (cases_Bool (bytes_eq id k)) [
+      | inl first ↦
+          let ids : id ≡ k = (bytes_decides id k).0 first in
+          let there : row_of id rows ≡ Some row = ap (λ x. row_of x rows) ids ∙ e in
+          changed_kept (with_row id change rows) row change (keeps row there) (ap (λ x. row_of x (with_row id change rows)) (mine ∙ sym ids) ∙ row_changed id change rows row same there)
+      | inr apart ↦
+          kept_here (with_row id change rows) row (ap (λ x. row_of x (with_row id change rows)) mine
+          ∙ row_beside id k change rows row same e apart (λ r is. not_both id k r.id apart is))
+    ]
+
+-- the row of an id where one more stands last
+pub row_before : (k : List ℕ) (rows more : List Credential) (row : Credential) → row_of k rows ≡ Some row → row_of k (rows ++ more) ≡ Some row
+row_before k [] more row e = let bad : None ≡ Some row = e in cc
+row_before k (r ∷ rs) more row e =
+    elim (cases_Bool (bytes_eq k r.id)) [
+      | inl first ↦ here k r (rs ++ more) first ∙ sym (here k r rs first) ∙ e
+      | inr there ↦ behind k r (rs ++ more) there ∙ row_before k rs more row (sym (behind k r rs there) ∙ e)
+    ]

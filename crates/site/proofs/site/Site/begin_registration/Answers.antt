@@ -1,0 +1,4 @@
+use Rattle.site.proofs.site.Site.begin_registration.Goals as goal
+
+pub returns-clause-refused : goal.returns-clause-refused
+returns-clause-refused c = rw (← c.self.view_is) c.begin_registration.ensures.refused

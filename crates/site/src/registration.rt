@@ -1,0 +1,98 @@
+//! Finishing a registration (WebAuthn Level 2, section 7.1).
+
+ghost use Rattle.std.specs.Prelude.{◌≡◌, IfErr, IfOk, OnErr, OnOk};
+ghost use Rattle.authdata.specs.Responses.{registration_view};
+ghost use Rattle.verification.specs.Registration.{PassesAll};
+ghost use Rattle.verification.specs.RegistrationAnswers.{IsRefused};
+ghost use Rattle.verification.specs.Views.{registration_response_of};
+ghost use Rattle.site.specs.Answers.{IsRegistered};
+ghost use Rattle.site.specs.State.{IsAfterRegistration, enrolment_in};
+
+use crate::site::Site;
+use authdata::RegistrationResponse;
+use cose::Verifier;
+use credentials::Row;
+use verification::{
+    RegistrationAttempt, RegistrationError, RegistrationParts, verify_registration,
+};
+
+/// Which credential was registered.
+#[derive(Debug, Drop)]
+pub struct Registered {
+    /// The credential id.
+    pub credential: Vec<u8>,
+}
+
+/// The members of a response that is owned.
+fn parts(response: &RegistrationResponse) -> RegistrationParts<'_>
+    ensures { registration_response_of result ≡ registration_view response.now }
+{
+    RegistrationParts {
+        object: &response.object,
+        client_data: &response.client_data,
+    }
+}
+
+impl Site {
+    /// Finishes a registration: the credential that the response attests stands last in the table, as the session's
+    /// user's, and the session is closed.
+    ///
+    /// `Refused` with the first step of section 7.1 that the response does not pass in this session; `Memory` where
+    /// there was none to read the response or for the credential. Then nothing has changed: the session is open.
+    pub fn finish_registration_parts<V: Verifier>(
+        &mut self,
+        verifier: &V,
+        session: u64,
+        response: &RegistrationParts<'_>,
+    ) -> Result<Registered, RegistrationError>
+        // It is accepted only if it passes each step,
+        ensures accepted { IfOk result (λ x. PassesAll (V.valid verifier.now) (enrolment_in self.old session (registration_response_of response.now))
+            × IsRegistered (registration_response_of response.now) x) }
+        // and refused at the first step that it does not pass.
+        ensures refused { IfErr result (IsRefused (V.valid verifier.now) (enrolment_in self.old session (registration_response_of response.now))) }
+        ensures after { OnOk result (IsAfterRegistration self.old session (registration_response_of response.now) self.new) }
+        ensures unchanged { OnErr result (self.new ≡ self.old) }
+    {
+        let alloc = self.alloc;
+        let expected = self.sessions.registration(session);
+        let verified = verify_registration(
+            alloc,
+            verifier,
+            &RegistrationAttempt {
+                party: &self.party,
+                policy: self.policy,
+                session: expected,
+                response: *response,
+            },
+        )?;
+        verified.admit(self.table.has(&verified.id), self.table.is_full())?;
+        let user = Vec::from_slice(alloc, &expected.unwrap().user)?;
+        let credential = Vec::from_slice(alloc, &verified.id)?;
+        self.table.push(Row {
+            id: verified.id,
+            user,
+            key: verified.key,
+            sign_count: verified.sign_count,
+            eligible: Some(verified.eligible),
+            retired: false,
+        })?;
+        self.sessions.close(session);
+        Ok(Registered { credential })
+    }
+
+    /// The same of a response that is owned.
+    pub fn finish_registration<V: Verifier>(
+        &mut self,
+        verifier: &V,
+        session: u64,
+        response: &RegistrationResponse,
+    ) -> Result<Registered, RegistrationError>
+        ensures accepted { IfOk result (λ x. PassesAll (V.valid verifier.now) (enrolment_in self.old session (registration_view response.now))
+            × IsRegistered (registration_view response.now) x) }
+        ensures refused { IfErr result (IsRefused (V.valid verifier.now) (enrolment_in self.old session (registration_view response.now))) }
+        ensures after { OnOk result (IsAfterRegistration self.old session (registration_view response.now) self.new) }
+        ensures unchanged { OnErr result (self.new ≡ self.old) }
+    {
+        self.finish_registration_parts(verifier, session, &parts(response))
+    }
+}
