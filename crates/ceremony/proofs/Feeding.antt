@@ -8,10 +8,11 @@ use Rattle.hidlink.specs.Feeds.{Answers}
 use Rattle.hidlink.specs.Wire.{HasEnded}
 use Rattle.hidlink.proofs.Beginnings.{begins_itself, begins_later}
 use Rattle.ceremony.specs.Packets as packets
+use Rattle.ceremony.specs.declared.live.Fed.{Fed}
 use Rattle.ceremony.specs.declared.live.Fed.TheVariants as fed
 
 -- what has ended has ended with more packets
-ended_on : (c : ℕ) (ps more : List Packet) → HasEnded c ps → HasEnded c (ps ++ more)
+pub ended_on : (c : ℕ) (ps more : List Packet) → HasEnded c ps → HasEnded c (ps ++ more)
 ended_on c ps more (inl e) = inl (e.0, e.1, e.2, begins_later e.0 ps (ps ++ more) e.3 (more, refl), e.4)
 ended_on c ps more (inr e) = inr (e.0, begins_later e.0 ps (ps ++ more) e.1 (more, refl), e.2)
 
@@ -41,3 +42,8 @@ ended c ps p e a = record {
   ready = (λ x. absurd x, λ x. absurd (x.0 (a.ended.0 tt)));
   more = (λ x. absurd x, λ x. absurd (x (ended_on c ps (p ∷ []) (a.ended.0 tt))));
 }
+
+-- where it is ready all has ended
+pub over_ready : (c : ℕ) (ps : List Packet) (p : Packet) (f : Fed) → f ≡ fed.Ready → packets.Answers c ps p (Ok f) → HasEnded c (ps ++ p ∷ [])
+over_ready c ps p fed.Ready e a = (a.ready.0 tt).1
+over_ready c ps p fed.More e a = absurd (cc)

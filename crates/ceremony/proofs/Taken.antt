@@ -1,10 +1,13 @@
 -- How many packets are taken.
 use Rattle.std.proofs.Common.{◌≡◌, ℕ, suc, zero, ◌+◌, ◌<◌, ◌≤◌, ◌⊎◌, inl, inr, List, [], ◌∷◌, ◌++◌, length, take, refl, sym, ◌∙◌, ap, subst, arith}
-use Rattle.std.proofs.lemmas.List.{length_push, length-take-le, take_at, take_all}
+use Rattle.std.proofs.lemmas.List.{length-append, length_push, take_at, take_all}
+use Rattle.std.proofs.lemmas.Bool.{cases_lt}
 use Rattle.hidframe.specs.declared.Packet.{Packet}
-use Rattle.hidlink.specs.Wire.{Got, HasEnded, Shown}
-use Rattle.hidlink.proofs.Beginnings.{begins_later, taken}
-use Rattle.ceremony.specs.Packets.{HasGot, IsTaken}
+use Rattle.hidlink.specs.declared.collection.DeadKind.{DeadKind}
+use Rattle.hidlink.specs.Wire.{Carries, Dies, Got, HasEnded, IsBeginning, Shown}
+use Rattle.hidlink.proofs.Beginnings.{begins_itself, begins_later, taken}
+use Rattle.hidlink.proofs.Laws.{carries_first, dies_first}
+use Rattle.ceremony.specs.Packets.{Collected, HasGot, IsTaken}
 
 -- what ended with the first packets has ended
 pub ended_later : (c n : ℕ) (ps : List Packet) → HasEnded c (take n ps) → HasEnded c ps
@@ -64,3 +67,57 @@ pub got_still : (c k taken : ℕ) (old new : Shown) (ps : List Packet) (p : Pack
 got_still c k taken old new ps p h same got over =
     let P : ℕ → Type 0 = λ i. HasGot (record { cid = i; shown = new; taken = taken }) (ps ++ p ∷ []) in
     subst P (sym same) (record { got = got; taken = taken_still c ps p taken h.taken over })
+
+-- a number of packets with which all has ended, and with no fewer, is how many are taken
+pub taken_is : (c n t : ℕ) (ps : List Packet) → n ≤ length ps → HasEnded c (take n ps) → ((j : ℕ) → j < n → HasEnded c (take j ps) → ⊥) → IsTaken c ps t → n ≡ t
+taken_is c n t ps within over none taken = elim (cases_lt n t) [
+  | inl less ↦ absurd (taken.shortest n less over)
+  | inr more ↦ elim (cases_lt t n) [
+    | inl less ↦ elim taken.ended [ inl e ↦ absurd (none t less e) | inr all ↦ absurd (omega arith) ]
+    | inr same ↦ omega arith
+  ]
+]
+
+begins_take : (qs ps : List Packet) → IsBeginning qs ps → (length qs ≤ length ps) × (qs ≡ take (length qs) ps)
+begins_take qs ps b =
+    let size : length ps ≡ length qs + length b.0 = ap length b.1 ∙ length-append qs b.0 in
+    (omega arith, sym (take_at qs b.0 (length qs) refl) ∙ ap (take (length qs)) (sym b.1))
+
+-- what a beginning of the packets carries is carried by those taken
+pub carried : (c t : ℕ) (ps qs : List Packet) (cmd : ℕ) (m : List ℕ) → IsBeginning qs ps → Carries c qs cmd m → IsTaken c ps t → (t ≤ length ps) × Carries c (take t ps) cmd m
+carried c t ps qs cmd m b h taken =
+    let k = begins_take qs ps b in
+    let h' : Carries c (take (length qs) ps) cmd m = subst (λ (xs : List Packet). Carries c xs cmd m) k.1 h in
+    let same : length qs ≡ t = taken_is c (length qs) t ps k.0 (inl (take (length qs) ps, cmd, m, begins_itself (take (length qs) ps), h'))
+    (λ j less. carries_first c j (length qs) ps cmd m less k.0 h') taken in
+    (taken.within, subst (λ (n : ℕ). Carries c (take n ps) cmd m) same h')
+
+-- the packet that ended all hope is the last one taken
+pub died : (c t : ℕ) (ps qs : List Packet) (kind : DeadKind) → IsBeginning qs ps → Dies c qs kind → IsTaken c ps t → (1 ≤ t) × Dies c (take t ps) kind
+died c t ps qs kind b d taken =
+    let k = begins_take qs ps b in
+    let d' : Dies c (take (length qs) ps) kind = subst (λ (xs : List Packet). Dies c xs kind) k.1 d in
+    let same : length qs ≡ t = taken_is c (length qs) t ps k.0 (inr (take (length qs) ps, begins_itself (take (length qs) ps), d'.dead))
+    (λ j less. dies_first c j (length qs) ps kind less k.0 d') taken in
+    let some : length qs ≡ length d.before + 1 = ap length d.ends ∙ length_push d.before d.last in
+    (omega arith, subst (λ (n : ℕ). Dies c (take n ps) kind) same d')
+
+-- so the index of it
+pub died_at : (c t i : ℕ) (ps : List Packet) (kind : DeadKind) → (1 ≤ t) × Dies c (take t ps) kind → IsTaken c ps t → i + 1 ≡ t → (i < length ps) × Dies c (take (i + 1) ps) kind
+died_at c t i ps kind d taken e =
+    let within : t ≤ length ps = taken.within in
+    (omega arith, subst (λ (n : ℕ). Dies c (take n ps) kind) (sym e) d.1)
+
+-- at most all packets are taken
+pub few_taken : (v : Collected) (ps : List Packet) → HasGot v ps → v.taken ≤ length ps
+few_taken v ps g = g.taken.within
+
+few : (n : ℕ) (ps : List Packet) → length (take n ps) ≤ n
+few zero ps = omega arith
+few (suc n) [] = omega arith
+few (suc n) (p ∷ ps) = let less : length (take n ps) ≤ n = few n ps in omega arith
+
+pub none_more : (n : ℕ) (ps : List Packet) (v : Collected) → HasGot v (take n ps) → v.taken ≤ n
+none_more n ps v g =
+    let within : v.taken ≤ length (take n ps) = g.taken.within in
+    let size : length (take n ps) ≤ n = few n ps in omega arith

@@ -1,5 +1,7 @@
 pub mod Numbers
 pub mod Packets
 pub mod Verdict
+pub mod SignIn
+pub mod Registration
 pub mod Serving
 pub mod AtDevice

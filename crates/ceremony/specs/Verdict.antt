@@ -26,18 +26,25 @@ Delivers c ps n m = (n ≤ length ps) × Carries c (take n ps) CTAPHID_CBOR m
 abbrev pub Succeeds : {R W : Type 0} → Ceremony R W → ℕ → List Packet → ℕ → R → Type 0
 Succeeds k c ps n r = (m : List ℕ) × Delivers c ps n m × k.IsReply r m × k.Passes r
 
--- why the message is refused: it is no reply to the command, or the first step of the site that the reply does not pass
+-- why the message is refused: it is no reply to the command, or the first step of the site that the reply does not pass.
+-- Want of memory says nothing.
 abbrev pub RefusedMessage : {R W : Type 0} → Ceremony R W → List ℕ → Error W → Type 0
 RefusedMessage k m (errors.Reply e) = ReplyRefused k.command m e × (e ≢ replies.Memory)
 RefusedMessage {R} k m (errors.Refused w) = (r : R) × k.IsReply r m × k.Fails r w
+RefusedMessage k m errors.Memory = Unit {0}
 RefusedMessage k m e = ⊥
 
--- why the packets are refused: the device's error, the packet that ends all hope of a message, that no message came
--- and one still can, or why the message is refused. Want of memory says nothing.
+-- why the packets carry no message: the device's error, the packet that ends all hope of one, or that none came and
+-- one still can
+abbrev pub Undelivered : {W : Type 0} → ℕ → List Packet → Error W → Type 0
+Undelivered c ps (errors.DeviceError code) = (n : ℕ) × (n ≤ length ps) × Carries c (take n ps) CTAPHID_ERROR (code ∷ [])
+Undelivered c ps (errors.Dead index kind) = (index < length ps) × Dies c (take (index + 1) ps) kind
+Undelivered c ps errors.Incomplete = HasEnded c ps → ⊥
+Undelivered c ps e = ⊥
+
+-- why the packets are refused: they carry no message, or the message is refused
 abbrev pub Refused : {R W : Type 0} → Ceremony R W → ℕ → List Packet → Error W → Type 0
-Refused k c ps (errors.DeviceError code) =
-    (n : ℕ) × (n ≤ length ps) × Carries c (take n ps) CTAPHID_ERROR (code ∷ [])
-Refused k c ps (errors.Dead index kind) = (index < length ps) × Dies c (take (index + 1) ps) kind
-Refused k c ps errors.Incomplete = HasEnded c ps → ⊥
 Refused k c ps errors.Memory = Unit {0}
-Refused k c ps e = (n : ℕ) × (m : List ℕ) × Delivers c ps n m × RefusedMessage k m e
+Refused k c ps (errors.Reply e) = (n : ℕ) × (m : List ℕ) × Delivers c ps n m × RefusedMessage k m (errors.Reply e)
+Refused k c ps (errors.Refused w) = (n : ℕ) × (m : List ℕ) × Delivers c ps n m × RefusedMessage k m (errors.Refused w)
+Refused k c ps e = Undelivered c ps e

@@ -2,10 +2,14 @@
 //! on top; and the authenticator's end of the same packets.
 #![tactic(auto)]
 
+mod authentication;
 mod error;
 mod live;
+mod registration;
 mod serving;
 
+pub use authentication::{Accepted, sign_in};
 pub use error::Error;
 pub use live::{Fed, Live};
+pub use registration::Enrolled;
 pub use serving::{Act, ServeError, serve};

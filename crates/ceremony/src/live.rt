@@ -1,12 +1,14 @@
 //! A ceremony's packets, one at a time.
 
-ghost use Rattle.std.specs.Prelude.{◌≡◌, ◌≤◌, ◌<◌, ◌+◌, ◌^◌, ◌++◌, [], ◌∷◌, List, ℕ, IfOk, OnOk, OnErr};
+ghost use Rattle.std.specs.Prelude.{◌≡◌, ◌≤◌, ◌<◌, ◌+◌, ◌^◌, ◌++◌, ◌⊎◌, [], ◌∷◌, List, ℕ, length, take, IfErr, IfOk, OnErr};
 ghost use Rattle.hidframe.specs.declared.Packet.{Packet};
 ghost use Rattle.hidlink.specs.Feeds.{Answers};
-ghost use Rattle.hidlink.specs.Wire.{Got};
+ghost use Rattle.hidlink.specs.Wire.{Got, HasEnded};
 ghost use Rattle.ceremony.specs.Packets as packets;
 ghost use Rattle.ceremony.specs.Packets.{HasGot};
+ghost use Rattle.ceremony.specs.Verdict.{Delivers, Undelivered};
 
+use crate::error::Error;
 use hidframe::Packet;
 use hidlink::{Collector, Ended, Outcome};
 use std::alloc::{AllocError, Global};
@@ -96,10 +98,43 @@ impl Live {
         Ok(fed)
     }
 
+    /// The message that came, or why none did.
+    pub(crate) fn message<W>(&self) -> Result<&[u8], Error<W>>
+        ensures came { IfOk result (λ m. (ps : List Packet) → HasGot self.now ps → Delivers self.now.cid ps self.now.taken m.now) }
+        ensures none { IfErr result (λ e. (ps : List Packet) → HasGot self.now ps → Undelivered self.now.cid ps e) }
+        ensures nothing { OnErr result ((ps : List Packet) (n : ℕ) (m : List ℕ) → HasGot self.now ps → Delivers self.now.cid ps n m → ⊥) }
+    {
+        match self.collector.outcome() {
+            Outcome::More => Err(Error::Incomplete),
+            Outcome::Reply(message) => Ok(message),
+            Outcome::DeviceError(code) => Err(Error::DeviceError(code)),
+            Outcome::Dead(kind) => Err(Error::Dead {
+                index: self.taken - 1,
+                kind,
+            }),
+        }
+    }
+
     /// How many packets it has taken: those up to the one that was answered `Ready`. Takes no memory.
     pub fn fed(&self) -> u64
         ensures { result ≡ self.now.taken }
     {
         self.taken
+    }
+}
+
+/// Feeds a new ceremony the packets, until one is answered `Ready`.
+pub(crate) fn feed_all(live: &mut Live, packets: &[Packet])
+    requires { HasGot live.old [] }
+    ensures channel { live.new.cid ≡ live.old.cid }
+    ensures got { (k : ℕ) × HasGot live.new (take k packets.now)
+        × (HasEnded live.old.cid (take k packets.now) ⊎ (length packets.now ≤ k)) }
+{
+    for packet in packets {
+        match live.feed(packet) {
+            Ok(Fed::More) => {}
+            Ok(Fed::Ready) => return,
+            Err(_) => return,
+        }
     }
 }
