@@ -1,9 +1,9 @@
 -- What the parts of an act come to.
 use Rattle.std.proofs.Common.{◌≡◌, ℕ, suc, ◌+◌, ◌-◌, ◌≤◌, ◌<◌, ◌⊎◌, inl, inr, List, [], ◌∷◌, ◌++◌, length, refl, sym, ◌∙◌, ap, subst, arith, Result, Ok, Err, cond}
-use Rattle.std.specs.Prelude.{Option, Some, None, IsErrOf, IsOk, OnOk, is_ok}
+use Rattle.std.specs.Prelude.{Some, IsErrOf, IsOk, OnOk, is_ok}
 use Rattle.hidframe.specs.declared.Packet.{Packet}
 use Rattle.hidlink.specs.History.{Answered, Call, Expired, Kept, Leaves}
-use Rattle.hidlink.specs.Ranks.{State, Idle, Receiving, Working, IsWorking, Message, Shown, expiry, on_working, packets_of, request_payload, working_channel}
+use Rattle.hidlink.specs.Ranks.{State, Idle, Receiving, Working, IsWorking, Shown, expiry, on_working, packets_of, request_payload, working_channel}
 use Rattle.hidlink.specs.Told.{work}
 use Rattle.hidlink.specs.declared.transaction.Refusal.{Refusal}
 use Rattle.hidlink.specs.declared.transaction.Refusal.TheVariants.{NotWorking, TooLong}

@@ -1,5 +1,5 @@
 -- What came of the packets that a ceremony got.
-use Rattle.std.proofs.Common.{◌≡◌, ℕ, ◌+◌, ◌-◌, ◌<◌, ◌≤◌, inl, inr, List, [], ◌∷◌, length, take, refl, sym, ◌∙◌, ap, subst, arith}
+use Rattle.std.proofs.Common.{◌≡◌, ℕ, ◌+◌, ◌-◌, ◌<◌, ◌≤◌, inl, List, [], ◌∷◌, length, take, refl, arith}
 use Rattle.std.specs.Borrow.{Bor}
 use Rattle.hidframe.specs.declared.Packet.{Packet}
 use Rattle.hidlink.specs.declared.collection.DeadKind.{DeadKind}
@@ -7,7 +7,7 @@ use Rattle.hidlink.specs.declared.collection.Outcome.{Outcome}
 use Rattle.hidlink.specs.declared.collection.Outcome.TheVariants.{More, Reply, DeviceError, Dead}
 use Rattle.hidlink.specs.Feeds.{Gives}
 use Rattle.hidlink.specs.Wire.{Carries, Dies, Got, HasEnded}
-use Rattle.hidlink.proofs.Beginnings.{begins_itself, taken}
+use Rattle.hidlink.proofs.Beginnings.{taken}
 use Rattle.ceremony.specs.Packets.{Collected, HasGot}
 use Rattle.ceremony.specs.Verdict.{Delivers}
 use Rattle.ceremony.proofs.Taken.{carried, died, died_at}

@@ -4,3 +4,5 @@ pub mod Acting
 pub mod Coming
 pub mod Judging
 pub mod Verdicts
+pub mod Objects
+pub mod OneVerdict

@@ -1,5 +1,5 @@
 -- From a message's verdict to that on the packets, and from some of the packets to all.
-use Rattle.std.proofs.Common.{◌≡◌, ℕ, ◌+◌, ◌<◌, ◌≤◌, ◌⊎◌, inl, inr, List, [], ◌∷◌, length, take, refl, sym, ◌∙◌, ap, subst, arith, suc, zero, Result, Ok, Err}
+use Rattle.std.proofs.Common.{◌≡◌, ℕ, ◌+◌, ◌<◌, ◌≤◌, ◌⊎◌, inl, inr, List, [], ◌∷◌, length, take, refl, sym, ap, subst, arith, suc, zero, Result, Ok, Err}
 use Rattle.std.specs.Prelude.{IfErr, IfOk, OnOk}
 use Rattle.std.proofs.lemmas.Bool.{cases_lt}
 use Rattle.std.proofs.lemmas.List.{take_all}
@@ -10,6 +10,9 @@ use Rattle.ceremony.specs.Verdict.{Ceremony, Delivers, Refused, RefusedMessage, 
 use Rattle.verification.specs.Shared.{Relation}
 use Rattle.verification.specs.declared.refusal.SignInRefusal.{SignInRefusal}
 use Rattle.site.specs.State.{State}
+use Rattle.verification.specs.declared.refusal.RegistrationRefusal.{RegistrationRefusal}
+use Rattle.ceremony.specs.Registration as registration
+use Rattle.ceremony.specs.declared.registration.Enrolled.{Enrolled}
 use Rattle.ceremony.specs.SignIn as sign_in
 use Rattle.ceremony.specs.declared.authentication.Accepted.{Accepted}
 use Rattle.ceremony.specs.declared.error.Error.{Error}
@@ -109,3 +112,13 @@ pub after_more : (s : State) (session : ℕ) (t : List ℕ) (c k : ℕ) (ps : Li
     → OnOk r (sign_in.IsAfter s session t c (take k ps) new) → OnOk r (sign_in.IsAfter s session t c ps new)
 after_more s session t c k ps new (Ok a) h = (h.0, h.1, h.2, delivers_more c k h.0 ps h.1 h.3, h.4, h.5)
 after_more s session t c k ps new (Err e) h = tt
+
+pub enrols_more : (valid : Relation) (s : State) (session : ℕ) (t : List ℕ) (c k : ℕ) (ps : List Packet) (r : Result Enrolled (Error RegistrationRefusal))
+    → IfOk r (registration.Accepts valid s session t c (take k ps)) → IfOk r (registration.Accepts valid s session t c ps)
+enrols_more valid s session t c k ps (Ok a) h = (h.0, succeeds_more (registration.registration valid s session t) c k ps a.used h.0 h.1, h.2)
+enrols_more valid s session t c k ps (Err e) h = tt
+
+pub enrolled_more : (s : State) (session : ℕ) (t : List ℕ) (c k : ℕ) (ps : List Packet) (new : State) (r : Result Enrolled (Error RegistrationRefusal))
+    → OnOk r (registration.IsAfter s session t c (take k ps) new) → OnOk r (registration.IsAfter s session t c ps new)
+enrolled_more s session t c k ps new (Ok a) h = (h.0, h.1, h.2, delivers_more c k h.0 ps h.1 h.3, h.4, h.5)
+enrolled_more s session t c k ps new (Err e) h = tt

@@ -116,11 +116,13 @@ impl Live {
             Err(error) => return Err(error),
         };
         match judge(site, verifier, session, client_data, message) {
-            Ok(SignedIn {
-                user,
-                credential,
-                backed_up,
-            }) => Ok(Accepted {
+            Ok(
+                SignedIn {
+                    user,
+                    credential,
+                    backed_up,
+                },
+            ) => Ok(Accepted {
                 user,
                 credential,
                 backed_up,

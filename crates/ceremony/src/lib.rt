@@ -4,12 +4,14 @@
 
 mod authentication;
 mod error;
+mod law;
 mod live;
 mod registration;
 mod serving;
 
 pub use authentication::{Accepted, sign_in};
 pub use error::Error;
+pub use law::one_verdict;
 pub use live::{Fed, Live};
-pub use registration::Enrolled;
+pub use registration::{Enrolled, register};
 pub use serving::{Act, ServeError, serve};

@@ -1,4 +1,4 @@
-use Rattle.std.proofs.Common.{◌≡◌, sym, subst}
+use Rattle.std.proofs.Common.{subst}
 use Rattle.authdata.specs.Responses as responses
 use Rattle.ctapmsg.specs.Replies.{Assertion}
 use Rattle.ctapmsg.specs.ReplyView.{assertion_seen}

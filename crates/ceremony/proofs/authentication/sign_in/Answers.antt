@@ -1,7 +1,5 @@
-use Rattle.std.proofs.Common.{◌≡◌, ◌∙◌, ℕ, List, length, sym, subst, take}
-use Rattle.std.specs.Prelude.{IfErr, IfOk, MatchResult, OnOk}
-use Rattle.hidframe.specs.declared.Packet.{Packet}
-use Rattle.ceremony.specs.Packets.{HasGot}
+use Rattle.std.proofs.Common.{◌≡◌, ◌∙◌, ℕ, sym, subst, take}
+use Rattle.std.specs.Prelude.{IfErr, IfOk, OnOk}
 use Rattle.ceremony.specs.SignIn.{Accepts, IsAfter}
 use Rattle.ceremony.specs.SignIn as ceremony
 use Rattle.ceremony.specs.Verdict.{Refused, Succeeds}

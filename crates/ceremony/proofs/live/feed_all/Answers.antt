@@ -1,4 +1,4 @@
-use Rattle.std.proofs.Common.{◌≡◌, ◌+◌, ◌≤◌, ◌++◌, inl, inr, [], ◌∷◌, List, ℕ, length, take, slice_index_or, refl, sym, ◌∙◌, subst, arith}
+use Rattle.std.proofs.Common.{◌≡◌, ◌+◌, ◌++◌, inl, inr, [], ◌∷◌, List, ℕ, take, slice_index_or, refl, sym, ◌∙◌, subst}
 use Rattle.std.proofs.lemmas.List.{take_more}
 use Rattle.hidframe.specs.declared.Packet.{Packet}
 use Rattle.hidlink.specs.Wire.{HasEnded}

@@ -1,7 +1,6 @@
-use Rattle.std.proofs.Common.{◌≡◌, sym, subst}
+use Rattle.std.proofs.Common.{sym, subst}
 use Rattle.ceremony.specs.AtDevice.{Acts}
 use Rattle.ceremony.specs.declared.serving.Act.{Act}
-use Rattle.ceremony.specs.declared.serving.Act.TheVariants as act
 use Rattle.ceremony.proofs.Acting.{decided, expired, on_ok, took, waited}
 use Rattle.ceremony.proofs.serving.act_on.Goals as goal
 

@@ -14,7 +14,7 @@ returns-clause-decided g c =
     let size : length reply ≤ 7609 = c.in_ok-reply.ensures.size in
     let fits : length c.deref.result.now ≤ 7609 = subst (λ (m : List ℕ). length m ≤ 7609) (sym same) size in
     let left = not_refused c.answer.result (λ e. c.answer.ensures.not_working.0 e (works s c.in-Some.channel channel))
-        (λ e. let more = (c.answer.ensures.too_long.0 e).1 in omega (arith, more, fits)) c.answer.ensures.sent in (
+    (λ e. let more = (c.answer.ensures.too_long.0 e).1 in omega (arith, more, fits)) c.answer.ensures.sent in (
       c.in-Some.channel,
       c.request.result.now,
       reply,

@@ -1,4 +1,3 @@
-use Rattle.std.proofs.Common.{◌≡◌}
 use Rattle.ceremony.proofs.Acting.{sent}
 use Rattle.ceremony.proofs.serving.serve.Goals as goal
 

@@ -1,4 +1,4 @@
-use Rattle.std.proofs.Common.{◌≡◌, ◌+◌, ◌++◌, [], ◌∷◌, List, sym, subst}
+use Rattle.std.proofs.Common.{◌+◌, ◌++◌, [], ◌∷◌, List, sym, subst}
 use Rattle.hidframe.specs.declared.Packet.{Packet}
 use Rattle.ceremony.specs.Packets.{Collected, HasGot}
 use Rattle.ceremony.proofs.Taken.{got_on, got_still}

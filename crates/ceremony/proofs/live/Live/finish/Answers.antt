@@ -1,4 +1,4 @@
-use Rattle.std.proofs.Common.{◌≡◌, ◌∙◌, ℕ, List, sym, subst}
+use Rattle.std.proofs.Common.{◌∙◌, ℕ, List, sym, subst}
 use Rattle.ctapmsg.specs.Replies.{ReplyOf, assertion_reply}
 use Rattle.ceremony.proofs.Verdicts.{one_message}
 use Rattle.ceremony.proofs.live.Live.finish.Goals as goal

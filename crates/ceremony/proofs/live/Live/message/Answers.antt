@@ -1,7 +1,5 @@
-use Rattle.std.proofs.Common.{◌≡◌, ◌-◌, ◌+◌, ◌<◌, ◌≤◌, ℕ, List, [], ◌∷◌, length, take, sym, subst}
-use Rattle.std.specs.Borrow.{Bor}
+use Rattle.std.proofs.Common.{◌-◌, ◌+◌, ◌<◌, ◌≤◌, ℕ, List, [], ◌∷◌, length, take, subst}
 use Rattle.hidframe.specs.declared.Packet.{Packet}
-use Rattle.hidlink.specs.declared.collection.Outcome.{Outcome}
 use Rattle.hidlink.specs.declared.collection.Outcome.TheVariants.{More, DeviceError, Dead}
 use Rattle.hidlink.specs.Wire.{Carries, Dies, HasEnded}
 use Rattle.ceremony.specs.Packets.{Collected, HasGot}
