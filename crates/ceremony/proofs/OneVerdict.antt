@@ -10,7 +10,7 @@ use Rattle.hidlink.proofs.SoFar.{ArePackets}
 use Rattle.first_line.proofs.Laws.{none_first, one_first}
 use Rattle.ccbor.specs.Item.{Item}
 use Rattle.ccbor.specs.Canon.{Canon}
-use Rattle.ctapmsg.specs.Replies.{Assertion, Creation, HasOtherShape, IsNoReply, ReplyOf, ReplyRefused, assertion_reply, assertion_reply_item, creation_reply, creation_reply_item}
+use Rattle.ctapmsg.specs.Replies.{Assertion, Creation, HasOtherShape, ReplyOf, ReplyRefused, assertion_reply, assertion_reply_item, creation_reply, creation_reply_item}
 use Rattle.replies.specs.declared.reply.Kind.{Kind}
 use Rattle.replies.specs.declared.reply.Kind.TheVariants as kinds
 use Rattle.replies.proofs.Laws.{assertion_items, creation_items, creation_never_both, never_both, same_item}
@@ -19,8 +19,6 @@ use Rattle.ctap_status.specs.declared.error.Error.TheVariants as replies
 use Rattle.verification.specs.Shared.{Relation}
 use Rattle.verification.specs.Authentication as authentication
 use Rattle.verification.specs.Registration as enrolment
-use Rattle.verification.specs.declared.refusal.SignInRefusal.{SignInRefusal}
-use Rattle.verification.specs.declared.refusal.RegistrationRefusal.{RegistrationRefusal}
 use Rattle.site.specs.State.{State}
 use Rattle.ceremony.specs.SignIn as sign_in
 use Rattle.ceremony.specs.Registration as registration
@@ -122,12 +120,12 @@ one_unread kind m replies.Shape replies.Shape some se sf a b = refl
 
 -- ---- ceremonies whose replies and steps are one
 
-record IsOne {R W : Type 0} (k : Ceremony R W) : Type 0 where
-  command : k.command ≢ kinds.Reset
-  one_reply : (r q : R) (m : List ℕ) → k.IsReply r m → k.IsReply q m → r ≡ q
-  read : (r : R) (m : List ℕ) (e : ReplyError) → k.IsReply r m → ReplyRefused k.command m e → e ≢ replies.Memory → ⊥
-  one_step : (r : R) (w v : W) → k.Fails r w → k.Fails r v → w ≡ v
-  passed : (r : R) (w : W) → k.Passes r → k.Fails r w → ⊥
+pub record IsOne {R W : Type 0} (k : Ceremony R W) : Type 0 where
+  pub command : k.command ≢ kinds.Reset
+  pub one_reply : (r q : R) (m : List ℕ) → k.IsReply r m → k.IsReply q m → r ≡ q
+  pub read : (r : R) (m : List ℕ) (e : ReplyError) → k.IsReply r m → ReplyRefused k.command m e → e ≢ replies.Memory → ⊥
+  pub one_step : (r : R) (w v : W) → k.Fails r w → k.Fails r v → w ≡ v
+  pub passed : (r : R) (w : W) → k.Passes r → k.Fails r w → ⊥
 
 one_assertion : (r q : Assertion) (m : List ℕ) → ReplyOf (assertion_reply r) m → ReplyOf (assertion_reply q) m → r ≡ q
 one_assertion r q m a b =
