@@ -16,3 +16,4 @@ pub mod Hearing
 pub mod Telling
 pub mod Whole
 pub mod Cancels
+pub mod Most

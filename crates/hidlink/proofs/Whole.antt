@@ -15,6 +15,7 @@ use Rattle.hidlink.specs.History.{Answered, Call, Kept, Leaves, Took}
 use Rattle.hidlink.specs.Machine.{Effect, came, choices, chosen_effect, chosen_response, packet_effect, to}
 use Rattle.hidlink.specs.Told.{IsOut, told_before}
 use Rattle.hidlink.proofs.Calls.{answered, initial_effect, initial_response, kept, leaves_by, leaves_to}
+use Rattle.hidlink.proofs.Most.{at_most}
 use Rattle.hidlink.proofs.Telling.{both_left}
 
 -- ---- what a packet of the message does
@@ -50,8 +51,8 @@ next_response n c len next bytes area =
     ∙ ap (λ b. cond b (on_receipt c 16 len (next + 1) (bytes ++ area)) (sends (error c 4))) (eq-eqb next next refl)
 
 -- the initial packet: no line of the table applies
-no_line : (n c len : ℕ) → IsOut n c → 1 ≤ len → len ≤ 7609 → unwrap_or (first_true (choices n false false false c 16 len)) Begins ≡ Begins
-no_line n c len out some room =
+no_line : (n c len : ℕ) → IsOut n c → n ≤ 65535 → 1 ≤ len → len ≤ 7609 → unwrap_or (first_true (choices n false false false c 16 len)) Begins ≡ Begins
+no_line n c len out most some room =
     by_lines (λ _ a. a ≡ Begins) (choices n false false false c 16 len) Begins 1
     ((λ x. absurd (true≢false (sym x ∙ reserved))), λ r1. ((λ x. absurd (true≢false (sym (both_left (c == 0xFFFFFFFF) true x) ∙ own))), λ r2. ((λ x. absurd (cc)), λ r3. ((λ x. absurd (cc)), λ r4. ((λ x. absurd (cc)), λ r5. ((λ x. absurd (cc)), λ r6. ((λ x. absurd (cc)), λ r7. ((λ x. absurd (cc)), λ r8. ((λ x. absurd (cc)), λ r9. ((λ x. absurd (cc)), λ r10. ((λ x. absurd (cc)), λ r11. ((λ x. absurd (cc)), λ r12. ((λ x. absurd (cc)), λ r13. ((λ x. absurd (true≢false (sym x ∙ fits))), λ r14. refl))))))))))))))
   where
@@ -60,9 +61,6 @@ no_line n c len out some room =
 
     high : c ≤ n
     high = out.1
-
-    most : n ≤ 65535
-    most = out.2
 
     own : (c == 0xFFFFFFFF) ≡ false
     own = ne_eqb c 0xFFFFFFFF (λ e. omega arith)
@@ -75,11 +73,11 @@ no_line n c len out some room =
     fits : (nat_lt 7609 len || (true && len == 0)) ≡ false
     fits = ap (λ b. b || (len == 0)) (le-ltb 7609 len room) ∙ ne_eqb len 0 (λ e. omega arith)
 
-first_effect : (n c len : ℕ) (area : List ℕ) → IsOut n c → 1 ≤ len → len ≤ 7609 → packet_effect n Idle (Initial c 16 len area) ≡ came n c 16 len 0 area
-first_effect n c len area out some room = sym (initial_effect n Idle c 16 len area) ∙ ap (chosen_effect n Idle c 16 len area) (no_line n c len out some room)
+first_effect : (n c len : ℕ) (area : List ℕ) → IsOut n c → n ≤ 65535 → 1 ≤ len → len ≤ 7609 → packet_effect n Idle (Initial c 16 len area) ≡ came n c 16 len 0 area
+first_effect n c len area out most some room = sym (initial_effect n Idle c 16 len area) ∙ ap (chosen_effect n Idle c 16 len area) (no_line n c len out most some room)
 
-first_response : (n c len : ℕ) (area : List ℕ) → IsOut n c → 1 ≤ len → len ≤ 7609 → response n Idle (Initial c 16 len area) ≡ on_receipt c 16 len 0 area
-first_response n c len area out some room = sym (initial_response n Idle c 16 len area) ∙ ap (chosen_response n Idle c 16 len area) (no_line n c len out some room)
+first_response : (n c len : ℕ) (area : List ℕ) → IsOut n c → n ≤ 65535 → 1 ≤ len → len ≤ 7609 → response n Idle (Initial c 16 len area) ≡ on_receipt c 16 len 0 area
+first_response n c len area out most some room = sym (initial_response n Idle c 16 len area) ∙ ap (chosen_response n Idle c 16 len area) (no_line n c len out most some room)
 
 -- ---- the packets of the message
 
@@ -167,7 +165,7 @@ comes h n c m (p ∷ ps) l out some z =
     let count : length z.frames.later ≡ continuation_count (length m) = z.frames.count in
     let begun : Leaves (h ++ Took p ∷ []) n (came n c 16 (length m) 0 z.frames.first).after =
     takes h n c (length m) 0 z.frames.first Idle p (Initial c 16 (length m) z.frames.first) head
-    (first_effect n c (length m) z.frames.first out (some_bytes m some) z.frames.room) l in
+    (first_effect n c (length m) z.frames.first out (at_most h n Idle l) (some_bytes m some) z.frames.room) l in
     let rest : Leaves ((h ++ Took p ∷ []) ++ map Took ps) n (Working c (take (length m) (z.frames.first ++ joined z.frames.later))) =
     fill (h ++ Took p ∷ []) n c (length m) 0 z.frames.first z.frames.later ps tail (omega arith) begun in
     subst (λ (x : List Call). Leaves x n (Working c m)) (further h p ps)
@@ -183,7 +181,7 @@ quiet h n c m [] p after l out some z =
     let count : length z.frames.later ≡ continuation_count (length m) = z.frames.count in (
       Idle,
       subst (λ (x : List Call). Leaves x n Idle) (sym (append-nil h)) l,
-      ap (response n Idle) head ∙ first_response n c (length m) z.frames.first out (some_bytes m some) z.frames.room
+      ap (response n Idle) head ∙ first_response n c (length m) z.frames.first out (at_most h n Idle l) (some_bytes m some) z.frames.room
           ∙ told_now c (length m) 0 z.frames.first z.frames.later after tail (omega arith),
     )
 quiet h n c m (b ∷ before) p after l out some z =
@@ -193,7 +191,7 @@ quiet h n c m (b ∷ before) p after l out some z =
     let count : length z.frames.later ≡ continuation_count (length m) = z.frames.count in
     let begun : Leaves (h ++ Took b ∷ []) n (came n c 16 (length m) 0 z.frames.first).after =
     takes h n c (length m) 0 z.frames.first Idle b (Initial c 16 (length m) z.frames.first) head
-    (first_effect n c (length m) z.frames.first out (some_bytes m some) z.frames.room) l in
+    (first_effect n c (length m) z.frames.first out (at_most h n Idle l) (some_bytes m some) z.frames.room) l in
     let rest : Comes (h ++ Took b ∷ []) n c before p after =
     later_comes (h ++ Took b ∷ []) n c (length m) 0 z.frames.first z.frames.later before p after tail (omega arith) begun in
     (rest.0, subst (λ (x : List Call). Leaves x n rest.0) (further h b before) rest.1, rest.2)

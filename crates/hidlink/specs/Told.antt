@@ -2,7 +2,6 @@ use Rattle.std.specs.Prelude.{◌≡◌, ◌≤◌, ℕ, List, [], ◌∷◌, Op
 use Rattle.hidframe.specs.declared.Packet.{Packet}
 use Rattle.hidframe.specs.Packets.{Fields, Initial, Continuation}
 use Rattle.hidframe.specs.declared.ctaphid.TheConstants.{CTAPHID_CANCEL}
-use Rattle.hidlink.specs.declared.arbitration.TheConstants.{MAX_CHANNELS}
 use Rattle.hidlink.specs.declared.transaction.Step.{Step}
 use Rattle.hidlink.specs.declared.transaction.Step.TheVariants.{Quiet, Request, Cancelled, Aborted}
 use Rattle.hidlink.specs.Ranks.{State, Idle, Receiving, Working, IsWorking, Response, tells}
@@ -31,9 +30,9 @@ Tells s f t Aborted = IsWorking s × (work t ≡ None)
 Tells s f t Cancelled = IsCancel s f × (work t ≡ work s)
 Tells s f t Quiet = (IsCancel s f → ⊥) × (work t ≡ work s)
 
--- channel c is one of the n that are out, of which a device has at most so many
+-- channel c is one of the n that are out
 abbrev pub IsOut : ℕ → ℕ → Type 0
-IsOut n c = (1 ≤ c) × (c ≤ n) × (n ≤ MAX_CHANNELS)
+IsOut n c = (1 ≤ c) × (c ≤ n)
 
 -- what comes of a packet of a request on c, before these others of it: nothing, or of the last the request
 abbrev pub told_before : ℕ → List Packet → Response

@@ -481,10 +481,11 @@ pub fn one_step()
 {}
 
 /// The laws of a device's history. Each history has one reading into parts, and leaves a device with
-/// one number of channels in one state.
+/// one number of channels, at most 65,535, in one state.
 pub fn one_history()
     ensures one { (h : List Call) (ps qs : List (List Call)) (a b : List Call) → Reads h ps a → Reads h qs b
         → (ps ≡ qs) × (a ≡ b) }
     ensures one_state { (h : List Call) (n k : ℕ) (s t : State) → Leaves h n s → Leaves h k t → (n ≡ k) × (s ≡ t) }
+    ensures most { (h : List Call) (n : ℕ) (s : State) → Leaves h n s → n ≤ MAX_CHANNELS }
     ensures every { (h : List Call) → (n : ℕ) × (s : State) × Leaves h n s }
 {}
