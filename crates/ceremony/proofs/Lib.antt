@@ -1,4 +1,8 @@
-pub mod Replies
+pub mod Taken
+pub mod Feeding
+pub mod Acting
+pub mod Coming
+pub mod Judging
 pub mod Verdicts
-pub mod Lists
+pub mod Objects
 pub mod OneVerdict

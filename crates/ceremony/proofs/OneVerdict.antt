@@ -7,21 +7,22 @@ use Rattle.hidlink.specs.Wire.{Carries, Dies, HasEnded}
 use Rattle.hidlink.proofs.Beginnings.{taken}
 use Rattle.hidlink.proofs.Laws.{one_carried, one_death, not_both, packets_taken}
 use Rattle.hidlink.proofs.SoFar.{ArePackets}
-use Rattle.first_line.specs.Lines.{First}
-use Rattle.first_line.proofs.Laws.{first_at, none_first, one_first}
+use Rattle.first_line.proofs.Laws.{none_first, one_first}
 use Rattle.ccbor.specs.Item.{Item}
 use Rattle.ccbor.specs.Canon.{Canon}
-use Rattle.ctapmsg.specs.Replies.{HasOtherShape, assertion_reply_item}
+use Rattle.ctapmsg.specs.Replies.{Assertion, Creation, HasOtherShape, ReplyOf, ReplyRefused, assertion_reply, assertion_reply_item, creation_reply, creation_reply_item}
+use Rattle.replies.specs.declared.reply.Kind.{Kind}
 use Rattle.replies.specs.declared.reply.Kind.TheVariants as kinds
-use Rattle.ctap_status.specs.declared.error.Error.TheVariants as refusals
-use Rattle.replies.proofs.Laws.{same_item}
-use Rattle.replies.proofs.Laws.{assertion_items}
-use Rattle.replies.proofs.Laws.{never_both}
+use Rattle.replies.proofs.Laws.{assertion_items, creation_items, creation_never_both, never_both, same_item}
+use Rattle.ctap_status.specs.declared.error.Error.{Error as ReplyError}
+use Rattle.ctap_status.specs.declared.error.Error.TheVariants as replies
+use Rattle.verification.specs.Shared.{Relation}
+use Rattle.verification.specs.Authentication as authentication
+use Rattle.verification.specs.Registration as enrolment
 use Rattle.site.specs.State.{State}
-use Rattle.site.specs.Steps.{Relation, IsFirstFailing, steps}
-use Rattle.site.specs.declared.error.SignInRefusal.{SignInRefusal}
-use Rattle.ceremony.specs.Reply.{Reply, ReplyOf}
-use Rattle.ceremony.specs.Verdict.{Delivers, IsGood, RefusedMessage, Refused, SignsIn, assertion}
+use Rattle.ceremony.specs.SignIn as sign_in
+use Rattle.ceremony.specs.Registration as registration
+use Rattle.ceremony.specs.Verdict.{Ceremony, Delivers, RefusedMessage, Refused, Succeeds}
 use Rattle.ceremony.specs.declared.error.Error.{Error}
 use Rattle.ceremony.specs.declared.error.Error.TheVariants as errors
 
@@ -71,155 +72,157 @@ one_given c ps low all nothing (failure k other) a b = absurd (a (inl (take k ps
 one_given c ps low all nothing (death i k) a b = absurd (a (inr (take (i + 1) ps, taken (i + 1) ps, b.1.dead)))
 one_given c ps low all nothing nothing a b = refl
 
--- ---- a message
+-- ---- a message that is no reply
 
--- the layers by which a message is refused, in order
-data Layer : Type 0 where
-  no_bytes : Layer
-  other_status : Layer
-  no_value : Layer
-  other_shape : Layer
-  a_step : Layer
+-- a value of another shape is one
+shape_value : (kind : Kind) (rest : List ℕ) → kind ≢ kinds.Reset → HasOtherShape kind rest → (v : Item) × Canon v rest
+shape_value kinds.MakeCredential rest some h = (h.0, h.1)
+shape_value kinds.GetAssertion rest some h = (h.0, h.1)
+shape_value kinds.GetNextAssertion rest some h = (h.0, h.1)
+shape_value kinds.GetInfo rest some h = (h.0, h.1)
+shape_value kinds.Reset rest some h = absurd (some refl)
 
-layers : List Layer
-layers =
-    no_bytes
-    ∷ other_status
-    ∷ no_value
-    ∷ other_shape
-    ∷ a_step
-    ∷ []
+value_and_none : (kind : Kind) (a b : List ℕ) → kind ≢ kinds.Reset → a ≡ b → ((v : Item) → Canon v a → ⊥) → HasOtherShape kind b → ⊥
+value_and_none kind a b some e none h = let v = shape_value kind b some h in none v.0 (subst (λ (l : List ℕ). Canon v.0 l) (sym e) v.1)
 
-At : List ℕ → Layer → Type 0
-At m no_bytes = m ≡ []
-At m other_status = (code : ℕ) × (rest : List ℕ) × (m ≡ code ∷ rest) × (code ≢ 0)
-At m no_value = (rest : List ℕ) × (m ≡ 0 ∷ rest) × ((v : Item) → Canon v rest → ⊥)
-At m other_shape = (rest : List ℕ) × (m ≡ 0 ∷ rest) × HasOtherShape kinds.GetAssertion rest
-At m a_step = (r : Reply) × ReplyOf r m
+one_unread : (kind : Kind) (m : List ℕ) (e f : ReplyError) → kind ≢ kinds.Reset → e ≢ replies.Memory → f ≢ replies.Memory → ReplyRefused kind m e → ReplyRefused kind m f → e ≡ f
+one_unread kind m replies.Memory f some se sf a b = absurd (se refl)
+one_unread kind m replies.Unfit f some se sf a b = absurd a
+one_unread kind m (replies.Status s) f some se sf a b = absurd a
+one_unread kind m replies.Empty replies.Memory some se sf a b = absurd (sf refl)
+one_unread kind m replies.Empty replies.Unfit some se sf a b = absurd b
+one_unread kind m replies.Empty (replies.Status t) some se sf a b = absurd b
+one_unread kind m replies.Empty replies.Empty some se sf a b = refl
+one_unread kind m replies.Empty (replies.Refused t) some se sf a b = let g = b.1 in absurd (cc)
+one_unread kind m replies.Empty replies.NotCanonical some se sf a b = let g = b.1 in absurd (cc)
+one_unread kind m replies.Empty replies.Shape some se sf a b = let g = b.1 in absurd (cc)
+one_unread kind m (replies.Refused s) replies.Memory some se sf a b = absurd (sf refl)
+one_unread kind m (replies.Refused s) replies.Unfit some se sf a b = absurd b
+one_unread kind m (replies.Refused s) (replies.Status t) some se sf a b = absurd b
+one_unread kind m (replies.Refused s) replies.Empty some se sf a b = let g = a.1 in absurd (cc)
+one_unread kind m (replies.Refused s) (replies.Refused t) some se sf a b = ap (λ x. replies.Refused x) (let g = a.1 in let h = b.1 in cc)
+one_unread kind m (replies.Refused s) replies.NotCanonical some se sf a b = absurd (a.2 (let g = a.1 in let h = b.1 in cc))
+one_unread kind m (replies.Refused s) replies.Shape some se sf a b = absurd (a.2 (let g = a.1 in let h = b.1 in cc))
+one_unread kind m replies.NotCanonical replies.Memory some se sf a b = absurd (sf refl)
+one_unread kind m replies.NotCanonical replies.Unfit some se sf a b = absurd b
+one_unread kind m replies.NotCanonical (replies.Status t) some se sf a b = absurd b
+one_unread kind m replies.NotCanonical replies.Empty some se sf a b = let g = a.1 in absurd (cc)
+one_unread kind m replies.NotCanonical (replies.Refused t) some se sf a b = absurd (b.2 (let g = a.1 in let h = b.1 in cc))
+one_unread kind m replies.NotCanonical replies.NotCanonical some se sf a b = refl
+one_unread kind m replies.NotCanonical replies.Shape some se sf a b = absurd (value_and_none kind a.0 b.0 some (let g = a.1 in let h = b.1 in cc) a.2.1 b.2)
+one_unread kind m replies.Shape replies.Memory some se sf a b = absurd (sf refl)
+one_unread kind m replies.Shape replies.Unfit some se sf a b = absurd b
+one_unread kind m replies.Shape (replies.Status t) some se sf a b = absurd b
+one_unread kind m replies.Shape replies.Empty some se sf a b = let g = a.1 in absurd (cc)
+one_unread kind m replies.Shape (replies.Refused t) some se sf a b = absurd (b.2 (let g = a.1 in let h = b.1 in cc))
+one_unread kind m replies.Shape replies.NotCanonical some se sf a b = absurd (value_and_none kind b.0 a.0 some (let g = a.1 in let h = b.1 in cc) b.2.1 a.2)
+one_unread kind m replies.Shape replies.Shape some se sf a b = refl
 
-at_first : (m : List ℕ) (layer : Layer) → At m layer → First (At m) layers layer
-unfolding layers At
-at_first m no_bytes a = first_at 0 refl tt a
-at_first m other_status a = first_at 1 refl ((λ e. let f = a.2 in absurd cc), tt) a
-at_first m no_value a = first_at 2 refl ((λ e. let f = a.1 in absurd cc), ((λ s. s.3 (let f = a.1 in let g = s.2 in cc)), tt)) a
-at_first m other_shape a =
-    first_at 3 refl (
-      (λ e. let f = a.1 in absurd cc),
-      (
-        (λ s. s.3 (let f = a.1 in let g = s.2 in cc)),
-        ((λ n. n.2 a.2.0 (subst (λ (l : List ℕ). Canon a.2.0 l) (let f = a.1 in let g = n.1 in cc) a.2.1)), tt),
-      ),
-    ) a
-at_first m a_step a =
-    first_at 4 refl (
-      (λ e. never_both m refusals.Empty e (λ s. absurd cc) a.0 a.1),
-      (
-        (λ s. never_both m (refusals.Refused s.0) (s.1, s.2, s.3) (λ e. absurd cc) a.0 a.1),
-        (
-          (λ n. never_both m refusals.NotCanonical (n.0, n.1, ((λ e. absurd cc), n.2)) (λ e. absurd cc) a.0 a.1),
-          ((λ o. never_both m refusals.Shape o (λ e. absurd cc) a.0 a.1), tt),
-        ),
-      ),
-    ) a
+-- ---- ceremonies whose replies and steps are one
 
--- what a refusal at a layer is
-Tells : Relation → State → List ℕ → List ℕ → Layer → Error → Type 0
-Tells valid s hash m no_bytes e = e ≡ errors.Empty
-Tells valid s hash m other_status e = (code : ℕ) × (rest : List ℕ) × (m ≡ code ∷ rest) × (e ≡ errors.Status code)
-Tells valid s hash m no_value e = e ≡ errors.NotCanonical
-Tells valid s hash m other_shape e = e ≡ errors.Shape
-Tells valid s hash m a_step e = (r : Reply) × (w : SignInRefusal) × ReplyOf r m × IsFirstFailing valid s hash (assertion r) w × (e ≡ errors.SignIn w)
+pub record IsOne {R W : Type 0} (k : Ceremony R W) : Type 0 where
+  pub command : k.command ≢ kinds.Reset
+  pub one_reply : (r q : R) (m : List ℕ) → k.IsReply r m → k.IsReply q m → r ≡ q
+  pub read : (r : R) (m : List ℕ) (e : ReplyError) → k.IsReply r m → ReplyRefused k.command m e → e ≢ replies.Memory → ⊥
+  pub one_step : (r : R) (w v : W) → k.Fails r w → k.Fails r v → w ≡ v
+  pub passed : (r : R) (w : W) → k.Passes r → k.Fails r w → ⊥
 
-one_reply : (r q : Reply) (m : List ℕ) → ReplyOf r m → ReplyOf q m → r ≡ q
-one_reply r q m a b =
+one_assertion : (r q : Assertion) (m : List ℕ) → ReplyOf (assertion_reply r) m → ReplyOf (assertion_reply q) m → r ≡ q
+one_assertion r q m a b =
     let rests : b.0 ≡ a.0 = let f = a.1 in let g = b.1 in cc in
     assertion_items r q (same_item (assertion_reply_item r) (assertion_reply_item q) a.0 a.2 (subst (λ (l : List ℕ). Canon (assertion_reply_item q) l) rests b.2))
 
-one_told : (valid : Relation) (s : State) (hash m : List ℕ) (layer : Layer) (e f : Error) → Tells valid s hash m layer e → Tells valid s hash m layer f → e ≡ f
-unfolding Tells
-one_told valid s hash m no_bytes e f a b = a ∙ sym b
-one_told valid s hash m other_status e f a b = a.3 ∙ ap (λ code. errors.Status code) (let g = a.2 in let h = b.2 in cc) ∙ sym b.3
-one_told valid s hash m no_value e f a b = a ∙ sym b
-one_told valid s hash m other_shape e f a b = a ∙ sym b
-one_told valid s hash m a_step e f a b =
-    let same = one_reply a.0 b.0 m a.2 b.2 in
-    let first : IsFirstFailing valid s hash (assertion b.0) a.1 = subst (λ (r : Reply). IsFirstFailing valid s hash (assertion r) a.1) same a.3 in
-    a.4 ∙ ap (λ w. errors.SignIn w) (one_first (λ x passed fails. fails passed) steps a.1 b.1 first b.3) ∙ sym b.4
+one_creation : (r q : Creation) (m : List ℕ) → ReplyOf (creation_reply r) m → ReplyOf (creation_reply q) m → r ≡ q
+one_creation r q m a b =
+    let rests : b.0 ≡ a.0 = let f = a.1 in let g = b.1 in cc in
+    creation_items r q (same_item (creation_reply_item r) (creation_reply_item q) a.0 a.2 (subst (λ (l : List ℕ). Canon (creation_reply_item q) l) rests b.2))
 
--- the layer at which a message is refused
-layer_of : (valid : Relation) (s : State) (hash m : List ℕ) (e : Error) → e ≢ errors.Memory → RefusedMessage valid s hash m e → (layer : Layer) × At m layer × Tells valid s hash m layer e
-unfolding At Tells
-layer_of valid s hash m errors.Incomplete some h = absurd h
-layer_of valid s hash m (errors.Dead index kind) some h = absurd h
-layer_of valid s hash m (errors.DeviceError code) some h = absurd h
-layer_of valid s hash m errors.Empty some h = (no_bytes, h, refl)
-layer_of valid s hash m (errors.Status code) some h = (other_status, (code, h.0, h.1, h.2), (code, h.0, h.1, refl))
-layer_of valid s hash m errors.NotCanonical some h = (no_value, (h.0, h.1, h.2.1), refl)
-layer_of valid s hash m errors.Shape some h = (other_shape, h, refl)
-layer_of valid s hash m (errors.SignIn w) some h = (a_step, (h.0, h.1), (h.0, w, h.1, h.2, refl))
-layer_of valid s hash m errors.Memory some h = absurd (some refl)
+pub sign_in_one : (valid : Relation) (s : State) (session : ℕ) (t : List ℕ) → IsOne (sign_in.sign_in valid s session t)
+sign_in_one valid s session t = record {
+  command = λ e. cc;
+  one_reply = one_assertion;
+  read = λ r m e spelled refused some. never_both m e refused some r spelled;
+  one_step = λ r w v a b. one_first (λ x passed fails. fails passed) authentication.steps w v a b;
+  passed = λ r w all fails. none_first (λ x passed failed. failed passed) authentication.steps w all fails;
+}
 
-one_message_refusal : (valid : Relation) (s : State) (hash m : List ℕ) (e f : Error) → e ≢ errors.Memory → f ≢ errors.Memory → RefusedMessage valid s hash m e → RefusedMessage valid s hash m f → e ≡ f
-one_message_refusal valid s hash m e f se sf a b =
-    let x = layer_of valid s hash m e se a in
-    let y = layer_of valid s hash m f sf b in
-    let same : x.0 ≡ y.0 = one_first (λ l out in'. out in') layers x.0 y.0 (at_first m x.0 x.1) (at_first m y.0 y.1) in
-    one_told valid s hash m y.0 e f (subst (λ l. Tells valid s hash m l e) same x.2) y.2
+pub registration_one : (valid : Relation) (s : State) (session : ℕ) (t : List ℕ) → IsOne (registration.registration valid s session t)
+registration_one valid s session t = record {
+  command = λ e. cc;
+  one_reply = one_creation;
+  read = λ r m e spelled refused some. creation_never_both m e refused some r spelled;
+  one_step = λ r w v a b. one_first (λ x passed fails. fails passed) enrolment.steps w v a b;
+  passed = λ r w all fails. none_first (λ x passed failed. failed passed) enrolment.steps w all fails;
+}
 
 -- ---- the verdict
 
-Says : Relation → State → List ℕ → Given → Error → Type 0
-Says valid s hash (message n m) e = RefusedMessage valid s hash m e
-Says valid s hash (failure n code) e = e ≡ errors.DeviceError code
-Says valid s hash (death index kind) e = e ≡ errors.Dead index kind
-Says valid s hash nothing e = e ≡ errors.Incomplete
+module _ {R W : Type 0} (k : Ceremony R W) (one : IsOne k) where
+  one_message : (m : List ℕ) (e f : Error W) → e ≢ errors.Memory → f ≢ errors.Memory → RefusedMessage k m e → RefusedMessage k m f → e ≡ f
+  one_message m errors.Incomplete f se sf a b = absurd a
+  one_message m (errors.Dead index kind) f se sf a b = absurd a
+  one_message m (errors.DeviceError code) f se sf a b = absurd a
+  one_message m errors.Memory f se sf a b = absurd (se refl)
+  one_message m (errors.Reply x) errors.Incomplete se sf a b = absurd b
+  one_message m (errors.Reply x) (errors.Dead index kind) se sf a b = absurd b
+  one_message m (errors.Reply x) (errors.DeviceError code) se sf a b = absurd b
+  one_message m (errors.Reply x) errors.Memory se sf a b = absurd (sf refl)
+  one_message m (errors.Reply x) (errors.Reply y) se sf a b = ap (λ z. errors.Reply z) (one_unread k.command m x y one.command a.1 b.1 a.0 b.0)
+  one_message m (errors.Reply x) (errors.Refused w) se sf a b = absurd (one.read b.0 m x b.1 a.0 a.1)
+  one_message m (errors.Refused w) errors.Incomplete se sf a b = absurd b
+  one_message m (errors.Refused w) (errors.Dead index kind) se sf a b = absurd b
+  one_message m (errors.Refused w) (errors.DeviceError code) se sf a b = absurd b
+  one_message m (errors.Refused w) errors.Memory se sf a b = absurd (sf refl)
+  one_message m (errors.Refused w) (errors.Reply y) se sf a b = absurd (one.read a.0 m y a.1 b.0 b.1)
+  one_message m (errors.Refused w) (errors.Refused v) se sf a b =
+      ap (λ z. errors.Refused z) (one.one_step b.0 w v (subst (λ (r : R). k.Fails r w) (one.one_reply a.0 b.0 m a.1 b.1) a.2) b.2)
 
-given_of : (valid : Relation) (s : State) (hash : List ℕ) (c : ℕ) (ps : List Packet) (e : Error) → e ≢ errors.Memory → Refused valid s hash c ps e → (x : Given) × Gives c ps x × Says valid s hash x e
-unfolding Gives Says
-given_of valid s hash c ps errors.Incomplete some h = (nothing, h, refl)
-given_of valid s hash c ps (errors.Dead index kind) some h = (death index kind, h, refl)
-given_of valid s hash c ps (errors.DeviceError code) some h = (failure h.0 code, (h.1, h.2), refl)
-given_of valid s hash c ps errors.Empty some h = (message h.0 h.1, h.2, h.3)
-given_of valid s hash c ps (errors.Status code) some h = (message h.0 h.1, h.2, h.3)
-given_of valid s hash c ps errors.NotCanonical some h = (message h.0 h.1, h.2, h.3)
-given_of valid s hash c ps errors.Shape some h = (message h.0 h.1, h.2, h.3)
-given_of valid s hash c ps (errors.SignIn w) some h = (message h.0 h.1, h.2, h.3)
-given_of valid s hash c ps errors.Memory some h = absurd (some refl)
+  Says : Given → Error W → Type 0
+  Says (message n m) e = RefusedMessage k m e
+  Says (failure n code) e = e ≡ errors.DeviceError code
+  Says (death index kind) e = e ≡ errors.Dead index kind
+  Says nothing e = e ≡ errors.Incomplete
 
-one_said : (valid : Relation) (s : State) (hash : List ℕ) (x : Given) (e f : Error) → e ≢ errors.Memory → f ≢ errors.Memory → Says valid s hash x e → Says valid s hash x f → e ≡ f
-unfolding Says
-one_said valid s hash (message n m) e f se sf a b = one_message_refusal valid s hash m e f se sf a b
-one_said valid s hash (failure n code) e f se sf a b = a ∙ sym b
-one_said valid s hash (death index kind) e f se sf a b = a ∙ sym b
-one_said valid s hash nothing e f se sf a b = a ∙ sym b
+  given_of : (c : ℕ) (ps : List Packet) (e : Error W) → e ≢ errors.Memory → Refused k c ps e → (x : Given) × Gives c ps x × Says x e
+  unfolding Gives Says
+  given_of c ps errors.Incomplete some h = (nothing, h, refl)
+  given_of c ps (errors.Dead index kind) some h = (death index kind, h, refl)
+  given_of c ps (errors.DeviceError code) some h = (failure h.0 code, (h.1, h.2), refl)
+  given_of c ps (errors.Reply e) some h = (message h.0 h.1, h.2, h.3)
+  given_of c ps (errors.Refused w) some h = (message h.0 h.1, h.2, h.3)
+  given_of c ps errors.Memory some h = absurd (some refl)
 
-pub one_refusal : (valid : Relation) (s : State) (hash : List ℕ) (c : ℕ) (ps : List Packet) → c < 2 ^ 32 → ArePackets ps → (e f : Error) → e ≢ errors.Memory → f ≢ errors.Memory
-    → Refused valid s hash c ps e → Refused valid s hash c ps f → e ≡ f
-one_refusal valid s hash c ps low all e f se sf a b =
-    let x = given_of valid s hash c ps e se a in
-    let y = given_of valid s hash c ps f sf b in
-    let same : x.0 ≡ y.0 = one_given c ps low all x.0 y.0 x.1 y.1 in
-    one_said valid s hash y.0 e f se sf (subst (λ g. Says valid s hash g e) same x.2) y.2
+  one_said : (x : Given) (e f : Error W) → e ≢ errors.Memory → f ≢ errors.Memory → Says x e → Says x f → e ≡ f
+  unfolding Says
+  one_said (message n m) e f se sf a b = one_message m e f se sf a b
+  one_said (failure n code) e f se sf a b = a ∙ sym b
+  one_said (death index kind) e f se sf a b = a ∙ sym b
+  one_said nothing e f se sf a b = a ∙ sym b
 
-pub one_acceptance : (valid : Relation) (s : State) (hash : List ℕ) (c : ℕ) (ps : List Packet) → (n k : ℕ) (r q : Reply) → SignsIn valid s hash c ps n r → SignsIn valid s hash c ps k q → (n ≡ k) × (r ≡ q)
-one_acceptance valid s hash c ps n k r q a b =
-    let o = one_carried c n k ps 16 16 a.0 b.0 a.1.0 b.1.0 a.1.1 b.1.1 in
-    (o.0, one_reply r q b.0 (subst (λ (m : List ℕ). ReplyOf r m) o.2 a.2.0) b.2.0)
+  pub one_refusal : (c : ℕ) (ps : List Packet) → c < 2 ^ 32 → ArePackets ps → (e f : Error W) → e ≢ errors.Memory → f ≢ errors.Memory → Refused k c ps e → Refused k c ps f → e ≡ f
+  one_refusal c ps low all e f se sf a b =
+      let x = given_of c ps e se a in
+      let y = given_of c ps f sf b in
+      let same : x.0 ≡ y.0 = one_given c ps low all x.0 y.0 x.1 y.1 in
+      one_said y.0 e f se sf (subst (λ (g : Given). Says g e) same x.2) y.2
 
--- a message that is accepted is refused for nothing but want of memory
-good_message : (valid : Relation) (s : State) (hash m : List ℕ) (r : Reply) (e : Error) → e ≢ errors.Memory → IsGood valid s hash m r → RefusedMessage valid s hash m e → ⊥
-unfolding At Tells
-good_message valid s hash m r e some good h =
-    let x = layer_of valid s hash m e some h in
-    let same : x.0 ≡ a_step = one_first (λ l out in'. out in') layers x.0 a_step (at_first m x.0 x.1) (at_first m a_step (r, good.0)) in
-    let told : Tells valid s hash m a_step e = subst (λ l. Tells valid s hash m l e) same x.2 in
-    let first : IsFirstFailing valid s hash (assertion r) told.1 = subst (λ (q : Reply). IsFirstFailing valid s hash (assertion q) told.1) (one_reply told.0 r m told.2 good.0) told.3 in
-    none_first (λ w passed fails. fails passed) steps told.1 good.1 first
+  pub one_acceptance : (c : ℕ) (ps : List Packet) (n j : ℕ) (r q : R) → Succeeds k c ps n r → Succeeds k c ps j q → (n ≡ j) × (r ≡ q)
+  one_acceptance c ps n j r q a b =
+      let o = one_carried c n j ps 16 16 a.0 b.0 a.1.0 b.1.0 a.1.1 b.1.1 in
+      (o.0, one.one_reply r q b.0 (subst (λ (m : List ℕ). k.IsReply r m) o.2 a.2) b.2)
 
-pub not_both_verdicts : (valid : Relation) (s : State) (hash : List ℕ) (c : ℕ) (ps : List Packet) → c < 2 ^ 32 → ArePackets ps → (n : ℕ) (r : Reply) (e : Error) → e ≢ errors.Memory
-    → SignsIn valid s hash c ps n r → Refused valid s hash c ps e → ⊥
-unfolding Gives Says
-not_both_verdicts valid s hash c ps low all n r e some a b =
-    let x = given_of valid s hash c ps e some b in
-    let same : x.0 ≡ message n a.0 = one_given c ps low all x.0 (message n a.0) x.1 a.1 in
-    good_message valid s hash a.0 r e some a.2 (subst (λ g. Says valid s hash g e) same x.2)
+  -- a message that succeeds is refused for nothing but want of memory
+  good_message : (m : List ℕ) (r : R) (e : Error W) → e ≢ errors.Memory → k.IsReply r m → k.Passes r → RefusedMessage k m e → ⊥
+  good_message m r errors.Incomplete some spelled passes h = h
+  good_message m r (errors.Dead index kind) some spelled passes h = h
+  good_message m r (errors.DeviceError code) some spelled passes h = h
+  good_message m r errors.Memory some spelled passes h = some refl
+  good_message m r (errors.Reply x) some spelled passes h = one.read r m x spelled h.0 h.1
+  good_message m r (errors.Refused w) some spelled passes h = one.passed r w passes (subst (λ (q : R). k.Fails q w) (one.one_reply h.0 r m h.1 spelled) h.2)
+
+  pub not_both_verdicts : (c : ℕ) (ps : List Packet) → c < 2 ^ 32 → ArePackets ps → (n : ℕ) (r : R) (e : Error W) → e ≢ errors.Memory → Succeeds k c ps n r → Refused k c ps e → ⊥
+  unfolding Gives Says
+  not_both_verdicts c ps low all n r e some a b =
+      let x = given_of c ps e some b in
+      let same : x.0 ≡ message n a.0 = one_given c ps low all x.0 (message n a.0) x.1 a.1 in
+      good_message a.0 r e some a.2 a.3 (subst (λ (g : Given). Says g e) same x.2)

@@ -1,31 +1,124 @@
--- A message's verdict: what refuses it, and that nothing refuses a good one.
-use Rattle.std.proofs.Common.{◌≡◌, ℕ, List, refl}
+-- From a message's verdict to that on the packets, and from some of the packets to all.
+use Rattle.std.proofs.Common.{◌≡◌, ℕ, ◌+◌, ◌<◌, ◌≤◌, ◌⊎◌, inl, inr, List, [], ◌∷◌, length, take, refl, sym, ap, subst, arith, suc, zero, Result, Ok, Err}
+use Rattle.std.specs.Prelude.{IfErr, IfOk, OnOk}
+use Rattle.std.proofs.lemmas.Bool.{cases_lt}
+use Rattle.std.proofs.lemmas.List.{take_all}
+use Rattle.hidframe.specs.declared.Packet.{Packet}
+use Rattle.hidlink.specs.Wire.{Carries, Dies, HasEnded}
+use Rattle.hidlink.proofs.Laws.{carries_first, one_carried}
+use Rattle.ceremony.specs.Verdict.{Ceremony, Delivers, Refused, RefusedMessage, Succeeds, Undelivered}
+use Rattle.verification.specs.Shared.{Relation}
+use Rattle.verification.specs.declared.refusal.SignInRefusal.{SignInRefusal}
 use Rattle.site.specs.State.{State}
-use Rattle.first_line.proofs.Laws.{none_first}
-use Rattle.site.specs.Steps.{Relation, PassesAll, steps}
-use Rattle.site.specs.Answers.{Refused as SiteRefused}
-use Rattle.site.specs.declared.error.Error.{Error as SiteError}
-use Rattle.site.specs.declared.error.Error.TheVariants as sites
-use Rattle.ceremony.specs.Reply.{IsUnread, Reply, ReplyOf}
-use Rattle.ceremony.specs.SiteErrors.{refusal_of}
-use Rattle.ceremony.specs.Verdict.{RefusedMessage, assertion}
+use Rattle.verification.specs.declared.refusal.RegistrationRefusal.{RegistrationRefusal}
+use Rattle.ceremony.specs.Registration as registration
+use Rattle.ceremony.specs.declared.registration.Enrolled.{Enrolled}
+use Rattle.ceremony.specs.SignIn as sign_in
+use Rattle.ceremony.specs.declared.authentication.Accepted.{Accepted}
 use Rattle.ceremony.specs.declared.error.Error.{Error}
 use Rattle.ceremony.specs.declared.error.Error.TheVariants as errors
 
-pub unread_refused : (valid : Relation) (s : State) (hash m : List ℕ) (e : Error) → IsUnread m e → RefusedMessage valid s hash m e
-unread_refused valid s hash m (errors.SignIn w) u = absurd u
-unread_refused valid s hash m e u = u
+-- what refuses a message refuses the packets, and so does that none came
+pub lifted : {R W : Type 0} (k : Ceremony R W) (c : ℕ) (ps : List Packet) (n : ℕ) (m : List ℕ) (e : Error W) → Delivers c ps n m → RefusedMessage k m e → Refused k c ps e
+lifted k c ps n m errors.Incomplete d h = absurd h
+lifted k c ps n m (errors.Dead index kind) d h = absurd h
+lifted k c ps n m (errors.DeviceError code) d h = absurd h
+lifted k c ps n m (errors.Reply e) d h = (n, m, d, h)
+lifted k c ps n m (errors.Refused w) d h = (n, m, d, h)
+lifted k c ps n m errors.Memory d h = tt
 
-pub site_refused : (valid : Relation) (s : State) (hash m : List ℕ) (r : Reply) (e : SiteError) → ReplyOf r m → SiteRefused valid s hash (assertion r) e
-    → RefusedMessage valid s hash m (refusal_of e)
-site_refused valid s hash m r (sites.SignIn w) h refused = (r, h, refused)
-site_refused valid s hash m r sites.Memory h refused = tt
-site_refused valid s hash m r sites.BadInput h refused = absurd refused
-site_refused valid s hash m r sites.BadTable h refused = absurd refused
+pub undelivered : {R W : Type 0} (k : Ceremony R W) (c : ℕ) (ps : List Packet) (e : Error W) → Undelivered c ps e → Refused k c ps e
+undelivered k c ps errors.Incomplete h = h
+undelivered k c ps (errors.Dead index kind) h = h
+undelivered k c ps (errors.DeviceError code) h = h
+undelivered k c ps (errors.Reply e) h = absurd h
+undelivered k c ps (errors.Refused w) h = absurd h
+undelivered k c ps errors.Memory h = tt
 
-pub site_good : (valid : Relation) (s : State) (hash : List ℕ) (r : Reply) (e : SiteError) → PassesAll valid s hash (assertion r) → SiteRefused valid s hash (assertion r) e
-    → refusal_of e ≡ errors.Memory
-site_good valid s hash r (sites.SignIn w) all refused = absurd (none_first (λ x passed fails. fails passed) steps w all refused)
-site_good valid s hash r sites.Memory all refused = refl
-site_good valid s hash r sites.BadInput all refused = absurd refused
-site_good valid s hash r sites.BadTable all refused = absurd refused
+pub never_memory : {W : Type 0} (c : ℕ) (ps : List Packet) (e : Error W) → Undelivered c ps e → e ≡ errors.Memory → ⊥
+never_memory c ps errors.Incomplete h e = absurd (cc)
+never_memory c ps (errors.Dead index kind) h e = absurd (cc)
+never_memory c ps (errors.DeviceError code) h e = absurd (cc)
+never_memory c ps (errors.Reply x) h e = h
+never_memory c ps (errors.Refused w) h e = h
+never_memory c ps errors.Memory h e = h
+
+-- packets deliver one message
+pub one_message : (c : ℕ) (ps : List Packet) (n k : ℕ) (m l : List ℕ) → Delivers c ps n m → Delivers c ps k l → (n ≡ k) × (m ≡ l)
+one_message c ps n k m l a b = let o = one_carried c n k ps 16 16 m l a.0 b.0 a.1 b.1 in (o.0, o.2)
+
+-- ---- the first k packets, with which all has ended, or which are all
+
+abbrev pub AreEnough : ℕ → ℕ → List Packet → Type 0
+AreEnough c k ps = HasEnded c (take k ps) ⊎ (length ps ≤ k)
+
+-- fewer of the first packets
+take-take : (n k : ℕ) (ps : List Packet) → n ≤ length (take k ps) → (n ≤ length ps) × (take n (take k ps) ≡ take n ps)
+take-take zero k ps h = (omega arith, refl)
+take-take (suc n) zero ps h = absurd (omega arith)
+take-take (suc n) (suc k) [] h = absurd (omega arith)
+take-take (suc n) (suc k) (p ∷ ps) h = let less = take-take n k ps (omega arith) in let within : n ≤ length ps = less.0 in (omega arith, ap (λ xs. p ∷ xs) less.1)
+
+take_within : (n k : ℕ) (ps : List Packet) → n ≤ k → n ≤ length ps → n ≤ length (take k ps)
+take_within zero k ps h w = omega arith
+take_within (suc n) zero ps h w = absurd (omega arith)
+take_within (suc n) (suc k) [] h w = absurd (omega arith)
+take_within (suc n) (suc k) (p ∷ ps) h w = let less : n ≤ length (take k ps) = take_within n k ps (omega arith) (omega arith) in omega arith
+
+carried_more : (c k n cmd : ℕ) (ps : List Packet) (m : List ℕ) → (n ≤ length (take k ps)) × Carries c (take n (take k ps)) cmd m → (n ≤ length ps) × Carries c (take n ps) cmd m
+carried_more c k n cmd ps m d = let t = take-take n k ps d.0 in (t.0, subst (λ (xs : List Packet). Carries c xs cmd m) t.1 d.1)
+
+pub succeeds_more : {R W : Type 0} (x : Ceremony R W) (c k : ℕ) (ps : List Packet) (n : ℕ) (r : R) → Succeeds x c (take k ps) n r → Succeeds x c ps n r
+succeeds_more x c k ps n r s = (s.0, carried_more c k n 16 ps s.0 s.1, s.2, s.3)
+
+pub succeeds_less : {R W : Type 0} (x : Ceremony R W) (c k : ℕ) (ps : List Packet) (n : ℕ) (r : R) → AreEnough c k ps → Succeeds x c ps n r → Succeeds x c (take k ps) n r
+succeeds_less x c k ps n r (inr all) s = subst (λ (xs : List Packet). Succeeds x c xs n r) (sym (take_all k ps all)) s
+succeeds_less x c k ps n r (inl over) s = elim (cases_lt k n) [
+  | inl less ↦ absurd (carries_first c k n ps 16 s.0 less s.1.0 s.1.1 over)
+  | inr within ↦ let w : n ≤ length ps = s.1.0 in
+      let few = take_within n k ps within w in
+      let t = take-take n k ps few in
+      (s.0, (few, subst (λ (xs : List Packet). Carries c xs 16 s.0) (sym t.1) s.1.1), s.2, s.3)
+]
+
+pub refused_more : {R W : Type 0} (x : Ceremony R W) (c k : ℕ) (ps : List Packet) (e : Error W) → AreEnough c k ps → Refused x c (take k ps) e → Refused x c ps e
+refused_more x c k ps errors.Incomplete (inl over) h = absurd (h over)
+refused_more x c k ps errors.Incomplete (inr all) h = subst (λ (xs : List Packet). HasEnded c xs → ⊥) (take_all k ps all) h
+refused_more x c k ps (errors.Dead index kind) enough h =
+    let below : index < length (take k ps) = h.0 in
+    let t = take-take (index + 1) k ps (omega arith) in
+    let within : index + 1 ≤ length ps = t.0 in
+    (omega arith, subst (λ (xs : List Packet). Dies c xs kind) t.1 h.1)
+refused_more x c k ps (errors.DeviceError code) enough h = let d = carried_more c k h.0 63 ps (code ∷ []) (h.1, h.2) in (h.0, d.0, d.1)
+refused_more x c k ps (errors.Reply e) enough h = (h.0, h.1, carried_more c k h.0 16 ps h.1 h.2, h.3)
+refused_more x c k ps (errors.Refused w) enough h = (h.0, h.1, carried_more c k h.0 16 ps h.1 h.2, h.3)
+refused_more x c k ps errors.Memory enough h = tt
+
+pub delivers_more : (c k n : ℕ) (ps : List Packet) (m : List ℕ) → Delivers c (take k ps) n m → Delivers c ps n m
+delivers_more c k n ps m d = carried_more c k n 16 ps m d
+
+-- ---- an answer on the first packets is one on all
+
+pub refuses_more : {R W A : Type 0} (x : Ceremony R W) (c k : ℕ) (ps : List Packet) (r : Result A (Error W)) → AreEnough c k ps → IfErr r (Refused x c (take k ps)) → IfErr r (Refused x c ps)
+refuses_more x c k ps (Ok a) enough h = tt
+refuses_more x c k ps (Err e) enough h = refused_more x c k ps e enough h
+
+pub accepts_more : (valid : Relation) (s : State) (session : ℕ) (t : List ℕ) (c k : ℕ) (ps : List Packet) (r : Result Accepted (Error SignInRefusal))
+    → IfOk r (sign_in.Accepts valid s session t c (take k ps)) → IfOk r (sign_in.Accepts valid s session t c ps)
+accepts_more valid s session t c k ps (Ok a) h = (h.0, succeeds_more (sign_in.sign_in valid s session t) c k ps a.used h.0 h.1, h.2)
+accepts_more valid s session t c k ps (Err e) h = tt
+
+pub after_more : (s : State) (session : ℕ) (t : List ℕ) (c k : ℕ) (ps : List Packet) (new : State) (r : Result Accepted (Error SignInRefusal))
+    → OnOk r (sign_in.IsAfter s session t c (take k ps) new) → OnOk r (sign_in.IsAfter s session t c ps new)
+after_more s session t c k ps new (Ok a) h = (h.0, h.1, h.2, delivers_more c k h.0 ps h.1 h.3, h.4, h.5)
+after_more s session t c k ps new (Err e) h = tt
+
+pub enrols_more : (valid : Relation) (s : State) (session : ℕ) (t : List ℕ) (c k : ℕ) (ps : List Packet) (r : Result Enrolled (Error RegistrationRefusal))
+    → IfOk r (registration.Accepts valid s session t c (take k ps)) → IfOk r (registration.Accepts valid s session t c ps)
+enrols_more valid s session t c k ps (Ok a) h = (h.0, succeeds_more (registration.registration valid s session t) c k ps a.used h.0 h.1, h.2)
+enrols_more valid s session t c k ps (Err e) h = tt
+
+pub enrolled_more : (s : State) (session : ℕ) (t : List ℕ) (c k : ℕ) (ps : List Packet) (new : State) (r : Result Enrolled (Error RegistrationRefusal))
+    → OnOk r (registration.IsAfter s session t c (take k ps) new) → OnOk r (registration.IsAfter s session t c ps new)
+enrolled_more s session t c k ps new (Ok a) h = (h.0, h.1, h.2, delivers_more c k h.0 ps h.1 h.3, h.4, h.5)
+enrolled_more s session t c k ps new (Err e) h = tt

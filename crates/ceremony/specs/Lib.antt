@@ -1,6 +1,7 @@
-pub mod Reply
 pub mod Numbers
-pub mod SiteErrors
-pub mod MessageErrors
+pub mod Packets
 pub mod Verdict
-pub mod Accepts
+pub mod SignIn
+pub mod Registration
+pub mod Serving
+pub mod AtDevice

@@ -1,15 +1,19 @@
 -- The product's numbers of refusals.
 use Rattle.std.specs.Prelude.{ℕ, Option, Some, None}
+use Rattle.ctap_status.specs.Numbers as reply
 use Rattle.ceremony.specs.declared.error.Error.{Error}
 use Rattle.ceremony.specs.declared.error.Error.TheVariants as errors
+use Rattle.ceremony.specs.declared.serving.ServeError.{ServeError}
+use Rattle.ceremony.specs.declared.serving.ServeError.TheVariants as serves
 
-abbrev pub refusal_number : Error → Option ℕ
-refusal_number errors.NotCanonical = Some 2
-refusal_number errors.Shape = Some 13
-refusal_number errors.Empty = Some 17
-refusal_number (errors.Status code) = Some 18
+abbrev pub refusal_number : {W : Type 0} → Error W → Option ℕ
 refusal_number errors.Incomplete = Some 24
 refusal_number (errors.Dead index kind) = Some 25
 refusal_number (errors.DeviceError code) = Some 26
-refusal_number (errors.SignIn w) = None
+refusal_number (errors.Reply e) = reply.refusal_number e
+refusal_number (errors.Refused w) = None
 refusal_number errors.Memory = None
+
+abbrev pub serve_number : ServeError → Option ℕ
+serve_number serves.NotWorking = Some 6
+serve_number serves.Memory = None

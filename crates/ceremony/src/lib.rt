@@ -1,12 +1,17 @@
-//! Sign-in, from USB packets to a site's verdict: CTAPHID and CTAP 2.1 below, the steps of WebAuthn Level 2,
-//! section 7.2, on top.
+//! Ceremonies, from USB packets to a site's verdict: CTAPHID and CTAP 2.1 below, the steps of WebAuthn Level 2, section 7,
+//! on top; and the authenticator's end of the same packets.
 #![tactic(auto)]
 
+mod authentication;
 mod error;
 mod law;
-mod reply;
-mod sign_in;
+mod live;
+mod registration;
+mod serving;
 
+pub use authentication::{Accepted, sign_in};
 pub use error::Error;
 pub use law::one_verdict;
-pub use sign_in::{Accepted, sign_in_hash};
+pub use live::{Fed, Live};
+pub use registration::{Enrolled, register};
+pub use serving::{Act, ServeError, serve};

@@ -1,11 +1,11 @@
 use Rattle.std.proofs.Common.{◌≡◌, ℕ, suc, zero, ◌+◌, ◌^◌, ◌<◌, ◌≤◌, ◌⊎◌, inl, inr, List, [], ◌∷◌, ◌++◌, length, take, refl, sym, ◌∙◌, ap, subst, arith, slice_index}
-use Rattle.std.proofs.lemmas.List.{length-take-le, length_push}
+use Rattle.std.proofs.lemmas.List.{length-append, length-take-le, length_push}
 use Rattle.hidframe.specs.declared.Packet.{Packet}
 use Rattle.hidlink.specs.declared.collection.DeadKind.{DeadKind}
-use Rattle.hidlink.specs.Wire.{IsBeginning, Carries, IsDead, Dies, Shown, Replied, Failed, Died}
+use Rattle.hidlink.specs.Wire.{IsBeginning, Carries, HasEnded, IsDead, Dies, Shown, Replied, Failed, Died}
 use Rattle.hidlink.specs.Steps.{IsEnded, state}
 use Rattle.hidlink.proofs.Runs.{ending, state-carries, state-ended, pending_before}
-use Rattle.hidlink.proofs.Beginnings.{comparable, dead_later, taken, taken_less, beginning_cases}
+use Rattle.hidlink.proofs.Beginnings.{begins_later, comparable, dead_later, taken, taken_less, beginning_cases}
 use Rattle.hidlink.proofs.SoFar.{ArePackets, packets_left}
 use Rattle.hidlink.proofs.Shows.{ending_ended, state-dies}
 
@@ -108,3 +108,26 @@ not_both c j k ps cmd m kind a d = d.dead (take j ps) cmd m (comparable (take j 
 pub packets_taken : (k : ℕ) (ps : List Packet) → ArePackets ps → ArePackets (take k ps)
 packets_taken k ps all = let A : List Packet → Type 0 = ArePackets in
     let t = taken k ps in packets_left (take k ps) t.0 (subst A t.1 all)
+
+-- a beginning is no longer than the list
+begins_size : (qs ps : List Packet) → IsBeginning qs ps → length qs ≤ length ps
+begins_size qs ps b = let size : length ps ≡ length qs + length b.0 = ap length b.1 ∙ length-append qs b.0 in omega arith
+
+-- before the packet that completes what is carried nothing has ended
+pub carries_first : (c j k : ℕ) (ps : List Packet) (cmd : ℕ) (m : List ℕ) → j < k → k ≤ length ps → Carries c (take k ps) cmd m → HasEnded c (take j ps) → ⊥
+carries_first c j k ps cmd m less within h (inl e) =
+    let E : Shown → Type 0 = IsEnded in
+    let short : length (take j ps) ≡ j = length-take-le j ps (omega arith) in
+    let long : length (take k ps) ≡ k = length-take-le k ps within in
+    let size : length e.0 ≤ length (take j ps) = begins_size e.0 (take j ps) e.3 in
+    none_shorter c e.0 (take k ps) cmd m h (begins_later e.0 (take j ps) (take k ps) e.3 (taken_less j k ps (omega arith))) (omega arith)
+    (subst E (sym (state-carries c e.0 e.1 e.2 e.4)) (ending_ended e.1 e.2))
+carries_first c j k ps cmd m less within h (inr e) =
+    e.2 (take k ps) cmd m (inr (begins_later e.0 (take j ps) (take k ps) e.1 (taken_less j k ps (omega arith)))) h
+
+-- before the packet that ends all hope neither
+pub dies_first : (c j k : ℕ) (ps : List Packet) (kind : DeadKind) → j < k → k ≤ length ps → Dies c (take k ps) kind → HasEnded c (take j ps) → ⊥
+dies_first c j k ps kind less within d (inl e) =
+    d.dead e.0 e.1 e.2 (inl (begins_later e.0 (take j ps) (take k ps) e.3 (taken_less j k ps (omega arith)))) e.4
+dies_first c j k ps kind less within d (inr e) =
+    dies_shortest c j k ps kind less within (dead_later c e.0 (take j ps) e.1 e.2) d

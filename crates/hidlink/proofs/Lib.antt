@@ -14,3 +14,6 @@ pub mod Steps
 pub mod Calls
 pub mod Hearing
 pub mod Telling
+pub mod Whole
+pub mod Cancels
+pub mod Most

@@ -16,11 +16,11 @@ use Rattle.hidlink.specs.Machine.{Does, Effect, came, choices, chosen_effect, ch
 use Rattle.hidlink.specs.Told.{work, IsCancel, Tells}
 use Rattle.hidlink.proofs.Calls.{initial_effect, initial_response}
 
-both_left : (a b : Bool) → (a && b) ≡ true → a ≡ true
+pub both_left : (a b : Bool) → (a && b) ≡ true → a ≡ true
 both_left true b e = refl
 both_left false b e = absurd (cc)
 
-both_right : (a b : Bool) → (a && b) ≡ true → b ≡ true
+pub both_right : (a b : Bool) → (a && b) ≡ true → b ≡ true
 both_right true b e = e
 both_right false b e = absurd (cc)
 

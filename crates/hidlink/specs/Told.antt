@@ -1,9 +1,10 @@
-use Rattle.std.specs.Prelude.{◌≡◌, ℕ, List, Option, Some, None}
+use Rattle.std.specs.Prelude.{◌≡◌, ◌≤◌, ℕ, List, [], ◌∷◌, Option, Some, None}
+use Rattle.hidframe.specs.declared.Packet.{Packet}
 use Rattle.hidframe.specs.Packets.{Fields, Initial, Continuation}
 use Rattle.hidframe.specs.declared.ctaphid.TheConstants.{CTAPHID_CANCEL}
 use Rattle.hidlink.specs.declared.transaction.Step.{Step}
 use Rattle.hidlink.specs.declared.transaction.Step.TheVariants.{Quiet, Request, Cancelled, Aborted}
-use Rattle.hidlink.specs.Ranks.{State, Idle, Receiving, Working, IsWorking}
+use Rattle.hidlink.specs.Ranks.{State, Idle, Receiving, Working, IsWorking, Response, tells}
 
 -- What a device's answer to a packet tells of its work: CTAP 2.1 sections 11.2.5 and 11.2.9.1.5.
 
@@ -28,3 +29,12 @@ Tells s f t (Request c) = (work s ≡ None) × ((payload : List ℕ) × (work t 
 Tells s f t Aborted = IsWorking s × (work t ≡ None)
 Tells s f t Cancelled = IsCancel s f × (work t ≡ work s)
 Tells s f t Quiet = (IsCancel s f → ⊥) × (work t ≡ work s)
+
+-- channel c is one of the n that are out
+abbrev pub IsOut : ℕ → ℕ → Type 0
+IsOut n c = (1 ≤ c) × (c ≤ n)
+
+-- what comes of a packet of a request on c, before these others of it: nothing, or of the last the request
+abbrev pub told_before : ℕ → List Packet → Response
+told_before c [] = tells (Request c)
+told_before c (p ∷ ps) = tells Quiet

@@ -186,6 +186,15 @@ impl Collector {
         })
     }
 
+    /// Begins anew, for a reply on channel `cid`, in the room that it has. Takes no memory.
+    pub fn restart(&mut self, cid: u32)
+        ensures channel { self.new.cid ≡ cid }
+        ensures got { Got cid [] self.new.shown }
+    {
+        self.cid = cid;
+        self.phase = Phase::Idle;
+    }
+
     /// Takes a packet and says what came of it.
     pub fn feed(&mut self, packet: &Packet) -> Result<Outcome<'_>, Ended>
         ensures* after { sem 𝓛 (Rests the_row self.entry (λ new. (new.cid ≡ self.entry.now.cid) ×

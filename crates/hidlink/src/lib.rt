@@ -3,11 +3,13 @@
 
 mod arbitration;
 mod collection;
+mod law;
 mod opening;
 mod room;
 mod transaction;
 
 pub use arbitration::MAX_CHANNELS;
 pub use collection::{Collector, DeadKind, Ended, Outcome, Received, one_outcome, receive};
+pub use law::whole_request;
 pub use opening::{Opener, Opening};
 pub use transaction::{Device, Refusal, Step, one_history, one_step};

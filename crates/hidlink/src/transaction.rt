@@ -4,6 +4,7 @@
 ghost use Rattle.std.specs.Prelude.{◌≡◌, ◌⊎◌, ◌≤◌, ◌<◌, ◌+◌, ◌++◌, ◌↔◌, [], ◌∷◌, List, ℕ, Bool, length, take, IfOk, IsErrOf, IsTrue, OnErr, OnOk, Some};
 ghost use Rattle.hidframe.specs.Packets.{Continuation, Fields, Initial, fields, IsPacket};
 ghost use Rattle.hidlink.specs.declared.transaction.Step.{Step};
+ghost use Rattle.hidlink.specs.declared.transaction.Step.TheVariants as step;
 ghost use Rattle.hidlink.specs.Told.{Tells};
 ghost use Rattle.hidlink.specs.declared.arbitration.TheConstants.{MAX_CHANNELS};
 ghost use Rattle.hidlink.specs.History.{Answered, Call, Expired, Kept, Leaves, Reads, Took};
@@ -243,6 +244,7 @@ impl Device {
         ensures sent { self.new.left ≡ packets_of (response self.old.channels self.old.state (fields packet.now)).sent }
         ensures told { (h : List Call) → Leaves h self.old.channels self.old.state
             → Tells self.old.state (fields packet.now) self.new.state result }
+        ensures cancelled { result ≡ step.Cancelled → IsWorking self.old.state × (self.new ≡ self.old) }
         ensures history { (h : List Call) → Leaves h self.old.channels self.old.state
             → Leaves (h ++ Took packet.now ∷ []) self.new.channels self.new.state }
     {
@@ -479,10 +481,11 @@ pub fn one_step()
 {}
 
 /// The laws of a device's history. Each history has one reading into parts, and leaves a device with
-/// one number of channels in one state.
+/// one number of channels, at most 65,535, in one state.
 pub fn one_history()
     ensures one { (h : List Call) (ps qs : List (List Call)) (a b : List Call) → Reads h ps a → Reads h qs b
         → (ps ≡ qs) × (a ≡ b) }
     ensures one_state { (h : List Call) (n k : ℕ) (s t : State) → Leaves h n s → Leaves h k t → (n ≡ k) × (s ≡ t) }
+    ensures most { (h : List Call) (n : ℕ) (s : State) → Leaves h n s → n ≤ MAX_CHANNELS }
     ensures every { (h : List Call) → (n : ℕ) × (s : State) × Leaves h n s }
 {}

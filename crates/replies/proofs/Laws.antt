@@ -18,7 +18,7 @@ use Rattle.cbor_map.proofs.Laws.{read_is, read_clean, clean_read, unread_faulty,
 use Rattle.cbor_map.proofs.Tests.{clean_if_none, none_if_clean}
 use Rattle.ctap_status.specs.declared.error.Error.{Error}
 use Rattle.ctap_status.specs.declared.error.Error.TheVariants as errors
-use Rattle.replies.specs.Replies.{credential_content, reply_user_members, reply_user_content, Creation, creation_reply_members, creation_reply_content, Assertion, assertion_reply_members, assertion_reply_content, assertion_reply_item, next_reply_members, Info, info_members, info_content, ReplyMessage, creation_reply, assertion_reply, next_reply, info_reply, reset_reply, kind_of, MapReply, ReplyOf, IsReply, IsNoReply, ReplyRefused}
+use Rattle.replies.specs.Replies.{credential_content, reply_user_members, reply_user_content, Creation, creation_reply_members, creation_reply_content, creation_reply_item, Assertion, assertion_reply_members, assertion_reply_content, assertion_reply_item, next_reply_members, Info, info_members, info_content, ReplyMessage, creation_reply, assertion_reply, next_reply, info_reply, reset_reply, kind_of, MapReply, ReplyOf, IsReply, IsNoReply, ReplyRefused}
 use Rattle.replies.specs.declared.reply.Kind.TheVariants as kinds
 
 pub same_item : (v w : Item) (bs : List ℕ) → Canon v bs → Canon w bs → v ≡ w
@@ -49,6 +49,9 @@ creation_of c = record { fmt = c.0; auth_data = c.1.0; statement = c.1.1.0 }
 
 creation_contents : (q r : Creation) → creation_reply_content q ≡ creation_reply_content r → q ≡ r
 creation_contents q r e = ap creation_of e
+
+pub creation_items : (q r : Creation) → creation_reply_item q ≡ creation_reply_item r → q ≡ r
+creation_items q r e = creation_contents q r (one_read (record_of creation_reply_members) creation_ordered (creation_reply_content q) (creation_reply_content r) e)
 
 abbrev assertion_of : Contents assertion_reply_members → Assertion
 assertion_of c = record { credential = c.0.0; auth_data = c.1.0; signature = c.1.1.0; user = option_map (λ u. u.0) c.1.1.1.0; number = c.1.1.1.1.0 }
@@ -201,19 +204,27 @@ module _ (v : Item) (rest : List ℕ) (canon : Canon v rest) where
 
 -- ---- what is refused, want of memory aside, is no reply
 
-faulty_none : (rest tail : List ℕ) (v : Item) (q : Assertion) → Canon v rest → gravest (record_of assertion_reply_members) v ≢ None → Canon (assertion_reply_item q) tail
-    → gravest (record_of assertion_reply_members) (assertion_reply_item q) ≡ None → rest ≡ tail → ⊥
-faulty_none rest tail v q canon fault c e same =
-    let is = same_item (assertion_reply_item q) v rest (subst (λ (l : List ℕ). Canon (assertion_reply_item q) l) (sym same) c) canon in
-    fault (ap (gravest (record_of assertion_reply_members)) (sym is) ∙ e)
+faulty_none : (ms : Members) (rest tail : List ℕ) (v x : Item) → Canon v rest → gravest (record_of ms) v ≢ None → Canon x tail → gravest (record_of ms) x ≡ None → rest ≡ tail → ⊥
+faulty_none ms rest tail v x canon fault c e same =
+    let is = same_item x v rest (subst (λ (l : List ℕ). Canon x l) (sym same) c) canon in
+    fault (ap (gravest (record_of ms)) (sym is) ∙ e)
 
 pub never_both : (bs : List ℕ) (e : Error) → ReplyRefused kinds.GetAssertion bs e → e ≢ errors.Memory → (q : Assertion) → ReplyOf (assertion_reply q) bs → ⊥
 never_both bs errors.Memory h some q k = some refl
 never_both bs errors.Empty h some q k = let e = k.1 in absurd cc
 never_both bs (errors.Refused code) h some q k = h.2 (let e = k.1 in let f = h.1 in cc)
 never_both bs errors.NotCanonical h some q k = h.2.1 (assertion_reply_item q) (subst (λ (l : List ℕ). Canon (assertion_reply_item q) l) (let e = k.1 in let f = h.1 in cc) k.2)
-never_both bs errors.Shape h some q k = faulty_none h.0 k.0 h.2.0 q h.2.1 h.2.2 k.2 k.3 (let e = k.1 in let f = h.1 in cc)
+never_both bs errors.Shape h some q k = faulty_none assertion_reply_members h.0 k.0 h.2.0 (assertion_reply_item q) h.2.1 h.2.2 k.2 k.3 (let e = k.1 in let f = h.1 in cc)
 never_both bs _ h some q k = absurd h
+
+pub creation_never_both : (bs : List ℕ) (e : Error) → ReplyRefused kinds.MakeCredential bs e → e ≢ errors.Memory → (q : Creation) → ReplyOf (creation_reply q) bs → ⊥
+creation_never_both bs errors.Memory h some q k = some refl
+creation_never_both bs errors.Unfit h some q k = h
+creation_never_both bs (errors.Status code) h some q k = h
+creation_never_both bs errors.Empty h some q k = let e = k.1 in absurd cc
+creation_never_both bs (errors.Refused code) h some q k = h.2 (let e = k.1 in let f = h.1 in cc)
+creation_never_both bs errors.NotCanonical h some q k = h.2.1 (creation_reply_item q) (subst (λ (l : List ℕ). Canon (creation_reply_item q) l) (let e = k.1 in let f = h.1 in cc) k.2)
+creation_never_both bs errors.Shape h some q k = faulty_none creation_reply_members h.0 k.0 h.2.0 (creation_reply_item q) h.2.1 h.2.2 k.2 k.3 (let e = k.1 in let f = h.1 in cc)
 
 -- what isn't written has no bytes
 pub unfit_map : {V : Type 0} (items : V → List ℕ) (ms : Members) (v : Item) (result : Result V Error) → WrittenMap items ms v result → IsErrOf result errors.Unfit

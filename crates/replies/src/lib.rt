@@ -8,6 +8,6 @@ mod tables;
 mod values;
 mod writing;
 
-pub use reading::{read_assertion, read_reply};
+pub use reading::{read_assertion, read_creation, read_reply};
 pub use reply::{AssertionReply, AssertionView, CreationReply, InfoReply, Kind, Reply};
 pub use writing::write_reply;

@@ -4,7 +4,7 @@ ghost use Rattle.std.specs.Prelude.{◌≡◌, ◌≢◌, ◌∷◌, IfOk, IfErr
 ghost use Rattle.ccbor.specs.Item.{Item};
 ghost use Rattle.ccbor.specs.Canon.{Canon};
 ghost use Rattle.ccbor.specs.Viewing.{shown};
-ghost use Rattle.replies.specs.Replies.{Assertion, creation_reply, assertion_reply, next_reply, info_reply, IsReply, ReplyOf, ReplyRefused};
+ghost use Rattle.replies.specs.Replies.{Assertion, Creation, creation_reply, assertion_reply, next_reply, info_reply, IsReply, ReplyOf, ReplyRefused};
 ghost use Rattle.replies.specs.ReplyView.{creation_reply_view, assertion_reply_view, assertion_seen, info_view, reply_view};
 ghost use Rattle.ctap_status.specs.declared.error.Error.TheVariants as errors;
 ghost use Rattle.replies.specs.declared.reply.Kind.{Kind};
@@ -186,6 +186,27 @@ pub fn read_assertion(bytes: &[u8]) -> Result<AssertionView<'_>, Error>
         Err(e) => return Err(e),
     };
     match assertion_after(rest) {
+        Ok(reply) => Ok(reply),
+        Err(e) => Err(e),
+    }
+}
+
+/// The reply of these bytes to makeCredential, in memory of its own.
+///
+/// Refused as [`read_reply`] refuses.
+pub fn read_creation(alloc: Global, bytes: &[u8]) -> Result<CreationReply, Error>
+    ensures found { IfOk result (λ r.
+        IsReply kinds.MakeCredential (creation_reply (creation_reply_view r)) bytes.now) }
+    ensures refused { IfErr result (λ e. ReplyRefused kinds.MakeCredential bytes.now e) }
+    // So bytes that are refused, but for want of memory, are no such reply.
+    ensures none { IfErr result (λ e. e ≢ errors.Memory
+        → (q : Creation) → ReplyOf (creation_reply q) bytes.now → ⊥) }
+{
+    let rest = match behind_status(bytes) {
+        Ok(rest) => rest,
+        Err(e) => return Err(e),
+    };
+    match creation_reply_after(alloc, rest) {
         Ok(reply) => Ok(reply),
         Err(e) => Err(e),
     }
