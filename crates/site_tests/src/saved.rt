@@ -1,6 +1,6 @@
-//! Saved tables: what is refused of them.
+//! Saved tables: which are loaded, and what is saved of them then.
 
-use saved_table::{Error, Loaded, load};
+use saved_table::{Error, Loaded, load, save};
 use std::alloc::{AllocError, Global};
 use std::test::Fail;
 
@@ -304,6 +304,44 @@ fn loads(rt: HostRuntime) -> Result<(), Fail> {
         let bytes = joined(rt.alloc(), parts)?;
         let found = count(load(rt.alloc(), &bytes, "abc"))?;
         assert_eq!(rt; found, *wanted, "{name}");
+    }
+    Ok(())
+}
+
+/// What is saved of what is loaded of these bytes.
+fn saved_again(alloc: Global, bytes: &[u8]) -> Result<Vec<u8>, Fail> {
+    let loaded = load(alloc, bytes, "abc")?;
+    if loaded.next == 0 {
+        return Err("no session number is 0".into());
+    }
+    let mut out = Vec::new(alloc);
+    save("abc", loaded.next, &loaded.table, &mut out)?;
+    Ok(out)
+}
+
+/// What is loaded, and what is saved then, always of version 3.
+const SAVED: &[(Parts, Parts)] = &[
+    (
+        (VERSION_1, &[(FOUR, KEY, b"\x04\x01")], b""),
+        (VERSION_3, &[(FOUR, KEY, b"\x04\x01")], b""),
+    ),
+    (
+        (VERSION_2, &[(FIVE, KEY, b"\x04\x01\x05\xf5")], b""),
+        (VERSION_3, &[(FIVE, KEY, b"\x04\x01\x05\xf5")], b""),
+    ),
+    (
+        (VERSION_3, &[(SIX, KEY, b"\x04\x01\x05\xf4\x06\xf5")], b""),
+        (VERSION_3, &[(SIX, KEY, b"\x04\x01\x05\xf4\x06\xf5")], b""),
+    ),
+];
+
+#[test]
+fn saves(rt: HostRuntime) -> Result<(), Fail> {
+    for (found, wanted) in SAVED {
+        let bytes = joined(rt.alloc(), found)?;
+        let wanted = joined(rt.alloc(), wanted)?;
+        let saved = saved_again(rt.alloc(), &bytes)?;
+        assert!(rt; saved.as_slice() == wanted.as_slice(), "{bytes:?}");
     }
     Ok(())
 }
