@@ -3,7 +3,7 @@
 use crate::running::Rows;
 
 /// What a script prints.
-const OTHERS_1: Rows = &[
+pub const OTHERS_1: Rows = &[
     (
         "dead at 0: WrongCommand, 00000001860008",
         "SITE;SESSION;packet 00000001860008;packet 00000001900096000000000000000000000000000000000000000000000000000000000000000000000000000000000000000000000000000000000000000000;packet 00000001000000000000000000000000000000000000000000000000000000000000000000000000000000000000000000000000000000000000000000000000;packet 000000010100000000000000000000000000000000000000000000000000000000000000000000;SIGNIN",
@@ -83,7 +83,7 @@ const OTHERS_1: Rows = &[
 ];
 
 /// What a script prints.
-const OTHERS_2: Rows = &[
+pub const OTHERS_2: Rows = &[
     (
         "rows in order",
         "SITE;ROW;row 09 02 a40101032720062158201111111111111111111111111111111111111111111111111111111111111111 7;table;backup",
@@ -141,11 +141,8 @@ const OTHERS_2: Rows = &[
     ),
 ];
 
-/// All of them.
-pub const OTHERS: &[Rows] = &[OTHERS_1, OTHERS_2];
-
 /// A script that ends at its last line, and what the others print.
-const BAD_LINES_1: Rows = &[
+pub const BAD_LINES_1: Rows = &[
     ("no site", "ROW", ""),
     ("a second site", "SITE;SITE", ""),
     ("a site of one field", "site abc", ""),
@@ -189,7 +186,7 @@ const BAD_LINES_1: Rows = &[
 ];
 
 /// A script that ends at its last line, and what the others print.
-const BAD_LINES_2: Rows = &[
+pub const BAD_LINES_2: Rows = &[
     (
         "an id that is not hex",
         "SITE;row 0g 01 a40101032720062158201111111111111111111111111111111111111111111111111111111111111111 0",
@@ -265,7 +262,7 @@ const BAD_LINES_2: Rows = &[
 ];
 
 /// A script that ends at its last line, and what the others print.
-const BAD_LINES_3: Rows = &[
+pub const BAD_LINES_3: Rows = &[
     ("valid with no key", "SITE;valid 00 00 00", ""),
     (
         "valid with two fields",
@@ -297,11 +294,8 @@ const BAD_LINES_3: Rows = &[
 ];
 
 /// A script that ends at its last line, and what the others print.
-const BAD_LINES_4: Rows = &[(
+pub const BAD_LINES_4: Rows = &[(
     "what was printed stands",
     "SITE;ROW;table;table x",
     "0a 01 0",
 )];
-
-/// All of those that end early.
-pub const BAD_LINES: &[Rows] = &[BAD_LINES_1, BAD_LINES_2, BAD_LINES_3, BAD_LINES_4];

@@ -1,9 +1,9 @@
 //! What `passkey replay` prints.
 
-use crate::line_rows::{BAD_LINES, OTHERS};
+use crate::line_rows::{BAD_LINES_1, BAD_LINES_2, BAD_LINES_3, BAD_LINES_4, OTHERS_1, OTHERS_2};
 use crate::lines::named;
-use crate::running::{Wanted, ends};
-use crate::verdict_rows::VERDICTS;
+use crate::running::{Rows, Wanted, ends};
+use crate::verdict_rows::{SESSIONS_1, SESSIONS_2, VERDICTS_1, VERDICTS_2};
 use std::alloc::{AllocError, Global};
 use std::test::Fail;
 
@@ -38,22 +38,85 @@ fn stops(alloc: Global, script: &str, out: &str) -> Result<bool, Fail> {
     replays(alloc, script, 2, out, err.as_str())
 }
 
+/// The first of the scripts that does not end well and print its text.
+fn wrong(alloc: Global, rows: Rows) -> Result<Option<&'static str>, Fail> {
+    for (name, script, out) in rows {
+        let script = lines_of(alloc, script)?;
+        if !replays(alloc, script.as_str(), 0, out, "")? {
+            return Ok(Some(name));
+        }
+    }
+    Ok(None)
+}
+
+/// The first of the scripts that does not stop at its last line.
+fn unstopped(alloc: Global, rows: Rows) -> Result<Option<&'static str>, Fail> {
+    for (name, script, out) in rows {
+        let script = lines_of(alloc, script)?;
+        if !stops(alloc, script.as_str(), out)? {
+            return Ok(Some(name));
+        }
+    }
+    Ok(None)
+}
+
 #[test]
-fn printed_texts(rt: HostRuntime) -> Result<(), Fail> {
-    for tables in [VERDICTS, OTHERS] {
-        for rows in tables {
-            for (name, script, out) in *rows {
-                let script = lines_of(rt.alloc(), script)?;
-                assert!(rt; replays(rt.alloc(), script.as_str(), 0, out, "")?, "{name}");
-            }
-        }
-    }
-    for rows in BAD_LINES {
-        for (name, script, out) in *rows {
-            let script = lines_of(rt.alloc(), script)?;
-            assert!(rt; stops(rt.alloc(), script.as_str(), out)?, "{name}");
-        }
-    }
+fn verdicts_1(rt: HostRuntime) -> Result<(), Fail> {
+    assert_eq!(rt; wrong(rt.alloc(), VERDICTS_1)?, None);
+    Ok(())
+}
+
+#[test]
+fn verdicts_2(rt: HostRuntime) -> Result<(), Fail> {
+    assert_eq!(rt; wrong(rt.alloc(), VERDICTS_2)?, None);
+    Ok(())
+}
+
+#[test]
+fn sessions_1(rt: HostRuntime) -> Result<(), Fail> {
+    assert_eq!(rt; wrong(rt.alloc(), SESSIONS_1)?, None);
+    Ok(())
+}
+
+#[test]
+fn sessions_2(rt: HostRuntime) -> Result<(), Fail> {
+    assert_eq!(rt; wrong(rt.alloc(), SESSIONS_2)?, None);
+    Ok(())
+}
+
+#[test]
+fn others_1(rt: HostRuntime) -> Result<(), Fail> {
+    assert_eq!(rt; wrong(rt.alloc(), OTHERS_1)?, None);
+    Ok(())
+}
+
+#[test]
+fn others_2(rt: HostRuntime) -> Result<(), Fail> {
+    assert_eq!(rt; wrong(rt.alloc(), OTHERS_2)?, None);
+    Ok(())
+}
+
+#[test]
+fn bad_lines_1(rt: HostRuntime) -> Result<(), Fail> {
+    assert_eq!(rt; unstopped(rt.alloc(), BAD_LINES_1)?, None);
+    Ok(())
+}
+
+#[test]
+fn bad_lines_2(rt: HostRuntime) -> Result<(), Fail> {
+    assert_eq!(rt; unstopped(rt.alloc(), BAD_LINES_2)?, None);
+    Ok(())
+}
+
+#[test]
+fn bad_lines_3(rt: HostRuntime) -> Result<(), Fail> {
+    assert_eq!(rt; unstopped(rt.alloc(), BAD_LINES_3)?, None);
+    Ok(())
+}
+
+#[test]
+fn bad_lines_4(rt: HostRuntime) -> Result<(), Fail> {
+    assert_eq!(rt; unstopped(rt.alloc(), BAD_LINES_4)?, None);
     Ok(())
 }
 

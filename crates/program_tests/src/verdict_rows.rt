@@ -3,7 +3,7 @@
 use crate::running::Rows;
 
 /// Of packets, replies, and steps of the site.
-const VERDICTS_1: Rows = &[
+pub const VERDICTS_1: Rows = &[
     (
         "accepted",
         "LISTED;PACKETS;SIGNIN;table",
@@ -87,7 +87,7 @@ const VERDICTS_1: Rows = &[
 ];
 
 /// Of packets, replies, and steps of the site.
-const VERDICTS_2: Rows = &[
+pub const VERDICTS_2: Rows = &[
     (
         "a reserved flag",
         "BEGUN;valid a40101032720062158201111111111111111111111111111111111111111111111111111111111111111 ba7816bf8f01cfea414140de5dae2223b00361a396177a9cb410ff61f20015ad0300000001 5a;FIRST;packet 00000001000015ad030000000103415a;SIGNIN",
@@ -136,7 +136,7 @@ const VERDICTS_2: Rows = &[
 ];
 
 /// Of sessions, client data, and what the table keeps.
-const SESSIONS_1: Rows = &[
+pub const SESSIONS_1: Rows = &[
     (
         "a registration offered as a sign-in",
         "BEGUN;valid a40101032720062158201111111111111111111111111111111111111111111111111111111111111111 ba7816bf8f01cfea414140de5dae2223b00361a396177a9cb410ff61f20015ad41000000000000000000000000000000000000000000010aa40101032720062158201111111111111111111111111111111111111111111111111111111111111111 5a;packet 0000000190008100a301a2626964410a64747970656a7075626c69632d6b6579025862ba7816bf8f01cfea414140de5dae2223b00361a396177a9cb410ff61f2;packet 00000001000015ad41000000000000000000000000000000000000000000010aa401010327200621582011111111111111111111111111111111111111111111;packet 00000001011111111111111111111103415a;SIGNIN",
@@ -220,7 +220,7 @@ const SESSIONS_1: Rows = &[
 ];
 
 /// Of sessions, client data, and what the table keeps.
-const SESSIONS_2: Rows = &[
+pub const SESSIONS_2: Rows = &[
     (
         "another challenge",
         "SITE;ROW;SESSION;OTHER_CLIENT;VALID;PACKETS;SIGNIN",
@@ -272,6 +272,3 @@ const SESSIONS_2: Rows = &[
         "OPENED;ACCEPTED;OPENED_2;refused W3;0a 01 1",
     ),
 ];
-
-/// All of them.
-pub const VERDICTS: &[Rows] = &[VERDICTS_1, VERDICTS_2, SESSIONS_1, SESSIONS_2];
