@@ -168,10 +168,13 @@ fn refused(alloc: Global, packets: &[Packet]) -> Result<Option<(Error<SignInRefu
     }
     let whole = sign_in(alloc, &mut site, &scheme, 1, CHANNEL, b"", packets);
     let single = live.finish(&mut site, &scheme, 1, b"");
-    Ok(match (whole, single) {
-        (Err(whole), Err(single)) if whole == single => Some((whole, live.fed())),
-        _ => None,
-    })
+    let (Err(whole), Err(single)) = (whole, single) else {
+        return Ok(None);
+    };
+    if whole != single {
+        return Ok(None);
+    }
+    Ok(Some((whole, live.fed())))
 }
 
 /// Whether a refusal is the one for what the packets give, after as many packets.
