@@ -140,7 +140,7 @@ impl Sessions {
         self.next
     }
 
-    /// Why nothing that is asked, within its limits or not, may begin.
+    /// Why what is asked may not begin; whether it is within its limits is handed in.
     fn admit(&self, is_input: bool) -> Result<(), Error>
         ensures passes { (asked : Opening) → IsTrue is_input ↔ IsInput asked → OnOk result (PassesAll self.now asked) }
         ensures refused { (asked : Opening) → IsTrue is_input ↔ IsInput asked → IfErr result (IsRefused self.now asked) }
