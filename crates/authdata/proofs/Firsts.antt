@@ -8,7 +8,7 @@ use Rattle.authdata.specs.declared.error.Error.{Error}
 use Rattle.authdata.specs.declared.error.Error.TheVariants as errors
 use Rattle.authdata.specs.declared.auth.AttestedView.{AttestedView}
 use Rattle.authdata.specs.Flags.{is_set, HasBackup, AT, ED}
-use Rattle.authdata.specs.Layout.{AttestedCredential, AuthenticatorData, AuthOf, IsAttestedCredential, IsAuthenticatorData, attested_bytes, credential_shown, data_bytes}
+use Rattle.authdata.specs.Layout.{AttestedCredential, AuthenticatorData, AuthOf, IsAttestedCredential, IsAuthenticatorData, attested_bytes, lent_attested_view, data_bytes}
 use Rattle.authdata.specs.Refusals.{flags_in, Applies, IsAttested, later_order, order}
 use Rattle.authdata.specs.Private.{WrongCredential}
 
@@ -50,12 +50,12 @@ abbrev pub auth_from : List ℕ → ℕ → ℕ → Option AttestedCredential �
 auth_from hash flags count m = record { rp_id_hash = hash; flags = flags; sign_count = count; attested = m }
 
 pub auth_is : (bs hash : List ℕ) (flags count : ℕ) (o : Option AttestedView) → length hash ≡ 32 → flags < 256 → count < 2 ^ 32 → flags ≡ flags_in bs
-    → is_set (flags_in bs) AT ≡ is_some o → is_set flags ED ≡ false → HasBackup flags → IfSome (option_map credential_shown o) IsAttestedCredential → IsAuthenticatorData (auth_from hash flags count (option_map credential_shown o))
+    → is_set (flags_in bs) AT ≡ is_some o → is_set flags ED ≡ false → HasBackup flags → IfSome (option_map lent_attested_view o) IsAttestedCredential → IsAuthenticatorData (auth_from hash flags count (option_map lent_attested_view o))
 auth_is bs hash flags count o len f c same at ed backup m = record {
   rp_id_hash = len;
   flags = f;
   sign_count = c;
-  attested_flag = ap (λ (n : ℕ). is_set n AT) same ∙ at ∙ sym (is_some-map credential_shown o);
+  attested_flag = ap (λ (n : ℕ). is_set n AT) same ∙ at ∙ sym (is_some-map lent_attested_view o);
   no_extensions = ed;
   backup = backup;
   attested = m;

@@ -4,7 +4,7 @@ use Rattle.std.specs.Prelude.{codes}
 use Rattle.std.proofs.lemmas.List.{take_all}
 use Rattle.first_line.proofs.Laws.{first_at}
 use Rattle.ccbor.specs.Item.{Item, map, pair, no_pairs, text}
-use Rattle.ccbor.proofs.Decoding.{one_reading}
+use Rattle.ccbor.proofs.Decoding.{same_item}
 use Rattle.ccbor.specs.Canon.{Canon}
 use Rattle.ccbor.specs.View.{pairs_view}
 use Rattle.ccbor.specs.declared.value.Value.{Value}
@@ -65,4 +65,4 @@ equal_objects o p e =
 
 -- bytes are those of one object
 pub one_object : (o p : Attestation) (bs : List ℕ) → ObjectOf o bs → ObjectOf p bs → o ≡ p
-one_object o p bs h g = equal_objects o p (one_reading (object_item o) (object_item p) bs bs [] [] h.1 g.1 refl).0
+one_object o p bs h g = equal_objects o p (same_item (object_item o) (object_item p) bs h.1 g.1)

@@ -64,24 +64,24 @@ abbrev pub AuthOf : AuthenticatorData → List ℕ → Type 0
 AuthOf a bs = IsAuthenticatorData a × (bs ≡ data_bytes a)
 
 -- what a value of the program is
-abbrev pub credential_view : Attested → AttestedCredential
-credential_view c = record { aaguid = c.aaguid; id = c.id.items; key = c.key }
+abbrev pub attested_view : Attested → AttestedCredential
+attested_view c = record { aaguid = c.aaguid; id = c.id.items; key = c.key }
 
 abbrev pub auth_view : AuthData → AuthenticatorData
 auth_view a = record {
   rp_id_hash = a.rp_id_hash;
   flags = a.flags;
   sign_count = a.sign_count;
-  attested = option_map credential_view a.attested;
+  attested = option_map attested_view a.attested;
 }
 
-abbrev pub credential_shown : AttestedView → AttestedCredential
-credential_shown c = record { aaguid = c.aaguid; id = c.id.now; key = c.key }
+abbrev pub lent_attested_view : AttestedView → AttestedCredential
+lent_attested_view c = record { aaguid = c.aaguid; id = c.id.now; key = c.key }
 
-abbrev pub auth_shown : AuthView → AuthenticatorData
-auth_shown a = record {
+abbrev pub lent_auth_view : AuthView → AuthenticatorData
+lent_auth_view a = record {
   rp_id_hash = a.rp_id_hash;
   flags = a.flags;
   sign_count = a.sign_count;
-  attested = option_map credential_shown a.attested;
+  attested = option_map lent_attested_view a.attested;
 }

@@ -4,7 +4,7 @@ ghost use Rattle.std.specs.Prelude.{◌≡◌, ◌≢◌, ◌≤◌, ◌<◌, �
 ghost use Rattle.std.specs.Int.{w32, to_be_bytes};
 ghost use Rattle.authdata.specs.Flags.{is_set, AT};
 ghost use Rattle.first_line.specs.Lines.{First};
-ghost use Rattle.authdata.specs.Layout.{AuthenticatorData, AuthOf, IsAttestedCredential, attested_bytes, auth_shown, auth_view, credential_bytes, credential_shown, credential_view};
+ghost use Rattle.authdata.specs.Layout.{AuthenticatorData, AuthOf, IsAttestedCredential, attested_bytes, lent_auth_view, auth_view, credential_bytes, lent_attested_view, attested_view};
 ghost use Rattle.authdata.specs.Refusals.{Applies, Refused, BeginsWithKey, IsIdLength, TakesMemory, flags_in, id_len_in, later_order, order};
 ghost use Rattle.authdata.specs.Private.{WrongCredential};
 ghost use Rattle.authdata.specs.declared.error.Error.TheVariants as errors;
@@ -33,8 +33,8 @@ fn fixed(bytes: &[u8]) -> Option<(&[u8; 32], u8, u32, &[u8])>
 fn credential_at(bytes: &[u8]) -> Result<(AttestedView<'_>, &[u8]), Error>
     requires { 55 + id_len_in bytes.now ≤ length bytes.now }
     ensures found { IfOk result (λ x. drop 37 bytes.now
-        ≡ credential_bytes (credential_shown x.0) ++ x.1.now) }
-    ensures is { IfOk result (λ x. IsAttestedCredential (credential_shown x.0)) }
+        ≡ credential_bytes (lent_attested_view x.0) ++ x.1.now) }
+    ensures is { IfOk result (λ x. IsAttestedCredential (lent_attested_view x.0)) }
     ensures id { IfOk result (λ x. IsIdLength (id_len_in bytes.now)) }
     ensures key { IfOk result (λ x. BeginsWithKey (drop (55 + id_len_in bytes.now) bytes.now)) }
     ensures refused { IfErr result (WrongCredential bytes.now) }
@@ -56,8 +56,8 @@ fn credential_at(bytes: &[u8]) -> Result<(AttestedView<'_>, &[u8]), Error>
 fn attested_at(bytes: &[u8]) -> Result<(Option<AttestedView<'_>>, &[u8]), Error>
     requires { Applies bytes.now errors.Short → ⊥ }
     ensures found { IfOk result (λ x. drop 37 bytes.now
-        ≡ attested_bytes (option_map credential_shown x.0) ++ x.1.now) }
-    ensures is { IfOk result (λ x. IfSome (option_map credential_shown x.0) IsAttestedCredential) }
+        ≡ attested_bytes (option_map lent_attested_view x.0) ++ x.1.now) }
+    ensures is { IfOk result (λ x. IfSome (option_map lent_attested_view x.0) IsAttestedCredential) }
     ensures flag { IfOk result (λ x. is_set (flags_in bytes.now) AT ≡ is_some x.0) }
     ensures good_id { IfOk result (λ x. Applies bytes.now errors.BadId → ⊥) }
     ensures good_key { IfOk result (λ x. Applies bytes.now errors.BadKey → ⊥) }
@@ -81,7 +81,7 @@ fn attested_at(bytes: &[u8]) -> Result<(Option<AttestedView<'_>>, &[u8]), Error>
 /// `BadBackup` where `BS` is set and `BE` is clear; `BadId` for a credential id of no byte or of more than 64;
 /// `BadKey` where no canonical encoding of a key follows the id; `ExtraBytes` where bytes are left.
 pub fn read_view(bytes: &[u8]) -> Result<AuthView<'_>, Error>
-    ensures found { IfOk result (λ a. AuthOf (auth_shown a) bytes.now) }
+    ensures found { IfOk result (λ a. AuthOf (lent_auth_view a) bytes.now) }
     // It is refused by the first refusal that applies,
     ensures refused { IfErr result (First (Applies bytes.now) order) }
     // and only where the bytes are no authenticator data.
@@ -118,8 +118,8 @@ pub fn read_view(bytes: &[u8]) -> Result<AuthView<'_>, Error>
 
 /// The credential, copied out.
 fn owned(alloc: Global, credential: &AttestedView<'_>) -> Result<Attested, AllocError>
-    requires { IsAttestedCredential (credential_shown credential.now) }
-    ensures { IfOk result (λ c. credential_view c ≡ credential_shown credential.now) }
+    requires { IsAttestedCredential (lent_attested_view credential.now) }
+    ensures { IfOk result (λ c. attested_view c ≡ lent_attested_view credential.now) }
 {
     Ok(Attested {
         aaguid: credential.aaguid,

@@ -2,7 +2,7 @@
 
 ghost use Rattle.std.specs.Prelude.{◌≡◌, ◌++◌, IfOk, OnOk};
 ghost use Rattle.cose.specs.Keys.{IsKey};
-ghost use Rattle.authdata.specs.Layout.{AuthOf, IsAttestedCredential, auth_view, credential_bytes, credential_view, key_bytes};
+ghost use Rattle.authdata.specs.Layout.{AuthOf, IsAttestedCredential, auth_view, credential_bytes, attested_view, key_bytes};
 
 use crate::auth::{Attested, AuthData};
 use ccbor::encode;
@@ -25,8 +25,8 @@ fn put_key(alloc: Global, key: &CoseKey, out: &mut Vec<u8>) -> Result<(), AllocE
 /// Appends attested credential data.
 fn put_credential(alloc: Global, credential: &Attested, out: &mut Vec<u8>) -> Result<(), AllocError>
     ensures appended { OnOk result (out.new.items
-        ≡ out.old.items ++ credential_bytes (credential_view credential.now)) }
-    ensures is { OnOk result (IsAttestedCredential (credential_view credential.now)) }
+        ≡ out.old.items ++ credential_bytes (attested_view credential.now)) }
+    ensures is { OnOk result (IsAttestedCredential (attested_view credential.now)) }
 {
     out.extend_from_slice(&credential.aaguid)?;
     out.extend_from_slice(&(credential.id.len() as u16).to_be_bytes())?;

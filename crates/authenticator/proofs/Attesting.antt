@@ -17,12 +17,12 @@ use Rattle.authenticator.specs.Private.{IsAttested}
 use Rattle.authenticator.specs.Steps.{Entry, IsSignature, attestation, creation_data}
 use Rattle.authenticator.specs.declared.consent.Consent.{Consent}
 
-pub attested_packed : (valid : Validity) (key : CoseKey) (hash : List ℕ) (consent : Consent) (attest : AttestationType) (r : Creation) (signature : List ℕ)
-    → attest ≡ types.SelfSigned → r.fmt ≡ codes "packed" → IsSignature valid key (r.auth_data ++ hash) signature → r.statement ≡ packed_statement (alg_of key) signature
-    → IsAttested valid key hash consent attest r
-attested_packed valid key hash consent attest r signature e f s st =
-    let entry : Entry = record { key = key; message = r.auth_data ++ hash; purpose = attestation; consent = consent } in
-    subst (λ (a : AttestationType). IsAttested valid key hash consent a r) (sym e) (entry ∷ [], (f, (signature, s, st), refl))
+pub attested_packed : (valid : Validity) (key : CoseKey) (client_data_hash : List ℕ) (consent : Consent) (attest : AttestationType) (r : Creation) (signature : List ℕ)
+    → attest ≡ types.SelfSigned → r.fmt ≡ codes "packed" → IsSignature valid key (r.auth_data ++ client_data_hash) signature → r.statement ≡ packed_statement (alg_of key) signature
+    → IsAttested valid key client_data_hash consent attest r
+attested_packed valid key client_data_hash consent attest r signature e f s st =
+    let entry : Entry = record { key = key; message = r.auth_data ++ client_data_hash; purpose = attestation; consent = consent } in
+    subst (λ (a : AttestationType). IsAttested valid key client_data_hash consent a r) (sym e) (entry ∷ [], (f, (signature, s, st), refl))
 
 at_most_77 : (key : CoseKey) → encoded_length key ≤ 77
 at_most_77 (keys.Es256 x y) = omega arith

@@ -8,7 +8,7 @@ use Rattle.cose.specs.Schemes.{Validity}
 use Rattle.cose.specs.declared.key.Alg.{Alg}
 use Rattle.authdata.specs.Layout.{AuthOf}
 use Rattle.authenticator.specs.State.{Asked, Credential, Remembered, State, forgotten}
-use Rattle.authenticator.specs.Credentials.{credential_of, with_counter}
+use Rattle.authenticator.specs.Credentials.{credential_of, with_sign_count}
 use Rattle.authenticator.specs.Orders.{assertion_flags, assertion_order, candidates, first_is_at_end, first_supported, is_at_end, is_empty, is_false, is_true, kept, next_order, remembered_on}
 use Rattle.authenticator.specs.Private.{Comes, FirstHappens, AssertionHappens, IsAttested, consent_order}
 use Rattle.authenticator.specs.Steps.{Answers, Creates, Entry, FirstAnswers, IsAssertion, Keys, Outcome, Unless, asked_by, assertion, creation_data, key_of, new_credential, refusal, remembering}
@@ -57,14 +57,14 @@ allowed old new reply o X none h =
 
 pub answered : (valid : Validity) (public : Keys) (old new : State) (c : Credential) (id : List ℕ) (asked : Asked) (later : List (List ℕ)) (message : Assertion → ReplyMessage) (count : Option ℕ) (r : Assertion) (reply : List ℕ)
     → credential_of id old.credentials ≡ Some c → IsAssertion valid public c asked count r → ReplyOf (message r) reply
-    → new ≡ record old { credentials = with_counter id (c.counter + 1) old.credentials; remembered = remembering asked later }
+    → new ≡ record old { credentials = with_sign_count id (c.sign_count + 1) old.credentials; remembered = remembering asked later }
     → Comes (Answers valid public old id asked later message count) reply new
 answered valid public old new c id asked later message count r reply found is spelled state =
-    let entry : Entry = record { key = key_of public c; message = r.auth_data ++ asked.hash; purpose = assertion; consent = asked.consent } in
+    let entry : Entry = record { key = key_of public c; message = r.auth_data ++ asked.client_data_hash; purpose = assertion; consent = asked.consent } in
     (entry ∷ [], [], record { credential = c; found = found; shown = r; asserts = is; reply = spelled; state = state; signed = refl; made = refl })
 
-pub not_at_end : (id : List ℕ) (cs : List Credential) (c : Credential) → credential_of id cs ≡ Some c → c.counter < 4294967295 → is_at_end (credential_of id cs) ≡ false
-not_at_end id cs c found lt = ap is_at_end found ∙ other c.counter lt
+pub not_at_end : (id : List ℕ) (cs : List Credential) (c : Credential) → credential_of id cs ≡ Some c → c.sign_count < 4294967295 → is_at_end (credential_of id cs) ≡ false
+not_at_end id cs c found lt = ap is_at_end found ∙ other c.sign_count lt
   where
     other : (n : ℕ) → n < 4294967295 → nat_le 4294967295 n ≡ false
     other n lt = search (rules, lt)

@@ -99,33 +99,33 @@ creation_with : (r : Creation) (ps : Pairs) → r.statement ≡ of.map ps → Fi
 creation_with r ps e s u f a le =
     message (creation_reply r) (creation_reply_item r) (spelling (creation_reply_item r), refl, (creation_fits r ps e s u f a, refl), creation_clean r ps e) (omega arith)
 
-packed_fits : (key : CoseKey) (sig : List ℕ) → length sig ≤ 128 → Fits 3 (packed_statement (alg_of key) sig)
+packed_fits : (key : CoseKey) (signature : List ℕ) → length signature ≤ 128 → Fits 3 (packed_statement (alg_of key) signature)
 unfolding head before
-packed_fits (keys.Es256 x y) sig le =
+packed_fits (keys.Es256 x y) signature le =
     (omega arith, (refl, refl, (omega arith, plain (codes "alg") refl), omega arith, (refl, refl, (omega arith, plain (codes "sig") refl), omega arith, tt)))
-packed_fits (keys.EdDsa x) sig le =
+packed_fits (keys.EdDsa x) signature le =
     (omega arith, (refl, refl, (omega arith, plain (codes "alg") refl), omega arith, (refl, refl, (omega arith, plain (codes "sig") refl), omega arith, tt)))
 
 named : (fmt : List ℕ) (name : List ℕ) → fmt ≡ name → IsUtf8 name → IsUtf8 fmt
 named fmt name e u = subst IsUtf8 (sym e) u
 
-pub creation_message : (valid : Validity) (key : CoseKey) (hash : List ℕ) (consent : Consent) (attest : AttestationType) (r : Creation) (signed : List Entry)
-    → Attests valid key hash consent attest r signed → length r.auth_data ≤ 164 → IsMessage (creation_reply r)
-creation_message valid key hash consent types.None r signed h a =
+pub creation_message : (valid : Validity) (key : CoseKey) (client_data_hash : List ℕ) (consent : Consent) (attest : AttestationType) (r : Creation) (signed : List Entry)
+    → Attests valid key client_data_hash consent attest r signed → length r.auth_data ≤ 164 → IsMessage (creation_reply r)
+creation_message valid key client_data_hash consent types.None r signed h a =
     creation_with r no_pairs h.1 (omega arith, tt) (named r.fmt (codes "none") h.0 (plain (codes "none") refl))
     (let l : length r.fmt ≡ 4 = ap length h.0 in omega arith) a (let l : cost r.statement ≡ 9 = ap cost h.1 in omega arith)
-creation_message valid key hash consent types.SelfSigned r signed h a =
-    let sig = h.1.0 in
-    let le : length sig ≤ 128 = h.1.1.1 in
-    let l : cost r.statement ≡ 9 + (12 + (9 + (12 + (9 + length sig)))) = ap cost h.1.2 ∙ omega arith in
-    creation_with r (pair (of.text (codes "alg")) (alg_item (alg_of key)) (pair (of.text (codes "sig")) (of.bytes sig) no_pairs)) h.1.2 (packed_fits key sig le)
+creation_message valid key client_data_hash consent types.SelfSigned r signed h a =
+    let signature = h.1.0 in
+    let le : length signature ≤ 128 = h.1.1.1 in
+    let l : cost r.statement ≡ 9 + (12 + (9 + (12 + (9 + length signature)))) = ap cost h.1.2 ∙ omega arith in
+    creation_with r (pair (of.text (codes "alg")) (alg_item (alg_of key)) (pair (of.text (codes "sig")) (of.bytes signature) no_pairs)) h.1.2 (packed_fits key signature le)
     (named r.fmt (codes "packed") h.0 (plain (codes "packed") refl))
     (let m : length r.fmt ≡ 6 = ap length h.0 in omega arith) a (omega arith)
 
 -- ---- getAssertion and getNextAssertion
 
 abbrev told : List ℕ → List ℕ → List ℕ → Option (List ℕ) → Option ℕ → Assertion
-told id auth sig user number = record { credential = id; auth_data = auth; signature = sig; user = user; number = number }
+told id auth signature user number = record { credential = id; auth_data = auth; signature = signature; user = user; number = number }
 
 le_true : (a b : ℕ) → a ≤ b → nat_le a b ≡ true
 le_true a b h = search (rules, h)
@@ -145,38 +145,38 @@ user_fits : (u : List ℕ) → IsUser u → Fits 3 (reply_user_item u)
 unfolding head before
 user_fits u h = let g = h.1 in (omega arith, (refl, refl, (omega arith, plain (codes "id") refl), omega arith, tt))
 
-told_fits : (id auth sig : List ℕ) (user : Option (List ℕ)) (number : Option ℕ) → length id ≡ 32 → length auth ≡ 37 → length sig ≤ 128 → IfSome user IsUser → IfSome number IsCount
-    → Fits 4 (assertion_reply_item (told id auth sig user number))
+told_fits : (id auth signature : List ℕ) (user : Option (List ℕ)) (number : Option ℕ) → length id ≡ 32 → length auth ≡ 37 → length signature ≤ 128 → IfSome user IsUser → IfSome number IsCount
+    → Fits 4 (assertion_reply_item (told id auth signature user number))
 unfolding head before
-told_fits id auth sig None None i a s u n =
+told_fits id auth signature None None i a s u n =
     (omega arith, (refl, refl, omega arith, credential_fits id i, (refl, refl, omega arith, omega arith, (refl, refl, omega arith, omega arith, tt))))
-told_fits id auth sig (Some x) None i a s u n =
+told_fits id auth signature (Some x) None i a s u n =
     (omega arith, (refl, refl, omega arith, credential_fits id i, (refl, refl, omega arith, omega arith, (refl, refl, omega arith, omega arith, (refl, refl, omega arith, user_fits x u, tt)))))
-told_fits id auth sig None (Some k) i a s u n =
+told_fits id auth signature None (Some k) i a s u n =
     let m = n.1 in
     (omega arith, (refl, refl, omega arith, credential_fits id i, (refl, refl, omega arith, omega arith, (refl, refl, omega arith, omega arith, (refl, refl, omega arith, m, tt)))))
-told_fits id auth sig (Some x) (Some k) i a s u n =
+told_fits id auth signature (Some x) (Some k) i a s u n =
     let m = n.1 in
     (omega arith, (refl, refl, omega arith, credential_fits id i, (refl, refl, omega arith, omega arith, (refl, refl, omega arith, omega arith, (refl, refl, omega arith, user_fits x u, (refl, refl, omega arith, m, tt))))))
 
-told_clean : (id auth sig : List ℕ) (user : Option (List ℕ)) (number : Option ℕ) → length id ≡ 32 → IfSome user IsUser → IfSome number IsCount
-    → gravest (record_of assertion_reply_members) (assertion_reply_item (told id auth sig user number)) ≡ None
-told_clean id auth sig None None i u n = rw i refl
-told_clean id auth sig (Some x) None i u n = rw (i, le_true 1 (length x) u.0, le_true (length x) 64 u.1) refl
-told_clean id auth sig None (Some k) i u n = rw (i, le_true 2 k n.0) refl
-told_clean id auth sig (Some x) (Some k) i u n = rw (i, le_true 1 (length x) u.0, le_true (length x) 64 u.1, le_true 2 k n.0) refl
+told_clean : (id auth signature : List ℕ) (user : Option (List ℕ)) (number : Option ℕ) → length id ≡ 32 → IfSome user IsUser → IfSome number IsCount
+    → gravest (record_of assertion_reply_members) (assertion_reply_item (told id auth signature user number)) ≡ None
+told_clean id auth signature None None i u n = rw i refl
+told_clean id auth signature (Some x) None i u n = rw (i, le_true 1 (length x) u.0, le_true (length x) 64 u.1) refl
+told_clean id auth signature None (Some k) i u n = rw (i, le_true 2 k n.0) refl
+told_clean id auth signature (Some x) (Some k) i u n = rw (i, le_true 1 (length x) u.0, le_true (length x) 64 u.1, le_true 2 k n.0) refl
 
-next_clean : (id auth sig : List ℕ) (user : Option (List ℕ)) → length id ≡ 32 → IfSome user IsUser
-    → gravest (record_of next_reply_members) (assertion_reply_item (told id auth sig user None)) ≡ None
-next_clean id auth sig None i u = rw i refl
-next_clean id auth sig (Some x) i u = rw (i, le_true 1 (length x) u.0, le_true (length x) 64 u.1) refl
+next_clean : (id auth signature : List ℕ) (user : Option (List ℕ)) → length id ≡ 32 → IfSome user IsUser
+    → gravest (record_of next_reply_members) (assertion_reply_item (told id auth signature user None)) ≡ None
+next_clean id auth signature None i u = rw i refl
+next_clean id auth signature (Some x) i u = rw (i, le_true 1 (length x) u.0, le_true (length x) 64 u.1) refl
 
-told_short : (id auth sig : List ℕ) (user : Option (List ℕ)) (number : Option ℕ) → length id ≡ 32 → length auth ≡ 37 → length sig ≤ 128 → IfSome user IsUser
-    → cost (assertion_reply_item (told id auth sig user number)) ≤ 7608
-told_short id auth sig None None i a s u = omega arith
-told_short id auth sig None (Some k) i a s u = omega arith
-told_short id auth sig (Some x) None i a s u = let le = u.1 in omega arith
-told_short id auth sig (Some x) (Some k) i a s u = let le = u.1 in omega arith
+told_short : (id auth signature : List ℕ) (user : Option (List ℕ)) (number : Option ℕ) → length id ≡ 32 → length auth ≡ 37 → length signature ≤ 128 → IfSome user IsUser
+    → cost (assertion_reply_item (told id auth signature user number)) ≤ 7608
+told_short id auth signature None None i a s u = omega arith
+told_short id auth signature None (Some k) i a s u = omega arith
+told_short id auth signature (Some x) None i a s u = let le = u.1 in omega arith
+told_short id auth signature (Some x) (Some k) i a s u = let le = u.1 in omega arith
 
 pub assertion_message : (r : Assertion) → FitsReply r → IsMessage (assertion_reply r)
 assertion_message r h =

@@ -15,7 +15,7 @@ use Rattle.ctapmsg.specs.Replies.{Assertion, Creation, ReplyMessage}
 use Rattle.ctapmsg.specs.Requests.{AssertionRequest, CreationRequest, RequestMessage, get_assertion, get_info, get_next_assertion, make_credential, reset}
 use Rattle.ctapmsg.specs.Status.{IsRequest}
 use Rattle.authenticator.specs.State.{Asked, Credential, Remembered, State, forgotten}
-use Rattle.authenticator.specs.Credentials.{credential_of, is_resident_of, with_counter}
+use Rattle.authenticator.specs.Credentials.{credential_of, is_resident_of, with_sign_count}
 use Rattle.authenticator.specs.Orders.{assertion_flags, assertion_order, candidates, creation_flags, creation_order, first_is_at_end, is_empty, is_excluded, is_false, is_true, kept, next_order, remembered_on, reset_order}
 use Rattle.authenticator.specs.Steps.{Answers, Attests, Carries, Creates, Entry, FirstAnswers, Keys, NextAnswers, Outcome, Resets, Step, Unless, asked_by, assertion, assertion_data, attestation, creation_data, key_of, new_credential, refusal, remembering, up_bit, uv_bit}
 use Rattle.authenticator.specs.Laws.{FollowsConsent, IsCounted, IsResident, IsSound, IsStored, Keeps, SoundAssertion, SoundOutcome, SoundRemembered, SoundState, StepLaws}
@@ -71,22 +71,22 @@ answers : (valid : Validity) (public : Keys) (old : State) (id : List ℕ) (aske
     → SoundState old → FollowsConsent asked → All (IsResident old.credentials) later → Answers valid public old id asked later message count out → SoundOutcome public old out
 answers valid public old id asked later message count out s f r is =
     let c = is.credential in
-    let next : List Credential = with_counter id (c.counter + 1) old.credentials in
+    let next : List Credential = with_sign_count id (c.sign_count + 1) old.credentials in
     let e : out.state.credentials ≡ next = ap (λ (a : State). a.credentials) is.state in
     let same : c.id ≡ id = has_id id old.credentials c is.found in
     let bare : length is.shown.auth_data ≡ 37 = length-bare (assertion_data c asked) is.shown.auth_data is.asserts.spelled refl in
-    let hashed = f.hash in
-    let entry : Entry = record { key = key_of public c; message = is.shown.auth_data ++ asked.hash; purpose = assertion; consent = asked.consent } in
+    let hashed = f.client_data_hash in
+    let entry : Entry = record { key = key_of public c; message = is.shown.auth_data ++ asked.client_data_hash; purpose = assertion; consent = asked.consent } in
     let sound : SoundAssertion entry = record {
       purpose = refl;
       auth = assertion_data c asked;
       bytes = is.shown.auth_data;
-      hash = asked.hash;
+      client_data_hash = asked.client_data_hash;
       spelled = is.asserts.spelled;
       bare = refl;
       message = refl;
-      hash_length = f.hash;
-      size = omega (arith, length-append is.shown.auth_data asked.hash, bare, hashed);
+      hash_length = f.client_data_hash;
+      size = omega (arith, length-append is.shown.auth_data asked.client_data_hash, bare, hashed);
       counts = omega arith;
       present = λ h. f.present (up_set asked.up asked.uv h);
       verified = λ h. f.verified (uv_set asked.up asked.uv h);
@@ -97,18 +97,18 @@ answers valid public old id asked later message count out s f r is =
       key = refl;
       auth = assertion_data c asked;
       bytes = is.shown.auth_data;
-      hash = asked.hash;
+      client_data_hash = asked.client_data_hash;
       spelled = is.asserts.spelled;
       message = refl;
       count = refl;
-      after = ap (credential_of c.id) e ∙ ap (λ k. credential_of k next) same ∙ with_at id (c.counter + 1) old.credentials c is.found;
+      after = ap (credential_of c.id) e ∙ ap (λ k. credential_of k next) same ∙ with_at id (c.sign_count + 1) old.credentials c is.found;
     } in
     record {
       state = subst SoundState (sym is.state) (record {
-        unique = unique_with id (c.counter + 1) old.credentials s.unique;
-        remembered = remembered_sound next asked later f (residents_with id (c.counter + 1) old.credentials later r);
+        unique = unique_with id (c.sign_count + 1) old.credentials s.unique;
+        remembered = remembered_sound next asked later f (residents_with id (c.sign_count + 1) old.credentials later r);
       });
-      keeps = subst (Keeps old.credentials) (sym e) (keeps_with id old.credentials c (c.counter + 1) is.found (omega arith));
+      keeps = subst (Keeps old.credentials) (sym e) (keeps_with id old.credentials c (c.sign_count + 1) is.found (omega arith));
       entries = All-same IsSound out.signed (entry ∷ []) is.signed (All-cons IsSound entry [] (inl sound) (All-nil IsSound));
       counted = All-same (IsCounted public old.credentials out.state.credentials) out.signed (entry ∷ []) is.signed
           (All-cons (IsCounted public old.credentials out.state.credentials) entry [] here (All-nil (IsCounted public old.credentials out.state.credentials)));
@@ -157,7 +157,7 @@ follows old channel q consent l e =
     let a = line_none (is_true flags.uv && not old.uv) 0x2C ((second, 0x27) ∷ rest) e in
     let b = line_none second 0x27 rest a.1 in
     let g = given (not (is_false flags.up)) (is_true flags.uv) consent.present consent.verified b.0 in
-    record { hash = l; present = g.0; verified = g.1 }
+    record { client_data_hash = l; present = g.0; verified = g.1 }
 
 not_some : {X : Type 0} (o : Option X) → is_some o ≡ false → o ≡ None
 not_some None e = refl
@@ -203,7 +203,7 @@ creates valid public old q consent words out s w l none is =
       auth = creation_data old q words.id key;
       attested = attested;
       bytes = is.shown.auth_data;
-      hash = q.client_data_hash;
+      client_data_hash = q.client_data_hash;
       spelled = is.spelled;
       full = refl;
       message = refl;

@@ -13,8 +13,8 @@ use Rattle.requests.specs.declared.request.Descriptor.{Descriptor}
 use Rattle.std.proofs.lemmas.Grind.{common_steps}
 use Rattle.std.proofs.lemmas.List.Quantifiers.{position-Some}
 use Rattle.authenticator.specs.State.{Credential}
-use Rattle.authenticator.specs.Credentials.{credential_of, is_resident_for, is_resident_of, resident_ids, with_counter, without_first}
-use Rattle.authenticator.specs.Views.{credential_view, credentials_view, ids_of}
+use Rattle.authenticator.specs.Credentials.{credential_of, is_resident_for, is_resident_of, resident_ids, with_sign_count, without_first}
+use Rattle.authenticator.specs.Views.{credential_view, credentials_view, candidates_view}
 use Rattle.authenticator.specs.Orders.{candidates, creation_flags, is_excluded, is_of, is_public_key, is_stored_for, is_true, kept}
 use Rattle.authenticator.specs.declared.remembered.Candidates.{Candidates}
 use Rattle.authenticator.specs.declared.credential.StoredCredential.{StoredCredential}
@@ -27,8 +27,8 @@ tail_none p x xs none = grind (arith, common_steps, none)
 
 set_there : (id : List ℕ) (n : ℕ) (xs : List StoredCredential) (i : ℕ) (d y : StoredCredential) → i < length xs → bytes_eq (slice_index_or xs i d).id id ≡ true
     → ((k : ℕ) → k < i → bytes_eq (slice_index_or xs k d).id id ≡ false)
-    → credential_view y ≡ record (credential_view (slice_index_or xs i d)) { counter = n }
-    → credentials_view (slice_set xs i y) ≡ with_counter id n (credentials_view xs)
+    → credential_view y ≡ record (credential_view (slice_index_or xs i d)) { sign_count = n }
+    → credentials_view (slice_set xs i y) ≡ with_sign_count id n (credentials_view xs)
 set_there id n [] i d y lt is none same = let bad : i < 0 = lt in absurd (omega arith)
 set_there id n (x ∷ xs) zero d y lt is none same = rw is (ap (λ z. z ∷ credentials_view xs) same)
 set_there id n (x ∷ xs) (suc i) d y lt is none same =
@@ -36,15 +36,15 @@ set_there id n (x ∷ xs) (suc i) d y lt is none same =
     let rest = set_there id n xs i d y (omega arith) is (λ k l. none (suc k) (omega arith)) same in
     rw first (ap (λ ys. credential_view x ∷ ys) rest)
 
-pub none_there : (id : List ℕ) (n : ℕ) (xs : List StoredCredential) → position (λ c. bytes_eq c.id id) xs ≡ None → credentials_view xs ≡ with_counter id n (credentials_view xs)
+pub none_there : (id : List ℕ) (n : ℕ) (xs : List StoredCredential) → position (λ c. bytes_eq c.id id) xs ≡ None → credentials_view xs ≡ with_sign_count id n (credentials_view xs)
 none_there id n [] none = refl
 none_there id n (x ∷ xs) none =
     let t = tail_none (λ c. bytes_eq c.id id) x xs none in
     rw t.0 (ap (λ ys. credential_view x ∷ ys) (none_there id n xs t.1))
 
 pub set_at_place : (id : List ℕ) (n : ℕ) (xs : List StoredCredential) (i : ℕ) (d y : StoredCredential) → position (λ c. bytes_eq c.id id) xs ≡ Some i
-    → credential_view y ≡ record (credential_view (slice_index_or xs i d)) { counter = n }
-    → credentials_view (slice_set xs i y) ≡ with_counter id n (credentials_view xs)
+    → credential_view y ≡ record (credential_view (slice_index_or xs i d)) { sign_count = n }
+    → credentials_view (slice_set xs i y) ≡ with_sign_count id n (credentials_view xs)
 set_at_place id n xs i d y found same =
     let p = position-Some (λ (c : StoredCredential). bytes_eq c.id id) xs i d found in set_there id n xs i d y p.0 p.1 p.2 same
 
@@ -102,9 +102,9 @@ pub has_id : (id : List ℕ) (cs : List Credential) (c : Credential) → credent
 has_id id cs c is = (bytes_eq-Decides c.id id).0 (find_passes (λ (d : Credential). bytes_eq d.id id) cs c is)
 
 pub listed_none : (cs : List Credential) (rp : List ℕ) (ds : List Descriptor) (o : Option Candidates) → o ≡ None → None ≡ find (λ d. is_stored_for rp cs (descriptor_view d)) ds
-    → ids_of o ≡ candidates cs rp (Some (map descriptor_view ds))
+    → candidates_view o ≡ candidates cs rp (Some (map descriptor_view ds))
 listed_none cs rp ds o is none =
-    ap ids_of is ∙ sym (ap (λ (x : Option CredentialDescriptor). option_to_list (option_map (λ d. d.id) x)) (find_mapped descriptor_view (is_stored_for rp cs) ds ∙ ap (option_map descriptor_view) (sym none)))
+    ap candidates_view is ∙ sym (ap (λ (x : Option CredentialDescriptor). option_to_list (option_map (λ d. d.id) x)) (find_mapped descriptor_view (is_stored_for rp cs) ds ∙ ap (option_map descriptor_view) (sym none)))
 
 pub listed_some : (cs : List Credential) (rp : List ℕ) (ds : List Descriptor) (d : Descriptor) (c : Credential) (later : List (List ℕ)) → Some d ≡ find (λ d. is_stored_for rp cs (descriptor_view d)) ds
     → Some c ≡ credential_of d.id.items cs → later ≡ [] → c.id ∷ reverse later ≡ candidates cs rp (Some (map descriptor_view ds))

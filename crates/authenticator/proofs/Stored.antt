@@ -8,7 +8,7 @@ use Rattle.std.proofs.lemmas.List.{get_or-reverse, length-reverse}
 use Rattle.std.proofs.lemmas.List.Elements.{All-nil, All-from_recursion}
 use Rattle.ctapmsg.specs.Entities.{CredentialDescriptor}
 use Rattle.authenticator.specs.State.{Credential}
-use Rattle.authenticator.specs.Credentials.{credential_of, is_resident_for, with_counter, without_first}
+use Rattle.authenticator.specs.Credentials.{credential_of, is_resident_for, with_sign_count, without_first}
 use Rattle.authenticator.specs.Orders.{candidates, is_stored_for}
 use Rattle.authenticator.specs.Laws.{IsUnique, IsResident, Keeps}
 use Rattle.authenticator.proofs.Lists.{and_left}
@@ -105,37 +105,37 @@ later_candidates cs rp (Some ds) u = one_alone cs (find (is_stored_for rp cs) ds
 -- ---- a counter that is written
 
 abbrev pub counted : ℕ → Credential → Credential
-counted n c = record c { counter = n }
+counted n c = record c { sign_count = n }
 
-with_first : (id : List ℕ) (n : ℕ) (c : Credential) (cs : List Credential) → bytes_eq c.id id ≡ true → with_counter id n (c ∷ cs) ≡ counted n c ∷ cs
+with_first : (id : List ℕ) (n : ℕ) (c : Credential) (cs : List Credential) → bytes_eq c.id id ≡ true → with_sign_count id n (c ∷ cs) ≡ counted n c ∷ cs
 with_first id n c cs e = rw e refl
 
-with_rest : (id : List ℕ) (n : ℕ) (c : Credential) (cs : List Credential) → bytes_eq c.id id ≡ false → with_counter id n (c ∷ cs) ≡ c ∷ with_counter id n cs
+with_rest : (id : List ℕ) (n : ℕ) (c : Credential) (cs : List Credential) → bytes_eq c.id id ≡ false → with_sign_count id n (c ∷ cs) ≡ c ∷ with_sign_count id n cs
 with_rest id n c cs e = rw e refl
 
-pub with_at : (id : List ℕ) (n : ℕ) (cs : List Credential) (c : Credential) → credential_of id cs ≡ Some c → credential_of id (with_counter id n cs) ≡ Some (counted n c)
+pub with_at : (id : List ℕ) (n : ℕ) (cs : List Credential) (c : Credential) → credential_of id cs ≡ Some c → credential_of id (with_sign_count id n cs) ≡ Some (counted n c)
 with_at id n [] c e = let bad : None ≡ Some c = e in cc
 with_at id n (x ∷ xs) c e = elim (either (bytes_eq x.id id)) [
   | inl same ↦
       let is : Some x ≡ Some c = sym (of_first id x xs same) ∙ e in
       let is' : x ≡ c = (cc) in
       ap (credential_of id) (with_first id n x xs same) ∙ of_first id (counted n x) xs same ∙ ap (λ y. Some (counted n y)) is'
-  | inr other ↦ ap (credential_of id) (with_rest id n x xs other) ∙ of_rest id x (with_counter id n xs) other ∙ with_at id n xs c (sym (of_rest id x xs other) ∙ e)
+  | inr other ↦ ap (credential_of id) (with_rest id n x xs other) ∙ of_rest id x (with_sign_count id n xs) other ∙ with_at id n xs c (sym (of_rest id x xs other) ∙ e)
 ]
 
-with_other : (id : List ℕ) (n : ℕ) (cs : List Credential) (k : List ℕ) → bytes_eq id k ≡ false → credential_of k (with_counter id n cs) ≡ credential_of k cs
+with_other : (id : List ℕ) (n : ℕ) (cs : List Credential) (k : List ℕ) → bytes_eq id k ≡ false → credential_of k (with_sign_count id n cs) ≡ credential_of k cs
 with_other id n [] k ne = refl
 with_other id n (x ∷ xs) k ne = elim (either (bytes_eq x.id id)) [
   | inl same ↦
       let differs : bytes_eq x.id k ≡ false = ap (λ y. bytes_eq y k) (same_id x.id id same) ∙ ne in
       ap (credential_of k) (with_first id n x xs same) ∙ of_rest k (counted n x) xs differs ∙ sym (of_rest k x xs differs)
   | inr other ↦ elim (either (bytes_eq x.id k)) [
-    | inl here ↦ ap (credential_of k) (with_rest id n x xs other) ∙ of_first k x (with_counter id n xs) here ∙ sym (of_first k x xs here)
-    | inr there ↦ ap (credential_of k) (with_rest id n x xs other) ∙ of_rest k x (with_counter id n xs) there ∙ with_other id n xs k ne ∙ sym (of_rest k x xs there)
+    | inl here ↦ ap (credential_of k) (with_rest id n x xs other) ∙ of_first k x (with_sign_count id n xs) here ∙ sym (of_first k x xs here)
+    | inr there ↦ ap (credential_of k) (with_rest id n x xs other) ∙ of_rest k x (with_sign_count id n xs) there ∙ with_other id n xs k ne ∙ sym (of_rest k x xs there)
   ]
 ]
 
-pub unique_with : (id : List ℕ) (n : ℕ) (cs : List Credential) → IsUnique cs → IsUnique (with_counter id n cs)
+pub unique_with : (id : List ℕ) (n : ℕ) (cs : List Credential) → IsUnique cs → IsUnique (with_sign_count id n cs)
 unique_with id n [] u = tt
 unique_with id n (x ∷ xs) (none, u) = elim (either (bytes_eq x.id id)) [
   | inl same ↦ subst IsUnique (sym (with_first id n x xs same)) (none, u)
@@ -145,25 +145,25 @@ unique_with id n (x ∷ xs) (none, u) = elim (either (bytes_eq x.id id)) [
 pub keeps_same : (cs : List Credential) → Keeps cs cs
 keeps_same cs k c e = inr (c, e, omega arith, refl)
 
-pub keeps_with : (id : List ℕ) (cs : List Credential) (c : Credential) (n : ℕ) → credential_of id cs ≡ Some c → c.counter ≤ n → Keeps cs (with_counter id n cs)
+pub keeps_with : (id : List ℕ) (cs : List Credential) (c : Credential) (n : ℕ) → credential_of id cs ≡ Some c → c.sign_count ≤ n → Keeps cs (with_sign_count id n cs)
 keeps_with id cs c n found le k x e = elim (either (bytes_eq id k)) [
   | inl same ↦
       let is : Some c ≡ Some x = sym found ∙ ap (λ y. credential_of y cs) (same_id id k same) ∙ e in
       let is' : c ≡ x = (cc) in
-      let at : credential_of k (with_counter id n cs) ≡ Some (counted n c) = ap (λ y. credential_of y (with_counter id n cs)) (sym (same_id id k same)) ∙ with_at id n cs c found in
-      inr (counted n c, at, subst (λ (y : Credential). y.counter ≤ n) is' le, subst (λ (y : Credential). (record (counted n c) { counter = y.counter }) ≡ y) is' refl)
+      let at : credential_of k (with_sign_count id n cs) ≡ Some (counted n c) = ap (λ y. credential_of y (with_sign_count id n cs)) (sym (same_id id k same)) ∙ with_at id n cs c found in
+      inr (counted n c, at, subst (λ (y : Credential). y.sign_count ≤ n) is' le, subst (λ (y : Credential). (record (counted n c) { sign_count = y.sign_count }) ≡ y) is' refl)
   | inr other ↦ inr (x, with_other id n cs k other ∙ e, omega arith, refl)
 ]
 
-resident_with : (id : List ℕ) (n : ℕ) (cs : List Credential) (k : List ℕ) → IsResident cs k → IsResident (with_counter id n cs) k
+resident_with : (id : List ℕ) (n : ℕ) (cs : List Credential) (k : List ℕ) → IsResident cs k → IsResident (with_sign_count id n cs) k
 resident_with id n cs k (c, found, resident) = elim (either (bytes_eq id k)) [
   | inl same ↦
       let at : credential_of id cs ≡ Some c = ap (λ y. credential_of y cs) (same_id id k same) ∙ found in
-      (counted n c, ap (λ y. credential_of y (with_counter id n cs)) (sym (same_id id k same)) ∙ with_at id n cs c at, resident)
+      (counted n c, ap (λ y. credential_of y (with_sign_count id n cs)) (sym (same_id id k same)) ∙ with_at id n cs c at, resident)
   | inr other ↦ (c, with_other id n cs k other ∙ found, resident)
 ]
 
-pub residents_with : (id : List ℕ) (n : ℕ) (cs : List Credential) (ids : List (List ℕ)) → All (IsResident cs) ids → All (IsResident (with_counter id n cs)) ids
+pub residents_with : (id : List ℕ) (n : ℕ) (cs : List Credential) (ids : List (List ℕ)) → All (IsResident cs) ids → All (IsResident (with_sign_count id n cs)) ids
 residents_with id n cs ids h k d lt = resident_with id n cs (get_or ids k d) (h k d lt)
 
 -- ---- one fewer

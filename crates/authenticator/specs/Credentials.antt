@@ -8,10 +8,10 @@ abbrev pub credential_of : List ℕ → List Credential → Option Credential
 credential_of id cs = find (λ c. bytes_eq c.id id) cs
 
 -- the same credentials, that of the id with another counter
-abbrev pub with_counter : List ℕ → ℕ → List Credential → List Credential
-with_counter id n [] = []
-with_counter id n (c ∷ cs) =
-    if bytes_eq c.id id then (record c { counter = n }) ∷ cs else c ∷ with_counter id n cs
+abbrev pub with_sign_count : List ℕ → ℕ → List Credential → List Credential
+with_sign_count id n [] = []
+with_sign_count id n (c ∷ cs) =
+    if bytes_eq c.id id then (record c { sign_count = n }) ∷ cs else c ∷ with_sign_count id n cs
 
 -- it is resident, and of this relying party
 abbrev pub is_resident_for : List ℕ → Credential → Bool

@@ -24,7 +24,7 @@ IsResident cs id = (c : Credential) × (credential_of id cs ≡ Some c) × (c.re
 
 -- the flags follow the consent that was given to the request
 pub record FollowsConsent (asked : Asked) : Type 0 where
-  pub hash : length asked.hash ≡ 32
+  pub client_data_hash : length asked.client_data_hash ≡ 32
   pub present : asked.up ≡ true → asked.consent.present ≡ true
   pub verified : asked.uv ≡ true → asked.consent.verified ≡ true
 
@@ -45,11 +45,11 @@ pub record SoundAssertion (e : Entry) : Type 0 where
   pub purpose : e.purpose ≡ assertion
   pub auth : AuthenticatorData
   pub bytes : List ℕ
-  pub hash : List ℕ
+  pub client_data_hash : List ℕ
   pub spelled : AuthOf auth bytes
   pub bare : auth.attested ≡ None
-  pub message : e.message ≡ bytes ++ hash
-  pub hash_length : length hash ≡ 32
+  pub message : e.message ≡ bytes ++ client_data_hash
+  pub hash_length : length client_data_hash ≡ 32
   pub size : length e.message ≡ 69
   pub counts : 1 ≤ auth.sign_count
   pub present : is_set auth.flags UP ≡ true → e.consent.present ≡ true
@@ -61,11 +61,11 @@ pub record SoundAttestation (e : Entry) : Type 0 where
   pub auth : AuthenticatorData
   pub attested : AttestedCredential
   pub bytes : List ℕ
-  pub hash : List ℕ
+  pub client_data_hash : List ℕ
   pub spelled : AuthOf auth bytes
   pub full : auth.attested ≡ Some attested
-  pub message : e.message ≡ bytes ++ hash
-  pub hash_length : length hash ≡ 32
+  pub message : e.message ≡ bytes ++ client_data_hash
+  pub hash_length : length client_data_hash ≡ 32
   pub size : 161 ≤ length e.message
 
 abbrev pub IsSound : Entry → Type 0
@@ -78,11 +78,11 @@ pub record Counted (public : Keys) (old new : List Credential) (e : Entry) : Typ
   pub key : e.key ≡ key_of public credential
   pub auth : AuthenticatorData
   pub bytes : List ℕ
-  pub hash : List ℕ
+  pub client_data_hash : List ℕ
   pub spelled : AuthOf auth bytes
-  pub message : e.message ≡ bytes ++ hash
-  pub count : auth.sign_count ≡ credential.counter + 1
-  pub after : credential_of credential.id new ≡ Some (record credential { counter = credential.counter + 1 })
+  pub message : e.message ≡ bytes ++ client_data_hash
+  pub count : auth.sign_count ≡ credential.sign_count + 1
+  pub after : credential_of credential.id new ≡ Some (record credential { sign_count = credential.sign_count + 1 })
 
 abbrev pub IsCounted : Keys → List Credential → List Credential → Entry → Type 0
 IsCounted public old new e = e.purpose ≡ assertion → Counted public old new e
@@ -93,7 +93,7 @@ IsCounted public old new e = e.purpose ≡ assertion → Counted public old new 
 abbrev pub Keeps : List Credential → List Credential → Type 0
 Keeps old new = (id : List ℕ) (c : Credential) → credential_of id old ≡ Some c
     → (credential_of id new ≡ None)
-    ⊎ ((d : Credential) × (credential_of id new ≡ Some d) × (c.counter ≤ d.counter) × (record d { counter = c.counter } ≡ c))
+    ⊎ ((d : Credential) × (credential_of id new ≡ Some d) × (c.sign_count ≤ d.sign_count) × (record d { sign_count = c.sign_count } ≡ c))
 
 -- a key that is made is that of a stored credential
 abbrev pub IsStored : Keys → List Credential → CoseKey → Type 0

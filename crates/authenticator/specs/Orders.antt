@@ -79,7 +79,7 @@ candidates cs rp_id (Some ds) = option_to_list (option_map (λ d. d.id) (find (i
 -- the counter, of 32 bits, can grow no more; so it is said of a credential that isn't there
 abbrev pub is_at_end : Option Credential → Bool
 is_at_end None = true
-is_at_end (Some c) = nat_le 4294967295 c.counter
+is_at_end (Some c) = nat_le 4294967295 c.sign_count
 
 -- the first of them
 abbrev pub first_is_at_end : List Credential → List (List ℕ) → Bool

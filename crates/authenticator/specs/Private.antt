@@ -37,7 +37,7 @@ pub record FitsReply (r : Assertion) : Type 0 where
 
 -- with some signing or none
 abbrev pub IsAttested : Validity → CoseKey → List ℕ → Consent → AttestationType → Creation → Type 0
-IsAttested valid key hash consent attest r = (signed : List Entry) × Attests valid key hash consent attest r signed
+IsAttested valid key client_data_hash consent attest r = (signed : List Entry) × Attests valid key client_data_hash consent attest r signed
 
 -- no line of the order applies, and this algorithm is the first supported; or the status of the first line
 abbrev pub IsChoice : State → CreationRequest → Consent → Words → Result Alg ℕ → Type 0

@@ -14,13 +14,13 @@ pub record Credential : Type 0 where
   pub secret : List ℕ
   pub alg : Alg
   pub resident : Bool
-  pub counter : ℕ
+  pub sign_count : ℕ
 
 -- what a getAssertion asked (section 6.2): on which channel, for which hash of client data, with which of the
 -- flags UP and UV; and the consent that was given to it
 pub record Asked : Type 0 where
   pub channel : ℕ
-  pub hash : List ℕ
+  pub client_data_hash : List ℕ
   pub up : Bool
   pub uv : Bool
   pub consent : Consent

@@ -15,7 +15,7 @@ use Rattle.ctapmsg.specs.Replies.{Creation, Assertion, Info, ReplyMessage, creat
 use Rattle.ctapmsg.specs.Requests.{CreationRequest, AssertionRequest, RequestMessage, make_credential, get_assertion, get_next_assertion, get_info, reset}
 use Rattle.ctapmsg.specs.Status.{Rank, Applies, ranks, status_of, IsRequest}
 use Rattle.authenticator.specs.State.{Credential, Asked, Remembered, State, forgotten}
-use Rattle.authenticator.specs.Credentials.{credential_of, with_counter}
+use Rattle.authenticator.specs.Credentials.{credential_of, with_sign_count}
 use Rattle.authenticator.specs.Orders.{is_true, is_false, creation_flags, assertion_flags, first_supported, candidates, kept, creation_order, assertion_order, next_order, remembered_on, reset_order}
 use Rattle.authenticator.specs.declared.consent.Consent.{Consent}
 use Rattle.authenticator.specs.declared.consent.Words.{Words}
@@ -82,7 +82,7 @@ new_credential q alg words = record {
   secret = words.secret;
   alg = alg;
   resident = is_true (creation_flags q.options).rk;
-  counter = 0;
+  sign_count = 0;
 }
 
 -- UP and AT, and UV exactly if it was asked for
@@ -97,13 +97,13 @@ creation_data a q id key = record {
 -- its statement, and what is signed for it: none (WebAuthn Level 2, section 8.7), or packed self attestation
 -- (section 8.2), over the authenticator data and then the hash of the client data
 abbrev pub Attests : Validity → CoseKey → List ℕ → Consent → AttestationType → Creation → List Entry → Type 0
-Attests valid key hash consent types.None r signed =
+Attests valid key client_data_hash consent types.None r signed =
     (r.fmt ≡ codes "none") × (r.statement ≡ none_statement) × (signed ≡ [])
-Attests valid key hash consent types.SelfSigned r signed =
+Attests valid key client_data_hash consent types.SelfSigned r signed =
     (r.fmt ≡ codes "packed")
-    × ((signature : List ℕ) × IsSignature valid key (r.auth_data ++ hash) signature
+    × ((signature : List ℕ) × IsSignature valid key (r.auth_data ++ client_data_hash) signature
     × (r.statement ≡ packed_statement (alg_of key) signature))
-    × (signed ≡ record { key = key; message = r.auth_data ++ hash; purpose = attestation; consent = consent } ∷ [])
+    × (signed ≡ record { key = key; message = r.auth_data ++ client_data_hash; purpose = attestation; consent = consent } ∷ [])
 
 -- a credential is made
 pub record Creates (valid : Validity) (public : Keys) (old : State) (q : CreationRequest) (consent : Consent) (words : Words) (out : Outcome) : Type 0 where
@@ -121,7 +121,7 @@ pub record Creates (valid : Validity) (public : Keys) (old : State) (q : Creatio
 abbrev pub asked_by : ℕ → AssertionRequest → Consent → Asked
 asked_by channel q consent = record {
   channel = channel;
-  hash = q.client_data_hash;
+  client_data_hash = q.client_data_hash;
   up = not (is_false (assertion_flags q.options).up);
   uv = is_true (assertion_flags q.options).uv;
   consent = consent;
@@ -132,7 +132,7 @@ abbrev pub assertion_data : Credential → Asked → AuthenticatorData
 assertion_data c asked = record {
   rp_id_hash = sha256 c.rp_id;
   flags = up_bit asked.up + uv_bit asked.uv;
-  sign_count = c.counter + 1;
+  sign_count = c.sign_count + 1;
   attested = None;
 }
 
@@ -143,7 +143,7 @@ shown_user c = if c.resident then Some c.user else None
 -- what answers it: the authenticator data, a signature over them and then the hash, and the credential
 pub record IsAssertion (valid : Validity) (public : Keys) (c : Credential) (asked : Asked) (count : Option ℕ) (r : Assertion) : Type 0 where
   pub spelled : AuthOf (assertion_data c asked) r.auth_data
-  pub signs : IsSignature valid (key_of public c) (r.auth_data ++ asked.hash) r.signature
+  pub signs : IsSignature valid (key_of public c) (r.auth_data ++ asked.client_data_hash) r.signature
   pub credential : r.credential ≡ c.id
   pub user : r.user ≡ shown_user c
   pub number : r.number ≡ count
@@ -160,8 +160,8 @@ pub record Answers (valid : Validity) (public : Keys) (old : State) (id : List �
   pub shown : Assertion
   pub asserts : IsAssertion valid public credential asked count shown
   pub reply : ReplyOf (message shown) out.reply
-  pub state : out.state ≡ record old { credentials = with_counter id (credential.counter + 1) old.credentials; remembered = remembering asked later }
-  pub signed : out.signed ≡ record { key = key_of public credential; message = shown.auth_data ++ asked.hash; purpose = assertion; consent = asked.consent } ∷ []
+  pub state : out.state ≡ record old { credentials = with_sign_count id (credential.sign_count + 1) old.credentials; remembered = remembering asked later }
+  pub signed : out.signed ≡ record { key = key_of public credential; message = shown.auth_data ++ asked.client_data_hash; purpose = assertion; consent = asked.consent } ∷ []
   pub made : out.made ≡ []
 
 -- how many may answer, told where they are several: the first, and the later ones

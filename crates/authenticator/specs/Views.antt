@@ -14,19 +14,19 @@ credential_view c = record {
   secret = c.secret;
   alg = c.alg;
   resident = c.resident;
-  counter = c.counter;
+  sign_count = c.sign_count;
 }
 
 abbrev pub credentials_view : List StoredCredential → List Credential
 credentials_view cs = map credential_view cs
 
 abbrev pub asked_view : AskedAssertion → Asked
-asked_view a = record { channel = a.channel; hash = a.hash.items; up = a.up; uv = a.uv; consent = a.consent }
+asked_view a = record { channel = a.channel; client_data_hash = a.client_data_hash.items; up = a.up; uv = a.uv; consent = a.consent }
 
 -- the later ones stand in order of creation, so the last of them comes first
 abbrev pub remembered_view : RememberedAssertion → Remembered
 remembered_view r = record { asked = asked_view r.asked; next = r.candidates.first; later = reverse r.candidates.later.items }
 
-abbrev pub ids_of : Option Candidates → List (List ℕ)
-ids_of None = []
-ids_of (Some c) = c.first ∷ reverse c.later.items
+abbrev pub candidates_view : Option Candidates → List (List ℕ)
+candidates_view None = []
+candidates_view (Some c) = c.first ∷ reverse c.later.items

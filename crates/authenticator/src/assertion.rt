@@ -38,13 +38,13 @@ fn auth_data(
     credential: &StoredCredential,
     asked: &AskedAssertion,
 ) -> Result<Vec<u8>, AllocError>
-    requires { credential.now.counter < 4294967295 }
+    requires { credential.now.sign_count < 4294967295 }
     ensures { IfOk result (λ bytes. AuthOf (assertion_data (credential_view credential.now) (asked_view asked.now)) bytes.items) }
 {
     let data = AuthData {
         rp_id_hash: Sha256::digest(credential.rp_id.as_bytes()),
         flags: flags(asked.up, asked.uv),
-        sign_count: credential.counter + 1,
+        sign_count: credential.sign_count + 1,
         attested: None,
     };
     authdata::write(alloc, &data)
@@ -68,7 +68,7 @@ pub(crate) fn assertion<S: Signer>(
     asked: &AskedAssertion,
     number: Option<u64>,
 ) -> Result<AssertionReply, AllocError>
-    requires counter { credential.now.counter < 4294967295 }
+    requires sign_count { credential.now.sign_count < 4294967295 }
     requires number { IfSome number IsCount }
     ensures fits { IfOk result (λ r. FitsReply (assertion_reply_view r)) }
     ensures made { IfOk result (λ r. IsAssertion (S.valid scheme.now) (S.public_of scheme.now) (credential_view credential.now) (asked_view asked.now) number (assertion_reply_view r)) }
@@ -80,7 +80,7 @@ pub(crate) fn assertion<S: Signer>(
         credential.alg,
         &credential.secret,
         auth_data.as_slice(),
-        asked.hash.as_slice(),
+        asked.client_data_hash.as_slice(),
     )?;
     Ok(AssertionReply {
         credential: Vec::from_slice(alloc, &credential.id)?,

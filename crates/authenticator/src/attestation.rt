@@ -95,14 +95,14 @@ impl Authenticator {
                 statement: Value::Map(Vec::new(alloc)),
             }),
             AttestationType::SelfSigned => {
-                let hash = request.client_data_hash.as_slice();
+                let client_data_hash = request.client_data_hash.as_slice();
                 let signature = signature(
                     alloc,
                     scheme,
                     alg,
                     &words.secret,
                     auth_data.as_slice(),
-                    hash,
+                    client_data_hash,
                 )?;
                 Ok(CreationReply {
                     fmt: String::from_str(alloc, "packed")?,

@@ -20,7 +20,7 @@ pub(crate) struct StoredCredential {
     /// Whether it is resident (discoverable).
     pub resident: bool,
     /// The signature counter: that of its last assertion, or 0.
-    pub counter: u32,
+    pub sign_count: u32,
     ghost user_low: { 1 ≤ length user.items },
     ghost user_high: { length user.items ≤ 64 },
 }

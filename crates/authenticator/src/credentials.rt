@@ -5,9 +5,9 @@ ghost use Rattle.std.specs.List.{list_any};
 ghost use Rattle.std.specs.Prelude as list;
 ghost use Rattle.std.specs.Str.{bytes_eq};
 ghost use Rattle.ctapmsg.specs.RequestView.{descriptor_view};
-ghost use Rattle.authenticator.specs.Credentials.{credential_of, is_resident_for, is_resident_of, resident_ids, with_counter, without_first};
+ghost use Rattle.authenticator.specs.Credentials.{credential_of, is_resident_for, is_resident_of, resident_ids, with_sign_count, without_first};
 ghost use Rattle.authenticator.specs.Orders.{candidates, is_excluded, is_public_key, is_stored_for};
-ghost use Rattle.authenticator.specs.Views.{credential_view, credentials_view, ids_of};
+ghost use Rattle.authenticator.specs.Views.{credential_view, credentials_view, candidates_view};
 
 use crate::credential::StoredCredential;
 use crate::remembered::Candidates;
@@ -39,11 +39,11 @@ pub(crate) fn find<'a>(
 }
 
 /// Writes the counter of the credential of an id.
-pub(crate) fn set_counter(credentials: &mut [StoredCredential], id: &[u8], counter: u32)
-    ensures { credentials_view credentials.new ≡ with_counter id.now counter (credentials_view credentials.old) }
+pub(crate) fn set_sign_count(credentials: &mut [StoredCredential], id: &[u8], sign_count: u32)
+    ensures { credentials_view credentials.new ≡ with_sign_count id.now sign_count (credentials_view credentials.old) }
 {
     if let Some(place) = place_of(credentials, id) {
-        credentials[place].counter = counter;
+        credentials[place].sign_count = sign_count;
     }
 }
 
@@ -140,7 +140,7 @@ fn residents(
     credentials: &[StoredCredential],
     rp_id: &str,
 ) -> Result<Option<Candidates>, AllocError>
-    ensures { IfOk result (λ o. ids_of o ≡ resident_ids rp_id.now (credentials_view credentials.now)) }
+    ensures { IfOk result (λ o. candidates_view o ≡ resident_ids rp_id.now (credentials_view credentials.now)) }
 {
     let mut later = resident_ids(alloc, credentials, rp_id)?;
     match later.pop() {
@@ -169,7 +169,7 @@ fn listed(
     rp_id: &str,
     descriptors: &[Descriptor],
 ) -> Option<Candidates>
-    ensures { ids_of result ≡ candidates (credentials_view credentials.now) rp_id.now (Some (map descriptor_view descriptors.now)) }
+    ensures { candidates_view result ≡ candidates (credentials_view credentials.now) rp_id.now (Some (map descriptor_view descriptors.now)) }
 {
     let descriptor = first_stored(credentials, rp_id, descriptors)?;
     let credential = find(credentials, &descriptor.id)?;
@@ -187,7 +187,7 @@ pub(crate) fn candidates_for(
     rp_id: &str,
     allow_list: &Option<Vec<Descriptor>>,
 ) -> Result<Option<Candidates>, AllocError>
-    ensures { IfOk result (λ o. ids_of o ≡ candidates (credentials_view credentials.now) rp_id.now (option_map (λ v. map descriptor_view v.items) allow_list.now)) }
+    ensures { IfOk result (λ o. candidates_view o ≡ candidates (credentials_view credentials.now) rp_id.now (option_map (λ v. map descriptor_view v.items) allow_list.now)) }
 {
     match allow_list {
         Some(descriptors) => Ok(listed(alloc, credentials, rp_id, descriptors)),

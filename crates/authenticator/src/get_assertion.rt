@@ -3,18 +3,18 @@
 ghost use Rattle.std.specs.Prelude.{◌≡◌, ◌<◌, ◌≤◌, ◌∷◌, IfOk, IfSome, MatchOption, OnErr, length, option_map, reverse, true};
 ghost use Rattle.first_line.specs.Lines.{first_true};
 ghost use Rattle.ctapmsg.specs.RequestView.{assertion_view};
-ghost use Rattle.authenticator.specs.Credentials.{credential_of, with_counter};
+ghost use Rattle.authenticator.specs.Credentials.{credential_of, with_sign_count};
 ghost use Rattle.authenticator.specs.Orders.{candidates, is_at_end, remembered_on};
 ghost use Rattle.authenticator.specs.Private.{AssertionHappens, FirstHappens, IsCount, NextHappens, consent_order};
 ghost use Rattle.authenticator.specs.State.{Remembered};
 ghost use Rattle.authenticator.specs.Steps.{asked_by, number_with, remembering};
-ghost use Rattle.authenticator.specs.Views.{asked_view, credential_view, credentials_view, ids_of, remembered_view};
+ghost use Rattle.authenticator.specs.Views.{asked_view, credential_view, credentials_view, candidates_view, remembered_view};
 
 use crate::assertion::assertion;
 use crate::authenticator::Authenticator;
 use crate::consent::Consent;
 use crate::credential::StoredCredential;
-use crate::credentials::{candidates_for, find, set_counter};
+use crate::credentials::{candidates_for, find, set_sign_count};
 use crate::options::{assertion_options, is_denied, is_false, is_true, is_unmet};
 use crate::remembered::{AskedAssertion, Candidates, RememberedAssertion, remember};
 use crate::reply::written;
@@ -30,7 +30,7 @@ fn asked_by(channel: u32, request: GetAssertion, consent: Consent) -> AskedAsser
     let options = assertion_options(request.options);
     AskedAssertion {
         channel,
-        hash: request.client_data_hash,
+        client_data_hash: request.client_data_hash,
         up: !is_false(options.up),
         uv: is_true(options.uv),
         consent,
@@ -70,10 +70,10 @@ impl Authenticator {
     fn countable(&self, id: &[u8]) -> Option<&StoredCredential>
         ensures { MatchOption result
             (is_at_end (credential_of id.now self.now.credentials) ≡ true)
-            (λ c. (credential_of id.now self.now.credentials ≡ Some (credential_view c.now)) × (c.now.counter < 4294967295)) }
+            (λ c. (credential_of id.now self.now.credentials ≡ Some (credential_view c.now)) × (c.now.sign_count < 4294967295)) }
     {
         let credential = self.stored(id)?;
-        if credential.counter < u32::MAX {
+        if credential.sign_count < u32::MAX {
             Some(credential)
         } else {
             None
@@ -86,7 +86,7 @@ impl Authenticator {
         alloc: Global,
         request: &GetAssertion,
     ) -> Result<Option<Candidates>, AllocError>
-        ensures { IfOk result (λ o. ids_of o ≡ candidates self.now.credentials (assertion_view request.now).rp_id (assertion_view request.now).allow_list) }
+        ensures { IfOk result (λ o. candidates_view o ≡ candidates self.now.credentials (assertion_view request.now).rp_id (assertion_view request.now).allow_list) }
     {
         candidates_for(
             alloc,
@@ -111,10 +111,10 @@ impl Authenticator {
     }
 
     /// Stores the counter of a credential that has answered, and what is remembered from now on.
-    fn settle(&mut self, id: &[u8], counter: u32, remembered: Option<RememberedAssertion>)
-        ensures { self.new ≡ record self.old { credentials = with_counter id.now counter self.old.credentials; remembered = option_map remembered_view remembered } }
+    fn settle(&mut self, id: &[u8], sign_count: u32, remembered: Option<RememberedAssertion>)
+        ensures { self.new ≡ record self.old { credentials = with_sign_count id.now sign_count self.old.credentials; remembered = option_map remembered_view remembered } }
     {
-        set_counter(&mut self.credentials, id, counter);
+        set_sign_count(&mut self.credentials, id, sign_count);
         self.remembered = remembered;
     }
 
@@ -125,7 +125,7 @@ impl Authenticator {
         asked: AskedAssertion,
         candidates: Candidates,
     ) -> Result<Vec<u8>, AllocError>
-        ensures done { IfOk result (λ reply. FirstHappens (S.valid scheme.now) (S.public_of scheme.now) self.old (ids_of (Some candidates)) (asked_view asked) reply.items self.new) }
+        ensures done { IfOk result (λ reply. FirstHappens (S.valid scheme.now) (S.public_of scheme.now) self.old (candidates_view (Some candidates)) (asked_view asked) reply.items self.new) }
         ensures size { IfOk result (λ reply. length reply.items ≤ 7609) }
         ensures err { OnErr result (self.new ≡ self.old) }
     {
@@ -134,11 +134,11 @@ impl Authenticator {
             return self.refuse(OTHER);
         };
         let number = number_with(&candidates.later);
-        let counter = credential.counter + 1;
+        let sign_count = credential.sign_count + 1;
         let shown = assertion(alloc, scheme, credential, &asked, number)?;
         let reply = written(alloc, Reply::GetAssertion(shown))?;
         let Candidates { first, later } = candidates;
-        self.settle(&first, counter, remember(asked, later));
+        self.settle(&first, sign_count, remember(asked, later));
         Ok(reply)
     }
 
@@ -166,13 +166,13 @@ impl Authenticator {
     }
 
     /// Stores the counter of the next candidate, which has answered, and remembers the later ones.
-    fn advance(&mut self, counter: u32)
+    fn advance(&mut self, sign_count: u32)
         ensures { (r : Remembered) → self.old.remembered ≡ Some r
-            → self.new ≡ record self.old { credentials = with_counter r.next counter self.old.credentials; remembered = remembering r.asked r.later } }
+            → self.new ≡ record self.old { credentials = with_sign_count r.next sign_count self.old.credentials; remembered = remembering r.asked r.later } }
     {
         if let Some(remembered) = self.remembered.take() {
             let Candidates { first, later } = remembered.candidates;
-            self.settle(&first, counter, remember(remembered.asked, later));
+            self.settle(&first, sign_count, remember(remembered.asked, later));
         }
     }
 
@@ -193,10 +193,10 @@ impl Authenticator {
         let Some(credential) = self.countable(&remembered.candidates.first) else {
             return self.refuse(OTHER);
         };
-        let counter = credential.counter + 1;
+        let sign_count = credential.sign_count + 1;
         let shown = assertion(alloc, scheme, credential, &remembered.asked, None)?;
         let reply = written(alloc, Reply::GetNextAssertion(shown))?;
-        self.advance(counter);
+        self.advance(sign_count);
         Ok(reply)
     }
 }

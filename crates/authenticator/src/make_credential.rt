@@ -111,7 +111,7 @@ fn put(
         secret: words.secret,
         alg,
         resident: is_true(creation_options(options).rk),
-        counter: 0,
+        sign_count: 0,
     };
     store(credentials, credential, overwritten)
 }

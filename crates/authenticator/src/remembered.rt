@@ -12,7 +12,7 @@ pub(crate) struct AskedAssertion {
     /// The channel on which it came.
     pub channel: u32,
     /// The hash of the client data.
-    pub hash: Vec<u8>,
+    pub client_data_hash: Vec<u8>,
     /// Whether UP is to be set.
     pub up: bool,
     /// Whether UV is to be set.

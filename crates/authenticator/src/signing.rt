@@ -14,11 +14,11 @@ pub(crate) fn signature<S: Signer>(
     alg: Alg,
     secret: &[u8; 32],
     auth_data: &[u8],
-    hash: &[u8],
+    client_data_hash: &[u8],
 ) -> Result<Vec<u8>, AllocError>
-    ensures { IfOk result (λ v. IsSignature (S.valid scheme.now) (S.public_of scheme.now alg secret.now) (auth_data.now ++ hash.now) v.items) }
+    ensures { IfOk result (λ v. IsSignature (S.valid scheme.now) (S.public_of scheme.now alg secret.now) (auth_data.now ++ client_data_hash.now) v.items) }
 {
     let mut signature = Vec::new(alloc);
-    scheme.sign(alg, secret, [auth_data, hash], &mut signature)?;
+    scheme.sign(alg, secret, [auth_data, client_data_hash], &mut signature)?;
     Ok(signature)
 }

@@ -1,13 +1,13 @@
 -- What is read by a table is the content of the value, and the value has no fault.
 use Rattle.std.proofs.Common.{◌≡◌, ℕ, Bool, true, false, List, [], ◌∷◌, map, Option, Some, None, refl, sym, ap, subst, ◌∙◌, pos, negsuc, nat_le, nat_lt}
-use Rattle.std.proofs.lemmas.Option.{cond_some}
+use Rattle.std.proofs.lemmas.Option.{cond_some, same_Some}
 use Rattle.ccbor.specs.Item as of
 use Rattle.ccbor.specs.Item.{Item, Items, no_items, item, Pairs, no_pairs, pair}
 use Rattle.ccbor.specs.Canon.{before, spelling}
 use Rattle.ccbor.specs.Reading.{◌>>=◌}
 use Rattle.ccbor.specs.View.{items_of, pairs_of}
 use Rattle.ccbor.specs.Access.{split_key, is_same_key}
-use Rattle.ccbor.proofs.Numbers.{bind_some, some_is}
+use Rattle.ccbor.proofs.Numbers.{bind_some}
 use Rattle.ccbor.proofs.KeyOrder.{before_trans}
 use Rattle.ccbor.proofs.AccessLemmas.{same_key, split_key_takes}
 use Rattle.cbor_map.specs.declared.fault.Fault.{Fault}
@@ -36,24 +36,24 @@ cond_some_of false o c e = absurd cc
 -- ---- values that are no records
 
 sound_number : IsSound a_number
-sound_number (of.uint n) c e = (ap number_item (some_is (pos n) c e), λ f. refl)
-sound_number (of.nint n) c e = (ap number_item (some_is (negsuc n) c e), λ f. refl)
+sound_number (of.uint n) c e = (ap number_item (same_Some (pos n) c e), λ f. refl)
+sound_number (of.nint n) c e = (ap number_item (same_Some (negsuc n) c e), λ f. refl)
 sound_number _ c e = absurd cc
 
 sound_bytes : IsSound some_bytes
-sound_bytes (of.bytes bs) c e = (ap of.bytes (some_is bs c e), λ f. refl)
+sound_bytes (of.bytes bs) c e = (ap of.bytes (same_Some bs c e), λ f. refl)
 sound_bytes _ c e = absurd cc
 
 sound_text : IsSound a_text
-sound_text (of.text s) c e = (ap of.text (some_is s c e), λ f. refl)
+sound_text (of.text s) c e = (ap of.text (same_Some s c e), λ f. refl)
 sound_text _ c e = absurd cc
 
 sound_truth : IsSound a_truth
-sound_truth (of.boolean b) c e = (ap of.boolean (some_is b c e), λ f. refl)
+sound_truth (of.boolean b) c e = (ap of.boolean (same_Some b c e), λ f. refl)
 sound_truth _ c e = absurd cc
 
 sound_map : IsSound any_map
-sound_map (of.map ps) c e = (some_is (of.map ps) c e, λ f. refl)
+sound_map (of.map ps) c e = (same_Some (of.map ps) c e, λ f. refl)
 sound_map _ c e = absurd cc
 
 sound_that : (t : List ℕ) → IsSound (that_text t)
@@ -66,11 +66,11 @@ sound_unsigned low (of.uint n) c e = let s = cond_some (nat_le low n) n c e in (
 sound_unsigned low _ c e = absurd cc
 
 truths_read : (ps : Pairs) (c : List (List ℕ × Bool)) → each_truth ps ≡ Some c → (ps ≡ pairs_of (map truth_pair c)) × (all_truths ps ≡ true)
-truths_read no_pairs c e = (ap (λ (os : List (List ℕ × Bool)). pairs_of (map truth_pair os)) (some_is [] c e), refl)
+truths_read no_pairs c e = (ap (λ (os : List (List ℕ × Bool)). pairs_of (map truth_pair os)) (same_Some [] c e), refl)
 truths_read (pair (of.text k) (of.boolean b) ps) c e =
     let rest = bind_some (each_truth ps) (λ (os : List (List ℕ × Bool)). Some ((k, b) ∷ os)) c e in
     let inner = truths_read ps rest.0 rest.1 in (
-      ap (λ (qs : Pairs). pair (of.text k) (of.boolean b) qs) inner.0 ∙ ap (λ (os : List (List ℕ × Bool)). pairs_of (map truth_pair os)) (some_is ((k, b) ∷ rest.0) c rest.2),
+      ap (λ (qs : Pairs). pair (of.text k) (of.boolean b) qs) inner.0 ∙ ap (λ (os : List (List ℕ × Bool)). pairs_of (map truth_pair os)) (same_Some ((k, b) ∷ rest.0) c rest.2),
       inner.1,
     )
 truths_read (pair _ _ ps) c e = absurd cc
@@ -82,13 +82,13 @@ sound_truths _ c e = absurd cc
 -- ---- lists
 
 each_sound : (h : Holds) → IsSound h → (xs : Items) (cs : List (Content h)) → each_in (read_in h) xs ≡ Some cs → (xs ≡ items_of (map (item_of h) cs)) × ((f : Fault) → any_item (has_fault f h) xs ≡ false)
-each_sound h sound no_items cs e = (ap (λ (l : List (Content h)). items_of (map (item_of h) l)) (some_is [] cs e), λ f. refl)
+each_sound h sound no_items cs e = (ap (λ (l : List (Content h)). items_of (map (item_of h) l)) (same_Some [] cs e), λ f. refl)
 each_sound h sound (item x xs) cs e =
     let a = bind_some (read_in h x) (λ a. each_in (read_in h) xs >>= λ rest. Some (a ∷ rest)) cs e in
     let r = bind_some (each_in (read_in h) xs) (λ rest. Some (a.0 ∷ rest)) cs a.2 in
     let first = sound x a.0 a.1 in
     let inner = each_sound h sound xs r.0 r.1 in (
-      ap (λ (i : Item). item i xs) first.0 ∙ ap (λ (is : Items). item (item_of h a.0) is) inner.0 ∙ ap (λ (l : List (Content h)). items_of (map (item_of h) l)) (some_is (a.0 ∷ r.0) cs r.2),
+      ap (λ (i : Item). item i xs) first.0 ∙ ap (λ (is : Items). item (item_of h a.0) is) inner.0 ∙ ap (λ (l : List (Content h)). items_of (map (item_of h) l)) (same_Some (a.0 ∷ r.0) cs r.2),
       λ f. none_or (has_fault f h x) (any_item (has_fault f h) xs) (first.1 f) (inner.1 f),
     )
 
@@ -132,7 +132,7 @@ sound_required k h ms ordered sound others ps c e =
     let is = split_key_takes k ps m.0 m.1 in
     let whole = front k true h ms m.0.0 m.0.1 ordered (split_same k ps m.0 m.1) value.1 rest.keys rest.clean in
     record {
-      is = is ∙ ap (λ (i : Item). pair k i m.0.1) value.0 ∙ ap (λ (q : Pairs). pair k (item_of h a.0) q) rest.is ∙ ap (members_item (listed k true h ms)) (some_is (a.0, r.0) c r.2);
+      is = is ∙ ap (λ (i : Item). pair k i m.0.1) value.0 ∙ ap (λ (q : Pairs). pair k (item_of h a.0) q) rest.is ∙ ap (members_item (listed k true h ms)) (same_Some (a.0, r.0) c r.2);
       keys = subst (λ (q : Pairs). all_keys (is_listed (listed k true h ms)) q ≡ true) (sym is) whole.0;
       clean = λ f. subst (λ (q : Pairs). in_members f (listed k true h ms) (of.map q) ≡ false) (sym is) (whole.1 f);
     }
@@ -148,7 +148,7 @@ optional_there k h ms ordered sound others ps c m s e =
     let is = split_key_takes k ps m s in
     let whole = front k false h ms m.0 m.1 ordered (split_same k ps m s) value.1 rest.keys rest.clean in
     let made : Contents (listed k false h ms) = (Some a.0, r.0) in
-    let same : made ≡ c = ap (λ (o : Option (Content h)). (o, r.0)) (some_is (Some a.0) b.0 a.2) ∙ some_is (b.0, r.0) c r.2 in
+    let same : made ≡ c = ap (λ (o : Option (Content h)). (o, r.0)) (same_Some (Some a.0) b.0 a.2) ∙ same_Some (b.0, r.0) c r.2 in
     record {
       is = is ∙ ap (λ (i : Item). pair k i m.1) value.0 ∙ ap (λ (q : Pairs). pair k (item_of h a.0) q) rest.is ∙ ap (members_item (listed k false h ms)) same;
       keys = subst (λ (q : Pairs). all_keys (is_listed (listed k false h ms)) q ≡ true) (sym is) whole.0;
@@ -162,7 +162,7 @@ optional_absent k h ms ordered others ps c e =
     let rest = others ps r.0 r.1 in
     let made : Contents (listed k false h ms) = (None, r.0) in
     record {
-      is = rest.is ∙ ap (members_item (listed k false h ms)) (some_is made c r.2);
+      is = rest.is ∙ ap (members_item (listed k false h ms)) (same_Some made c r.2);
       keys = listed_too k false h ms ps rest.keys;
       clean = λ f. rw (not_there k ms ps ordered rest.keys) (rest.clean f);
     }

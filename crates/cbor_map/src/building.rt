@@ -4,7 +4,7 @@ ghost use Rattle.std.specs.Prelude.{◌≡◌, ◌++◌, [], ◌∷◌, IfOk, On
 ghost use Rattle.ccbor.specs.Access.{key_item};
 ghost use Rattle.ccbor.specs.View.{view};
 ghost use Rattle.ccbor.specs.Item.{text, bytes};
-ghost use Rattle.cbor_map.specs.Building.{seen, member_list};
+ghost use Rattle.cbor_map.specs.Building.{pair_list_view, member_list};
 
 use ccbor::{Key, Value};
 use std::alloc::{AllocError, Global};
@@ -41,8 +41,8 @@ pub fn push_member(
     key: Key<'_>,
     value: Value,
 ) -> Result<(), AllocError>
-    ensures { OnOk result (seen pairs.new.items
-        ≡ seen pairs.old.items ++ ((key_item key.entry, view value) ∷ [])) }
+    ensures { OnOk result (pair_list_view pairs.new.items
+        ≡ pair_list_view pairs.old.items ++ ((key_item key.entry, view value) ∷ [])) }
 {
     let key = key_value(alloc, key)?;
     pairs.push((key, value))?;
@@ -56,8 +56,8 @@ pub fn push_if_there(
     key: Key<'_>,
     value: Option<Value>,
 ) -> Result<(), AllocError>
-    ensures { OnOk result (seen pairs.new.items
-        ≡ seen pairs.old.items ++ member_list (key_item key.entry) (option_map view value)) }
+    ensures { OnOk result (pair_list_view pairs.new.items
+        ≡ pair_list_view pairs.old.items ++ member_list (key_item key.entry) (option_map view value)) }
 {
     match value {
         Some(value) => push_member(alloc, pairs, key, value),

@@ -1,10 +1,10 @@
 //! The values inside maps and arrays. Those of another kind or size are [`Shape`].
 
-ghost use Rattle.std.specs.Prelude.{◌≡◌, nat_lt, is_some, string_bytes};
+ghost use Rattle.std.specs.Prelude.{◌≡◌, nat_lt, is_some, option_map, string_bytes};
 ghost use Rattle.ccbor.specs.Item.{text};
 ghost use Rattle.ccbor.specs.Access.{bytes_in, text_in, bool_in, pairs_in, is_same_key};
 ghost use Rattle.ccbor.specs.Viewing.{shown};
-ghost use Rattle.cbor_map.specs.Reading.{Gives, Yields, checked, is_within, number_in, read_in};
+ghost use Rattle.cbor_map.specs.Reading.{Gives, Yields, checked, is_within, maybe, number_in, read_in};
 ghost use Rattle.cbor_map.specs.Table.{size_of, unsigned};
 
 use crate::error::{Error, Shape};
@@ -101,6 +101,16 @@ pub fn truth(value: &View<'_>) -> Result<bool, Shape>
     match value.as_bool() {
         Some(truth) => Ok(truth),
         None => Err(Shape),
+    }
+}
+
+/// A truth value that may be absent.
+pub fn truth_if_there(held: Option<View<'_>>) -> Result<Option<bool>, Shape>
+    ensures { Yields (λ b. b) result (maybe bool_in (option_map shown held.entry)) }
+{
+    match held {
+        Some(value) => Ok(Some(truth(&value)?)),
+        None => Ok(None),
     }
 }
 

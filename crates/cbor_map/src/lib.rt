@@ -14,6 +14,8 @@ pub use building::{bytes_value, push_if_there, push_member, text_value};
 pub use error::{Error, Shape};
 pub use fault::Fault;
 pub use faults::gravest;
-pub use leaf::{any_map, bytes, not_empty, number, sized, text, that_text, truth, unsigned};
+pub use leaf::{
+    any_map, bytes, not_empty, number, sized, text, that_text, truth, truth_if_there, unsigned,
+};
 pub use table::Holds;
 pub use walk::{end, items, members, optional, required};

@@ -1,5 +1,6 @@
 -- What `decode` promises, from what reading gives.
-use Rattle.std.proofs.Common.{◌≡◌, ℕ, ◌-◌, ◌≤◌, List, ◌++◌, length, take, drop, Option, Some, None, Result, Err, refl, sym, ap, ◌∙◌, arith}
+use Rattle.std.proofs.Common.{◌≡◌, ℕ, ◌-◌, ◌≤◌, List, [], ◌++◌, length, take, drop, Option, Some, None, Result, Err, refl, sym, ap, ◌∙◌, arith}
+use Rattle.std.proofs.lemmas.Option.{same_Some}
 use Rattle.std.proofs.lemmas.List.{length-append, take-append-drop, take_at, length-drop}
 use Rattle.std.specs.Prelude.{IsErrOf}
 use Rattle.ccbor.specs.declared.error.Error.{Error}
@@ -7,7 +8,7 @@ use Rattle.ccbor.specs.declared.error.Error.TheVariants as errors
 use Rattle.ccbor.specs.Item.{Item}
 use Rattle.ccbor.specs.Canon.{spelling, Fits, Canon}
 use Rattle.ccbor.specs.Reading.{rest_of, item_at, Fails}
-use Rattle.ccbor.proofs.Numbers.{IsBytes, some_is, Takes}
+use Rattle.ccbor.proofs.Numbers.{IsBytes, Takes}
 use Rattle.ccbor.proofs.Trees.{item_takes, item_again}
 use Rattle.ccbor.proofs.Walks.{passed, stopped}
 
@@ -17,9 +18,13 @@ front_read v a x c = ap (λ (l : List ℕ). item_at 4 (l ++ x)) c.1 ∙ item_aga
 
 pub one_reading : (v w : Item) (a b x y : List ℕ) → Canon v a → Canon w b → a ++ x ≡ b ++ y → (v ≡ w) × (a ≡ b)
 one_reading v w a b x y c d e =
-    let both = some_is (v, x) (w, y) (sym (front_read v a x c) ∙ ap (item_at 4) e ∙ front_read w b y d) in
+    let both = same_Some (v, x) (w, y) (sym (front_read v a x c) ∙ ap (item_at 4) e ∙ front_read w b y d) in
     let same : v ≡ w = ap (λ (p : Item × List ℕ). p.0) both in
     (same, c.1 ∙ ap spelling same ∙ sym d.1)
+
+-- bytes encode one value
+pub same_item : (v w : Item) (bs : List ℕ) → Canon v bs → Canon w bs → v ≡ w
+same_item v w bs a b = (one_reading v w bs bs [] [] a b refl).0
 
 -- the same of a front of the input
 read_front : (v : Item) (n : ℕ) (bs : List ℕ) → Canon v (take n bs) → item_at 4 bs ≡ Some (v, drop n bs)
@@ -39,7 +44,7 @@ module _ (bs : List ℕ) (fits : IsBytes bs) (x : Item × List ℕ) (read : item
 
   pub is_only : (v : Item) (n : ℕ) → n ≤ length bs → Canon v (take n bs) → (v ≡ x.0) × (n ≡ length bs - length x.1)
   is_only v n le c =
-      let both = some_is (v, drop n bs) x (sym (read_front v n bs c) ∙ read) in
+      let both = same_Some (v, drop n bs) x (sym (read_front v n bs c) ∙ read) in
       let rest : drop n bs ≡ x.1 = ap (λ (p : Item × List ℕ). p.1) both in
       (ap (λ (p : Item × List ℕ). p.0) both, omega (arith, ap length rest, length-drop n bs))
 

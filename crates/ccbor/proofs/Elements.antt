@@ -1,18 +1,18 @@
 -- The items of an array, one after another.
 use Rattle.std.proofs.Common.{Bor, ◌≡◌, ◌≢◌, [], append-nil, ℕ, zero, suc, ◌-◌, ◌<◌, ◌≤◌, List, ◌++◌, Option, Some, None, refl, sym, ap, subst, ◌∙◌, arith}
+use Rattle.std.proofs.lemmas.Option.{same_Some}
 use Rattle.std.specs.Prelude.{MatchOption}
 use Rattle.ccbor.specs.Item.{Item, uint, nint, bytes, text, array, map, boolean, Items, no_items, item}
 use Rattle.ccbor.specs.Canon.{spelling, spelling_of_items, count_of_items, ItemsFit, Canon}
 use Rattle.ccbor.specs.Access.{items_first, item_at, item_in}
 use Rattle.ccbor.specs.Viewing.{AreItems, read_or, shown, shown_items, parts_in}
-use Rattle.ccbor.proofs.Numbers.{some_is}
 use Rattle.ccbor.specs.Reading.{items_at, item_at as read_at}
 use Rattle.ccbor.proofs.Trees.{items_again}
 use Rattle.ccbor.proofs.Shows.{shown_is, shows, wider}
 
 pub array_items : (x : Item) (bs : List ℕ) → Canon x bs → (n : ℕ) (rest : List ℕ) → Some (n, rest) ≡ parts_in 4 x → (xs : Items) × (x ≡ array xs) × AreItems xs n rest
 array_items (array xs) bs c n rest e =
-    let both = some_is (n, rest) (count_of_items xs, spelling_of_items xs) e in
+    let both = same_Some (n, rest) (count_of_items xs, spelling_of_items xs) e in
     (xs, refl, record { count = ap (λ (p : ℕ × List ℕ). p.0) both; spelled = ap (λ (p : ℕ × List ℕ). p.1) both; fit = c.0.1 })
 array_items (uint k) bs c n rest e = absurd cc
 array_items (nint k) bs c n rest e = absurd cc

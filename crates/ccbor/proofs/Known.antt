@@ -1,5 +1,6 @@
 -- What passing over known values takes: a head at a time.
 use Rattle.std.proofs.Common.{Bor, ◌≡◌, ◌≢◌, ℕ, zero, suc, ◌+◌, ◌-◌, ◌^◌, ◌<◌, ◌≤◌, min, List, [], ◌∷◌, ◌++◌, length, Option, Some, None, refl, sym, ap, ◌∙◌, append_assoc, append-nil, arith}
+use Rattle.std.proofs.lemmas.Option.{same_Some}
 use Rattle.std.proofs.lemmas.List.{length-append}
 use Rattle.std.specs.Prelude.{MatchOption}
 use Rattle.ccbor.specs.Item.{Item, uint, nint, bytes, text, array, map, boolean, Items, no_items, item, Pairs, no_pairs, pair}
@@ -7,7 +8,7 @@ use Rattle.ccbor.specs.Canon.{head, spelling, spelling_of_items, spelling_of_pai
 use Rattle.ccbor.specs.Reading.{head_at, content_at}
 use Rattle.ccbor.specs.Viewing.{major_in, argument_in}
 use Rattle.ccbor.specs.Skipping.{items_list, pairs_list, inside, spelled, AllFit}
-use Rattle.ccbor.proofs.Numbers.{IsBytes, some_is, head_takes, head_again}
+use Rattle.ccbor.proofs.Numbers.{IsBytes, head_takes, head_again}
 use Rattle.ccbor.proofs.Leaves.{boolean_head, content_takes, content_again}
 
 -- what a value has behind its head that is no value
@@ -144,7 +145,7 @@ module _ (x : Item) (xs : List Item) (more bs : List ℕ) (fit : AllFit (x ∷ x
 
   module _ (m n : ℕ) (rest : List ℕ) (read : head_at bs ≡ Some ((m, n), rest)) where
     both : ◌≡◌ {A = (ℕ × ℕ) × List ℕ} ((m, n), rest) ((major_in x, argument_in x), own x ++ (spelled (inside x) ++ (spelled xs ++ more)))
-    both = some_is ((m, n), rest) ((major_in x, argument_in x), own x ++ (spelled (inside x) ++ (spelled xs ++ more))) (sym read ∙ seen)
+    both = same_Some ((m, n), rest) ((major_in x, argument_in x), own x ++ (spelled (inside x) ++ (spelled xs ++ more))) (sym read ∙ seen)
 
     major : m ≡ major_in x
     major = ap (λ (p : (ℕ × ℕ) × List ℕ). p.0.0) both
@@ -194,7 +195,7 @@ module _ (x : Item) (xs : List Item) (more bs : List ℕ) (fit : AllFit (x ∷ x
 
     pub string_left : (left : ℕ) → left ≡ suc (length xs) → 2 ≤ m → m ≤ 3 → (c tail : List ℕ) → content_at n rest ≡ Some (c, tail) → (tail ≡ spelled (inside x ++ xs) ++ more) × (left - 1 ≡ length (inside x ++ xs))
     string_left left count low high c tail cut =
-        let e = some_is (c, tail) (own x, spelled (inside x) ++ (spelled xs ++ more)) (sym cut ∙ content low high) in
+        let e = same_Some (c, tail) (own x, spelled (inside x) ++ (spelled xs ++ more)) (sym cut ∙ content low high) in
         (ap (λ (p : List ℕ × List ℕ). p.1) e ∙ joined, omega (arith, count, ap length (string low high).1, length-append (inside x) xs))
 
 -- ---- fewer bytes

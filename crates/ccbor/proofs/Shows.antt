@@ -1,5 +1,6 @@
 -- What the bytes of a view show.
 use Rattle.std.proofs.Common.{◌≡◌, ◌≢◌, ℕ, zero, suc, ◌-◌, ◌<◌, ◌≤◌, drop, true, false, eqb, List, [], ◌∷◌, ◌++◌, length, take, Option, Some, None, refl, sym, ap, subst, ◌∙◌, append-nil, arith}
+use Rattle.std.proofs.lemmas.Option.{same_Some}
 use Rattle.std.proofs.lemmas.Bool.Decides.{nat_tests}
 use Rattle.std.proofs.lemmas.List.{take_at, take-append-drop, length-append, length-drop}
 use Rattle.ccbor.specs.Item.{Item, uint, nint, bytes, text, array, map, boolean, Items, no_items, item, Pairs, no_pairs, pair}
@@ -7,7 +8,7 @@ use Rattle.ccbor.specs.Canon.{spelling, spelling_of_pairs, count_of_items, count
 use Rattle.ccbor.specs.Access.{pairs_first}
 use Rattle.ccbor.specs.Reading.{head_at, item_at, pairs_at}
 use Rattle.ccbor.specs.Viewing.{read_or, shown, shown_pairs, ArePairs, major_in, argument_in, body_in, parts_in}
-use Rattle.ccbor.proofs.Numbers.{some_is, head_again}
+use Rattle.ccbor.proofs.Numbers.{head_again}
 use Rattle.ccbor.proofs.Leaves.{boolean_head}
 use Rattle.ccbor.proofs.Trees.{pairs_again}
 use Rattle.ccbor.proofs.Firsts.{key_after_nothing}
@@ -46,7 +47,7 @@ module _ (x : Item) (bs : List ℕ) (c : Canon x bs) (major : ℕ) where
 
   module _ (m n : ℕ) (rest : List ℕ) (e : head_at bs ≡ Some ((m, n), rest)) where
     both : ◌≡◌ {A = (ℕ × ℕ) × List ℕ} ((m, n), rest) ((major_in x, argument_in x), body_in x)
-    both = some_is ((m, n), rest) ((major_in x, argument_in x), body_in x) (sym e ∙ head_is x bs c)
+    both = same_Some ((m, n), rest) ((major_in x, argument_in x), body_in x) (sym e ∙ head_is x bs c)
 
     major_is : m ≡ major_in x
     major_is = ap (λ (p : (ℕ × ℕ) × List ℕ). p.0.0) both
@@ -71,7 +72,7 @@ shows_pairs ps n bs are = subst (λ (qs : Pairs). ArePairs qs n bs) (sym (shown_
 
 pub map_pairs : (x : Item) (bs : List ℕ) → Canon x bs → (n : ℕ) (rest : List ℕ) → Some (n, rest) ≡ parts_in 5 x → (ps : Pairs) × (x ≡ map ps) × ArePairs ps n rest
 map_pairs (map ps) bs c n rest e =
-    let both = some_is (n, rest) (count_of_pairs ps, spelling_of_pairs ps) e in
+    let both = same_Some (n, rest) (count_of_pairs ps, spelling_of_pairs ps) e in
     (ps, refl, record { count = ap (λ (p : ℕ × List ℕ). p.0) both; spelled = ap (λ (p : ℕ × List ℕ). p.1) both; fit = c.0.1 })
 map_pairs (uint k) bs c n rest e = absurd cc
 map_pairs (nint k) bs c n rest e = absurd cc
@@ -117,7 +118,7 @@ module _ (k v : Item) (ps : Pairs) (n : ℕ) (bs : List ℕ) (are : ArePairs (pa
 pub one_front : (v w : Item) (a b x y bs : List ℕ) → Canon v a → Canon w b → bs ≡ a ++ x → bs ≡ b ++ y → (v ≡ w) × (x ≡ y)
 one_front v w a b x y bs c d e f =
     let read = sym (front_read v a x c) ∙ ap (item_at 4) (sym e ∙ f) ∙ front_read w b y d in
-    let both = some_is (v, x) (w, y) read in
+    let both = same_Some (v, x) (w, y) read in
     (ap (λ (p : Item × List ℕ). p.0) both, ap (λ (p : Item × List ℕ). p.1) both)
 
 pub some_pairs : (ps : Pairs) (n : ℕ) → n ≡ count_of_pairs ps → n ≢ 0 → (k v : Item) × (qs : Pairs) × (ps ≡ pair k v qs)

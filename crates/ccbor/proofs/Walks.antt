@@ -1,11 +1,12 @@
 -- Passing over values one after the other, as a loop does.
 use Rattle.std.proofs.Common.{◌≡◌, ℕ, zero, suc, ◌-◌, ◌+◌, ◌≤◌, ◌<◌, Bool, true, false, cond, eqb, List, [], length, take, Option, Some, None, refl, sym, ap, ◌∙◌, arith, inl, inr, IsUtf8, ◌||◌}
+use Rattle.std.proofs.lemmas.Option.{same_Some}
 use Rattle.ccbor.specs.declared.error.Error.{Error}
 use Rattle.ccbor.specs.declared.error.Error.TheVariants as errors
 use Rattle.ccbor.specs.Item.{Item, uint, nint, bytes, text, array, map, boolean, item, pair}
 use Rattle.ccbor.specs.Canon.{before, is_key}
 use Rattle.ccbor.specs.Reading.{Read, ◌>>=◌, Refuses, rest_of, key_rest, head_at, content_at, bytes_at, text_at, leaf_at, key_at, items_at, pairs_at, item_at}
-use Rattle.ccbor.proofs.Numbers.{IsBytes, bind_some, chosen, some_is}
+use Rattle.ccbor.proofs.Numbers.{IsBytes, bind_some, chosen}
 use Rattle.ccbor.proofs.Leaves.{text_is, text_is_none, guard_true, no_leaf, key_within}
 use Rattle.ccbor.proofs.Loop.{items_is, pairs_is}
 use Rattle.std.specs.Str.{is_utf8}
@@ -37,17 +38,17 @@ major_keys x y b e is = ap (λ (z : Item × List ℕ). is_key z.0) (sym is) ∙ 
 
 leaf_key : (m n : ℕ) (bs : List ℕ) (x : Item × List ℕ) → leaf_at (m, n) bs ≡ Some x → is_key x.0 ≡ (eqb m 0 || eqb m 1 || eqb m 3)
 unfolding leaf_at bytes_at text_at
-leaf_key zero n bs x e = major_keys (uint n, bs) x true refl (some_is (uint n, bs) x e)
-leaf_key (suc zero) n bs x e = major_keys (nint n, bs) x true refl (some_is (nint n, bs) x e)
+leaf_key zero n bs x e = major_keys (uint n, bs) x true refl (same_Some (uint n, bs) x e)
+leaf_key (suc zero) n bs x e = major_keys (nint n, bs) x true refl (same_Some (nint n, bs) x e)
 leaf_key (suc (suc zero)) n bs x e =
     let a = bind_some (content_at n bs) (λ c. Some (bytes c.0, c.1)) x e in
-    major_keys (bytes a.0.0, a.0.1) x false refl (some_is (bytes a.0.0, a.0.1) x a.2)
+    major_keys (bytes a.0.0, a.0.1) x false refl (same_Some (bytes a.0.0, a.0.1) x a.2)
 leaf_key (suc (suc (suc zero))) n bs x e =
     let step : List ℕ × List ℕ → Read Item = λ c. cond (is_utf8 c.0) (Some (text c.0, c.1)) None in
     let a = bind_some (content_at n bs) step x e in
     let found : Option (Item × List ℕ) = Some (text a.0.0, a.0.1) in
     let g = guard_true (is_utf8 a.0.0) found x a.2 in
-    major_keys (text a.0.0, a.0.1) x true refl (some_is (text a.0.0, a.0.1) x g.1)
+    major_keys (text a.0.0, a.0.1) x true refl (same_Some (text a.0.0, a.0.1) x g.1)
 leaf_key (suc (suc (suc (suc zero)))) n bs x e = absurd cc
 leaf_key (suc (suc (suc (suc (suc zero))))) n bs x e = absurd cc
 leaf_key (suc (suc (suc (suc (suc (suc zero)))))) n bs x e = absurd cc
@@ -55,8 +56,8 @@ leaf_key (suc (suc (suc (suc (suc (suc (suc zero))))))) n bs x e =
     let no : Option (Item × List ℕ) = Some (boolean false, bs) in
     let yes' : Option (Item × List ℕ) = Some (boolean true, bs) in
     elim (chosen (eqb n 20) no (cond (eqb n 21) yes' None) (Some x) e) [
-      | inl p ↦ major_keys (boolean false, bs) x false refl (some_is (boolean false, bs) x p.1)
-      | inr p ↦ let g = guard_true (eqb n 21) yes' x p.1 in major_keys (boolean true, bs) x false refl (some_is (boolean true, bs) x g.1)
+      | inl p ↦ major_keys (boolean false, bs) x false refl (same_Some (boolean false, bs) x p.1)
+      | inr p ↦ let g = guard_true (eqb n 21) yes' x p.1 in major_keys (boolean true, bs) x false refl (same_Some (boolean true, bs) x g.1)
     ]
 leaf_key (suc (suc (suc (suc (suc (suc (suc (suc m)))))))) n bs x e = let none = no_leaf (suc (suc (suc (suc (suc (suc (suc (suc m)))))))) n bs (omega arith) in absurd cc
 

@@ -3,7 +3,7 @@ use Rattle.std.proofs.Common.{◌≡◌, ℕ, suc, ◌+◌, ◌-◌, ◌≤◌, 
 use Rattle.std.specs.Prelude.{Some, IsErrOf, IsOk, OnOk, is_ok}
 use Rattle.hidframe.specs.declared.Packet.{Packet}
 use Rattle.hidlink.specs.History.{Answered, Call, Expired, Kept, Leaves}
-use Rattle.hidlink.specs.Ranks.{State, Idle, Receiving, Working, IsWorking, Shown, expiry, on_working, packets_of, request_payload, working_channel}
+use Rattle.hidlink.specs.Ranks.{State, Idle, Receiving, Working, IsWorking, DeviceState, expiry, on_working, packets_of, request_payload, working_channel}
 use Rattle.hidlink.specs.Told.{work}
 use Rattle.hidlink.specs.declared.transaction.Refusal.{Refusal}
 use Rattle.hidlink.specs.declared.transaction.Refusal.TheVariants.{NotWorking, TooLong}
@@ -54,24 +54,24 @@ one_sent (Ok a) x y z k e = e
 one_sent (Err a) x y z k e = absurd (cc)
 
 -- the acts
-pub took : (valid : Validity) (public : Keys) (old new : Shown) (a : authenticator.State) (p : Packet) → Takes old p new → Acts valid public old a (act.Packet p) new a
+pub took : (valid : Validity) (public : Keys) (old new : DeviceState) (a : authenticator.State) (p : Packet) → Takes old p new → Acts valid public old a (act.Packet p) new a
 took valid public old new a p (inl t) = (_, inl (t.0, refl), refl, t.1)
 took valid public old new a p (inr t) = (_, inr (t.0, refl), refl, t.1)
 
-pub decided : (valid : Validity) (public : Keys) (old new : Shown) (a b : authenticator.State) (consent : Consent) (words : Words) → Decides valid public old a consent words new b
+pub decided : (valid : Validity) (public : Keys) (old new : DeviceState) (a b : authenticator.State) (consent : Consent) (words : Words) → Decides valid public old a consent words new b
     → Acts valid public old a (act.Decide consent words) new b
 decided valid public old new a b consent words d = (
   record { calls = Answered d.2 ∷ []; sent = on_working old.state 16 d.2; authenticator = b },
-  (d.0, d.1, d.2, d.3, d.4, refl, refl),
+  (d.0, d.1, d.2, d.3, d.4, d.5, refl, refl),
   refl,
-  d.5,
+  d.6,
 )
 
-pub waited : (valid : Validity) (public : Keys) (old new : Shown) (a : authenticator.State) → IsWorking old.state → Moves old new (Kept 2 ∷ []) (on_working old.state 59 (2 ∷ []))
+pub waited : (valid : Validity) (public : Keys) (old new : DeviceState) (a : authenticator.State) → IsWorking old.state → Moves old new (Kept 2 ∷ []) (on_working old.state 59 (2 ∷ []))
     → Acts valid public old a act.Wait new a
 waited valid public old new a works m = (_, (works, refl), refl, m)
 
-pub expired : (valid : Validity) (public : Keys) (old new : Shown) (a : authenticator.State) → Moves old new (Expired ∷ []) (expiry old.state) → Acts valid public old a act.Expire new a
+pub expired : (valid : Validity) (public : Keys) (old new : DeviceState) (a : authenticator.State) → Moves old new (Expired ∷ []) (expiry old.state) → Acts valid public old a act.Expire new a
 expired valid public old new a m = (_, refl, refl, m)
 
 pub on_ok : {A E X Y : Type 0} (r : Result A E) → (X → Y) → OnOk r X → OnOk r Y
@@ -79,17 +79,17 @@ on_ok (Ok x) f h = f h
 on_ok (Err e) f h = tt
 
 -- all that is due is sent
-abbrev pub Sent : Validity → Keys → Shown → Shown → authenticator.State → authenticator.State → Act → List Packet → List Packet → Type 0
+abbrev pub Sent : Validity → Keys → DeviceState → DeviceState → authenticator.State → authenticator.State → Act → List Packet → List Packet → Type 0
 Sent valid public old new a b x before after =
     (done : Done) × Serves valid public old.channels old.state a x done × (b ≡ done.authenticator) × (after ≡ before ++ packets_of done.sent)
     × ((h : List Call) → Leaves h old.channels old.state → Leaves (h ++ done.calls) new.channels new.state)
 
-pub sent : (valid : Validity) (public : Keys) (old mid new : Shown) (a b : authenticator.State) (x : Act) (before out after : List Packet) → Acts valid public old a x mid b
+pub sent : (valid : Validity) (public : Keys) (old mid new : DeviceState) (a b : authenticator.State) (x : Act) (before out after : List Packet) → Acts valid public old a x mid b
     → new ≡ record mid { left = [] } → out ≡ before → after ≡ out ++ mid.left → Sent valid public old new a b x before after
 sent valid public old mid new a b x before out after k is same e = (
   k.0,
   k.1,
   k.2,
   e ∙ ap (λ xs. xs ++ mid.left) same ∙ ap (λ xs. before ++ xs) k.3.left,
-  λ h l. subst (λ (d : Shown). Leaves (h ++ k.0.calls) d.channels d.state) (sym is) (k.3.history h l),
+  λ h l. subst (λ (d : DeviceState). Leaves (h ++ k.0.calls) d.channels d.state) (sym is) (k.3.history h l),
 )

@@ -1,6 +1,6 @@
 -- A message's verdict at the site.
 use Rattle.std.proofs.Common.{◌≡◌, ℕ, List, refl, ◌∙◌, ap, subst}
-use Rattle.first_line.specs.Lines.{Each}
+use Rattle.first_line.specs.Lines.{Each, FirstFailing}
 use Rattle.first_line.proofs.Laws.{none_first}
 use Rattle.ctapmsg.specs.Replies.{Assertion, Creation, IsReply, ReplyOf, assertion_reply, creation_reply}
 use Rattle.replies.specs.declared.reply.Kind.TheVariants.{GetAssertion, MakeCredential}
@@ -16,7 +16,7 @@ use Rattle.verification.specs.declared.refusal.RegistrationError.TheVariants as 
 use Rattle.verification.specs.declared.refusal.RegistrationRefusal.{RegistrationRefusal}
 use Rattle.authdata.specs.Objects.{ObjectOf}
 use Rattle.ceremony.specs.Registration as ceremony
-use Rattle.ceremony.specs.Registration.{object_of}
+use Rattle.client.specs.Responses.{object_of}
 use Rattle.verification.specs.declared.refusal.SignInError.{SignInError}
 use Rattle.verification.specs.declared.refusal.SignInError.TheVariants as sign_ins
 use Rattle.verification.specs.declared.refusal.SignInRefusal.{SignInRefusal}
@@ -32,8 +32,8 @@ sign_in_step valid x e w is h = subst (λ (k : SignInError). IsRefused valid x k
 pub sign_in_memory : (valid : Relation) (x : Attempt) (e : SignInError) → e ≡ sign_ins.Memory → IsRefused valid x e → Each (Passes valid x) credential_steps
 sign_in_memory valid x e is h = subst (λ (k : SignInError). IsRefused valid x k) is h
 
-pub sign_in_passed : (valid : Relation) (x : Attempt) (w : SignInRefusal) → authentication.PassesAll valid x → authentication.IsFirstFailing valid x w → ⊥
-sign_in_passed valid x w all fails = none_first (λ step passed failed. failed passed) authentication.steps w all fails
+pub not_both : {L : Type 0} (P : L → Type 0) (steps : List L) (w : L) → Each P steps → FirstFailing P steps w → ⊥
+not_both P steps w all fails = none_first (λ step passed failed. failed passed) steps w all fails
 
 -- ---- registration
 
@@ -43,9 +43,6 @@ one_creation r q m k h = let e : creation_reply q ≡ creation_reply r = k.only 
 pub registration_step : (valid : Relation) (x : Enrolment) (e : RegistrationError) (w : RegistrationRefusal) → e ≡ registrations.Refused w → registration_answers.IsRefused valid x e
     → registration.IsFirstFailing valid x w
 registration_step valid x e w is h = subst (λ (k : RegistrationError). registration_answers.IsRefused valid x k) is h
-
-pub registration_passed : (valid : Relation) (x : Enrolment) (w : RegistrationRefusal) → registration.PassesAll valid x → registration.IsFirstFailing valid x w → ⊥
-registration_passed valid x w all fails = none_first (λ step passed failed. failed passed) registration.steps w all fails
 
 -- the response that is judged is the one of the object's encoding
 pub response_is : (r : Creation) (object bytes t : List ℕ) → object ≡ bytes → ObjectOf (object_of r) bytes → record { object = object; client_data = t } ≡ ceremony.response r t

@@ -11,7 +11,7 @@ use Rattle.cbor_map.specs.declared.fault.Fault.TheVariants.{AnotherKind}
 use Rattle.cbor_map.proofs.Tests.{clean_if_none}
 use Rattle.ctapmsg.specs.Replies.{Creation, ReplyOf, creation_reply, creation_reply_item, creation_reply_members}
 use Rattle.authdata.specs.Objects.{IsMap, ObjectOf, object_item}
-use Rattle.ceremony.specs.Registration.{object_of}
+use Rattle.client.specs.Responses.{object_of}
 
 -- a pair's value, and the pairs behind it
 value_fits : (d : ℕ) (last : List ℕ) (k v : Item) (ps : Pairs) → PairsFit d last (pair k v ps) → Fits d v

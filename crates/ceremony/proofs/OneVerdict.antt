@@ -13,7 +13,8 @@ use Rattle.ccbor.specs.Canon.{Canon}
 use Rattle.ctapmsg.specs.Replies.{Assertion, Creation, HasOtherShape, ReplyOf, ReplyRefused, assertion_reply, assertion_reply_item, creation_reply, creation_reply_item}
 use Rattle.replies.specs.declared.reply.Kind.{Kind}
 use Rattle.replies.specs.declared.reply.Kind.TheVariants as kinds
-use Rattle.replies.proofs.Laws.{assertion_items, creation_items, creation_never_both, never_both, same_item}
+use Rattle.ccbor.proofs.Decoding.{same_item}
+use Rattle.replies.proofs.Laws.{assertion_items, creation_items, creation_never_both, never_both}
 use Rattle.ctap_status.specs.declared.error.Error.{Error as ReplyError}
 use Rattle.ctap_status.specs.declared.error.Error.TheVariants as replies
 use Rattle.verification.specs.Shared.{Relation}
@@ -87,36 +88,31 @@ value_and_none kind a b some e none h = let v = shape_value kind b some h in non
 
 one_unread : (kind : Kind) (m : List ℕ) (e f : ReplyError) → kind ≢ kinds.Reset → e ≢ replies.Memory → f ≢ replies.Memory → ReplyRefused kind m e → ReplyRefused kind m f → e ≡ f
 one_unread kind m replies.Memory f some se sf a b = absurd (se refl)
-one_unread kind m replies.Unfit f some se sf a b = absurd a
-one_unread kind m (replies.Status s) f some se sf a b = absurd a
 one_unread kind m replies.Empty replies.Memory some se sf a b = absurd (sf refl)
-one_unread kind m replies.Empty replies.Unfit some se sf a b = absurd b
-one_unread kind m replies.Empty (replies.Status t) some se sf a b = absurd b
 one_unread kind m replies.Empty replies.Empty some se sf a b = refl
 one_unread kind m replies.Empty (replies.Refused t) some se sf a b = let g = b.1 in absurd (cc)
 one_unread kind m replies.Empty replies.NotCanonical some se sf a b = let g = b.1 in absurd (cc)
 one_unread kind m replies.Empty replies.Shape some se sf a b = let g = b.1 in absurd (cc)
+one_unread kind m replies.Empty _ some se sf a b = absurd b
 one_unread kind m (replies.Refused s) replies.Memory some se sf a b = absurd (sf refl)
-one_unread kind m (replies.Refused s) replies.Unfit some se sf a b = absurd b
-one_unread kind m (replies.Refused s) (replies.Status t) some se sf a b = absurd b
 one_unread kind m (replies.Refused s) replies.Empty some se sf a b = let g = a.1 in absurd (cc)
 one_unread kind m (replies.Refused s) (replies.Refused t) some se sf a b = ap (λ x. replies.Refused x) (let g = a.1 in let h = b.1 in cc)
 one_unread kind m (replies.Refused s) replies.NotCanonical some se sf a b = absurd (a.2 (let g = a.1 in let h = b.1 in cc))
 one_unread kind m (replies.Refused s) replies.Shape some se sf a b = absurd (a.2 (let g = a.1 in let h = b.1 in cc))
+one_unread kind m (replies.Refused s) _ some se sf a b = absurd b
 one_unread kind m replies.NotCanonical replies.Memory some se sf a b = absurd (sf refl)
-one_unread kind m replies.NotCanonical replies.Unfit some se sf a b = absurd b
-one_unread kind m replies.NotCanonical (replies.Status t) some se sf a b = absurd b
 one_unread kind m replies.NotCanonical replies.Empty some se sf a b = let g = a.1 in absurd (cc)
 one_unread kind m replies.NotCanonical (replies.Refused t) some se sf a b = absurd (b.2 (let g = a.1 in let h = b.1 in cc))
 one_unread kind m replies.NotCanonical replies.NotCanonical some se sf a b = refl
 one_unread kind m replies.NotCanonical replies.Shape some se sf a b = absurd (value_and_none kind a.0 b.0 some (let g = a.1 in let h = b.1 in cc) a.2.1 b.2)
+one_unread kind m replies.NotCanonical _ some se sf a b = absurd b
 one_unread kind m replies.Shape replies.Memory some se sf a b = absurd (sf refl)
-one_unread kind m replies.Shape replies.Unfit some se sf a b = absurd b
-one_unread kind m replies.Shape (replies.Status t) some se sf a b = absurd b
 one_unread kind m replies.Shape replies.Empty some se sf a b = let g = a.1 in absurd (cc)
 one_unread kind m replies.Shape (replies.Refused t) some se sf a b = absurd (b.2 (let g = a.1 in let h = b.1 in cc))
 one_unread kind m replies.Shape replies.NotCanonical some se sf a b = absurd (value_and_none kind b.0 a.0 some (let g = a.1 in let h = b.1 in cc) b.2.1 a.2)
 one_unread kind m replies.Shape replies.Shape some se sf a b = refl
+one_unread kind m replies.Shape _ some se sf a b = absurd b
+one_unread kind m _ f some se sf a b = absurd a
 
 -- ---- ceremonies whose replies and steps are one
 
@@ -159,23 +155,17 @@ registration_one valid s session t = record {
 
 module _ {R W : Type 0} (k : Ceremony R W) (one : IsOne k) where
   one_message : (m : List ℕ) (e f : Error W) → e ≢ errors.Memory → f ≢ errors.Memory → RefusedMessage k m e → RefusedMessage k m f → e ≡ f
-  one_message m errors.Incomplete f se sf a b = absurd a
-  one_message m (errors.Dead index kind) f se sf a b = absurd a
-  one_message m (errors.DeviceError code) f se sf a b = absurd a
   one_message m errors.Memory f se sf a b = absurd (se refl)
-  one_message m (errors.Reply x) errors.Incomplete se sf a b = absurd b
-  one_message m (errors.Reply x) (errors.Dead index kind) se sf a b = absurd b
-  one_message m (errors.Reply x) (errors.DeviceError code) se sf a b = absurd b
   one_message m (errors.Reply x) errors.Memory se sf a b = absurd (sf refl)
   one_message m (errors.Reply x) (errors.Reply y) se sf a b = ap (λ z. errors.Reply z) (one_unread k.command m x y one.command a.1 b.1 a.0 b.0)
   one_message m (errors.Reply x) (errors.Refused w) se sf a b = absurd (one.read b.0 m x b.1 a.0 a.1)
-  one_message m (errors.Refused w) errors.Incomplete se sf a b = absurd b
-  one_message m (errors.Refused w) (errors.Dead index kind) se sf a b = absurd b
-  one_message m (errors.Refused w) (errors.DeviceError code) se sf a b = absurd b
+  one_message m (errors.Reply x) _ se sf a b = absurd b
   one_message m (errors.Refused w) errors.Memory se sf a b = absurd (sf refl)
   one_message m (errors.Refused w) (errors.Reply y) se sf a b = absurd (one.read a.0 m y a.1 b.0 b.1)
   one_message m (errors.Refused w) (errors.Refused v) se sf a b =
       ap (λ z. errors.Refused z) (one.one_step b.0 w v (subst (λ (r : R). k.Fails r w) (one.one_reply a.0 b.0 m a.1 b.1) a.2) b.2)
+  one_message m (errors.Refused w) _ se sf a b = absurd b
+  one_message m _ f se sf a b = absurd a
 
   Says : Given → Error W → Type 0
   Says (message n m) e = RefusedMessage k m e
@@ -213,12 +203,10 @@ module _ {R W : Type 0} (k : Ceremony R W) (one : IsOne k) where
 
   -- a message that succeeds is refused for nothing but want of memory
   good_message : (m : List ℕ) (r : R) (e : Error W) → e ≢ errors.Memory → k.IsReply r m → k.Passes r → RefusedMessage k m e → ⊥
-  good_message m r errors.Incomplete some spelled passes h = h
-  good_message m r (errors.Dead index kind) some spelled passes h = h
-  good_message m r (errors.DeviceError code) some spelled passes h = h
   good_message m r errors.Memory some spelled passes h = some refl
   good_message m r (errors.Reply x) some spelled passes h = one.read r m x spelled h.0 h.1
   good_message m r (errors.Refused w) some spelled passes h = one.passed r w passes (subst (λ (q : R). k.Fails q w) (one.one_reply h.0 r m h.1 spelled) h.2)
+  good_message m r _ some spelled passes h = h
 
   pub not_both_verdicts : (c : ℕ) (ps : List Packet) → c < 2 ^ 32 → ArePackets ps → (n : ℕ) (r : R) (e : Error W) → e ≢ errors.Memory → Succeeds k c ps n r → Refused k c ps e → ⊥
   unfolding Gives Says

@@ -7,7 +7,7 @@ use Rattle.hidlink.specs.declared.collection.DeadKind.{DeadKind}
 use Rattle.hidlink.specs.Wire.{Carries, Dies, Got, HasEnded, IsBeginning, Shown}
 use Rattle.hidlink.proofs.Beginnings.{begins_itself, begins_later, taken}
 use Rattle.hidlink.proofs.Laws.{carries_first, dies_first}
-use Rattle.ceremony.specs.Packets.{Collected, HasGot, IsTaken}
+use Rattle.ceremony.specs.Packets.{LiveState, HasGot, IsTaken}
 
 -- what ended with the first packets has ended
 pub ended_later : (c n : ℕ) (ps : List Packet) → HasEnded c (take n ps) → HasEnded c ps
@@ -92,7 +92,7 @@ carried c t ps qs cmd m b h taken =
     (λ j less. carries_first c j (length qs) ps cmd m less k.0 h') taken in
     (taken.within, subst (λ (n : ℕ). Carries c (take n ps) cmd m) same h')
 
--- the packet that ended all hope is the last one taken
+-- the packet after which no message can come is the last one taken
 pub died : (c t : ℕ) (ps qs : List Packet) (kind : DeadKind) → IsBeginning qs ps → Dies c qs kind → IsTaken c ps t → (1 ≤ t) × Dies c (take t ps) kind
 died c t ps qs kind b d taken =
     let k = begins_take qs ps b in
@@ -109,7 +109,7 @@ died_at c t i ps kind d taken e =
     (omega arith, subst (λ (n : ℕ). Dies c (take n ps) kind) (sym e) d.1)
 
 -- at most all packets are taken
-pub few_taken : (v : Collected) (ps : List Packet) → HasGot v ps → v.taken ≤ length ps
+pub few_taken : (v : LiveState) (ps : List Packet) → HasGot v ps → v.taken ≤ length ps
 few_taken v ps g = g.taken.within
 
 few : (n : ℕ) (ps : List Packet) → length (take n ps) ≤ n
@@ -117,7 +117,7 @@ few zero ps = omega arith
 few (suc n) [] = omega arith
 few (suc n) (p ∷ ps) = let less : length (take n ps) ≤ n = few n ps in omega arith
 
-pub none_more : (n : ℕ) (ps : List Packet) (v : Collected) → HasGot v (take n ps) → v.taken ≤ n
+pub none_more : (n : ℕ) (ps : List Packet) (v : LiveState) → HasGot v (take n ps) → v.taken ≤ n
 none_more n ps v g =
     let within : v.taken ≤ length (take n ps) = g.taken.within in
     let size : length (take n ps) ≤ n = few n ps in omega arith

@@ -6,26 +6,16 @@ use Rattle.std.proofs.lemmas.List.{take_all}
 use Rattle.hidframe.specs.declared.Packet.{Packet}
 use Rattle.hidlink.specs.Wire.{Carries, Dies, HasEnded}
 use Rattle.hidlink.proofs.Laws.{carries_first, one_carried}
-use Rattle.ceremony.specs.Verdict.{Ceremony, Delivers, Refused, RefusedMessage, Succeeds, Undelivered}
-use Rattle.verification.specs.Shared.{Relation}
-use Rattle.verification.specs.declared.refusal.SignInRefusal.{SignInRefusal}
-use Rattle.site.specs.State.{State}
-use Rattle.verification.specs.declared.refusal.RegistrationRefusal.{RegistrationRefusal}
-use Rattle.ceremony.specs.Registration as registration
-use Rattle.ceremony.specs.declared.registration.Enrolled.{Enrolled}
-use Rattle.ceremony.specs.SignIn as sign_in
-use Rattle.ceremony.specs.declared.authentication.Accepted.{Accepted}
+use Rattle.ceremony.specs.Verdict.{CarriesReply, Ceremony, Delivers, Refused, RefusedMessage, Succeeds, Undelivered}
 use Rattle.ceremony.specs.declared.error.Error.{Error}
 use Rattle.ceremony.specs.declared.error.Error.TheVariants as errors
 
 -- what refuses a message refuses the packets, and so does that none came
 pub lifted : {R W : Type 0} (k : Ceremony R W) (c : ℕ) (ps : List Packet) (n : ℕ) (m : List ℕ) (e : Error W) → Delivers c ps n m → RefusedMessage k m e → Refused k c ps e
-lifted k c ps n m errors.Incomplete d h = absurd h
-lifted k c ps n m (errors.Dead index kind) d h = absurd h
-lifted k c ps n m (errors.DeviceError code) d h = absurd h
 lifted k c ps n m (errors.Reply e) d h = (n, m, d, h)
 lifted k c ps n m (errors.Refused w) d h = (n, m, d, h)
 lifted k c ps n m errors.Memory d h = tt
+lifted k c ps n m _ d h = absurd h
 
 pub undelivered : {R W : Type 0} (k : Ceremony R W) (c : ℕ) (ps : List Packet) (e : Error W) → Undelivered c ps e → Refused k c ps e
 undelivered k c ps errors.Incomplete h = h
@@ -39,9 +29,7 @@ pub never_memory : {W : Type 0} (c : ℕ) (ps : List Packet) (e : Error W) → U
 never_memory c ps errors.Incomplete h e = absurd (cc)
 never_memory c ps (errors.Dead index kind) h e = absurd (cc)
 never_memory c ps (errors.DeviceError code) h e = absurd (cc)
-never_memory c ps (errors.Reply x) h e = h
-never_memory c ps (errors.Refused w) h e = h
-never_memory c ps errors.Memory h e = h
+never_memory c ps _ h e = h
 
 -- packets deliver one message
 pub one_message : (c : ℕ) (ps : List Packet) (n k : ℕ) (m l : List ℕ) → Delivers c ps n m → Delivers c ps k l → (n ≡ k) × (m ≡ l)
@@ -103,22 +91,12 @@ pub refuses_more : {R W A : Type 0} (x : Ceremony R W) (c k : ℕ) (ps : List Pa
 refuses_more x c k ps (Ok a) enough h = tt
 refuses_more x c k ps (Err e) enough h = refused_more x c k ps e enough h
 
-pub accepts_more : (valid : Relation) (s : State) (session : ℕ) (t : List ℕ) (c k : ℕ) (ps : List Packet) (r : Result Accepted (Error SignInRefusal))
-    → IfOk r (sign_in.Accepts valid s session t c (take k ps)) → IfOk r (sign_in.Accepts valid s session t c ps)
-accepts_more valid s session t c k ps (Ok a) h = (h.0, succeeds_more (sign_in.sign_in valid s session t) c k ps a.used h.0 h.1, h.2)
-accepts_more valid s session t c k ps (Err e) h = tt
+pub accepts_more : {R W A E : Type 0} (x : Ceremony R W) (used : A → ℕ) (Tells : R → A → Type 0) (c k : ℕ) (ps : List Packet) (r : Result A E)
+    → IfOk r (λ a. (q : R) × Succeeds x c (take k ps) (used a) q × Tells q a) → IfOk r (λ a. (q : R) × Succeeds x c ps (used a) q × Tells q a)
+accepts_more x used Tells c k ps (Ok a) h = (h.0, succeeds_more x c k ps (used a) h.0 h.1, h.2)
+accepts_more x used Tells c k ps (Err e) h = tt
 
-pub after_more : (s : State) (session : ℕ) (t : List ℕ) (c k : ℕ) (ps : List Packet) (new : State) (r : Result Accepted (Error SignInRefusal))
-    → OnOk r (sign_in.IsAfter s session t c (take k ps) new) → OnOk r (sign_in.IsAfter s session t c ps new)
-after_more s session t c k ps new (Ok a) h = (h.0, h.1, h.2, delivers_more c k h.0 ps h.1 h.3, h.4, h.5)
-after_more s session t c k ps new (Err e) h = tt
-
-pub enrols_more : (valid : Relation) (s : State) (session : ℕ) (t : List ℕ) (c k : ℕ) (ps : List Packet) (r : Result Enrolled (Error RegistrationRefusal))
-    → IfOk r (registration.Accepts valid s session t c (take k ps)) → IfOk r (registration.Accepts valid s session t c ps)
-enrols_more valid s session t c k ps (Ok a) h = (h.0, succeeds_more (registration.registration valid s session t) c k ps a.used h.0 h.1, h.2)
-enrols_more valid s session t c k ps (Err e) h = tt
-
-pub enrolled_more : (s : State) (session : ℕ) (t : List ℕ) (c k : ℕ) (ps : List Packet) (new : State) (r : Result Enrolled (Error RegistrationRefusal))
-    → OnOk r (registration.IsAfter s session t c (take k ps) new) → OnOk r (registration.IsAfter s session t c ps new)
-enrolled_more s session t c k ps new (Ok a) h = (h.0, h.1, h.2, delivers_more c k h.0 ps h.1 h.3, h.4, h.5)
-enrolled_more s session t c k ps new (Err e) h = tt
+pub carries_more : {R A E : Type 0} (IsReply : R → List ℕ → Type 0) (P : R → Type 0) (c k : ℕ) (ps : List Packet) (r : Result A E)
+    → OnOk r (CarriesReply IsReply P c (take k ps)) → OnOk r (CarriesReply IsReply P c ps)
+carries_more IsReply P c k ps (Ok a) h = (h.0, h.1, h.2, delivers_more c k h.0 ps h.1 h.3, h.4, h.5)
+carries_more IsReply P c k ps (Err e) h = tt

@@ -13,13 +13,13 @@ pub record IsTaken (c : ℕ) (ps : List Packet) (n : ℕ) : Type 0 where
   pub ended : HasEnded c (take n ps) ⊎ (n ≡ length ps)
 
 -- what a ceremony's callers see of its packets: the channel, what its collector shows, and how many it has taken
-pub record Collected : Type 0 where
+pub record LiveState : Type 0 where
   pub cid : ℕ
   pub shown : Shown
   pub taken : ℕ
 
 -- it got the packets ps
-pub record HasGot (live : Collected) (ps : List Packet) : Type 0 where
+pub record HasGot (live : LiveState) (ps : List Packet) : Type 0 where
   pub got : Got live.cid ps live.shown
   pub taken : IsTaken live.cid ps live.taken
 

@@ -4,21 +4,19 @@ use Rattle.hidframe.specs.declared.Packet.{Packet}
 use Rattle.ccbor.specs.Canon.{spelling}
 use Rattle.replies.specs.declared.reply.Kind.TheVariants.{MakeCredential}
 use Rattle.ctapmsg.specs.Replies.{Creation, ReplyOf, creation_reply}
-use Rattle.authdata.specs.Objects.{Attestation, object_item}
+use Rattle.authdata.specs.Objects.{object_item}
 use Rattle.authdata.specs.Responses as responses
+use Rattle.client.specs.Responses.{object_of}
 use Rattle.verification.specs.Shared.{Relation}
 use Rattle.verification.specs.Registration.{IsFirstFailing, PassesAll}
 use Rattle.verification.specs.declared.refusal.RegistrationRefusal.{RegistrationRefusal}
 use Rattle.site.specs.State.{IsAfterRegistration, State, enrolment_in}
 use Rattle.site.specs.Answers.{IsRegistered}
-use Rattle.ceremony.specs.Verdict.{Ceremony, Delivers, Succeeds}
+use Rattle.ceremony.specs.Verdict.{CarriesReply, Ceremony, Succeeds}
 use Rattle.ceremony.specs.declared.registration.Enrolled.{Enrolled}
 
--- the attestation object (section 6.5.4) of a reply to makeCredential (CTAP 2.1, section 6.1.2)
-abbrev pub object_of : Creation → Attestation
-object_of r = record { fmt = r.fmt; statement = r.statement; auth_data = r.auth_data }
-
--- the response that the reply makes with client data: the object's one encoding
+-- the response that a reply to makeCredential (CTAP 2.1, section 6.1.2) makes with client data: the one encoding of
+-- its attestation object
 abbrev pub response : Creation → List ℕ → responses.Registration
 response r t = record { object = spelling (object_item (object_of r)); client_data = t }
 
@@ -39,4 +37,4 @@ Accepts valid s session t c ps a =
 -- the site afterwards
 abbrev pub IsAfter : State → ℕ → List ℕ → ℕ → List Packet → State → Type 0
 IsAfter s session t c ps new =
-    (n : ℕ) × (m : List ℕ) × (r : Creation) × Delivers c ps n m × ReplyOf (creation_reply r) m × IsAfterRegistration s session (response r t) new
+    CarriesReply (λ r m. ReplyOf (creation_reply r) m) (λ r. IsAfterRegistration s session (response r t) new) c ps

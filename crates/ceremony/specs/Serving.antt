@@ -1,7 +1,7 @@
 -- What an act at the authenticator's end does (CTAP 2.1, section 11.2.5): at its device, and at the authenticator.
-use Rattle.std.specs.Prelude.{◌≡◌, ◌≢◌, ◌⊎◌, ℕ, List, [], ◌∷◌, Option, Some}
+use Rattle.std.specs.Prelude.{◌≡◌, ◌≢◌, ◌⊎◌, ◌<◌, ◌≤◌, ℕ, List, [], ◌∷◌, Option, Some, length, slice_index}
 use Rattle.hidframe.specs.Packets.{fields}
-use Rattle.hidframe.specs.declared.ctaphid.TheConstants.{CTAPHID_CBOR, CTAPHID_KEEPALIVE, STATUS_UPNEEDED}
+use Rattle.hidframe.specs.declared.ctaphid.TheConstants.{CTAPHID_CBOR, CTAPHID_KEEPALIVE, MAX_PAYLOAD_SIZE, STATUS_UPNEEDED}
 use Rattle.hidlink.specs.History.{Call, Answered, Expired, Kept, Took}
 use Rattle.hidlink.specs.Ranks.{IsWorking, Message, expiry, on_working, response}
 use Rattle.hidlink.specs.Ranks as device
@@ -21,6 +21,10 @@ pub record Done : Type 0 where
   pub sent : Option Message
   pub authenticator : State
 
+-- bytes that fit into a message (section 11.2.4)
+abbrev pub IsPayload : List ℕ → Type 0
+IsPayload m = (length m ≤ MAX_PAYLOAD_SIZE) × ((k : ℕ) → slice_index m k < 256)
+
 -- A packet is taken, and a cancelled request is answered by status 0x2D; what else comes of it is sent. A decision
 -- on the request that the device works on is a step of the authenticator, whose reply is the answer. Waiting sends a
 -- keepalive: the user's presence is needed.
@@ -36,7 +40,7 @@ Serves valid public n s a (act.Packet p) d =
     × (d ≡ record { calls = Took p ∷ []; sent = (response n s (fields p)).sent; authenticator = a }))
 Serves valid public n s a (act.Decide consent words) d =
     (c : ℕ) × (payload : List ℕ) × (reply : List ℕ) × (work s ≡ Some (c, payload))
-    × Steps valid public a c payload consent words reply d.authenticator
+    × IsPayload reply × Steps valid public a c payload consent words reply d.authenticator
     × (d.calls ≡ Answered reply ∷ []) × (d.sent ≡ on_working s CTAPHID_CBOR reply)
 Serves valid public n s a act.Wait d =
     IsWorking s

@@ -4,44 +4,41 @@ use Rattle.first_line.specs.Lines.{Each}
 use Rattle.hidframe.specs.declared.Packet.{Packet}
 use Rattle.replies.specs.declared.reply.Kind.TheVariants.{GetAssertion}
 use Rattle.ctapmsg.specs.Replies.{Assertion, ReplyOf, assertion_reply}
-use Rattle.authdata.specs.Responses as responses
+use Rattle.client.specs.Responses.{response_of}
 use Rattle.verification.specs.Shared.{Relation}
 use Rattle.verification.specs.Authentication.{IsFirstFailing, Passes, PassesAll, credential_steps}
 use Rattle.verification.specs.declared.refusal.SignInRefusal.{SignInRefusal}
 use Rattle.site.specs.State.{IsAfterSignIn, State, attempt_in}
 use Rattle.site.specs.Answers.{IsSignedIn}
-use Rattle.ceremony.specs.Verdict.{Ceremony, Delivers, Succeeds}
+use Rattle.ceremony.specs.Verdict.{CarriesReply, Ceremony, Succeeds}
 use Rattle.ceremony.specs.declared.authentication.Accepted.{Accepted}
 
--- the response that a reply to getAssertion (CTAP 2.1, section 6.2.2) makes with client data
-abbrev pub response : Assertion → List ℕ → responses.Assertion
-response r t = record { credential = r.credential; user = r.user; auth_data = r.auth_data; signature = r.signature; client_data = t }
-
--- in a session of a site, with client data t: the message is a reply to getAssertion, whose response is judged
+-- in a session of a site, with client data t: the message is a reply to getAssertion (CTAP 2.1, section 6.2.2), whose
+-- response is judged
 abbrev pub sign_in : Relation → State → ℕ → List ℕ → Ceremony Assertion SignInRefusal
 sign_in valid s session t = record {
   command = GetAssertion;
   IsReply = λ r m. ReplyOf (assertion_reply r) m;
-  Passes = λ r. PassesAll valid (attempt_in s session (response r t));
-  Fails = λ r w. IsFirstFailing valid (attempt_in s session (response r t)) w;
+  Passes = λ r. PassesAll valid (attempt_in s session (response_of r t));
+  Fails = λ r w. IsFirstFailing valid (attempt_in s session (response_of r t)) w;
 }
 
 -- the first `used` packets succeed by a reply whose user, credential and mark of backup are answered
 abbrev pub Accepts : Relation → State → ℕ → List ℕ → ℕ → List Packet → Accepted → Type 0
 Accepts valid s session t c ps a =
     (r : Assertion) × Succeeds (sign_in valid s session t) c ps a.used r
-    × IsSignedIn s (response r t) (record { user = a.user; credential = a.credential; backed_up = a.backed_up })
+    × IsSignedIn s (response_of r t) (record { user = a.user; credential = a.credential; backed_up = a.backed_up })
 
 -- the site afterwards
 abbrev pub IsAfter : State → ℕ → List ℕ → ℕ → List Packet → State → Type 0
 IsAfter s session t c ps new =
-    (n : ℕ) × (m : List ℕ) × (r : Assertion) × Delivers c ps n m × ReplyOf (assertion_reply r) m × IsAfterSignIn s session (response r t) new
+    CarriesReply (λ r m. ReplyOf (assertion_reply r) m) (λ r. IsAfterSignIn s session (response_of r t) new) c ps
 
 -- the reply passes the steps on the session and the credential
 abbrev pub Begins : Relation → State → ℕ → List ℕ → Assertion → Type 0
-Begins valid s session t r = Each (Passes valid (attempt_in s session (response r t))) credential_steps
+Begins valid s session t r = Each (Passes valid (attempt_in s session (response_of r t))) credential_steps
 
 -- the packets carry a reply that does
 abbrev pub CarriesBeginning : Relation → State → ℕ → List ℕ → ℕ → List Packet → Type 0
 CarriesBeginning valid s session t c ps =
-    (n : ℕ) × (m : List ℕ) × (r : Assertion) × Delivers c ps n m × ReplyOf (assertion_reply r) m × Begins valid s session t r
+    CarriesReply (λ r m. ReplyOf (assertion_reply r) m) (Begins valid s session t) c ps

@@ -26,6 +26,10 @@ Delivers c ps n m = (n ≤ length ps) × Carries c (take n ps) CTAPHID_CBOR m
 abbrev pub Succeeds : {R W : Type 0} → Ceremony R W → ℕ → List Packet → ℕ → R → Type 0
 Succeeds k c ps n r = (m : List ℕ) × Delivers c ps n m × k.IsReply r m × k.Passes r
 
+-- they carry a reply of which this holds
+abbrev pub CarriesReply : {R : Type 0} → (R → List ℕ → Type 0) → (R → Type 0) → ℕ → List Packet → Type 0
+CarriesReply {R} IsReply P c ps = (n : ℕ) × (m : List ℕ) × (r : R) × Delivers c ps n m × IsReply r m × P r
+
 -- why the message is refused: it is no reply to the command, or the first step of the site that the reply does not pass.
 -- Want of memory says nothing.
 abbrev pub RefusedMessage : {R W : Type 0} → Ceremony R W → List ℕ → Error W → Type 0
@@ -34,7 +38,7 @@ RefusedMessage {R} k m (errors.Refused w) = (r : R) × k.IsReply r m × k.Fails 
 RefusedMessage k m errors.Memory = Unit {0}
 RefusedMessage k m e = ⊥
 
--- why the packets carry no message: the device's error, the packet that ends all hope of one, or that none came and
+-- why the packets carry no message: the device's error, the packet after which none can come, or that none came and
 -- one still can
 abbrev pub Undelivered : {W : Type 0} → ℕ → List Packet → Error W → Type 0
 Undelivered c ps (errors.DeviceError code) = (n : ℕ) × (n ≤ length ps) × Carries c (take n ps) CTAPHID_ERROR (code ∷ [])

@@ -3,14 +3,15 @@
 ghost use Rattle.std.specs.Prelude.{◌≡◌, List, ℕ, IfErr, IfOk, MatchResult, OnErr, OnOk};
 ghost use Rattle.hidframe.specs.declared.Packet.{Packet};
 ghost use Rattle.ctapmsg.specs.Replies.{Assertion, ReplyOf, assertion_reply};
-ghost use Rattle.ctapmsg.specs.ReplyView.{assertion_seen};
+ghost use Rattle.ctapmsg.specs.ReplyView.{lent_assertion_view};
+ghost use Rattle.client.specs.Responses.{response_of};
 ghost use Rattle.verification.specs.Authentication.{PassesAll};
-ghost use Rattle.verification.specs.Views.{assertion_of};
+ghost use Rattle.verification.specs.Views.{assertion_parts_view};
 ghost use Rattle.site.specs.Answers.{IsSignedIn};
 ghost use Rattle.site.specs.State.{IsAfterSignIn, attempt_in};
 ghost use Rattle.ceremony.specs.Packets.{HasGot};
 ghost use Rattle.ceremony.specs.SignIn as ceremony;
-ghost use Rattle.ceremony.specs.SignIn.{Accepts, Begins, CarriesBeginning, IsAfter, response};
+ghost use Rattle.ceremony.specs.SignIn.{Accepts, Begins, CarriesBeginning, IsAfter};
 ghost use Rattle.ceremony.specs.Verdict.{Refused, RefusedMessage, Succeeds};
 ghost use Rattle.ceremony.specs.declared.error.Error.TheVariants as errors;
 
@@ -37,7 +38,7 @@ pub struct Accepted {
 
 /// The response that a reply makes with client data.
 fn parts<'a>(reply: &AssertionView<'a>, client_data: &'a [u8]) -> AssertionParts<'a>
-    ensures { assertion_of result ≡ response (assertion_seen reply.now) client_data.now }
+    ensures { assertion_parts_view result ≡ response_of (lent_assertion_view reply.now) client_data.now }
 {
     AssertionParts {
         credential: reply.credential,
@@ -57,10 +58,10 @@ fn judge<V: Verifier>(
     message: &[u8],
 ) -> Result<SignedIn, Error<SignInRefusal>>
     ensures accepted { IfOk result (λ x. (r : Assertion) × ReplyOf (assertion_reply r) message.now
-        × PassesAll (V.valid verifier.now) (attempt_in site.old session (response r client_data.now))
-        × IsSignedIn site.old (response r client_data.now) x × IsAfterSignIn site.old session (response r client_data.now) site.new) }
+        × PassesAll (V.valid verifier.now) (attempt_in site.old session (response_of r client_data.now))
+        × IsSignedIn site.old (response_of r client_data.now) x × IsAfterSignIn site.old session (response_of r client_data.now) site.new) }
     ensures complete { (r : Assertion) → ReplyOf (assertion_reply r) message.now
-        → PassesAll (V.valid verifier.now) (attempt_in site.old session (response r client_data.now)) → IfErr result (λ e. e ≡ errors.Memory) }
+        → PassesAll (V.valid verifier.now) (attempt_in site.old session (response_of r client_data.now)) → IfErr result (λ e. e ≡ errors.Memory) }
     ensures refused { IfErr result (RefusedMessage (ceremony.sign_in (V.valid verifier.now) site.old session client_data.now) message.now) }
     ensures memory { IfErr result (λ e. e ≡ errors.Memory
         → (r : Assertion) × ReplyOf (assertion_reply r) message.now × Begins (V.valid verifier.now) site.old session client_data.now r) }

@@ -33,9 +33,9 @@ pub struct Live {
 impl Model for Live {
     ghost use Rattle.std.specs.Prelude.{List};
     ghost use Rattle.hidframe.specs.declared.Packet.{Packet};
-    ghost use Rattle.ceremony.specs.Packets.{Collected, HasGot};
+    ghost use Rattle.ceremony.specs.Packets.{LiveState, HasGot};
 
-    ghost Value = { Collected };
+    ghost Value = { LiveState };
 
     ghost view = { λ l. record { cid = l.collector.cid; shown = l.collector.shown; taken = l.taken } };
 

@@ -5,18 +5,19 @@ ghost use Rattle.hidframe.specs.declared.Packet.{Packet};
 ghost use Rattle.ctapmsg.specs.Replies.{Creation, ReplyOf, creation_reply};
 ghost use Rattle.ctapmsg.specs.ReplyView.{creation_reply_view};
 ghost use Rattle.authdata.specs.Objects.{ObjectOf};
+ghost use Rattle.client.specs.Responses.{object_of};
 ghost use Rattle.verification.specs.Registration.{PassesAll};
 ghost use Rattle.site.specs.Answers.{IsRegistered};
 ghost use Rattle.site.specs.State.{IsAfterRegistration, enrolment_in};
 ghost use Rattle.ceremony.specs.Packets.{HasGot};
 ghost use Rattle.ceremony.specs.Registration as ceremony;
-ghost use Rattle.ceremony.specs.Registration.{Accepts, IsAfter, object_of, response};
+ghost use Rattle.ceremony.specs.Registration.{Accepts, IsAfter, response};
 ghost use Rattle.ceremony.specs.Verdict.{Refused, RefusedMessage, Succeeds};
 ghost use Rattle.ceremony.specs.declared.error.Error.TheVariants as errors;
 
 use crate::error::Error;
 use crate::live::{Live, feed_all};
-use authdata::AttestationObject;
+use client::{ResponseError, attestation_object};
 use cose::Verifier;
 use ctapmsg::{CreationReply, read_creation};
 use hidframe::Packet;
@@ -37,15 +38,10 @@ fn object(alloc: Global, reply: CreationReply) -> Result<Vec<u8>, AllocError>
     requires { (m : List ℕ) × ReplyOf (creation_reply (creation_reply_view reply)) m }
     ensures { IfOk result (λ o. ObjectOf (object_of (creation_reply_view reply)) o.items) }
 {
-    let object = AttestationObject {
-        fmt: reply.fmt,
-        auth_data: reply.auth_data,
-        statement: reply.statement,
-    };
-    match object.write(alloc) {
+    match attestation_object(alloc, reply) {
         Ok(bytes) => Ok(bytes),
         Err(error) => {
-            let unfit = matches!(error, authdata::Error::Unfit);
+            let unfit = matches!(error, ResponseError::Unfit);
             prove!(!unfit);
             Err(AllocError)
         }

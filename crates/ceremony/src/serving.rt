@@ -1,11 +1,11 @@
 //! The authenticator's end: a device and its authenticator, one act after another.
 
-ghost use Rattle.std.specs.Prelude.{◌≡◌, ◌+◌, ◌≤◌, ◌++◌, [], ◌∷◌, List, Err, IsErrOf, OnErr, OnOk, vec_capacity, vec_len};
-ghost use Rattle.hidframe.specs.declared.ctaphid.TheConstants.{CTAPHID_KEEPALIVE, STATUS_UPNEEDED};
-ghost use Rattle.hidlink.specs.History.{Call, Kept, Leaves};
+ghost use Rattle.std.specs.Prelude.{◌≡◌, ◌+◌, ◌≤◌, ◌++◌, [], ◌∷◌, List, Err, IsErrOf, OnErr, OnOk, length, vec_capacity, vec_len};
+ghost use Rattle.hidframe.specs.declared.ctaphid.TheConstants.{CTAPHID_CBOR, CTAPHID_KEEPALIVE, MAX_PAYLOAD_SIZE, STATUS_UPNEEDED};
+ghost use Rattle.hidlink.specs.History.{Answered, Call, Kept, Leaves};
 ghost use Rattle.hidlink.specs.Ranks.{IsWorking, on_working, packets_of};
 ghost use Rattle.ceremony.specs.AtDevice.{Acts, Decides, Moves, Takes};
-ghost use Rattle.ceremony.specs.Serving.{AsksForWork, Done, Serves};
+ghost use Rattle.ceremony.specs.Serving.{AsksForWork, Done, IsPayload, Serves};
 ghost use Rattle.ceremony.specs.declared.serving.ServeError.TheVariants as errors;
 
 use authenticator::{Authenticator, Consent, Words};
@@ -80,6 +80,17 @@ fn drain(device: &mut Device, out: &mut Vec<Packet>)
     }
 }
 
+/// Answers the request that the device works on.
+fn answer(device: &mut Device, reply: &[u8])
+    requires left { device.old.left ≡ [] }
+    requires works { IsWorking device.old.state }
+    requires size { length reply.now ≤ MAX_PAYLOAD_SIZE }
+    ensures payload { IsPayload reply.now }
+    ensures moves { Moves device.old device.new (Answered reply.now ∷ []) (on_working device.old.state CTAPHID_CBOR reply.now) }
+{
+    let _ = device.answer(reply);
+}
+
 /// Takes a packet, and answers the request that it cancels.
 fn take(device: &mut Device, packet: &Packet)
     requires { device.old.left ≡ [] }
@@ -108,7 +119,7 @@ fn decide<S: Signer>(
         return Err(ServeError::NotWorking);
     };
     let reply = authenticator.handle(scheme, channel, device.request(), consent, words)?;
-    let _ = device.answer(&reply);
+    answer(device, &reply);
     Ok(())
 }
 

@@ -1,8 +1,10 @@
 //! Asking an authenticator (WebAuthn Level 2, sections 5.1.3 and 5.1.4).
 
-ghost use Rattle.std.specs.Prelude.{IfErr, IfOk, OnOk};
-ghost use Rattle.client.specs.Asked.{Asks, IsRefused, PassesAll, registration_call, sent_view, sign_in_call};
+ghost use Rattle.std.specs.Prelude.{◌≡◌, IfErr, IfOk, OnOk};
+ghost use Rattle.ctapmsg.specs.RequestView.{request_view};
+ghost use Rattle.client.specs.Asked.{Asks, Call, IsRefused, PassesAll, registration_call, sent_view, sign_in_call};
 ghost use Rattle.client.specs.Options.{registration_view, sign_in_view};
+ghost use Rattle.client.specs.Steps.{MayAsk};
 
 use crate::building::{client_data, get_assertion, make_credential};
 use crate::error::RequestError;
@@ -12,6 +14,25 @@ use crate::outgoing::{Outgoing, packets_of};
 use clientdata::Kind;
 use ctapmsg::Request;
 use std::alloc::Global;
+
+/// What a call hands out that has these client data and asks for this request.
+fn outgoing(
+    alloc: Global,
+    client_data: Vec<u8>,
+    request: &Request,
+    cid: u32,
+) -> Result<Outgoing, RequestError>
+    ensures passes { (x : Call) → MayAsk x.origin x.rp_id → request_view request.now ≡ x.request → OnOk result (PassesAll x) }
+    ensures asks { (x : Call) → client_data.items ≡ x.client_data → request_view request.now ≡ x.request
+        → IfOk result (λ out. Asks x cid (sent_view out)) }
+    ensures refused { (x : Call) → MayAsk x.origin x.rp_id → request_view request.now ≡ x.request → IfErr result (IsRefused x) }
+{
+    let packets = packets_of(alloc, request, cid)?;
+    Ok(Outgoing {
+        client_data,
+        packets,
+    })
+}
 
 /// Asks for a sign-in (WebAuthn Level 2, section 5.1.4; CTAP 2.1, section 6.2) on channel `cid`, for a
 /// caller of this origin. The client data say that the call is not cross-origin. The request has an allow list
@@ -36,11 +57,7 @@ pub fn assertion_request(
     check_origin(alloc, origin, options.rp_id)?;
     let client_data = client_data(alloc, Kind::Get, options.challenge, origin)?;
     let request = get_assertion(alloc, options, &client_data)?;
-    let packets = packets_of(alloc, &Request::GetAssertion(request), cid)?;
-    Ok(Outgoing {
-        client_data,
-        packets,
-    })
+    outgoing(alloc, client_data, &Request::GetAssertion(request), cid)
 }
 
 /// Asks for a registration (WebAuthn Level 2, section 5.1.3; CTAP 2.1, section 6.1) on channel `cid`, for
@@ -66,9 +83,5 @@ pub fn creation_request(
     check_origin(alloc, origin, options.rp_id)?;
     let client_data = client_data(alloc, Kind::Create, options.challenge, origin)?;
     let request = make_credential(alloc, options, &client_data)?;
-    let packets = packets_of(alloc, &Request::MakeCredential(request), cid)?;
-    Ok(Outgoing {
-        client_data,
-        packets,
-    })
+    outgoing(alloc, client_data, &Request::MakeCredential(request), cid)
 }

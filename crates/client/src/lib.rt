@@ -18,4 +18,4 @@ pub use error::{RequestError, ResponseError};
 pub use law::one_asking;
 pub use options::{CreationOptions, RequestOptions};
 pub use outgoing::{Outgoing, next_request};
-pub use responses::{assertion_response, creation_response};
+pub use responses::{assertion_response, attestation_object, creation_response};

@@ -26,13 +26,32 @@ pub fn assertion_response(reply: AssertionReply, client_data: Vec<u8>) -> Assert
     }
 }
 
-/// The response of a registration (`AuthenticatorAttestationResponse`, WebAuthn Level 2, section 5.2.1): the
-/// attestation object (section 6.5.4) of the authenticator's reply, and the client data that were sent with
-/// its request.
+/// The attestation object (WebAuthn Level 2, section 6.5.4) of a reply to makeCredential.
 ///
 /// Refused as [`ResponseError::Unfit`] (1) where the reply's statement is no map, or has no canonical encoding
-/// with three levels of nesting. Otherwise only [`ResponseError::Memory`] is answered. After either error
-/// both are dropped.
+/// with three levels of nesting. Otherwise only [`ResponseError::Memory`] is answered.
+pub fn attestation_object(alloc: Global, reply: CreationReply) -> Result<Vec<u8>, ResponseError>
+    ensures object { IfOk result (λ o. ObjectOf (object_of (creation_reply_view reply)) o.items) }
+    // It is called unfit only if there is no such object.
+    ensures unfit { IsErrOf result errors.Unfit
+        → (bytes : List ℕ) → ObjectOf (object_of (creation_reply_view reply)) bytes → ⊥ }
+{
+    let object = AttestationObject {
+        fmt: reply.fmt,
+        auth_data: reply.auth_data,
+        statement: reply.statement,
+    };
+    match object.write(alloc) {
+        Ok(bytes) => Ok(bytes),
+        Err(authdata::Error::Unfit) => Err(ResponseError::Unfit),
+        Err(_) => Err(ResponseError::Memory),
+    }
+}
+
+/// The response of a registration (`AuthenticatorAttestationResponse`, WebAuthn Level 2, section 5.2.1): the
+/// attestation object of the authenticator's reply, and the client data that were sent with its request.
+///
+/// Refused as [`attestation_object`] is. After an error both are dropped.
 pub fn creation_response(
     alloc: Global,
     reply: CreationReply,
@@ -44,17 +63,11 @@ pub fn creation_response(
     ensures unfit { IsErrOf result errors.Unfit
         → (bytes : List ℕ) → ObjectOf (object_of (creation_reply_view reply)) bytes → ⊥ }
 {
-    let object = AttestationObject {
-        fmt: reply.fmt,
-        auth_data: reply.auth_data,
-        statement: reply.statement,
-    };
-    match object.write(alloc) {
+    match attestation_object(alloc, reply) {
         Ok(object) => Ok(RegistrationResponse {
             object,
             client_data,
         }),
-        Err(authdata::Error::Unfit) => Err(ResponseError::Unfit),
-        Err(_) => Err(ResponseError::Memory),
+        Err(error) => Err(error),
     }
 }

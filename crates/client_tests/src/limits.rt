@@ -11,7 +11,7 @@ const ID: &[u8] = &[7; 64];
 
 const LONG_ID: &[u8] = &[7; 65];
 
-const EIGHT: &[&[u8]] = &[ID, ID, ID, ID, ID, ID, ID, ID];
+pub const EIGHT: &[&[u8]] = &[ID, ID, ID, ID, ID, ID, ID, ID];
 
 const NINE: &[&[u8]] = &[ID, ID, ID, ID, ID, ID, ID, ID, ID];
 
@@ -64,35 +64,6 @@ fn sign_ins(rt: HostRuntime) {
         let found = sign_in_refusal(alloc, origin, &options);
         assert_eq!(rt; found, *expected, "{origin} {rp_id}");
     }
-}
-
-/// A host of `a.` so many times and then `b`, and whether it is an rp id of its own origin.
-fn own_rp_id(
-    alloc: Global,
-    count: usize,
-    ending: &str,
-) -> Result<Option<RequestError>, AllocError> {
-    let mut origin = String::from_str(alloc, "https://")?;
-    for _ in 0..count {
-        origin.push_str("a.")?;
-    }
-    origin.push_str(ending)?;
-    let options = RequestOptions {
-        challenge: &[1],
-        rp_id: origin.as_str().strip_prefix("https://").unwrap_or(""),
-        allow: EIGHT,
-        uv: true,
-    };
-    Ok(sign_in_refusal(alloc, origin.as_str(), &options))
-}
-
-#[test]
-fn rp_ids(rt: HostRuntime) -> Result<(), Fail> {
-    let alloc = rt.alloc();
-    assert_eq!(rt; own_rp_id(alloc, 126, "b")?, None);
-    assert_eq!(rt; own_rp_id(alloc, 126, "bc")?, Some(RequestError::Unfit));
-    assert_eq!(rt; own_rp_id(alloc, 507, "bc")?, Some(RequestError::Unfit));
-    Ok(())
 }
 
 /// The origin, the rp id, the user handle, the exclude list, how many bytes the relying party's name has, and what
@@ -205,6 +176,15 @@ fn options<'a>(
     }
 }
 
+/// Whether the longest request has 129 packets, of which a device takes 7,609 bytes.
+fn is_longest(alloc: Global) -> Result<bool, Fail> {
+    let rp_name = name(alloc, 7501)?;
+    let options = options("abc", &[1], &[], &rp_name);
+    let out = creation_request(alloc, "https://abc", &options, 2)?;
+    let taken = payload(alloc, &out.packets)?;
+    Ok(out.packets.len() == 129 && taken.is_some_and(|bytes| bytes.len() == 7609))
+}
+
 #[test]
 fn registrations(rt: HostRuntime) -> Result<(), Fail> {
     let alloc = rt.alloc();
@@ -214,21 +194,7 @@ fn registrations(rt: HostRuntime) -> Result<(), Fail> {
         let found = registration_refusal(alloc, origin, &options);
         assert_eq!(rt; found, *expected, "{origin} {rp_id} {count}");
     }
-    Ok(())
-}
-
-/// How many packets the longest request has, and how many bytes a device takes from them.
-#[test]
-fn longest_request(rt: HostRuntime) -> Result<(), Fail> {
-    let alloc = rt.alloc();
-    let rp_name = name(alloc, 7501)?;
-    let options = options("abc", &[1], &[], &rp_name);
-    let out = creation_request(alloc, "https://abc", &options, 2)?;
-    assert_eq!(rt; out.packets.len(), 129);
-    assert_eq!(rt;
-        payload(alloc, &out.packets)?.map(|bytes| bytes.len()),
-        Some(7609)
-    );
+    assert!(rt; is_longest(alloc)?);
     Ok(())
 }
 

@@ -183,28 +183,6 @@ fn goes_out(
     Ok(taken && out.client_data.as_slice() == client_data.as_bytes())
 }
 
-#[test]
-fn sign_ins(rt: HostRuntime) -> Result<(), Fail> {
-    let alloc = rt.alloc();
-    for row in SIGN_INS {
-        let message = joined(alloc, &row.message)?;
-        let out = assertion_request(alloc, row.origin, &row.options, 2)?;
-        assert!(rt; goes_out(alloc, &out, row.client_data, &message)?);
-    }
-    Ok(())
-}
-
-#[test]
-fn registrations(rt: HostRuntime) -> Result<(), Fail> {
-    let alloc = rt.alloc();
-    for row in REGISTRATIONS {
-        let message = joined(alloc, &row.message)?;
-        let out = creation_request(alloc, row.origin, &row.options, 2)?;
-        assert!(rt; goes_out(alloc, &out, row.client_data, &message)?);
-    }
-    Ok(())
-}
-
 /// Whether an authenticator reads the request of these options from the message.
 fn is_sign_in(alloc: Global, message: &[u8], options: &RequestOptions<'_>, hash: &[u8]) -> bool {
     match &read_request(alloc, message) {
@@ -229,11 +207,13 @@ fn is_of_options(read: &GetAssertion, options: &RequestOptions<'_>, hash: &[u8])
 }
 
 #[test]
-fn sign_ins_read(rt: HostRuntime) -> Result<(), Fail> {
+fn sign_ins(rt: HostRuntime) -> Result<(), Fail> {
     let alloc = rt.alloc();
     for row in SIGN_INS {
         let message = joined(alloc, &row.message)?;
-        assert!(rt; is_sign_in(alloc, &message, &row.options, row.message[1]));
+        let out = assertion_request(alloc, row.origin, &row.options, 2)?;
+        let is_read = is_sign_in(alloc, &message, &row.options, row.message[1]);
+        assert!(rt; is_read && goes_out(alloc, &out, row.client_data, &message)?);
     }
     Ok(())
 }
@@ -274,11 +254,13 @@ fn is_of_creation_options(
 }
 
 #[test]
-fn registrations_read(rt: HostRuntime) -> Result<(), Fail> {
+fn registrations(rt: HostRuntime) -> Result<(), Fail> {
     let alloc = rt.alloc();
     for row in REGISTRATIONS {
         let message = joined(alloc, &row.message)?;
-        assert!(rt; is_registration(alloc, &message, &row.options, row.message[1]));
+        let out = creation_request(alloc, row.origin, &row.options, 2)?;
+        let is_read = is_registration(alloc, &message, &row.options, row.message[1]);
+        assert!(rt; is_read && goes_out(alloc, &out, row.client_data, &message)?);
     }
     Ok(())
 }
@@ -295,13 +277,21 @@ fn is_read(alloc: Global, bytes: &[u8], kind: Kind, challenge: &str, origin: &st
     }
 }
 
+/// The client data of a sign-in and of a registration, as a relying party reads them; and the next request, as an
+/// authenticator reads it.
 #[test]
-fn client_data_read(rt: HostRuntime) {
+fn others(rt: HostRuntime) -> Result<(), Fail> {
     let alloc = rt.alloc();
-    let text = SIGN_INS[1].client_data.as_bytes();
+    let text =
+        br#"{"type":"webauthn.get","challenge":"AAEC","origin":"https://a.example","crossOrigin":false}"#;
     assert!(rt; is_read(alloc, text, Kind::Get, "AAEC", "https://a.example"));
     let text = CLIENT_DATA.as_bytes();
     assert!(rt; is_read(alloc, text, Kind::Create, "AAEC", "https://a.example:8443"));
+    let message: &[u8] = &[8];
+    let taken = payload(alloc, &[next_request(2)])?;
+    assert!(rt; matches!(&taken, Some(bytes) if bytes.as_slice() == message));
+    assert!(rt; matches!(&read_request(alloc, message), Ok(Request::GetNextAssertion)));
+    Ok(())
 }
 
 /// The front of the first packet of the first sign-in, on channel 0x01020304, and of the next request there.
@@ -309,21 +299,10 @@ fn client_data_read(rt: HostRuntime) {
 fn packets(rt: HostRuntime) -> Result<(), Fail> {
     let row = &SIGN_INS[0];
     let out = assertion_request(rt.alloc(), row.origin, &row.options, 0x0102_0304)?;
-    assert_eq!(rt; out.packets.len(), 1);
     let expected: &[u8] =
         b"\x01\x02\x03\x04\x90\x00\x2a\x02\xa2\x01cabc\x02\x58\x20\x4d\x89\xc6\x06\xa1\x95\xf1\x6f\x21\x92\xc5\xfa\x07\x71\x04\x26\x49\x82\x17\x6e\x26\xf4\xf6\x81\x67\xf4\x3a\x58\x2b\xcb\xd9\x11";
-    assert_eq!(rt; out.packets[0], packet(expected));
+    assert!(rt; out.packets.as_slice() == [packet(expected)].as_slice());
     let next: &[u8] = &[1, 2, 3, 4, 0x90, 0, 1, 8];
-    assert_eq!(rt; next_request(0x0102_0304), packet(next));
-    Ok(())
-}
-
-#[test]
-fn next_requests(rt: HostRuntime) -> Result<(), Fail> {
-    let taken = payload(rt.alloc(), &[next_request(2)])?;
-    let message: &[u8] = &[8];
-    assert!(rt; matches!(&taken, Some(bytes) if bytes.as_slice() == message));
-    let found = read_request(rt.alloc(), message);
-    assert!(rt; matches!(&found, Ok(Request::GetNextAssertion)));
+    assert!(rt; next_request(0x0102_0304) == packet(next));
     Ok(())
 }

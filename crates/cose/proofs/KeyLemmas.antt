@@ -3,11 +3,13 @@ use Rattle.std.proofs.Common.{◌≡◌, length, refl, sym, ◌∙◌, arith}
 use Rattle.std.proofs.lemmas.List.{length-append}
 use Rattle.ccbor.specs.Item.{Item}
 use Rattle.ccbor.specs.Canon.{head, before, spelling, Fits, Canon}
+use Rattle.ccbor.proofs.Shows.{wider}
 use Rattle.cose.specs.declared.key.CoseKey.{CoseKey}
 use Rattle.cose.specs.declared.key.CoseKey.TheVariants as keys
 use Rattle.cose.specs.Keys.{item_of, IsKey, KeyOf, encoded_length}
 
-pub key_fits : (k : CoseKey) → IsKey k → Fits 4 (item_of k)
+-- a key's map has no arrays or maps inside it
+pub key_fits : (k : CoseKey) → IsKey k → Fits 1 (item_of k)
 unfolding head before
 key_fits (keys.Es256 x y) h =
     let a = h.0 in let b = h.1 in
@@ -17,7 +19,7 @@ key_fits (keys.EdDsa x) h =
 
 -- a key's value has its spelling in canonical CBOR
 pub key_canon : (k : CoseKey) → IsKey k → Canon (item_of k) (spelling (item_of k))
-key_canon k h = (key_fits k h, refl)
+key_canon k h = (wider (item_of k) 3 (wider (item_of k) 2 (wider (item_of k) 1 (key_fits k h))), refl)
 
 -- 77 or 42 bytes
 pub length-key : (k : CoseKey) → IsKey k → length (spelling (item_of k)) ≡ encoded_length k

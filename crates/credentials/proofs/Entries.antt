@@ -6,21 +6,21 @@ use Rattle.std.specs.Map.{lookup, lookup_key, values_of}
 use Rattle.indexmap.specs.Layout.{set_value_at}
 use Rattle.verification.specs.Records.{Credential}
 use Rattle.credentials.specs.Table.{row_of, with_row, IsTable}
-use Rattle.credentials.specs.Views.{kept_of}
+use Rattle.credentials.specs.Views.{kept_view}
 use Rattle.credentials.specs.declared.row.Kept.{Kept}
 use Rattle.credentials.proofs.RowLemmas.{set_at, changed_at, length-changed, rows_changed, Keeps}
 
 abbrev pub Entry : Type 0
 Entry = Vec ℕ Global × Kept
 
-abbrev pub shown : Entry → Credential
-shown e = kept_of e.0.items e.1
+abbrev pub entry_view : Entry → Credential
+entry_view e = kept_view e.0.items e.1
 
 abbrev pub test_of : List ℕ → Vec ℕ Global → Bool
 test_of id k = bytes_eq id k.items
 
 pub found : (id : List ℕ) (es : List Entry) (k : Vec ℕ Global) (v : Kept) → lookup_key (test_of id) es ≡ Some k → lookup (test_of id) es ≡ Some v
-    → row_of id (map shown es) ≡ Some (kept_of k.items v)
+    → row_of id (map entry_view es) ≡ Some (kept_view k.items v)
 found id [] k v is_key is_value = absurd cc
 found id (e ∷ es) k v is_key is_value = elim (cases_Bool (test_of id e.0)) [
   | inl t ↦
@@ -28,54 +28,54 @@ found id (e ∷ es) k v is_key is_value = elim (cases_Bool (test_of id e.0)) [
       let b : Some e.1 ≡ Some v = sym (ap (λ (c : Bool). cond c (Some e.1) (lookup (test_of id) es)) t) ∙ is_value in
       let same_key : e.0 ≡ k = cc in
       let same_value : e.1 ≡ v = cc in
-      ap (λ (c : Bool). cond c (Some (shown e)) (row_of id (map shown es))) t ∙ ap (λ (x : Vec ℕ Global). Some (kept_of x.items e.1)) same_key ∙ ap (λ (x : Kept). Some (kept_of k.items x)) same_value
+      ap (λ (c : Bool). cond c (Some (entry_view e)) (row_of id (map entry_view es))) t ∙ ap (λ (x : Vec ℕ Global). Some (kept_view x.items e.1)) same_key ∙ ap (λ (x : Kept). Some (kept_view k.items x)) same_value
   | inr t ↦
-      ap (λ (c : Bool). cond c (Some (shown e)) (row_of id (map shown es))) t
+      ap (λ (c : Bool). cond c (Some (entry_view e)) (row_of id (map entry_view es))) t
       ∙ found id es k v (sym (ap (λ (c : Bool). cond c (Some e.0) (lookup_key (test_of id) es)) t) ∙ is_key)
       (sym (ap (λ (c : Bool). cond c (Some e.1) (lookup (test_of id) es)) t) ∙ is_value)
 ]
 
-pub absent : (id : List ℕ) (es : List Entry) → lookup (test_of id) es ≡ None → row_of id (map shown es) ≡ None
+pub absent : (id : List ℕ) (es : List Entry) → lookup (test_of id) es ≡ None → row_of id (map entry_view es) ≡ None
 absent id [] none = refl
 absent id (e ∷ es) none = elim (cases_Bool (test_of id e.0)) [
   | inl t ↦ let some = ap (λ (c : Bool). cond c (Some e.1) (lookup (test_of id) es)) t in absurd cc
   | inr t ↦
-      ap (λ (c : Bool). cond c (Some (shown e)) (row_of id (map shown es))) t
+      ap (λ (c : Bool). cond c (Some (entry_view e)) (row_of id (map entry_view es))) t
       ∙ absent id es (sym (ap (λ (c : Bool). cond c (Some e.1) (lookup (test_of id) es)) t) ∙ none)
 ]
 
-pub none_kept : (id : List ℕ) (es : List Entry) → row_of id (map shown es) ≡ None → lookup (test_of id) es ≡ None
+pub none_kept : (id : List ℕ) (es : List Entry) → row_of id (map entry_view es) ≡ None → lookup (test_of id) es ≡ None
 none_kept id [] none = refl
 none_kept id (e ∷ es) none = elim (cases_Bool (test_of id e.0)) [
-  | inl t ↦ let some = ap (λ (c : Bool). cond c (Some (shown e)) (row_of id (map shown es))) t in absurd cc
+  | inl t ↦ let some = ap (λ (c : Bool). cond c (Some (entry_view e)) (row_of id (map entry_view es))) t in absurd cc
   | inr t ↦
       ap (λ (c : Bool). cond c (Some e.1) (lookup (test_of id) es)) t
-      ∙ none_kept id es (sym (ap (λ (c : Bool). cond c (Some (shown e)) (row_of id (map shown es))) t) ∙ none)
+      ∙ none_kept id es (sym (ap (λ (c : Bool). cond c (Some (entry_view e)) (row_of id (map entry_view es))) t) ∙ none)
 ]
 
-pub at_place : (es : List Entry) (i : ℕ) (e : Entry) → slice_get es i ≡ Some e → slice_get (map shown es) i ≡ Some (shown e)
+pub at_place : (es : List Entry) (i : ℕ) (e : Entry) → slice_get es i ≡ Some e → slice_get (map entry_view es) i ≡ Some (entry_view e)
 at_place [] i e is = absurd cc
-at_place (x ∷ es) zero e is = let same : x ≡ e = cc in ap (λ (y : Entry). Some (shown y)) same
+at_place (x ∷ es) zero e is = let same : x ≡ e = cc in ap (λ (y : Entry). Some (entry_view y)) same
 at_place (x ∷ es) (suc i) e is = at_place es i e is
 
-pub set_value : (es : List Entry) (i : ℕ) (e : Entry) (v : Kept) → slice_get es i ≡ Some e → map shown (set_value_at es i v) ≡ set_at (map shown es) i (shown (e.0, v))
+pub set_value : (es : List Entry) (i : ℕ) (e : Entry) (v : Kept) → slice_get es i ≡ Some e → map entry_view (set_value_at es i v) ≡ set_at (map entry_view es) i (entry_view (e.0, v))
 set_value [] i e v is = absurd cc
-set_value (x ∷ es) zero e v is = let same : x ≡ e = cc in ap (λ (y : Entry). shown (y.0, v) ∷ map shown es) same
-set_value (x ∷ es) (suc i) e v is = ap (λ (l : List Credential). shown x ∷ l) (set_value es i e v is)
+set_value (x ∷ es) zero e v is = let same : x ≡ e = cc in ap (λ (y : Entry). entry_view (y.0, v) ∷ map entry_view es) same
+set_value (x ∷ es) (suc i) e v is = ap (λ (l : List Credential). entry_view x ∷ l) (set_value es i e v is)
 
 no_value : {A : Type 0} (o : Option A) → is_some o ≡ false → o ≡ None
 no_value None e = refl
 no_value (Some x) e = absurd cc
 
-pub has_not : (id : List ℕ) (es : List Entry) (b : Bool) → b ≡ is_some (lookup (test_of id) es) → b ≡ false ↔ row_of id (map shown es) ≡ None
+pub has_not : (id : List ℕ) (es : List Entry) (b : Bool) → b ≡ is_some (lookup (test_of id) es) → b ≡ false ↔ row_of id (map entry_view es) ≡ None
 has_not id es b is = (λ e. absent id es (no_value (lookup (test_of id) es) (sym is ∙ e)), λ none. is ∙ ap is_some (none_kept id es none))
 
-shown_append : (es fs : List Entry) → map shown (es ++ fs) ≡ map shown es ++ map shown fs
+shown_append : (es fs : List Entry) → map entry_view (es ++ fs) ≡ map entry_view es ++ map entry_view fs
 shown_append [] fs = refl
-shown_append (e ∷ es) fs = ap (λ (l : List Credential). shown e ∷ l) (shown_append es fs)
+shown_append (e ∷ es) fs = ap (λ (l : List Credential). entry_view e ∷ l) (shown_append es fs)
 
-pub one_entry_more : (es new : List Entry) (e : Entry) → new ≡ es ++ e ∷ [] → map shown new ≡ map shown es ++ shown e ∷ []
-one_entry_more es new e is = ap (map shown) is ∙ shown_append es (e ∷ [])
+pub one_entry_more : (es new : List Entry) (e : Entry) → new ≡ es ++ e ∷ [] → map entry_view new ≡ map entry_view es ++ entry_view e ∷ []
+one_entry_more es new e is = ap (map entry_view) is ∙ shown_append es (e ∷ [])
 
 -- ---- a value written at a place
 
@@ -87,26 +87,26 @@ entry_of (x ∷ es) (suc i) v is = entry_of es i v is
 
 -- the change that a new value makes of what is kept
 abbrev pub Makes : (Credential → Credential) → Kept → Kept → Type 0
-Makes change old new = (id : List ℕ) → kept_of id new ≡ change (kept_of id old)
+Makes change old new = (id : List ℕ) → kept_view id new ≡ change (kept_view id old)
 
-module _ (change : Credential → Credential) (es : List Entry) (i : ℕ) (old new : Kept) (are : IsTable (map shown es)) (there : slice_get (values_of es) i ≡ Some old) (makes : Makes change old new) where
-  pub stored : (row : Credential) → slice_get (map shown es) i ≡ Some row → map shown (set_value_at es i new) ≡ with_row row.id change (map shown es)
+module _ (change : Credential → Credential) (es : List Entry) (i : ℕ) (old new : Kept) (are : IsTable (map entry_view es)) (there : slice_get (values_of es) i ≡ Some old) (makes : Makes change old new) where
+  pub stored : (row : Credential) → slice_get (map entry_view es) i ≡ Some row → map entry_view (set_value_at es i new) ≡ with_row row.id change (map entry_view es)
   stored row is =
       let e = entry_of es i old there in
-      let same : shown e.0 ≡ row = let at = at_place es i e.0 e.1 in cc in
-      let changed : shown (e.0.0, new) ≡ change row = makes e.0.0.items ∙ ap (λ (v : Kept). change (kept_of e.0.0.items v)) (sym e.2) ∙ ap change same in
-      set_value es i e.0 new e.1 ∙ ap (set_at (map shown es) i) changed ∙ changed_at change (map shown es) i row are.1 is
+      let same : entry_view e.0 ≡ row = let at = at_place es i e.0 e.1 in cc in
+      let changed : entry_view (e.0.0, new) ≡ change row = makes e.0.0.items ∙ ap (λ (v : Kept). change (kept_view e.0.0.items v)) (sym e.2) ∙ ap change same in
+      set_value es i e.0 new e.1 ∙ ap (set_at (map entry_view es) i) changed ∙ changed_at change (map entry_view es) i row are.1 is
 
-  pub limits_stored : Keeps change → IsTable (map shown (set_value_at es i new))
+  pub limits_stored : Keeps change → IsTable (map entry_view (set_value_at es i new))
   limits_stored keeps =
       let e = entry_of es i old there in
-      let is = stored (shown e.0) (at_place es i e.0 e.1) in
-      let limits : IsTable (with_row (shown e.0).id change (map shown es)) =
-      (rw (length-changed (shown e.0).id change (map shown es)) are.0, rows_changed (shown e.0).id change keeps (map shown es) are.1) in
+      let is = stored (entry_view e.0) (at_place es i e.0 e.1) in
+      let limits : IsTable (with_row (entry_view e.0).id change (map entry_view es)) =
+      (rw (length-changed (entry_view e.0).id change (map entry_view es)) are.0, rows_changed (entry_view e.0).id change keeps (map entry_view es) are.1) in
       subst IsTable (sym is) limits
 
 -- beyond the last entry there is no credential
-pub beyond : (es : List Entry) (i : ℕ) (row : Credential) → slice_get (values_of es) i ≡ None → slice_get (map shown es) i ≡ Some row → ⊥
+pub beyond : (es : List Entry) (i : ℕ) (row : Credential) → slice_get (values_of es) i ≡ None → slice_get (map entry_view es) i ≡ Some row → ⊥
 beyond [] i row none is = absurd cc
 beyond (x ∷ es) zero row none is = absurd cc
 beyond (x ∷ es) (suc i) row none is = beyond es i row none is

@@ -4,12 +4,12 @@ use Rattle.verification.specs.Records.{Credential}
 use Rattle.credentials.specs.declared.row.Row.{Row}
 use Rattle.credentials.specs.declared.row.Kept.{Kept}
 
-abbrev pub credential_of : Row → Credential
-credential_of row = record { id = row.id.items; user = row.user.items; key = row.key; sign_count = row.sign_count; eligible = row.eligible; retired = row.retired }
+abbrev pub row_view : Row → Credential
+row_view row = record { id = row.id.items; user = row.user.items; key = row.key; sign_count = row.sign_count; eligible = row.eligible; retired = row.retired }
 
-abbrev pub credentials_of : List Row → List Credential
-credentials_of rows = map credential_of rows
+abbrev pub rows_view : List Row → List Credential
+rows_view rows = map row_view rows
 
 -- what is kept of an id
-abbrev pub kept_of : List ℕ → Kept → Credential
-kept_of id kept = record { id = id; user = kept.user.items; key = kept.key; sign_count = kept.sign_count; eligible = kept.eligible; retired = kept.retired }
+abbrev pub kept_view : List ℕ → Kept → Credential
+kept_view id kept = record { id = id; user = kept.user.items; key = kept.key; sign_count = kept.sign_count; eligible = kept.eligible; retired = kept.retired }

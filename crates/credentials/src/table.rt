@@ -4,9 +4,9 @@ ghost use Rattle.std.specs.Prelude.{◌≡◌, ◌<◌, ◌≤◌, ◌↔◌, �
 ghost use Rattle.std.specs.Option.{ForSome};
 ghost use Rattle.std.specs.Iterator.{YieldsFirstBy, item_count};
 ghost use Rattle.verification.specs.Records.{Credential};
-ghost use Rattle.verification.specs.Views.{credential_of as credential_shown};
+ghost use Rattle.verification.specs.Views.{credential_view};
 ghost use Rattle.credentials.specs.Table.{IsRow, IsTable, IsWithin, row_of, retired, signed_in, with_row};
-ghost use Rattle.credentials.specs.Views.{credential_of, credentials_of, kept_of};
+ghost use Rattle.credentials.specs.Views.{row_view, rows_view, kept_view};
 ghost use Rattle.credentials.specs.declared.table.Error.TheVariants as errors;
 
 use crate::row::{Kept, Row};
@@ -54,13 +54,13 @@ impl Model for Table {
     ghost use Rattle.std.specs.Prelude.{List, map};
     ghost use Rattle.verification.specs.Records.{Credential};
     ghost use Rattle.credentials.specs.Table.{IsTable};
-    ghost use Rattle.credentials.specs.Views.{kept_of};
+    ghost use Rattle.credentials.specs.Views.{kept_view};
 
     ghost Value = { List Credential };
 
-    ghost view = { λ t. map (λ e. kept_of e.0.items e.1) t.rows.entries };
+    ghost view = { λ t. map (λ e. kept_view e.0.items e.1) t.rows.entries };
 
-    ghost invariant = { λ t. IsTable (map (λ e. kept_of e.0.items e.1) t.rows.entries) };
+    ghost invariant = { λ t. IsTable (map (λ e. kept_view e.0.items e.1) t.rows.entries) };
 }
 
 /// Whether an id or a user handle has 1 to `most` bytes.
@@ -73,7 +73,7 @@ pub fn is_within(bytes: &[u8], most: usize) -> bool
 impl Row {
     /// Whether the id and the user handle are within their limits.
     pub fn is_within_limits(&self) -> bool
-        ensures { IsTrue result ↔ IsRow (credential_of self.now) }
+        ensures { IsTrue result ↔ IsRow (row_view self.now) }
     {
         is_within(&self.id, MAX_ID) && is_within(&self.user, MAX_USER)
     }
@@ -81,7 +81,7 @@ impl Row {
 
 /// A credential as it is shown.
 fn shown<'a>(id: &'a Vec<u8>, kept: &'a Kept) -> CredentialView<'a>
-    ensures { credential_shown result ≡ kept_of id.now.items kept.now }
+    ensures { credential_view result ≡ kept_view id.now.items kept.now }
 {
     CredentialView {
         id,
@@ -119,8 +119,8 @@ impl Table {
 
     /// The credential of an id, and its place.
     pub fn find(&self, id: &[u8]) -> Option<(usize, CredentialView<'_>)>
-        ensures place { IfSome result (λ x. slice_get self.now x.0 ≡ Some (credential_shown x.1)) }
-        ensures row { option_map (λ x. credential_shown x.1) result ≡ row_of id.now self.now }
+        ensures place { IfSome result (λ x. slice_get self.now x.0 ≡ Some (credential_view x.1)) }
+        ensures row { option_map (λ x. credential_view x.1) result ≡ row_of id.now self.now }
     {
         let (place, id, kept) = self.rows.get_full(id)?;
         Some((place, shown(id, kept)))
@@ -128,7 +128,7 @@ impl Table {
 
     /// The credential of an id.
     pub fn row(&self, id: &[u8]) -> Option<CredentialView<'_>>
-        ensures { option_map credential_shown result ≡ row_of id.now self.now }
+        ensures { option_map credential_view result ≡ row_of id.now self.now }
     {
         let (_, row) = self.find(id)?;
         Some(row)
@@ -184,7 +184,7 @@ impl Table {
     /// Whether a credential may stand behind the others: it is within its limits, its id is not taken, and there is
     /// room.
     pub fn admits(&self, row: &Row) -> bool
-        ensures { IsTrue result ↔ IsRow (credential_of row.now) × (row_of row.now.id.items self.now ≡ None) × (length self.now < 65536) }
+        ensures { IsTrue result ↔ IsRow (row_view row.now) × (row_of row.now.id.items self.now ≡ None) × (length self.now < 65536) }
     {
         if self.has(&row.id) {
             return false;
@@ -194,10 +194,10 @@ impl Table {
 
     /// Adds a credential behind the others. Where there is no memory nothing has changed.
     pub fn push(&mut self, row: Row) -> Result<(), AllocError>
-        requires limits { IsRow (credential_of row) }
+        requires limits { IsRow (row_view row) }
         requires absent { row_of row.id.items self.old ≡ None }
         requires room { length self.old < 65536 }
-        ensures pushed { OnOk result (self.new ≡ self.old ++ credential_of row ∷ []) }
+        ensures pushed { OnOk result (self.new ≡ self.old ++ row_view row ∷ []) }
         ensures unchanged { OnErr result (self.new ≡ self.old) }
     {
         let Row {
@@ -223,8 +223,8 @@ impl Table {
     ///
     /// `BadTable` is answered only where they are none, and `Memory` only where there was none.
     pub fn from_rows(alloc: Global, rows: Vec<Row>) -> Result<Table, Error>
-        ensures made { IfOk result (λ t. t ≡ credentials_of rows.items) }
-        ensures bad { IsErrOf result Error.BadTable → IsTable (credentials_of rows.items) → ⊥ }
+        ensures made { IfOk result (λ t. t ≡ rows_view rows.items) }
+        ensures bad { IsErrOf result Error.BadTable → IsTable (rows_view rows.items) → ⊥ }
     {
         let mut table = Table::new(alloc);
         for row in rows {
@@ -238,7 +238,7 @@ impl Table {
 
     /// The credentials in order of registration.
     pub fn rows(&self) -> Rows<'_>
-        ensures rows { map (λ e. kept_of e.0.items e.1) result.0 ≡ self.now }
+        ensures rows { map (λ e. kept_view e.0.items e.1) result.0 ≡ self.now }
         ensures limits { IsTable self.now }
     {
         Rows(self.rows.iter())
@@ -252,9 +252,9 @@ pub struct Rows<'a>(Iter<'a, Vec<u8>, Kept>);
 impl<'a> Iterator for Rows<'a> {
     type Item = CredentialView<'a>;
 
-    ghost next_gives = { YieldsFirstBy credential_shown (λ s. map (λ e. kept_of e.0.items e.1) s.0) };
+    ghost next_gives = { YieldsFirstBy credential_view (λ s. map (λ e. kept_view e.0.items e.1) s.0) };
 
-    ghost remaining = { item_count (λ s. map (λ e. kept_of e.0.items e.1) s.0) };
+    ghost remaining = { item_count (λ s. map (λ e. kept_view e.0.items e.1) s.0) };
 
     fn next(&mut self) -> Option<CredentialView<'a>> {
         let (id, kept) = self.0.next()?;

@@ -26,223 +26,62 @@ const OF_THE_HASH: [u8; 32] = [
     0x1d, 0x32, 0xc3, 0xfd, 0xe7, 0x13, 0xf8, 0xe1, 0x40, 0x01, 0x81, 0xe8, 0x48, 0x51, 0x1b, 0x12,
 ];
 
-/// A member of a statement.
-#[derive(Clone, Copy)]
-enum Member {
-    /// The number of the key's algorithm.
-    OwnAlgorithm,
-    /// The number of the other algorithm.
-    OtherAlgorithm,
-    /// The argument of the key's algorithm as an unsigned number.
-    WithoutSign,
-    Bytes(&'static [u8]),
-    Text(&'static str),
-    Zero,
-    NoPairs,
-}
+/// Statements: the format, `|`, and the members by name and kind of value (`member_value`).
+type Rows = &'static [&'static str];
 
-/// What a statement is for, the format, the members, the byte that the secret is 32 times and the byte that the hash is
-/// 32 times, and what is shown.
-type Row = (
-    &'static str,
-    &'static str,
-    &'static [(&'static str, Member)],
-    (u8, u8),
-    Result<AttestationType, Error>,
-);
+const SELF_SIGNED: Rows = &["packed|alg=own sig=signature"];
 
-const ROWS: &[Row] = &[
-    (
-        "self-signed",
-        "packed",
-        &[
-            ("alg", Member::OwnAlgorithm),
-            ("sig", Member::Bytes(&SIGNATURE)),
-        ],
-        (7, 0x22),
-        Ok(AttestationType::SelfSigned),
-    ),
-    ("none", "none", &[], (7, 0x22), Ok(AttestationType::None)),
-    (
-        "another alg",
-        "packed",
-        &[
-            ("alg", Member::OtherAlgorithm),
-            ("sig", Member::Bytes(&SIGNATURE)),
-        ],
-        (7, 0x22),
-        Err(Error::BadStatement),
-    ),
-    (
-        "alg a text",
-        "packed",
-        &[
-            ("alg", Member::Text("EdDSA")),
-            ("sig", Member::Bytes(&SIGNATURE)),
-        ],
-        (7, 0x22),
-        Err(Error::BadStatement),
-    ),
-    (
-        "alg without sign",
-        "packed",
-        &[
-            ("alg", Member::WithoutSign),
-            ("sig", Member::Bytes(&SIGNATURE)),
-        ],
-        (7, 0x22),
-        Err(Error::BadStatement),
-    ),
-    (
-        "the hash alone signed",
-        "packed",
-        &[
-            ("alg", Member::OwnAlgorithm),
-            ("sig", Member::Bytes(&OF_THE_HASH)),
-        ],
-        (7, 0x22),
-        Err(Error::BadStatement),
-    ),
-    (
-        "a certificate",
-        "packed",
-        &[
-            ("alg", Member::OwnAlgorithm),
-            ("sig", Member::Bytes(&SIGNATURE)),
-            ("x5c", Member::NoPairs),
-        ],
-        (7, 0x22),
-        Err(Error::BadStatement),
-    ),
-    (
-        "no alg",
-        "packed",
-        &[("sig", Member::Bytes(&SIGNATURE))],
-        (7, 0x22),
-        Err(Error::BadStatement),
-    ),
-    (
-        "no sig",
-        "packed",
-        &[("alg", Member::OwnAlgorithm)],
-        (7, 0x22),
-        Err(Error::BadStatement),
-    ),
-    (
-        "sig a number",
-        "packed",
-        &[("alg", Member::OwnAlgorithm), ("sig", Member::Zero)],
-        (7, 0x22),
-        Err(Error::BadStatement),
-    ),
-    (
-        "no byte of a signature",
-        "packed",
-        &[("alg", Member::OwnAlgorithm), ("sig", Member::Bytes(&[]))],
-        (7, 0x22),
-        Err(Error::BadStatement),
-    ),
-    (
-        "another name for alg",
-        "packed",
-        &[
-            ("alh", Member::OwnAlgorithm),
-            ("sig", Member::Bytes(&SIGNATURE)),
-        ],
-        (7, 0x22),
-        Err(Error::BadStatement),
-    ),
-    (
-        "nothing",
-        "packed",
-        &[],
-        (7, 0x22),
-        Err(Error::BadStatement),
-    ),
-    (
-        "none with a member",
-        "none",
-        &[("alg", Member::OwnAlgorithm)],
-        (7, 0x22),
-        Err(Error::BadStatement),
-    ),
-    (
-        "none, self-signed",
-        "none",
-        &[
-            ("alg", Member::OwnAlgorithm),
-            ("sig", Member::Bytes(&SIGNATURE)),
-        ],
-        (7, 0x22),
-        Err(Error::BadStatement),
-    ),
-    ("tpm", "tpm", &[], (7, 0x22), Err(Error::UnknownFormat)),
-    ("no format", "", &[], (7, 0x22), Err(Error::UnknownFormat)),
-    ("None", "None", &[], (7, 0x22), Err(Error::UnknownFormat)),
-    (
-        "packed and a space",
-        "packed ",
-        &[],
-        (7, 0x22),
-        Err(Error::UnknownFormat),
-    ),
-    (
-        "fido-u2f, self-signed",
-        "fido-u2f",
-        &[
-            ("alg", Member::OwnAlgorithm),
-            ("sig", Member::Bytes(&SIGNATURE)),
-        ],
-        (7, 0x22),
-        Err(Error::UnknownFormat),
-    ),
-    (
-        "another hash",
-        "packed",
-        &[
-            ("alg", Member::OwnAlgorithm),
-            ("sig", Member::Bytes(&SIGNATURE)),
-        ],
-        (7, 0x23),
-        Err(Error::BadStatement),
-    ),
-    (
-        "another key",
-        "packed",
-        &[
-            ("alg", Member::OwnAlgorithm),
-            ("sig", Member::Bytes(&SIGNATURE)),
-        ],
-        (8, 0x22),
-        Err(Error::BadStatement),
-    ),
+const NONE: Rows = &["none|"];
+
+const BAD: Rows = &[
+    "packed|alg=other sig=signature",
+    "packed|alg=text sig=signature",
+    "packed|alg=without-sign sig=signature",
+    "packed|alg=own sig=of-the-hash",
+    "packed|alg=own sig=signature x5c=no-pairs",
+    "packed|sig=signature",
+    "packed|alg=own",
+    "packed|alg=own sig=zero",
+    "packed|alg=own sig=no-byte",
+    "packed|alh=own sig=signature",
+    "packed|",
+    "none|alg=own",
+    "none|alg=own sig=signature",
+];
+
+const UNKNOWN: Rows = &[
+    "tpm|",
+    "|",
+    "None|",
+    "packed |",
+    "fido-u2f|alg=own sig=signature",
 ];
 
 /// An algorithm, the argument of its number, and that of the other.
 const ALGORITHMS: &[(Alg, u64, u64)] = &[(Alg::EdDsa, 7, 6), (Alg::Es256, 6, 7)];
 
-fn member_value(alloc: Global, member: Member, own: u64, other: u64) -> Result<Value, AllocError> {
-    Ok(match member {
-        Member::OwnAlgorithm => Value::Nint(own),
-        Member::OtherAlgorithm => Value::Nint(other),
-        Member::WithoutSign => Value::Uint(own),
-        Member::Bytes(content) => Value::Bytes(Vec::from_slice(alloc, content)?),
-        Member::Text(text) => Value::Text(String::from_str(alloc, text)?),
-        Member::Zero => Value::Uint(0),
-        Member::NoPairs => Value::Map(Vec::new(alloc)),
+/// The value of a member: the argument of the key's or the other algorithm's number, a signature, or another kind.
+fn member_value(alloc: Global, kind: &str, own: u64, other: u64) -> Result<Value, AllocError> {
+    Ok(match kind {
+        "own" => Value::Nint(own),
+        "other" => Value::Nint(other),
+        "without-sign" => Value::Uint(own),
+        "signature" => Value::Bytes(Vec::from_slice(alloc, &SIGNATURE)?),
+        "of-the-hash" => Value::Bytes(Vec::from_slice(alloc, &OF_THE_HASH)?),
+        "no-byte" => Value::Bytes(Vec::new(alloc)),
+        "text" => Value::Text(String::from_str(alloc, "EdDSA")?),
+        "zero" => Value::Uint(0),
+        _ => Value::Map(Vec::new(alloc)),
     })
 }
 
-fn statement(
-    alloc: Global,
-    members: &[(&str, Member)],
-    own: u64,
-    other: u64,
-) -> Result<Value, AllocError> {
+/// The statement of these members.
+fn statement(alloc: Global, members: &str, own: u64, other: u64) -> Result<Value, AllocError> {
     let mut pairs = Vec::new(alloc);
-    for (key, member) in members {
+    for member in members.split_whitespace() {
+        let (key, kind) = member.split_once("=").unwrap_or((member, ""));
         let key = Value::Text(String::from_str(alloc, key)?);
-        pairs.push((key, member_value(alloc, *member, own, other)?))?;
+        pairs.push((key, member_value(alloc, kind, own, other)?))?;
     }
     Ok(Value::Map(pairs))
 }
@@ -257,26 +96,65 @@ fn shown(
     check_statement(&BenchScheme, object, &key, &[hash; 32])
 }
 
+/// The object of a row.
+fn object_of(
+    alloc: Global,
+    row: &str,
+    own: u64,
+    other: u64,
+) -> Result<AttestationObject, AllocError> {
+    let (format, members) = row.split_once("|").unwrap_or((row, ""));
+    object(
+        alloc,
+        format,
+        &AUTH_DATA,
+        statement(alloc, members, own, other)?,
+    )
+}
+
+/// The first row that shows something else, under each algorithm, of the key of 32 bytes 7 and the hash of 32 bytes 22.
+fn other(
+    alloc: Global,
+    rows: Rows,
+    wanted: Result<AttestationType, Error>,
+) -> Result<Option<&'static str>, AllocError> {
+    for (alg, own, other) in ALGORITHMS {
+        for row in rows {
+            let object = object_of(alloc, row, *own, *other)?;
+            if shown(&object, *alg, (7, 0x22)) != wanted {
+                return Ok(Some(row));
+            }
+        }
+    }
+    Ok(None)
+}
+
 #[test]
 fn statements(rt: HostRuntime) -> Result<(), Fail> {
     let alloc = rt.alloc();
-    for &(alg, own, other) in ALGORITHMS {
-        for (name, fmt, members, of, wanted) in ROWS {
-            let object = object(
-                alloc,
-                fmt,
-                &AUTH_DATA,
-                statement(alloc, members, own, other)?,
-            )?;
-            assert_eq!(rt; shown(&object, alg, *of), *wanted, "{name}");
-        }
+    assert_eq!(rt;
+        other(alloc, SELF_SIGNED, Ok(AttestationType::SelfSigned))?,
+        None
+    );
+    assert_eq!(rt; other(alloc, NONE, Ok(AttestationType::None))?, None);
+    assert_eq!(rt; other(alloc, BAD, Err(Error::BadStatement))?, None);
+    assert_eq!(rt; other(alloc, UNKNOWN, Err(Error::UnknownFormat))?, None);
+    Ok(())
+}
+
+/// A self attestation over another hash, and by another key; and the object of format none, read from its own bytes.
+#[test]
+fn other_statements(rt: HostRuntime) -> Result<(), Fail> {
+    let alloc = rt.alloc();
+    for (alg, own, other) in ALGORITHMS {
+        let object = object_of(alloc, "packed|alg=own sig=signature", *own, *other)?;
+        assert!(rt;
+            shown(&object, *alg, (7, 0x23)) == Err(Error::BadStatement)
+                && shown(&object, *alg, (8, 0x22)) == Err(Error::BadStatement)
+        );
     }
-    // The object of format none, read from its own bytes.
     let bytes = b"\xa3\x63fmt\x64none\x67attStmt\xa0\x68authData\x41\x05";
     let object = AttestationObject::read(alloc, bytes)?;
-    assert_eq!(rt;
-        shown(&object, Alg::EdDsa, (7, 0x22)),
-        Ok(AttestationType::None)
-    );
+    assert!(rt; shown(&object, Alg::EdDsa, (7, 0x22)) == Ok(AttestationType::None));
     Ok(())
 }

@@ -71,17 +71,17 @@ first_joined (x ∷ xs) ys line f = elim (cases (x ∷ (xs ++ ys)) line f) [
   | inr p ↦ elim (first_joined xs ys line p.1) [ inl q ↦ inl (later x xs line p.0 q) | inr q ↦ inr ((p.0, q.0), q.1) ]
 ]
 
--- with what follows from passing and from stopping; of lines that are others' images
-pub first_weaker : {L : Type 0} {Passed : L → Type 0} {Stops : L → Type 0} {More : L → Type 0} {Ends : L → Type 0} {lines : List L} {line : L}
-    → ((x : L) → Passed x → More x) → ((x : L) → Stops x → Ends x) → FirstStop Passed Stops lines line → FirstStop More Ends lines line
-first_weaker p s (here line more stops) = here line more (s line stops)
-first_weaker p s (later x more line passed first) = later x more line (p x passed) (first_weaker p s first)
+-- the first of other lines that these stand for
+pub first_image : {L M : Type 0} {Passed : L → Type 0} {Stops : L → Type 0} {More : M → Type 0} {Ends : M → Type 0} (f : L → M) {lines : List L} {line : L}
+    → ((x : L) → Passed x → More (f x)) → ((x : L) → Stops x → Ends (f x)) → FirstStop Passed Stops lines line → FirstStop More Ends (map f lines) (f line)
+first_image f p s (here line more stops) = here (f line) (map f more) (s line stops)
+first_image f p s (later x more line passed first) = later (f x) (map f more) (f line) (p x passed) (first_image f p s first)
 
--- where a property holds of one line at most, that line is the first: no line of these is two
-pub first_alone : {L : Type 0} (P : L → Type 0) (before : List L) (line : L) (after : List L) → ((x : L) → P x → x ≡ line) → Each (λ x. x ≡ line → ⊥) before → P line
-    → First P (before ++ line ∷ after) line
-first_alone P [] line after only others p = here line after p
-first_alone P (x ∷ before) line after only others p = later x (before ++ line ∷ after) line (λ q. others.0 (only x q)) (first_alone P before line after only others.1 p)
+-- the first of the same lines, by what follows for each of them
+pub first_along : {L : Type 0} {Passed : L → Type 0} {Stops : L → Type 0} {More : L → Type 0} {Ends : L → Type 0} {lines : List L} {line : L}
+    → Each (λ x. (Passed x → More x) × (Stops x → Ends x)) lines → FirstStop Passed Stops lines line → FirstStop More Ends lines line
+first_along by (here line more stops) = here line more (by.0.1 stops)
+first_along by (later x more line passed first) = later x more line (by.0.0 passed) (first_along by.1 first)
 
 -- ---- lines with a test
 

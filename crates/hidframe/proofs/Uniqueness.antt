@@ -136,7 +136,8 @@ later_items c cmd m r k n (p ∷ ps) (area ∷ areas) all says count at size lef
     ∙ ap (λ q. q ∷ items_from c cmd m (n + 1)) (item_later c cmd m k n at)
     ∙ sym (items-more c cmd m n (omega arith))
 
-areas_size : (c k : ℕ) (ps : List Packet) (later : List (List ℕ)) → AllByRecursion IsPacket ps → map fields ps ≡ continuations c k later → length (joined later) ≡ 59 * length later
+-- continuations of 59 bytes each
+pub areas_size : (c k : ℕ) (ps : List Packet) (later : List (List ℕ)) → AllByRecursion IsPacket ps → map fields ps ≡ continuations c k later → length (joined later) ≡ 59 * length later
 areas_size c k ps [] h e = refl
 areas_size c k [] (area ∷ later) h e = absurd (cc)
 areas_size c k (p ∷ ps) (area ∷ later) h e =

@@ -10,9 +10,9 @@ use Rattle.hidlink.specs.declared.arbitration.Arbitration.{Arbitration}
 use Rattle.hidlink.specs.declared.arbitration.Arbitration.TheVariants.{Begins}
 use Rattle.hidlink.specs.declared.transaction.Step.{Step}
 use Rattle.std.specs.Prelude.{Option, None, Some, option_map, unwrap_or}
-use Rattle.hidlink.specs.Ranks.{expiry, on_working, State, Idle, Receiving, Working, IsWorking, IsReceiving, Shown, Response, is_busy, is_receiving_on, is_working_on, response}
+use Rattle.hidlink.specs.Ranks.{expiry, on_working, State, Idle, Receiving, Working, IsWorking, IsReceiving, DeviceState, Response, is_busy, is_receiving_on, is_working_on, response, choices, chosen_response}
 use Rattle.hidlink.specs.History.{Call, Took, Answered, Kept, Expired, Leaves}
-use Rattle.hidlink.specs.Machine.{Does, Effect, to, choices, chosen_effect, chosen_response, effect, packet_effect, state_of}
+use Rattle.hidlink.specs.Machine.{Does, Effect, to, chosen_effect, effect, packet_effect, state_view}
 use Rattle.hidlink.proofs.Steps.{leaves-push}
 
 -- a history with a call leaves what the call makes
@@ -24,12 +24,12 @@ leaves_by h n s call k t channels after l =
     subst P (sym channels) (subst Q (sym after) (leaves-push h n s call l))
 
 -- a device that doesn't work, or doesn't receive
-pub not_working : (f : Phase) (bytes : List ℕ) → ((cid : ℕ) → f ≡ phase.Working cid → ⊥) → IsWorking (state_of f bytes) → ⊥
+pub not_working : (f : Phase) (bytes : List ℕ) → ((cid : ℕ) → f ≡ phase.Working cid → ⊥) → IsWorking (state_view f bytes) → ⊥
 not_working phase.Idle bytes n h = h
 not_working (phase.Receiving cid cmd len next) bytes n h = h
 not_working (phase.Working cid) bytes n h = n cid refl
 
-pub not_receiving : (f : Phase) (bytes : List ℕ) → ((cid cmd len next : ℕ) → f ≡ phase.Receiving cid cmd len next → ⊥) → IsReceiving (state_of f bytes) → ⊥
+pub not_receiving : (f : Phase) (bytes : List ℕ) → ((cid cmd len next : ℕ) → f ≡ phase.Receiving cid cmd len next → ⊥) → IsReceiving (state_view f bytes) → ⊥
 not_receiving phase.Idle bytes n h = h
 not_receiving (phase.Receiving cid cmd len next) bytes n h = n cid cmd len next refl
 not_receiving (phase.Working cid) bytes n h = h
@@ -76,7 +76,7 @@ pub initial_response : (n : ℕ) (s : State) (c cmd len : ℕ) (area : List ℕ)
     → chosen_response n s c cmd len area (unwrap_or (first_true (choices n (is_busy s) (is_receiving_on s c) (is_working_on s c) c cmd len)) Begins) ≡ response n s (Initial c cmd len area)
 initial_response n s c cmd len area = of_choices (chosen_response n s c cmd len area) (choices n (is_busy s) (is_receiving_on s c) (is_working_on s c) c cmd len)
 
-pub does_chosen : (n : ℕ) (s : State) (c cmd len : ℕ) (area : List ℕ) (choice : Arbitration) (new : Shown) (step : Step)
+pub does_chosen : (n : ℕ) (s : State) (c cmd len : ℕ) (area : List ℕ) (choice : Arbitration) (new : DeviceState) (step : Step)
     → choice ≡ unwrap_or (first_true (choices n (is_busy s) (is_receiving_on s c) (is_working_on s c) c cmd len)) Begins
     → Does new step (chosen_effect n s c cmd len area choice) (chosen_response n s c cmd len area choice)
     → Does new step (packet_effect n s (Initial c cmd len area)) (response n s (Initial c cmd len area))
@@ -88,11 +88,11 @@ does_chosen n s c cmd len area choice new step e d =
     subst P E (subst Q R d)
 
 -- a packet's history
-pub took : (h : List Call) (n : ℕ) (s : State) (p : Packet) (f : Fields) (new : Shown) (step : Step) (r : Response) → fields p ≡ f → Does new step (packet_effect n s f) r → Leaves h n s
+pub took : (h : List Call) (n : ℕ) (s : State) (p : Packet) (f : Fields) (new : DeviceState) (step : Step) (r : Response) → fields p ≡ f → Does new step (packet_effect n s f) r → Leaves h n s
     → Leaves (h ++ Took p ∷ []) new.channels new.state
 took h n s p f new step r says d l =
     let E : packet_effect n s f ≡ packet_effect n s (fields p) = ap (packet_effect n s) (sym says) in
-    leaves_by h n s (Took p) new.channels new.state (ap Shown.channels d.0 ∙ ap Effect.channels E) (ap Shown.state d.0 ∙ ap Effect.after E) l
+    leaves_by h n s (Took p) new.channels new.state (ap DeviceState.channels d.0 ∙ ap Effect.channels E) (ap DeviceState.state d.0 ∙ ap Effect.after E) l
 
 pub choice_of : (n k : ℕ) (s : State) (busy receiving working : Bool) (c cmd len : ℕ) (choice : Arbitration) → k ≡ n → busy ≡ is_busy s → receiving ≡ is_receiving_on s c → working ≡ is_working_on s c
     → choice ≡ unwrap_or (first_true (choices k busy receiving working c cmd len)) Begins → choice ≡ unwrap_or (first_true (choices n (is_busy s) (is_receiving_on s c) (is_working_on s c) c cmd len)) Begins

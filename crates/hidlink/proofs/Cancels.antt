@@ -10,8 +10,8 @@ use Rattle.hidlink.specs.declared.arbitration.Arbitration.{Arbitration}
 use Rattle.hidlink.specs.declared.arbitration.Arbitration.TheVariants.{Begins, ChannelAnew}
 use Rattle.hidlink.specs.declared.transaction.Step.{Step}
 use Rattle.hidlink.specs.declared.transaction.Step.TheVariants as step
-use Rattle.hidlink.specs.Ranks.{State, Idle, Receiving, Working, IsWorking, Message, Response, Shown, is_busy, is_receiving_on, is_working_on, on_receipt, packets_of, response}
-use Rattle.hidlink.specs.Machine.{Does, Effect, choices, chosen_effect, chosen_response, packet_effect, to}
+use Rattle.hidlink.specs.Ranks.{State, Idle, Receiving, Working, IsWorking, Message, Response, DeviceState, is_busy, is_receiving_on, is_working_on, on_receipt, packets_of, response, choices, chosen_response}
+use Rattle.hidlink.specs.Machine.{Does, Effect, chosen_effect, packet_effect, to}
 use Rattle.hidlink.proofs.Calls.{initial_effect, initial_response}
 use Rattle.hidlink.proofs.Telling.{both_right}
 
@@ -66,7 +66,7 @@ stays n (Receiving cid kind size next bytes) (Continuation c seq area) = split (
     split false b = λ x. absurd (cc)
 
 -- of a device and a packet, where nothing was left to send
-pub cancel_stays : (n : ℕ) (s : State) (f : Fields) (old new : Shown) (told : Step) → old.channels ≡ n → old.state ≡ s → old.left ≡ []
+pub cancel_stays : (n : ℕ) (s : State) (f : Fields) (old new : DeviceState) (told : Step) → old.channels ≡ n → old.state ≡ s → old.left ≡ []
     → Does new told (packet_effect n s f) (response n s f) → told ≡ step.Cancelled → IsWorking s × (new ≡ old)
 cancel_stays n s f old new told out is drained d e =
     let k = stays n s f (sym d.1 ∙ e) in (
@@ -76,7 +76,7 @@ cancel_stays n s f old new told out is drained d e =
           ∙ shown_same n s old out is drained,
     )
   where
-    shown_same : (n : ℕ) (s : State) (old : Shown) → old.channels ≡ n → old.state ≡ s → old.left ≡ [] → record { channels = n; state = s; left = [] } ≡ old
+    shown_same : (n : ℕ) (s : State) (old : DeviceState) → old.channels ≡ n → old.state ≡ s → old.left ≡ [] → record { channels = n; state = s; left = [] } ≡ old
     shown_same n s old a b c = sym (ap (λ k. record { channels = k; state = old.state; left = old.left }) a
         ∙ ap (λ (k : State). record { channels = n; state = k; left = old.left }) b
         ∙ ap (λ (k : List Packet). record { channels = n; state = s; left = k }) c)

@@ -7,6 +7,7 @@ use Rattle.hidlink.specs.declared.collection.Ended.{Ended}
 use Rattle.hidlink.specs.declared.collection.Outcome.{Outcome}
 use Rattle.hidlink.specs.declared.collection.Outcome.TheVariants.{More, Reply, DeviceError, Dead}
 use Rattle.hidlink.specs.Wire.{HasEnded, Shown, Waiting, Receiving, Replied, Failed, Died, Holds, Got}
+use Rattle.hidlink.specs.Collected.{Collected}
 use Rattle.hidlink.specs.Steps.{step, state, IsEnded}
 use Rattle.hidlink.specs.Feeds.{Tells, Answers, Gives, IsMore, IsReply, IsDeviceError, IsDeath}
 use Rattle.hidlink.proofs.Beginnings.{begins_later, dead_itself, begins_itself}
@@ -20,6 +21,11 @@ got-step c ps p s t whole is g = record {
   packets = packets-append ps (p ∷ []) g.packets (whole, tt);
   holds = let P : Shown → Type 0 = Holds c (ps ++ p ∷ []) in subst P (sym is) (holds-step c ps p s g.channel (packets-append ps (p ∷ []) g.packets (whole, tt)) g.holds);
 }
+
+-- of a collector that took a packet
+pub got_taken : (old new : Collected) (p : Packet) → IsPacket p → new ≡ record old { shown = step old.cid old.shown (fields p) }
+    → (new.cid ≡ old.cid) × ((ps : List Packet) → Got old.cid ps old.shown → Got old.cid (ps ++ p ∷ []) new.shown)
+got_taken old new p whole e = (ap (λ k. k.cid) e, λ ps g. got-step old.cid ps p old.shown new.shown whole (ap (λ k. k.shown) e) g)
 
 -- an end that is shown is the end of the list
 ended-holds : (c : ℕ) (ps : List Packet) (s : Shown) → s ≡ state c ps → IsEnded s → Holds c ps s → HasEnded c ps

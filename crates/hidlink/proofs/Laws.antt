@@ -125,7 +125,7 @@ carries_first c j k ps cmd m less within h (inl e) =
 carries_first c j k ps cmd m less within h (inr e) =
     e.2 (take k ps) cmd m (inr (begins_later e.0 (take j ps) (take k ps) e.1 (taken_less j k ps (omega arith)))) h
 
--- before the packet that ends all hope neither
+-- before the packet after which none can come neither
 pub dies_first : (c j k : ℕ) (ps : List Packet) (kind : DeadKind) → j < k → k ≤ length ps → Dies c (take k ps) kind → HasEnded c (take j ps) → ⊥
 dies_first c j k ps kind less within d (inl e) =
     d.dead e.0 e.1 e.2 (inl (begins_later e.0 (take j ps) (take k ps) e.3 (taken_less j k ps (omega arith)))) e.4

@@ -8,7 +8,7 @@ use Rattle.std.proofs.lemmas.Nat.{from_be_bytes-to_be_bytes_4}
 use Rattle.hidframe.specs.declared.Packet.{Packet}
 use Rattle.hidframe.specs.Packets.{Initial, Continuation, fields, IsPacket, channel}
 use Rattle.hidframe.specs.Frames.{continuations, continuation_count, joined}
-use Rattle.hidframe.proofs.Uniqueness.{AreaFits, fields_fit}
+use Rattle.hidframe.proofs.Uniqueness.{AreaFits, areas_size, fields_fit}
 use Rattle.hidframe.proofs.Bytes.{bytes-append, bytes-cons, bytes_zeros, bytes_of_32}
 use Rattle.hidlink.specs.Wire.{channel_of, on, AreKeepalives, Carries, Open, Shown, Holds}
 use Rattle.hidlink.specs.Steps.{received}
@@ -37,17 +37,6 @@ packets_on c (p ∷ ps) h =
       | false ↦ packets_on c ps h.1
     ]
 
--- continuations of 59 bytes each
-continued_size : (c k : ℕ) (ps : List Packet) (later : List (List ℕ)) → ArePackets ps → map fields ps ≡ continuations c k later → length (joined later) ≡ 59 * length later
-continued_size c k ps [] h e = refl
-continued_size c k [] (area ∷ later) h e = absurd (cc)
-continued_size c k (p ∷ ps) (area ∷ later) h e =
-    let head : fields p ≡ Continuation c k area = cc in
-    let tail : map fields ps ≡ continuations c (k + 1) later = cc in
-    let here : length area ≡ 59 = subst AreaFits head (fields_fit p h.0) in
-    let more : length (joined later) ≡ 59 * length later = continued_size c (k + 1) ps later h.1 tail in
-    length-append area (joined later) ∙ omega arith
-
 -- As Open, but for whether anything is missing.
 pub record SoFar (c : ℕ) (ps : List Packet) (len next : ℕ) (bytes : List ℕ) : Type 0 where
   pub waits : List Packet
@@ -73,7 +62,7 @@ size c ps len next bytes all s =
         let head : fields p ≡ Initial c 16 len first = cc in
         let tail : map fields ps ≡ continuations c 0 later = cc in
         let here : length first ≡ 57 = subst AreaFits head (fields_fit p h.0) in
-        let more : length (joined later) ≡ 59 * length later = continued_size c 0 ps later h.1 tail in
+        let more : length (joined later) ≡ 59 * length later = areas_size c 0 ps later h.1 tail in
         omega arith
 
 -- the first packet

@@ -10,9 +10,9 @@ use Rattle.hidlink.specs.declared.arbitration.Arbitration.{Arbitration}
 use Rattle.hidlink.specs.declared.arbitration.Arbitration.TheVariants.{Begins}
 use Rattle.hidlink.specs.declared.transaction.Step.{Step}
 use Rattle.hidlink.specs.declared.transaction.Step.TheVariants as step
-use Rattle.hidlink.specs.Ranks.{State, Idle, Receiving, Working, IsWorking, Response, Shown, on_receipt, rank, response}
+use Rattle.hidlink.specs.Ranks.{State, Idle, Receiving, Working, IsWorking, Response, DeviceState, on_receipt, rank, response, choices, chosen_response}
 use Rattle.hidlink.specs.History.{Call, Leaves}
-use Rattle.hidlink.specs.Machine.{Does, Effect, came, choices, chosen_effect, chosen_response, packet_effect, table, to}
+use Rattle.hidlink.specs.Machine.{Does, Effect, came, chosen_effect, packet_effect, table, to}
 use Rattle.hidlink.specs.Told.{work, IsCancel, Tells}
 use Rattle.hidlink.proofs.Calls.{initial_effect, initial_response}
 
@@ -184,13 +184,13 @@ told h n (Working cid payload) (Initial c cmd len area) l =
 told h n (Working cid payload) (Continuation c seq area) l = (λ i. i, refl)
 
 -- of a device and a packet
-pub does_tell : (h : List Call) (n : ℕ) (s : State) (p : Packet) (f : Fields) (new : Shown) (step : Step) → fields p ≡ f → Does new step (packet_effect n s f) (response n s f) → Leaves h n s
+pub does_tell : (h : List Call) (n : ℕ) (s : State) (p : Packet) (f : Fields) (new : DeviceState) (step : Step) → fields p ≡ f → Does new step (packet_effect n s f) (response n s f) → Leaves h n s
     → Tells s (fields p) new.state step
 does_tell h n s p f new step says d l =
     let P : State → Type 0 = λ t. Tells s (fields p) t step in
     let Q : Step → Type 0 = λ x. Tells s (fields p) (packet_effect n s f).after x in
     let R : Fields → Type 0 = λ g. Tells s g (packet_effect n s f).after (response n s f).step in
-    subst P (sym (ap Shown.state d.0)) (subst Q (sym d.1) (subst R (sym says) (told h n s f l)))
+    subst P (sym (ap DeviceState.state d.0)) (subst Q (sym d.1) (subst R (sym says) (told h n s f l)))
 
 -- one that works has work
 works : (s : State) → IsWorking s → work s ≡ None → ⊥

@@ -10,9 +10,9 @@ use Rattle.hidframe.specs.Packets.{Fields, Initial, Continuation, fields}
 use Rattle.hidframe.specs.Frames.{ZeroFrames, continuations, continuation_count, joined}
 use Rattle.hidlink.specs.declared.arbitration.Arbitration.TheVariants.{Begins}
 use Rattle.hidlink.specs.declared.transaction.Step.TheVariants as step
-use Rattle.hidlink.specs.Ranks.{State, Idle, Receiving, Working, error, on_receipt, response, sends, tells}
+use Rattle.hidlink.specs.Ranks.{State, Idle, Receiving, Working, error, on_receipt, response, sends, tells, choices, chosen_response}
 use Rattle.hidlink.specs.History.{Answered, Call, Kept, Leaves, Took}
-use Rattle.hidlink.specs.Machine.{Effect, came, choices, chosen_effect, chosen_response, packet_effect, to}
+use Rattle.hidlink.specs.Machine.{Effect, came, chosen_effect, packet_effect, to}
 use Rattle.hidlink.specs.Told.{IsOut, told_before}
 use Rattle.hidlink.proofs.Calls.{answered, initial_effect, initial_response, kept, leaves_by, leaves_to}
 use Rattle.hidlink.proofs.Most.{at_most}

@@ -14,12 +14,12 @@ pub record Collected : Type 0 where
   pub shown : Shown
 
 -- what it shows in this phase, with these bytes in its room
-abbrev pub shown_of : Phase → List ℕ → Shown
-shown_of phase.Idle bytes = Waiting
-shown_of (phase.Within len next) bytes = Receiving len next bytes
-shown_of phase.Whole bytes = Replied bytes
-shown_of (phase.Fault code) bytes = Failed code
-shown_of (phase.Over kind) bytes = Died kind
+abbrev pub shown_view : Phase → List ℕ → Shown
+shown_view phase.Idle bytes = Waiting
+shown_view (phase.Within len next) bytes = Receiving len next bytes
+shown_view phase.Whole bytes = Replied bytes
+shown_view (phase.Fault code) bytes = Failed code
+shown_view (phase.Over kind) bytes = Died kind
 
 -- the bytes that are there in this phase
 abbrev pub Fits : Phase → List ℕ → Type 0

@@ -1,14 +1,13 @@
 -- The plain program of the device: what a call does to the channels and the state. The crate's private
 -- functions are proved against it; no public clause cites it. What it means is in History.antt.
-use Rattle.std.specs.Prelude.{◌≡◌, ◌<◌, ◌≤◌, ◌*◌, ℕ, Bool, ◌+◌, ◌==◌, ◌&&◌, ◌||◌, not, nat_lt, List, [], ◌∷◌, ◌++◌, length, take, unwrap_or, if◌then◌else◌}
+use Rattle.std.specs.Prelude.{◌≡◌, ◌<◌, ◌≤◌, ◌*◌, ℕ, Bool, ◌+◌, ◌==◌, nat_lt, List, [], ◌++◌, length, map, take, unwrap_or, if◌then◌else◌}
 use Rattle.first_line.specs.Lines.{first_true}
 use Rattle.hidframe.specs.Packets.{Fields, Initial, Continuation, fields}
 use Rattle.hidframe.specs.Frames.{continuation_count}
-use Rattle.hidlink.specs.Ranks.{State, Idle, Receiving, Working, is_busy, is_receiving_on, is_working_on, Response, Shown, sends, tells, error, init_response, on_receipt, packets_of}
+use Rattle.hidlink.specs.Ranks.{State, Idle, Receiving, Working, is_busy, is_receiving_on, is_working_on, Response, DeviceState, choices, packets_of}
 use Rattle.hidlink.specs.declared.arbitration.Arbitration.{Arbitration}
 use Rattle.hidlink.specs.declared.arbitration.Arbitration.TheVariants.{Refused, NewChannel, ChannelAnew, Interrupted, Cancelled, Ignored, Begins}
 use Rattle.hidlink.specs.declared.transaction.Step.{Step}
-use Rattle.hidlink.specs.declared.transaction.Step.TheVariants as step
 use Rattle.hidlink.specs.declared.transaction.Phase.{Phase}
 use Rattle.hidlink.specs.declared.transaction.Phase.TheVariants as phase
 use Rattle.hidlink.specs.History.{Call, Took, Answered, Kept, Expired}
@@ -26,23 +25,19 @@ came n c cmd len next bytes =
     if nat_lt next (continuation_count len) then to n (Receiving c cmd len next bytes)
     else (if cmd == 16 then to n (Working c (take len bytes)) else to n Idle)
 
+-- what a choice does
+abbrev pub chosen_effect : ℕ → State → ℕ → ℕ → ℕ → List ℕ → Arbitration → Effect
+chosen_effect n s c cmd len area (Refused code) = to n s
+chosen_effect n s c cmd len area NewChannel = to (n + 1) s
+chosen_effect n s c cmd len area ChannelAnew = to n Idle
+chosen_effect n s c cmd len area Interrupted = to n Idle
+chosen_effect n s c cmd len area Cancelled = to n s
+chosen_effect n s c cmd len area Ignored = to n s
+chosen_effect n s c cmd len area Begins = came n c cmd len 0 area
+
+-- the table of a device in this state, with what the choices do
 abbrev pub table : ℕ → State → ℕ → ℕ → ℕ → List (Bool × Effect)
-table n s c cmd len =
-    (c == 0 || (nat_lt n c && not (c == 0xFFFFFFFF)), to n s)
-    ∷ (c == 0xFFFFFFFF && not (cmd == 6), to n s)
-    ∷ (cmd == 6 && not (len == 8), to n s)
-    ∷ ((cmd == 6 && c == 0xFFFFFFFF) && is_busy s, to n s)
-    ∷ ((cmd == 6 && c == 0xFFFFFFFF) && n == 65535, to n s)
-    ∷ (cmd == 6 && c == 0xFFFFFFFF, to (n + 1) s)
-    ∷ (cmd == 6 && (is_busy s && not (is_receiving_on s c || is_working_on s c)), to n s)
-    ∷ (cmd == 6, to n Idle)
-    ∷ (is_receiving_on s c, to n Idle)
-    ∷ (cmd == 17 && is_working_on s c, to n s)
-    ∷ (cmd == 17, to n s)
-    ∷ (is_busy s, to n s)
-    ∷ (not (cmd == 1) && not (cmd == 16), to n s)
-    ∷ (nat_lt 7609 len || (cmd == 16 && len == 0), to n s)
-    ∷ []
+table n s c cmd len = map (λ line. (line.0, chosen_effect n s c cmd len [] line.1)) (choices n (is_busy s) (is_receiving_on s c) (is_working_on s c) c cmd len)
 
 -- what a packet does that says this
 abbrev pub packet_effect : ℕ → State → Fields → Effect
@@ -64,44 +59,6 @@ effect n Idle Expired = to n Idle
 effect n (Working cid payload) Expired = to n (Working cid payload)
 effect n (Receiving cid cmd len next bytes) Expired = to n Idle
 
--- The same lines with the choice that the code makes by them.
-abbrev pub choices : ℕ → Bool → Bool → Bool → ℕ → ℕ → ℕ → List (Bool × Arbitration)
-choices n busy receiving working c cmd len =
-    (c == 0 || (nat_lt n c && not (c == 0xFFFFFFFF)), Refused 11)
-    ∷ (c == 0xFFFFFFFF && not (cmd == 6), Refused 11)
-    ∷ (cmd == 6 && not (len == 8), Refused 3)
-    ∷ ((cmd == 6 && c == 0xFFFFFFFF) && busy, Refused 6)
-    ∷ ((cmd == 6 && c == 0xFFFFFFFF) && n == 65535, Refused 127)
-    ∷ (cmd == 6 && c == 0xFFFFFFFF, NewChannel)
-    ∷ (cmd == 6 && (busy && not (receiving || working)), Refused 6)
-    ∷ (cmd == 6, ChannelAnew)
-    ∷ (receiving, Interrupted)
-    ∷ (cmd == 17 && working, Cancelled)
-    ∷ (cmd == 17, Ignored)
-    ∷ (busy, Refused 6)
-    ∷ (not (cmd == 1) && not (cmd == 16), Refused 1)
-    ∷ (nat_lt 7609 len || (cmd == 16 && len == 0), Refused 3)
-    ∷ []
-
--- what a choice does
-abbrev pub chosen_effect : ℕ → State → ℕ → ℕ → ℕ → List ℕ → Arbitration → Effect
-chosen_effect n s c cmd len area (Refused code) = to n s
-chosen_effect n s c cmd len area NewChannel = to (n + 1) s
-chosen_effect n s c cmd len area ChannelAnew = to n Idle
-chosen_effect n s c cmd len area Interrupted = to n Idle
-chosen_effect n s c cmd len area Cancelled = to n s
-chosen_effect n s c cmd len area Ignored = to n s
-chosen_effect n s c cmd len area Begins = came n c cmd len 0 area
-
-abbrev pub chosen_response : ℕ → State → ℕ → ℕ → ℕ → List ℕ → Arbitration → Response
-chosen_response n s c cmd len area (Refused code) = sends (error c code)
-chosen_response n s c cmd len area NewChannel = sends (init_response c (n + 1) area)
-chosen_response n s c cmd len area ChannelAnew = record { sent = init_response c c area; step = if is_working_on s c then step.Aborted else step.Quiet }
-chosen_response n s c cmd len area Interrupted = sends (error c 4)
-chosen_response n s c cmd len area Cancelled = tells step.Cancelled
-chosen_response n s c cmd len area Ignored = tells step.Quiet
-chosen_response n s c cmd len area Begins = on_receipt c cmd len 0 area
-
 -- what a choice may rest on
 abbrev pub MayChoose : ℕ → State → ℕ → ℕ → Arbitration → Type 0
 MayChoose n s cmd len (Refused code) = Unit {0}
@@ -113,10 +70,10 @@ MayChoose n s cmd len Ignored = Unit {0}
 MayChoose n s cmd len Begins = (len ≤ 7609) × (s ≡ Idle)
 
 -- what it shows in this phase with these bytes
-abbrev pub state_of : Phase → List ℕ → State
-state_of phase.Idle bytes = Idle
-state_of (phase.Receiving cid cmd len next) bytes = Receiving cid cmd len next bytes
-state_of (phase.Working cid) bytes = Working cid bytes
+abbrev pub state_view : Phase → List ℕ → State
+state_view phase.Idle bytes = Idle
+state_view (phase.Receiving cid cmd len next) bytes = Receiving cid cmd len next bytes
+state_view (phase.Working cid) bytes = Working cid bytes
 
 abbrev pub PhaseFits : Phase → List ℕ → Type 0
 PhaseFits phase.Idle bytes = Unit {0}
@@ -124,6 +81,6 @@ PhaseFits (phase.Receiving cid cmd len next) bytes = (length bytes ≡ 57 + 59 *
 PhaseFits (phase.Working cid) bytes = length bytes ≤ 7609
 
 -- what a packet made of a device, and what the call told
-abbrev pub Does : Shown → Step → Effect → Response → Type 0
+abbrev pub Does : DeviceState → Step → Effect → Response → Type 0
 Does new step effect response =
     (new ≡ record { channels = effect.channels; state = effect.after; left = packets_of response.sent }) × (step ≡ response.step)

@@ -43,9 +43,9 @@ Heard nonce ps None = AllByRecursion (IsNoInitResponse nonce) ps
 Heard nonce ps (Some c) = Opens nonce ps c
 
 -- what it tells of the channel
-abbrev pub channel_of : Opening → Option ℕ
-channel_of More = None
-channel_of (Channel cid) = Some cid
+abbrev pub opened_channel : Opening → Option ℕ
+opened_channel More = None
+opened_channel (Channel cid) = Some cid
 
 -- what callers see of an opener: the nonce that it sent, and the channel
 pub record Asked : Type 0 where

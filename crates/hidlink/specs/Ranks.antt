@@ -1,4 +1,4 @@
-use Rattle.std.specs.Prelude.{ℕ, Bool, true, false, ◌+◌, ◌==◌, ◌&&◌, ◌||◌, not, nat_lt, List, [], ◌∷◌, ◌++◌, take, Option, Some, None, unwrap_or, if◌then◌else◌}
+use Rattle.std.specs.Prelude.{ℕ, Bool, true, false, ◌+◌, ◌==◌, ◌&&◌, ◌||◌, not, nat_lt, List, [], ◌∷◌, ◌++◌, map, take, Option, Some, None, unwrap_or, if◌then◌else◌}
 use Rattle.std.specs.List.{position_or_len}
 use Rattle.std.specs.Int.{w32, to_be_bytes}
 use Rattle.first_line.specs.Lines.{first_true}
@@ -7,6 +7,9 @@ use Rattle.hidframe.specs.declared.ctaphid.TheConstants.{CTAPHID_BROADCAST_CID, 
 use Rattle.hidframe.specs.Packets.{Fields, Initial, Continuation}
 use Rattle.hidframe.specs.Frames.{continuation_count}
 use Rattle.hidframe.specs.Pieces.{frame_list}
+use Rattle.hidlink.specs.declared.arbitration.Arbitration.{Arbitration}
+use Rattle.hidlink.specs.declared.arbitration.Arbitration.TheVariants as choice
+use Rattle.hidlink.specs.declared.arbitration.TheConstants.{MAX_CHANNELS}
 use Rattle.hidlink.specs.declared.transaction.Refusal.{Refusal}
 use Rattle.hidlink.specs.declared.transaction.Refusal.TheVariants.{NotWorking, TooLong}
 use Rattle.hidlink.specs.declared.transaction.Step.{Step}
@@ -81,39 +84,40 @@ on_receipt c cmd len next bytes =
     else (if cmd == CTAPHID_CBOR then tells (Request c)
     else sends (Some (record { cid = c; cmd = CTAPHID_PING; payload = take len bytes })))
 
--- The table for an initial packet on c, n channels being out: the ranks 1 to 14, each with the test
--- whether it applies, and the response.
-abbrev pub lines : ℕ → State → ℕ → ℕ → ℕ → List ℕ → List (Bool × Response)
-lines n s c cmd len area = (
-  c == CTAPHID_RESERVED_CID || (nat_lt n c && not (c == CTAPHID_BROADCAST_CID)),
-  sends (error c ERR_INVALID_CHANNEL),
-)
-    ∷ (c == CTAPHID_BROADCAST_CID && not (cmd == CTAPHID_INIT), sends (error c ERR_INVALID_CHANNEL))
-    ∷ (cmd == CTAPHID_INIT && not (len == 8), sends (error c ERR_INVALID_LEN))
-    ∷ (
-      (cmd == CTAPHID_INIT && c == CTAPHID_BROADCAST_CID) && is_busy s,
-      sends (error c ERR_CHANNEL_BUSY),
-    )
-    ∷ ((cmd == CTAPHID_INIT && c == CTAPHID_BROADCAST_CID) && n == 65535, sends (error c ERR_OTHER))
-    ∷ (cmd == CTAPHID_INIT && c == CTAPHID_BROADCAST_CID, sends (init_response c (n + 1) area))
-    ∷ (
-      cmd == CTAPHID_INIT && (is_busy s && not (is_receiving_on s c || is_working_on s c)),
-      sends (error c ERR_CHANNEL_BUSY),
-    )
-    ∷ (
-      cmd == CTAPHID_INIT,
-      record { sent = init_response c c area; step = if is_working_on s c then Aborted else Quiet },
-    )
-    ∷ (is_receiving_on s c, sends (error c ERR_INVALID_SEQ))
-    ∷ (cmd == CTAPHID_CANCEL && is_working_on s c, tells Cancelled)
-    ∷ (cmd == CTAPHID_CANCEL, tells Quiet)
-    ∷ (is_busy s, sends (error c ERR_CHANNEL_BUSY))
-    ∷ (not (cmd == CTAPHID_PING) && not (cmd == CTAPHID_CBOR), sends (error c ERR_INVALID_CMD))
-    ∷ (
-      nat_lt MAX_PAYLOAD_SIZE len || (cmd == CTAPHID_CBOR && len == 0),
-      sends (error c ERR_INVALID_LEN),
-    )
+-- The table for an initial packet on c, n channels being out, of a device that is busy or not, and receives or works
+-- on c or not: the ranks 1 to 14, each with the test whether it applies, and what is chosen.
+abbrev pub choices : ℕ → Bool → Bool → Bool → ℕ → ℕ → ℕ → List (Bool × Arbitration)
+choices n busy receiving working c cmd len =
+    (c == CTAPHID_RESERVED_CID || (nat_lt n c && not (c == CTAPHID_BROADCAST_CID)), choice.Refused ERR_INVALID_CHANNEL)
+    ∷ (c == CTAPHID_BROADCAST_CID && not (cmd == CTAPHID_INIT), choice.Refused ERR_INVALID_CHANNEL)
+    ∷ (cmd == CTAPHID_INIT && not (len == 8), choice.Refused ERR_INVALID_LEN)
+    ∷ ((cmd == CTAPHID_INIT && c == CTAPHID_BROADCAST_CID) && busy, choice.Refused ERR_CHANNEL_BUSY)
+    ∷ ((cmd == CTAPHID_INIT && c == CTAPHID_BROADCAST_CID) && n == MAX_CHANNELS, choice.Refused ERR_OTHER)
+    ∷ (cmd == CTAPHID_INIT && c == CTAPHID_BROADCAST_CID, choice.NewChannel)
+    ∷ (cmd == CTAPHID_INIT && (busy && not (receiving || working)), choice.Refused ERR_CHANNEL_BUSY)
+    ∷ (cmd == CTAPHID_INIT, choice.ChannelAnew)
+    ∷ (receiving, choice.Interrupted)
+    ∷ (cmd == CTAPHID_CANCEL && working, choice.Cancelled)
+    ∷ (cmd == CTAPHID_CANCEL, choice.Ignored)
+    ∷ (busy, choice.Refused ERR_CHANNEL_BUSY)
+    ∷ (not (cmd == CTAPHID_PING) && not (cmd == CTAPHID_CBOR), choice.Refused ERR_INVALID_CMD)
+    ∷ (nat_lt MAX_PAYLOAD_SIZE len || (cmd == CTAPHID_CBOR && len == 0), choice.Refused ERR_INVALID_LEN)
     ∷ []
+
+-- what each choice sends, and tells
+abbrev pub chosen_response : ℕ → State → ℕ → ℕ → ℕ → List ℕ → Arbitration → Response
+chosen_response n s c cmd len area (choice.Refused code) = sends (error c code)
+chosen_response n s c cmd len area choice.NewChannel = sends (init_response c (n + 1) area)
+chosen_response n s c cmd len area choice.ChannelAnew = record { sent = init_response c c area; step = if is_working_on s c then Aborted else Quiet }
+chosen_response n s c cmd len area choice.Interrupted = sends (error c ERR_INVALID_SEQ)
+chosen_response n s c cmd len area choice.Cancelled = tells Cancelled
+chosen_response n s c cmd len area choice.Ignored = tells Quiet
+chosen_response n s c cmd len area choice.Begins = on_receipt c cmd len 0 area
+
+-- the table of a device in this state, with the responses
+abbrev pub lines : ℕ → State → ℕ → ℕ → ℕ → List ℕ → List (Bool × Response)
+lines n s c cmd len area =
+    map (λ line. (line.0, chosen_response n s c cmd len area line.1)) (choices n (is_busy s) (is_receiving_on s c) (is_working_on s c) c cmd len)
 
 -- the rank of an initial packet: the number of the first line that applies, and 15 where none does
 abbrev pub rank : ℕ → State → ℕ → ℕ → ℕ → ℕ
@@ -165,7 +169,7 @@ on_working (Working cid request) cmd payload = Some (record { cid = cid; cmd = c
 
 -- what callers see of a device: how many channels it handed out, what it is doing, the packets that
 -- are left to send
-pub record Shown : Type 0 where
+pub record DeviceState : Type 0 where
   pub channels : ℕ
   pub state : State
   pub left : List Packet

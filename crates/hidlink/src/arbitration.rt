@@ -3,7 +3,7 @@
 
 ghost use Rattle.std.specs.Prelude.{◌≡◌, ◌⊎◌, unwrap_or};
 ghost use Rattle.first_line.specs.Lines.{first_true};
-ghost use Rattle.hidlink.specs.Machine.{choices};
+ghost use Rattle.hidlink.specs.Ranks.{choices};
 
 use hidframe::ctaphid::{
     CTAPHID_BROADCAST_CID, CTAPHID_CANCEL, CTAPHID_CBOR, CTAPHID_INIT, CTAPHID_PING,
@@ -17,12 +17,19 @@ pub const MAX_CHANNELS: u32 = 65_535;
 /// What is to be done with an initial packet.
 #[derive(Clone, Copy)]
 pub enum Arbitration {
+    /// An ERROR of this code is sent.
     Refused(u8),
+    /// The next channel is handed out.
     NewChannel,
+    /// What stands on the channel ends, and the channel begins anew.
     ChannelAnew,
+    /// The message that comes in on the channel is broken.
     Interrupted,
+    /// The request that the device works on is to be given up.
     Cancelled,
+    /// Nothing.
     Ignored,
+    /// The message begins.
     Begins,
 }
 

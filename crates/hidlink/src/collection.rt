@@ -2,7 +2,7 @@
 
 ghost use Rattle.std.specs.Prelude.{◌≡◌, ◌≤◌, ◌<◌, ◌+◌, ◌*◌, ◌++◌, [], ◌∷◌, List, ℕ, length, take, IfOk, IfSome};
 ghost use Rattle.hidlink.specs.Steps.{opened, received};
-ghost use Rattle.hidlink.specs.Collected.{Fits, ShowsAt, shown_of};
+ghost use Rattle.hidlink.specs.Collected.{Fits, ShowsAt, shown_view};
 ghost use Rattle.std.specs.Prelude.{◌⊎◌, ◌^◌, ◌↔◌, IsTrue};
 ghost use Rattle.std.specs.List.{AllByRecursion};
 ghost use Rattle.hidframe.specs.declared.Packet.{Packet};
@@ -72,7 +72,7 @@ fn store_data(inbox: &mut Inbox, len: u16, next: u8, bytes: &[u8]) -> Phase
     requires len { len ≤ 7609 }
     requires held { length inbox.old ≤ len }
     requires number { length inbox.old + length bytes.now ≡ 57 + 59 * next }
-    ensures shown { shown_of result inbox.new ≡ received len next (inbox.old ++ bytes.now) }
+    ensures shown { shown_view result inbox.new ≡ received len next (inbox.old ++ bytes.now) }
     ensures fits { Fits result inbox.new }
 {
     inbox.append(len, bytes);
@@ -86,7 +86,7 @@ fn store_data(inbox: &mut Inbox, len: u16, next: u8, bytes: &[u8]) -> Phase
 /// Takes a packet that begins a message where none is open.
 fn open_message(inbox: &mut Inbox, cmd: u8, len: u16, bytes: &[u8]) -> Phase
     requires { length bytes.now ≡ 57 }
-    ensures shown { shown_of result inbox.new ≡ opened cmd len bytes.now }
+    ensures shown { shown_view result inbox.new ≡ opened cmd len bytes.now }
     ensures fits { Fits result inbox.new }
 {
     match cmd {
@@ -126,11 +126,11 @@ pub struct Collector {
 }
 
 impl Model for Collector {
-    ghost use Rattle.hidlink.specs.Collected.{Collected, Fits, shown_of};
+    ghost use Rattle.hidlink.specs.Collected.{Collected, Fits, shown_view};
 
     ghost Value = { Collected };
 
-    ghost view = { λ c. record { cid = c.cid; shown = shown_of c.phase c.inbox } };
+    ghost view = { λ c. record { cid = c.cid; shown = shown_view c.phase c.inbox } };
 
     ghost invariant = { λ c. Fits c.phase c.inbox };
 }

@@ -3,7 +3,7 @@
 ghost use Rattle.std.specs.Prelude.{◌≡◌, ◌++◌, [], ◌∷◌, List, ℕ, length, MatchOption};
 ghost use Rattle.hidframe.specs.declared.Packet.{Packet};
 ghost use Rattle.hidframe.specs.Pieces.{frame_list};
-ghost use Rattle.hidlink.specs.Opens.{Assigns, Heard, IsInitResponse, IsNoInitResponse, channel_of};
+ghost use Rattle.hidlink.specs.Opens.{Assigns, Heard, IsInitResponse, IsNoInitResponse, opened_channel};
 
 use hidframe::ctaphid::{
     CAPABILITY_CBOR, CTAPHID_BROADCAST_CID, CTAPHID_INIT, CTAPHID_RESERVED_CID, PROTOCOL_VERSION,
@@ -111,7 +111,7 @@ impl Opener {
     pub fn feed(&mut self, packet: &Packet) -> Opening
         ensures heard { (ps : List Packet) → Heard self.old.nonce ps self.old.channel
             → Heard self.old.nonce (ps ++ packet.now ∷ []) self.new.channel }
-        ensures tells { channel_of result ≡ self.new.channel }
+        ensures tells { opened_channel result ≡ self.new.channel }
         ensures nonce { self.new.nonce ≡ self.old.nonce }
     {
         self.channel = channel_after(self.channel, &self.nonce, packet);

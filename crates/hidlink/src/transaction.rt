@@ -11,8 +11,8 @@ ghost use Rattle.hidlink.specs.History.{Answered, Call, Expired, Kept, Leaves, R
 ghost use Rattle.std.specs.Prelude.{◌*◌, Err};
 ghost use Rattle.std.specs.Bool.{OnFalse, OnTrue};
 ghost use Rattle.std.specs.Int.{w32, to_be_bytes};
-ghost use Rattle.hidlink.specs.Machine.{Does, MayChoose, PhaseFits, came, choices, chosen_effect, chosen_response, effect, packet_effect, state_of};
-ghost use Rattle.hidlink.specs.Ranks.{Idle, IsReceiving, IsWorking, State, error, expiry, init_response, is_busy, is_receiving_on, is_working_on, on_receipt, on_working, packets_of, request_payload, response, working_channel};
+ghost use Rattle.hidlink.specs.Machine.{Does, MayChoose, PhaseFits, came, chosen_effect, effect, packet_effect, state_view};
+ghost use Rattle.hidlink.specs.Ranks.{Idle, IsReceiving, IsWorking, State, chosen_response, error, expiry, init_response, is_busy, is_receiving_on, is_working_on, on_receipt, on_working, packets_of, request_payload, response, working_channel};
 
 use crate::arbitration::{Arbitration, arbitrate};
 use crate::room::{Inbox, Outbox};
@@ -95,7 +95,7 @@ fn advance(
     requires held { length inbox.old ≤ len }
     requires number { length inbox.old + length bytes.now ≡ 57 + 59 * next }
     requires drained { outbox.old ≡ [] }
-    ensures state { state_of result.0 inbox.new ≡ (came 0 cid cmd len next (inbox.old ++ bytes.now)).after }
+    ensures state { state_view result.0 inbox.new ≡ (came 0 cid cmd len next (inbox.old ++ bytes.now)).after }
     ensures fits { PhaseFits result.0 inbox.new }
     ensures left { outbox.new ≡ packets_of (on_receipt cid cmd len next (inbox.old ++ bytes.now)).sent }
     ensures step { result.1 ≡ (on_receipt cid cmd len next (inbox.old ++ bytes.now)).step }
@@ -162,12 +162,12 @@ pub struct Device {
 
 impl Model for Device {
     ghost use Rattle.std.specs.Prelude.{◌≤◌};
-    ghost use Rattle.hidlink.specs.Ranks.{Shown};
-    ghost use Rattle.hidlink.specs.Machine.{PhaseFits, state_of};
+    ghost use Rattle.hidlink.specs.Ranks.{DeviceState};
+    ghost use Rattle.hidlink.specs.Machine.{PhaseFits, state_view};
 
-    ghost Value = { Shown };
+    ghost Value = { DeviceState };
 
-    ghost view = { λ d. record { channels = d.channels; state = state_of d.phase d.inbox; left = d.outbox } };
+    ghost view = { λ d. record { channels = d.channels; state = state_view d.phase d.inbox; left = d.outbox } };
 
     ghost invariant = { λ d. record { channels : d.channels ≤ 65535; phase : PhaseFits d.phase d.inbox } };
 }
@@ -295,13 +295,13 @@ impl Device {
             }
             Arbitration::NewChannel => {
                 self.channels += 1;
-                self.greet(cid, self.channels, bytes);
+                self.answer_init(cid, self.channels, bytes);
                 Step::Quiet
             }
             Arbitration::ChannelAnew => {
                 let aborted = self.is_working_on(cid);
                 self.phase = Phase::Idle;
-                self.greet(cid, cid, bytes);
+                self.answer_init(cid, cid, bytes);
                 if aborted { Step::Aborted } else { Step::Quiet }
             }
             Arbitration::Interrupted => {
@@ -367,7 +367,7 @@ impl Device {
     }
 
     /// A response to INIT to send.
-    fn greet(&mut self, cid: u32, named: u32, bytes: &[u8])
+    fn answer_init(&mut self, cid: u32, named: u32, bytes: &[u8])
         requires { 8 ≤ length bytes.now }
         ensures { self.new ≡ record self.old { left = packets_of (init_response cid named bytes.now) } }
     {

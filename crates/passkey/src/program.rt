@@ -4,7 +4,7 @@ ghost use Rattle.std.specs.Prelude.{◌≤◌, length, IfOk};
 
 use crate::check::{CheckFault, check};
 use crate::inspect::{InspectFault, inspect};
-use crate::replay::{Ended, run_script};
+use crate::replay::{ScriptEnd, run_script};
 use crate::script::Fault;
 use clap::error::ErrorKind;
 use command_line::{Inspection, Subcommand, command};
@@ -69,13 +69,13 @@ fn replay<O: Write, E: Write>(alloc: Global, input: &[u8], out: &mut O, err: &mu
     match ended {
         Ok(()) => 0,
         Err(
-            Ended {
+            ScriptEnd {
                 line: _,
                 fault: Fault::Memory,
             },
         ) => fail(err, "out of memory", 3),
         Err(
-            Ended {
+            ScriptEnd {
                 line,
                 fault: Fault::BadScript,
             },

@@ -25,7 +25,7 @@ struct Replay<'a> {
 
 /// Where a script ended, by the line's number from 1, and why.
 #[derive(Clone, Copy, Debug, PartialEq, Eq, Drop)]
-pub struct Ended {
+pub struct ScriptEnd {
     pub line: usize,
     pub fault: Fault,
 }
@@ -244,14 +244,14 @@ fn run_line<'a>(
 /// Runs a script; what it prints is appended to `out`, also where it ends early.
 ///
 /// Lines end with a line feed. Empty ones, and those that begin with `#`, are passed over.
-pub fn run_script(alloc: Global, script: &[u8], out: &mut String) -> Result<(), Ended> {
+pub fn run_script(alloc: Global, script: &[u8], out: &mut String) -> Result<(), ScriptEnd> {
     let mut state = None;
     for (i, bytes) in script.split(|b| *b == b'\n').enumerate() {
         if bytes.is_empty() || bytes[0] == b'#' {
             continue;
         }
         if let Err(fault) = run_line(alloc, bytes, &mut state, out) {
-            return Err(Ended { line: i + 1, fault });
+            return Err(ScriptEnd { line: i + 1, fault });
         }
     }
     Ok(())

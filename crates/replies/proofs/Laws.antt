@@ -4,7 +4,7 @@ use Rattle.std.specs.Prelude.{IsErrOf}
 use Rattle.replies.specs.Pieces.{WrittenMap}
 use Rattle.ccbor.specs.Item.{Item}
 use Rattle.ccbor.specs.Canon.{head, before, Canon}
-use Rattle.ccbor.proofs.Decoding.{one_reading}
+use Rattle.ccbor.proofs.Decoding.{same_item}
 use Rattle.cbor_map.specs.Table.{record_of, Members, has_fault, gravest}
 use Rattle.cbor_map.specs.Content.{Contents, item_of}
 use Rattle.cbor_map.specs.Reading.{Fails, read_in}
@@ -20,9 +20,6 @@ use Rattle.ctap_status.specs.declared.error.Error.{Error}
 use Rattle.ctap_status.specs.declared.error.Error.TheVariants as errors
 use Rattle.replies.specs.Replies.{credential_content, reply_user_members, reply_user_content, Creation, creation_reply_members, creation_reply_content, creation_reply_item, Assertion, assertion_reply_members, assertion_reply_content, assertion_reply_item, next_reply_members, Info, info_members, info_content, ReplyMessage, creation_reply, assertion_reply, next_reply, info_reply, reset_reply, kind_of, MapReply, ReplyOf, IsReply, IsNoReply, ReplyRefused}
 use Rattle.replies.specs.declared.reply.Kind.TheVariants as kinds
-
-pub same_item : (v w : Item) (bs : List ℕ) → Canon v bs → Canon w bs → v ≡ w
-same_item v w bs a b = (one_reading v w bs bs [] [] a b refl).0
 
 -- ---- the tables' keys are in order
 

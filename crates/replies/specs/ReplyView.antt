@@ -21,8 +21,8 @@ assertion_reply_view r = record {
   number = r.number;
 }
 
-abbrev pub assertion_seen : AssertionView → Assertion
-assertion_seen r = record {
+abbrev pub lent_assertion_view : AssertionView → Assertion
+lent_assertion_view r = record {
   credential = r.credential.now;
   auth_data = r.auth_data.now;
   signature = r.signature.now;

@@ -6,7 +6,7 @@ ghost use Rattle.cbor_map.specs.Table.{a_text, some_bytes, truths, list_of, reco
 ghost use Rattle.cbor_map.specs.Reading.{Gives, Yields, read_in, named_truth};
 ghost use Rattle.cbor_map.specs.declared.fault.Fault.TheVariants as faults;
 ghost use Rattle.replies.specs.Replies.{credential_members, credential_content, reply_user_members, reply_user_content, creation_reply_members, creation_reply_content, assertion_reply_members, assertion_reply_content, info_members, info_content};
-ghost use Rattle.replies.specs.ReplyView.{creation_reply_view, assertion_seen, info_view};
+ghost use Rattle.replies.specs.ReplyView.{creation_reply_view, lent_assertion_view, info_view};
 
 use crate::reply::{AssertionView, CreationReply, InfoReply};
 use cbor_map::{
@@ -54,7 +54,7 @@ fn user<'a>(value: &View<'a>) -> Result<&'a [u8], Shape>
 /// A reply to getAssertion or getNextAssertion (CTAP 2.1, sections 6.2.2 and 6.3). Nothing is copied,
 /// and no memory is taken.
 pub fn assertion_reply<'a>(value: &View<'a>) -> Result<AssertionView<'a>, Shape>
-    ensures { Yields (λ r. assertion_reply_content (assertion_seen r)) result
+    ensures { Yields (λ r. assertion_reply_content (lent_assertion_view r)) result
         (read_in (record_of assertion_reply_members) (shown value.now)) }
 {
     let rest = members(value)?;

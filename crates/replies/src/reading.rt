@@ -5,7 +5,7 @@ ghost use Rattle.ccbor.specs.Item.{Item};
 ghost use Rattle.ccbor.specs.Canon.{Canon};
 ghost use Rattle.ccbor.specs.Viewing.{shown};
 ghost use Rattle.replies.specs.Replies.{Assertion, Creation, creation_reply, assertion_reply, next_reply, info_reply, IsReply, ReplyOf, ReplyRefused};
-ghost use Rattle.replies.specs.ReplyView.{creation_reply_view, assertion_reply_view, assertion_seen, info_view, reply_view};
+ghost use Rattle.replies.specs.ReplyView.{creation_reply_view, assertion_reply_view, lent_assertion_view, info_view, reply_view};
 ghost use Rattle.ctap_status.specs.declared.error.Error.TheVariants as errors;
 ghost use Rattle.replies.specs.declared.reply.Kind.{Kind};
 ghost use Rattle.replies.specs.declared.reply.Kind.TheVariants as kinds;
@@ -47,7 +47,7 @@ fn creation_reply_after(alloc: Global, rest: &[u8]) -> Result<CreationReply, Err
 /// The reply to getAssertion, behind status 0.
 fn assertion_after(rest: &[u8]) -> Result<AssertionView<'_>, Error>
     ensures found { IfOk result (λ r.
-        IsReply kinds.GetAssertion (assertion_reply (assertion_seen r)) (0 ∷ rest.now)) }
+        IsReply kinds.GetAssertion (assertion_reply (lent_assertion_view r)) (0 ∷ rest.now)) }
     ensures refused { IfErr result (λ e. ReplyRefused kinds.GetAssertion (0 ∷ rest.now) e) }
     ensures no_memory { IfErr result (λ e. e ≢ errors.Memory) }
 {
@@ -64,7 +64,7 @@ fn assertion_after(rest: &[u8]) -> Result<AssertionView<'_>, Error>
 /// The reply to getNextAssertion, behind status 0.
 fn next_after(rest: &[u8]) -> Result<AssertionView<'_>, Error>
     ensures found { IfOk result (λ r.
-        IsReply kinds.GetNextAssertion (next_reply (assertion_seen r)) (0 ∷ rest.now)) }
+        IsReply kinds.GetNextAssertion (next_reply (lent_assertion_view r)) (0 ∷ rest.now)) }
     ensures refused { IfErr result (λ e. ReplyRefused kinds.GetNextAssertion (0 ∷ rest.now) e) }
 {
     let value = match whole(rest) {
@@ -92,7 +92,7 @@ fn owned_user(alloc: Global, user: Option<&[u8]>) -> Result<Option<Vec<u8>>, All
 
 /// The reply, in memory of its own.
 fn owned(alloc: Global, reply: &AssertionView<'_>) -> Result<AssertionReply, AllocError>
-    ensures { IfOk result (λ r. assertion_reply_view r ≡ assertion_seen reply.now) }
+    ensures { IfOk result (λ r. assertion_reply_view r ≡ lent_assertion_view reply.now) }
 {
     Ok(AssertionReply {
         credential: Vec::from_slice(alloc, reply.credential)?,
@@ -175,7 +175,7 @@ fn behind_status(bytes: &[u8]) -> Result<&[u8], Error>
 /// Refused as [`read_reply`] refuses, but never for want of memory.
 pub fn read_assertion(bytes: &[u8]) -> Result<AssertionView<'_>, Error>
     ensures found { IfOk result (λ r.
-        IsReply kinds.GetAssertion (assertion_reply (assertion_seen r)) bytes.now) }
+        IsReply kinds.GetAssertion (assertion_reply (lent_assertion_view r)) bytes.now) }
     ensures refused { IfErr result (λ e. ReplyRefused kinds.GetAssertion bytes.now e) }
     ensures no_memory { IfErr result (λ e. e ≢ errors.Memory) }
     // So bytes that are refused are no such reply.

@@ -1,9 +1,10 @@
 -- What the bytes of a request say of it.
 use Rattle.std.proofs.Common.{◌≡◌, ◌≢◌, ℕ, List, [], ◌∷◌, map, Option, Some, None, option_map, refl, sym, ap, subst, ◌∙◌}
+use Rattle.std.proofs.lemmas.Option.{same_Some}
 use Rattle.ccbor.specs.Item as of
 use Rattle.ccbor.specs.Item.{Item, Pairs}
 use Rattle.ccbor.specs.Canon.{head, before, Canon}
-use Rattle.ccbor.proofs.Numbers.{some_is}
+use Rattle.ccbor.proofs.Decoding.{same_item}
 use Rattle.cbor_map.specs.Table.{record_of, gravest, any_map}
 use Rattle.cbor_map.specs.Content.{Contents, item_of}
 use Rattle.cbor_map.specs.Reading.{read_in}
@@ -14,7 +15,7 @@ use Rattle.requests.specs.Entities.{CredentialDescriptor, descriptor_members, de
 use Rattle.requests.specs.Requests.{RequestMessage, make_credential, get_assertion, get_next_assertion, get_info, reset, CreationRequest, creation_members, creation_content, creation_item, AssertionRequest, assertion_members, assertion_content, assertion_item, RequestOf}
 use Rattle.requests.specs.Pieces.{forget_creation, forget_assertion}
 use Rattle.requests.specs.Status.{IsRequest}
-use Rattle.requests.proofs.Ranks.{same_item, clean}
+use Rattle.requests.proofs.Ranks.{clean}
 
 -- ---- the tables' keys are in order
 
@@ -103,7 +104,7 @@ one_assertion q r x y e =
 
 -- what was read, before it was forgotten in part
 read_of : {A B : Type 0} (f : A → B) (o : Option A) (b : B) → option_map f o ≡ Some b → (a : A) × (o ≡ Some a) × (f a ≡ b)
-read_of f (Some a) b e = (a, refl, some_is (f a) b e)
+read_of f (Some a) b e = (a, refl, same_Some (f a) b e)
 read_of f None b e = absurd cc
 
 pub none_of : {A B : Type 0} (f : A → B) (o : Option A) → option_map f o ≡ None → o ≡ None

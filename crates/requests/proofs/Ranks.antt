@@ -1,12 +1,12 @@
 -- At most one rank applies, so the one that applies is the first.
 use Rattle.std.proofs.Common.{◌≡◌, ◌||◌, ℕ, Bool, true, false, List, [], ◌∷◌, take, Some, None, refl, sym, ap, ◌∙◌, ◌⊎◌, inl, inr, arith}
+use Rattle.std.proofs.lemmas.Option.{same_Some}
 use Rattle.std.proofs.lemmas.Bool.Decides.{nat_tests}
 use Rattle.first_line.specs.Lines.{Each, First}
 use Rattle.first_line.proofs.Laws.{first_at, first_behind, one_first}
 use Rattle.ccbor.specs.Item.{Item}
 use Rattle.ccbor.specs.Canon.{Canon}
-use Rattle.ccbor.proofs.Decoding.{one_reading}
-use Rattle.ccbor.proofs.Numbers.{some_is}
+use Rattle.ccbor.proofs.Decoding.{same_item}
 use Rattle.cbor_map.specs.Table.{gravest}
 use Rattle.cbor_map.specs.declared.fault.Fault as map_faults
 use Rattle.cbor_map.specs.declared.fault.Fault.TheVariants as faults
@@ -15,9 +15,6 @@ use Rattle.requests.specs.Pieces.{rank_of}
 use Rattle.requests.specs.Status.{Rank, unknown_command, bytes_behind, not_canonical, another_kind, unlisted_key, missing_member, invalid_size, over_limit, ranks, has_map, has_none, status_of, Fault, Applies, NoStatus, Refused}
 use Rattle.ctap_status.specs.declared.error.Error.{Error}
 use Rattle.ctap_status.specs.declared.error.Error.TheVariants as errors
-
-pub same_item : (v w : Item) (bs : List ℕ) → Canon v bs → Canon w bs → v ≡ w
-same_item v w bs a b = (one_reading v w bs bs [] [] a b refl).0
 
 -- a command has a map, or nothing, or is unknown
 with_map : (c : ℕ) → has_map c || has_none c ≡ false → has_map c ≡ true → ⊥
@@ -59,7 +56,7 @@ faulty f (c ∷ rest) a = (a.0, λ none. none.1 a.1 a.2)
 -- a map has one gravest fault
 one_fault : (f g : map_faults.Fault) (bs : List ℕ) → Fault f bs → Fault g bs → f ≡ g
 one_fault f g [] a b = absurd a
-one_fault f g (c ∷ rest) a b = some_is f g (sym a.3 ∙ ap (λ (i : Item). gravest (map_of c) i) (same_item a.1 b.1 rest a.2 b.2) ∙ b.3)
+one_fault f g (c ∷ rest) a b = same_Some f g (sym a.3 ∙ ap (λ (i : Item). gravest (map_of c) i) (same_item a.1 b.1 rest a.2 b.2) ∙ b.3)
 
 other : (f g : map_faults.Fault) (bs : List ℕ) → Fault f bs → (f ≡ g → ⊥) → Fault g bs → ⊥
 other f g bs a apart b = apart (one_fault f g bs a b)

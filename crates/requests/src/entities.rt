@@ -4,7 +4,7 @@ ghost use Rattle.std.specs.Prelude.{◌≡◌, map, option_map, string_bytes};
 ghost use Rattle.ccbor.specs.Viewing.{shown};
 ghost use Rattle.cbor_map.specs.Table.{record_of, list_of};
 ghost use Rattle.cbor_map.specs.Reading.{Gives, Yields, maybe, read_in};
-ghost use Rattle.ccbor.specs.Access.{text_in, bool_in};
+ghost use Rattle.ccbor.specs.Access.{text_in};
 ghost use Rattle.requests.specs.Entities.{descriptor_members, descriptor_content, rp_members, rp_content, user_members, user_content, parameters_members, parameters_content, creation_options_members, creation_options_content, assertion_options_members, assertion_options_content};
 ghost use Rattle.requests.specs.RequestView.{descriptor_view, rp_view, user_view, parameters_view, creation_options_view, assertion_options_view};
 
@@ -12,7 +12,8 @@ use crate::request::{
     AssertionOptions, CreationOptions, Descriptor, Parameters, RelyingParty, User,
 };
 use cbor_map::{
-    Error, Shape, bytes, end, items, members, number, optional, required, sized, text, truth,
+    Error, Shape, bytes, end, items, members, number, optional, required, sized, text,
+    truth_if_there,
 };
 use ccbor::{Key, View};
 use std::alloc::Global;
@@ -52,16 +53,6 @@ fn text_if_there(alloc: Global, held: Option<View<'_>>) -> Result<Option<String>
 {
     match held {
         Some(value) => Ok(Some(text(alloc, &value)?)),
-        None => Ok(None),
-    }
-}
-
-/// A truth value that may be absent.
-fn truth_if_there(held: Option<View<'_>>) -> Result<Option<bool>, Shape>
-    ensures { Yields (λ b. b) result (maybe bool_in (option_map shown held.entry)) }
-{
-    match held {
-        Some(value) => Ok(Some(truth(&value)?)),
         None => Ok(None),
     }
 }

@@ -27,7 +27,7 @@ fn text_if_there(alloc: Global, content: &Option<String>) -> Result<Option<Value
     }
 }
 
-fn truth_if_there(truth: Option<bool>) -> Option<Value>
+fn truth_value(truth: Option<bool>) -> Option<Value>
     ensures { option_map view result ≡ option_map boolean truth }
 {
     match truth {
@@ -136,29 +136,20 @@ pub fn parameter_list_value(alloc: Global, list: &[Parameters]) -> Result<Value,
     Ok(Value::Array(items))
 }
 
-fn creation_options_value(alloc: Global, options: &CreationOptions) -> Result<Value, AllocError>
+/// The value of options, each of which may be absent.
+fn options_value(
+    alloc: Global,
+    rk: Option<bool>,
+    up: Option<bool>,
+    uv: Option<bool>,
+) -> Result<Value, AllocError>
     ensures { IfOk result (λ v. view v
-        ≡ item_of (record_of creation_options_members) (creation_options_content (creation_options_view options.now))) }
+        ≡ item_of (record_of creation_options_members) (creation_options_content (record { rk = rk; up = up; uv = uv }))) }
 {
     let mut pairs = Vec::new(alloc);
-    push_if_there(
-        alloc,
-        &mut pairs,
-        Key::Text("rk"),
-        truth_if_there(options.rk),
-    )?;
-    push_if_there(
-        alloc,
-        &mut pairs,
-        Key::Text("up"),
-        truth_if_there(options.up),
-    )?;
-    push_if_there(
-        alloc,
-        &mut pairs,
-        Key::Text("uv"),
-        truth_if_there(options.uv),
-    )?;
+    push_if_there(alloc, &mut pairs, Key::Text("rk"), truth_value(rk))?;
+    push_if_there(alloc, &mut pairs, Key::Text("up"), truth_value(up))?;
+    push_if_there(alloc, &mut pairs, Key::Text("uv"), truth_value(uv))?;
     Ok(Value::Map(pairs))
 }
 
@@ -171,29 +162,12 @@ pub fn creation_options_if_there(
         ≡ option_map (item_of (record_of creation_options_members)) (option_map creation_options_content (option_map creation_options_view options.now))) }
 {
     match options {
-        Some(options) => Ok(Some(creation_options_value(alloc, options)?)),
+        Some(options) => {
+            let value = options_value(alloc, options.rk, options.up, options.uv)?;
+            Ok(Some(value))
+        }
         None => Ok(None),
     }
-}
-
-fn assertion_options_value(alloc: Global, options: &AssertionOptions) -> Result<Value, AllocError>
-    ensures { IfOk result (λ v. view v
-        ≡ item_of (record_of assertion_options_members) (assertion_options_content (assertion_options_view options.now))) }
-{
-    let mut pairs = Vec::new(alloc);
-    push_if_there(
-        alloc,
-        &mut pairs,
-        Key::Text("up"),
-        truth_if_there(options.up),
-    )?;
-    push_if_there(
-        alloc,
-        &mut pairs,
-        Key::Text("uv"),
-        truth_if_there(options.uv),
-    )?;
-    Ok(Value::Map(pairs))
 }
 
 /// The value of a getAssertion request's options, which may be absent.
@@ -205,7 +179,7 @@ pub fn assertion_options_if_there(
         ≡ option_map (item_of (record_of assertion_options_members)) (option_map assertion_options_content (option_map assertion_options_view options.now))) }
 {
     match options {
-        Some(options) => Ok(Some(assertion_options_value(alloc, options)?)),
+        Some(options) => Ok(Some(options_value(alloc, None, options.up, options.uv)?)),
         None => Ok(None),
     }
 }

@@ -1,9 +1,9 @@
 -- A credential and its map.
 use Rattle.std.proofs.Common.{◌≡◌, ◌≢◌, ◌<◌, ◌^◌, ℕ, List, Bool, true, false, Option, Some, None, option_map, is_some, nat_le, refl, sym, ap, ◌∙◌, arith}
+use Rattle.std.proofs.lemmas.Option.{same_Some}
 use Rattle.std.proofs.lemmas.Bool.Decides.{nat_tests}
 use Rattle.ccbor.specs.Item.{Item, uint, bytes, map, boolean, no_pairs, pair}
 use Rattle.ccbor.specs.Canon.{head, before}
-use Rattle.ccbor.proofs.Numbers.{some_is}
 use Rattle.cbor_map.specs.Table.{record_of}
 use Rattle.cbor_map.specs.Content.{Contents, optional}
 use Rattle.cbor_map.specs.Content.{item_of as value_of}
@@ -72,7 +72,7 @@ credential_from id user key n eligible retired = record { id = id; user = user; 
 -- credentials of one map are one
 pub one_credential : (c d : Credential) → IsKey c.key → IsKey d.key → credential_item c ≡ credential_item d → c ≡ d
 one_credential c d h g e =
-    let same : content_of c ≡ content_of d = some_is (content_of c) (content_of d) (sym (credential_read c) ∙ ap (read_in (record_of credential_members)) e ∙ credential_read d) in
+    let same : content_of c ≡ content_of d = same_Some (content_of c) (content_of d) (sym (credential_read c) ∙ ap (read_in (record_of credential_members)) e ∙ credential_read d) in
     let ids : c.id ≡ d.id = ap (λ (m : Contents credential_members). m.0) same in
     let users : c.user ≡ d.user = ap (λ (m : Contents credential_members). m.1.0) same in
     let items : key_item c.key ≡ key_item d.key = ap (λ (m : Contents credential_members). m.1.1.0) same in
@@ -118,7 +118,7 @@ module _ (version : ℕ) (x k : Item) (id user : List ℕ) (n : ℕ) (eligible r
 
   -- a credential that has the map has what was read of it
   pub same_content : (c : Credential) → x ≡ credential_item c → ◌≡◌ {A = Contents credential_members} (id, (user, (k, (n, (eligible, (retired, tt)))))) (content_of c)
-  same_content c is = some_is (id, (user, (k, (n, (eligible, (retired, tt)))))) (content_of c) (sym read ∙ ap (read_in (record_of credential_members)) is ∙ credential_read c)
+  same_content c is = same_Some (id, (user, (k, (n, (eligible, (retired, tt)))))) (content_of c) (sym read ∙ ap (read_in (record_of credential_members)) is ∙ credential_read c)
 
   pub no_key : ((l : CoseKey) → KeyOf l k → ⊥) → (c : Credential) → FitsVersion version c → x ≡ credential_item c → ⊥
   no_key none c fits is = none c.key (fits.key, ap (λ (m : Contents credential_members). m.1.1.0) (same_content c is))

@@ -6,21 +6,11 @@ use Rattle.ccbor.specs.Item.{Item, uint, bytes, map, boolean, no_pairs, pair}
 use Rattle.ccbor.specs.Canon.{head, before, count_of_items, Fits, ItemsFit}
 use Rattle.ccbor.specs.View.{items_of}
 use Rattle.cbor_map.specs.Content.{optional}
-use Rattle.cose.specs.declared.key.CoseKey.{CoseKey}
-use Rattle.cose.specs.declared.key.CoseKey.TheVariants as keys
-use Rattle.cose.specs.Keys.{IsKey, item_of as key_item}
+use Rattle.cose.specs.Keys.{item_of as key_item}
+use Rattle.cose.proofs.KeyLemmas.{key_fits}
 use Rattle.verification.specs.Records.{Credential}
 use Rattle.credentials.specs.Table.{IsRow, AreRows, IsTable}
 use Rattle.saved_table.specs.Saved.{Saved, FitsVersion, credential_item, table_item, true_if}
-
--- a key's map has no arrays or maps inside it
-key_fits : (k : CoseKey) → IsKey k → Fits 1 (key_item k)
-unfolding head before
-key_fits (keys.Es256 x y) h =
-    let a = h.0 in let b = h.1 in
-    (omega arith, (refl, refl, omega arith, omega arith, (refl, refl, omega arith, omega arith, (refl, refl, omega arith, omega arith, (refl, refl, omega arith, omega arith, (refl, refl, omega arith, omega arith, tt))))))
-key_fits (keys.EdDsa x) h =
-    (omega arith, (refl, refl, omega arith, omega arith, (refl, refl, omega arith, omega arith, (refl, refl, omega arith, omega arith, (refl, refl, omega arith, omega arith, tt)))))
 
 members_fit : (id user : List ℕ) (k : Item) (n : ℕ) (eligible : Option Bool) (retired : Bool) → length id ≤ 64 → length user ≤ 64 → Fits 1 k → n < 2 ^ 32
     → Fits 2 (map (pair (uint 1) (bytes id) (pair (uint 2) (bytes user) (pair (uint 3) k (pair (uint 4) (uint n) (optional (uint 5) (option_map boolean eligible) (optional (uint 6) (true_if retired) no_pairs)))))))

@@ -1,7 +1,7 @@
 -- The credentials' maps one behind the other, and the map round them.
 use Rattle.std.proofs.Common.{◌≡◌, ◌<◌, ℕ, List, [], ◌∷◌, ◌++◌, length, Some, None, Result, Err, refl, sym, ap, ◌∙◌, subst, arith}
 use Rattle.std.proofs.Common.{map as each}
-use Rattle.std.proofs.lemmas.Option.{cond_some}
+use Rattle.std.proofs.lemmas.Option.{cond_some, same_Some}
 use Rattle.std.proofs.lemmas.List.{length-append}
 use Rattle.first_line.specs.Lines.{Each}
 use Rattle.ccbor.specs.Item.{Item, Items, no_items, item, uint, text, array, map, Pairs, no_pairs, pair}
@@ -9,8 +9,8 @@ use Rattle.ccbor.specs.Access.{items_first, split_key, is_end, uint_in, text_in,
 use Rattle.ccbor.specs.Canon.{Canon}
 use Rattle.ccbor.specs.View.{items_of}
 use Rattle.ccbor.proofs.AccessLemmas.{split_key_takes, pairs_in_is, uint_in_is, text_in_is, items_in_is, end_is}
-use Rattle.ccbor.proofs.Decoding.{one_reading}
-use Rattle.ccbor.proofs.Numbers.{bind_some, some_is}
+use Rattle.ccbor.proofs.Decoding.{same_item}
+use Rattle.ccbor.proofs.Numbers.{bind_some}
 use Rattle.verification.specs.Records.{Credential}
 use Rattle.credentials.specs.Table.{row_of, IsRow, IsTable}
 use Rattle.credentials.proofs.RowLemmas.{front_absent}
@@ -37,7 +37,7 @@ in_front-one_more (d ∷ rows) c xs = ap (λ (l : Items). item (credential_item 
 pub first_item : (xs : Items) (x : Item) (rest : Items) → items_first xs ≡ Some (x, rest) → xs ≡ item x rest
 first_item no_items x rest e = absurd cc
 first_item (item y ys) x rest e =
-    let both = some_is (y, ys) (x, rest) e in
+    let both = same_Some (y, ys) (x, rest) e in
     ap (λ (p : Item × Items). item p.0 p.1) both
 
 pub no_item : (xs : Items) → items_first xs ≡ None → xs ≡ no_items
@@ -137,10 +137,10 @@ saved_from rp_id next rows = record { rp_id = rp_id; next = next; rows = rows }
 pub one_saved : (v w : ℕ) (s t : Saved) (bytes : List ℕ) → TableOf v s bytes → TableOf w t bytes → (v ≡ w) × (s ≡ t)
 unfolding saved_from
 one_saved v w s t bytes h g =
-    let items = (one_reading (table_item v s) (table_item w t) bytes bytes [] [] h.spelled g.spelled refl).0 in
+    let items = same_item (table_item v s) (table_item w t) bytes h.spelled g.spelled in
     let xs = items_of (each credential_item s.rows) in
     let ys = items_of (each credential_item t.rows) in
-    let same = some_is (v, s.rp_id, s.next, xs) (w, t.rp_id, t.next, ys) (sym (whole_read v s.rp_id s.next xs) ∙ ap table_in items ∙ whole_read w t.rp_id t.next ys) in
+    let same = same_Some (v, s.rp_id, s.next, xs) (w, t.rp_id, t.next, ys) (sym (whole_read v s.rp_id s.next xs) ∙ ap table_in items ∙ whole_read w t.rp_id t.next ys) in
     let versions : v ≡ w = ap (λ (y : ℕ × List ℕ × ℕ × Items). y.0) same in
     let rps : s.rp_id ≡ t.rp_id = ap (λ (y : ℕ × List ℕ × ℕ × Items). y.1) same in
     let nexts : s.next ≡ t.next = ap (λ (y : ℕ × List ℕ × ℕ × Items). y.2) same in
@@ -151,7 +151,7 @@ one_saved v w s t bytes h g =
 
 module _ (bytes : List ℕ) (x : Item) (canon : Canon x bytes) where
   same_value : (v : ℕ) (s : Saved) → TableOf v s bytes → x ≡ table_item v s
-  same_value v s h = (one_reading x (table_item v s) bytes bytes [] [] canon h.spelled refl).0
+  same_value v s h = same_item x (table_item v s) bytes canon h.spelled
 
   members_of : (v : ℕ) (s : Saved) → TableOf v s bytes → table_in x ≡ Some (v, s.rp_id, s.next, items_of (each credential_item s.rows))
   members_of v s h = ap table_in (same_value v s h) ∙ whole_read v s.rp_id s.next (items_of (each credential_item s.rows))
@@ -161,7 +161,7 @@ module _ (bytes : List ℕ) (x : Item) (canon : Canon x bytes) where
 
   module _ (rp_id : List ℕ) (found : ℕ × List ℕ × ℕ × Items) (read : table_in x ≡ Some found) where
     pub found_is : (v : ℕ) (s : Saved) → TableOf v s bytes → found ≡ (v, s.rp_id, s.next, items_of (each credential_item s.rows))
-    found_is v s h = some_is found (v, s.rp_id, s.next, items_of (each credential_item s.rows)) (sym read ∙ members_of v s h)
+    found_is v s h = same_Some found (v, s.rp_id, s.next, items_of (each credential_item s.rows)) (sym read ∙ members_of v s h)
 
     pub not_of : (IsOf rp_id found → ⊥) → (v : ℕ) (s : Saved) → s.rp_id ≡ rp_id → TableOf v s bytes → ⊥
     not_of none v s is h = none (rw (found_is v s h) (h.known.0, h.known.1, is, h.next))

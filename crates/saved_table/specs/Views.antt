@@ -10,5 +10,5 @@ use Rattle.saved_table.specs.declared.reading.TableMembers.{TableMembers}
 abbrev pub members_content : CredentialMembers → Contents credential_members
 members_content m = (m.id.now, (m.user.now, (shown m.key, (m.sign_count, (m.eligible, (m.retired, tt))))))
 
-abbrev pub table_members_of : TableMembers → ℕ × List ℕ × ℕ × Items
-table_members_of m = (m.version, m.rp_id.now, m.next, shown_items m.credentials)
+abbrev pub table_members_view : TableMembers → ℕ × List ℕ × ℕ × Items
+table_members_view m = (m.version, m.rp_id.now, m.next, shown_items m.credentials)

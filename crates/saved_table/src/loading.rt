@@ -8,7 +8,7 @@ ghost use Rattle.verification.specs.Records.{Credential};
 ghost use Rattle.credentials.specs.Table.{IsTable};
 ghost use Rattle.saved_table.specs.Saved.{Saved, FitsVersion, TableOf, credential_item};
 ghost use Rattle.saved_table.specs.Private.{IsOf};
-ghost use Rattle.saved_table.specs.Views.{table_members_of};
+ghost use Rattle.saved_table.specs.Views.{table_members_view};
 ghost use Rattle.saved_table.specs.declared.error.Error.TheVariants as errors;
 
 use crate::error::Error;
@@ -28,7 +28,7 @@ pub struct Loaded {
 
 /// Whether these members are of a version that is known, of this rp id, and of a session number that is one.
 fn is_of(found: &TableMembers<'_>, rp_id: &str) -> bool
-    ensures { IsTrue result ↔ IsOf rp_id.now (table_members_of found.now) }
+    ensures { IsTrue result ↔ IsOf rp_id.now (table_members_view found.now) }
 {
     1 <= found.version && found.version <= 3 && found.rp_id == rp_id && 1 <= found.next
 }

@@ -1,19 +1,18 @@
 //! Reading the members of a saved table's maps, where they lie.
 
 ghost use Rattle.std.specs.Prelude.{◌≡◌, ◌↔◌, IfOk, IsErrOf, IsTrue, option_map};
-ghost use Rattle.ccbor.specs.Access.{bool_in};
 ghost use Rattle.ccbor.specs.Viewing.{shown};
-ghost use Rattle.cbor_map.specs.Reading.{Yields, maybe, read_in};
+ghost use Rattle.cbor_map.specs.Reading.{Yields, read_in};
 ghost use Rattle.cbor_map.specs.Table.{record_of};
 ghost use Rattle.verification.specs.Records.{Credential};
-ghost use Rattle.credentials.specs.Views.{credential_of};
+ghost use Rattle.credentials.specs.Views.{row_view};
 ghost use Rattle.saved_table.specs.Saved.{FitsVersion, credential_item};
 ghost use Rattle.saved_table.specs.Private.{AreMarks, credential_members, table_in};
-ghost use Rattle.saved_table.specs.Views.{members_content, table_members_of};
+ghost use Rattle.saved_table.specs.Views.{members_content, table_members_view};
 ghost use Rattle.saved_table.specs.declared.error.Error.TheVariants as errors;
 
 use crate::error::Error;
-use cbor_map::{Shape, any_map, bytes, end, members, optional, required, truth, unsigned};
+use cbor_map::{Shape, any_map, bytes, end, members, optional, required, truth_if_there, unsigned};
 use ccbor::{ArrayView, Key, View};
 use cose::CoseKey;
 use credentials::Row;
@@ -42,7 +41,7 @@ struct CredentialMembers<'a> {
 /// The members of a table's map.
 #[tactic(auto, unfolding(crate::specs::Private::table_in))]
 pub fn table_members<'a>(value: &View<'a>) -> Option<TableMembers<'a>>
-    ensures { option_map table_members_of result ≡ table_in (shown value.now) }
+    ensures { option_map table_members_view result ≡ table_in (shown value.now) }
 {
     let rest = value.as_map()?;
     let (held, rest) = rest.split_key(Key::Uint(1))?;
@@ -62,16 +61,6 @@ pub fn table_members<'a>(value: &View<'a>) -> Option<TableMembers<'a>>
         next,
         credentials,
     })
-}
-
-/// A truth value that may be absent.
-fn truth_if_there(held: Option<View<'_>>) -> Result<Option<bool>, Shape>
-    ensures { Yields (λ b. b) result (maybe bool_in (option_map shown held.entry)) }
-{
-    match held {
-        Some(value) => Ok(Some(truth(&value)?)),
-        None => Ok(None),
-    }
 }
 
 /// The members of a credential's map.
@@ -114,8 +103,8 @@ fn are_marks(version: u64, eligible: Option<bool>, retired: Option<bool>) -> boo
 
 /// The credential that has this map in a table of this version, copied out.
 pub fn credential(alloc: Global, version: u64, value: &View<'_>) -> Result<Row, Error>
-    ensures read { IfOk result (λ row. FitsVersion version (credential_of row)
-        × (shown value.now ≡ credential_item (credential_of row))) }
+    ensures read { IfOk result (λ row. FitsVersion version (row_view row)
+        × (shown value.now ≡ credential_item (row_view row))) }
     // It is refused only if no credential has it.
     ensures none { IsErrOf result errors.BadTable
         → (c : Credential) → FitsVersion version c → shown value.now ≡ credential_item c → ⊥ }

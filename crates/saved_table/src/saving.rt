@@ -4,7 +4,7 @@ ghost use Rattle.std.specs.Prelude.{◌≡◌, ◌≤◌, map, IfOk, OnErr, OnOk
 ghost use Rattle.first_line.specs.Lines.{Each};
 ghost use Rattle.ccbor.specs.Item.{boolean};
 ghost use Rattle.ccbor.specs.View.{items_of, items_view, view};
-ghost use Rattle.verification.specs.Views.{credential_of as credential_shown};
+ghost use Rattle.verification.specs.Views.{credential_view};
 ghost use Rattle.credentials.specs.Table.{IsTable};
 ghost use Rattle.saved_table.specs.Saved.{AppendsTable, FitsVersion, credential_item, table_item, true_if};
 
@@ -40,8 +40,8 @@ fn retired_value(retired: bool) -> Option<Value>
 
 /// The value of a credential's map.
 fn credential_value(alloc: Global, row: &CredentialView<'_>) -> Result<Value, AllocError>
-    ensures fits { IfOk result (λ _. FitsVersion 3 (credential_shown row.now)) }
-    ensures value { IfOk result (λ v. view v ≡ credential_item (credential_shown row.now)) }
+    ensures fits { IfOk result (λ _. FitsVersion 3 (credential_view row.now)) }
+    ensures value { IfOk result (λ v. view v ≡ credential_item (credential_view row.now)) }
 {
     let id = bytes_value(alloc, row.id)?;
     let user = bytes_value(alloc, row.user)?;

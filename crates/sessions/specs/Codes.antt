@@ -9,10 +9,10 @@ use Rattle.cose.specs.contracts.key.Alg as alg
 use Rattle.verification.specs.Records.{SignIn, Registration}
 use Rattle.sessions.specs.Sessions.{Expected, ForSignIn, ForRegistration, Open}
 
-abbrev Bytes : Type 0
+abbrev pub Bytes : Type 0
 Bytes = List ℕ
 
-abbrev coded_bytes : Coded Bytes
+abbrev pub coded_bytes : Coded Bytes
 coded_bytes = coded_list coded_ℕ
 
 abbrev pub sign_in_code : Coded SignIn

@@ -5,9 +5,9 @@ ghost use Rattle.std.specs.FinMap as finite;
 ghost use Rattle.std.specs.List.{AllByRecursion};
 ghost use Rattle.std.specs.Option.{ForSome};
 ghost use Rattle.credentials.specs.Table.{IsWithin};
-ghost use Rattle.verification.specs.Views.{registration_of, sign_in_of};
+ghost use Rattle.verification.specs.Views.{registration_view, sign_in_view};
 ghost use Rattle.sessions.specs.Sessions.{AreLimits, Opening, OpensRegistration, OpensSignIn, IsInput, IsRefused, Passes, PassesAll, begun, challenge_of, closed, registration_at, sign_in_at};
-ghost use Rattle.sessions.specs.Views.{expected_by, expected_in};
+ghost use Rattle.sessions.specs.Views.{sessions_view, session_view};
 ghost use Rattle.sessions.specs.declared.error.Error.TheVariants as errors;
 
 use crate::error::Error;
@@ -46,17 +46,17 @@ impl Model for Sessions {
     ghost use Rattle.std.specs.Prelude.{◌≡◌, ℕ, length};
     ghost use Rattle.std.specs.FinMap as finite;
     ghost use Rattle.sessions.specs.Sessions.{AreLimits, Open};
-    ghost use Rattle.sessions.specs.Views.{expected_by};
+    ghost use Rattle.sessions.specs.Views.{sessions_view};
     ghost use Rattle.sessions.specs.Codes.{open_code};
 
     ghost Value = { Open };
 
     ghost coded = { open_code };
 
-    ghost view = { λ s. record { expected = expected_by s.by_number.entries; next = s.next } };
+    ghost view = { λ s. record { expected = sessions_view s.by_number.entries; next = s.next } };
 
-    ghost invariant = { λ s. (finite.len (expected_by s.by_number.entries) ≡ length s.by_number.entries)
-        × ((n : ℕ) → AreLimits (finite.get (expected_by s.by_number.entries) n)) };
+    ghost invariant = { λ s. (finite.len (sessions_view s.by_number.entries) ≡ length s.by_number.entries)
+        × ((n : ℕ) → AreLimits (finite.get (sessions_view s.by_number.entries) n)) };
 }
 
 /// The challenge of a session: its number in 8 big-endian bytes, then the words.
@@ -160,8 +160,8 @@ impl Sessions {
     /// Opens the next number, which is not the last.
     fn add(&mut self, session: Session) -> Result<(), Error>
         requires number { self.old.next < 2 ^ 64 - 1 }
-        requires limits { AreLimits (Some (expected_in session)) }
-        ensures opened { OnOk result (self.new ≡ record { expected = finite.insert self.old.expected self.old.next (expected_in session); next = self.old.next + 1 }) }
+        requires limits { AreLimits (Some (session_view session)) }
+        ensures opened { OnOk result (self.new ≡ record { expected = finite.insert self.old.expected self.old.next (session_view session); next = self.old.next + 1 }) }
         ensures unchanged { OnErr result (self.new ≡ self.old) }
         ensures memory { IfErr result (λ e. e ≡ errors.Memory) }
     {
@@ -236,7 +236,7 @@ impl Sessions {
 
     /// The session of a number.
     fn get(&self, session: u64) -> Option<&Session>
-        ensures expected { option_map (λ s. expected_in s.now) result ≡ finite.get self.now.expected session }
+        ensures expected { option_map (λ s. session_view s.now) result ≡ finite.get self.now.expected session }
         ensures limits { AreLimits (finite.get self.now.expected session) }
     {
         self.by_number.get(&session)
@@ -244,7 +244,7 @@ impl Sessions {
 
     /// What the session of a number expects, where it is open for sign-in.
     pub fn sign_in(&self, session: u64) -> Option<&SignInSession>
-        ensures { option_map (λ s. sign_in_of s.now) result ≡ sign_in_at session self.now }
+        ensures { option_map (λ s. sign_in_view s.now) result ≡ sign_in_at session self.now }
     {
         match self.get(session)? {
             Session::SignIn(expected) => Some(expected),
@@ -254,7 +254,7 @@ impl Sessions {
 
     /// What the session of a number expects, where it is open for registration.
     pub fn registration(&self, session: u64) -> Option<&RegistrationSession>
-        ensures expected { option_map (λ s. registration_of s.now) result ≡ registration_at session self.now }
+        ensures expected { option_map (λ s. registration_view s.now) result ≡ registration_at session self.now }
         ensures limits { ForSome (registration_at session self.now) (λ e. IsWithin 64 e.user) }
     {
         match self.get(session)? {

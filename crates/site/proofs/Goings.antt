@@ -160,6 +160,11 @@ sign_in_keeps valid s n r a passes is x there = record {
   retired = λ e. e;
 }
 
+accepts : (s : State) (rows : List Credential) (n : ℕ) → IsFresh s → IsSome (finite.get s.sessions.expected n) → GoesOn s (record s { rows = rows; sessions = closed n s.sessions })
+    → Keeps s (record s { rows = rows; sessions = closed n s.sessions }) × Takes s (record s { rows = rows; sessions = closed n s.sessions }) n
+accepts s rows n fresh was goes =
+    (record { numbered = numbered_closed s rows n; fresh = fresh_closed s rows n fresh; goes_on = goes }, record { was_open = was; gone = gone_now s rows n fresh was })
+
 signs_in : (valid : Relation) (s : State) (n : ℕ) (r : Assertion) (t : State) → IsFresh s → authentication.PassesAll valid (attempt_in s n r) → IsAfterSignIn s n r t → Keeps s t × Takes s t n
 signs_in valid s n r t fresh passes (a, is_auth, after) =
     let change = signed_in a.sign_count (is_set a.flags BE) in
@@ -170,9 +175,7 @@ signs_in valid s n r t fresh passes (a, is_auth, after) =
       gone = λ k h. gone_closed s rows n k h;
       rp = refl;
     } in
-    let here : Keeps s (record s { rows = rows; sessions = closed n s.sessions }) × Takes s (record s { rows = rows; sessions = closed n s.sessions }) n =
-    (record { numbered = numbered_closed s rows n; fresh = fresh_closed s rows n fresh; goes_on = goes }, record { was_open = was; gone = gone_now s rows n fresh was }) in
-    subst (λ x. Keeps s x × Takes s x n) (sym after) here
+    subst (λ x. Keeps s x × Takes s x n) (sym after) (accepts s rows n fresh was goes)
 
 registers : (s : State) (n : ℕ) (r : responses.Registration) (t : State) → IsFresh s → IsAfterRegistration s n r t → Keeps s t × Takes s t n
 registers s n r t fresh (e, o, a, c, open_for, attests, after) =
@@ -183,9 +186,7 @@ registers s n r t fresh (e, o, a, c, open_for, attests, after) =
       gone = λ k h. gone_closed s rows n k h;
       rp = refl;
     } in
-    let here : Keeps s (record s { rows = rows; sessions = closed n s.sessions }) × Takes s (record s { rows = rows; sessions = closed n s.sessions }) n =
-    (record { numbered = numbered_closed s rows n; fresh = fresh_closed s rows n fresh; goes_on = goes }, record { was_open = was; gone = gone_now s rows n fresh was }) in
-    subst (λ x. Keeps s x × Takes s x n) (sym after) here
+    subst (λ x. Keeps s x × Takes s x n) (sym after) (accepts s rows n fresh was goes)
 
 stores : (s : State) (n : ℕ) (r : Assertion) (t : State) (row : Credential) → IsAfterSignIn s n r t → row_of r.credential s.rows ≡ Some row
     → (a : AuthenticatorData) × AuthOf a r.auth_data × (row_of r.credential t.rows ≡ Some (signed_in a.sign_count (is_set a.flags BE) row))

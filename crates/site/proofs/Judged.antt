@@ -4,7 +4,7 @@ use Rattle.std.proofs.lemmas.Grind.{common_steps}
 use Rattle.std.proofs.lemmas.Bool.{cases_Bool}
 use Rattle.std.specs.Prelude.{Bool, true, false, not, Option, Some, None, IfSome, IsSome, IsTrue, is_some, option_map}
 use Rattle.first_line.specs.Lines.{Each, FirstFailing}
-use Rattle.first_line.proofs.Laws.{each_joined, first_behind}
+use Rattle.first_line.proofs.Laws.{each_joined, first_along, first_behind}
 use Rattle.authdata.specs.Layout.{AuthenticatorData, AttestedCredential, IsAttestedCredential, IsAuthenticatorData}
 use Rattle.authdata.specs.Responses.{Assertion}
 use Rattle.authdata.specs.Responses as responses
@@ -16,7 +16,6 @@ use Rattle.verification.specs.Authentication.{Attempt}
 use Rattle.verification.specs.Registration.{Enrolment, Passes, PassesAll, IsFirstFailing, response_steps, table_steps}
 use Rattle.verification.specs.declared.party.Policy.{Policy}
 use Rattle.verification.specs.declared.refusal.RegistrationRefusal.{RegistrationRefusal}
-use Rattle.verification.proofs.Steps.{first_along}
 use Rattle.credentials.specs.Table.{IsWithin, row_of, signed_in, with_row}
 use Rattle.sessions.specs.Sessions.{Open}
 use Rattle.site.specs.State.{State}
@@ -29,9 +28,6 @@ attempt_with rp r session credential = record { rp = rp; session = session; cred
 pub same_attempt : (rp : RelyingParty) (r : Assertion) (s t : Option SignIn) (c d : Option Credential) → s ≡ t → c ≡ d → attempt_with rp r s c ≡ attempt_with rp r t d
 same_attempt rp r s t c d sessions credentials =
     ap (λ x. attempt_with rp r x c) sessions ∙ ap (attempt_with rp r t) credentials
-
-pub some_row : (a b : Credential) → Some a ≡ Some b → a ≡ b
-some_row a b e = cc
 
 -- ---- registration
 

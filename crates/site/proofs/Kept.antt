@@ -1,15 +1,13 @@
 -- What a credential keeps.
 use Rattle.std.proofs.Common.{◌≡◌, ◌≤◌, ℕ, List, [], ◌∷◌, ◌++◌, Some, None, Bool, true, false, sym, ◌∙◌, ap, refl, subst, arith, inl, inr}
 use Rattle.std.proofs.lemmas.Bool.{cases_Bool}
+use Rattle.std.proofs.lemmas.Option.{same_Some}
 use Rattle.std.specs.Str.{bytes_eq}
 use Rattle.verification.specs.Records.{Credential}
 use Rattle.credentials.specs.Table.{row_of, with_row}
 use Rattle.credentials.proofs.RowLemmas.{behind, found_id, here, with_behind, with_here}
 use Rattle.std.specs.Cmp.Lexicographic.{bytes_decides}
 use Rattle.site.specs.Laws.{IsKept}
-
-some_row : (a b : Credential) → Some a ≡ Some b → a ≡ b
-some_row a b e = cc
 
 -- ids that differ from one do not equal what equals it
 not_both : (id k x : List ℕ) → bytes_eq id k ≡ false → bytes_eq id x ≡ true → bytes_eq k x ≡ false
@@ -56,7 +54,7 @@ row_changed id change [] row same e = let bad : None ≡ Some row = e in cc
 row_changed id change (r ∷ rs) row same e =
     elim (cases_Bool (bytes_eq id r.id)) [
       | inl first ↦
-          let is : r ≡ row = some_row r row (sym (here id r rs first) ∙ e) in
+          let is : r ≡ row = same_Some r row (sym (here id r rs first) ∙ e) in
           ap (row_of id) (with_here id change r rs first) ∙ here id (change r) rs (ap (bytes_eq id) (same r) ∙ first) ∙ ap (λ x. Some (change x)) is
       | inr there ↦
           ap (row_of id) (with_behind id change r rs there) ∙ behind id r (with_row id change rs) there ∙ row_changed id change rs row same (sym (behind id r rs there) ∙ e)

@@ -7,14 +7,8 @@ use Rattle.verification.specs.Records.{RelyingParty, Credential}
 use Rattle.verification.specs.declared.party.Policy.{Policy}
 use Rattle.verification.specs.contracts.party.Policy as policy
 use Rattle.sessions.specs.Sessions.{Open}
-use Rattle.sessions.specs.Codes.{open_code}
+use Rattle.sessions.specs.Codes.{Bytes, coded_bytes, open_code}
 use Rattle.site.specs.State.{State}
-
-abbrev Bytes : Type 0
-Bytes = List ℕ
-
-abbrev coded_bytes : Coded Bytes
-coded_bytes = coded_list coded_ℕ
 
 abbrev party_code : Coded RelyingParty
 party_code = code_by (Bytes × List Bytes) (coded× coded_bytes (coded_list coded_bytes)) (λ p. (p.rp_id, p.origins)) (λ p. record { rp_id = p.0; origins = p.1 }) (λ _. refl)

@@ -4,7 +4,7 @@ ghost use Rattle.std.specs.Prelude.{◌≡◌, IfErr, IfOk, OnErr, OnOk};
 ghost use Rattle.authdata.specs.Responses.{registration_view};
 ghost use Rattle.verification.specs.Registration.{PassesAll};
 ghost use Rattle.verification.specs.RegistrationAnswers.{IsRefused};
-ghost use Rattle.verification.specs.Views.{registration_response_of};
+ghost use Rattle.verification.specs.Views.{registration_parts_view};
 ghost use Rattle.site.specs.Answers.{IsRegistered};
 ghost use Rattle.site.specs.State.{IsAfterRegistration, enrolment_in};
 
@@ -25,7 +25,7 @@ pub struct Registered {
 
 /// The members of a response that is owned.
 fn parts(response: &RegistrationResponse) -> RegistrationParts<'_>
-    ensures { registration_response_of result ≡ registration_view response.now }
+    ensures { registration_parts_view result ≡ registration_view response.now }
 {
     RegistrationParts {
         object: &response.object,
@@ -46,11 +46,11 @@ impl Site {
         response: &RegistrationParts<'_>,
     ) -> Result<Registered, RegistrationError>
         // It is accepted only if it passes each step,
-        ensures accepted { IfOk result (λ x. PassesAll (V.valid verifier.now) (enrolment_in self.old session (registration_response_of response.now))
-            × IsRegistered (registration_response_of response.now) x) }
+        ensures accepted { IfOk result (λ x. PassesAll (V.valid verifier.now) (enrolment_in self.old session (registration_parts_view response.now))
+            × IsRegistered (registration_parts_view response.now) x) }
         // and refused at the first step that it does not pass.
-        ensures refused { IfErr result (IsRefused (V.valid verifier.now) (enrolment_in self.old session (registration_response_of response.now))) }
-        ensures after { OnOk result (IsAfterRegistration self.old session (registration_response_of response.now) self.new) }
+        ensures refused { IfErr result (IsRefused (V.valid verifier.now) (enrolment_in self.old session (registration_parts_view response.now))) }
+        ensures after { OnOk result (IsAfterRegistration self.old session (registration_parts_view response.now) self.new) }
         ensures unchanged { OnErr result (self.new ≡ self.old) }
     {
         let alloc = self.alloc;

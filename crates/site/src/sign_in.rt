@@ -4,7 +4,7 @@ ghost use Rattle.std.specs.Prelude.{◌≡◌, IfErr, IfOk, OnErr, OnOk, option_
 ghost use Rattle.authdata.specs.Responses.{assertion_view};
 ghost use Rattle.verification.specs.Answers.{IsRefused};
 ghost use Rattle.verification.specs.Authentication.{PassesAll};
-ghost use Rattle.verification.specs.Views.{assertion_of, credential_of};
+ghost use Rattle.verification.specs.Views.{assertion_parts_view, credential_view};
 ghost use Rattle.site.specs.Answers.{IsSignedIn};
 ghost use Rattle.site.specs.State.{IsAfterSignIn, attempt_in};
 
@@ -43,7 +43,7 @@ fn signed_in(
 
 /// The credential that was found.
 fn credential_in<'a>(found: &Option<(usize, CredentialView<'a>)>) -> Option<CredentialView<'a>>
-    ensures { option_map credential_of result ≡ option_map (λ x. credential_of x.1) found.now }
+    ensures { option_map credential_view result ≡ option_map (λ x. credential_view x.1) found.now }
 {
     match found {
         Some((_, credential)) => Some(*credential),
@@ -53,7 +53,7 @@ fn credential_in<'a>(found: &Option<(usize, CredentialView<'a>)>) -> Option<Cred
 
 /// The members of a response that is owned.
 fn parts(response: &AssertionResponse) -> AssertionParts<'_>
-    ensures { assertion_of result ≡ assertion_view response.now }
+    ensures { assertion_parts_view result ≡ assertion_view response.now }
 {
     AssertionParts {
         credential: &response.credential,
@@ -77,11 +77,11 @@ impl Site {
         response: &AssertionParts<'_>,
     ) -> Result<SignedIn, SignInError>
         // It is accepted only if it passes each step,
-        ensures accepted { IfOk result (λ x. PassesAll (V.valid verifier.now) (attempt_in self.old session (assertion_of response.now))
-            × IsSignedIn self.old (assertion_of response.now) x) }
+        ensures accepted { IfOk result (λ x. PassesAll (V.valid verifier.now) (attempt_in self.old session (assertion_parts_view response.now))
+            × IsSignedIn self.old (assertion_parts_view response.now) x) }
         // and refused at the first step that it does not pass.
-        ensures refused { IfErr result (IsRefused (V.valid verifier.now) (attempt_in self.old session (assertion_of response.now))) }
-        ensures after { OnOk result (IsAfterSignIn self.old session (assertion_of response.now) self.new) }
+        ensures refused { IfErr result (IsRefused (V.valid verifier.now) (attempt_in self.old session (assertion_parts_view response.now))) }
+        ensures after { OnOk result (IsAfterSignIn self.old session (assertion_parts_view response.now) self.new) }
         ensures unchanged { OnErr result (self.new ≡ self.old) }
     {
         let found = self.table.find(response.credential);

@@ -3,9 +3,9 @@
 ghost use Rattle.std.specs.Prelude.{◌≡◌, ◌≢◌, ◌↔◌, ◌≤◌, ◌<◌, [], IfErr, IfOk, IfSome, IsErrOf, IsSome, IsTrue, OnErr, OnOk, ℕ, false, is_some, length, map, option_map, true};
 ghost use Rattle.std.specs.FinMap as finite;
 ghost use Rattle.std.specs.Option.{ForSome};
-ghost use Rattle.verification.specs.Views.{credential_of as credential_shown, texts_of};
+ghost use Rattle.verification.specs.Views.{credential_view, texts_of};
 ghost use Rattle.credentials.specs.Table.{IsTable, retired, row_of, with_row};
-ghost use Rattle.credentials.specs.Views.{credentials_of, kept_of};
+ghost use Rattle.credentials.specs.Views.{rows_view, kept_view};
 ghost use Rattle.sessions.specs.Sessions.{IsRefused, OpensRegistration, OpensSignIn, PassesAll, begun, challenge_of, closed};
 ghost use Rattle.saved_table.specs.Saved.{AppendsTable, Saved, TableOf};
 ghost use Rattle.site.specs.State.{IsParty, none_open, saved_of};
@@ -121,9 +121,9 @@ impl Site {
         policy: Policy,
         rows: Vec<Row>,
     ) -> Result<Site, Error>
-        ensures made { IfOk result (λ s. s ≡ record { rp = record { rp_id = rp_id.now; origins = texts_of origins.now }; policy = policy; rows = credentials_of rows.items; sessions = none_open 1 }) }
+        ensures made { IfOk result (λ s. s ≡ record { rp = record { rp_id = rp_id.now; origins = texts_of origins.now }; policy = policy; rows = rows_view rows.items; sessions = none_open 1 }) }
         ensures input { IsErrOf result Error.BadInput ↔ ¬ IsParty (record { rp_id = rp_id.now; origins = texts_of origins.now }) }
-        ensures table { IsErrOf result Error.BadTable → IsTable (credentials_of rows.items) → ⊥ }
+        ensures table { IsErrOf result Error.BadTable → IsTable (rows_view rows.items) → ⊥ }
     {
         if !is_party(rp_id, origins) {
             return Err(Error::BadInput);
@@ -237,14 +237,14 @@ impl Site {
 
     /// The credential of an id, retired or not. It takes no memory.
     pub fn row(&self, id: &[u8]) -> Option<CredentialView<'_>>
-        ensures { option_map credential_shown result ≡ row_of id.now self.now.rows }
+        ensures { option_map credential_view result ≡ row_of id.now self.now.rows }
     {
         self.table.row(id)
     }
 
     /// The credentials in order of registration. It takes no memory.
     pub fn rows(&self) -> Rows<'_>
-        ensures { map (λ e. kept_of e.0.items e.1) result.0 ≡ self.now.rows }
+        ensures { map (λ e. kept_view e.0.items e.1) result.0 ≡ self.now.rows }
     {
         self.table.rows()
     }

@@ -1,297 +1,193 @@
 //! Saved tables: which are loaded, and what is saved of them then.
 
-use saved_table::{Error, Loaded, load, save};
-use std::alloc::{AllocError, Global};
+use crate::values::bytes_of;
+use saved_table::{Error, load, save};
+use std::alloc::Global;
 use std::test::Fail;
 
-/// A saved table in parts: what stands before the credentials' array, the array's head, and the credentials, each by
-/// what stands before the key, the key, and what stands behind it.
-type Parts = (
-    &'static [u8],
-    &'static [(&'static [u8], &'static [u8], &'static [u8])],
-    &'static [u8],
-);
+/// What is told, the bytes of a table, and how many credentials it has; none where it is no table.
+type Rows = &'static [(&'static str, &'static str, Option<usize>)];
 
-/// An EdDSA key of 32 bytes 11.
-const KEY: &[u8] =
-    b"\xa4\x01\x01\x03\x27\x20\x06\x21\x58\x20\x11\x11\x11\x11\x11\x11\x11\x11\x11\x11\x11\x11\x11\x11\x11\x11\x11\x11\x11\x11\x11\x11\x11\x11\x11\x11\x11\x11\x11\x11\x11\x11";
-
-const KEY_OF_31: &[u8] =
-    b"\xa4\x01\x01\x03\x27\x20\x06\x21\x58\x1f\x11\x11\x11\x11\x11\x11\x11\x11\x11\x11\x11\x11\x11\x11\x11\x11\x11\x11\x11\x11\x11\x11\x11\x11\x11\x11\x11\x11\x11\x11\x11";
-
-/// What is before a key: the head of a map of four members, the id 0a and the user handle 01.
-const FOUR: &[u8] = b"\xa4\x01\x41\x0a\x02\x41\x01\x03";
-
-const FIVE: &[u8] = b"\xa5\x01\x41\x0a\x02\x41\x01\x03";
-
-const SIX: &[u8] = b"\xa6\x01\x41\x0a\x02\x41\x01\x03";
-
-/// Before the array: the version, the rp id abc and the next session 2.
-const VERSION_1: &[u8] = b"\xa4\x01\x01\x02\x63abc\x03\x02\x04\x81";
-
-const VERSION_2: &[u8] = b"\xa4\x01\x02\x02\x63abc\x03\x02\x04\x81";
-
-const VERSION_3: &[u8] = b"\xa4\x01\x03\x02\x63abc\x03\x02\x04\x81";
-
-const TWO: &[u8] = b"\xa4\x01\x03\x02\x63abc\x03\x02\x04\x82";
-
-const ID_OF_64: &[u8] =
-    b"\xa4\x01\x58\x40aaaaaaaaaaaaaaaaaaaaaaaaaaaaaaaaaaaaaaaaaaaaaaaaaaaaaaaaaaaaaaaa\x02\x41\x01\x03";
-
-const ID_OF_65: &[u8] =
-    b"\xa4\x01\x58\x41aaaaaaaaaaaaaaaaaaaaaaaaaaaaaaaaaaaaaaaaaaaaaaaaaaaaaaaaaaaaaaaaa\x02\x41\x01\x03";
-
-const USER_OF_65: &[u8] =
-    b"\xa4\x01\x41\x0a\x02\x58\x41aaaaaaaaaaaaaaaaaaaaaaaaaaaaaaaaaaaaaaaaaaaaaaaaaaaaaaaaaaaaaaaaa\x03";
-
-/// What is told, a table, and how many credentials it has; none where it is no table.
-const TABLES: &[(&str, Parts, Option<usize>)] = &[
+/// Tables of each version.
+const TABLES: Rows = &[
     (
         "version 1",
-        (VERSION_1, &[(FOUR, KEY, b"\x04\x01")], b""),
+        "a40101026361626303020481a401410a02410103+K+0401",
         Some(1),
     ),
     (
         "version 2",
-        (VERSION_2, &[(FIVE, KEY, b"\x04\x01\x05\xf4")], b""),
+        "a40102026361626303020481a501410a02410103+K+040105f4",
         Some(1),
     ),
     (
         "version 3",
-        (VERSION_3, &[(SIX, KEY, b"\x04\x01\x05\xf4\x06\xf5")], b""),
+        "a40103026361626303020481a601410a02410103+K+040105f406f5",
         Some(1),
     ),
     (
         "version 3, retired alone",
-        (VERSION_3, &[(FIVE, KEY, b"\x04\x01\x06\xf5")], b""),
+        "a40103026361626303020481a501410a02410103+K+040106f5",
         Some(1),
     ),
-    (
-        "no credentials",
-        (b"\xa4\x01\x03\x02\x63abc\x03\x01\x04\x80", &[], b""),
-        Some(0),
-    ),
+    ("no credentials", "a40103026361626303010480", Some(0)),
     (
         "the longest id",
-        (VERSION_3, &[(ID_OF_64, KEY, b"\x04\x00")], b""),
+        "a40103026361626303020481a4015840+61*64+02410103+K+0400",
         Some(1),
     ),
     (
         "the greatest counter",
-        (VERSION_3, &[(FOUR, KEY, b"\x04\x1a\xff\xff\xff\xff")], b""),
+        "a40103026361626303020481a401410a02410103+K+041affffffff",
         Some(1),
     ),
     (
         "two",
-        (
-            TWO,
-            &[(FOUR, KEY, b"\x04\x00"), (ID_OF_64, KEY, b"\x04\x00")],
-            b"",
-        ),
+        "a40103026361626303020482a401410a02410103+K+0400a4015840+61*64+02410103+K+0400",
         Some(2),
     ),
-    ("no bytes", (b"", &[], b""), None),
+];
+
+/// No tables, for what is around the credentials.
+const OF_TABLES: Rows = &[
+    ("no bytes", "", None),
     (
         "version 0",
-        (
-            b"\xa4\x01\x00\x02\x63abc\x03\x02\x04\x81",
-            &[(FOUR, KEY, b"\x04\x01")],
-            b"",
-        ),
+        "a40100026361626303020481a401410a02410103+K+0401",
         None,
     ),
     (
         "version 4",
-        (
-            b"\xa4\x01\x04\x02\x63abc\x03\x02\x04\x81",
-            &[(FOUR, KEY, b"\x04\x01")],
-            b"",
-        ),
+        "a40104026361626303020481a401410a02410103+K+0401",
         None,
     ),
     (
         "another rp id",
-        (
-            b"\xa4\x01\x03\x02\x63abd\x03\x02\x04\x81",
-            &[(FOUR, KEY, b"\x04\x01")],
-            b"",
-        ),
+        "a40103026361626403020481a401410a02410103+K+0401",
         None,
     ),
     (
         "a longer rp id",
-        (
-            b"\xa4\x01\x03\x02\x64abcd\x03\x02\x04\x81",
-            &[(FOUR, KEY, b"\x04\x01")],
-            b"",
-        ),
+        "a4010302646162636403020481a401410a02410103+K+0401",
         None,
     ),
     (
         "an rp id in bytes",
-        (
-            b"\xa4\x01\x03\x02\x43abc\x03\x02\x04\x81",
-            &[(FOUR, KEY, b"\x04\x01")],
-            b"",
-        ),
+        "a40103024361626303020481a401410a02410103+K+0401",
         None,
     ),
     (
         "session 0",
-        (
-            b"\xa4\x01\x03\x02\x63abc\x03\x00\x04\x81",
-            &[(FOUR, KEY, b"\x04\x01")],
-            b"",
-        ),
+        "a40103026361626303000481a401410a02410103+K+0401",
         None,
     ),
     (
         "session -1",
-        (
-            b"\xa4\x01\x03\x02\x63abc\x03\x20\x04\x81",
-            &[(FOUR, KEY, b"\x04\x01")],
-            b"",
-        ),
+        "a40103026361626303200481a401410a02410103+K+0401",
         None,
     ),
     (
         "a longer number",
-        (
-            b"\xa4\x01\x03\x02\x63abc\x03\x18\x02\x04\x81",
-            &[(FOUR, KEY, b"\x04\x01")],
-            b"",
-        ),
+        "a4010302636162630318020481a401410a02410103+K+0401",
         None,
     ),
-    (
-        "no credentials' array",
-        (b"\xa3\x01\x03\x02\x63abc\x03\x02", &[], b""),
-        None,
-    ),
-    (
-        "a fifth member",
-        (b"\xa5\x01\x03\x02\x63abc\x03\x02\x04\x80\x05\x00", &[], b""),
-        None,
-    ),
+    ("no credentials' array", "a3010302636162630302", None),
+    ("a fifth member", "a501030263616263030204800500", None),
     (
         "a byte behind the map",
-        (VERSION_3, &[(FOUR, KEY, b"\x04\x01")], b"\x00"),
+        "a40103026361626303020481a401410a02410103+K+040100",
         None,
     ),
     (
         "a byte less",
-        (VERSION_3, &[(FOUR, KEY, b"\x04")], b""),
+        "a40103026361626303020481a401410a02410103+K+04",
         None,
     ),
     (
         "fewer credentials than told",
-        (TWO, &[(FOUR, KEY, b"\x04\x01")], b""),
-        None,
-    ),
-    (
-        "an id twice",
-        (
-            TWO,
-            &[(FOUR, KEY, b"\x04\x01"), (FIVE, KEY, b"\x04\x00\x06\xf5")],
-            b"",
-        ),
-        None,
-    ),
-    (
-        "no id",
-        (
-            VERSION_3,
-            &[(b"\xa4\x01\x40\x02\x41\x01\x03", KEY, b"\x04\x01")],
-            b"",
-        ),
-        None,
-    ),
-    (
-        "an id of 65 bytes",
-        (VERSION_3, &[(ID_OF_65, KEY, b"\x04\x01")], b""),
-        None,
-    ),
-    (
-        "no user",
-        (
-            VERSION_3,
-            &[(b"\xa4\x01\x41\x0a\x02\x40\x03", KEY, b"\x04\x01")],
-            b"",
-        ),
-        None,
-    ),
-    (
-        "a user of 65 bytes",
-        (VERSION_3, &[(USER_OF_65, KEY, b"\x04\x01")], b""),
-        None,
-    ),
-    (
-        "a key of 31 bytes",
-        (VERSION_3, &[(FOUR, KEY_OF_31, b"\x04\x01")], b""),
-        None,
-    ),
-    (
-        "a number for a key",
-        (VERSION_3, &[(FOUR, b"\x01", b"\x04\x01")], b""),
-        None,
-    ),
-    (
-        "a counter of 33 bits",
-        (
-            VERSION_3,
-            &[(FOUR, KEY, b"\x04\x1b\x00\x00\x00\x01\x00\x00\x00\x00")],
-            b"",
-        ),
-        None,
-    ),
-    (
-        "eligibility in version 1",
-        (VERSION_1, &[(FIVE, KEY, b"\x04\x01\x05\xf4")], b""),
-        None,
-    ),
-    (
-        "eligibility by a number",
-        (VERSION_3, &[(FIVE, KEY, b"\x04\x01\x05\x01")], b""),
-        None,
-    ),
-    (
-        "retired in version 1",
-        (VERSION_1, &[(FIVE, KEY, b"\x04\x01\x06\xf5")], b""),
-        None,
-    ),
-    (
-        "retired in version 2",
-        (VERSION_2, &[(FIVE, KEY, b"\x04\x01\x06\xf5")], b""),
-        None,
-    ),
-    (
-        "retired false",
-        (VERSION_3, &[(FIVE, KEY, b"\x04\x01\x06\xf4")], b""),
-        None,
-    ),
-    (
-        "a seventh member",
-        (VERSION_3, &[(FIVE, KEY, b"\x04\x01\x07\xf5")], b""),
+        "a40103026361626303020482a401410a02410103+K+0401",
         None,
     ),
 ];
 
-/// The bytes of the parts, one behind the other.
-fn joined(alloc: Global, parts: &Parts) -> Result<Vec<u8>, AllocError> {
-    let (head, credentials, behind) = parts;
-    let mut bytes = Vec::from_slice(alloc, head)?;
-    for (before_key, key, behind_key) in *credentials {
-        bytes.extend_from_slice(before_key)?;
-        bytes.extend_from_slice(key)?;
-        bytes.extend_from_slice(behind_key)?;
-    }
-    bytes.extend_from_slice(behind)?;
-    Ok(bytes)
-}
+/// No tables, for what is in a credential.
+const OF_CREDENTIALS: Rows = &[
+    (
+        "an id twice",
+        "a40103026361626303020482a401410a02410103+K+0401a501410a02410103+K+040006f5",
+        None,
+    ),
+    (
+        "no id",
+        "a40103026361626303020481a4014002410103+K+0401",
+        None,
+    ),
+    (
+        "an id of 65 bytes",
+        "a40103026361626303020481a4015841+61*65+02410103+K+0401",
+        None,
+    ),
+    (
+        "no user",
+        "a40103026361626303020481a401410a024003+K+0401",
+        None,
+    ),
+    (
+        "a user of 65 bytes",
+        "a40103026361626303020481a401410a025841+61*65+03+K+0401",
+        None,
+    ),
+    (
+        "a key of 31 bytes",
+        "a40103026361626303020481a401410a02410103a401010327200621581f+11*31+0401",
+        None,
+    ),
+    (
+        "a number for a key",
+        "a40103026361626303020481a401410a02410103010401",
+        None,
+    ),
+    (
+        "a counter of 33 bits",
+        "a40103026361626303020481a401410a02410103+K+041b0000000100000000",
+        None,
+    ),
+    (
+        "eligibility in version 1",
+        "a40101026361626303020481a501410a02410103+K+040105f4",
+        None,
+    ),
+    (
+        "eligibility by a number",
+        "a40103026361626303020481a501410a02410103+K+04010501",
+        None,
+    ),
+    (
+        "retired in version 1",
+        "a40101026361626303020481a501410a02410103+K+040106f5",
+        None,
+    ),
+    (
+        "retired in version 2",
+        "a40102026361626303020481a501410a02410103+K+040106f5",
+        None,
+    ),
+    (
+        "retired false",
+        "a40103026361626303020481a501410a02410103+K+040106f4",
+        None,
+    ),
+    (
+        "a seventh member",
+        "a40103026361626303020481a501410a02410103+K+040107f5",
+        None,
+    ),
+];
 
 /// How many credentials are loaded, none where the bytes are no table.
-fn count(loaded: Result<Loaded, Error>) -> Result<Option<usize>, Error> {
-    match loaded {
+fn count(alloc: Global, text: &str) -> Result<Option<usize>, Error> {
+    let bytes = bytes_of(alloc, text)?;
+    match load(alloc, &bytes, "abc") {
         Ok(loaded) => Ok(Some(loaded.table.len())),
         Err(Error::BadTable) => Ok(None),
         Err(Error::Memory) => Err(Error::Memory),
@@ -300,48 +196,43 @@ fn count(loaded: Result<Loaded, Error>) -> Result<Option<usize>, Error> {
 
 #[test]
 fn loads(rt: HostRuntime) -> Result<(), Fail> {
-    for (name, parts, wanted) in TABLES {
-        let bytes = joined(rt.alloc(), parts)?;
-        let found = count(load(rt.alloc(), &bytes, "abc"))?;
-        assert_eq!(rt; found, *wanted, "{name}");
+    for rows in [TABLES, OF_TABLES, OF_CREDENTIALS] {
+        for (name, text, wanted) in rows {
+            assert!(rt; count(rt.alloc(), text)? == *wanted, "{name}");
+        }
     }
     Ok(())
 }
 
-/// What is saved of what is loaded of these bytes.
-fn saved_again(alloc: Global, bytes: &[u8]) -> Result<Vec<u8>, Fail> {
-    let loaded = load(alloc, bytes, "abc")?;
-    if loaded.next == 0 {
-        return Err("no session number is 0".into());
-    }
+/// Whether this is saved of what is loaded of these bytes, and its next session's number is not 0.
+fn is_saved(alloc: Global, found: &str, wanted: &str) -> Result<bool, Error> {
+    let bytes = bytes_of(alloc, found)?;
+    let loaded = load(alloc, &bytes, "abc")?;
     let mut out = Vec::new(alloc);
     save("abc", loaded.next, &loaded.table, &mut out)?;
-    Ok(out)
+    Ok(loaded.next != 0 && out.as_slice() == bytes_of(alloc, wanted)?.as_slice())
 }
 
 /// What is loaded, and what is saved then, always of version 3.
-const SAVED: &[(Parts, Parts)] = &[
+const SAVED: &[(&str, &str)] = &[
     (
-        (VERSION_1, &[(FOUR, KEY, b"\x04\x01")], b""),
-        (VERSION_3, &[(FOUR, KEY, b"\x04\x01")], b""),
+        "a40101026361626303020481a401410a02410103+K+0401",
+        "a40103026361626303020481a401410a02410103+K+0401",
     ),
     (
-        (VERSION_2, &[(FIVE, KEY, b"\x04\x01\x05\xf5")], b""),
-        (VERSION_3, &[(FIVE, KEY, b"\x04\x01\x05\xf5")], b""),
+        "a40102026361626303020481a501410a02410103+K+040105f5",
+        "a40103026361626303020481a501410a02410103+K+040105f5",
     ),
     (
-        (VERSION_3, &[(SIX, KEY, b"\x04\x01\x05\xf4\x06\xf5")], b""),
-        (VERSION_3, &[(SIX, KEY, b"\x04\x01\x05\xf4\x06\xf5")], b""),
+        "a40103026361626303020481a601410a02410103+K+040105f406f5",
+        "a40103026361626303020481a601410a02410103+K+040105f406f5",
     ),
 ];
 
 #[test]
 fn saves(rt: HostRuntime) -> Result<(), Fail> {
     for (found, wanted) in SAVED {
-        let bytes = joined(rt.alloc(), found)?;
-        let wanted = joined(rt.alloc(), wanted)?;
-        let saved = saved_again(rt.alloc(), &bytes)?;
-        assert!(rt; saved.as_slice() == wanted.as_slice(), "{bytes:?}");
+        assert!(rt; is_saved(rt.alloc(), found, wanted)?, "{found}");
     }
     Ok(())
 }

@@ -1,6 +1,6 @@
 -- From lines and groups of steps to the steps of a registration.
 use Rattle.std.proofs.Common.{◌≡◌, ◌⊎◌, inl, inr, ℕ, List, [], ◌∷◌, ◌++◌, Some, None, refl, subst, sym, Bool, true, false, Contains, codes, ◌∙◌}
-use Rattle.first_line.proofs.Laws.{first_at, first_before, first_behind, each_joined}
+use Rattle.first_line.proofs.Laws.{each_joined, first_along, first_at, first_before, first_behind, first_image}
 use Rattle.first_line.specs.Lines.{Each, FirstFailing}
 use Rattle.clientdata.specs.declared.record.Kind.TheVariants.{Create}
 use Rattle.cose.specs.Keys.{alg_of}
@@ -24,7 +24,7 @@ use Rattle.verification.specs.declared.refusal.RegistrationError.TheVariants as 
 use Rattle.verification.specs.declared.refusal.RegistrationRefusal.{RegistrationRefusal}
 use Rattle.verification.specs.declared.refusal.RegistrationRefusal.TheVariants as step
 use Rattle.verification.specs.declared.registration.VerifiedRegistration.{VerifiedRegistration}
-use Rattle.verification.proofs.Steps.{first_along, first_image, of_some}
+use Rattle.verification.proofs.Steps.{of_some}
 
 -- ---- what bytes attest
 

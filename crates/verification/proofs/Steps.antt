@@ -1,7 +1,7 @@
 -- From lines and groups of steps to the steps of a sign-in.
-use Rattle.std.proofs.Common.{◌≡◌, ℕ, List, ◌++◌, Some, map, refl, subst, sym, false}
-use Rattle.first_line.proofs.Laws.{first_at, first_before, first_behind, each_joined}
-use Rattle.first_line.specs.Lines.{Each, FirstStop, here, later, FirstFailing}
+use Rattle.std.proofs.Common.{◌≡◌, ℕ, List, ◌++◌, Some, refl, subst, sym, false}
+use Rattle.first_line.proofs.Laws.{each_joined, first_along, first_at, first_before, first_behind, first_image}
+use Rattle.first_line.specs.Lines.{Each, FirstFailing}
 use Rattle.clientdata.specs.declared.record.Kind.TheVariants.{Get}
 use Rattle.std.specs.Prelude.{Option}
 use Rattle.std.specs.Option.{ForSome}
@@ -20,18 +20,6 @@ use Rattle.verification.specs.declared.refusal.SignInError.{SignInError}
 use Rattle.verification.specs.declared.refusal.SignInError.TheVariants as errors
 use Rattle.verification.specs.declared.refusal.SignInRefusal.{SignInRefusal}
 use Rattle.verification.specs.declared.refusal.SignInRefusal.TheVariants as step
-
--- the first of other lines that these stand for
-pub first_image : {L M : Type 0} {Passed : L → Type 0} {Stops : L → Type 0} {More : M → Type 0} {Ends : M → Type 0} (f : L → M) {lines : List L} {line : L}
-    → ((x : L) → Passed x → More (f x)) → ((x : L) → Stops x → Ends (f x)) → FirstStop Passed Stops lines line → FirstStop More Ends (map f lines) (f line)
-first_image f p s (here line more stops) = here (f line) (map f more) (s line stops)
-first_image f p s (later x more line passed first) = later (f x) (map f more) (f line) (p x passed) (first_image f p s first)
-
--- the first of the same lines, by what follows for each of them
-pub first_along : {L : Type 0} {Passed : L → Type 0} {Stops : L → Type 0} {More : L → Type 0} {Ends : L → Type 0} {lines : List L} {line : L}
-    → Each (λ x. (Passed x → More x) × (Stops x → Ends x)) lines → FirstStop Passed Stops lines line → FirstStop More Ends lines line
-first_along by (here line more stops) = here line more (by.0.1 stops)
-first_along by (later x more line passed first) = later x more line (by.0.0 passed) (first_along by.1 first)
 
 -- a line on client data is the step of its name
 line_passes : (x : Attempt) (e : SignIn) → x.session ≡ Some e → (l : ClientDataLine) → Says Get e.challenge x.rp x.response.client_data l → Passes never x (step_of l)

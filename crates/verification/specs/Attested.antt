@@ -2,12 +2,12 @@
 -- proved against these.
 use Rattle.std.specs.Prelude.{◌≡◌, Some}
 use Rattle.authdata.specs.Flags.{is_set, BE}
-use Rattle.authdata.specs.Layout.{AuthenticatorData, credential_view}
+use Rattle.authdata.specs.Layout.{AuthenticatorData, attested_view}
 use Rattle.verification.specs.declared.registration.Attestation.{Attestation}
 use Rattle.verification.specs.declared.registration.VerifiedRegistration.{VerifiedRegistration}
 
 abbrev pub data_of : Attestation → AuthenticatorData
-data_of x = record { rp_id_hash = x.rp_id_hash; flags = x.flags; sign_count = x.sign_count; attested = Some (credential_view x.credential) }
+data_of x = record { rp_id_hash = x.rp_id_hash; flags = x.flags; sign_count = x.sign_count; attested = Some (attested_view x.credential) }
 
 pub record IsOf (x : Attestation) (v : VerifiedRegistration) : Type 0 where
   pub id : v.id.items ≡ x.credential.id.items

@@ -18,22 +18,22 @@ use Rattle.verification.specs.Registration.{Enrolment}
 abbrev pub texts_of : List (Bor (List ℕ)) → List (List ℕ)
 texts_of texts = map (λ text. text.now) texts
 
-abbrev pub credential_of : CredentialView → Credential
-credential_of c = record { id = c.id.now; user = c.user.now; key = c.key.now; sign_count = c.sign_count; eligible = c.eligible; retired = c.retired }
+abbrev pub credential_view : CredentialView → Credential
+credential_view c = record { id = c.id.now; user = c.user.now; key = c.key.now; sign_count = c.sign_count; eligible = c.eligible; retired = c.retired }
 
-abbrev pub sign_in_of : SignInSession → SignIn
-sign_in_of s = record {
+abbrev pub sign_in_view : SignInSession → SignIn
+sign_in_view s = record {
   user = option_map (λ u. u.items) s.user;
   allow = map (λ id. id.items) s.allow.items;
   verified = s.verified;
   challenge = s.challenge;
 }
 
-abbrev pub registration_of : RegistrationSession → Registration
-registration_of s = record { user = s.user.items; algorithms = s.algorithms.items; verified = s.verified; challenge = s.challenge }
+abbrev pub registration_view : RegistrationSession → Registration
+registration_view s = record { user = s.user.items; algorithms = s.algorithms.items; verified = s.verified; challenge = s.challenge }
 
-abbrev pub assertion_of : AssertionParts → Assertion
-assertion_of p = record {
+abbrev pub assertion_parts_view : AssertionParts → Assertion
+assertion_parts_view p = record {
   credential = p.credential.now;
   user = option_map (λ u. u.now) p.user;
   auth_data = p.auth_data.now;
@@ -41,28 +41,28 @@ assertion_of p = record {
   client_data = p.client_data.now;
 }
 
-abbrev pub registration_response_of : RegistrationParts → responses.Registration
-registration_response_of p = record { object = p.object.now; client_data = p.client_data.now }
+abbrev pub registration_parts_view : RegistrationParts → responses.Registration
+registration_parts_view p = record { object = p.object.now; client_data = p.client_data.now }
 
-abbrev pub attempt_of : SignInAttempt → Attempt
-attempt_of x = record {
+abbrev pub attempt_view : SignInAttempt → Attempt
+attempt_view x = record {
   rp = x.party.now;
-  session = option_map (λ s. sign_in_of s.now) x.session;
-  credential = option_map credential_of x.credential;
-  response = assertion_of x.response;
+  session = option_map (λ s. sign_in_view s.now) x.session;
+  credential = option_map credential_view x.credential;
+  response = assertion_parts_view x.response;
 }
 
 -- the registration as it is judged, where these ids are registered and there is room or not
-abbrev pub enrolment_of : RegistrationAttempt → (List ℕ → Bool) → Bool → Enrolment
-enrolment_of x is_registered is_full = record {
+abbrev pub enrolment_view : RegistrationAttempt → (List ℕ → Bool) → Bool → Enrolment
+enrolment_view x is_registered is_full = record {
   rp = x.party.now;
   policy = x.policy;
-  session = option_map (λ s. registration_of s.now) x.session;
-  response = registration_response_of x.response;
+  session = option_map (λ s. registration_view s.now) x.session;
+  response = registration_parts_view x.response;
   is_registered = is_registered;
   is_full = is_full;
 }
 
 -- the same where nothing is registered: for steps that do not look at the table
 abbrev pub judged : RegistrationAttempt → Enrolment
-judged x = enrolment_of x (λ _. false) false
+judged x = enrolment_view x (λ _. false) false

@@ -5,11 +5,11 @@ ghost use Rattle.std.specs.Option.{ForSome};
 ghost use Rattle.sha2.specs.Sha256.{sha256};
 ghost use Rattle.first_line.specs.Lines.{Each, FirstFailing};
 ghost use Rattle.authdata.specs.Flags.{is_set, AT, BE};
-ghost use Rattle.authdata.specs.Layout.{AuthOf, AuthenticatorData, auth_shown};
+ghost use Rattle.authdata.specs.Layout.{AuthOf, AuthenticatorData, lent_auth_view};
 ghost use Rattle.verification.specs.Authentication.{AreUser, IsCounted, Passes, PassesAll};
 ghost use Rattle.verification.specs.Authentication.{credential_steps, client_data_steps, auth_data_steps, signature_steps};
 ghost use Rattle.verification.specs.Answers.{FailsIn, IsRefused, Tells, never, step_of};
-ghost use Rattle.verification.specs.Views.{attempt_of, credential_of, sign_in_of};
+ghost use Rattle.verification.specs.Views.{attempt_view, credential_view, sign_in_view};
 
 use crate::client_data::{ClientDataError, ClientDataLine, check_client_data};
 use crate::flag::is_verified_as;
@@ -113,7 +113,7 @@ fn is_eligible_as(known: Option<bool>, flags: u8) -> bool
 
 /// The authenticator data that the bytes are, which attest no credential.
 fn bare_data(bytes: &[u8]) -> Option<AuthView<'_>>
-    ensures found { IfSome result (λ a. AuthOf (auth_shown a) bytes.now × (is_set a.flags AT ≡ false)) }
+    ensures found { IfSome result (λ a. AuthOf (lent_auth_view a) bytes.now × (is_set a.flags AT ≡ false)) }
     ensures none { result ≡ None → (a : AuthenticatorData) → AuthOf a bytes.now → is_set a.flags AT ≡ false → ⊥ }
 {
     let Ok(data) = read_view(bytes) else {
@@ -128,10 +128,10 @@ fn bare_data(bytes: &[u8]) -> Option<AuthView<'_>>
 impl<'a> SignInAttempt<'a> {
     /// The session and the credential, where the steps on them are passed.
     fn expected(&self) -> Result<(&'a SignInSession, CredentialView<'a>), SignInRefusal>
-        ensures passes { OnOk result (Each (Passes never (attempt_of self.now)) credential_steps) }
-        ensures session { IfOk result (λ x. (attempt_of self.now).session ≡ Some (sign_in_of x.0.now)) }
-        ensures credential { IfOk result (λ x. (attempt_of self.now).credential ≡ Some (credential_of x.1)) }
-        ensures refused { IfErr result (FirstFailing (Passes never (attempt_of self.now)) credential_steps) }
+        ensures passes { OnOk result (Each (Passes never (attempt_view self.now)) credential_steps) }
+        ensures session { IfOk result (λ x. (attempt_view self.now).session ≡ Some (sign_in_view x.0.now)) }
+        ensures credential { IfOk result (λ x. (attempt_view self.now).credential ≡ Some (credential_view x.1)) }
+        ensures refused { IfErr result (FirstFailing (Passes never (attempt_view self.now)) credential_steps) }
     {
         let Some(session) = self.session else {
             return Err(SignInRefusal::SessionNotOpen);
@@ -153,9 +153,9 @@ impl<'a> SignInAttempt<'a> {
 
     /// Whether the steps on client data are passed, those of a session that is open.
     fn check_client_data(&self, alloc: Global, session: &SignInSession) -> Result<(), SignInError>
-        requires { (attempt_of self.now).session ≡ Some (sign_in_of session.now) }
-        ensures passes { OnOk result (Each (Passes never (attempt_of self.now)) client_data_steps) }
-        ensures refused { IfErr result (FailsIn never (attempt_of self.now) client_data_steps) }
+        requires { (attempt_view self.now).session ≡ Some (sign_in_view session.now) }
+        ensures passes { OnOk result (Each (Passes never (attempt_view self.now)) client_data_steps) }
+        ensures refused { IfErr result (FailsIn never (attempt_view self.now) client_data_steps) }
     {
         match check_client_data(
             alloc,
@@ -172,10 +172,10 @@ impl<'a> SignInAttempt<'a> {
 
     /// The authenticator data, where the steps on them are passed.
     fn auth_data(&self, session: &SignInSession) -> Result<AuthView<'a>, SignInRefusal>
-        requires { (attempt_of self.now).session ≡ Some (sign_in_of session.now) }
-        ensures passes { OnOk result (Each (Passes never (attempt_of self.now)) auth_data_steps) }
-        ensures found { IfOk result (λ a. AuthOf (auth_shown a) self.now.response.auth_data.now) }
-        ensures refused { IfErr result (FirstFailing (Passes never (attempt_of self.now)) auth_data_steps) }
+        requires { (attempt_view self.now).session ≡ Some (sign_in_view session.now) }
+        ensures passes { OnOk result (Each (Passes never (attempt_view self.now)) auth_data_steps) }
+        ensures found { IfOk result (λ a. AuthOf (lent_auth_view a) self.now.response.auth_data.now) }
+        ensures refused { IfErr result (FirstFailing (Passes never (attempt_view self.now)) auth_data_steps) }
     {
         let Some(data) = bare_data(self.response.auth_data) else {
             return Err(SignInRefusal::BadAuthenticatorData);
@@ -199,10 +199,10 @@ impl<'a> SignInAttempt<'a> {
         credential: &CredentialView<'_>,
         auth_data: &AuthView<'_>,
     ) -> Result<(), SignInRefusal>
-        requires credential { (attempt_of self.now).credential ≡ Some (credential_of credential.now) }
-        requires auth_data { AuthOf (auth_shown auth_data.now) self.now.response.auth_data.now }
-        ensures passes { OnOk result (Each (Passes (V.valid verifier.now) (attempt_of self.now)) signature_steps) }
-        ensures refused { IfErr result (FirstFailing (Passes (V.valid verifier.now) (attempt_of self.now)) signature_steps) }
+        requires credential { (attempt_view self.now).credential ≡ Some (credential_view credential.now) }
+        requires auth_data { AuthOf (lent_auth_view auth_data.now) self.now.response.auth_data.now }
+        ensures passes { OnOk result (Each (Passes (V.valid verifier.now) (attempt_view self.now)) signature_steps) }
+        ensures refused { IfErr result (FirstFailing (Passes (V.valid verifier.now) (attempt_view self.now)) signature_steps) }
     {
         if !is_signed(verifier, credential.key, &self.response) {
             return Err(SignInRefusal::BadSignature);
@@ -227,8 +227,8 @@ pub fn verify_assertion<V: Verifier>(
     verifier: &V,
     attempt: &SignInAttempt<'_>,
 ) -> Result<VerifiedAssertion, SignInError>
-    ensures accepted { IfOk result (λ x. PassesAll (V.valid verifier.now) (attempt_of attempt.now) × Tells (attempt_of attempt.now) x) }
-    ensures refused { IfErr result (IsRefused (V.valid verifier.now) (attempt_of attempt.now)) }
+    ensures accepted { IfOk result (λ x. PassesAll (V.valid verifier.now) (attempt_view attempt.now) × Tells (attempt_view attempt.now) x) }
+    ensures refused { IfErr result (IsRefused (V.valid verifier.now) (attempt_view attempt.now)) }
 {
     let (session, credential) = attempt.expected()?;
     attempt.check_client_data(alloc, session)?;

@@ -4,12 +4,12 @@ ghost use Rattle.std.specs.Prelude.{◌≡◌, ◌↔◌, Bool, Contains, IfErr,
 ghost use Rattle.first_line.specs.Lines.{Each, FirstFailing};
 ghost use Rattle.cose.specs.Keys.{alg_of};
 ghost use Rattle.authdata.specs.Objects.{ObjectOf, object_view};
-ghost use Rattle.authdata.specs.Layout.{AuthOf, auth_view, credential_view};
+ghost use Rattle.authdata.specs.Layout.{AuthOf, auth_view, attested_view};
 ghost use Rattle.verification.specs.Registration.{Attests, Enrolment, Passes, attestation_steps, auth_data_steps, client_data_steps, response_steps, table_steps};
 ghost use Rattle.verification.specs.RegistrationAnswers.{Accepts, AttestsNothing, FailsIn, IsNoData, IsRefused, Shows, ShowsNothing, Tells, step_of};
 ghost use Rattle.verification.specs.Answers.{never};
 ghost use Rattle.verification.specs.Attested.{IsOf, data_of};
-ghost use Rattle.verification.specs.Views.{enrolment_of, judged, registration_of, registration_response_of};
+ghost use Rattle.verification.specs.Views.{enrolment_view, judged, registration_view, registration_parts_view};
 
 use crate::client_data::{ClientDataError, ClientDataLine, check_client_data};
 use crate::flag::is_verified_as;
@@ -86,7 +86,7 @@ fn is_offered(algorithms: &[Alg], alg: Alg) -> bool
 
 /// Whether the session offered the key's algorithm.
 fn offers(session: &RegistrationSession, key: &CoseKey) -> bool
-    ensures { IsTrue result ↔ Contains (registration_of session.now).algorithms (alg_of key.now) }
+    ensures { IsTrue result ↔ Contains (registration_view session.now).algorithms (alg_of key.now) }
 {
     is_offered(&session.algorithms, key.alg())
 }
@@ -175,7 +175,7 @@ impl<'a> RegistrationAttempt<'a> {
     /// The session, where it is open and the steps on client data are passed.
     fn check_client_data(&self, alloc: Global) -> Result<&'a RegistrationSession, RegistrationError>
         ensures passes { OnOk result (Each (Passes never (judged self.now)) client_data_steps) }
-        ensures session { IfOk result (λ s. (judged self.now).session ≡ Some (registration_of s.now)) }
+        ensures session { IfOk result (λ s. (judged self.now).session ≡ Some (registration_view s.now)) }
         ensures refused { IfErr result (FailsIn never (judged self.now) client_data_steps) }
     {
         let Some(session) = self.session else {
@@ -200,9 +200,9 @@ impl<'a> RegistrationAttempt<'a> {
         alloc: Global,
         session: &RegistrationSession,
     ) -> Result<Attestation, RegistrationError>
-        requires { (judged self.now).session ≡ Some (registration_of session.now) }
+        requires { (judged self.now).session ≡ Some (registration_view session.now) }
         ensures passes { OnOk result (Each (Passes never (judged self.now)) auth_data_steps) }
-        ensures found { IfOk result (λ x. Attests (judged self.now).response (object_view x.object) (data_of x) (credential_view x.credential)) }
+        ensures found { IfOk result (λ x. Attests (judged self.now).response (object_view x.object) (data_of x) (attested_view x.credential)) }
         ensures refused { IfErr result (FailsIn never (judged self.now) auth_data_steps) }
     {
         let found = match attested_by(alloc, self.response.object) {
@@ -230,7 +230,7 @@ impl<'a> RegistrationAttempt<'a> {
         verifier: &V,
         found: &Attestation,
     ) -> Result<(), RegistrationRefusal>
-        requires { Attests (judged self.now).response (object_view found.now.object) (data_of found.now) (credential_view found.now.credential) }
+        requires { Attests (judged self.now).response (object_view found.now.object) (data_of found.now) (attested_view found.now.credential) }
         ensures passes { OnOk result (Each (Passes (V.valid verifier.now) (judged self.now)) attestation_steps) }
         ensures refused { IfErr result (FirstFailing (Passes (V.valid verifier.now) (judged self.now)) attestation_steps) }
     {
@@ -278,9 +278,9 @@ pub fn verify_registration<V: Verifier>(
 ) -> Result<VerifiedRegistration, RegistrationError>
     ensures accepted { IfOk result (λ v. Tells (judged attempt.now) v
         × ((is_registered : List ℕ → Bool) (is_full : Bool)
-        → Each (Passes (V.valid verifier.now) (enrolment_of attempt.now is_registered is_full)) response_steps)) }
+        → Each (Passes (V.valid verifier.now) (enrolment_view attempt.now is_registered is_full)) response_steps)) }
     ensures refused { IfErr result (λ e. (is_registered : List ℕ → Bool) (is_full : Bool)
-        → IsRefused (V.valid verifier.now) (enrolment_of attempt.now is_registered is_full) e) }
+        → IsRefused (V.valid verifier.now) (enrolment_view attempt.now is_registered is_full) e) }
 {
     let session = attempt.check_client_data(alloc)?;
     let found = attempt.attestation(alloc, session)?;

@@ -48,16 +48,6 @@ const EITHER: Policy = Policy {
     accept_self: true,
 };
 
-const NONE_ALONE: Policy = Policy {
-    accept_none: true,
-    accept_self: false,
-};
-
-const SELF_ALONE: Policy = Policy {
-    accept_none: false,
-    accept_self: true,
-};
-
 const ACCEPTED: Case = Case {
     open: true,
     algorithms: &[Alg::Es256, Alg::EdDsa],
@@ -179,281 +169,118 @@ fn accepts(rt: HostRuntime) -> Result<(), Fail> {
     Ok(())
 }
 
-/// What a registration is for, the registration, and the number of the step that refuses it, 0 for none.
-const CASES: &[(&str, Case, u8)] = &[
-    (
-        "no session",
-        Case {
-            open: false,
-            ..ACCEPTED
-        },
-        1,
-    ),
-    (
-        "client data without members",
-        Case {
-            client_data: b"{}",
-            ..ACCEPTED
-        },
-        2,
-    ),
-    (
-        "client data of a sign-in",
-        Case {
-            client_data: SIGN_IN,
-            ..ACCEPTED
-        },
-        3,
-    ),
-    (
-        "another challenge",
-        Case {
-            client_data: REGISTRATION_OF_ANOTHER_CHALLENGE,
-            ..ACCEPTED
-        },
-        4,
-    ),
-    (
-        "another origin",
-        Case {
-            client_data: REGISTRATION_OF_ANOTHER_ORIGIN,
-            ..ACCEPTED
-        },
-        5,
-    ),
-    (
-        "token binding",
-        Case {
-            client_data: BOUND_REGISTRATION,
-            ..ACCEPTED
-        },
-        6,
-    ),
-    (
-        "a byte behind the object",
-        Case {
-            behind: &[0],
-            ..ACCEPTED
-        },
-        7,
-    ),
-    (
-        "backed up and not eligible for it",
-        Case {
-            flags: UP | UV | BS | AT,
-            ..ACCEPTED
-        },
-        7,
-    ),
-    (
-        "no credential attested",
-        Case {
-            flags: UP | UV,
-            ..ACCEPTED
-        },
-        7,
-    ),
-    (
-        "another relying party",
-        Case {
-            rp_id: "def",
-            ..ACCEPTED
-        },
-        8,
-    ),
-    (
-        "user not present",
-        Case {
-            flags: UV | AT,
-            ..ACCEPTED
-        },
-        9,
-    ),
-    (
-        "user not verified",
-        Case {
-            flags: UP | AT,
-            ..ACCEPTED
-        },
-        10,
-    ),
-    (
-        "verification not required",
-        Case {
-            verified: false,
-            flags: UP | AT,
-            ..ACCEPTED
-        },
-        0,
-    ),
-    (
-        "another algorithm offered",
-        Case {
-            algorithms: &[Alg::Es256],
-            ..ACCEPTED
-        },
-        11,
-    ),
-    (
-        "another format",
-        Case {
-            format: b"\x68fido-u2f",
-            ..ACCEPTED
-        },
-        12,
-    ),
-    (
-        "members of a statement of format none",
-        Case {
-            format: b"\x64none",
-            ..PACKED
-        },
-        13,
-    ),
-    (
-        "a packed statement without members",
-        Case {
-            format: b"\x66packed",
-            ..ACCEPTED
-        },
-        13,
-    ),
-    (
-        "another key's signature",
-        Case {
-            statement: Statement::Signed([8; 32]),
-            ..PACKED
-        },
-        13,
-    ),
-    (
-        "none not accepted",
-        Case {
-            policy: SELF_ALONE,
-            ..ACCEPTED
-        },
-        14,
-    ),
-    (
-        "self attestation not accepted",
-        Case {
-            policy: NONE_ALONE,
-            ..PACKED
-        },
-        14,
-    ),
-    (
-        "none alone accepted",
-        Case {
-            policy: NONE_ALONE,
-            ..ACCEPTED
-        },
-        0,
-    ),
-    (
-        "self attestation alone accepted",
-        Case {
-            policy: SELF_ALONE,
-            ..PACKED
-        },
-        0,
-    ),
-];
-
-/// What is wrong, twice, the registration, and the number of the first step that refuses it.
-const PAIRS: &[(&str, Case, u8)] = &[
-    (
-        "session, client data",
-        Case {
-            open: false,
-            client_data: b"",
-            ..ACCEPTED
-        },
-        1,
-    ),
-    (
-        "client data, object",
-        Case {
-            client_data: b"",
-            behind: &[0],
-            ..ACCEPTED
-        },
-        2,
-    ),
-    (
-        "token binding, object",
-        Case {
-            client_data: BOUND_REGISTRATION,
-            behind: &[0],
-            ..ACCEPTED
-        },
-        6,
-    ),
-    (
-        "object, relying party",
-        Case {
-            behind: &[0],
-            rp_id: "def",
-            ..ACCEPTED
-        },
-        7,
-    ),
-    (
-        "relying party, presence",
-        Case {
-            rp_id: "def",
-            flags: UV | AT,
-            ..ACCEPTED
-        },
-        8,
-    ),
-    (
-        "presence, verification",
-        Case {
-            flags: AT,
-            ..ACCEPTED
-        },
-        9,
-    ),
-    (
-        "verification, algorithm",
-        Case {
-            flags: UP | AT,
-            algorithms: &[],
-            ..ACCEPTED
-        },
-        10,
-    ),
-    (
-        "algorithm, format",
-        Case {
-            algorithms: &[],
-            format: b"\x60",
-            ..ACCEPTED
-        },
-        11,
-    ),
-    (
-        "statement, policy",
-        Case {
-            statement: Statement::Empty,
-            policy: NONE_ALONE,
-            ..PACKED
-        },
-        13,
-    ),
-];
-
-#[test]
-fn refusals(rt: HostRuntime) {
-    for (name, case, wanted) in CASES {
-        assert_eq!(rt; number(rt.alloc(), case), Some(*wanted), "{name}");
+/// The client data of a word.
+fn client_data(word: &str) -> Option<&'static [u8]> {
+    match word {
+        "no-client-data" => Some(b""),
+        "no-members" => Some(b"{}"),
+        "sign-in" => Some(SIGN_IN),
+        "another-challenge" => Some(REGISTRATION_OF_ANOTHER_CHALLENGE),
+        "another-origin" => Some(REGISTRATION_OF_ANOTHER_ORIGIN),
+        "token-binding" => Some(BOUND_REGISTRATION),
+        _ => None,
     }
 }
 
-#[test]
-fn first_refusals(rt: HostRuntime) {
-    for (name, case, wanted) in PAIRS {
-        assert_eq!(rt; number(rt.alloc(), case), Some(*wanted), "{name}");
+/// Changes the object as a word says: false where it says nothing of it.
+fn change_object(case: &mut Case, word: &str) -> bool {
+    match word {
+        "byte-behind" => case.behind = &[0],
+        "backed-up-alone" => case.flags = UP | UV | BS | AT,
+        "not-attested" => case.flags = UP | UV,
+        "another-rp" => case.rp_id = "def",
+        "not-present" => case.flags &= !UP,
+        "not-verified" => case.flags &= !UV,
+        "u2f" => case.format = b"\x68fido-u2f",
+        "no-format" => case.format = b"\x60",
+        "packed" => case.format = b"\x66packed",
+        "signed" => case.statement = Statement::Signed(SECRET),
+        "signed-by-another" => case.statement = Statement::Signed([8; 32]),
+        _ => return false,
     }
+    true
+}
+
+/// Changes what is expected as a word says: false where it says nothing of it.
+fn change_session(case: &mut Case, word: &str) -> bool {
+    match word {
+        "no-session" => case.open = false,
+        "verification-not-required" => case.verified = false,
+        "es256-offered" => case.algorithms = &[Alg::Es256],
+        "none-offered" => case.algorithms = &[],
+        "self-alone" => case.policy.accept_none = false,
+        "none-alone" => case.policy.accept_self = false,
+        _ => return false,
+    }
+    true
+}
+
+/// The registration that is accepted, with what the words change; none where a word says nothing.
+fn changed(words: &str) -> Option<Case> {
+    let mut case = ACCEPTED;
+    for word in words.split_whitespace() {
+        if let Some(client_data) = client_data(word) {
+            case.client_data = client_data;
+        } else if !change_object(&mut case, word) && !change_session(&mut case, word) {
+            return None;
+        }
+    }
+    Some(case)
+}
+
+/// What is changed, and the number of the step that refuses it, 0 for none.
+type Rows = &'static [(&'static str, u8)];
+
+/// Of the session, the client data and the authenticator data.
+const FIRST: Rows = &[
+    ("no-session", 1),
+    ("no-members", 2),
+    ("sign-in", 3),
+    ("another-challenge", 4),
+    ("another-origin", 5),
+    ("token-binding", 6),
+    ("byte-behind", 7),
+    ("backed-up-alone", 7),
+    ("not-attested", 7),
+    ("another-rp", 8),
+    ("not-present", 9),
+    ("not-verified", 10),
+    ("verification-not-required not-verified", 0),
+];
+
+/// Of the algorithm and the statement.
+const LAST: Rows = &[
+    ("es256-offered", 11),
+    ("u2f", 12),
+    ("signed", 13),
+    ("packed", 13),
+    ("packed signed-by-another", 13),
+    ("self-alone", 14),
+    ("packed signed none-alone", 14),
+    ("none-alone", 0),
+    ("packed signed self-alone", 0),
+];
+
+/// Two at once, of which the first is told.
+const PAIRS: Rows = &[
+    ("no-session no-client-data", 1),
+    ("no-client-data byte-behind", 2),
+    ("token-binding byte-behind", 6),
+    ("byte-behind another-rp", 7),
+    ("another-rp not-present", 8),
+    ("not-present not-verified", 9),
+    ("not-verified none-offered", 10),
+    ("none-offered no-format", 11),
+    ("packed none-alone", 13),
+];
+
+#[test]
+fn refusals(rt: HostRuntime) -> Result<(), Fail> {
+    for rows in [FIRST, LAST, PAIRS] {
+        for (words, wanted) in rows {
+            let case = changed(words).ok_or("a word that says nothing")?;
+            assert!(rt; number(rt.alloc(), &case) == Some(*wanted), "{words}");
+        }
+    }
+    Ok(())
 }

@@ -24,17 +24,22 @@ fn row(alloc: Global, id: &[u8], user: &[u8]) -> Result<Row, AllocError> {
     })
 }
 
-/// The table of these credentials, none for want of memory.
-fn table(alloc: Global, stored: &[Stored]) -> Result<Option<Table>, AllocError> {
-    let mut rows = Vec::new(alloc);
-    for (id, user) in stored {
-        rows.push(row(alloc, id, user)?)?;
-    }
+/// The table of these rows, none where they are no table.
+fn table_of(alloc: Global, rows: Vec<Row>) -> Result<Option<Table>, AllocError> {
     match Table::from_rows(alloc, rows) {
         Ok(table) => Ok(Some(table)),
         Err(Error::BadTable) => Ok(None),
         Err(Error::Memory) => Err(AllocError),
     }
+}
+
+/// The table of these credentials, none where they are no table.
+fn table(alloc: Global, stored: &[Stored]) -> Result<Option<Table>, AllocError> {
+    let mut rows = Vec::new(alloc);
+    for (id, user) in stored {
+        rows.push(row(alloc, id, user)?)?;
+    }
+    table_of(alloc, rows)
 }
 
 /// What a table is for, its credentials, and whether there is one.
@@ -58,14 +63,18 @@ const TABLES: &[(&str, &[Stored], bool)] = &[
     ),
 ];
 
+/// Whether there is a table of these credentials, with as many.
+fn is_made(alloc: Global, stored: &[Stored]) -> Result<bool, AllocError> {
+    match table(alloc, stored)? {
+        Some(table) => Ok(table.len() == stored.len()),
+        None => Ok(false),
+    }
+}
+
 #[test]
 fn made(rt: HostRuntime) -> Result<(), Fail> {
     for (name, stored, wanted) in TABLES {
-        let found = match table(rt.alloc(), stored)? {
-            Some(table) => table.len() == stored.len(),
-            None => false,
-        };
-        assert_eq!(rt; found, *wanted, "{name}");
+        assert!(rt; is_made(rt.alloc(), stored)? == *wanted, "{name}");
     }
     Ok(())
 }
@@ -88,42 +97,53 @@ fn in_order(table: &Table) -> bool {
     rows.next().is_none()
 }
 
-#[test]
-fn shown(rt: HostRuntime) -> Result<(), Fail> {
-    let table = table(rt.alloc(), THREE)?.ok_or("a table")?;
-    assert!(rt; in_order(&table));
-    let (place, row) = table.find(&[9]).ok_or("a credential")?;
-    assert_eq!(rt; place, 2);
-    assert_eq!(rt; row.user, [3u8].as_slice());
-    assert!(rt; table.row(&[12]).is_none() && table.row(&[]).is_none());
-    assert!(rt; table.has(&[11]) && !table.has(&[11, 0]));
-    assert!(rt; !table.is_full());
-    Ok(())
+/// Whether the credentials are shown in their order, and found by their ids.
+fn is_shown(table: &Table) -> bool {
+    let Some((place, row)) = table.find(&[9]) else {
+        return false;
+    };
+    place == 2
+        && row.user == [3u8].as_slice()
+        && in_order(table)
+        && table.row(&[12]).is_none()
+        && table.row(&[]).is_none()
+        && table.has(&[11])
+        && !table.has(&[11, 0])
+        && !table.is_full()
 }
 
-#[test]
-fn stored(rt: HostRuntime) -> Result<(), Fail> {
-    let mut table = table(rt.alloc(), THREE)?.ok_or("a table")?;
+/// Whether the credential of this id has this counter and mark, and is retired or not.
+fn has(table: &Table, id: &[u8], sign_count: u32, eligible: Option<bool>, retired: bool) -> bool {
+    let Some(row) = table.row(id) else {
+        return false;
+    };
+    row.sign_count == sign_count && row.eligible == eligible && row.retired == retired
+}
+
+/// Whether a credential is retired once, and stays in its place.
+fn is_retired(table: &mut Table) -> bool {
+    table.retire(&[10])
+        && !table.retire(&[10])
+        && !table.retire(&[12])
+        && has(table, &[10], 5, None, true)
+        && has(table, &[11], 5, None, false)
+        && in_order(table)
+}
+
+/// Whether a counter and a mark are stored in their place, and nothing where there is no such place.
+fn is_stored(table: &mut Table) -> bool {
     table.store(1, 6, true);
-    let row = table.row(&[11]).ok_or("a credential")?;
-    assert!(rt; row.sign_count == 6 && row.eligible == Some(true) && !row.retired);
-    let row = table.row(&[10]).ok_or("a credential")?;
-    assert!(rt; row.sign_count == 5 && row.eligible.is_none());
     table.store(3, 7, true);
-    assert_eq!(rt; table.len(), 3);
-    Ok(())
+    has(table, &[11], 6, Some(true), false)
+        && has(table, &[10], 5, None, true)
+        && has(table, &[9], 5, None, false)
+        && table.len() == 3
 }
 
 #[test]
-fn retired(rt: HostRuntime) -> Result<(), Fail> {
+fn kept(rt: HostRuntime) -> Result<(), Fail> {
     let mut table = table(rt.alloc(), THREE)?.ok_or("a table")?;
-    assert!(rt; table.retire(&[11]));
-    assert!(rt; !table.retire(&[11]) && !table.retire(&[12]));
-    let row = table.row(&[11]).ok_or("a credential")?;
-    assert!(rt; row.retired && row.sign_count == 5);
-    let row = table.row(&[10]).ok_or("a credential")?;
-    assert!(rt; !row.retired);
-    assert!(rt; in_order(&table));
+    assert!(rt; is_shown(&table) && is_retired(&mut table) && is_stored(&mut table));
     Ok(())
 }
 
@@ -136,24 +156,24 @@ fn numbered(alloc: Global, count: u32) -> Result<Vec<Row>, AllocError> {
     Ok(rows)
 }
 
-#[test]
-fn largest(rt: HostRuntime) -> Result<(), Fail> {
-    let rows = numbered(rt.alloc(), 65_536)?;
-    let table = Table::from_rows(rt.alloc(), rows)?;
-    assert!(rt; table.is_full());
-    let (first, _) = table.find(&[0, 0, 0, 0]).ok_or("the first")?;
-    let (last, _) = table.find(&[0, 0, 255, 255]).ok_or("the last")?;
-    assert!(rt; first == 0 && last == 65_535);
-    Ok(())
+/// Whether a table is full, with the first and the last of 65,536 in their places.
+fn is_largest(table: &Table) -> bool {
+    table.is_full()
+        && matches!(&table.find(&[0, 0, 0, 0]), Some((0, _)))
+        && matches!(&table.find(&[0, 0, 255, 255]), Some((65_535, _)))
+}
+
+/// Whether the table of so many is the largest, none where they are no table.
+fn is_full_of(alloc: Global, count: u32) -> Result<Option<bool>, AllocError> {
+    match table_of(alloc, numbered(alloc, count)?)? {
+        Some(table) => Ok(Some(is_largest(&table))),
+        None => Ok(None),
+    }
 }
 
 #[test]
-fn too_large(rt: HostRuntime) -> Result<(), Fail> {
-    let rows = numbered(rt.alloc(), 65_537)?;
-    let refused = match Table::from_rows(rt.alloc(), rows) {
-        Ok(_) => false,
-        Err(error) => error == Error::BadTable,
-    };
-    assert!(rt; refused);
+fn largest(rt: HostRuntime) -> Result<(), Fail> {
+    assert!(rt; is_full_of(rt.alloc(), 65_536)? == Some(true));
+    assert!(rt; is_full_of(rt.alloc(), 65_537)?.is_none());
     Ok(())
 }

@@ -1,6 +1,6 @@
 use Rattle.std.proofs.Common.{◌≡◌, ◌<◌, ◌^◌, length, option_map, ap, subst, sym, ◌∙◌, arith, rules}
 use Rattle.authdata.specs.Flags.{is_set, HasBackup, ED}
-use Rattle.authdata.specs.Layout.{credential_shown, IsAuthenticatorData}
+use Rattle.authdata.specs.Layout.{lent_attested_view, IsAuthenticatorData}
 use Rattle.authdata.proofs.Firsts.{lifted, short_first, extensions_first, backup_first, extra_first, auth_from, auth_is, extra_applies}
 use Rattle.authdata.proofs.NoRefusal.{not_refused}
 use Rattle.authdata.proofs.reading.read_view.Goals as goal
@@ -33,7 +33,7 @@ returns-then-rest-gt0-clause-refused c =
     let count : c.in-Some.sign_count < 2 ^ 32 = search rules in
     let flags : c.in-Some.flags < 256 = search rules in
     let backup : HasBackup c.in-Some.flags = search rules in
-    let is : IsAuthenticatorData (auth_from c.in-Some.hash.now c.in-Some.flags c.in-Some.sign_count (option_map credential_shown c.in-Ok.attested)) =
+    let is : IsAuthenticatorData (auth_from c.in-Some.hash.now c.in-Some.flags c.in-Some.sign_count (option_map lent_attested_view c.in-Ok.attested)) =
     auth_is bs c.in-Some.hash.now c.in-Some.flags c.in-Some.sign_count c.in-Ok.attested len flags count c.in-Some.ensures.flags k.flag (sym c.if-is_set.ensures) backup k.is in
     let some : 0 < length c.in-Ok.rest.now = omega arith in
     extra_first bs (λ s. let t = c.is_short.ensures.1 s in let f = c.if-is_short.false in absurd cc)

@@ -1,13 +1,13 @@
 use Rattle.std.proofs.Common.{subst}
 use Rattle.authdata.specs.Responses as responses
 use Rattle.ctapmsg.specs.Replies.{Assertion}
-use Rattle.ctapmsg.specs.ReplyView.{assertion_seen}
-use Rattle.verification.specs.Authentication.{PassesAll}
+use Rattle.ctapmsg.specs.ReplyView.{lent_assertion_view}
+use Rattle.verification.specs.Authentication.{Passes, PassesAll, steps}
 use Rattle.verification.specs.Answers.{IsRefused}
 use Rattle.site.specs.Answers.{IsSignedIn}
 use Rattle.site.specs.State.{IsAfterSignIn, attempt_in}
-use Rattle.ceremony.specs.SignIn.{response}
-use Rattle.ceremony.proofs.Judging.{one_assertion, sign_in_memory, sign_in_passed, sign_in_step}
+use Rattle.client.specs.Responses.{response_of}
+use Rattle.ceremony.proofs.Judging.{not_both, one_assertion, sign_in_memory, sign_in_step}
 use Rattle.ceremony.proofs.authentication.judge.Goals as goal
 
 pub returns-in-Err-clause-complete : goal.returns-in-Err-clause-complete
@@ -17,7 +17,7 @@ pub returns-in-Ok-finish_parts-clause-accepted : goal.returns-in-Ok-finish_parts
 returns-in-Ok-finish_parts-clause-accepted g c =
     let k = c.in-Ok-finish_parts.ensures in
     let s = c.args.site.now in (
-      assertion_seen c.in-Ok.reply,
+      lent_assertion_view c.in-Ok.reply,
       c.in-Ok.ensures.found.spelled,
       subst (λ (r : responses.Assertion). PassesAll (g.V.Verifier.valid c.args.verifier.now) (attempt_in s c.args.session r)) c.parts.ensures k.accepted.0,
       subst (λ (r : responses.Assertion). IsSignedIn s r c.in-Ok-finish_parts.signed_in) c.parts.ensures k.accepted.1,
@@ -28,30 +28,30 @@ pub returns-in-Err-Refused-clause-complete : goal.returns-in-Err-Refused-clause-
 returns-in-Err-Refused-clause-complete g c = λ r spelled passed.
     let valid = g.V.Verifier.valid c.args.verifier.now in
     let s = c.args.site.now in
-    let seen = assertion_seen c.in-Ok.reply in
-    let all = subst (λ (q : Assertion). PassesAll valid (attempt_in s c.args.session (response q c.args.client_data.now))) (one_assertion seen r c.args.message.now c.in-Ok.ensures.found spelled) passed in
+    let seen = lent_assertion_view c.in-Ok.reply in
+    let all = subst (λ (q : Assertion). PassesAll valid (attempt_in s c.args.session (response_of q c.args.client_data.now))) (one_assertion seen r c.args.message.now c.in-Ok.ensures.found spelled) passed in
     let refused = subst (λ (q : responses.Assertion). IsRefused valid (attempt_in s c.args.session q) c.in-Err-Refused.field-0) c.parts.ensures c.in-Err-Refused.ensures.refused in
-    absurd (sign_in_passed valid (attempt_in s c.args.session (response seen c.args.client_data.now)) c.in-Err-Refused.step all
-    (sign_in_step valid (attempt_in s c.args.session (response seen c.args.client_data.now)) c.in-Err-Refused.field-0 c.in-Err-Refused.step c.in-Err-Refused.field-0-is refused))
+    absurd (not_both (Passes valid (attempt_in s c.args.session (response_of seen c.args.client_data.now))) steps c.in-Err-Refused.step all
+    (sign_in_step valid (attempt_in s c.args.session (response_of seen c.args.client_data.now)) c.in-Err-Refused.field-0 c.in-Err-Refused.step c.in-Err-Refused.field-0-is refused))
 
 pub returns-in-Err-Refused-clause-refused : goal.returns-in-Err-Refused-clause-refused
 returns-in-Err-Refused-clause-refused g c =
     let valid = g.V.Verifier.valid c.args.verifier.now in
     let s = c.args.site.now in
-    let seen = assertion_seen c.in-Ok.reply in
+    let seen = lent_assertion_view c.in-Ok.reply in
     let refused = subst (λ (q : responses.Assertion). IsRefused valid (attempt_in s c.args.session q) c.in-Err-Refused.field-0) c.parts.ensures c.in-Err-Refused.ensures.refused in (
       seen,
       c.in-Ok.ensures.found.spelled,
-      sign_in_step valid (attempt_in s c.args.session (response seen c.args.client_data.now)) c.in-Err-Refused.field-0 c.in-Err-Refused.step c.in-Err-Refused.field-0-is refused,
+      sign_in_step valid (attempt_in s c.args.session (response_of seen c.args.client_data.now)) c.in-Err-Refused.field-0 c.in-Err-Refused.step c.in-Err-Refused.field-0-is refused,
     )
 
 pub returns-in-Err-Memory-clause-memory : goal.returns-in-Err-Memory-clause-memory
 returns-in-Err-Memory-clause-memory g c = λ e.
     let valid = g.V.Verifier.valid c.args.verifier.now in
     let s = c.args.site.now in
-    let seen = assertion_seen c.in-Ok.reply in
+    let seen = lent_assertion_view c.in-Ok.reply in
     let refused = subst (λ (q : responses.Assertion). IsRefused valid (attempt_in s c.args.session q) c.in-Err-Memory.field-0) c.parts.ensures c.in-Err-Memory.ensures.refused in (
       seen,
       c.in-Ok.ensures.found.spelled,
-      sign_in_memory valid (attempt_in s c.args.session (response seen c.args.client_data.now)) c.in-Err-Memory.field-0 c.in-Err-Memory.field-0-is refused,
+      sign_in_memory valid (attempt_in s c.args.session (response_of seen c.args.client_data.now)) c.in-Err-Memory.field-0 c.in-Err-Memory.field-0-is refused,
     )

@@ -2,12 +2,12 @@ use Rattle.std.proofs.Common.{refl, subst}
 use Rattle.authdata.specs.Responses as responses
 use Rattle.ctapmsg.specs.Replies.{Creation}
 use Rattle.ctapmsg.specs.ReplyView.{creation_reply_view}
-use Rattle.verification.specs.Registration.{PassesAll}
+use Rattle.verification.specs.Registration.{Passes, PassesAll, steps}
 use Rattle.verification.specs.RegistrationAnswers.{IsRefused}
 use Rattle.site.specs.Answers.{IsRegistered}
 use Rattle.site.specs.State.{IsAfterRegistration, enrolment_in}
 use Rattle.ceremony.specs.Registration.{response}
-use Rattle.ceremony.proofs.Judging.{one_creation, registration_passed, registration_step, response_is}
+use Rattle.ceremony.proofs.Judging.{not_both, one_creation, registration_step, response_is}
 use Rattle.ceremony.proofs.registration.judge.Goals as goal
 
 pub returns-in_default : goal.returns-in_default
@@ -39,7 +39,7 @@ returns-in-Err-Refused-clause-complete g c = λ r spelled passed.
     let e = response_is seen c.deref.result.now c.in_ok-object.object.items c.args.client_data.now c.deref.ensures.value c.in_ok-object.ensures in
     let all = subst (λ (q : Creation). PassesAll valid (enrolment_in s c.args.session (response q c.args.client_data.now))) (one_creation seen r c.args.message.now c.in-Ok.ensures.found spelled) passed in
     let refused = subst (λ (q : responses.Registration). IsRefused valid (enrolment_in s c.args.session q) c.in-Err-Refused.field-0) e c.in-Err-Refused.ensures.refused in
-    absurd (registration_passed valid (enrolment_in s c.args.session (response seen c.args.client_data.now)) c.in-Err-Refused.step all
+    absurd (not_both (Passes valid (enrolment_in s c.args.session (response seen c.args.client_data.now))) steps c.in-Err-Refused.step all
     (registration_step valid (enrolment_in s c.args.session (response seen c.args.client_data.now)) c.in-Err-Refused.field-0 c.in-Err-Refused.step c.in-Err-Refused.field-0-is refused))
 
 pub returns-in-Err-Refused-clause-refused : goal.returns-in-Err-Refused-clause-refused

@@ -1,9 +1,9 @@
 use Rattle.std.proofs.Common.{◌≡◌, ◌∙◌, true≢false, sym, ap, Err}
-use Rattle.authdata.specs.declared.error.Error.TheVariants as errors
+use Rattle.client.specs.declared.error.ResponseError.TheVariants as errors
 use Rattle.ccbor.specs.Canon.{spelling}
 use Rattle.authdata.specs.Objects.{object_item}
 use Rattle.ctapmsg.specs.ReplyView.{creation_reply_view}
-use Rattle.ceremony.specs.Registration.{object_of}
+use Rattle.client.specs.Responses.{object_of}
 use Rattle.ceremony.proofs.Objects.{has_object}
 use Rattle.ceremony.proofs.registration.object.Goals as goal
 use Rattle.ceremony.proofs.registration.object.Goals.{in-Unfit, in_default}

@@ -2,7 +2,7 @@ use Rattle.std.proofs.Common.{◌≡◌, ◌+◌, ◌-◌, ◌<◌, ◌≤◌, i
 use Rattle.std.specs.Prelude.{vec_capacity, vec_len}
 use Rattle.std.proofs.lemmas.List.{append_assoc, append-nil}
 use Rattle.hidframe.specs.declared.Packet.{Packet}
-use Rattle.hidlink.specs.Ranks.{Shown}
+use Rattle.hidlink.specs.Ranks.{DeviceState}
 use Rattle.ceremony.proofs.Acting.{all_sent, few_left, one_sent, room_on}
 use Rattle.ceremony.proofs.serving.drain.Goals as goal
 
@@ -20,7 +20,7 @@ loop-number-preserved c =
     let one : c.loop-number.device.left ≡ c.in-Some.packet ∷ c.next_out.new.self.left = c.in-Some.ensures.gives in
     let most : length c.loop-number.device.left ≤ 129 = c.in-Some.ensures.most in
     record {
-      device = c.in-Some.ensures.rest ∙ ap (λ (d : Shown). record d { left = c.next_out.new.self.left }) i.device;
+      device = c.in-Some.ensures.rest ∙ ap (λ (d : DeviceState). record d { left = c.next_out.new.self.left }) i.device;
       all = ap (λ xs. xs ++ c.next_out.new.self.left) put ∙ append_assoc c.loop-number.out.items (c.in-Some.packet ∷ []) c.next_out.new.self.left
           ∙ ap (λ xs. c.loop-number.out.items ++ xs) (sym one) ∙ i.all;
       number = omega (arith, before);
@@ -32,7 +32,7 @@ loop-number-preserved c =
 pub returns-in_default-clause-device : goal.returns-in_default-clause-device
 returns-in_default-clause-device c =
     let i = c.loop-number.invariant in
-    c.in_default.ensures.rest ∙ ap (λ (d : Shown). record d { left = c.next_out.new.self.left }) i.device
+    c.in_default.ensures.rest ∙ ap (λ (d : DeviceState). record d { left = c.next_out.new.self.left }) i.device
     ∙ ap (λ (ps : List Packet). record c.args.device.now { left = ps }) c.in_default.ensures.gives.1
 
 pub returns-in_default-clause-out : goal.returns-in_default-clause-out

@@ -1,11 +1,11 @@
 use Rattle.ccbor.specs.Viewing.{shown}
-use Rattle.replies.specs.ReplyView.{assertion_seen}
+use Rattle.replies.specs.ReplyView.{lent_assertion_view}
 use Rattle.replies.proofs.Laws.{assertion_is, assertion_none}
 use Rattle.replies.proofs.reading.assertion_after.Goals as goal
 
 pub returns-in-Ok-assertion_reply-clause-found : goal.returns-in-Ok-assertion_reply-clause-found
 returns-in-Ok-assertion_reply-clause-found c =
-    assertion_is (shown c.in-Ok.value) c.args.rest.now c.in-Ok.ensures.found (assertion_seen c.in-Ok-assertion_reply.reply) c.in-Ok-assertion_reply.ensures
+    assertion_is (shown c.in-Ok.value) c.args.rest.now c.in-Ok.ensures.found (lent_assertion_view c.in-Ok-assertion_reply.reply) c.in-Ok-assertion_reply.ensures
 
 pub returns-in-Err-assertion_reply-clause-refused : goal.returns-in-Err-assertion_reply-clause-refused
 returns-in-Err-assertion_reply-clause-refused c = assertion_none (shown c.in-Ok.value) c.args.rest.now c.in-Ok.ensures.found c.in-Err-assertion_reply.ensures

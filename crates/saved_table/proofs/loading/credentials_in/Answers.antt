@@ -5,7 +5,7 @@ use Rattle.first_line.proofs.Laws.{each_joined}
 use Rattle.ccbor.specs.Item.{item}
 use Rattle.ccbor.specs.Viewing.{shown, shown_items}
 use Rattle.credentials.specs.Table.{IsRow, row_of}
-use Rattle.credentials.specs.Views.{credential_of}
+use Rattle.credentials.specs.Views.{row_view}
 use Rattle.credentials.proofs.RowLemmas.{one_more}
 use Rattle.saved_table.specs.Saved.{FitsVersion, credential_item}
 use Rattle.saved_table.specs.declared.error.Error.TheVariants as errors
@@ -28,7 +28,7 @@ returns-then-not-admits-clause-none c = λ e rows table each is.
     let met : in_front c.loop-item.table (item (shown c.in-Some.item) (shown_items c.in-Some.after)) ≡ shown_items c.args.items = ap (in_front c.loop-item.table) (sym front) ∙ c.loop-item.invariant.2 in
     let g = goes_on c.args.version rows c.loop-item.table (shown c.in-Some.item) (shown_items c.in-Some.after) c.loop-item.invariant.1 each (met ∙ is) in
     let may = goes_behind c.args.version rows c.loop-item.table (shown c.in-Some.item) (shown_items c.in-Some.after) table g in
-    let row = credential_of c.in_ok-row.row in
+    let row = row_view c.in_ok-row.row in
     let same : g.row ≡ row = one_credential g.row row g.fits.key c.in_ok-row.ensures.read.0.key (sym g.map_is ∙ c.in_ok-row.ensures.read.1) in
     let fits : IsRow row × (row_of row.id c.loop-item.table ≡ None) × (length c.loop-item.table < 65536) = rw same at may in
     let yes = c.admits.ensures.1 fits in
@@ -37,7 +37,7 @@ returns-then-not-admits-clause-none c = λ e rows table each is.
 
 pub loop-item-preserved : goal.loop-item-preserved
 loop-item-preserved c =
-    let row = credential_of c.in_ok-row.row in
+    let row = row_view c.in_ok-row.row in
     let pushed : c.push.new.self ≡ c.loop-item.table ++ row ∷ [] = c.in_ok-push.ensures.pushed in
     let front = first_item (shown_items c.loop-item.rest) (shown c.in-Some.item) (shown_items c.in-Some.after) (sym c.in-Some.ensures.parts) in
     let here : shown c.in-Some.item ≡ credential_item row = c.in_ok-row.ensures.read.1 in

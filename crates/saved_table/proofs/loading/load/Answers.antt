@@ -3,7 +3,7 @@ use Rattle.std.proofs.lemmas.Result.{err_from_is_err_and}
 use Rattle.std.proofs.Math.Seq.{take-length}
 use Rattle.ccbor.specs.Viewing.{shown}
 use Rattle.saved_table.specs.Saved.{table_item}
-use Rattle.saved_table.specs.Views.{table_members_of}
+use Rattle.saved_table.specs.Views.{table_members_view}
 use Rattle.saved_table.specs.declared.error.Error.TheVariants as errors
 use Rattle.saved_table.proofs.Tables.{no_members, not_of, no_rows, loaded, same_error}
 use Rattle.saved_table.proofs.loading.load.Goals as goal
@@ -23,19 +23,19 @@ returns-in_default-table_members-clause-bad c = λ _ version saved is table.
 
 pub returns-then-not-is_of-clause-bad : goal.returns-then-not-is_of-clause-bad
 returns-then-not-is_of-clause-bad c = λ _ version saved is table.
-    not_of c.args.bytes.now (shown c.in-Ok.value) c.in-Ok.ensures.found.1 c.args.rp_id.now (table_members_of c.in-Some.found) (sym c.in-Some.ensures)
+    not_of c.args.bytes.now (shown c.in-Ok.value) c.in-Ok.ensures.found.1 c.args.rp_id.now (table_members_view c.in-Some.found) (sym c.in-Some.ensures)
     (λ of. let yes = c.is_of.ensures.1 of in let no = c.if-not-is_of.true in absurd cc) version saved is table
 
 pub returns-in_err-table-clause-bad : goal.returns-in_err-table-clause-bad
 returns-in_err-table-clause-bad c = λ e version saved is table.
     let p = err_from_is_err_and c.from_residual.result c.from_residual.ensures.1 in
     let bad = same_error c.from_residual.result p.0 c.in_err-table.field-0.0 errors.BadTable p.1 p.2 e in
-    no_rows c.args.bytes.now (shown c.in-Ok.value) c.in-Ok.ensures.found.1 c.args.rp_id.now (table_members_of c.in-Some.found) (sym c.in-Some.ensures)
+    no_rows c.args.bytes.now (shown c.in-Ok.value) c.in-Ok.ensures.found.1 c.args.rp_id.now (table_members_view c.in-Some.found) (sym c.in-Some.ensures)
     (c.in_err-table.ensures.none (ap Err bad)) version saved table
 
 pub returns-clause-loaded : goal.returns-clause-loaded
 returns-clause-loaded c = (
   c.in-Some.found.version,
-  loaded c.args.bytes.now (shown c.in-Ok.value) c.in-Ok.ensures.found.1 c.args.rp_id.now (table_members_of c.in-Some.found) (sym c.in-Some.ensures)
+  loaded c.args.bytes.now (shown c.in-Ok.value) c.in-Ok.ensures.found.1 c.args.rp_id.now (table_members_view c.in-Some.found) (sym c.in-Some.ensures)
       (c.if-not-is_of.ensures.0 refl) c.in_ok-table.table c.in_ok-table.ensures.limits c.in_ok-table.ensures.read.0 c.in_ok-table.ensures.read.1,
 )

@@ -1,9 +1,9 @@
 use Rattle.std.proofs.Common.{◌≡◌, ◌++◌, map}
 use Rattle.first_line.specs.Lines.{Each}
 use Rattle.ccbor.specs.View.{view}
-use Rattle.verification.specs.Views.{credential_of as credential_shown}
+use Rattle.verification.specs.Views.{credential_view}
 use Rattle.credentials.specs.Table.{IsTable}
-use Rattle.credentials.specs.Views.{kept_of}
+use Rattle.credentials.specs.Views.{kept_view}
 use Rattle.saved_table.specs.Saved.{FitsVersion, credential_item}
 use Rattle.saved_table.proofs.saving.credential_values.Given as goal
 
@@ -12,6 +12,6 @@ invariant-loop-row l =
     (goal.iterator-loop-row).can_next l.row-iterator ×
     (goal.iterator-loop-row).is_finite l.row-iterator ×
     IsTable l.table ×
-    Each (FitsVersion 3) (map credential_shown l.yielded) ×
-    (map view l.values.items ≡ map credential_item (map credential_shown l.yielded)) ×
-    (l.table ≡ map credential_shown l.yielded ++ map (λ e. kept_of e.0.items e.1) l.row-iterator.0)
+    Each (FitsVersion 3) (map credential_view l.yielded) ×
+    (map view l.values.items ≡ map credential_item (map credential_view l.yielded)) ×
+    (l.table ≡ map credential_view l.yielded ++ map (λ e. kept_view e.0.items e.1) l.row-iterator.0)

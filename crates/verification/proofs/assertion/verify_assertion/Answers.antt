@@ -1,25 +1,25 @@
 use Rattle.std.proofs.lemmas.Result.{err_from_is_err_and}
-use Rattle.verification.specs.Views.{attempt_of}
+use Rattle.verification.specs.Views.{attempt_view}
 use Rattle.verification.proofs.Steps.{credential_fails, client_fails, data_fails, signature_fails}
 use Rattle.verification.proofs.assertion.verify_assertion.Goals as goal
 
 pub returns-in_err-session-clause-refused : goal.returns-in_err-session-clause-refused
 returns-in_err-session-clause-refused g c =
     let p = err_from_is_err_and c.from_residual.result c.from_residual.ensures.1 in
-    rw (p.1, p.2) (credential_fails (g.V.Verifier.valid c.args.verifier.now) (attempt_of c.args.attempt.now) c.in_err-session.field-0.0 c.in_err-session.ensures.refused)
+    rw (p.1, p.2) (credential_fails (g.V.Verifier.valid c.args.verifier.now) (attempt_view c.args.attempt.now) c.in_err-session.field-0.0 c.in_err-session.ensures.refused)
 
 pub returns-in_err-check_client_data-clause-refused : goal.returns-in_err-check_client_data-clause-refused
 returns-in_err-check_client_data-clause-refused g c =
     let p = err_from_is_err_and c.from_residual-in_err-check_client_data.result c.from_residual-in_err-check_client_data.ensures.1 in
-    rw (p.1, p.2) (client_fails (g.V.Verifier.valid c.args.verifier.now) (attempt_of c.args.attempt.now) c.in_ok-session.ensures.passes c.in_err-check_client_data.field-0.0 c.in_err-check_client_data.ensures.refused)
+    rw (p.1, p.2) (client_fails (g.V.Verifier.valid c.args.verifier.now) (attempt_view c.args.attempt.now) c.in_ok-session.ensures.passes c.in_err-check_client_data.field-0.0 c.in_err-check_client_data.ensures.refused)
 
 pub returns-in_err-data-clause-refused : goal.returns-in_err-data-clause-refused
 returns-in_err-data-clause-refused g c =
     let p = err_from_is_err_and c.from_residual-in_err-data.result c.from_residual-in_err-data.ensures.1 in
-    rw (p.1, p.2) (data_fails (g.V.Verifier.valid c.args.verifier.now) (attempt_of c.args.attempt.now) c.in_ok-session.ensures.passes c.in_ok-check_client_data.ensures.passes c.in_err-data.field-0.0 c.in_err-data.ensures.refused)
+    rw (p.1, p.2) (data_fails (g.V.Verifier.valid c.args.verifier.now) (attempt_view c.args.attempt.now) c.in_ok-session.ensures.passes c.in_ok-check_client_data.ensures.passes c.in_err-data.field-0.0 c.in_err-data.ensures.refused)
 
 pub returns-in_err-check_signature-clause-refused : goal.returns-in_err-check_signature-clause-refused
 returns-in_err-check_signature-clause-refused g c =
     let p = err_from_is_err_and c.from_residual-in_err-check_signature.result c.from_residual-in_err-check_signature.ensures.1 in
-    rw (p.1, p.2) (signature_fails (g.V.Verifier.valid c.args.verifier.now) (attempt_of c.args.attempt.now) c.in_ok-session.ensures.passes c.in_ok-check_client_data.ensures.passes c.in_ok-data.ensures.passes
+    rw (p.1, p.2) (signature_fails (g.V.Verifier.valid c.args.verifier.now) (attempt_view c.args.attempt.now) c.in_ok-session.ensures.passes c.in_ok-check_client_data.ensures.passes c.in_ok-data.ensures.passes
     c.in_err-check_signature.field-0.0 c.in_err-check_signature.ensures.refused)

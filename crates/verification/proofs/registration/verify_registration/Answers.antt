@@ -1,5 +1,5 @@
 use Rattle.std.proofs.lemmas.Result.{err_from_is_err_and}
-use Rattle.authdata.specs.Layout.{credential_view}
+use Rattle.authdata.specs.Layout.{attested_view}
 use Rattle.authdata.specs.Objects.{object_view}
 use Rattle.verification.specs.Attested.{data_of}
 use Rattle.verification.specs.Views.{judged}
@@ -25,6 +25,6 @@ returns-in_err-check_attestation-clause-refused g c =
 pub returns-clause-accepted : goal.returns-clause-accepted
 returns-clause-accepted g c =
     let v = c.verified.ensures in (
-      (object_view c.in_ok-found.found.object, data_of c.in_ok-found.found, credential_view c.in_ok-found.found.credential, c.in_ok-found.ensures.found, v.id, v.key, v.sign_count, v.eligible),
+      (object_view c.in_ok-found.found.object, data_of c.in_ok-found.found, attested_view c.in_ok-found.found.credential, c.in_ok-found.ensures.found, v.id, v.key, v.sign_count, v.eligible),
       λ r f. response_passes (g.V.Verifier.valid c.args.verifier.now) (judged c.args.attempt.now) r f c.in_ok-session.ensures.passes c.in_ok-found.ensures.passes c.in_ok-check_attestation.ensures.passes,
     )

@@ -2,7 +2,7 @@ use Rattle.std.proofs.Common.{◌≡◌, ◌∷◌, [], None, Option, ℕ, rever
 use Rattle.ctapmsg.specs.Replies.{assertion_reply}
 use Rattle.ctapmsg.specs.ReplyView.{assertion_reply_view}
 use Rattle.authenticator.specs.State.{Remembered}
-use Rattle.authenticator.specs.Credentials.{with_counter}
+use Rattle.authenticator.specs.Credentials.{with_sign_count}
 use Rattle.authenticator.specs.Steps.{FirstAnswers, IsAssertion, number_with}
 use Rattle.authenticator.specs.Views.{asked_view, credential_view}
 use Rattle.authenticator.proofs.Refusing.{allowed, answered, here, not_at_end, past, refuses}
@@ -29,4 +29,4 @@ returns-clause-done g c =
     (past _ 0x7F [] None (not_at_end c.args.candidates.first c.args.self.now.credentials held c.in-Some.ensures.0 c.in-Some.ensures.1) refl)
     (answered (g.S.Verifier.valid c.args.scheme.now) (g.S.Signer.public_of c.args.scheme.now) c.args.self.now c.settle.new.self held c.args.candidates.first (asked_view c.args.asked) later assertion_reply (number_with later)
     (assertion_reply_view c.in_ok-shown.shown) c.in_ok-reply.reply.items c.in-Some.ensures.0 asserts c.in_ok-reply.ensures.spelled
-    (c.settle.ensures ∙ ap (λ (m : Option Remembered). record c.args.self.now { credentials = with_counter c.args.candidates.first (held.counter + 1) c.args.self.now.credentials; remembered = m }) c.remember.ensures))
+    (c.settle.ensures ∙ ap (λ (m : Option Remembered). record c.args.self.now { credentials = with_sign_count c.args.candidates.first (held.sign_count + 1) c.args.self.now.credentials; remembered = m }) c.remember.ensures))

@@ -22,5 +22,5 @@ returns-in_ok-packed-in-SelfSigned-clause-attested g c = λ consent.
     c.in_ok-signature-in-SelfSigned.signature.items
     (sym (ap (λ (s : State). s.attest) c.self.view_is) ∙ c.in-SelfSigned.is)
     c.in_ok-from_str-in-SelfSigned.ensures.ok
-    (rw (c.as_slice.ensures.value, c.as_slice-hash.ensures.value) at c.in_ok-signature-in-SelfSigned.ensures)
+    (rw (c.as_slice.ensures.value, c.as_slice-client_data_hash.ensures.value) at c.in_ok-signature-in-SelfSigned.ensures)
     (c.in_ok-packed-in-SelfSigned.ensures ∙ ap (λ a. packed_statement a c.in_ok-signature-in-SelfSigned.signature.items) (c.alg.ensures ∙ ap alg_of c.public-key.ensures))

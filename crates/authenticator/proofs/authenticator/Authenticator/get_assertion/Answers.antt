@@ -3,7 +3,7 @@ use Rattle.first_line.specs.Lines.{first_true}
 use Rattle.ctapmsg.specs.RequestView.{assertion_view}
 use Rattle.authenticator.specs.Orders.{assertion_order, candidates}
 use Rattle.authenticator.specs.Steps.{FirstAnswers, asked_by}
-use Rattle.authenticator.specs.Views.{asked_view, ids_of}
+use Rattle.authenticator.specs.Views.{asked_view, candidates_view}
 use Rattle.authenticator.proofs.Refusing.{consent_due, first_happens, none_due, refuses}
 use Rattle.authenticator.proofs.authenticator.Authenticator.get_assertion.Goals as goal
 
@@ -19,11 +19,11 @@ returns-in_default-found-clause-done g c =
     let q = assertion_view c.args.request in
     refuses c.args.self.now c.refuse-in_default-found.new.self 0x2E (first_true (assertion_order c.args.self.now q c.args.consent))
     (λ out. FirstAnswers (g.S.Verifier.valid c.args.scheme.now) (g.S.Signer.public_of c.args.scheme.now) c.args.self.now (candidates c.args.self.now.credentials q.rp_id q.allow_list) (asked_by c.args.channel q c.args.consent) out)
-    c.refuse-in_default-found.result (none_due c.args.self.now q c.args.consent c.in_default.ensures (ap ids_of (sym c.in_default-found.is) ∙ c.in_ok-found.ensures))
+    c.refuse-in_default-found.result (none_due c.args.self.now q c.args.consent c.in_default.ensures (ap candidates_view (sym c.in_default-found.is) ∙ c.in_ok-found.ensures))
     c.refuse-in_default-found.ensures.reply c.refuse-in_default-found.ensures.ok
 
 pub returns-clause-done : goal.returns-clause-done
 returns-clause-done g c =
     first_happens (g.S.Verifier.valid c.args.scheme.now) (g.S.Signer.public_of c.args.scheme.now) c.args.self.now c.answer_first.new.self c.args.channel c.args.consent (assertion_view c.args.request)
     c.in-Some-found.candidates.first (reverse c.in-Some-found.candidates.later.items) (asked_view c.asked_by-asked.result) c.answer_first.result
-    c.in_default.ensures (ap ids_of (sym c.in-Some-found.is) ∙ c.in_ok-found.ensures) c.asked_by-asked.ensures c.answer_first.ensures.done
+    c.in_default.ensures (ap candidates_view (sym c.in-Some-found.is) ∙ c.in_ok-found.ensures) c.asked_by-asked.ensures c.answer_first.ensures.done

@@ -1,6 +1,6 @@
 use Rattle.std.proofs.Common.{◌+◌, ◌++◌, [], ◌∷◌, List, sym, subst}
 use Rattle.hidframe.specs.declared.Packet.{Packet}
-use Rattle.ceremony.specs.Packets.{Collected, HasGot}
+use Rattle.ceremony.specs.Packets.{LiveState, HasGot}
 use Rattle.ceremony.proofs.Taken.{got_on, got_still}
 use Rattle.ceremony.proofs.live.Live.feed.Goals as goal
 
@@ -18,10 +18,10 @@ pub invariant_of-self : goal.invariant_of-self
 invariant_of-self c = (c.self.invariant.0 ++ c.args.packet.now ∷ [], still c c.self.invariant.0 c.self.invariant.1)
 
 pub returns-in-Err-clause-got : goal.returns-in-Err-clause-got
-returns-in-Err-clause-got c = λ ps g. still c ps (subst (λ (k : Collected). HasGot k ps) (sym c.self.view_is) g)
+returns-in-Err-clause-got c = λ ps g. still c ps (subst (λ (k : LiveState). HasGot k ps) (sym c.self.view_is) g)
 
 pub invariant_of-self-2 : goal.invariant_of-self-2
 invariant_of-self-2 c = (c.self.invariant.0 ++ c.args.packet.now ∷ [], further c c.self.invariant.0 c.self.invariant.1)
 
 pub returns-clause-got : goal.returns-clause-got
-returns-clause-got c = λ ps g. further c ps (subst (λ (k : Collected). HasGot k ps) (sym c.self.view_is) g)
+returns-clause-got c = λ ps g. further c ps (subst (λ (k : LiveState). HasGot k ps) (sym c.self.view_is) g)

@@ -1,10 +1,10 @@
 use Rattle.std.proofs.Common.{◌≡◌, ◌++◌}
-use Rattle.credentials.specs.Views.{credentials_of}
+use Rattle.credentials.specs.Views.{rows_view}
 use Rattle.credentials.proofs.table.Table.from_rows.Given as goal
 
 abbrev pub invariant-loop-row : goal.invariant-loop-row
 invariant-loop-row l =
     (goal.iterator-loop-row).can_next l.row-iterator ×
     (goal.iterator-loop-row).is_finite l.row-iterator ×
-    (l.table ≡ credentials_of l.yielded) ×
+    (l.table ≡ rows_view l.yielded) ×
     (l.fn.rows.items ≡ l.yielded ++ l.row-iterator.rest.items)

@@ -1,12 +1,12 @@
 use Rattle.std.proofs.Common.{sym, ap, ◌∙◌}
 use Rattle.verification.specs.Records.{Credential}
-use Rattle.verification.specs.Views.{credential_of}
+use Rattle.verification.specs.Views.{credential_view}
 use Rattle.credentials.specs.Table.{retired, with_row}
 use Rattle.credentials.proofs.RowLemmas.{found_id}
 use Rattle.credentials.proofs.table.Table.retire.Goals as goal
 
 pub returns-clause-after : goal.returns-clause-after
 returns-clause-after c = λ _.
-    let row : Credential = credential_of c.in-Some.row in
+    let row : Credential = credential_view c.in-Some.row in
     let same = found_id c.args.id.now c.args.self.now row (sym c.in-Some.ensures.row) in
     c.retire_at.ensures row c.in-Some.ensures.place ∙ ap (λ id. with_row id retired c.args.self.now) same

@@ -1,7 +1,7 @@
 use Rattle.std.proofs.Common.{◌≡◌, [], ◌∷◌, ◌++◌, refl, sym, ◌∙◌, ap, subst}
-use Rattle.hidlink.specs.Ranks.{State, Shown, Idle, Working, IsWorking}
+use Rattle.hidlink.specs.Ranks.{State, DeviceState, Idle, Working, IsWorking}
 use Rattle.hidlink.specs.History.{Answered, Leaves}
-use Rattle.hidlink.specs.Machine.{state_of}
+use Rattle.hidlink.specs.Machine.{state_view}
 use Rattle.hidlink.proofs.Calls.{leaves_to, not_working, unanswered, too_long, answered}
 use Rattle.hidlink.proofs.transaction.Device.answer.Goals as goal
 
@@ -9,7 +9,7 @@ pub returns-in_default : goal.returns-in_default
 returns-in_default c =
     let P : State → Type 0 = λ s. IsWorking s → ⊥ in
     let workless : IsWorking c.args.self.now.state → ⊥ =
-    subst P (ap Shown.state c.self.view_is) (not_working c.self.inside.phase c.self.inside.inbox c.in_default.not-Working) in
+    subst P (ap DeviceState.state c.self.view_is) (not_working c.self.inside.phase c.self.inside.inbox c.in_default.not-Working) in
     record {
       sent = tt;
       idle = tt;
@@ -28,8 +28,8 @@ returns-then-payload-gt-MAX_PAYLOAD_SIZE-clause-history c =
 pub returns-clause-history : goal.returns-clause-history
 returns-clause-history c =
     let is : c.args.self.now.state ≡ Working c.in-Working.cid c.self.inside.inbox =
-    sym (ap Shown.state c.self.view_is) ∙ ap (λ f. state_of f c.self.inside.inbox) c.in-Working.is in
-    let out : c.self.inside.channels ≡ c.args.self.now.channels = ap Shown.channels c.self.view_is in
+    sym (ap DeviceState.state c.self.view_is) ∙ ap (λ f. state_view f c.self.inside.inbox) c.in-Working.is in
+    let out : c.self.inside.channels ≡ c.args.self.now.channels = ap DeviceState.channels c.self.view_is in
     λ h l. subst (λ n. Leaves (h ++ Answered c.args.payload.now ∷ []) n Idle) (sym out)
     (leaves_to h c.args.self.now.channels c.args.self.now.state (Answered c.args.payload.now) c.args.self.now.channels Idle
     (answered c.args.self.now.channels c.args.self.now.state c.in-Working.cid c.self.inside.inbox c.args.payload.now is c.if-payload-gt-MAX_PAYLOAD_SIZE.false) l)

@@ -1,7 +1,7 @@
 use Rattle.std.proofs.Common.{[], ◌∷◌, refl, sym, ◌∙◌, ap, subst}
-use Rattle.hidlink.specs.Ranks.{State, Shown, IsWorking, packets_of}
+use Rattle.hidlink.specs.Ranks.{State, DeviceState, IsWorking, packets_of}
 use Rattle.hidlink.specs.History.{Kept}
-use Rattle.hidlink.specs.Machine.{Effect, state_of}
+use Rattle.hidlink.specs.Machine.{Effect, state_view}
 use Rattle.hidlink.proofs.Calls.{leaves_by, leaves_to, not_working, kept, on_none}
 use Rattle.hidlink.proofs.transaction.Device.keepalive.Goals as goal
 
@@ -9,7 +9,7 @@ pub returns-in_default : goal.returns-in_default
 returns-in_default c =
     let P : State → Type 0 = λ s. IsWorking s → ⊥ in
     let idle : IsWorking c.args.self.now.state → ⊥ =
-    subst P (ap Shown.state c.self.view_is) (not_working c.self.inside.phase c.self.inside.inbox c.in_default.not-Working) in
+    subst P (ap DeviceState.state c.self.view_is) (not_working c.self.inside.phase c.self.inside.inbox c.in_default.not-Working) in
     record {
       sent = c.requires.drained ∙ sym (ap packets_of (on_none c.args.self.now.state 59 (c.args.status ∷ []) idle));
       rest = refl;
@@ -23,5 +23,5 @@ returns-in_default c =
 pub returns-clause-history : goal.returns-clause-history
 returns-clause-history c =
     let same = kept c.args.self.now.channels c.args.self.now.state c.args.status in
-    λ h l. leaves_by h c.args.self.now.channels c.args.self.now.state (Kept c.args.status) c.self.inside.channels (state_of c.self.inside.phase c.self.inside.inbox)
-    (ap Shown.channels c.self.view_is ∙ sym (ap Effect.channels same)) (ap Shown.state c.self.view_is ∙ sym (ap Effect.after same)) l
+    λ h l. leaves_by h c.args.self.now.channels c.args.self.now.state (Kept c.args.status) c.self.inside.channels (state_view c.self.inside.phase c.self.inside.inbox)
+    (ap DeviceState.channels c.self.view_is ∙ sym (ap Effect.channels same)) (ap DeviceState.state c.self.view_is ∙ sym (ap Effect.after same)) l

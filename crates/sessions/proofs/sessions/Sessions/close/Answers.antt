@@ -1,6 +1,6 @@
 use Rattle.std.proofs.Common.{◌∙◌, ap, sym}
 use Rattle.std.specs.Prelude.{is_some, option_map}
-use Rattle.sessions.specs.Views.{expected_in}
+use Rattle.sessions.specs.Views.{session_view}
 use Rattle.sessions.proofs.Maps.{closed, get_seen, open_with, seen_there, well_closed}
 use Rattle.sessions.proofs.sessions.Sessions.close.Goals as goal
 
@@ -11,7 +11,7 @@ invariant_of-self c =
 
 pub returns-clause-told : goal.returns-clause-told
 returns-clause-told c =
-    rw (← c.self.view_is) (c.is_some.ensures ∙ sym (seen_there c.remove.result) ∙ ap (λ o. is_some (option_map expected_in o)) c.remove.ensures.value
+    rw (← c.self.view_is) (c.is_some.ensures ∙ sym (seen_there c.remove.result) ∙ ap (λ o. is_some (option_map session_view o)) c.remove.ensures.value
     ∙ sym (ap is_some (get_seen c.self.inside.by_number c.args.session)))
 
 pub returns-clause-closed : goal.returns-clause-closed

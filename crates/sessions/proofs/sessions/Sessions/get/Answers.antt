@@ -1,12 +1,12 @@
 use Rattle.std.proofs.Common.{◌∙◌, ap, sym}
 use Rattle.std.specs.Prelude.{option_map}
-use Rattle.sessions.specs.Views.{expected_in}
+use Rattle.sessions.specs.Views.{session_view}
 use Rattle.sessions.proofs.Maps.{copied, get_seen}
 use Rattle.sessions.proofs.sessions.Sessions.get.Goals as goal
 
 pub returns-clause-expected : goal.returns-clause-expected
 returns-clause-expected c =
-    rw (← c.self.view_is) (copied c.get.result ∙ ap (option_map expected_in) c.get.ensures.value ∙ sym (get_seen c.self.inside.by_number c.args.session))
+    rw (← c.self.view_is) (copied c.get.result ∙ ap (option_map session_view) c.get.ensures.value ∙ sym (get_seen c.self.inside.by_number c.args.session))
 
 pub returns-clause-limits : goal.returns-clause-limits
 returns-clause-limits c = rw (← c.self.view_is) (c.self.invariant.1 c.args.session)

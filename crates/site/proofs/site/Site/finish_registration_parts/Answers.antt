@@ -3,7 +3,7 @@ use Rattle.std.specs.Prelude.{None, is_some, option_map}
 use Rattle.std.proofs.lemmas.Result.{err_from_is_err_and}
 use Rattle.verification.specs.Registration.{IsFirstFailing, PassesAll}
 use Rattle.verification.specs.RegistrationAnswers.{IsRefused}
-use Rattle.verification.specs.Views.{registration_of, registration_response_of}
+use Rattle.verification.specs.Views.{registration_view, registration_parts_view}
 use Rattle.credentials.specs.Table.{IsWithin, row_of}
 use Rattle.site.proofs.Judged.{admitted_as, same_row, all_pass, attested_limits, has_room, is_full, no_row, said_full, said_row, same_enrolment, same_state, some_seen, table_fails}
 use Rattle.site.proofs.site.Site.finish_registration_parts.Goals as goal
@@ -12,7 +12,7 @@ pub returns-in_err-verified-clause-refused : goal.returns-in_err-verified-clause
 returns-in_err-verified-clause-refused g c =
     let p = err_from_is_err_and c.from_residual.result c.from_residual.ensures.1 in
     let table = c.self.inside.table in
-    let same = same_enrolment c.self.inside.party c.self.inside.policy (registration_response_of c.args.response.now) (λ id. is_some (row_of id table)) (is_full table) _ _ c.registration-expected.ensures.expected in
+    let same = same_enrolment c.self.inside.party c.self.inside.policy (registration_parts_view c.args.response.now) (λ id. is_some (row_of id table)) (is_full table) _ _ c.registration-expected.ensures.expected in
     rw (p.1, p.2, ← c.self.view_is) (subst (λ x. IsRefused (g.V.Verifier.valid c.args.verifier.now) x c.in_err-verified.field-0.0) same
     (c.in_err-verified.ensures.refused (λ id. is_some (row_of id table)) (is_full table)))
 
@@ -21,7 +21,7 @@ returns-in_err-admit-clause-refused g c =
     let p = err_from_is_err_and c.from_residual-in_err-admit.result c.from_residual-in_err-admit.ensures.1 in
     let table = c.self.inside.table in
     let accepted = c.in_ok-verified.ensures.accepted in
-    let same = same_enrolment c.self.inside.party c.self.inside.policy (registration_response_of c.args.response.now) (λ id. is_some (row_of id table)) (is_full table) _ _ c.registration-expected.ensures.expected in
+    let same = same_enrolment c.self.inside.party c.self.inside.policy (registration_parts_view c.args.response.now) (λ id. is_some (row_of id table)) (is_full table) _ _ c.registration-expected.ensures.expected in
     let taken = ap (λ id. is_some (row_of id table)) (sym c.deref.ensures.value) ∙ said_row c.has.result (row_of c.deref.result.now table) c.has.ensures in
     rw (p.1, p.2, ← c.self.view_is) (subst (λ x. IsFirstFailing (g.V.Verifier.valid c.args.verifier.now) x c.in_err-admit.field-0.0) same
     (table_fails (g.V.Verifier.valid c.args.verifier.now) _ c.in_err-admit.field-0.0 (accepted.1 (λ id. is_some (row_of id table)) (is_full table))
@@ -31,14 +31,14 @@ pub unwrap-requires : goal.unwrap-requires
 unwrap-requires g c =
     let table = c.self.inside.table in
     let steps = c.in_ok-verified.ensures.accepted.1 (λ id. is_some (row_of id table)) (is_full table) in
-    some_seen (λ s. registration_of s.now) c.registration-expected.result steps.0
+    some_seen (λ s. registration_view s.now) c.registration-expected.result steps.0
 
 pub push-requires-clause-limits : goal.push-requires-clause-limits
 push-requires-clause-limits g c =
     let tells = c.in_ok-verified.ensures.accepted.0 in
     let id = subst (IsWithin 64) (sym tells.4) (attested_limits tells.1 tells.2 tells.3.auth_data.0 tells.3.attested) in
-    let open_for = sym c.registration-expected.ensures.expected ∙ ap (option_map (λ s. registration_of s.now)) c.unwrap.ensures in
-    let user = c.registration-expected.ensures.limits (registration_of c.unwrap.result.now) open_for in
+    let open_for = sym c.registration-expected.ensures.expected ∙ ap (option_map (λ s. registration_view s.now)) c.unwrap.ensures in
+    let user = c.registration-expected.ensures.limits (registration_view c.unwrap.result.now) open_for in
     (id, subst (IsWithin 64) (sym (c.in_ok-user.ensures.items ∙ c.deref-2.ensures.value)) user)
 
 pub push-requires-clause-absent : goal.push-requires-clause-absent
@@ -47,7 +47,7 @@ push-requires-clause-absent g c =
     let accepted = c.in_ok-verified.ensures.accepted in
     let tells = accepted.0 in
     let taken = ap (λ id. is_some (row_of id table)) (sym c.deref.ensures.value) ∙ said_row c.has.result (row_of c.deref.result.now table) c.has.ensures in
-    let steps = c.in_ok-admit.ensures.passes (admitted_as c.self.inside.party c.self.inside.policy (registration_response_of c.args.response.now) table (option_map (λ s. registration_of s.now) c.registration-expected.result))
+    let steps = c.in_ok-admit.ensures.passes (admitted_as c.self.inside.party c.self.inside.policy (registration_parts_view c.args.response.now) table (option_map (λ s. registration_view s.now) c.registration-expected.result))
     tells taken (said_full c.is_full.result table c.is_full.ensures) in
     subst (λ id. row_of id table ≡ None) (sym tells.4) (no_row (row_of tells.2.id table) (steps.0 tells.0 tells.1 tells.2 tells.3))
 
@@ -56,7 +56,7 @@ push-requires-clause-room g c =
     let table = c.self.inside.table in
     let accepted = c.in_ok-verified.ensures.accepted in
     let taken = ap (λ id. is_some (row_of id table)) (sym c.deref.ensures.value) ∙ said_row c.has.result (row_of c.deref.result.now table) c.has.ensures in
-    let steps = c.in_ok-admit.ensures.passes (admitted_as c.self.inside.party c.self.inside.policy (registration_response_of c.args.response.now) table (option_map (λ s. registration_of s.now) c.registration-expected.result))
+    let steps = c.in_ok-admit.ensures.passes (admitted_as c.self.inside.party c.self.inside.policy (registration_parts_view c.args.response.now) table (option_map (λ s. registration_view s.now) c.registration-expected.result))
     accepted.0 taken (said_full c.is_full.result table c.is_full.ensures) in
     has_room table steps.1.0
 
@@ -65,9 +65,9 @@ returns-clause-accepted g c =
     let table = c.self.inside.table in
     let accepted = c.in_ok-verified.ensures.accepted in
     let tells = accepted.0 in
-    let same = same_enrolment c.self.inside.party c.self.inside.policy (registration_response_of c.args.response.now) (λ id. is_some (row_of id table)) (is_full table) _ _ c.registration-expected.ensures.expected in
+    let same = same_enrolment c.self.inside.party c.self.inside.policy (registration_parts_view c.args.response.now) (λ id. is_some (row_of id table)) (is_full table) _ _ c.registration-expected.ensures.expected in
     let taken = ap (λ id. is_some (row_of id table)) (sym c.deref.ensures.value) ∙ said_row c.has.result (row_of c.deref.result.now table) c.has.ensures in
-    let x = admitted_as c.self.inside.party c.self.inside.policy (registration_response_of c.args.response.now) table (option_map (λ s. registration_of s.now) c.registration-expected.result) in
+    let x = admitted_as c.self.inside.party c.self.inside.policy (registration_parts_view c.args.response.now) table (option_map (λ s. registration_view s.now) c.registration-expected.result) in
     let steps = c.in_ok-admit.ensures.passes x accepted.0 taken (said_full c.is_full.result table c.is_full.ensures) in
     rw (← c.self.view_is) (
       subst (PassesAll (g.V.Verifier.valid c.args.verifier.now)) same (all_pass (g.V.Verifier.valid c.args.verifier.now) x (accepted.1 (λ id. is_some (row_of id table)) (is_full table)) steps),
@@ -77,8 +77,8 @@ returns-clause-accepted g c =
 pub returns-clause-after : goal.returns-clause-after
 returns-clause-after g c =
     let tells = c.in_ok-verified.ensures.accepted.0 in
-    let open_for = sym c.registration-expected.ensures.expected ∙ ap (option_map (λ s. registration_of s.now)) c.unwrap.ensures in
-    let e = registration_of c.unwrap.result.now in
+    let open_for = sym c.registration-expected.ensures.expected ∙ ap (option_map (λ s. registration_view s.now)) c.unwrap.ensures in
+    let e = registration_view c.unwrap.result.now in
     rw (← c.self.view_is) (
       e,
       tells.0,

@@ -1,0 +1,104 @@
+-- A response passes each step of a registration.
+use Rattle.std.proofs.Common.{◌≡◌, ◌⊎◌, ℕ, List, true, false, Some, refl, sym, ◌∙◌, ap, subst, Contains}
+use Rattle.first_line.specs.Lines.{Each}
+use Rattle.clientdata.specs.declared.record.Kind.TheVariants.{Create}
+use Rattle.clientdata.specs.Reading.{seen_of}
+use Rattle.cose.specs.Keys.{alg_of}
+use Rattle.authdata.specs.Layout.{AttestedCredential, AuthenticatorData, AuthOf}
+use Rattle.authdata.specs.Objects.{Attestation, ObjectOf}
+use Rattle.authdata.specs.Responses as responses
+use Rattle.authdata.specs.Statements.{IsKnownFormat, IsNone, IsSelfSigned}
+use Rattle.verification.specs.ClientData.{Says, lines}
+use Rattle.verification.specs.Records.{Registration}
+use Rattle.verification.specs.Registration.{Attested, Attests, Enrolment, PassesAll, hash_in}
+use Rattle.verification.specs.Shared.{HasChallenge, IsFor, IsPresent, IsVerifiedAs, Relation}
+use Rattle.verification.proofs.Steps.{of_some}
+use Rattle.std.specs.Option.{ForSome}
+
+-- at most one object, authenticator auth and credential are attested
+pub record Readings : Type 0 where
+  pub one_value : (a b : AuthenticatorData) (bs : List ℕ) → AuthOf a bs → AuthOf b bs → a ≡ b
+  pub one_object : (o p : Attestation) (bs : List ℕ) → ObjectOf o bs → ObjectOf p bs → o ≡ p
+
+pub record Same (o p : Attestation) (a b : AuthenticatorData) (c d : AttestedCredential) : Type 0 where
+  pub object : o ≡ p
+  pub auth_data : a ≡ b
+  pub credential : c ≡ d
+
+pub one_attested : Readings → (r : responses.Registration) (o p : Attestation) (a b : AuthenticatorData) (c d : AttestedCredential) → Attests r o a c → Attests r p b d → Same o p a b c d
+one_attested readings r o p a b c d x y =
+    let object = readings.one_object o p r.object x.object y.object in
+    let auth = readings.one_value a b p.auth_data (subst (λ (q : Attestation). AuthOf a q.auth_data) object x.auth_data) y.auth_data in
+    let some : Some c ≡ Some d = sym x.attested ∙ ap (λ (e : AuthenticatorData). e.attested) auth ∙ y.attested in
+    record { object = object; auth_data = auth; credential = cc }
+
+module _ (readings : Readings) (valid : Relation) (x : Enrolment) (e : Registration) (o : Attestation) (a : AuthenticatorData) (c : AttestedCredential) where
+  -- what holds of what the response attests
+  all : (P : Attestation → AuthenticatorData → AttestedCredential → Type 0) → Attests x.response o a c → P o a c → Attested x.response P
+  all P is h p b d other =
+      let same = one_attested readings x.response o p a b c d is other in
+      subst (λ (k : AttestedCredential). P p b k) same.credential
+      (subst (λ (k : AuthenticatorData). P p k c) same.auth_data (subst (λ (k : Attestation). P k a c) same.object h))
+
+  pub record Enrols : Type 0 where
+    pub is_open : x.session ≡ Some e
+    pub says : Each (Says Create e.challenge x.rp x.response.client_data) lines
+    pub attests : Attests x.response o a c
+    pub party : IsFor x.rp a
+    pub present : IsPresent a
+    pub verified : IsVerifiedAs e.verified a
+    pub offered : Contains e.algorithms (alg_of c.key)
+    pub known : IsKnownFormat o.fmt
+    pub statement : IsNone o ⊎ IsSelfSigned valid o c.key (hash_in x.response)
+    pub accepted : (IsNone o → x.policy.accept_none ≡ true) × (IsSelfSigned valid o c.key (hash_in x.response) → x.policy.accept_self ≡ true)
+    pub not_registered : x.is_registered c.id ≡ false
+    pub not_full : x.is_full ≡ false
+
+  pub enrols : Enrols → PassesAll valid x
+  enrols h =
+      let s = h.says in (
+        rw h.is_open refl,
+        (
+          s.0,
+          (
+            s.1.0,
+            (
+              of_some (λ (f : Registration). ForSome (seen_of x.response.client_data) (HasChallenge f.challenge)) x.session e h.is_open s.1.1.0,
+              (
+                s.1.1.1.0,
+                (
+                  s.1.1.1.1.0,
+                  (
+                    (o, a, c, h.attests),
+                    (
+                      all (λ p b d. IsFor x.rp b) h.attests h.party,
+                      (
+                        all (λ p b d. IsPresent b) h.attests h.present,
+                        (
+                          of_some (λ (f : Registration). Attested x.response (λ p b d. IsVerifiedAs f.verified b)) x.session e h.is_open
+                              (all (λ p b d. IsVerifiedAs e.verified b) h.attests h.verified),
+                          (
+                            of_some (λ (f : Registration). Attested x.response (λ p b d. Contains f.algorithms (alg_of d.key))) x.session e h.is_open
+                                (all (λ p b d. Contains e.algorithms (alg_of d.key)) h.attests h.offered),
+                            (
+                              all (λ p b d. IsKnownFormat p.fmt) h.attests h.known,
+                              (
+                                all (λ p b d. IsNone p ⊎ IsSelfSigned valid p d.key (hash_in x.response)) h.attests h.statement,
+                                (
+                                  all (λ p b d. (IsNone p → x.policy.accept_none ≡ true) × (IsSelfSigned valid p d.key (hash_in x.response) → x.policy.accept_self ≡ true))
+                                      h.attests h.accepted,
+                                  (all (λ p b d. x.is_registered d.id ≡ false) h.attests h.not_registered, (h.not_full, tt)),
+                                ),
+                              ),
+                            ),
+                          ),
+                        ),
+                      ),
+                    ),
+                  ),
+                ),
+              ),
+            ),
+          ),
+        ),
+      )

@@ -1,0 +1,17 @@
+pub mod Links
+pub mod Lists
+pub mod Keepalives
+pub mod Exchanges
+pub mod Delivered
+pub mod Asking
+pub mod Storing
+pub mod Enrolling
+pub mod Registering
+pub mod SigningIn
+pub mod Runs
+pub mod Below
+pub mod Sites
+pub mod Worlds
+pub mod Accepted
+pub mod Retired
+pub mod AllRuns

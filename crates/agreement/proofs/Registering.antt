@@ -1,0 +1,227 @@
+-- An honest registration is accepted.
+use Rattle.std.proofs.Common.{◌≡◌, ◌≢◌, ◌⊎◌, inl, inr, ℕ, ◌<◌, ◌≤◌, ◌+◌, ◌^◌, List, [], ◌∷◌, ◌++◌, length, Bool, true, false, not, is_some, Option, Some, codes, refl, sym, ◌∙◌, ap, subst, arith, rules, Contains}
+use Rattle.std.specs.Prelude.{nat_lt}
+use Rattle.clientdata.specs.declared.record.Kind.TheVariants.{Create}
+use Rattle.clientdata.specs.Serialised.{client_data_text, hash_of}
+use Rattle.cose.specs.Keys.{alg_of}
+use Rattle.cose.specs.Schemes.{Validity}
+use Rattle.cose.specs.declared.key.Alg.{Alg}
+use Rattle.cose.specs.declared.key.CoseKey.{CoseKey}
+use Rattle.authdata.specs.Flags.{is_set, BE, UP, UV}
+use Rattle.authdata.specs.Layout.{AttestedCredential, AuthenticatorData}
+use Rattle.authdata.specs.Objects.{Attestation}
+use Rattle.authdata.specs.Statements.{IsKnownFormat, IsNone, IsSelfSigned}
+use Rattle.authdata.specs.declared.statement.AttestationType.{AttestationType}
+use Rattle.authdata.specs.declared.statement.AttestationType.TheVariants as types
+use Rattle.ctapmsg.specs.Replies.{Creation, ReplyOf, creation_reply}
+use Rattle.ctapmsg.specs.Requests.{CreationRequest, make_credential}
+use Rattle.verification.specs.Records as expects
+use Rattle.verification.specs.Registration as steps
+use Rattle.verification.specs.RegistrationAnswers.{Accepts}
+use Rattle.verification.specs.declared.party.Policy.{Policy}
+use Rattle.verification.proofs.Expected.{expected_says}
+use Rattle.credentials.specs.Table.{row_of}
+use Rattle.site.specs.State as site
+use Rattle.site.specs.State.{IsAfterRegistration, enrolment_in, registered}
+use Rattle.authenticator.specs.State.{Credential, State}
+use Rattle.authenticator.specs.Credentials.{credential_of, resident_ids}
+use Rattle.authenticator.specs.Orders.{kept}
+use Rattle.authenticator.specs.Steps.{Attests, Creates, Entry, Keys, Outcome, Unless, creation_data, new_credential, uv_bit}
+use Rattle.authenticator.specs.declared.consent.Consent.{Consent}
+use Rattle.client.specs.Asked.{creation_of, registration_data}
+use Rattle.client.specs.Responses.{object_of}
+use Rattle.ceremony.specs.Registration.{IsAfter, response}
+use Rattle.ceremony.specs.Verdict.{Delivers}
+use Rattle.ceremony.proofs.Objects.{has_object}
+use Rattle.ceremony.proofs.OneVerdict.{registration_one}
+use Rattle.agreement.specs.Ends.{IsIdleOn}
+use Rattle.agreement.specs.Honest.{IsHonestRegistration, IsShared, Registering, Registers}
+use Rattle.agreement.proofs.Links.{Links}
+use Rattle.agreement.proofs.Exchanges.{Replied, replied}
+use Rattle.agreement.proofs.Delivered.{delivers}
+use Rattle.agreement.proofs.Asking.{asks_resident, asks_verified, carried_out, chosen, none_against_creation}
+use Rattle.agreement.proofs.Storing.{few_kept, found_last, newest_first, none_kept, row_last}
+use Rattle.agreement.proofs.Enrolling.{Enrols, Readings, enrols, one_attested}
+
+-- ---- flags
+
+pub record CreationBits (uv : Bool) : Type 0 where
+  pub present : is_set (0x41 + uv_bit uv) UP ≡ true
+  pub verified : uv ≡ true → is_set (0x41 + uv_bit uv) UV ≡ true
+  pub eligible : is_set (0x41 + uv_bit uv) BE ≡ false
+
+creation_bits : (uv : Bool) → CreationBits uv
+creation_bits true = record { present = refl; verified = λ e. refl; eligible = refl }
+creation_bits false = record { present = refl; verified = λ e. absurd cc; eligible = refl }
+
+-- ---- statements
+
+not_packed : (fmt : List ℕ) → fmt ≡ codes "none" → fmt ≡ codes "packed" → ⊥
+not_packed fmt a b = let bad : codes "none" ≡ codes "packed" = sym a ∙ b in absurd cc
+
+record Stated (valid : Validity) (policy : Policy) (o : Attestation) (key : CoseKey) (hash : List ℕ) : Type 0 where
+  pub known : IsKnownFormat o.fmt
+  pub statement : IsNone o ⊎ IsSelfSigned valid o key hash
+  pub accepted : (IsNone o → policy.accept_none ≡ true) × (IsSelfSigned valid o key hash → policy.accept_self ≡ true)
+
+stated : (valid : Validity) (policy : Policy) (attest : AttestationType) (key : CoseKey) (hash : List ℕ) (consent : Consent) (r : Creation) (signed : List Entry)
+    → Accepts policy attest → Attests valid key hash consent attest r signed → Stated valid policy (object_of r) key hash
+stated valid policy types.None key hash consent r signed accepts x = record {
+  known = inl x.0;
+  statement = inl (x.0, x.1);
+  accepted = (λ n. accepts, λ s. absurd (not_packed r.fmt x.0 s.0));
+}
+stated valid policy types.SelfSigned key hash consent r signed accepts x =
+    let self : IsSelfSigned valid (object_of r) key hash = (x.0, (x.1.0, x.1.2, x.1.1.2)) in
+    record { known = inr x.0; statement = inr self; accepted = (λ n. absurd (not_packed r.fmt n.0 x.0), λ s. accepts) }
+
+-- ---- the site afterwards
+
+room_for : (n : ℕ) → n < 65536 → not (nat_lt n 65536) ≡ false
+room_for n lt = let less : nat_lt n 65536 ≡ true = search (rules, lt) in rw less refl
+
+module _ (links : Links) (readings : Readings) (valid : Validity) (public : Keys) (keeps : (alg : Alg) (secret : List ℕ) → alg_of (public alg secret) ≡ alg)
+    (x : Registering) (idle : IsIdleOn x.channel x.before) (h : IsHonestRegistration valid public x) where
+  abbrev a : State
+  a = x.before.authenticator
+
+  abbrev text : List ℕ
+  text = registration_data x.origin x.options
+
+  abbrev q : CreationRequest
+  q = creation_of x.options text
+
+  abbrev m : List ℕ
+  m = h.decided.asks.message
+
+  some : m ≢ []
+  some e = let is = h.decided.asks.written.0.1 in let bad : [] ≡ 1 ∷ h.decided.asks.written.0.0 = sym e ∙ is in absurd cc
+
+  came : Replied valid public x.channel m h.decided.consent x.words x.before x.packets x.after
+  came = replied links valid public x.channel m x.out.packets h.decided.waits h.decided.consent x.words x.before x.after x.packets idle some h.decided.asks.packets.frames h.decided.exchange
+
+  abbrev outcome : Outcome
+  outcome = record { reply = came.reply; state = x.after.authenticator; signed = came.steps.0; made = came.steps.1 }
+
+  abbrev t : List ℕ
+  t = x.out.client_data
+
+  text_is : t ≡ text
+  text_is = h.decided.asks.client_data
+
+  creates : Creates valid public a q h.decided.consent x.words outcome
+  creates =
+      let none = none_against_creation a x.options text h.decided.consent x.words h.offered h.decided.configured h.decided.present h.decided.verified h.not_excluded h.not_stored
+      (few_kept a.credentials q h.room) in
+      subst (λ (o : Option ℕ). Unless o a outcome (Creates valid public a q h.decided.consent x.words outcome)) none
+      (carried_out valid public a x.channel m h.decided.consent x.words outcome (make_credential q) h.decided.asks.written came.steps.2)
+
+  abbrev key : CoseKey
+  key = public creates.alg x.words.secret
+
+  abbrev auth : AuthenticatorData
+  auth = creation_data a q x.words.id key
+
+  abbrev attested : AttestedCredential
+  attested = record { aaguid = a.aaguid; id = x.words.id; key = key }
+
+  abbrev new : Credential
+  new = new_credential q creates.alg x.words
+
+  abbrev r : Creation
+  r = creates.shown
+
+  abbrev enrolment : steps.Enrolment
+  enrolment = enrolment_in x.site x.session (response r t)
+
+  flags_are : auth.flags ≡ 0x41 + uv_bit x.options.uv
+  flags_are = ap (λ b. 0x41 + uv_bit b) (asks_verified x.options.rk x.options.uv)
+
+  attests : steps.Attests (response r t) (object_of r) auth attested
+  attests = record { object = has_object r came.reply creates.reply; auth_data = creates.spelled; attested = refl }
+
+  offered : Contains x.expected.algorithms (alg_of key)
+  offered =
+      let c = chosen x.options.algs h.offered in
+      let some_alg : Some c.0 ≡ Some creates.alg = sym c.1 ∙ creates.chosen in
+      let same : c.0 ≡ alg_of key = (let is : c.0 ≡ creates.alg = cc in is ∙ sym (keeps creates.alg x.words.secret)) in
+      subst (λ (offered : List Alg). Contains offered (alg_of key)) h.algorithms (subst (λ (alg : Alg). Contains x.options.algs alg) same c.2)
+
+  says_how : Stated valid x.site.policy (object_of r) key (hash_of t)
+  says_how =
+      subst (λ (b : List ℕ). Stated valid x.site.policy (object_of r) key (hash_of b)) (sym text_is)
+      (stated valid x.site.policy a.attest key q.client_data_hash h.decided.consent r came.steps.0 h.accepted creates.attested)
+
+  enrolled : Enrols readings valid enrolment x.expected (object_of r) auth attested
+  enrolled = record {
+    is_open = h.is_open;
+    says =
+        expected_says Create x.expected.challenge t x.site.rp
+        (x.origin, false, h.origin, h.origin_text, text_is ∙ ap (λ c. client_data_text Create c x.origin false) h.challenge);
+    attests = attests;
+    party = ap hash_of h.rp_id;
+    present = ap (λ f. is_set f UP) flags_are ∙ (creation_bits x.options.uv).present;
+    verified = λ is. ap (λ f. is_set f UV) flags_are ∙ (creation_bits x.options.uv).verified (h.verified ∙ is);
+    offered = offered;
+    known = says_how.known;
+    statement = says_how.statement;
+    accepted = says_how.accepted;
+    not_registered = ap is_some h.not_registered;
+    not_full = room_for (length x.site.rows) h.site_room;
+  }
+
+  low : x.channel < 2 ^ 32
+  low =
+      let few : x.after.channels ≤ 65535 = links.most x.after.history x.after.channels x.after.device came.idle.reading in
+      let within : x.channel ≤ x.after.channels = came.idle.out.1 in
+      omega (arith, few, within)
+
+  delivered : Delivers x.channel x.packets (length x.packets) came.reply
+  delivered = delivers links x.channel came.reply came.waits x.packets low came.payload came.are_waits came.all
+
+  -- the row that is registered
+  abbrev row : expects.Credential
+  row = registered x.expected auth attested
+
+  row_is : Some row ≡ Some (record { id = x.words.id; user = x.options.user_id; key = key; sign_count = 0; eligible = Some false; retired = false })
+  row_is =
+      ap (λ (u : List ℕ). Some (record row { user = u })) (sym h.user)
+      ∙ ap (λ (b : Bool). Some (record row { user = x.options.user_id; eligible = Some b })) (ap (λ f. is_set f BE) flags_are ∙ (creation_bits x.options.uv).eligible)
+
+  stored : x.after.authenticator.credentials ≡ kept a.credentials q ++ new ∷ []
+  stored = ap (λ (s : State). s.credentials) creates.state
+
+  shared : (s : site.State) → IsAfter x.site x.session t x.channel x.packets s → IsShared public s x.after.authenticator new 0
+  shared s k =
+      let o = links.carried x.channel k.0 (length x.packets) x.packets 16 16 k.1 came.reply k.3.0 (omega arith) k.3.1 delivered.1 in
+      let one : k.2 ≡ r = (registration_one valid x.site x.session t).one_reply k.2 r came.reply (subst (λ (l : List ℕ). ReplyOf (creation_reply k.2) l) o.2 k.4) creates.reply in
+      let after : IsAfterRegistration x.site x.session (response r t) s = subst (λ (z : Creation). IsAfterRegistration x.site x.session (response z t) s) one k.5 in
+      let same = one_attested readings (response r t) after.1 (object_of r) after.2 auth after.3 attested after.5 attests in
+      let some_expected : Some after.0 ≡ Some x.expected = sym after.4 ∙ h.is_open in
+      let expected : after.0 ≡ x.expected = cc in
+      let rows : s.rows ≡ x.site.rows ++ row ∷ [] =
+      ap (λ (z : site.State). z.rows) after.6 ∙ ap (λ e. x.site.rows ++ registered e after.2 after.3 ∷ []) expected
+      ∙ ap (λ d. x.site.rows ++ registered x.expected d after.3 ∷ []) same.auth_data ∙ ap (λ c. x.site.rows ++ registered x.expected auth c ∷ []) same.credential in
+      record {
+        stored = ap (credential_of x.words.id) stored ∙ found_last (kept a.credentials q) new (none_kept a.credentials q x.words.id h.not_stored);
+        sign_count = refl;
+        rp_id = h.rp_id ∙ sym (ap (λ (z : site.State). z.rp.rp_id) after.6);
+        registered = ap (row_of x.words.id) rows ∙ row_last x.site.rows row h.not_registered ∙ row_is;
+      }
+
+  pub registers : Registers valid public x
+  registers = record {
+    reply = r;
+    accepted = (came.reply, delivered, creates.reply, enrols readings valid enrolment x.expected (object_of r) auth attested enrolled);
+    credential = new;
+    id = refl;
+    rp_id = refl;
+    user = refl;
+    resident = asks_resident x.options.rk x.options.uv;
+    shared = shared;
+    newest = λ is. (
+      _,
+      ap (λ cs. resident_ids x.options.rp_id cs) stored ∙ newest_first x.options.rp_id (kept a.credentials q) new (asks_resident x.options.rk x.options.uv ∙ is) refl,
+    );
+    idle = came.idle;
+  }

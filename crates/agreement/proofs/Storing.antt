@@ -1,0 +1,100 @@
+-- Credentials that are stored and registered.
+use Rattle.std.proofs.Common.{◌≡◌, ℕ, ◌<◌, ◌≤◌, List, [], ◌∷◌, ◌++◌, length, map, filter, reverse, Bool, true, false, cond, Some, None, refl, sym, ◌∙◌, ap, arith, inl, inr}
+use Rattle.std.proofs.lemmas.Bool.{cases_Bool}
+use Rattle.std.proofs.lemmas.List.{map-append, reverse-append}
+use Rattle.std.proofs.lemmas.List.Elements.{filter-append}
+use Rattle.std.specs.Str.{bytes_eq}
+use Rattle.std.specs.Cmp.Lexicographic.{bytes_decides}
+use Rattle.ctapmsg.specs.Requests.{CreationRequest}
+use Rattle.authenticator.specs.State.{Credential}
+use Rattle.authenticator.specs.Credentials.{credential_of, is_resident_for, is_resident_of, resident_ids, without_first}
+use Rattle.authenticator.specs.Orders.{candidates, creation_flags, is_stored_for, is_true, kept}
+use Rattle.client.specs.Asked.{descriptor_of}
+use Rattle.verification.specs.Records as registered
+use Rattle.credentials.specs.Table.{row_of}
+use Rattle.credentials.proofs.RowLemmas.{behind, here}
+
+pub itself : (bs : List ℕ) → bytes_eq bs bs ≡ true
+itself bs = (bytes_decides bs bs).1 refl
+
+-- ---- at the authenticator
+
+first_is : (id : List ℕ) (c : Credential) (cs : List Credential) → bytes_eq c.id id ≡ true → credential_of id (c ∷ cs) ≡ Some c
+first_is id c cs e = rw e refl
+
+first_is_not : (id : List ℕ) (c : Credential) (cs : List Credential) → bytes_eq c.id id ≡ false → credential_of id (c ∷ cs) ≡ credential_of id cs
+first_is_not id c cs e = rw e refl
+
+-- an id that none has is not that of the first, and none behind has it
+none_of : (id : List ℕ) (c : Credential) (cs : List Credential) → credential_of id (c ∷ cs) ≡ None → (bytes_eq c.id id ≡ false) × (credential_of id cs ≡ None)
+none_of id c cs none = elim (cases_Bool (bytes_eq c.id id)) [
+  | inl is ↦ let found = first_is id c cs is in absurd cc
+  | inr other ↦ (other, sym (first_is_not id c cs other) ∙ none)
+]
+
+none_without : (test : Credential → Bool) (id : List ℕ) (cs : List Credential) → credential_of id cs ≡ None → credential_of id (without_first test cs) ≡ None
+none_without test id [] none = refl
+none_without test id (c ∷ cs) none =
+    let o = none_of id c cs none in
+    split (test c) o.0 o.1 (none_without test id cs o.1)
+  where
+    split : (b : Bool) → bytes_eq c.id id ≡ false → credential_of id cs ≡ None → credential_of id (without_first test cs) ≡ None
+        → credential_of id (cond b cs (c ∷ without_first test cs)) ≡ None
+    split true other none rest = none
+    split false other none rest = first_is_not id c (without_first test cs) other ∙ rest
+
+fewer : (test : Credential → Bool) (cs : List Credential) → length (without_first test cs) ≤ length cs
+fewer test [] = omega arith
+fewer test (c ∷ cs) = split (test c) (fewer test cs)
+  where
+    split : (b : Bool) → length (without_first test cs) ≤ length cs → length (cond b cs (c ∷ without_first test cs)) ≤ length (c ∷ cs)
+    split true less = omega arith
+    split false less = omega (arith, less)
+
+pub none_kept : (cs : List Credential) (q : CreationRequest) (id : List ℕ) → credential_of id cs ≡ None → credential_of id (kept cs q) ≡ None
+none_kept cs q id none = split (is_true (creation_flags q.options).rk)
+  where
+    split : (b : Bool) → credential_of id (cond b (without_first (is_resident_of q.rp.id q.user.id) cs) cs) ≡ None
+    split true = none_without (is_resident_of q.rp.id q.user.id) id cs none
+    split false = none
+
+pub few_kept : (cs : List Credential) (q : CreationRequest) → length cs < 256 → length (kept cs q) < 256
+few_kept cs q few = split (is_true (creation_flags q.options).rk)
+  where
+    split : (b : Bool) → length (cond b (without_first (is_resident_of q.rp.id q.user.id) cs) cs) < 256
+    split true = let less = fewer (is_resident_of q.rp.id q.user.id) cs in omega (arith, less, few)
+    split false = few
+
+-- one more stands last
+pub found_last : (cs : List Credential) (c : Credential) → credential_of c.id cs ≡ None → credential_of c.id (cs ++ c ∷ []) ≡ Some c
+found_last [] c none = first_is c.id c [] (itself c.id)
+found_last (x ∷ xs) c none = let o = none_of c.id x xs none in first_is_not c.id x (xs ++ c ∷ []) o.0 ∙ found_last xs c o.1
+
+pub newest_first : (rp_id : List ℕ) (cs : List Credential) (c : Credential) → c.resident ≡ true → c.rp_id ≡ rp_id
+    → resident_ids rp_id (cs ++ c ∷ []) ≡ c.id ∷ resident_ids rp_id cs
+newest_first rp_id cs c resident of =
+    let own : bytes_eq c.rp_id rp_id ≡ true = (bytes_decides c.rp_id rp_id).1 of in
+    let is : is_resident_for rp_id c ≡ true = rw resident own in
+    let last : filter (is_resident_for rp_id) (c ∷ []) ≡ c ∷ [] = rw is refl in
+    let more : filter (is_resident_for rp_id) (cs ++ c ∷ []) ≡ filter (is_resident_for rp_id) cs ++ c ∷ [] =
+    filter-append (is_resident_for rp_id) cs (c ∷ []) ∙ ap (λ xs. filter (is_resident_for rp_id) cs ++ xs) last in
+    ap (λ xs. reverse (map (λ (x : Credential). x.id) xs)) more
+    ∙ ap reverse (map-append (λ (x : Credential). x.id) (filter (is_resident_for rp_id) cs) (c ∷ []))
+    ∙ reverse-append (map (λ (x : Credential). x.id) (filter (is_resident_for rp_id) cs)) (c.id ∷ [])
+
+-- a credential that is asked for by its id answers
+pub listed : (cs : List Credential) (rp_id : List ℕ) (c : Credential) → credential_of c.id cs ≡ Some c → c.rp_id ≡ rp_id
+    → candidates cs rp_id (Some (descriptor_of c.id ∷ [])) ≡ c.id ∷ []
+listed cs rp_id c found of =
+    let own : bytes_eq c.rp_id rp_id ≡ true = (bytes_decides c.rp_id rp_id).1 of in
+    let is : is_stored_for rp_id cs (descriptor_of c.id) ≡ true = rw found own in
+    rw is refl
+
+-- ---- at the site
+
+pub row_last : (rows : List registered.Credential) (row : registered.Credential) → row_of row.id rows ≡ None → row_of row.id (rows ++ row ∷ []) ≡ Some row
+row_last [] row none = here row.id row [] (itself row.id)
+row_last (r ∷ rows) row none = elim (cases_Bool (bytes_eq row.id r.id)) [
+  | inl is ↦ let found = here row.id r rows is in absurd cc
+  | inr other ↦ behind row.id r (rows ++ row ∷ []) other ∙ row_last rows row (sym (behind row.id r rows other) ∙ none)
+]

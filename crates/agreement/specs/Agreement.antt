@@ -1,0 +1,162 @@
+-- No sign-in without a fresh assertion: what holds of each run, if signatures can't be forged.
+use Rattle.std.specs.Prelude.{◌≡◌, ◌≢◌, ℕ, List, [], ◌∷◌, ◌++◌, Option, Some, None, true, Contains}
+use Rattle.std.specs.List.{All, AllPairs}
+use Rattle.sha2.specs.Sha256.{sha256}
+use Rattle.hidframe.specs.declared.Packet.{Packet}
+use Rattle.cose.specs.Schemes.{Validity}
+use Rattle.cose.specs.declared.key.CoseKey.{CoseKey}
+use Rattle.authdata.specs.Layout.{AuthenticatorData, AuthOf}
+use Rattle.authdata.specs.Responses.{Assertion}
+use Rattle.ctapmsg.specs.Replies as replies
+use Rattle.ctapmsg.specs.Replies.{ReplyOf, assertion_reply}
+use Rattle.verification.specs.Records.{Credential, SignIn}
+use Rattle.credentials.specs.Table.{row_of}
+use Rattle.sessions.specs.Sessions.{sign_in_at}
+use Rattle.authenticator.specs.Steps.{Entry, Keys, assertion}
+use Rattle.client.specs.Responses.{response_of}
+use Rattle.ceremony.specs.Verdict.{Delivers}
+use Rattle.agreement.specs.World.{AtSite, Asks, Done, Event, IsRun, IsStart, Moment, Registers, RegistersBy, Retires, SignsIn, SignsInBy, SiteEvent, World}
+
+-- ---- sign-ins
+
+-- the packets carry a reply that makes this response with the client data
+abbrev pub Carried : ℕ → List Packet → List ℕ → Assertion → Type 0
+Carried c ps t r = (n : ℕ) × (m : List ℕ) × (a : replies.Assertion) × Delivers c ps n m × ReplyOf (assertion_reply a) m × (r ≡ response_of a t)
+
+-- the event brings this response to the session
+abbrev pub BringsTo : SiteEvent → ℕ → Assertion → Type 0
+BringsTo (SignsIn k s) n r = (k ≡ n) × (s ≡ r)
+BringsTo (SignsInBy k c ps t) n r = (k ≡ n) × Carried c ps t r
+BringsTo e n r = ⊥
+
+-- to that of site i
+abbrev pub Brings : Event → ℕ → ℕ → Assertion → Type 0
+Brings (AtSite j e) i n r = (j ≡ i) × BringsTo e n r
+Brings (Asks k channel bs consent words) i n r = ⊥
+
+-- a sign-in with this response for a credential that is registered at the site, whether it is accepted or not
+pub record Tries (m : Moment) (i n : ℕ) (r : Assertion) (row : Credential) : Type 0 where
+  pub brings : Brings m.event i n r
+  pub found : row_of r.credential (m.old.site i).rows ≡ Some row
+
+-- it is accepted
+pub record IsAccepted (m : Moment) (i n : ℕ) (r : Assertion) (row : Credential) : Type 0 where
+  pub tries : Tries m i n r row
+  pub done : m.end ≡ Done
+
+-- ---- signings
+
+-- what is signed for the response: the authenticator data, and then the hash of the client data
+abbrev pub message_of : Assertion → List ℕ
+message_of r = r.auth_data ++ sha256 r.client_data
+
+-- an authenticator has made the key
+abbrev pub WasMade : World → CoseKey → Type 0
+WasMade w key = (k : ℕ) × Contains (w.holder k).made key
+
+-- an authenticator that has made the key has signed the message under it
+pub record WasSigned (w : World) (key : CoseKey) (message : List ℕ) : Type 0 where
+  pub holder : ℕ
+  pub made : Contains (w.holder holder).made key
+  pub entry : Entry
+  pub there : Contains (w.holder holder).signed entry
+  pub under : entry.key ≡ key
+  pub of : entry.message ≡ message
+
+-- Signatures can't be forged: where a sign-in brings a valid signature under a key that was made, it was signed before.
+abbrev pub IsIdeal : Validity → Moment → Type 0
+IsIdeal valid m =
+    (i n : ℕ) (r : Assertion) (row : Credential) → Tries m i n r row → valid row.key (message_of r) r.signature
+    → WasMade m.old row.key → WasSigned m.old row.key (message_of r)
+
+-- the entry is an assertion by some authenticator, under the credential's key, for this response
+pub record RestsOn (m : Moment) (r : Assertion) (row : Credential) (e : Entry) : Type 0 where
+  pub there : (k : ℕ) × Contains (m.old.holder k).signed e
+  pub purpose : e.purpose ≡ assertion
+  pub key : e.key ≡ row.key
+  pub message : e.message ≡ message_of r
+
+-- ---- what holds
+
+-- the entry signed the hash of the site's rp id, the counter that is stored from then on, and the hash of just these
+-- client data
+pub record Says (m : Moment) (i : ℕ) (r : Assertion) (e : Entry) : Type 0 where
+  pub auth : AuthenticatorData
+  pub bytes : List ℕ
+  pub spelled : AuthOf auth bytes
+  pub bare : auth.attested ≡ None
+  pub message : e.message ≡ bytes ++ sha256 r.client_data
+  pub rp_id : auth.rp_id_hash ≡ sha256 (m.old.site i).rp.rp_id
+  pub after : Credential
+  pub stored : row_of r.credential (m.new.site i).rows ≡ Some after
+  pub sign_count : after.sign_count ≡ auth.sign_count
+
+-- the user was present at the getAssertion that the entry answers, and verified if the session required it
+pub record Consented (m : Moment) (i n : ℕ) (e : Entry) : Type 0 where
+  pub present : e.consent.present ≡ true
+  pub verified : (x : SignIn) → sign_in_at n (m.old.site i).sessions ≡ Some x → x.verified ≡ true → e.consent.verified ≡ true
+
+-- an accepted sign-in for a credential whose key was made rests on an entry, and each on which it rests says so
+abbrev pub Agrees : Moment → Type 0
+Agrees m =
+    (i n : ℕ) (r : Assertion) (row : Credential) → IsAccepted m i n r row → WasMade m.old row.key
+    → ((e : Entry) × RestsOn m r row e) × ((e : Entry) → RestsOn m r row e → Says m i r e × Consented m i n e)
+
+-- two accepted sign-ins for one credential of a site rest on no common entry
+abbrev pub ShareNone : Moment → Moment → Type 0
+ShareNone m l =
+    (i n k : ℕ) (r t : Assertion) (row low : Credential) → IsAccepted m i n r row → IsAccepted l i k t low → r.credential ≡ t.credential
+    → (e : Entry) → RestsOn m r row e → RestsOn l t low e → ⊥
+
+-- nor do any two at all sites, where no two sites have rp ids of one hash and no two client data are of one
+abbrev pub RestsOnce : Moment → Moment → Type 0
+RestsOnce m l =
+    (i j n k : ℕ) (r t : Assertion) (row low : Credential) → IsAccepted m i n r row → IsAccepted l j k t low
+    → (sha256 (m.old.site i).rp.rp_id ≡ sha256 (l.old.site j).rp.rp_id → i ≡ j) → (sha256 r.client_data ≡ sha256 t.client_data → r.client_data ≡ t.client_data)
+    → (e : Entry) → RestsOn m r row e → RestsOn l t low e → ⊥
+
+-- the session that an event answers
+abbrev pub session_in : SiteEvent → Option ℕ
+session_in (SignsIn n r) = Some n
+session_in (SignsInBy n c ps t) = Some n
+session_in (Registers n r) = Some n
+session_in (RegistersBy n c ps t) = Some n
+session_in e = None
+
+abbrev pub Answers : Event → ℕ → ℕ → Type 0
+Answers (AtSite j e) i n = (j ≡ i) × (session_in e ≡ Some n)
+Answers (Asks k channel bs consent words) i n = ⊥
+
+-- no session of a site is accepted twice
+abbrev pub DifferInSession : Moment → Moment → Type 0
+DifferInSession m l = (i n : ℕ) → Answers m.event i n → Answers l.event i n → m.end ≡ Done → l.end ≡ Done → ⊥
+
+abbrev pub IsRegistration : SiteEvent → Type 0
+IsRegistration (Registers n r) = Unit {0}
+IsRegistration (RegistersBy n c ps t) = Unit {0}
+IsRegistration e = ⊥
+
+-- the event registers this credential at site i
+pub record Adds (l : Moment) (i : ℕ) (c : Credential) : Type 0 where
+  pub event : SiteEvent
+  pub here : l.event ≡ AtSite i event
+  pub registration : IsRegistration event
+  pub done : l.end ≡ Done
+  pub rows : (l.new.site i).rows ≡ (l.old.site i).rows ++ c ∷ []
+
+-- a credential that was retired at a site signs in no more there, and its id is not registered there again
+abbrev pub StaysRetired : Moment → Moment → Type 0
+StaysRetired m l =
+    (i : ℕ) (id : List ℕ) (row : Credential) → m.event ≡ AtSite i (Retires id) → m.end ≡ Done → row_of id (m.old.site i).rows ≡ Some row
+    → ((n : ℕ) (r : Assertion) (low : Credential) → IsAccepted l i n r low → r.credential ≢ id)
+    × ((c : Credential) → Adds l i c → c.id ≢ id)
+
+pub record Agreement (run : List Moment) : Type 0 where
+  pub agrees : All Agrees run
+  pub share_none : AllPairs ShareNone run
+  pub rests_once : AllPairs RestsOnce run
+  pub sessions : AllPairs DifferInSession run
+  pub retired : AllPairs StaysRetired run
+
+abbrev pub OfAllRuns : Validity → Keys → Type 0
+OfAllRuns valid public = (w : World) (run : List Moment) → IsStart w → IsRun valid public w run → All (IsIdeal valid) run → Agreement run

@@ -1,0 +1,4 @@
+pub mod Ends
+pub mod Honest
+pub mod World
+pub mod Agreement

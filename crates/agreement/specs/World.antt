@@ -1,0 +1,136 @@
+-- Sites and authenticators, any number of each, and all that may happen to them: the packets, the client data, the
+-- requests and the saved tables are whatever an adversary makes of them.
+use Rattle.std.specs.Prelude.{◌≡◌, ◌≢◌, ◌<◌, ◌-◌, ◌^◌, ℕ, Bool, List, [], ◌∷◌, ◌++◌, length}
+use Rattle.std.specs.FinMap as finite
+use Rattle.base64.specs.GeneralPurpose.{IsBytes}
+use Rattle.hidframe.specs.declared.Packet.{Packet}
+use Rattle.cose.specs.Schemes.{Validity}
+use Rattle.cose.specs.declared.key.CoseKey.{CoseKey}
+use Rattle.authdata.specs.Responses as responses
+use Rattle.verification.specs.Authentication as authentication
+use Rattle.verification.specs.Registration as registration
+use Rattle.saved_table.specs.Saved.{TableOf}
+use Rattle.sessions.specs.Sessions.{Opening, OpensRegistration, OpensSignIn}
+use Rattle.site.specs.State as site
+use Rattle.site.specs.State.{IsAfterRegistration, IsAfterSignIn, attempt_in, enrolment_in, none_open, saved_of}
+use Rattle.site.specs.Laws.{after_abandon, after_begin, after_retire}
+use Rattle.authenticator.specs.State as authenticator
+use Rattle.authenticator.specs.State.{new_state}
+use Rattle.authenticator.specs.Steps.{Entry, Keys, Outcome, Step}
+use Rattle.authenticator.specs.declared.consent.Consent.{Consent}
+use Rattle.authenticator.specs.declared.consent.Words.{Words}
+use Rattle.authdata.specs.declared.statement.AttestationType.{AttestationType}
+use Rattle.ceremony.specs.SignIn as by_packets
+use Rattle.ceremony.specs.Registration as registering
+use Rattle.ceremony.specs.declared.authentication.Accepted.{Accepted}
+use Rattle.ceremony.specs.declared.registration.Enrolled.{Enrolled}
+
+-- an authenticator, what it has signed, and the keys that it has made
+pub record Holder : Type 0 where
+  pub state : authenticator.State
+  pub signed : List Entry
+  pub made : List CoseKey
+
+-- sites and authenticators by their numbers
+pub record World : Type 0 where
+  pub site : ℕ → site.State
+  pub holder : ℕ → Holder
+
+-- ---- events
+
+-- at a site: what its calls do, and that it begins again with the table that it saved
+pub data SiteEvent : Type 0 where
+  Begins : (opening : Opening) → SiteEvent
+  Abandons : (session : ℕ) → SiteEvent
+  Retires : (id : List ℕ) → SiteEvent
+  SignsIn : (session : ℕ) (r : responses.Assertion) → SiteEvent
+  SignsInBy : (session c : ℕ) (ps : List Packet) (t : List ℕ) → SiteEvent
+  Registers : (session : ℕ) (r : responses.Registration) → SiteEvent
+  RegistersBy : (session c : ℕ) (ps : List Packet) (t : List ℕ) → SiteEvent
+  Restarts : SiteEvent
+
+-- at site i; or an authenticator is asked something, on whatever channel and with whatever consent
+pub data Event : Type 0 where
+  AtSite : (i : ℕ) (e : SiteEvent) → Event
+  Asks : (k channel : ℕ) (bs : List ℕ) (consent : Consent) (words : Words) → Event
+
+-- the words of a session's challenge
+abbrev pub words_of : Opening → List ℕ
+words_of (OpensSignIn user allow verified words) = words
+words_of (OpensRegistration user algorithms verified words) = words
+
+-- what is loaded of what was saved, for the same relying party
+pub record Loads (s t : site.State) : Type 0 where
+  pub bytes : List ℕ
+  pub saved : TableOf 3 (saved_of s) bytes
+  pub version : ℕ
+  pub loaded : TableOf version (saved_of t) bytes
+  pub rp : t.rp ≡ s.rp
+  pub policy : t.policy ≡ s.policy
+  pub none_open : t.sessions ≡ none_open t.sessions.next
+
+-- the effect of an event at a site, as the contracts of its calls have it
+abbrev pub Acts : Validity → site.State → SiteEvent → site.State → Type 0
+Acts valid s (Begins o) t = IsBytes (words_of o) × (s.sessions.next < 2 ^ 64 - 1) × (t ≡ after_begin s o)
+Acts valid s (Abandons n) t = t ≡ after_abandon s n
+Acts valid s (Retires id) t = t ≡ after_retire s id
+Acts valid s (SignsIn n r) t = authentication.PassesAll valid (attempt_in s n r) × IsAfterSignIn s n r t
+Acts valid s (SignsInBy n c ps d) t = (x : Accepted) × by_packets.Accepts valid s n d c ps x × by_packets.IsAfter s n d c ps t
+Acts valid s (Registers n r) t = registration.PassesAll valid (enrolment_in s n r) × IsAfterRegistration s n r t
+Acts valid s (RegistersBy n c ps d) t = (x : Enrolled) × registering.Accepts valid s n d c ps x × registering.IsAfter s n d c ps t
+Acts valid s Restarts t = Loads s t
+
+-- one site, or one authenticator, has changed and no other
+pub record ChangesSite (old new : World) (i : ℕ) (s : site.State) : Type 0 where
+  pub now : new.site i ≡ s
+  pub others : (j : ℕ) → j ≢ i → new.site j ≡ old.site j
+  pub holders : (k : ℕ) → new.holder k ≡ old.holder k
+
+pub record ChangesHolder (old new : World) (k : ℕ) (h : Holder) : Type 0 where
+  pub now : new.holder k ≡ h
+  pub others : (j : ℕ) → j ≢ k → new.holder j ≡ old.holder j
+  pub sites : (i : ℕ) → new.site i ≡ old.site i
+
+abbrev pub after_call : Holder → Outcome → Holder
+after_call h out = record { state = out.state; signed = h.signed ++ out.signed; made = h.made ++ out.made }
+
+abbrev pub Effect : Validity → Keys → World → Event → World → Type 0
+Effect valid public old (AtSite i e) new = (s : site.State) × Acts valid (old.site i) e s × ChangesSite old new i s
+Effect valid public old (Asks k channel bs consent words) new =
+    (out : Outcome) × (length words.id ≡ 32) × Step valid public (old.holder k).state channel bs consent words out
+    × ChangesHolder old new k (after_call (old.holder k) out)
+
+-- ---- runs
+
+-- an event has its effect, or none: it is refused, or memory is wanting
+pub data End : Type 0 where
+  Done : End
+  Nothing : End
+
+abbrev pub Happens : Validity → Keys → World → Event → End → World → Type 0
+Happens valid public old e Done new = Effect valid public old e new
+Happens valid public old e Nothing new = new ≡ old
+
+pub record Moment : Type 0 where
+  pub old : World
+  pub event : Event
+  pub end : End
+  pub new : World
+
+-- one moment after another
+abbrev pub IsRun : Validity → Keys → World → List Moment → Type 0
+IsRun valid public w [] = Unit {0}
+IsRun valid public w (m ∷ ms) = (m.old ≡ w) × Happens valid public m.old m.event m.end m.new × IsRun valid public m.new ms
+
+-- no session is open, and each authenticator is new: it stores nothing, has signed nothing, and has made no key
+pub record IsNew (h : Holder) : Type 0 where
+  pub aaguid : List ℕ
+  pub uv : Bool
+  pub attest : AttestationType
+  pub state : h.state ≡ new_state aaguid uv attest
+  pub signed : h.signed ≡ []
+  pub made : h.made ≡ []
+
+pub record IsStart (w : World) : Type 0 where
+  pub sites : (i : ℕ) → (w.site i).sessions.expected ≡ finite.empty
+  pub holders : (k : ℕ) → IsNew (w.holder k)

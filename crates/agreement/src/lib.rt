@@ -1,0 +1,6 @@
+//! The agreement of a site and an authenticator, from end to end.
+#![tactic(auto)]
+
+mod law;
+
+pub use law::agreement;

@@ -1,0 +1,96 @@
+//! Packets by name, and a site that they sign in at.
+
+use cose::{CoseKey, ListScheme};
+use hidframe::Packet;
+use site::{Policy, Row, Site};
+use std::alloc::{AllocError, Global};
+
+/// The bytes of each packet up to the last that is not 0: those of a reply of credential 0a with UP, counter 1 and
+/// signature 5a; keepalives; those of a message of 160 bytes in three packets; and others.
+const NAMES: &[(&str, &str)] = &[
+    (
+        "first",
+        "0000000190004400a301a2626964410a64747970656a7075626c69632d6b6579025825ba7816bf8f01cfea414140de5dae2223b00361a396177a9cb410ff61f2",
+    ),
+    ("second", "00000001000015ad010000000103415a"),
+    ("keepalive", "00000001bb000101"),
+    ("first-of-three", "000000019000a0"),
+    ("second-of-three", "0000000100"),
+    ("third-of-three", "0000000101"),
+];
+
+/// The packet that begins with these bytes in hexadecimal digits, and goes on with zeros; or that of a name.
+pub(crate) fn packet(alloc: Global, text: &str) -> Result<Packet, AllocError> {
+    for (name, digits) in NAMES {
+        if *name == text {
+            return packet_of(alloc, digits);
+        }
+    }
+    packet_of(alloc, text)
+}
+
+/// The packet that begins with these bytes in hexadecimal digits, and goes on with zeros.
+fn packet_of(alloc: Global, digits: &str) -> Result<Packet, AllocError> {
+    let mut filled = [0; 64];
+    let Ok(found) = hex::decode(alloc, digits) else {
+        return Err(AllocError);
+    };
+    for (to, from) in filled.iter_mut().zip(found.as_slice()) {
+        *to = *from;
+    }
+    Ok(Packet(filled))
+}
+
+/// The packets of a text of names and digits, with spaces between them.
+pub(crate) fn packets(alloc: Global, text: &str) -> Result<Vec<Packet>, AllocError> {
+    let mut packets = Vec::new(alloc);
+    for word in text.split_whitespace() {
+        packets.push(packet(alloc, word)?)?;
+    }
+    Ok(packets)
+}
+
+const KEY: CoseKey = CoseKey::EdDsa { x: [0x11; 32] };
+
+/// One credential 0a of the user 01.
+fn rows(alloc: Global) -> Result<Vec<Row>, AllocError> {
+    let mut rows = Vec::new(alloc);
+    rows.push(Row {
+        id: Vec::from_slice(alloc, &[10])?,
+        user: Vec::from_slice(alloc, &[1])?,
+        key: KEY,
+        sign_count: 0,
+        eligible: None,
+        retired: false,
+    })?;
+    Ok(rows)
+}
+
+/// A site `abc` with that credential.
+pub(crate) fn site(alloc: Global) -> Result<Site, site::Error> {
+    let policy = Policy {
+        accept_none: true,
+        accept_self: true,
+    };
+    Site::with_rows(alloc, "abc", &["https://abc"], policy, rows(alloc)?)
+}
+
+/// The client data of session 1.
+pub(crate) const CLIENT_DATA: &[u8] =
+    b"{\"type\":\"webauthn.get\",\"challenge\":\"AAAAAAAAAAEAAAAAAAAAAAAAAAAAAAAAAAAAAAAAAAA\",\"origin\":\"https://abc\",\"crossOrigin\":false}";
+
+/// Authenticator data for `abc`: UP, and the counter 1.
+const AUTH_DATA: &[u8] = &[
+    0xba, 0x78, 0x16, 0xbf, 0x8f, 0x01, 0xcf, 0xea, 0x41, 0x41, 0x40, 0xde, 0x5d, 0xae, 0x22, 0x23,
+    0xb0, 0x03, 0x61, 0xa3, 0x96, 0x17, 0x7a, 0x9c, 0xb4, 0x10, 0xff, 0x61, 0xf2, 0x00, 0x15, 0xad,
+    0x01, 0x00, 0x00, 0x00, 0x01,
+];
+
+/// The scheme that takes the signature 5a over these data, then the hash of the client data.
+pub(crate) fn scheme(alloc: Global) -> Result<ListScheme, AllocError> {
+    let mut message = Vec::from_slice(alloc, AUTH_DATA)?;
+    message.extend_from_slice(&clientdata::hash(CLIENT_DATA))?;
+    let mut scheme = ListScheme::new(alloc);
+    scheme.add(KEY, &message, &[0x5a])?;
+    Ok(scheme)
+}

@@ -1,0 +1,140 @@
+//! Responses to sign-ins and registrations, as a line describes them: what it does not name is as in a response that is
+//! accepted.
+
+use crate::values::{bytes_of, number, value};
+use clientdata::hash;
+use cose::{Alg, BenchScheme, CoseKey, ListScheme, Signer};
+use sha2::{Digest, Sha256};
+use std::alloc::{AllocError, Global};
+
+/// The key of all stored credentials.
+pub(crate) const KEY: CoseKey = CoseKey::EdDsa { x: [0x11; 32] };
+
+/// The secret of a credential that is registered: its key's x is the hash of it.
+pub(crate) const SECRET: [u8; 32] = [7; 32];
+
+/// The client data. A session's challenge is its number in 8 bytes, then 24 bytes 0, whose text another program gives:
+/// ten letters A, two by the number, and again A. Or what the line gives whole.
+pub(crate) fn client_data(
+    alloc: Global,
+    line: &str,
+    ceremony: &str,
+) -> Result<Vec<u8>, AllocError> {
+    let whole = value(line, "client", "");
+    if !whole.is_empty() {
+        return Vec::from_slice(alloc, whole.as_bytes());
+    }
+    let parts = [
+        "{\"type\":\"webauthn.",
+        value(line, "type", ceremony),
+        "\",\"challenge\":\"AAAAAAAAAA",
+        value(line, "challenge", "EA"),
+        "AAAAAAAAAAAAAAAAAAAAAAAAAAAAAAA\",\"origin\":\"",
+        value(line, "origin", "https://abc"),
+        "\"",
+        value(line, "rest", ",\"crossOrigin\":false"),
+        value(line, "end", "}"),
+    ];
+    let mut bytes = Vec::new(alloc);
+    for part in &parts {
+        bytes.extend_from_slice(part.as_bytes())?;
+    }
+    Ok(bytes)
+}
+
+/// The flags, of which each word `flip` turns one over.
+fn flags(line: &str, flags: u8) -> u8 {
+    let mut flags = flags;
+    for word in line.split_whitespace() {
+        if let Some(flag) = word.strip_prefix("flip=") {
+            flags ^= flag.parse().unwrap_or(0);
+        }
+    }
+    flags
+}
+
+/// Appends the hash of an rp id, flags and a counter.
+fn append_head(bytes: &mut Vec<u8>, line: &str, flags: u8, count: u64) -> Result<(), AllocError> {
+    bytes.extend_from_slice(&Sha256::digest(value(line, "rp", "abc")))?;
+    bytes.push(flags)?;
+    bytes.extend_from_slice(&number(line, "count", count).to_be_bytes()[4..])
+}
+
+/// The authenticator data of a sign-in, with the flags UP and UV, those that `unsigned` turns over too, and the
+/// counter 6.
+pub(crate) fn auth_data(alloc: Global, line: &str, unsigned: u8) -> Result<Vec<u8>, AllocError> {
+    let mut bytes = Vec::new(alloc);
+    append_head(&mut bytes, line, flags(line, 5) ^ unsigned, 6)?;
+    bytes.extend_from_slice(&bytes_of(alloc, value(line, "behind", ""))?)?;
+    Ok(bytes)
+}
+
+/// The scheme that lists 5a as the signature of the sign-in, under the key of all stored credentials.
+pub(crate) fn scheme(
+    alloc: Global,
+    line: &str,
+    client_data: &[u8],
+) -> Result<ListScheme, AllocError> {
+    let mut message = auth_data(alloc, line, 0)?;
+    message.extend_from_slice(&hash(client_data))?;
+    let mut scheme = ListScheme::new(alloc);
+    scheme.add(KEY, &message, &[0x5a])?;
+    Ok(scheme)
+}
+
+/// The authenticator data of a registration, with the flags UP, UV, BE and AT, and the counter 258; with a credential
+/// where AT is set.
+fn attested(alloc: Global, line: &str) -> Result<Vec<u8>, AllocError> {
+    let flags = flags(line, 77);
+    let mut bytes = Vec::new(alloc);
+    append_head(&mut bytes, line, flags, 258)?;
+    if flags & 64 == 0 {
+        return Ok(bytes);
+    }
+    let id = bytes_of(alloc, value(line, "id", "1a"))?;
+    bytes.extend_from_slice(&[0; 17])?;
+    bytes.push(u8::try_from(id.len()).unwrap_or(0))?;
+    bytes.extend_from_slice(&id)?;
+    bytes.extend_from_slice(b"\xa4\x01\x01\x03\x27\x20\x06\x21\x58\x20")?;
+    bytes.extend_from_slice(&Sha256::digest(&SECRET))?;
+    Ok(bytes)
+}
+
+/// Appends the statement: an empty map, or the algorithm -8 and the signature by the secret of 32 such bytes.
+fn append_statement(
+    bytes: &mut Vec<u8>,
+    line: &str,
+    auth_data: &[u8],
+    client_data: &[u8],
+) -> Result<(), AllocError> {
+    let Ok(secret) = value(line, "secret", "").parse::<u8>() else {
+        bytes.push(0xa0)?;
+        return Ok(());
+    };
+    bytes.extend_from_slice(b"\xa2\x63alg\x27\x63sig\x58\x20")?;
+    let parts = [auth_data, &hash(client_data)];
+    BenchScheme.sign(Alg::EdDsa, &[secret; 32], parts, bytes)
+}
+
+/// A format, encoded.
+fn format(line: &str) -> &'static [u8] {
+    match value(line, "format", "none") {
+        "none" => b"\x64none",
+        "packed" => b"\x66packed",
+        _ => b"\x63tpm",
+    }
+}
+
+/// The attestation object.
+pub(crate) fn object(alloc: Global, line: &str, client_data: &[u8]) -> Result<Vec<u8>, AllocError> {
+    let auth_data = attested(alloc, line)?;
+    let mut bytes = Vec::from_slice(alloc, b"\xa3\x63fmt")?;
+    bytes.extend_from_slice(format(line))?;
+    bytes.extend_from_slice(b"\x67attStmt")?;
+    append_statement(&mut bytes, line, &auth_data, client_data)?;
+    bytes.extend_from_slice(b"\x68authData\x58")?;
+    bytes.push(u8::try_from(auth_data.len()).unwrap_or(0))?;
+    bytes.extend_from_slice(&auth_data)?;
+    bytes.extend_from_slice(&bytes_of(alloc, value(line, "behind", ""))?)?;
+    Ok(bytes)
+}
