@@ -2,6 +2,7 @@
 use Rattle.std.proofs.Common.{◌≡◌, ◌<◌, ◌≤◌, ◌⊎◌, ◌^◌, ℕ, List, true, false, Option, Some, None, is_some, IsSome, refl, sym, ◌∙◌, ap, subst, arith, inl, inr}
 use Rattle.std.specs.Prelude.{Contains}
 use Rattle.std.proofs.lemmas.List.Elements.{All-contains}
+use Rattle.std.proofs.lemmas.Option.{same_Some}
 use Rattle.std.specs.FinMap as finite
 use Rattle.sha2.specs.Sha256.{sha256}
 use Rattle.clientdata.specs.Reading.{seen_of}
@@ -19,11 +20,12 @@ use Rattle.credentials.proofs.RowLemmas.{found_id}
 use Rattle.sessions.specs.Sessions.{ForSignIn, challenge_of, sign_in_at}
 use Rattle.site.specs.State.{State, attempt_in}
 use Rattle.site.specs.Laws.{IsFresh, Takes}
+use Rattle.site.proofs.Goings.{none_there}
 use Rattle.authenticator.specs.Laws.{IsSound}
 use Rattle.authenticator.specs.Steps.{Entry, Keys, assertion}
 use Rattle.agreement.specs.World.{Abandons, Asks, AtSite, Begins, Done, Effect, End, Event, Happens, Moment, Registers, RegistersBy, Restarts, Retires, SignsIn, SignsInBy, SiteEvent, World}
 use Rattle.agreement.specs.Agreement.{Agrees, Answers, Brings, BringsTo, DifferInSession, IsAccepted, IsIdeal, RestsOnce, ShareNone, message_of, session_in}
-use Rattle.agreement.proofs.Below.{Below}
+use Rattle.agreement.specs.Below.{Below}
 use Rattle.agreement.proofs.Sites.{SignedIn, signs_in, takes}
 use Rattle.agreement.proofs.Worlds.{Lived, Since}
 
@@ -34,16 +36,6 @@ none_if (Some c) e = let bad : true ≡ false = e in absurd cc
 the_one : {X : Type 0} (o : Option X) → IsSome o → (x : X) × (o ≡ Some x)
 the_one None h = let bad : false ≡ true = h in absurd cc
 the_one (Some x) h = (x, refl)
-
-not_both : {X : Type 0} (o : Option X) → IsSome o → o ≡ None → ⊥
-not_both None is e = let bad : false ≡ true = is in cc
-not_both (Some x) is e = let bad : Some x ≡ None = e in cc
-
-some_row : (a b : Credential) → Some a ≡ Some b → a ≡ b
-some_row a b e = cc
-
-some_seen : (x y : Seen) → Some x ≡ Some y → x ≡ y
-some_seen x y e = cc
 
 clash : (a b after now low : ℕ) → 1 ≤ a → a ≡ b → after ≡ a → after ≤ now → now ≡ low → ((low ≡ 0) × (b ≡ 0)) ⊎ (low < b) → ⊥
 clash a b after now low one ab fa le nl = elim [ inl (x, y) ↦ omega arith | inr lt ↦ omega arith ]
@@ -78,7 +70,7 @@ module _ (valid : Validity) (public : Keys) (b : Below valid public) where
       let passes = x.1.passes in
       let a = passes.1.1.1.1.1.1.1.1.1.0 in
       let stores = b.sites.stores (m.old.site i) n r x.0 row x.1.after acc.tries.found in
-      let same = b.one_value stores.0 a.0 r.auth_data stores.1 a.1 in
+      let same = b.readings.one_value stores.0 a.0 r.auth_data stores.1 a.1 in
       record {
         passes = passes;
         auth = a.0;
@@ -99,7 +91,7 @@ module _ (valid : Validity) (public : Keys) (b : Below valid public) where
 
   matches : (a : AuthenticatorData) (r : Assertion) (e : Entry) → AuthOf a r.auth_data → a.attested ≡ None → e.message ≡ message_of r → IsSound e → Matches a r e
   matches a r e is bare message (inl x) =
-      let s = b.one_front x.auth a x.bytes r.auth_data x.client_data_hash (sha256 r.client_data) x.spelled is (sym x.message ∙ message) in
+      let s = b.readings.one_front x.auth a x.bytes r.auth_data x.client_data_hash (sha256 r.client_data) x.spelled is (sym x.message ∙ message) in
       record {
         purpose = x.purpose;
         counts = subst (λ (d : AuthenticatorData). 1 ≤ d.sign_count) s.0 x.counts;
@@ -107,7 +99,7 @@ module _ (valid : Validity) (public : Keys) (b : Below valid public) where
         verified = λ f. x.verified (ap (λ (d : AuthenticatorData). is_set d.flags UV) s.0 ∙ f);
       }
   matches a r e is bare message (inr x) =
-      let s = b.one_front x.auth a x.bytes r.auth_data x.client_data_hash (sha256 r.client_data) x.spelled is (sym x.message ∙ message) in
+      let s = b.readings.one_front x.auth a x.bytes r.auth_data x.client_data_hash (sha256 r.client_data) x.spelled is (sym x.message ∙ message) in
       let bad : Some x.attested ≡ None = sym x.full ∙ ap (λ (d : AuthenticatorData). d.attested) s.0 ∙ bare in
       absurd cc
 
@@ -145,10 +137,10 @@ module _ (valid : Validity) (public : Keys) (b : Below valid public) where
       let a = accepted m i n r row lm am in
       let c = accepted l i k t low s.lived al in
       let x = matches a.auth r e a.spelled a.bare rm.message (sound_at m rm.there.0 e lm rm.there.1) in
-      let one = b.one_front a.auth c.auth r.auth_data t.auth_data (sha256 r.client_data) (sha256 t.client_data) a.spelled c.spelled (sym rm.message ∙ rl.message) in
+      let one = b.readings.one_front a.auth c.auth r.auth_data t.auth_data (sha256 r.client_data) (sha256 t.client_data) a.spelled c.spelled (sym rm.message ∙ rl.message) in
       let later = (s.goes_on i).rows r.credential a.after a.stored in
       let is : Some later.now ≡ Some low = sym later.found ∙ ap (λ id. row_of id (l.old.site i).rows) (a.id ∙ same) ∙ al.tries.found in
-      let now : later.now.sign_count ≡ low.sign_count = ap (λ (z : Credential). z.sign_count) (some_row later.now low is) in
+      let now : later.now.sign_count ≡ low.sign_count = ap (λ (z : Credential). z.sign_count) (same_Some later.now low is) in
       clash a.auth.sign_count c.auth.sign_count a.after.sign_count later.now.sign_count low.sign_count x.counts (ap (λ (d : AuthenticatorData). d.sign_count) one.0) a.count later.sign_count now
       (c.passes.1.1.1.1.1.1.1.1.1.1.1.1.1.1.0 low al.tries.found c.auth c.spelled)
 
@@ -168,7 +160,7 @@ module _ (valid : Validity) (public : Keys) (b : Below valid public) where
   differ m l lm s i n em el am al =
       let gone = (s.goes_on i).gone n (takes_at m i n lm em am).gone in
       let open_now = (takes_at l i n s.lived el al).was_open in
-      not_both (finite.get (l.old.site i).sessions.expected n) open_now gone.1
+      none_there (finite.get (l.old.site i).sessions.expected n) open_now gone.1
 
   session_to : (e : SiteEvent) (n : ℕ) (r : Assertion) → BringsTo e n r → session_in e ≡ Some n
   session_to (SignsIn k q) n r brings = ap Some brings.0
@@ -217,13 +209,13 @@ module _ (valid : Validity) (public : Keys) (b : Below valid public) where
   rests_once m l lm s i j n k r t row low am al apart clear e rm rl =
       let a = accepted m i n r row lm am in
       let c = accepted l j k t low s.lived al in
-      let one = b.one_front a.auth c.auth r.auth_data t.auth_data (sha256 r.client_data) (sha256 t.client_data) a.spelled c.spelled (sym rm.message ∙ rl.message) in
+      let one = b.readings.one_front a.auth c.auth r.auth_data t.auth_data (sha256 r.client_data) (sha256 t.client_data) a.spelled c.spelled (sym rm.message ∙ rl.message) in
       let parties = sym (a.passes.1.1.1.1.1.1.1.1.1.1.0 a.auth a.spelled) ∙ ap (λ (d : AuthenticatorData). d.rp_id_hash) one.0 ∙ c.passes.1.1.1.1.1.1.1.1.1.1.0 c.auth c.spelled in
       let site : i ≡ j = apart parties in
       let same : r.client_data ≡ t.client_data = clear one.2 in
       let x = challenged m i n r lm a.passes in
       let y = challenged l j k t s.lived c.passes in
-      let seen : x.seen ≡ y.seen = some_seen x.seen y.seen (sym x.reads ∙ ap seen_of same ∙ y.reads) in
+      let seen : x.seen ≡ y.seen = same_Some x.seen y.seen (sym x.reads ∙ ap seen_of same ∙ y.reads) in
       let challenges : x.challenge ≡ y.challenge = b.challenge_texts x.challenge y.challenge x.bytes y.bytes (sym x.is ∙ ap (λ (z : Seen). z.challenge) seen ∙ y.is) in
       let number : n ≡ k = (b.sites.one_number n k x.words y.words x.fits y.fits (sym x.begins ∙ challenges ∙ y.begins)).0 in
       let em = answers_at m.event i n r am.tries.brings in

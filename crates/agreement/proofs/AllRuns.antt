@@ -3,7 +3,7 @@ use Rattle.std.proofs.lemmas.List.Elements.{All-from_recursion, recursion_from_A
 use Rattle.cose.specs.Schemes.{Validity}
 use Rattle.authenticator.specs.Steps.{Keys}
 use Rattle.agreement.specs.Agreement.{Agrees, DifferInSession, IsIdeal, OfAllRuns, RestsOnce, ShareNone, StaysRetired}
-use Rattle.agreement.proofs.Below.{Below}
+use Rattle.agreement.specs.Below.{Below}
 use Rattle.agreement.proofs.Worlds.{Since, at_start, each_both, pairs, since, starts}
 use Rattle.agreement.proofs.Accepted.{agrees, differ, rests_once, share_none}
 use Rattle.agreement.proofs.Retired.{stays_retired}

@@ -2,6 +2,7 @@
 use Rattle.std.proofs.Common.{◌≡◌, ℕ, ◌+◌, ◌<◌, ◌^◌, ◌==◌, inl, List, [], ◌∷◌, ◌++◌, length, map, refl, sym, ◌∙◌, ap, subst, arith, append_assoc}
 use Rattle.std.specs.List.{AllByRecursion}
 use Rattle.std.proofs.lemmas.Bool.{eq-eqb}
+use Rattle.first_line.proofs.Laws.{each_joined}
 use Rattle.hidframe.specs.declared.Packet.{Packet}
 use Rattle.hidframe.specs.Packets.{Fields, fields}
 use Rattle.hidframe.specs.Frames.{Frames, continuations}
@@ -9,12 +10,13 @@ use Rattle.hidframe.specs.Pieces.{frame_list}
 use Rattle.hidlink.specs.Wire.{Carries, channel_of, on}
 use Rattle.ceremony.specs.Serving.{IsPayload}
 use Rattle.ceremony.specs.Verdict.{Delivers}
-use Rattle.agreement.proofs.Links.{Links}
-use Rattle.agreement.proofs.Lists.{Last, all_joined, all_mapped, all_pass, all_taken, all_weaker, last_of}
+use Rattle.agreement.specs.Links.{Links}
+use Rattle.authenticator.proofs.Stored.{each_weaker}
+use Rattle.agreement.proofs.Lists.{Last, all_mapped, all_pass, all_taken, last_of}
 use Rattle.agreement.proofs.Keepalives.{AreWaits}
 
 on_all : (c : ℕ) (ps : List Packet) → AllByRecursion (λ p. channel_of (fields p) ≡ c) ps → on c ps ≡ ps
-on_all c ps h = all_pass (λ p. channel_of (fields p) == c) ps (all_weaker _ _ (λ p e. rw e (eq-eqb c c refl)) ps h)
+on_all c ps h = all_pass (λ p. channel_of (fields p) == c) ps (each_weaker _ _ (λ p e. rw e (eq-eqb c c refl)) ps h)
 
 continuations_on : (c k : ℕ) (areas : List (List ℕ)) → AllByRecursion (λ f. channel_of f ≡ c) (continuations c k areas)
 continuations_on c k [] = tt
@@ -37,7 +39,7 @@ carries links c reply waits sent low payload are all =
     let l = last_frame c 16 reply (frame_list c 16 reply) x in
     let all_on : AllByRecursion (λ p. channel_of (fields p) ≡ c) sent =
     subst (λ (ps : List Packet). AllByRecursion (λ p. channel_of (fields p) ≡ c) ps) (sym all)
-    (all_joined _ waits (frame_list c 16 reply) (all_weaker _ _ (λ p h. h.1) waits are) (frames_on c 16 reply (frame_list c 16 reply) x)) in
+    (each_joined _ waits (frame_list c 16 reply) (each_weaker _ _ (λ p h. h.1) waits are) (frames_on c 16 reply (frame_list c 16 reply) x)) in
     record {
       before = waits ++ l.before;
       last = l.last;
@@ -46,7 +48,7 @@ carries links c reply waits sent low payload are all =
       waits = waits;
       message = frame_list c 16 reply;
       split = on_all c sent all_on ∙ all;
-      keepalives = all_weaker _ _ (λ p h. h.0) waits are;
+      keepalives = each_weaker _ _ (λ p h. h.0) waits are;
       frames = x;
       kind = inl refl;
     }

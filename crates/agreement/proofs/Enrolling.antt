@@ -14,12 +14,9 @@ use Rattle.verification.specs.Registration.{Attested, Attests, Enrolment, Passes
 use Rattle.verification.specs.Shared.{HasChallenge, IsFor, IsPresent, IsVerifiedAs, Relation}
 use Rattle.verification.proofs.Steps.{of_some}
 use Rattle.std.specs.Option.{ForSome}
+use Rattle.agreement.specs.Below.{Readings}
 
--- at most one object, authenticator auth and credential are attested
-pub record Readings : Type 0 where
-  pub one_value : (a b : AuthenticatorData) (bs : List ℕ) → AuthOf a bs → AuthOf b bs → a ≡ b
-  pub one_object : (o p : Attestation) (bs : List ℕ) → ObjectOf o bs → ObjectOf p bs → o ≡ p
-
+-- at most one object, one authenticator's data and one credential are attested
 pub record Same (o p : Attestation) (a b : AuthenticatorData) (c d : AttestedCredential) : Type 0 where
   pub object : o ≡ p
   pub auth_data : a ≡ b

@@ -1,6 +1,7 @@
 -- What comes of a client's packets, of waiting and of a decision, at an authenticator's end that is idle.
 use Rattle.std.proofs.Common.{◌≡◌, ◌≢◌, ℕ, zero, suc, ◌<◌, ◌≤◌, ◌^◌, inl, inr, List, [], ◌∷◌, ◌++◌, map, replicate, Some, None, refl, sym, ◌∙◌, ap, subst, arith, append_assoc, append-nil}
 use Rattle.std.proofs.lemmas.List.{map-append}
+use Rattle.first_line.proofs.Laws.{each_joined}
 use Rattle.hidframe.specs.declared.Packet.{Packet}
 use Rattle.hidframe.specs.Packets.{fields}
 use Rattle.hidframe.specs.Frames.{ZeroFrames}
@@ -19,8 +20,7 @@ use Rattle.ceremony.specs.declared.serving.Act.{Act}
 use Rattle.ceremony.specs.declared.serving.Act.TheVariants as act
 use Rattle.ceremony.specs.Serving.{Done, IsPayload}
 use Rattle.agreement.specs.Ends.{End, Exchange, Follows, IsIdleOn}
-use Rattle.agreement.proofs.Links.{Links}
-use Rattle.agreement.proofs.Lists.{all_joined}
+use Rattle.agreement.specs.Links.{Links}
 use Rattle.agreement.proofs.Keepalives.{AreWaits, one_keepalive}
 
 -- ---- packets
@@ -131,7 +131,7 @@ waited links valid public (suc k) c m e f rest sent low works reading x =
       there = behind.there;
       waits = x.1 ++ behind.waits;
       later = behind.later;
-      are_waits = all_joined _ x.1 behind.waits (subst (AreWaits c) (sym now) (one_keepalive links c low)) behind.are_waits;
+      are_waits = each_joined _ x.1 behind.waits (subst (AreWaits c) (sym now) (one_keepalive links c low)) behind.are_waits;
       all = x.5 ∙ ap (λ ps. x.1 ++ ps) behind.all ∙ sym (append_assoc x.1 behind.waits behind.later);
       works = behind.works;
       reading = behind.reading;

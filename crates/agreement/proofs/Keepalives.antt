@@ -6,7 +6,7 @@ use Rattle.hidframe.specs.Packets.{Initial, fields}
 use Rattle.hidframe.specs.Frames.{continuations, joined}
 use Rattle.hidframe.specs.Pieces.{frame_list}
 use Rattle.hidlink.specs.Wire.{IsKeepalive, channel_of}
-use Rattle.agreement.proofs.Links.{Links}
+use Rattle.agreement.specs.Links.{Links}
 
 -- keepalives on c
 abbrev pub AreWaits : ℕ → List Packet → Type 0

@@ -1,4 +1,3 @@
-pub mod Links
 pub mod Lists
 pub mod Keepalives
 pub mod Exchanges
@@ -9,7 +8,6 @@ pub mod Enrolling
 pub mod Registering
 pub mod SigningIn
 pub mod Runs
-pub mod Below
 pub mod Sites
 pub mod Worlds
 pub mod Accepted

@@ -28,6 +28,7 @@ use Rattle.authenticator.specs.Credentials.{credential_of, resident_ids}
 use Rattle.authenticator.specs.Orders.{kept}
 use Rattle.authenticator.specs.Steps.{Attests, Creates, Entry, Keys, Outcome, Unless, creation_data, new_credential, uv_bit}
 use Rattle.authenticator.specs.declared.consent.Consent.{Consent}
+use Rattle.authenticator.proofs.Stored.{last_push}
 use Rattle.client.specs.Asked.{creation_of, registration_data}
 use Rattle.client.specs.Responses.{object_of}
 use Rattle.ceremony.specs.Registration.{IsAfter, response}
@@ -36,12 +37,12 @@ use Rattle.ceremony.proofs.Objects.{has_object}
 use Rattle.ceremony.proofs.OneVerdict.{registration_one}
 use Rattle.agreement.specs.Ends.{IsIdleOn}
 use Rattle.agreement.specs.Honest.{IsHonestRegistration, IsShared, Registering, Registers}
-use Rattle.agreement.proofs.Links.{Links}
+use Rattle.agreement.specs.Below.{Below}
 use Rattle.agreement.proofs.Exchanges.{Replied, replied}
 use Rattle.agreement.proofs.Delivered.{delivers}
 use Rattle.agreement.proofs.Asking.{asks_resident, asks_verified, carried_out, chosen, none_against_creation}
-use Rattle.agreement.proofs.Storing.{few_kept, found_last, newest_first, none_kept, row_last}
-use Rattle.agreement.proofs.Enrolling.{Enrols, Readings, enrols, one_attested}
+use Rattle.agreement.proofs.Storing.{few_kept, newest_first, none_kept, row_last}
+use Rattle.agreement.proofs.Enrolling.{Enrols, enrols, one_attested}
 
 -- ---- flags
 
@@ -80,8 +81,7 @@ stated valid policy types.SelfSigned key hash consent r signed accepts x =
 room_for : (n : ℕ) → n < 65536 → not (nat_lt n 65536) ≡ false
 room_for n lt = let less : nat_lt n 65536 ≡ true = search (rules, lt) in rw less refl
 
-module _ (links : Links) (readings : Readings) (valid : Validity) (public : Keys) (keeps : (alg : Alg) (secret : List ℕ) → alg_of (public alg secret) ≡ alg)
-    (x : Registering) (idle : IsIdleOn x.channel x.before) (h : IsHonestRegistration valid public x) where
+module _ (valid : Validity) (public : Keys) (b : Below valid public) (x : Registering) (idle : IsIdleOn x.channel x.before) (h : IsHonestRegistration valid public x) where
   abbrev a : State
   a = x.before.authenticator
 
@@ -98,7 +98,7 @@ module _ (links : Links) (readings : Readings) (valid : Validity) (public : Keys
   some e = let is = h.decided.asks.written.0.1 in let bad : [] ≡ 1 ∷ h.decided.asks.written.0.0 = sym e ∙ is in absurd cc
 
   came : Replied valid public x.channel m h.decided.consent x.words x.before x.packets x.after
-  came = replied links valid public x.channel m x.out.packets h.decided.waits h.decided.consent x.words x.before x.after x.packets idle some h.decided.asks.packets.frames h.decided.exchange
+  came = replied b.links valid public x.channel m x.out.packets h.decided.waits h.decided.consent x.words x.before x.after x.packets idle some h.decided.asks.packets.frames h.decided.exchange
 
   abbrev outcome : Outcome
   outcome = record { reply = came.reply; state = x.after.authenticator; signed = came.steps.0; made = came.steps.1 }
@@ -144,7 +144,7 @@ module _ (links : Links) (readings : Readings) (valid : Validity) (public : Keys
   offered =
       let c = chosen x.options.algs h.offered in
       let some_alg : Some c.0 ≡ Some creates.alg = sym c.1 ∙ creates.chosen in
-      let same : c.0 ≡ alg_of key = (let is : c.0 ≡ creates.alg = cc in is ∙ sym (keeps creates.alg x.words.secret)) in
+      let same : c.0 ≡ alg_of key = (let is : c.0 ≡ creates.alg = cc in is ∙ sym (b.keeps_alg creates.alg x.words.secret)) in
       subst (λ (offered : List Alg). Contains offered (alg_of key)) h.algorithms (subst (λ (alg : Alg). Contains x.options.algs alg) same c.2)
 
   says_how : Stated valid x.site.policy (object_of r) key (hash_of t)
@@ -152,7 +152,7 @@ module _ (links : Links) (readings : Readings) (valid : Validity) (public : Keys
       subst (λ (b : List ℕ). Stated valid x.site.policy (object_of r) key (hash_of b)) (sym text_is)
       (stated valid x.site.policy a.attest key q.client_data_hash h.decided.consent r came.steps.0 h.accepted creates.attested)
 
-  enrolled : Enrols readings valid enrolment x.expected (object_of r) auth attested
+  enrolled : Enrols b.readings valid enrolment x.expected (object_of r) auth attested
   enrolled = record {
     is_open = h.is_open;
     says =
@@ -172,12 +172,12 @@ module _ (links : Links) (readings : Readings) (valid : Validity) (public : Keys
 
   low : x.channel < 2 ^ 32
   low =
-      let few : x.after.channels ≤ 65535 = links.most x.after.history x.after.channels x.after.device came.idle.reading in
+      let few : x.after.channels ≤ 65535 = b.links.most x.after.history x.after.channels x.after.device came.idle.reading in
       let within : x.channel ≤ x.after.channels = came.idle.out.1 in
       omega (arith, few, within)
 
   delivered : Delivers x.channel x.packets (length x.packets) came.reply
-  delivered = delivers links x.channel came.reply came.waits x.packets low came.payload came.are_waits came.all
+  delivered = delivers b.links x.channel came.reply came.waits x.packets low came.payload came.are_waits came.all
 
   -- the row that is registered
   abbrev row : expects.Credential
@@ -193,17 +193,17 @@ module _ (links : Links) (readings : Readings) (valid : Validity) (public : Keys
 
   shared : (s : site.State) → IsAfter x.site x.session t x.channel x.packets s → IsShared public s x.after.authenticator new 0
   shared s k =
-      let o = links.carried x.channel k.0 (length x.packets) x.packets 16 16 k.1 came.reply k.3.0 (omega arith) k.3.1 delivered.1 in
+      let o = b.links.carried x.channel k.0 (length x.packets) x.packets 16 16 k.1 came.reply k.3.0 (omega arith) k.3.1 delivered.1 in
       let one : k.2 ≡ r = (registration_one valid x.site x.session t).one_reply k.2 r came.reply (subst (λ (l : List ℕ). ReplyOf (creation_reply k.2) l) o.2 k.4) creates.reply in
       let after : IsAfterRegistration x.site x.session (response r t) s = subst (λ (z : Creation). IsAfterRegistration x.site x.session (response z t) s) one k.5 in
-      let same = one_attested readings (response r t) after.1 (object_of r) after.2 auth after.3 attested after.5 attests in
+      let same = one_attested b.readings (response r t) after.1 (object_of r) after.2 auth after.3 attested after.5 attests in
       let some_expected : Some after.0 ≡ Some x.expected = sym after.4 ∙ h.is_open in
       let expected : after.0 ≡ x.expected = cc in
       let rows : s.rows ≡ x.site.rows ++ row ∷ [] =
       ap (λ (z : site.State). z.rows) after.6 ∙ ap (λ e. x.site.rows ++ registered e after.2 after.3 ∷ []) expected
       ∙ ap (λ d. x.site.rows ++ registered x.expected d after.3 ∷ []) same.auth_data ∙ ap (λ c. x.site.rows ++ registered x.expected auth c ∷ []) same.credential in
       record {
-        stored = ap (credential_of x.words.id) stored ∙ found_last (kept a.credentials q) new (none_kept a.credentials q x.words.id h.not_stored);
+        stored = ap (credential_of x.words.id) stored ∙ last_push (kept a.credentials q) new (none_kept a.credentials q x.words.id h.not_stored);
         sign_count = refl;
         rp_id = h.rp_id ∙ sym (ap (λ (z : site.State). z.rp.rp_id) after.6);
         registered = ap (row_of x.words.id) rows ∙ row_last x.site.rows row h.not_registered ∙ row_is;
@@ -212,7 +212,7 @@ module _ (links : Links) (readings : Readings) (valid : Validity) (public : Keys
   pub registers : Registers valid public x
   registers = record {
     reply = r;
-    accepted = (came.reply, delivered, creates.reply, enrols readings valid enrolment x.expected (object_of r) auth attested enrolled);
+    accepted = (came.reply, delivered, creates.reply, enrols b.readings valid enrolment x.expected (object_of r) auth attested enrolled);
     credential = new;
     id = refl;
     rp_id = refl;

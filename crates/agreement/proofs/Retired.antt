@@ -11,7 +11,7 @@ use Rattle.site.proofs.Kept.{row_changed}
 use Rattle.authenticator.specs.Steps.{Keys}
 use Rattle.agreement.specs.World.{AtSite, Done, Effect, End, Event, Happens, Moment, Retires}
 use Rattle.agreement.specs.Agreement.{StaysRetired}
-use Rattle.agreement.proofs.Below.{Below}
+use Rattle.agreement.specs.Below.{Below}
 use Rattle.agreement.proofs.Sites.{registers}
 use Rattle.agreement.proofs.Worlds.{Lived, Since}
 use Rattle.agreement.proofs.Accepted.{accepted}

@@ -1,17 +1,14 @@
 -- An honest registration and then an honest sign-in.
 use Rattle.std.proofs.Common.{◌≡◌, inl, inr, ℕ, List, [], ◌∷◌, Some, sym, ◌∙◌, ap, subst, arith}
-use Rattle.cose.specs.Keys.{alg_of}
 use Rattle.cose.specs.Schemes.{Validity}
-use Rattle.cose.specs.declared.key.Alg.{Alg}
 use Rattle.verification.specs.Records as expects
-use Rattle.site.specs.Laws.{SiteLaws, after_begin}
+use Rattle.site.specs.Laws.{after_begin}
 use Rattle.site.specs.State as site
 use Rattle.authenticator.specs.Credentials.{resident_ids}
 use Rattle.authenticator.specs.Steps.{Keys}
 use Rattle.agreement.specs.Ends.{End, IsIdleOn}
 use Rattle.agreement.specs.Honest.{AcceptsBoth, AsksForNew, IsAskedFor, IsHonestRun, IsShared, Registering, Registers, Run}
-use Rattle.agreement.proofs.Links.{Links}
-use Rattle.agreement.proofs.Enrolling.{Readings}
+use Rattle.agreement.specs.Below.{Below}
 use Rattle.agreement.proofs.Registering.{registers}
 use Rattle.agreement.proofs.SigningIn.{signs_in}
 
@@ -30,10 +27,9 @@ asked_new valid public x r e asks = elim asks [
       )
 ]
 
-pub agrees : Links → Readings → (valid : Validity) (public : Keys) → ((alg : Alg) (secret : List ℕ) → alg_of (public alg secret) ≡ alg) → SiteLaws valid → (x : Run)
-    → IsHonestRun valid public x → AcceptsBoth valid public x
-agrees links readings valid public keeps laws x h =
-    let r = registers links readings valid public keeps x.registering h.idle h.honest_registration in
+pub agrees : (valid : Validity) (public : Keys) → Below valid public → (x : Run) → IsHonestRun valid public x → AcceptsBoth valid public x
+agrees valid public b x h =
+    let r = registers valid public b x.registering h.idle h.honest_registration in
     let before : IsShared public x.registered x.registering.after.authenticator r.credential 0 = r.shared x.registered h.registered in
     let here : IsShared public x.signing_in.site x.signing_in.before.authenticator r.credential 0 =
     subst (λ (s : site.State). IsShared public s x.signing_in.before.authenticator r.credential 0) (sym h.begins.1)
@@ -43,5 +39,5 @@ agrees links readings valid public keeps laws x h =
     subst (λ (e : End). IsIdleOn x.signing_in.channel e) (sym h.goes_on) (subst (λ (c : ℕ). IsIdleOn c x.registering.after) (sym h.channel) r.idle) in
     let asked = subst (λ (e : End). IsAskedFor r.credential e.authenticator x.signing_in.expected) (sym h.goes_on)
     (asked_new valid public x.registering r x.signing_in.expected h.asks) in
-    let s = signs_in links readings valid public laws x.signing_in r.credential 0 idle h.honest_sign_in here (omega arith) asked in
+    let s = signs_in valid public b x.signing_in r.credential 0 idle h.honest_sign_in here (omega arith) asked in
     record { registers = r; before = before; signs_in = s; after = s.shared }

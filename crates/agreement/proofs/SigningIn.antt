@@ -17,7 +17,6 @@ use Rattle.verification.specs.Shared.{HasChallenge, IsFor, IsPresent, IsVerified
 use Rattle.verification.proofs.Expected.{expected_says}
 use Rattle.verification.proofs.Steps.{of_some}
 use Rattle.credentials.specs.Table.{row_of, signed_in}
-use Rattle.site.specs.Laws.{SiteLaws}
 use Rattle.site.specs.State as site
 use Rattle.site.specs.State.{IsAfterSignIn, attempt_in}
 use Rattle.authenticator.specs.State.{Asked, Credential, State}
@@ -33,12 +32,11 @@ use Rattle.ceremony.specs.Verdict.{Delivers}
 use Rattle.ceremony.proofs.OneVerdict.{sign_in_one}
 use Rattle.agreement.specs.Ends.{IsIdleOn}
 use Rattle.agreement.specs.Honest.{IsAskedFor, IsHonestSignIn, IsShared, SigningIn, SignsIn}
-use Rattle.agreement.proofs.Links.{Links}
+use Rattle.agreement.specs.Below.{Below, Readings}
 use Rattle.agreement.proofs.Exchanges.{Replied, replied}
 use Rattle.agreement.proofs.Delivered.{delivers}
 use Rattle.agreement.proofs.Asking.{asserts_verified, assertion_up, carried_out, none_against_assertion}
 use Rattle.agreement.proofs.Storing.{listed}
-use Rattle.agreement.proofs.Enrolling.{Readings}
 
 -- ---- flags
 
@@ -168,7 +166,7 @@ answers_first c a e rp_id allow same of stored asked = elim asked [
 
 -- ---- the sign-in
 
-module _ (links : Links) (readings : Readings) (valid : Validity) (public : Keys) (laws : SiteLaws valid) (x : SigningIn) (c : Credential) (n : ℕ) (idle : IsIdleOn x.channel x.before)
+module _ (valid : Validity) (public : Keys) (b : Below valid public) (x : SigningIn) (c : Credential) (n : ℕ) (idle : IsIdleOn x.channel x.before)
     (h : IsHonestSignIn valid public x) (shared : IsShared public x.site x.before.authenticator c n) (below : n < 2 ^ 32 - 1) (asked_for : IsAskedFor c x.before.authenticator x.expected) where
   abbrev a : State
   a = x.before.authenticator
@@ -192,7 +190,7 @@ module _ (links : Links) (readings : Readings) (valid : Validity) (public : Keys
   some e = let is = h.decided.asks.written.0.1 in let bad : [] ≡ 2 ∷ h.decided.asks.written.0.0 = sym e ∙ is in absurd cc
 
   came : Replied valid public x.channel m h.decided.consent x.words x.before x.packets x.after
-  came = replied links valid public x.channel m x.out.packets h.decided.waits h.decided.consent x.words x.before x.after x.packets idle some h.decided.asks.packets.frames h.decided.exchange
+  came = replied b.links valid public x.channel m x.out.packets h.decided.waits h.decided.consent x.words x.before x.after x.packets idle some h.decided.asks.packets.frames h.decided.exchange
 
   abbrev outcome : Outcome
   outcome = record { reply = came.reply; state = x.after.authenticator; signed = came.steps.0; made = came.steps.1 }
@@ -255,7 +253,7 @@ module _ (links : Links) (readings : Readings) (valid : Validity) (public : Keys
   eligible_is : is_set auth.flags BE ≡ false
   eligible_is = ap (λ f. is_set f BE) flags_are ∙ (assertion_bits x.options.uv).eligible
 
-  passes : Signs readings valid attempt x.expected row auth
+  passes : Signs b.readings valid attempt x.expected row auth
   passes = record {
     is_open = h.is_open;
     registered = found;
@@ -277,12 +275,12 @@ module _ (links : Links) (readings : Readings) (valid : Validity) (public : Keys
 
   low : x.channel < 2 ^ 32
   low =
-      let few : x.after.channels ≤ 65535 = links.most x.after.history x.after.channels x.after.device came.idle.reading in
+      let few : x.after.channels ≤ 65535 = b.links.most x.after.history x.after.channels x.after.device came.idle.reading in
       let within : x.channel ≤ x.after.channels = came.idle.out.1 in
       omega (arith, few, within)
 
   delivered : Delivers x.channel x.packets (length x.packets) came.reply
-  delivered = delivers links x.channel came.reply came.waits x.packets low came.payload came.are_waits came.all
+  delivered = delivers b.links x.channel came.reply came.waits x.packets low came.payload came.are_waits came.all
 
   abbrev next : Credential
   next = record c { sign_count = n + 1 }
@@ -295,11 +293,11 @@ module _ (links : Links) (readings : Readings) (valid : Validity) (public : Keys
 
   still_shared : (s : site.State) → IsAfter x.site x.session t x.channel x.packets s → IsShared public s x.after.authenticator next (n + 1)
   still_shared s k =
-      let o = links.carried x.channel k.0 (length x.packets) x.packets 16 16 k.1 came.reply k.3.0 (omega arith) k.3.1 delivered.1 in
+      let o = b.links.carried x.channel k.0 (length x.packets) x.packets 16 16 k.1 came.reply k.3.0 (omega arith) k.3.1 delivered.1 in
       let one : k.2 ≡ r = (sign_in_one valid x.site x.session t).one_reply k.2 r came.reply (subst (λ (l : List ℕ). ReplyOf (assertion_reply k.2) l) o.2 k.4) answers.reply in
       let after : IsAfterSignIn x.site x.session (response_of r t) s = subst (λ (z : Assertion). IsAfterSignIn x.site x.session (response_of z t) s) one k.5 in
-      let kept = laws.stores x.site x.session (response_of r t) s row after found in
-      let data_is : kept.0 ≡ auth = readings.one_value kept.0 auth r.auth_data kept.1 spelled in
+      let kept = b.sites.stores x.site x.session (response_of r t) s row after found in
+      let data_is : kept.0 ≡ auth = b.readings.one_value kept.0 auth r.auth_data kept.1 spelled in
       record {
         stored = stored;
         sign_count = refl;
@@ -312,7 +310,7 @@ module _ (links : Links) (readings : Readings) (valid : Validity) (public : Keys
   pub signs_in : SignsIn valid public c n x
   signs_in = record {
     reply = r;
-    accepted = (came.reply, delivered, answers.reply, signs readings valid attempt x.expected row auth passes);
+    accepted = (came.reply, delivered, answers.reply, signs b.readings valid attempt x.expected row auth passes);
     shared = still_shared;
     idle = came.idle;
   }

@@ -4,6 +4,7 @@ use Rattle.std.specs.Int.{w64, to_be_bytes}
 use Rattle.std.specs.FinMap.{gets}
 use Rattle.std.specs.FinMap as finite
 use Rattle.std.proofs.lemmas.Grind.{common_steps}
+use Rattle.std.proofs.lemmas.Option.{same_Some}
 use Rattle.base64.specs.GeneralPurpose.{IsBytes}
 use Rattle.hidframe.specs.declared.Packet.{Packet}
 use Rattle.hidframe.proofs.Bytes.{bytes-append}
@@ -15,6 +16,7 @@ use Rattle.verification.specs.Registration as registration
 use Rattle.sessions.specs.Sessions.{Expected, Opening, OpensRegistration, OpensSignIn, begun, closed, expected_of}
 use Rattle.site.specs.State.{IsAfterRegistration, IsAfterSignIn, State, attempt_in, enrolment_in, none_open}
 use Rattle.site.specs.Laws.{IsFresh, Keeps, Takes, after_begin, after_restart, challenge_in}
+use Rattle.site.proofs.Goings.{begun_or, still}
 use Rattle.client.specs.Responses.{response_of}
 use Rattle.ceremony.specs.Registration as registering
 use Rattle.ceremony.specs.Verdict.{Delivers}
@@ -22,7 +24,7 @@ use Rattle.ceremony.proofs.OneVerdict.{registration_one, sign_in_one}
 use Rattle.authenticator.specs.Steps.{Keys}
 use Rattle.agreement.specs.World.{Abandons, Acts, Begins, Loads, Registers, RegistersBy, Restarts, Retires, SignsIn, SignsInBy, SiteEvent, words_of}
 use Rattle.agreement.specs.Agreement.{BringsTo, Carried, IsRegistration, session_in}
-use Rattle.agreement.proofs.Below.{Below}
+use Rattle.agreement.specs.Below.{Below}
 
 -- ---- challenges are bytes
 
@@ -43,13 +45,6 @@ AreBytes s = (n : ℕ) (e : Expected) → finite.get s.sessions.expected n ≡ S
 new_bytes : (n : ℕ) (o : Opening) → n < 2 ^ 64 → IsBytes (words_of o) → IsBytes (challenge_in (expected_of n o))
 new_bytes n (OpensSignIn user allow verified words) lt is = bytes-append (to_be_bytes w64 n) words (bytes_of_64 n lt) is
 new_bytes n (OpensRegistration user algorithms verified words) lt is = bytes-append (to_be_bytes w64 n) words (bytes_of_64 n lt) is
-
-still : (s : State) (k n : ℕ) (e : Expected) → finite.get (closed k s.sessions).expected n ≡ Some e → finite.get s.sessions.expected n ≡ Some e
-still s k n e h = grind (arith, gets, common_steps, h)
-
-begun_or : (s : State) (o : Opening) (n : ℕ) (e : Expected) → finite.get (begun s.sessions o).expected n ≡ Some e
-    → ((n ≡ s.sessions.next) × (e ≡ expected_of s.sessions.next o)) ⊎ (finite.get s.sessions.expected n ≡ Some e)
-begun_or s o n e h = grind (arith, gets, common_steps, h)
 
 bytes_begun : (s : State) (o : Opening) → s.sessions.next < 2 ^ 64 - 1 → IsBytes (words_of o) → AreBytes s → AreBytes (after_begin s o)
 bytes_begun s o lt is old n e h = elim (begun_or s o n e h) [
@@ -173,19 +168,16 @@ module _ (valid : Validity) (public : Keys) (b : Below valid public) where
 
   -- ---- which session is taken
 
-  same_number : (n k : ℕ) → Some n ≡ Some k → n ≡ k
-  same_number n k e = cc
-
   pub takes : (s t : State) (e : SiteEvent) (n : ℕ) → IsFresh s → Acts valid s e t → session_in e ≡ Some n → Takes s t n
-  takes s t (SignsIn k r) n fresh acts is = subst (Takes s t) (same_number k n is) (b.sites.signs_in s k r t fresh acts.0 acts.1).1
+  takes s t (SignsIn k r) n fresh acts is = subst (Takes s t) (same_Some k n is) (b.sites.signs_in s k r t fresh acts.0 acts.1).1
   takes s t (SignsInBy k c ps d) n fresh acts is =
       let x = carried_there s t k c ps d acts in
       let y = signed_in_by s t k c ps d x.0 acts x.1 in
-      subst (Takes s t) (same_number k n is) (b.sites.signs_in s k x.0 t fresh y.passes y.after).1
-  takes s t (Registers k r) n fresh acts is = subst (Takes s t) (same_number k n is) (b.sites.registers s k r t fresh acts.0 acts.1).1
+      subst (Takes s t) (same_Some k n is) (b.sites.signs_in s k x.0 t fresh y.passes y.after).1
+  takes s t (Registers k r) n fresh acts is = subst (Takes s t) (same_Some k n is) (b.sites.registers s k r t fresh acts.0 acts.1).1
   takes s t (RegistersBy k c ps d) n fresh acts is =
       let x = registered_by s t k c ps d acts in
-      subst (Takes s t) (same_number k n is) (b.sites.registers s k x.0 t fresh x.1.passes x.1.after).1
+      subst (Takes s t) (same_Some k n is) (b.sites.registers s k x.0 t fresh x.1.passes x.1.after).1
   takes s t (Begins o) n fresh acts is = let bad : None ≡ Some n = is in absurd cc
   takes s t (Abandons k) n fresh acts is = let bad : None ≡ Some n = is in absurd cc
   takes s t (Retires id) n fresh acts is = let bad : None ≡ Some n = is in absurd cc

@@ -11,37 +11,11 @@ use Rattle.authenticator.specs.Credentials.{credential_of, is_resident_for, is_r
 use Rattle.authenticator.specs.Orders.{candidates, creation_flags, is_stored_for, is_true, kept}
 use Rattle.client.specs.Asked.{descriptor_of}
 use Rattle.verification.specs.Records as registered
+use Rattle.authenticator.proofs.Stored.{itself, none_without}
 use Rattle.credentials.specs.Table.{row_of}
 use Rattle.credentials.proofs.RowLemmas.{behind, here}
 
-pub itself : (bs : List ℕ) → bytes_eq bs bs ≡ true
-itself bs = (bytes_decides bs bs).1 refl
-
 -- ---- at the authenticator
-
-first_is : (id : List ℕ) (c : Credential) (cs : List Credential) → bytes_eq c.id id ≡ true → credential_of id (c ∷ cs) ≡ Some c
-first_is id c cs e = rw e refl
-
-first_is_not : (id : List ℕ) (c : Credential) (cs : List Credential) → bytes_eq c.id id ≡ false → credential_of id (c ∷ cs) ≡ credential_of id cs
-first_is_not id c cs e = rw e refl
-
--- an id that none has is not that of the first, and none behind has it
-none_of : (id : List ℕ) (c : Credential) (cs : List Credential) → credential_of id (c ∷ cs) ≡ None → (bytes_eq c.id id ≡ false) × (credential_of id cs ≡ None)
-none_of id c cs none = elim (cases_Bool (bytes_eq c.id id)) [
-  | inl is ↦ let found = first_is id c cs is in absurd cc
-  | inr other ↦ (other, sym (first_is_not id c cs other) ∙ none)
-]
-
-none_without : (test : Credential → Bool) (id : List ℕ) (cs : List Credential) → credential_of id cs ≡ None → credential_of id (without_first test cs) ≡ None
-none_without test id [] none = refl
-none_without test id (c ∷ cs) none =
-    let o = none_of id c cs none in
-    split (test c) o.0 o.1 (none_without test id cs o.1)
-  where
-    split : (b : Bool) → bytes_eq c.id id ≡ false → credential_of id cs ≡ None → credential_of id (without_first test cs) ≡ None
-        → credential_of id (cond b cs (c ∷ without_first test cs)) ≡ None
-    split true other none rest = none
-    split false other none rest = first_is_not id c (without_first test cs) other ∙ rest
 
 fewer : (test : Credential → Bool) (cs : List Credential) → length (without_first test cs) ≤ length cs
 fewer test [] = omega arith
@@ -55,7 +29,7 @@ pub none_kept : (cs : List Credential) (q : CreationRequest) (id : List ℕ) →
 none_kept cs q id none = split (is_true (creation_flags q.options).rk)
   where
     split : (b : Bool) → credential_of id (cond b (without_first (is_resident_of q.rp.id q.user.id) cs) cs) ≡ None
-    split true = none_without (is_resident_of q.rp.id q.user.id) id cs none
+    split true = none_without (is_resident_of q.rp.id q.user.id) cs id none
     split false = none
 
 pub few_kept : (cs : List Credential) (q : CreationRequest) → length cs < 256 → length (kept cs q) < 256
@@ -64,11 +38,6 @@ few_kept cs q few = split (is_true (creation_flags q.options).rk)
     split : (b : Bool) → length (cond b (without_first (is_resident_of q.rp.id q.user.id) cs) cs) < 256
     split true = let less = fewer (is_resident_of q.rp.id q.user.id) cs in omega (arith, less, few)
     split false = few
-
--- one more stands last
-pub found_last : (cs : List Credential) (c : Credential) → credential_of c.id cs ≡ None → credential_of c.id (cs ++ c ∷ []) ≡ Some c
-found_last [] c none = first_is c.id c [] (itself c.id)
-found_last (x ∷ xs) c none = let o = none_of c.id x xs none in first_is_not c.id x (xs ++ c ∷ []) o.0 ∙ found_last xs c o.1
 
 pub newest_first : (rp_id : List ℕ) (cs : List Credential) (c : Credential) → c.resident ≡ true → c.rp_id ≡ rp_id
     → resident_ids rp_id (cs ++ c ∷ []) ≡ c.id ∷ resident_ids rp_id cs

@@ -9,8 +9,9 @@ use Rattle.site.specs.State as site
 use Rattle.site.specs.Laws.{GoesOn, IsFresh, IsNumbered}
 use Rattle.authenticator.specs.Laws.{IsSound, SoundState}
 use Rattle.authenticator.specs.Steps.{Keys}
+use Rattle.authenticator.proofs.Stored.{each_weaker}
 use Rattle.agreement.specs.World.{Acts, Asks, AtSite, ChangesHolder, ChangesSite, Done, End, Event, Happens, Holder, IsRun, IsStart, Moment, Nothing, SiteEvent, World, after_call}
-use Rattle.agreement.proofs.Below.{Below}
+use Rattle.agreement.specs.Below.{Below}
 use Rattle.agreement.proofs.Sites.{AreBytes, empty_bytes, stays}
 
 -- each site's sessions have their numbers, and each authenticator has signed soundly
@@ -117,10 +118,6 @@ module _ (valid : Validity) (public : Keys) (b : Below valid public) where
   abbrev EachPair : (Moment → Moment → Type 0) → List Moment → Type 0
   EachPair R [] = Unit {0}
   EachPair R (m ∷ ms) = Each (R m) ms × EachPair R ms
-
-  each_weaker : (P Q : Moment → Type 0) → ((m : Moment) → P m → Q m) → (ms : List Moment) → Each P ms → Each Q ms
-  each_weaker P Q f [] h = tt
-  each_weaker P Q f (m ∷ ms) h = (f m h.0, each_weaker P Q f ms h.1)
 
   pub each_both : (P Q R : Moment → Type 0) → ((m : Moment) → P m → Q m → R m) → (ms : List Moment) → Each P ms → Each Q ms → Each R ms
   each_both P Q R f [] h k = tt

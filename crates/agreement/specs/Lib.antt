@@ -2,3 +2,5 @@ pub mod Ends
 pub mod Honest
 pub mod World
 pub mod Agreement
+pub mod Links
+pub mod Below

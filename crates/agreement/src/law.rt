@@ -3,10 +3,26 @@
 ghost use Rattle.std.specs.Prelude.{◌<◌, ◌-◌, ◌^◌, ℕ};
 ghost use Rattle.authenticator.specs.State.{Credential};
 ghost use Rattle.agreement.specs.Agreement.{OfAllRuns};
+ghost use Rattle.agreement.specs.Below.{Below};
 ghost use Rattle.agreement.specs.Ends.{IsIdleOn};
 ghost use Rattle.agreement.specs.Honest.{AcceptsBoth, IsAskedFor, IsHonestRegistration, IsHonestRun, IsHonestSignIn, IsShared, Registering, Registers, Run, SigningIn, SignsIn};
 
 use cose::Signer;
+
+/// What is used of the laws of the crates below.
+fn below<S: Signer>()
+    ensures { (scheme : S) → Below (S.valid scheme) (S.public_of scheme) }
+{
+    hidframe::one_frame_list();
+    hidlink::whole_request();
+    hidlink::one_history();
+    hidlink::one_outcome();
+    clientdata::challenge_texts();
+    authdata::one_reading();
+    authdata::one_object();
+    authenticator::step_laws::<S>();
+    site::site_laws::<S>();
+}
 
 /// Where site, client, device and authenticator do what they are asked, and the user consents, the packets are accepted:
 /// of a registration, after which the credential is stored and registered with counter 0; of each sign-in with a
@@ -21,13 +37,5 @@ pub fn agreement<S: Signer>()
     ensures agrees { (scheme : S) (x : Run) → IsHonestRun (S.valid scheme) (S.public_of scheme) x → AcceptsBoth (S.valid scheme) (S.public_of scheme) x }
     ensures of_all_runs { (scheme : S) → OfAllRuns (S.valid scheme) (S.public_of scheme) }
 {
-    hidframe::one_frame_list();
-    hidlink::whole_request();
-    hidlink::one_history();
-    hidlink::one_outcome();
-    clientdata::challenge_texts();
-    authdata::one_reading();
-    authdata::one_object();
-    authenticator::step_laws::<S>();
-    site::site_laws::<S>();
+    below::<S>();
 }

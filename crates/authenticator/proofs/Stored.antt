@@ -17,16 +17,16 @@ either : (b : Bool) → (b ≡ true) ⊎ (b ≡ false)
 either true = inl refl
 either false = inr refl
 
-of_first : (k : List ℕ) (c : Credential) (cs : List Credential) → bytes_eq c.id k ≡ true → credential_of k (c ∷ cs) ≡ Some c
+pub of_first : (k : List ℕ) (c : Credential) (cs : List Credential) → bytes_eq c.id k ≡ true → credential_of k (c ∷ cs) ≡ Some c
 of_first k c cs e = rw e refl
 
-of_rest : (k : List ℕ) (c : Credential) (cs : List Credential) → bytes_eq c.id k ≡ false → credential_of k (c ∷ cs) ≡ credential_of k cs
+pub of_rest : (k : List ℕ) (c : Credential) (cs : List Credential) → bytes_eq c.id k ≡ false → credential_of k (c ∷ cs) ≡ credential_of k cs
 of_rest k c cs e = rw e refl
 
 same_id : (xs ys : List ℕ) → bytes_eq xs ys ≡ true → xs ≡ ys
 same_id xs ys e = (bytes_eq-Decides xs ys).0 e
 
-itself : (xs : List ℕ) → bytes_eq xs xs ≡ true
+pub itself : (xs : List ℕ) → bytes_eq xs xs ≡ true
 itself xs = (bytes_eq-Decides xs xs).1 refl
 
 sym_false : (x y : List ℕ) → bytes_eq x y ≡ false → bytes_eq y x ≡ false
@@ -36,7 +36,7 @@ sym_false x y e = elim (either (bytes_eq y x)) [
 ]
 
 -- what is not in the list has another id than its first
-other_first : (k : List ℕ) (c : Credential) (cs : List Credential) → credential_of k (c ∷ cs) ≡ None → (bytes_eq c.id k ≡ false) × (credential_of k cs ≡ None)
+pub other_first : (k : List ℕ) (c : Credential) (cs : List Credential) → credential_of k (c ∷ cs) ≡ None → (bytes_eq c.id k ≡ false) × (credential_of k cs ≡ None)
 other_first k c cs e = elim (either (bytes_eq c.id k)) [
   | inl same ↦ let bad : Some c ≡ None = sym (of_first k c cs same) ∙ e in absurd (cc)
   | inr other ↦ (other, sym (of_rest k c cs other) ∙ e)
@@ -53,9 +53,9 @@ keepers_more c cs none x e = elim (either (bytes_eq c.id x.id)) [
   | inr other ↦ of_rest x.id c cs other ∙ e
 ]
 
-each_weaker : (P Q : Credential → Type 0) → ((c : Credential) → P c → Q c) → (cs : List Credential) → Each P cs → Each Q cs
+pub each_weaker : {X : Type 0} (P Q : X → Type 0) → ((x : X) → P x → Q x) → (xs : List X) → Each P xs → Each Q xs
 each_weaker P Q f [] h = tt
-each_weaker P Q f (c ∷ cs) h = (f c h.0, each_weaker P Q f cs h.1)
+each_weaker P Q f (x ∷ xs) h = (f x h.0, each_weaker P Q f xs h.1)
 
 keepers : (cs : List Credential) → IsUnique cs → Each (Keeper cs) cs
 keepers [] h = tt
@@ -168,7 +168,7 @@ residents_with id n cs ids h k d lt = resident_with id n cs (get_or ids k d) (h 
 
 -- ---- one fewer
 
-none_without : (p : Credential → Bool) (cs : List Credential) (k : List ℕ) → credential_of k cs ≡ None → credential_of k (without_first p cs) ≡ None
+pub none_without : (p : Credential → Bool) (cs : List Credential) (k : List ℕ) → credential_of k cs ≡ None → credential_of k (without_first p cs) ≡ None
 none_without p [] k e = refl
 none_without p (x ∷ xs) k e =
     let o = other_first k x xs e in

@@ -69,7 +69,7 @@ fresh_restarted s n is = grind (arith, gets, common_steps, is)
 gone_now : (s : State) (rows : List Credential) (n : ℕ) → IsFresh s → IsSome (finite.get s.sessions.expected n) → IsGone (record s { rows = rows; sessions = closed n s.sessions }) n
 gone_now s rows n fresh is = (fresh n is, grind (arith, gets, common_steps))
 
-none_there : {X : Type 0} (o : Option X) → IsSome o → o ≡ None → ⊥
+pub none_there : {X : Type 0} (o : Option X) → IsSome o → o ≡ None → ⊥
 none_there None is e = let bad : false ≡ true = is in cc
 none_there (Some x) is e = let bad : Some x ≡ None = e in cc
 
@@ -80,7 +80,7 @@ empty_fresh s e n is =
 
 -- ---- challenges
 
-still : (s : State) (k n : ℕ) (e : Expected) → finite.get (closed k s.sessions).expected n ≡ Some e → finite.get s.sessions.expected n ≡ Some e
+pub still : (s : State) (k n : ℕ) (e : Expected) → finite.get (closed k s.sessions).expected n ≡ Some e → finite.get s.sessions.expected n ≡ Some e
 still s k n e h = grind (arith, gets, common_steps, h)
 
 numbered_closed : (s : State) (rows : List Credential) (k : ℕ) → IsNumbered s → IsNumbered (record s { rows = rows; sessions = closed k s.sessions })
@@ -90,7 +90,7 @@ new_challenge : (n : ℕ) (o : Opening) → (words : List ℕ) × (challenge_in 
 new_challenge n (OpensSignIn user allow verified words) = (words, refl)
 new_challenge n (OpensRegistration user algorithms verified words) = (words, refl)
 
-begun_or : (s : State) (o : Opening) (n : ℕ) (e : Expected) → finite.get (begun s.sessions o).expected n ≡ Some e
+pub begun_or : (s : State) (o : Opening) (n : ℕ) (e : Expected) → finite.get (begun s.sessions o).expected n ≡ Some e
     → ((n ≡ s.sessions.next) × (e ≡ expected_of s.sessions.next o)) ⊎ (finite.get s.sessions.expected n ≡ Some e)
 begun_or s o n e h = grind (arith, gets, common_steps, h)
 

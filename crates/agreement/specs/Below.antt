@@ -1,0 +1,27 @@
+-- What is used of the laws of the crates below.
+use Rattle.std.specs.Prelude.{◌≡◌, ◌++◌, ℕ, List}
+use Rattle.base64.specs.GeneralPurpose.{IsBytes}
+use Rattle.clientdata.specs.Serialised.{challenge_text_of}
+use Rattle.cose.specs.Keys.{alg_of}
+use Rattle.cose.specs.Schemes.{Validity}
+use Rattle.cose.specs.declared.key.Alg.{Alg}
+use Rattle.authdata.specs.Layout.{AuthenticatorData, AuthOf}
+use Rattle.authdata.specs.Objects.{Attestation, ObjectOf}
+use Rattle.site.specs.Laws.{SiteLaws}
+use Rattle.authenticator.specs.Laws.{StepLaws}
+use Rattle.authenticator.specs.Steps.{Keys}
+use Rattle.agreement.specs.Links.{Links}
+
+-- bytes are one object, and of one authenticator's data
+pub record Readings : Type 0 where
+  pub one_object : (o p : Attestation) (bs : List ℕ) → ObjectOf o bs → ObjectOf p bs → o ≡ p
+  pub one_value : (a b : AuthenticatorData) (bs : List ℕ) → AuthOf a bs → AuthOf b bs → a ≡ b
+  pub one_front : (a b : AuthenticatorData) (x y u v : List ℕ) → AuthOf a x → AuthOf b y → x ++ u ≡ y ++ v → (a ≡ b) × (x ≡ y) × (u ≡ v)
+
+pub record Below (valid : Validity) (public : Keys) : Type 0 where
+  pub links : Links
+  pub readings : Readings
+  pub challenge_texts : (a b : List ℕ) → IsBytes a → IsBytes b → challenge_text_of a ≡ challenge_text_of b → a ≡ b
+  pub keeps_alg : (alg : Alg) (secret : List ℕ) → alg_of (public alg secret) ≡ alg
+  pub sites : SiteLaws valid
+  pub steps : StepLaws valid public
