@@ -10,23 +10,23 @@ use site::{Policy, Site};
 use std::alloc::Global;
 use std::test::Fail;
 
-const RP_ID: &str = "example.org";
+pub(crate) const RP_ID: &str = "example.org";
 
-const ORIGIN: &str = "https://login.example.org";
+pub(crate) const ORIGIN: &str = "https://login.example.org";
 
-const USER: &[u8] = b"user-17";
+pub(crate) const USER: &[u8] = b"user-17";
 
 /// Both kinds of attestation are accepted.
-const POLICY: Policy = Policy {
+pub(crate) const POLICY: Policy = Policy {
     accept_none: true,
     accept_self: true,
 };
 
 /// How a ceremony is done: the algorithm, the attestation, and whether the credential is resident.
-type Manner = (Alg, AttestationType, bool);
+pub(crate) type Manner = (Alg, AttestationType, bool);
 
 /// What a client asks of the key, in a session with this challenge.
-fn creation(alloc: Global, manner: &Manner, challenge: &[u8], channel: u32) -> Option<Outgoing> {
+pub(crate) fn creation(alloc: Global, manner: &Manner, challenge: &[u8], channel: u32) -> Option<Outgoing> {
     let options = CreationOptions {
         challenge,
         rp_id: RP_ID,
@@ -65,7 +65,7 @@ fn registers(alloc: Global, site: &mut Site, key: &mut Key, manner: &Manner) -> 
 }
 
 /// What a client asks of the key for a sign-in, in a session with this challenge.
-fn assertion(alloc: Global, challenge: &[u8], listed: &[&[u8]], channel: u32) -> Option<Outgoing> {
+pub(crate) fn assertion(alloc: Global, challenge: &[u8], listed: &[&[u8]], channel: u32) -> Option<Outgoing> {
     let options = RequestOptions {
         challenge,
         rp_id: RP_ID,
