@@ -31,6 +31,7 @@
 #![tactic(auto)]
 
 mod access;
+mod appending;
 mod error;
 mod head;
 mod law;
@@ -44,6 +45,7 @@ mod view;
 mod writing;
 
 pub use access::{is_end, split_key, value_at};
+pub use appending::{append_bytes, append_map_head, append_text, append_unsigned};
 pub use error::Error;
 pub use law::{nothing_first, one_spelling, shown_values};
 pub use reading::{decode, decode_all};
