@@ -1,5 +1,5 @@
 -- What the bytes of a reply say of it.
-use Rattle.std.proofs.Common.{◌≡◌, ◌≢◌, ℕ, List, [], ◌∷◌, Option, Some, None, option_map, refl, sym, ap, subst, ◌∙◌, true, Result, Ok, Err}
+use Rattle.std.proofs.Common.{◌≡◌, ◌≢◌, ℕ, List, ◌∷◌, Option, Some, None, option_map, refl, sym, ap, subst, ◌∙◌, true, Result, Ok, Err}
 use Rattle.std.specs.Prelude.{IsErrOf}
 use Rattle.replies.specs.Pieces.{WrittenMap}
 use Rattle.ccbor.specs.Item.{Item}
@@ -144,7 +144,7 @@ unnumbered : (q : Assertion) → q.number ≡ None → assertion_reply_item q �
 unnumbered q none = rw none refl
 
 -- one with a number has an unlisted key
-numbered_fault : (q : Assertion) (n : ℕ) → q.number ≡ Some n → has_fault faults.UnlistedKey (record_of next_reply_members) (assertion_reply_item q) ≡ true
+pub numbered_fault : (q : Assertion) (n : ℕ) → q.number ≡ Some n → has_fault faults.UnlistedKey (record_of next_reply_members) (assertion_reply_item q) ≡ true
 numbered_fault q n e = cases (option_map reply_user_content q.user) q.number e where
   cases : (u : Option (Contents reply_user_members)) (o : Option ℕ) → o ≡ Some n
       → has_fault faults.UnlistedKey (record_of next_reply_members) (item_of (record_of assertion_reply_members) (credential_content q.credential, (q.auth_data, (q.signature, (u, (o, tt)))))) ≡ true
