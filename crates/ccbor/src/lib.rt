@@ -33,6 +33,7 @@
 mod access;
 mod appending;
 mod error;
+mod front;
 mod head;
 mod law;
 mod leaf;
@@ -47,6 +48,7 @@ mod writing;
 pub use access::{is_end, split_key, value_at};
 pub use appending::{append_bytes, append_map_head, append_text, append_unsigned};
 pub use error::Error;
+pub use front::bytes_first;
 pub use law::{nothing_first, one_spelling, shown_values};
 pub use reading::{decode, decode_all};
 pub use value::{Key, MAX_DEPTH, Value};

@@ -1,5 +1,5 @@
 -- What the private functions of replies are proved against; no public clause cites it.
-use Rattle.std.specs.Prelude.{◌≡◌, ◌≤◌, ℕ, ◌+◌, List, [], ◌∷◌, ◌++◌, length, Option, Some, None, IfSome, Result, Ok, Err}
+use Rattle.std.specs.Prelude.{◌≡◌, ◌≤◌, ◌<◌, ◌^◌, ℕ, ◌+◌, List, [], ◌∷◌, ◌++◌, length, Option, Some, None, IfSome, Result, Ok, Err}
 use Rattle.ccbor.specs.Item as of
 use Rattle.ccbor.specs.Item.{Item}
 use Rattle.ccbor.specs.Canon.{Canon, spelling}
@@ -56,3 +56,12 @@ one_if_there (Some x) = 1
 
 abbrev pub member_count : Assertion → ℕ
 member_count q = 3 + one_if_there q.user + one_if_there q.number
+
+-- the bytes begin with the members that each reply has, as they are of this reply without others
+pub record HasFront (q : Assertion) (bs rest : List ℕ) : Type 0 where
+  pub id : IsIdSize q.credential
+  pub auth_data : length q.auth_data < 2 ^ 64
+  pub signature : length q.signature < 2 ^ 64
+  pub user : q.user ≡ None
+  pub number : q.number ≡ None
+  pub spelled : bs ≡ required_bytes q ++ rest

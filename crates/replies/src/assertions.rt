@@ -20,7 +20,7 @@ use std::alloc::{AllocError, Global};
 const MOST_BESIDE: usize = 190;
 
 /// Whether a credential id or a user handle has 1 to 64 bytes.
-fn is_id_size(id: &[u8]) -> bool
+pub(crate) fn is_id_size(id: &[u8]) -> bool
     ensures { IsTrue result ↔ IsIdSize id.now }
 {
     !id.is_empty() && id.len() <= 64

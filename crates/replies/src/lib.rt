@@ -6,6 +6,7 @@ mod maps;
 mod reading;
 mod reply;
 mod tables;
+mod usual;
 mod values;
 mod writing;
 
