@@ -1,7 +1,7 @@
 //! Writing authenticator data.
 
-ghost use Rattle.std.specs.Prelude.{◌≡◌, ◌++◌, IfOk, OnOk};
-ghost use Rattle.cose.specs.Keys.{IsKey};
+ghost use Rattle.std.specs.Prelude.{◌≡◌, ◌≤◌, ◌+◌, ◌++◌, IfOk, OnOk, length};
+ghost use Rattle.cose.specs.Keys.{IsKey, encoded_length};
 ghost use Rattle.authdata.specs.Layout.{AuthOf, IsAttestedCredential, auth_view, credential_bytes, attested_view, key_bytes};
 
 use crate::auth::{Attested, AuthData};
@@ -34,12 +34,34 @@ fn put_credential(alloc: Global, credential: &Attested, out: &mut Vec<u8>) -> Re
     put_key(alloc, &credential.key, out)
 }
 
+/// How many bytes the key's encoding has.
+fn key_length(key: &CoseKey) -> usize
+    ensures { result ≡ encoded_length key.now }
+{
+    match key {
+        CoseKey::Es256 { .. } => 77,
+        CoseKey::EdDsa { .. } => 42,
+    }
+}
+
+/// How many bytes attested credential data have.
+fn credential_length(credential: &Attested) -> usize
+    ensures exact { result ≡ 18 + length credential.now.id.items + encoded_length credential.now.key }
+    ensures most { result ≤ 159 }
+{
+    18 + credential.id.len() + key_length(&credential.key)
+}
+
 /// The bytes of authenticator data (WebAuthn section 6.1): 37, and with a credential those of its
 /// id, its key (77 for ES256, 42 for EdDSA) and 18 more.
 pub fn write(alloc: Global, auth: &AuthData) -> Result<Vec<u8>, AllocError>
     ensures { IfOk result (λ bytes. AuthOf (auth_view auth.now) bytes.items) }
 {
-    let mut out = Vec::new(alloc);
+    let credential_length = match &auth.attested {
+        Some(credential) => credential_length(credential),
+        None => 0,
+    };
+    let mut out = Vec::with_capacity(alloc, 37 + credential_length)?;
     out.extend_from_slice(&auth.rp_id_hash)?;
     out.push(auth.flags)?;
     out.extend_from_slice(&auth.sign_count.to_be_bytes())?;

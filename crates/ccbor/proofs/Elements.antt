@@ -3,7 +3,7 @@ use Rattle.std.proofs.Common.{Bor, ◌≡◌, ◌≢◌, [], append-nil, ℕ, ze
 use Rattle.std.proofs.lemmas.Option.{same_Some}
 use Rattle.std.specs.Prelude.{MatchOption}
 use Rattle.ccbor.specs.Item.{Item, uint, nint, bytes, text, array, map, boolean, Items, no_items, item}
-use Rattle.ccbor.specs.Canon.{spelling, spelling_of_items, count_of_items, ItemsFit, Canon}
+use Rattle.ccbor.specs.Canon.{spelling, spelling_of_items, count_of_items, Canon}
 use Rattle.ccbor.specs.Access.{items_first, item_at, item_in}
 use Rattle.ccbor.specs.Viewing.{AreItems, read_or, shown, shown_items, parts_in}
 use Rattle.ccbor.specs.Reading.{items_at, item_at as read_at}

@@ -12,3 +12,4 @@ pub mod Walks
 pub mod Decoding
 pub mod AccessLemmas
 pub mod KeyOrder
+pub mod BytesFirst

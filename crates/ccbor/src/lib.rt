@@ -31,7 +31,9 @@
 #![tactic(auto)]
 
 mod access;
+mod appending;
 mod error;
+mod front;
 mod head;
 mod law;
 mod leaf;
@@ -44,7 +46,9 @@ mod view;
 mod writing;
 
 pub use access::{is_end, split_key, value_at};
+pub use appending::{append_bytes, append_map_head, append_text, append_unsigned};
 pub use error::Error;
+pub use front::bytes_first;
 pub use law::{nothing_first, one_spelling, shown_values};
 pub use reading::{decode, decode_all};
 pub use value::{Key, MAX_DEPTH, Value};

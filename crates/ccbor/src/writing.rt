@@ -15,7 +15,7 @@ use crate::value::{MAX_DEPTH, Value};
 use std::alloc::AllocError;
 
 /// Appends the head of a byte string or a text, and its bytes.
-fn put_string(major: u8, content: &[u8], out: &mut Vec<u8>) -> Result<(), AllocError>
+pub(crate) fn put_string(major: u8, content: &[u8], out: &mut Vec<u8>) -> Result<(), AllocError>
     requires { major < 8 }
     ensures ok { OnOk result (out.new.items
         ≡ out.old.items ++ (head major (length content.now) ++ content.now)) }

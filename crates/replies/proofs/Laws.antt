@@ -1,5 +1,5 @@
 -- What the bytes of a reply say of it.
-use Rattle.std.proofs.Common.{◌≡◌, ◌≢◌, ℕ, List, [], ◌∷◌, Option, Some, None, option_map, refl, sym, ap, subst, ◌∙◌, true, Result, Ok, Err}
+use Rattle.std.proofs.Common.{◌≡◌, ◌≢◌, ℕ, List, ◌∷◌, Option, Some, None, option_map, refl, sym, ap, subst, ◌∙◌, true, Result, Ok, Err}
 use Rattle.std.specs.Prelude.{IsErrOf}
 use Rattle.replies.specs.Pieces.{WrittenMap}
 use Rattle.ccbor.specs.Item.{Item}
@@ -71,6 +71,26 @@ info_contents q r e = ap info_of e
 
 pub assertion_items : (q r : Assertion) → assertion_reply_item q ≡ assertion_reply_item r → q ≡ r
 assertion_items q r e = assertion_contents q r (one_read (record_of assertion_reply_members) assertion_ordered (assertion_reply_content q) (assertion_reply_content r) e)
+
+-- bytes are one reply
+pub one_creation_reply : (r q : Creation) (bs : List ℕ) → ReplyOf (creation_reply r) bs → ReplyOf (creation_reply q) bs → r ≡ q
+one_creation_reply r q bs a b =
+    let rests : b.0 ≡ a.0 = let f = a.1 in let g = b.1 in cc in
+    creation_items r q (same_item (creation_reply_item r) (creation_reply_item q) a.0 a.2 (subst (λ (l : List ℕ). Canon (creation_reply_item q) l) rests b.2))
+
+pub one_assertion_reply : (r q : Assertion) (bs : List ℕ) → ReplyOf (assertion_reply r) bs → ReplyOf (assertion_reply q) bs → r ≡ q
+one_assertion_reply r q bs a b =
+    let rests : b.0 ≡ a.0 = let f = a.1 in let g = b.1 in cc in
+    assertion_items r q (same_item (assertion_reply_item r) (assertion_reply_item q) a.0 a.2 (subst (λ (l : List ℕ). Canon (assertion_reply_item q) l) rests b.2))
+
+pub is_assertion_reply : (q : Assertion) (bs : List ℕ) → ReplyOf (assertion_reply q) bs → IsReply kinds.GetAssertion (assertion_reply q) bs
+is_assertion_reply q bs spelled = record { of_kind = refl; spelled = spelled; only = only } where
+  only : (r : ReplyMessage) → kind_of r ≡ kinds.GetAssertion → ReplyOf r bs → r ≡ assertion_reply q
+  only (creation_reply r) k h = absurd cc
+  only (assertion_reply r) k h = ap assertion_reply (one_assertion_reply r q bs h spelled)
+  only (next_reply r) k h = absurd cc
+  only (info_reply r) k h = absurd cc
+  only reset_reply k h = absurd cc
 
 -- ---- a map that is read, or not
 
@@ -144,7 +164,7 @@ unnumbered : (q : Assertion) → q.number ≡ None → assertion_reply_item q �
 unnumbered q none = rw none refl
 
 -- one with a number has an unlisted key
-numbered_fault : (q : Assertion) (n : ℕ) → q.number ≡ Some n → has_fault faults.UnlistedKey (record_of next_reply_members) (assertion_reply_item q) ≡ true
+pub numbered_fault : (q : Assertion) (n : ℕ) → q.number ≡ Some n → has_fault faults.UnlistedKey (record_of next_reply_members) (assertion_reply_item q) ≡ true
 numbered_fault q n e = cases (option_map reply_user_content q.user) q.number e where
   cases : (u : Option (Contents reply_user_members)) (o : Option ℕ) → o ≡ Some n
       → has_fault faults.UnlistedKey (record_of next_reply_members) (item_of (record_of assertion_reply_members) (credential_content q.credential, (q.auth_data, (q.signature, (u, (o, tt)))))) ≡ true

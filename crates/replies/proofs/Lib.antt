@@ -1,1 +1,4 @@
 pub mod Laws
+pub mod Texts
+pub mod AssertionBytes
+pub mod UsualReplies

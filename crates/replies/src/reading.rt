@@ -12,6 +12,7 @@ ghost use Rattle.replies.specs.declared.reply.Kind.TheVariants as kinds;
 
 use crate::maps::{assertion_reply, creation_reply, info};
 use crate::reply::{AssertionReply, AssertionView, CreationReply, InfoReply, Kind, Reply};
+use crate::usual::usual_assertion;
 use ccbor::View;
 use ctap_status::Error;
 use ctap_status::status::OK;
@@ -51,6 +52,9 @@ fn assertion_after(rest: &[u8]) -> Result<AssertionView<'_>, Error>
     ensures refused { IfErr result (λ e. ReplyRefused kinds.GetAssertion (0 ∷ rest.now) e) }
     ensures no_memory { IfErr result (λ e. e ≢ errors.Memory) }
 {
+    if let Some(reply) = usual_assertion(rest) {
+        return Ok(reply);
+    }
     let value = match whole(rest) {
         Ok(value) => value,
         Err(e) => return Err(e),

@@ -3,39 +3,15 @@
 ghost use Rattle.std.specs.Prelude.{◌≡◌};
 ghost use Rattle.ccbor.specs.View.{view};
 ghost use Rattle.cbor_map.specs.Table.{gravest, record_of};
-ghost use Rattle.replies.specs.Replies.{creation_reply_members, assertion_reply_members, next_reply_members, info_members};
+ghost use Rattle.replies.specs.Replies.{creation_reply_members, info_members};
 
 use cbor_map::{Fault, Holds, gravest};
 use ccbor::{Key, Value};
-
-const ID: Holds = Holds::Sized(1, 64, Fault::OverLimit, &Holds::Bytes);
-
-const CREDENTIAL: Holds = Holds::Record(&[
-    (Key::Text("id"), true, ID),
-    (Key::Text("type"), true, Holds::ThatText("public-key")),
-]);
-
-const USER: Holds = Holds::Record(&[(Key::Text("id"), true, ID)]);
 
 const CREATION_REPLY: Holds = Holds::Record(&[
     (Key::Uint(1), true, Holds::Text),
     (Key::Uint(2), true, Holds::Bytes),
     (Key::Uint(3), true, Holds::AnyMap),
-]);
-
-const ASSERTION_REPLY: Holds = Holds::Record(&[
-    (Key::Uint(1), true, CREDENTIAL),
-    (Key::Uint(2), true, Holds::Bytes),
-    (Key::Uint(3), true, Holds::Bytes),
-    (Key::Uint(4), false, USER),
-    (Key::Uint(5), false, Holds::Unsigned(2)),
-]);
-
-const NEXT_REPLY: Holds = Holds::Record(&[
-    (Key::Uint(1), true, CREDENTIAL),
-    (Key::Uint(2), true, Holds::Bytes),
-    (Key::Uint(3), true, Holds::Bytes),
-    (Key::Uint(4), false, USER),
 ]);
 
 const INFO: Holds = Holds::Record(&[
@@ -56,20 +32,6 @@ pub fn creation_reply_fault(value: &Value) -> Option<Fault>
     ensures { result ≡ gravest (record_of creation_reply_members) (view value.now) }
 {
     gravest(&CREATION_REPLY, value)
-}
-
-/// The gravest fault in a getAssertion reply's map.
-pub fn assertion_reply_fault(value: &Value) -> Option<Fault>
-    ensures { result ≡ gravest (record_of assertion_reply_members) (view value.now) }
-{
-    gravest(&ASSERTION_REPLY, value)
-}
-
-/// The gravest fault in a getNextAssertion reply's map.
-pub fn next_reply_fault(value: &Value) -> Option<Fault>
-    ensures { result ≡ gravest (record_of next_reply_members) (view value.now) }
-{
-    gravest(&NEXT_REPLY, value)
 }
 
 /// The gravest fault in a getInfo reply's map.

@@ -1,54 +1,16 @@
 //! The values of replies' maps.
 
-ghost use Rattle.std.specs.Prelude.{◌≡◌, IfOk, map, option_map, string_bytes};
+ghost use Rattle.std.specs.Prelude.{◌≡◌, IfOk, map, string_bytes};
 ghost use Rattle.ccbor.specs.View.{view};
-ghost use Rattle.ccbor.specs.Item.{uint};
-ghost use Rattle.cbor_map.specs.Table.{a_text, truths, list_of, record_of};
+ghost use Rattle.cbor_map.specs.Table.{a_text, truths, list_of};
 ghost use Rattle.cbor_map.specs.Content.{item_of};
-ghost use Rattle.replies.specs.Replies.{credential_members, credential_content, reply_user_members, reply_user_content, creation_reply_item, assertion_reply_item, info_item};
-ghost use Rattle.replies.specs.ReplyView.{creation_reply_view, assertion_reply_view, info_view};
+ghost use Rattle.replies.specs.Replies.{creation_reply_item, info_item};
+ghost use Rattle.replies.specs.ReplyView.{creation_reply_view, info_view};
 
-use crate::reply::{AssertionReply, CreationReply, InfoReply};
-use cbor_map::{bytes_value, push_if_there, push_member, text_value};
+use crate::reply::{CreationReply, InfoReply};
+use cbor_map::{bytes_value, push_member, text_value};
 use ccbor::{Key, Value};
 use std::alloc::{AllocError, Global};
-
-fn credential_value(alloc: Global, id: Vec<u8>) -> Result<Value, AllocError>
-    ensures { IfOk result (λ v. view v ≡ item_of (record_of credential_members) (credential_content id.items)) }
-{
-    let kind = text_value(alloc, "public-key")?;
-    let mut pairs = Vec::new(alloc);
-    push_member(alloc, &mut pairs, Key::Text("id"), Value::Bytes(id))?;
-    push_member(alloc, &mut pairs, Key::Text("type"), kind)?;
-    Ok(Value::Map(pairs))
-}
-
-fn user_value(alloc: Global, id: Vec<u8>) -> Result<Value, AllocError>
-    ensures { IfOk result (λ v. view v ≡ item_of (record_of reply_user_members) (reply_user_content id.items)) }
-{
-    let mut pairs = Vec::new(alloc);
-    push_member(alloc, &mut pairs, Key::Text("id"), Value::Bytes(id))?;
-    Ok(Value::Map(pairs))
-}
-
-fn user_if_there(alloc: Global, id: Option<Vec<u8>>) -> Result<Option<Value>, AllocError>
-    ensures { IfOk result (λ v. option_map view v
-        ≡ option_map (item_of (record_of reply_user_members)) (option_map reply_user_content (option_map (λ v. v.items) id))) }
-{
-    match id {
-        Some(id) => Ok(Some(user_value(alloc, id)?)),
-        None => Ok(None),
-    }
-}
-
-fn number_if_there(number: Option<u64>) -> Option<Value>
-    ensures { option_map view result ≡ option_map uint number }
-{
-    match number {
-        Some(n) => Some(Value::Uint(n)),
-        None => None,
-    }
-}
 
 /// The value of a reply to makeCredential.
 pub fn creation_reply_value(alloc: Global, reply: CreationReply) -> Result<Value, AllocError>
@@ -63,28 +25,6 @@ pub fn creation_reply_value(alloc: Global, reply: CreationReply) -> Result<Value
     push_member(alloc, &mut pairs, Key::Uint(1), Value::Text(fmt))?;
     push_member(alloc, &mut pairs, Key::Uint(2), Value::Bytes(auth_data))?;
     push_member(alloc, &mut pairs, Key::Uint(3), statement)?;
-    Ok(Value::Map(pairs))
-}
-
-/// The value of a reply to getAssertion or getNextAssertion.
-pub fn assertion_reply_value(alloc: Global, reply: AssertionReply) -> Result<Value, AllocError>
-    ensures { IfOk result (λ v. view v ≡ assertion_reply_item (assertion_reply_view reply)) }
-{
-    let AssertionReply {
-        credential,
-        auth_data,
-        signature,
-        user,
-        number,
-    } = reply;
-    let credential = credential_value(alloc, credential)?;
-    let user = user_if_there(alloc, user)?;
-    let mut pairs = Vec::new(alloc);
-    push_member(alloc, &mut pairs, Key::Uint(1), credential)?;
-    push_member(alloc, &mut pairs, Key::Uint(2), Value::Bytes(auth_data))?;
-    push_member(alloc, &mut pairs, Key::Uint(3), Value::Bytes(signature))?;
-    push_if_there(alloc, &mut pairs, Key::Uint(4), user)?;
-    push_if_there(alloc, &mut pairs, Key::Uint(5), number_if_there(number))?;
     Ok(Value::Map(pairs))
 }
 

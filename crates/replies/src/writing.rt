@@ -3,13 +3,14 @@
 ghost use Rattle.std.specs.Prelude.{◌≡◌, ◌∷◌, [], ℕ, List, ◌⊎◌, IfOk, IfErr, IsErrOf};
 ghost use Rattle.ccbor.specs.View.{view};
 ghost use Rattle.replies.specs.Pieces.{WrittenValue, WrittenMap};
-ghost use Rattle.replies.specs.Replies.{creation_reply_members, assertion_reply_members, next_reply_members, info_members, creation_reply_item, assertion_reply_item, info_item, ReplyOf};
-ghost use Rattle.replies.specs.ReplyView.{creation_reply_view, assertion_reply_view, info_view, reply_view};
+ghost use Rattle.replies.specs.Replies.{creation_reply_members, info_members, creation_reply_item, info_item, next_reply, ReplyOf};
+ghost use Rattle.replies.specs.ReplyView.{creation_reply_view, info_view, lent_assertion_view, reply_view};
 ghost use Rattle.ctap_status.specs.declared.error.Error.TheVariants as errors;
 
-use crate::reply::{AssertionReply, CreationReply, InfoReply, Reply};
-use crate::tables::{assertion_reply_fault, creation_reply_fault, info_fault, next_reply_fault};
-use crate::values::{assertion_reply_value, creation_reply_value, info_value};
+use crate::assertions::{lent, write_assertion};
+use crate::reply::{AssertionView, CreationReply, InfoReply, Reply};
+use crate::tables::{creation_reply_fault, info_fault};
+use crate::values::{creation_reply_value, info_value};
 use ccbor::{Value, encode};
 use ctap_status::Error;
 use ctap_status::status::OK;
@@ -39,24 +40,15 @@ fn creation_reply_bytes(alloc: Global, reply: CreationReply) -> Result<Vec<u8>, 
     }
 }
 
-fn assertion_reply_bytes(alloc: Global, reply: AssertionReply) -> Result<Vec<u8>, Error>
-    ensures { WrittenMap (λ v. v.items) assertion_reply_members
-        (assertion_reply_item (assertion_reply_view reply)) result }
+/// The reply to getNextAssertion, which has no number of credentials.
+fn next_reply_bytes(alloc: Global, reply: &AssertionView<'_>) -> Result<Vec<u8>, Error>
+    ensures spelled { IfOk result (λ bytes. ReplyOf (next_reply (lent_assertion_view reply.now)) bytes.items) }
+    ensures unfit { IsErrOf result errors.Unfit
+        → (bs : List ℕ) → ReplyOf (next_reply (lent_assertion_view reply.now)) bs → ⊥ }
+    ensures errors { IfErr result (λ e. (e ≡ errors.Unfit) ⊎ (e ≡ errors.Memory)) }
 {
-    let value = assertion_reply_value(alloc, reply)?;
-    match assertion_reply_fault(&value) {
-        None => with_value(alloc, &value),
-        Some(_) => Err(Error::Unfit),
-    }
-}
-
-fn next_reply_bytes(alloc: Global, reply: AssertionReply) -> Result<Vec<u8>, Error>
-    ensures { WrittenMap (λ v. v.items) next_reply_members
-        (assertion_reply_item (assertion_reply_view reply)) result }
-{
-    let value = assertion_reply_value(alloc, reply)?;
-    match next_reply_fault(&value) {
-        None => with_value(alloc, &value),
+    match reply.number {
+        None => write_assertion(alloc, reply),
         Some(_) => Err(Error::Unfit),
     }
 }
@@ -96,8 +88,8 @@ pub fn write_reply(alloc: Global, reply: Reply) -> Result<Vec<u8>, Error>
 {
     match reply {
         Reply::MakeCredential(reply) => creation_reply_bytes(alloc, reply),
-        Reply::GetAssertion(reply) => assertion_reply_bytes(alloc, reply),
-        Reply::GetNextAssertion(reply) => next_reply_bytes(alloc, reply),
+        Reply::GetAssertion(reply) => write_assertion(alloc, &lent(&reply)),
+        Reply::GetNextAssertion(reply) => next_reply_bytes(alloc, &lent(&reply)),
         Reply::GetInfo(reply) => info_reply_bytes(alloc, reply),
         Reply::Reset => Ok(status_alone(alloc)?),
     }

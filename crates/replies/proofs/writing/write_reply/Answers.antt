@@ -1,5 +1,8 @@
-use Rattle.replies.specs.Replies.{creation_reply_members, assertion_reply_members, next_reply_members, info_members, creation_reply_item, assertion_reply_item, info_item}
-use Rattle.replies.specs.ReplyView.{creation_reply_view, assertion_reply_view, info_view}
+use Rattle.std.proofs.Common.{List, ℕ, subst}
+use Rattle.std.specs.Prelude.{IsErrOf}
+use Rattle.ctap_status.specs.declared.error.Error.TheVariants as errors
+use Rattle.replies.specs.Replies.{Assertion, ReplyOf, assertion_reply, next_reply, creation_reply_members, info_members, creation_reply_item, info_item}
+use Rattle.replies.specs.ReplyView.{creation_reply_view, info_view}
 use Rattle.replies.proofs.Laws.{unfit_map}
 use Rattle.replies.proofs.writing.write_reply.Goals as goal
 
@@ -9,11 +12,11 @@ returns-in-MakeCredential-clause-unfit c =
 
 pub returns-in-GetAssertion-clause-unfit : goal.returns-in-GetAssertion-clause-unfit
 returns-in-GetAssertion-clause-unfit c =
-    rw c.in-GetAssertion.is (unfit_map (λ v. v.items) assertion_reply_members (assertion_reply_item (assertion_reply_view c.in-GetAssertion.reply)) c.assertion_reply_bytes.result c.assertion_reply_bytes.ensures)
+    rw c.in-GetAssertion.is (subst (λ (q : Assertion). IsErrOf c.write_assertion.result errors.Unfit → (bs : List ℕ) → ReplyOf (assertion_reply q) bs → ⊥) c.lent.ensures c.write_assertion.ensures.unfit)
 
 pub returns-in-GetNextAssertion-clause-unfit : goal.returns-in-GetNextAssertion-clause-unfit
 returns-in-GetNextAssertion-clause-unfit c =
-    rw c.in-GetNextAssertion.is (unfit_map (λ v. v.items) next_reply_members (assertion_reply_item (assertion_reply_view c.in-GetNextAssertion.reply)) c.next_reply_bytes.result c.next_reply_bytes.ensures)
+    rw c.in-GetNextAssertion.is (subst (λ (q : Assertion). IsErrOf c.next_reply_bytes.result errors.Unfit → (bs : List ℕ) → ReplyOf (next_reply q) bs → ⊥) c.lent-in-GetNextAssertion.ensures c.next_reply_bytes.ensures.unfit)
 
 pub returns-in-GetInfo-clause-unfit : goal.returns-in-GetInfo-clause-unfit
 returns-in-GetInfo-clause-unfit c =
