@@ -13,7 +13,7 @@ use Rattle.ctapmsg.specs.Schema.{Members, all_keys, fails, gravest, has_fault, i
 use Rattle.ctapmsg.specs.Entities.{UserEntity, user_content, user_members}
 use Rattle.ctapmsg.specs.Requests.{AssertionRequest, CreationRequest, RequestMessage, assertion_content, assertion_item, assertion_members, creation_content, creation_item, creation_members, get_assertion, make_credential, get_next_assertion, get_info, reset, map_of}
 use Rattle.ctapmsg.specs.Status.{NoStatus, IsRequest, has_map}
-use Rattle.authenticator.proofs.Lists.{and_left, and_right}
+use Rattle.replies.proofs.Texts.{and_left, and_right}
 use Rattle.authenticator.specs.Private.{HasUser, IsUser}
 
 -- no rank applies, so there is no fault

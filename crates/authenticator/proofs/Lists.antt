@@ -1,5 +1,5 @@
 -- Lists that others are the images of.
-use Rattle.std.proofs.Common.{◌≡◌, ◌<◌, ◌+◌, ℕ, suc, List, [], ◌∷◌, ◌++◌, Bool, true, false, cond, Option, Some, None, map, refl, ap, sym, ◌∙◌, arith, take, drop, slice_index_or, length, append_assoc, append-nil, ◌≤◌, ◌&&◌}
+use Rattle.std.proofs.Common.{◌≡◌, ◌<◌, ◌+◌, ℕ, suc, List, [], ◌∷◌, ◌++◌, Bool, true, false, cond, Option, Some, None, map, refl, ap, sym, ◌∙◌, arith, take, drop, slice_index_or, length, append_assoc, append-nil, ◌≤◌}
 use Rattle.std.specs.Prelude.{find, filter, option_map, remove, MatchOption, Result, Ok, Err, OnOk}
 use Rattle.std.specs.List.{list_any}
 use Rattle.std.proofs.lemmas.List.{take-append-le, drop-append-le, map-append}
@@ -40,14 +40,6 @@ find_passes {X} p (x ∷ xs) y e = split (p x) refl e (find_passes p xs y) where
   split : (b : Bool) → p x ≡ b → cond b (Some x) (find p xs) ≡ Some y → (find p xs ≡ Some y → p y ≡ true) → p y ≡ true
   split true is e rest = let same : x ≡ y = cc in rw (← same) is
   split false is e rest = rest e
-
-pub and_left : (a b : Bool) → (a && b) ≡ true → a ≡ true
-and_left true b e = refl
-and_left false b e = absurd cc
-
-pub and_right : (a b : Bool) → (a && b) ≡ true → b ≡ true
-and_right true b e = e
-and_right false b e = absurd cc
 
 -- what is removed of a list in front of another
 pub remove_front : {X : Type 0} (i : ℕ) (xs ys : List X) → i < length xs → remove (xs ++ ys) i ≡ remove xs i ++ ys

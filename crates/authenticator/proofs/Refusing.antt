@@ -10,8 +10,8 @@ use Rattle.authdata.specs.Layout.{AuthOf}
 use Rattle.authenticator.specs.State.{Asked, Credential, Remembered, State, forgotten}
 use Rattle.authenticator.specs.Credentials.{credential_of, with_sign_count}
 use Rattle.authenticator.specs.Orders.{assertion_flags, assertion_order, candidates, first_is_at_end, first_supported, is_at_end, is_empty, is_false, is_true, kept, next_order, remembered_on}
-use Rattle.authenticator.specs.Private.{Comes, FirstHappens, AssertionHappens, IsAttested, consent_order}
-use Rattle.authenticator.specs.Steps.{Answers, Creates, Entry, FirstAnswers, IsAssertion, Keys, Outcome, Unless, asked_by, assertion, creation_data, key_of, new_credential, refusal, remembering}
+use Rattle.authenticator.specs.Private.{Comes, FirstHappens, AssertionHappens, IsAttested, Shows, consent_order}
+use Rattle.authenticator.specs.Steps.{Answers, Creates, Entry, FirstAnswers, IsAssertion, IsSignature, Keys, Outcome, Unless, asked_by, assertion, assertion_data, creation_data, key_of, new_credential, refusal, remembering, shown_user}
 use Rattle.authenticator.specs.declared.consent.Consent.{Consent}
 use Rattle.authenticator.specs.declared.consent.Words.{Words}
 
@@ -62,6 +62,15 @@ pub answered : (valid : Validity) (public : Keys) (old new : State) (c : Credent
 answered valid public old new c id asked later message count r reply found is spelled state =
     let entry : Entry = record { key = key_of public c; message = r.auth_data ++ asked.client_data_hash; purpose = assertion; consent = asked.consent } in
     (entry ∷ [], [], record { credential = c; found = found; shown = r; asserts = is; reply = spelled; state = state; signed = refl; made = refl })
+
+-- what is shown of a credential, and its bytes
+pub shows : {E : Type 0} (valid : Validity) (public : Keys) (c : Credential) (asked : Asked) (message : Assertion → ReplyMessage) (count : Option ℕ) (q : Assertion) (auth_data signature : List ℕ) (r : Result (Vec ℕ Global) E)
+    → AuthOf (assertion_data c asked) auth_data → IsSignature valid (key_of public c) (auth_data ++ asked.client_data_hash) signature
+    → q.credential ≡ c.id → q.auth_data ≡ auth_data → q.signature ≡ signature → q.user ≡ shown_user c → q.number ≡ count
+    → IfOk r (λ v. ReplyOf (message q) v.items) → IfOk r (λ v. Shows valid public c asked message count v.items)
+shows valid public c asked message count q auth_data signature (Ok v) spelled signs id a s user number h =
+    record { shown = q; asserts = record { spelled = rw a spelled; signs = rw (a, s) signs; credential = id; user = user; number = number }; reply = h }
+shows valid public c asked message count q auth_data signature (Err e) spelled signs id a s user number h = tt
 
 pub not_at_end : (id : List ℕ) (cs : List Credential) (c : Credential) → credential_of id cs ≡ Some c → c.sign_count < 4294967295 → is_at_end (credential_of id cs) ≡ false
 not_at_end id cs c found lt = ap is_at_end found ∙ other c.sign_count lt

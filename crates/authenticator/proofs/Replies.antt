@@ -1,11 +1,10 @@
 -- Replies have bytes, and few enough of them.
-use Rattle.std.proofs.Common.{◌≡◌, ◌+◌, ◌^◌, ◌<◌, ◌≤◌, ◌++◌, ℕ, List, [], ◌∷◌, Bool, true, false, Option, Some, None, length, refl, sym, ap, ◌∙◌, subst, arith, IsUtf8, nat_lt, rules}
-use Rattle.std.specs.Prelude.{codes, nat_le, slice_index, zero, suc, IfSome, if◌then◌else◌}
+use Rattle.std.proofs.Common.{◌≡◌, ◌+◌, ◌^◌, ◌<◌, ◌≤◌, ◌++◌, ℕ, List, [], ◌∷◌, Bool, true, false, Option, Some, None, length, refl, sym, ap, ◌∙◌, subst, arith, IsUtf8, nat_lt}
+use Rattle.std.specs.Prelude.{codes, IfSome, if◌then◌else◌}
 use Rattle.std.proofs.lemmas.List.{length-append}
-use Rattle.std.proofs.lemmas.Bool.{ltb-true}
-use Rattle.std.proofs.lemmas.Str.{IsUtf8-from_ascii}
-use Rattle.std.specs.List.{list_all}
-use Rattle.authenticator.proofs.Lists.{and_left, and_right}
+use Rattle.replies.specs.Pieces.{HasSizes}
+use Rattle.replies.proofs.AssertionBytes.{assertion_clean, assertion_fits}
+use Rattle.replies.proofs.Texts.{plain}
 use Rattle.ccbor.specs.Item as of
 use Rattle.ccbor.specs.Item.{Item, Items, Pairs, no_items, item, no_pairs, pair}
 use Rattle.ccbor.specs.Canon.{head, before, spelling, spelling_of_items, spelling_of_pairs, count_of_items, count_of_pairs, Fits}
@@ -16,21 +15,11 @@ use Rattle.cose.specs.Schemes.{Validity}
 use Rattle.authdata.specs.Statements.{packed_statement}
 use Rattle.authdata.specs.declared.statement.AttestationType.{AttestationType}
 use Rattle.authdata.specs.declared.statement.AttestationType.TheVariants as types
-use Rattle.ctapmsg.specs.Schema.{gravest, item_of, record_of}
-use Rattle.ctapmsg.specs.Replies.{Creation, Assertion, Info, ReplyMessage, ReplyOf, creation_reply, assertion_reply, next_reply, info_reply, reset_reply, creation_reply_item, creation_reply_members, assertion_reply_item, assertion_reply_members, next_reply_members, info_item, credential_members, credential_content, reply_user_members, reply_user_content}
+use Rattle.ctapmsg.specs.Schema.{gravest, record_of}
+use Rattle.ctapmsg.specs.Replies.{Creation, Assertion, Info, ReplyMessage, ReplyOf, creation_reply, assertion_reply, info_reply, reset_reply, creation_reply_item, creation_reply_members, assertion_reply_item, info_item}
 use Rattle.authenticator.specs.Private.{IsMessage, FitsReply, IsUser, IsCount}
 use Rattle.authenticator.specs.Steps.{Attests, Entry, info_of}
 use Rattle.authenticator.specs.declared.consent.Consent.{Consent}
-
--- ---- texts of ASCII
-
-below : (bs : List ℕ) → list_all (λ b. nat_lt b 128) bs ≡ true → (i : ℕ) → slice_index bs i < 128
-below [] e i = omega arith
-below (x ∷ xs) e zero = ltb-true x 128 (and_left (nat_lt x 128) _ e)
-below (x ∷ xs) e (suc i) = below xs (and_right (nat_lt x 128) _ e) i
-
-plain : (bs : List ℕ) → list_all (λ b. nat_lt b 128) bs ≡ true → IsUtf8 bs
-plain bs e = IsUtf8-from_ascii bs (below bs e)
 
 -- ---- at most so many bytes
 
@@ -127,50 +116,6 @@ creation_message valid key client_data_hash consent types.SelfSigned r signed h 
 abbrev told : List ℕ → List ℕ → List ℕ → Option (List ℕ) → Option ℕ → Assertion
 told id auth signature user number = record { credential = id; auth_data = auth; signature = signature; user = user; number = number }
 
-le_true : (a b : ℕ) → a ≤ b → nat_le a b ≡ true
-le_true a b h = search (rules, h)
-
-abbrev credential_item : List ℕ → Item
-credential_item id = item_of (record_of credential_members) (credential_content id)
-
-abbrev reply_user_item : List ℕ → Item
-reply_user_item id = item_of (record_of reply_user_members) (reply_user_content id)
-
-credential_fits : (id : List ℕ) → length id ≡ 32 → Fits 3 (credential_item id)
-unfolding head before
-credential_fits id l =
-    (omega arith, (refl, refl, (omega arith, plain (codes "id") refl), omega arith, (refl, refl, (omega arith, plain (codes "type") refl), (omega arith, plain (codes "public-key") refl), tt)))
-
-user_fits : (u : List ℕ) → IsUser u → Fits 3 (reply_user_item u)
-unfolding head before
-user_fits u h = let g = h.1 in (omega arith, (refl, refl, (omega arith, plain (codes "id") refl), omega arith, tt))
-
-told_fits : (id auth signature : List ℕ) (user : Option (List ℕ)) (number : Option ℕ) → length id ≡ 32 → length auth ≡ 37 → length signature ≤ 128 → IfSome user IsUser → IfSome number IsCount
-    → Fits 4 (assertion_reply_item (told id auth signature user number))
-unfolding head before
-told_fits id auth signature None None i a s u n =
-    (omega arith, (refl, refl, omega arith, credential_fits id i, (refl, refl, omega arith, omega arith, (refl, refl, omega arith, omega arith, tt))))
-told_fits id auth signature (Some x) None i a s u n =
-    (omega arith, (refl, refl, omega arith, credential_fits id i, (refl, refl, omega arith, omega arith, (refl, refl, omega arith, omega arith, (refl, refl, omega arith, user_fits x u, tt)))))
-told_fits id auth signature None (Some k) i a s u n =
-    let m = n.1 in
-    (omega arith, (refl, refl, omega arith, credential_fits id i, (refl, refl, omega arith, omega arith, (refl, refl, omega arith, omega arith, (refl, refl, omega arith, m, tt)))))
-told_fits id auth signature (Some x) (Some k) i a s u n =
-    let m = n.1 in
-    (omega arith, (refl, refl, omega arith, credential_fits id i, (refl, refl, omega arith, omega arith, (refl, refl, omega arith, omega arith, (refl, refl, omega arith, user_fits x u, (refl, refl, omega arith, m, tt))))))
-
-told_clean : (id auth signature : List ℕ) (user : Option (List ℕ)) (number : Option ℕ) → length id ≡ 32 → IfSome user IsUser → IfSome number IsCount
-    → gravest (record_of assertion_reply_members) (assertion_reply_item (told id auth signature user number)) ≡ None
-told_clean id auth signature None None i u n = rw i refl
-told_clean id auth signature (Some x) None i u n = rw (i, le_true 1 (length x) u.0, le_true (length x) 64 u.1) refl
-told_clean id auth signature None (Some k) i u n = rw (i, le_true 2 k n.0) refl
-told_clean id auth signature (Some x) (Some k) i u n = rw (i, le_true 1 (length x) u.0, le_true (length x) 64 u.1, le_true 2 k n.0) refl
-
-next_clean : (id auth signature : List ℕ) (user : Option (List ℕ)) → length id ≡ 32 → IfSome user IsUser
-    → gravest (record_of next_reply_members) (assertion_reply_item (told id auth signature user None)) ≡ None
-next_clean id auth signature None i u = rw i refl
-next_clean id auth signature (Some x) i u = rw (i, le_true 1 (length x) u.0, le_true (length x) 64 u.1) refl
-
 told_short : (id auth signature : List ℕ) (user : Option (List ℕ)) (number : Option ℕ) → length id ≡ 32 → length auth ≡ 37 → length signature ≤ 128 → IfSome user IsUser
     → cost (assertion_reply_item (told id auth signature user number)) ≤ 7608
 told_short id auth signature None None i a s u = omega arith
@@ -178,30 +123,23 @@ told_short id auth signature None (Some k) i a s u = omega arith
 told_short id auth signature (Some x) None i a s u = let le = u.1 in omega arith
 told_short id auth signature (Some x) (Some k) i a s u = let le = u.1 in omega arith
 
+short_number : (number : Option ℕ) → IfSome number IsCount → IfSome number (λ n. n < 2 ^ 64)
+short_number None h = tt
+short_number (Some n) h = h.1
+
+least_number : (number : Option ℕ) → IfSome number IsCount → IfSome number (λ n. 2 ≤ n)
+least_number None h = tt
+least_number (Some n) h = h.0
+
 pub assertion_message : (r : Assertion) → FitsReply r → IsMessage (assertion_reply r)
 assertion_message r h =
-    message (assertion_reply r) (assertion_reply_item r) (
-      spelling (assertion_reply_item r),
-      refl,
-      (told_fits r.credential r.auth_data r.signature r.user r.number h.credential h.auth_data h.signature h.user h.number, refl),
-      told_clean r.credential r.auth_data r.signature r.user r.number h.credential h.user h.number,
-    )
+    let i = h.credential in
+    let a = h.auth_data in
+    let s = h.signature in
+    let sizes : HasSizes r = ((omega arith, omega arith), h.user, least_number r.number h.number) in
+    message (assertion_reply r) (assertion_reply_item r)
+    (spelling (assertion_reply_item r), refl, (assertion_fits r sizes (omega arith) (omega arith) (short_number r.number h.number), refl), assertion_clean r sizes)
     (told_short r.credential r.auth_data r.signature r.user r.number h.credential h.auth_data h.signature h.user)
-
-next_with : (r : Assertion) (number : Option ℕ) → number ≡ None → FitsReply (told r.credential r.auth_data r.signature r.user number) → IsMessage (next_reply (told r.credential r.auth_data r.signature r.user number))
-next_with r None e h =
-    let s = told r.credential r.auth_data r.signature r.user None in
-    message (next_reply s) (assertion_reply_item s) (
-      spelling (assertion_reply_item s),
-      refl,
-      (told_fits r.credential r.auth_data r.signature r.user None h.credential h.auth_data h.signature h.user tt, refl),
-      next_clean r.credential r.auth_data r.signature r.user h.credential h.user,
-    )
-    (told_short r.credential r.auth_data r.signature r.user None h.credential h.auth_data h.signature h.user)
-next_with r (Some k) e h = absurd cc
-
-pub next_message : (r : Assertion) → r.number ≡ None → FitsReply r → IsMessage (next_reply r)
-next_message r e h = next_with r r.number e h
 
 -- ---- getInfo
 

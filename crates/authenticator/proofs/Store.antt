@@ -2,7 +2,8 @@
 use Rattle.std.proofs.Common.{◌≡◌, ◌<◌, ℕ, zero, suc, List, [], ◌∷◌, ◌++◌, Bool, true, false, Some, None, sym, ◌∙◌, ap, arith, refl, length, slice_index_or, slice_set, map, reverse, append-nil, Bor, Vec, Global, string_bytes}
 use Rattle.std.specs.Prelude.{Option, filter, find, option_map, option_to_list, position, remove, MatchOption}
 use Rattle.std.proofs.lemmas.List.{map-append, reverse-append}
-use Rattle.authenticator.proofs.Lists.{and_right, any_mapped, filter_mapped, find_mapped, find_passes, map_mapped, option_map_map}
+use Rattle.replies.proofs.Texts.{and_right}
+use Rattle.authenticator.proofs.Lists.{any_mapped, filter_mapped, find_mapped, find_passes, map_mapped, option_map_map}
 use Rattle.std.specs.List.{list_any}
 use Rattle.std.specs.Str.{bytes_eq}
 use Rattle.std.proofs.lemmas.Slice.Eq.{bytes_eq-Decides}

@@ -11,7 +11,7 @@ use Rattle.authenticator.specs.State.{Credential}
 use Rattle.authenticator.specs.Credentials.{credential_of, is_resident_for, with_sign_count, without_first}
 use Rattle.authenticator.specs.Orders.{candidates, is_stored_for}
 use Rattle.authenticator.specs.Laws.{IsUnique, IsResident, Keeps}
-use Rattle.authenticator.proofs.Lists.{and_left}
+use Rattle.replies.proofs.Texts.{and_left}
 
 either : (b : Bool) → (b ≡ true) ⊎ (b ≡ false)
 either true = inl refl

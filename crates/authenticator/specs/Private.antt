@@ -1,5 +1,5 @@
 -- What private functions are proved against; no public clause cites it.
-use Rattle.std.specs.Prelude.{◌≡◌, ◌≤◌, ◌<◌, ◌^◌, ℕ, List, [], ◌∷◌, length, Bool, not, ◌&&◌, ◌||◌, Result, Ok, Err, Some, None, IfSome}
+use Rattle.std.specs.Prelude.{◌≡◌, ◌≤◌, ◌<◌, ◌^◌, ℕ, List, [], ◌∷◌, length, Bool, not, ◌&&◌, ◌||◌, Result, Ok, Err, Option, Some, None, IfSome}
 use Rattle.first_line.specs.Lines.{first_true}
 use Rattle.cose.specs.Schemes.{Validity}
 use Rattle.cose.specs.declared.key.Alg.{Alg}
@@ -7,9 +7,9 @@ use Rattle.cose.specs.declared.key.CoseKey.{CoseKey}
 use Rattle.authdata.specs.declared.statement.AttestationType.{AttestationType}
 use Rattle.ctapmsg.specs.Replies.{Assertion, Creation, ReplyMessage, ReplyOf}
 use Rattle.ctapmsg.specs.Requests.{AssertionRequest, CreationRequest, RequestMessage, make_credential}
-use Rattle.authenticator.specs.State.{Asked, State}
+use Rattle.authenticator.specs.State.{Asked, Credential, State}
 use Rattle.authenticator.specs.Orders.{assertion_flags, assertion_order, candidates, creation_order, first_is_at_end, is_false, is_true, first_supported, next_order, remembered_on}
-use Rattle.authenticator.specs.Steps.{Attests, Carries, Creates, Entry, FirstAnswers, Keys, NextAnswers, Outcome, Unless, asked_by}
+use Rattle.authenticator.specs.Steps.{Attests, Carries, Creates, Entry, FirstAnswers, IsAssertion, Keys, NextAnswers, Outcome, Unless, asked_by}
 use Rattle.authenticator.specs.declared.consent.Consent.{Consent}
 use Rattle.authenticator.specs.declared.consent.Words.{Words}
 
@@ -34,6 +34,12 @@ pub record FitsReply (r : Assertion) : Type 0 where
   pub signature : length r.signature ≤ 128
   pub user : IfSome r.user IsUser
   pub number : IfSome r.number IsCount
+
+-- the bytes of a reply that shows a credential's next assertion
+pub record Shows (valid : Validity) (public : Keys) (c : Credential) (asked : Asked) (message : Assertion → ReplyMessage) (count : Option ℕ) (bytes : List ℕ) : Type 0 where
+  pub shown : Assertion
+  pub asserts : IsAssertion valid public c asked count shown
+  pub reply : ReplyOf (message shown) bytes
 
 -- with some signing or none
 abbrev pub IsAttested : Validity → CoseKey → List ℕ → Consent → AttestationType → Creation → Type 0

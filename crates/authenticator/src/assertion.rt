@@ -1,20 +1,22 @@
 //! Assertions (WebAuthn Level 2, section 6.3.3).
 
-ghost use Rattle.std.specs.Prelude.{◌≡◌, ◌<◌, ◌+◌, IfOk, IfSome, false, length, option_map};
+ghost use Rattle.std.specs.Prelude.{◌≡◌, ◌<◌, ◌≤◌, ◌+◌, IfOk, IfSome, None, false, length, option_map};
 ghost use Rattle.authdata.specs.Flags as bits;
 ghost use Rattle.authdata.specs.Layout.{AuthOf};
-ghost use Rattle.ctapmsg.specs.ReplyView.{assertion_reply_view};
-ghost use Rattle.authenticator.specs.Private.{FitsReply, IsCount};
-ghost use Rattle.authenticator.specs.Steps.{IsAssertion, assertion_data, shown_user, up_bit, uv_bit};
+ghost use Rattle.ctapmsg.specs.Replies.{assertion_reply, next_reply};
+ghost use Rattle.ctapmsg.specs.ReplyView.{lent_assertion_view};
+ghost use Rattle.authenticator.specs.Private.{FitsReply, IsCount, Shows};
+ghost use Rattle.authenticator.specs.Steps.{assertion_data, shown_user, up_bit, uv_bit};
 ghost use Rattle.authenticator.specs.Views.{asked_view, credential_view};
 
 use crate::credential::StoredCredential;
 use crate::remembered::AskedAssertion;
+use crate::reply::written_assertion;
 use crate::signing::signature;
 use authdata::AuthData;
 use authdata::flags::{UP, UV};
 use cose::Signer;
-use ctapmsg::AssertionReply;
+use ctapmsg::AssertionView;
 use sha2::{Digest, Sha256};
 use std::alloc::{AllocError, Global};
 
@@ -51,27 +53,55 @@ fn auth_data(
 }
 
 /// The user handle, which is shown for a resident credential.
-fn shown_user(alloc: Global, credential: &StoredCredential) -> Result<Option<Vec<u8>>, AllocError>
-    ensures { IfOk result (λ o. option_map (λ v. v.items) o ≡ shown_user (credential_view credential.now)) }
+fn shown_user(credential: &StoredCredential) -> Option<&[u8]>
+    ensures { option_map (λ b. b.now) result ≡ shown_user (credential_view credential.now) }
 {
     if !credential.resident {
-        return Ok(None);
+        return None;
     }
-    Ok(Some(Vec::from_slice(alloc, &credential.user)?))
+    Some(credential.user.as_slice())
 }
 
-/// A credential's next assertion.
+/// A credential's next assertion: 32 bytes of id, and the user handle where it is resident.
+fn shown<'a>(
+    credential: &'a StoredCredential,
+    auth_data: &'a [u8],
+    signature: &'a [u8],
+    number: Option<u64>,
+) -> AssertionView<'a>
+    requires auth_data { length auth_data.now ≡ 37 }
+    requires signature { length signature.now ≤ 128 }
+    requires number { IfSome number IsCount }
+    ensures fits { FitsReply (lent_assertion_view result) }
+    ensures credential { result.credential.now ≡ credential.entry.now.id }
+    ensures auth_data { result.auth_data.now ≡ auth_data.entry.now }
+    ensures signature { result.signature.now ≡ signature.entry.now }
+    ensures user { option_map (λ b. b.now) result.user ≡ shown_user (credential_view credential.entry.now) }
+    ensures number { result.number ≡ number }
+{
+    AssertionView {
+        credential: &credential.id,
+        auth_data,
+        signature,
+        user: shown_user(credential),
+        number,
+    }
+}
+
+/// The bytes of the reply that shows a credential's next assertion, at most 7,609; without a number of credentials
+/// they answer a getNextAssertion too.
 pub(crate) fn assertion<S: Signer>(
     alloc: Global,
     scheme: &S,
     credential: &StoredCredential,
     asked: &AskedAssertion,
     number: Option<u64>,
-) -> Result<AssertionReply, AllocError>
+) -> Result<Vec<u8>, AllocError>
     requires sign_count { credential.now.sign_count < 4294967295 }
     requires number { IfSome number IsCount }
-    ensures fits { IfOk result (λ r. FitsReply (assertion_reply_view r)) }
-    ensures made { IfOk result (λ r. IsAssertion (S.valid scheme.now) (S.public_of scheme.now) (credential_view credential.now) (asked_view asked.now) number (assertion_reply_view r)) }
+    ensures first { IfOk result (λ bytes. Shows (S.valid scheme.now) (S.public_of scheme.now) (credential_view credential.now) (asked_view asked.now) assertion_reply number bytes.items) }
+    ensures next { number ≡ None → IfOk result (λ bytes. Shows (S.valid scheme.now) (S.public_of scheme.now) (credential_view credential.now) (asked_view asked.now) next_reply number bytes.items) }
+    ensures size { IfOk result (λ bytes. length bytes.items ≤ 7609) }
 {
     let auth_data = auth_data(alloc, credential, asked)?;
     let signature = signature(
@@ -82,11 +112,11 @@ pub(crate) fn assertion<S: Signer>(
         auth_data.as_slice(),
         asked.client_data_hash.as_slice(),
     )?;
-    Ok(AssertionReply {
-        credential: Vec::from_slice(alloc, &credential.id)?,
-        auth_data,
-        signature,
-        user: shown_user(alloc, credential)?,
+    let shown = shown(
+        credential,
+        auth_data.as_slice(),
+        signature.as_slice(),
         number,
-    })
+    );
+    written_assertion(alloc, &shown)
 }

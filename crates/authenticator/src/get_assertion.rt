@@ -17,10 +17,9 @@ use crate::credential::StoredCredential;
 use crate::credentials::{candidates_for, find, set_sign_count};
 use crate::options::{assertion_options, is_denied, is_false, is_true, is_unmet};
 use crate::remembered::{AskedAssertion, Candidates, RememberedAssertion, remember};
-use crate::reply::written;
 use cose::Signer;
+use ctapmsg::GetAssertion;
 use ctapmsg::status::{INVALID_OPTION, NO_CREDENTIALS, NOT_ALLOWED, OPERATION_DENIED, OTHER};
-use ctapmsg::{GetAssertion, Reply};
 use std::alloc::{AllocError, Global};
 
 /// What a getAssertion asks.
@@ -135,8 +134,7 @@ impl Authenticator {
         };
         let number = number_with(&candidates.later);
         let sign_count = credential.sign_count + 1;
-        let shown = assertion(alloc, scheme, credential, &asked, number)?;
-        let reply = written(alloc, Reply::GetAssertion(shown))?;
+        let reply = assertion(alloc, scheme, credential, &asked, number)?;
         let Candidates { first, later } = candidates;
         self.settle(&first, sign_count, remember(asked, later));
         Ok(reply)
@@ -194,8 +192,7 @@ impl Authenticator {
             return self.refuse(OTHER);
         };
         let sign_count = credential.sign_count + 1;
-        let shown = assertion(alloc, scheme, credential, &remembered.asked, None)?;
-        let reply = written(alloc, Reply::GetNextAssertion(shown))?;
+        let reply = assertion(alloc, scheme, credential, &remembered.asked, None)?;
         self.advance(sign_count);
         Ok(reply)
     }

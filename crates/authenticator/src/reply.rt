@@ -1,12 +1,12 @@
 //! Replies that need no key.
 
-ghost use Rattle.std.specs.Prelude.{◌≡◌, ◌∷◌, ◌≤◌, [], IfOk, length};
-ghost use Rattle.ctapmsg.specs.Replies.{ReplyOf, info_reply};
-ghost use Rattle.ctapmsg.specs.ReplyView.{info_view, reply_view};
+ghost use Rattle.std.specs.Prelude.{◌≡◌, ◌∷◌, ◌≤◌, [], IfOk, None, length};
+ghost use Rattle.ctapmsg.specs.Replies.{ReplyOf, assertion_reply, info_reply, next_reply};
+ghost use Rattle.ctapmsg.specs.ReplyView.{info_view, lent_assertion_view, reply_view};
 ghost use Rattle.authenticator.specs.Private.{IsMessage};
 ghost use Rattle.authenticator.specs.Steps.{info_of};
 
-use ctapmsg::{Error, InfoReply, Reply, write_reply};
+use ctapmsg::{AssertionView, Error, InfoReply, Reply, write_assertion, write_reply};
 use std::alloc::{AllocError, Global};
 
 /// The bytes of a reply that has some, at most 7,609.
@@ -16,6 +16,24 @@ pub(crate) fn written(alloc: Global, reply: Reply) -> Result<Vec<u8>, AllocError
     ensures size { IfOk result (λ bytes. length bytes.items ≤ 7609) }
 {
     match write_reply(alloc, reply) {
+        Ok(bytes) => Ok(bytes),
+        Err(Error::Unfit) => unreachable!("the reply has bytes"),
+        Err(_) => Err(AllocError),
+    }
+}
+
+/// The bytes of a reply to getAssertion that has some, at most 7,609; without a number of credentials they are those of
+/// the reply to getNextAssertion too.
+pub(crate) fn written_assertion(
+    alloc: Global,
+    shown: &AssertionView<'_>,
+) -> Result<Vec<u8>, AllocError>
+    requires { IsMessage (assertion_reply (lent_assertion_view shown.now)) }
+    ensures spelled { IfOk result (λ bytes. ReplyOf (assertion_reply (lent_assertion_view shown.now)) bytes.items) }
+    ensures next { shown.now.number ≡ None → IfOk result (λ bytes. ReplyOf (next_reply (lent_assertion_view shown.now)) bytes.items) }
+    ensures size { IfOk result (λ bytes. length bytes.items ≤ 7609) }
+{
+    match write_assertion(alloc, shown) {
         Ok(bytes) => Ok(bytes),
         Err(Error::Unfit) => unreachable!("the reply has bytes"),
         Err(_) => Err(AllocError),

@@ -5,7 +5,7 @@
 pub use ctap_status::{Error, status, status_numbers};
 pub use replies::{
     AssertionReply, AssertionView, CreationReply, InfoReply, Kind, Reply, read_assertion,
-    read_creation, read_reply, write_reply,
+    read_creation, read_reply, write_assertion, write_reply,
 };
 pub use requests::{
     AssertionOptions, CreationOptions, Descriptor, GetAssertion, MakeCredential, Parameters,

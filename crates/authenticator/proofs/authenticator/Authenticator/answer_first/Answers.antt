@@ -1,12 +1,11 @@
 use Rattle.std.proofs.Common.{◌≡◌, ◌∷◌, [], None, Option, ℕ, reverse, refl, ap, ◌∙◌, ◌+◌, subst}
 use Rattle.ctapmsg.specs.Replies.{assertion_reply}
-use Rattle.ctapmsg.specs.ReplyView.{assertion_reply_view}
 use Rattle.authenticator.specs.State.{Remembered}
 use Rattle.authenticator.specs.Credentials.{with_sign_count}
-use Rattle.authenticator.specs.Steps.{FirstAnswers, IsAssertion, number_with}
+use Rattle.authenticator.specs.Private.{Shows}
+use Rattle.authenticator.specs.Steps.{FirstAnswers, number_with}
 use Rattle.authenticator.specs.Views.{asked_view, credential_view}
 use Rattle.authenticator.proofs.Refusing.{allowed, answered, here, not_at_end, past, refuses}
-use Rattle.authenticator.proofs.Replies.{assertion_message}
 use Rattle.authenticator.proofs.authenticator.Authenticator.answer_first.Goals as goal
 
 pub returns-in_default-clause-done : goal.returns-in_default-clause-done
@@ -15,18 +14,15 @@ returns-in_default-clause-done g c =
     (λ out. FirstAnswers (g.S.Verifier.valid c.args.scheme.now) (g.S.Signer.public_of c.args.scheme.now) c.args.self.now (c.args.candidates.first ∷ reverse c.args.candidates.later.items) (asked_view c.args.asked) out)
     c.refuse.result (here _ 0x7F [] c.in_default.ensures) c.refuse.ensures.reply c.refuse.ensures.ok
 
-pub written-requires : goal.written-requires
-written-requires g c = assertion_message (assertion_reply_view c.in_ok-shown.shown) c.in_ok-shown.ensures.fits
-
 pub returns-clause-done : goal.returns-clause-done
 returns-clause-done g c =
     let later = reverse c.args.candidates.later.items in
     let held = credential_view c.in-Some.credential.now in
     let count : c.number_with-number.result ≡ number_with later = c.number_with-number.ensures.count ∙ ap (λ l. number_with (reverse l)) c.deref.ensures.value in
-    let asserts = subst (λ (n : Option ℕ). IsAssertion (g.S.Verifier.valid c.args.scheme.now) (g.S.Signer.public_of c.args.scheme.now) held (asked_view c.args.asked) n (assertion_reply_view c.in_ok-shown.shown)) count c.in_ok-shown.ensures.made in
+    let shows = subst (λ (n : Option ℕ). Shows (g.S.Verifier.valid c.args.scheme.now) (g.S.Signer.public_of c.args.scheme.now) held (asked_view c.args.asked) assertion_reply n c.in_ok-reply.reply.items) count c.in_ok-reply.ensures.first in
     allowed c.args.self.now c.settle.new.self c.in_ok-reply.reply.items _
     (λ out. FirstAnswers (g.S.Verifier.valid c.args.scheme.now) (g.S.Signer.public_of c.args.scheme.now) c.args.self.now (c.args.candidates.first ∷ later) (asked_view c.args.asked) out)
     (past _ 0x7F [] None (not_at_end c.args.candidates.first c.args.self.now.credentials held c.in-Some.ensures.0 c.in-Some.ensures.1) refl)
     (answered (g.S.Verifier.valid c.args.scheme.now) (g.S.Signer.public_of c.args.scheme.now) c.args.self.now c.settle.new.self held c.args.candidates.first (asked_view c.args.asked) later assertion_reply (number_with later)
-    (assertion_reply_view c.in_ok-shown.shown) c.in_ok-reply.reply.items c.in-Some.ensures.0 asserts c.in_ok-reply.ensures.spelled
+    shows.shown c.in_ok-reply.reply.items c.in-Some.ensures.0 shows.asserts shows.reply
     (c.settle.ensures ∙ ap (λ (m : Option Remembered). record c.args.self.now { credentials = with_sign_count c.args.candidates.first (held.sign_count + 1) c.args.self.now.credentials; remembered = m }) c.remember.ensures))

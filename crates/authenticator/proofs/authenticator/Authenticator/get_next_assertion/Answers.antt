@@ -1,14 +1,12 @@
-use Rattle.std.proofs.Common.{None, Option, subst}
+use Rattle.std.proofs.Common.{None, Option, refl, subst}
 use Rattle.first_line.specs.Lines.{first_true}
 use Rattle.ctapmsg.specs.Replies.{next_reply}
-use Rattle.ctapmsg.specs.ReplyView.{assertion_reply_view}
 use Rattle.authenticator.specs.State.{Remembered}
 use Rattle.authenticator.specs.Orders.{next_order, remembered_on}
 use Rattle.authenticator.specs.Private.{Comes}
 use Rattle.authenticator.specs.Steps.{NextAnswers}
 use Rattle.authenticator.specs.Views.{credential_view, remembered_view}
 use Rattle.authenticator.proofs.Refusing.{allowed, answered, next_end, next_goes, next_none, not_at_end, refuses, remembered_is}
-use Rattle.authenticator.proofs.Replies.{next_message}
 use Rattle.authenticator.proofs.authenticator.Authenticator.get_next_assertion.Goals as goal
 
 pub returns-in_default-clause-done : goal.returns-in_default-clause-done
@@ -25,17 +23,15 @@ returns-in_default-countable-clause-done g c =
     (next_end c.args.self.now c.args.channel (remembered_view c.in-Some.remembered.now) c.in-Some.ensures c.in_default-countable.ensures)
     c.refuse-in_default-countable.ensures.reply c.refuse-in_default-countable.ensures.ok
 
-pub written-requires : goal.written-requires
-written-requires g c = next_message (assertion_reply_view c.in_ok-shown.shown) c.in_ok-shown.ensures.made.number c.in_ok-shown.ensures.fits
-
 pub returns-clause-done : goal.returns-clause-done
 returns-clause-done g c =
     let r = remembered_view c.in-Some.remembered.now in
     let held = credential_view c.in-Some-countable.credential.now in
+    let shows = c.in_ok-reply.ensures.next refl in
     allowed c.args.self.now c.advance.new.self c.in_ok-reply.reply.items (first_true (next_order c.args.self.now c.args.channel))
     (λ out. NextAnswers (g.S.Verifier.valid c.args.scheme.now) (g.S.Signer.public_of c.args.scheme.now) c.args.self.now (remembered_on c.args.channel c.args.self.now.remembered) out)
     (next_goes c.args.self.now c.args.channel r c.in-Some.ensures (not_at_end r.next c.args.self.now.credentials held c.in-Some-countable.ensures.0 c.in-Some-countable.ensures.1))
     (subst (λ (o : Option Remembered). Comes (λ out. NextAnswers (g.S.Verifier.valid c.args.scheme.now) (g.S.Signer.public_of c.args.scheme.now) c.args.self.now o out) c.in_ok-reply.reply.items c.advance.new.self) c.in-Some.ensures
-    (answered (g.S.Verifier.valid c.args.scheme.now) (g.S.Signer.public_of c.args.scheme.now) c.args.self.now c.advance.new.self held r.next r.asked r.later next_reply None (assertion_reply_view c.in_ok-shown.shown) c.in_ok-reply.reply.items
-    c.in-Some-countable.ensures.0 c.in_ok-shown.ensures.made c.in_ok-reply.ensures.spelled
+    (answered (g.S.Verifier.valid c.args.scheme.now) (g.S.Signer.public_of c.args.scheme.now) c.args.self.now c.advance.new.self held r.next r.asked r.later next_reply None shows.shown c.in_ok-reply.reply.items
+    c.in-Some-countable.ensures.0 shows.asserts shows.reply
     (c.advance.ensures r (remembered_is c.args.channel c.args.self.now.remembered r c.in-Some.ensures))))
