@@ -1,7 +1,7 @@
 //! Room for the bytes of one message each way, made once. What is put into it fits, so that no memory is
 //! taken later, and it is never cleared as a whole.
 
-ghost use Rattle.std.specs.Prelude.{◌≡◌, ◌≤◌, ◌<◌, ◌+◌, ◌++◌, ◌↔◌, [], ◌∷◌, List, ℕ, length, take, IfOk, IsTrue, MatchOption};
+ghost use Rattle.std.specs.Prelude.{◌≡◌, ◌≤◌, ◌<◌, ◌++◌, ◌↔◌, [], ◌∷◌, length, take, IfOk, IsTrue, MatchOption};
 ghost use Rattle.hidframe.specs.declared.Packet.{Packet};
 ghost use Rattle.hidframe.specs.Pieces.{frame_list};
 
