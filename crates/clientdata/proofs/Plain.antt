@@ -7,7 +7,8 @@ use Rattle.std.proofs.lemmas.Str.{chars-IsAscii, encode_ascii}
 use Rattle.base64.specs.Engines.{url_safe_no_pad}
 use Rattle.base64.specs.GeneralPurpose.{IsBytes, engine_symbols}
 use Rattle.base64.specs.Rfc4648.{encode_symbols}
-use Rattle.clientdata.specs.Quoted.{ArePlain, IsPlain, escaped, quoted}
+use Rattle.clientdata.specs.Expected.{ArePlain, IsPlain}
+use Rattle.clientdata.specs.Quoted.{escaped, quoted}
 use Rattle.clientdata.specs.Serialised.{challenge_text_of, type_of}
 use Rattle.clientdata.specs.declared.record.Kind.{Kind}
 use Rattle.clientdata.specs.declared.record.Kind.TheVariants.{Create, Get}

@@ -3,8 +3,8 @@ use Rattle.std.proofs.Common.{◌≡◌, ◌≢◌, ℕ, Bool, Bor, List, ◌++�
 use Rattle.std.specs.Prelude.{MatchOption, codes}
 use Rattle.std.proofs.lemmas.List.{append_cancel_left}
 use Rattle.clientdata.specs.declared.record.Kind.{Kind}
-use Rattle.clientdata.specs.Quoted.{ArePlain, quoted}
-use Rattle.clientdata.specs.Expected.{before_challenge, behind_challenge}
+use Rattle.clientdata.specs.Quoted.{quoted}
+use Rattle.clientdata.specs.Expected.{ArePlain, before_challenge, behind_challenge}
 use Rattle.clientdata.specs.Serialised.{challenge_text_of, client_data_front, client_data_text, truth_of, type_of}
 use Rattle.clientdata.proofs.Plain.{quoted_plain}
 

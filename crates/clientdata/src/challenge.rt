@@ -1,7 +1,7 @@
 //! Challenges as texts.
 
 ghost use Rattle.std.specs.Prelude.{◌≡◌, IfOk, string_bytes};
-ghost use Rattle.clientdata.specs.Quoted.{ArePlain};
+ghost use Rattle.clientdata.specs.Expected.{ArePlain};
 ghost use Rattle.clientdata.specs.Serialised.{challenge_text_of};
 
 use base64::engine::general_purpose::URL_SAFE_NO_PAD;

@@ -3,7 +3,7 @@ use Rattle.std.proofs.lemmas.List.{drop_all}
 use Rattle.base64.specs.Engines.{url_safe_no_pad}
 use Rattle.base64.specs.GeneralPurpose.{IsEncodedOver, encode_of, encoded_size_of}
 use Rattle.base64.specs.declared.encode.EncodeSliceError.{EncodeSliceError}
-use Rattle.clientdata.specs.Quoted.{ArePlain}
+use Rattle.clientdata.specs.Expected.{ArePlain}
 use Rattle.clientdata.specs.Serialised.{challenge_text_of}
 use Rattle.clientdata.proofs.Plain.{challenge_plain}
 use Rattle.clientdata.proofs.challenge.challenge_bytes.Goals as goal
