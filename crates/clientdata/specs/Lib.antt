@@ -1,4 +1,5 @@
 pub mod Quoted
+pub mod Expected
 pub mod Serialised
 pub mod Verified
 pub mod Reading

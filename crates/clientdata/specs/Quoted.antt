@@ -1,5 +1,5 @@
 -- Texts as they stand in serialised client data (CCDToString of WebAuthn Level 2, section 5.8.1.1).
-use Rattle.std.specs.Prelude.{◌≢◌, ◌≤◌, ◌<◌, ℕ, ◌/◌, ◌%◌, ◌==◌, nat_lt, length, slice_index, List, [], ◌∷◌, ◌++◌, codes, if◌then◌else◌, encode_utf8, flat_map, chars}
+use Rattle.std.specs.Prelude.{ℕ, ◌/◌, ◌%◌, ◌==◌, nat_lt, List, [], ◌∷◌, ◌++◌, codes, if◌then◌else◌, encode_utf8, flat_map, chars}
 use Rattle.std.specs.Char.{digit_char}
 
 -- four lower-case hex digits
@@ -14,10 +14,3 @@ escaped c = if c == 34 then codes "\\\"" else (if c == 92 then codes "\\\\" else
 -- a text's code points between quotation marks
 unfoldable pub quoted : List ℕ → List ℕ
 quoted text = codes "\"" ++ flat_map escaped (chars text) ++ codes "\""
-
--- a byte that is an ASCII character and stands for itself between quotation marks
-abbrev pub IsPlain : ℕ → Type 0
-IsPlain byte = (0x20 ≤ byte) × (byte < 0x80) × (byte ≢ 34) × (byte ≢ 92)
-
-abbrev pub ArePlain : List ℕ → Type 0
-ArePlain bytes = (i : ℕ) → i < length bytes → IsPlain (slice_index bytes i)

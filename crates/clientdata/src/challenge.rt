@@ -1,6 +1,7 @@
 //! Challenges as texts.
 
-ghost use Rattle.std.specs.Prelude.{◌≡◌, IfOk, IfSome, string_bytes};
+ghost use Rattle.std.specs.Prelude.{◌≡◌, IfOk, string_bytes};
+ghost use Rattle.clientdata.specs.Expected.{ArePlain};
 ghost use Rattle.clientdata.specs.Serialised.{challenge_text_of};
 
 use base64::engine::general_purpose::URL_SAFE_NO_PAD;
@@ -16,12 +17,11 @@ pub fn challenge_text(alloc: Global, bytes: &[u8]) -> Result<String, AllocError>
 }
 
 /// The same text of 32 bytes, without memory.
-pub(crate) fn challenge_bytes(challenge: &[u8; 32]) -> Option<[u8; 43]>
-    ensures { IfSome result (λ text. text ≡ challenge_text_of challenge.now) }
+pub(crate) fn challenge_bytes(challenge: &[u8; 32]) -> [u8; 43]
+    ensures text { result ≡ challenge_text_of challenge.now }
+    ensures plain { ArePlain result }
 {
     let mut text = [0; 43];
-    match URL_SAFE_NO_PAD.encode_slice(challenge, &mut text) {
-        Ok(_) => Some(text),
-        Err(_) => None,
-    }
+    let _ = URL_SAFE_NO_PAD.encode_slice(challenge, &mut text).unwrap();
+    text
 }

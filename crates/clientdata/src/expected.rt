@@ -1,29 +1,72 @@
 //! Client data that are, byte for byte, what was expected: told without memory.
 
-ghost use Rattle.std.specs.Prelude.{◌≡◌, ◌≢◌, ◌↔◌, ◌++◌, ℕ, List, Bool, IfSome, IsTrue, MatchOption, codes};
-ghost use Rattle.clientdata.specs.Quoted.{ArePlain, IsPlain, quoted};
-ghost use Rattle.clientdata.specs.Serialised.{challenge_text_of, client_data_text, type_of};
+ghost use Rattle.std.specs.Prelude.{◌≡◌, ◌≢◌, ◌↔◌, ◌++◌, ℕ, List, Bool, IfOk, IsTrue, IsUtf8, MatchOption};
+ghost use Rattle.clientdata.specs.Expected.{before_challenge, behind_challenge};
+ghost use Rattle.clientdata.specs.Serialised.{challenge_text_of, client_data_text};
 
 use crate::challenge::challenge_bytes;
+use crate::quoting::push_quoted;
 use crate::record::Kind;
+use std::alloc::{AllocError, Global};
+use std::marker::Model;
 
-/// Whether a byte stands for itself between quotation marks.
-fn is_plain(byte: u8) -> bool
-    ensures { IsTrue result ↔ IsPlain byte }
-{
-    0x20 <= byte && byte < 0x80 && byte != b'"' && byte != b'\\'
+/// An origin that client data are compared with, in UTF-8, of any length. How client data have it is made
+/// once, with it. A contract sees the list of its bytes.
+#[derive(Drop)]
+pub struct ExpectedOrigin {
+    origin: String,
+    written: String,
 }
 
-/// Whether each byte stands for itself between quotation marks.
-fn are_plain(text: &[u8]) -> bool
-    ensures { IsTrue result → ArePlain text.now }
-{
-    for byte in text {
-        if !is_plain(*byte) {
-            return false;
-        }
+impl Model for ExpectedOrigin {
+    ghost use Rattle.std.specs.Prelude.{◌≡◌, ℕ, List, string_bytes};
+    ghost use Rattle.clientdata.specs.Expected.{behind_challenge};
+
+    ghost Value = { List ℕ };
+
+    ghost view = { λ o. string_bytes o.origin };
+
+    ghost invariant = { λ o. string_bytes o.written ≡ behind_challenge (string_bytes o.origin) };
+}
+
+impl ExpectedOrigin {
+    /// This origin. It fails only for want of memory.
+    pub fn new(alloc: Global, origin: &str) -> Result<ExpectedOrigin, AllocError>
+        ensures { IfOk result (λ o. o ≡ origin.now) }
+    {
+        let mut written = String::from_str(alloc, "\",\"origin\":")?;
+        push_quoted(&mut written, origin)?;
+        written.push_str(",\"crossOrigin\":")?;
+        Ok(ExpectedOrigin {
+            origin: String::from_str(alloc, origin)?,
+            written,
+        })
     }
-    true
+
+    /// The origin, lent.
+    pub fn as_str(&self) -> &str
+        ensures { result.now ≡ self.now }
+    {
+        self.origin.as_str()
+    }
+
+    /// The text from behind the challenge to before the last member's value.
+    fn written(&self) -> &[u8]
+        ensures text { result.now ≡ behind_challenge self.now }
+        ensures utf8 { IsUtf8 self.now }
+    {
+        self.written.as_bytes()
+    }
+}
+
+/// The text before the challenge.
+fn before_challenge(kind: Kind) -> &'static [u8]
+    ensures { result.now ≡ before_challenge kind }
+{
+    match kind {
+        Kind::Create => b"{\"type\":\"webauthn.create\",\"challenge\":\"",
+        Kind::Get => b"{\"type\":\"webauthn.get\",\"challenge\":\"",
+    }
 }
 
 /// What stands behind a front of the bytes.
@@ -33,44 +76,32 @@ fn behind<'a>(bytes: &'a [u8], front: &[u8]) -> Option<&'a [u8]>
     bytes.strip_prefix(front)
 }
 
-/// What stands behind a text between quotation marks, of which each byte stands for itself.
-fn behind_quoted<'a>(bytes: &'a [u8], text: &[u8]) -> Option<&'a [u8]>
-    ensures { IfSome result (λ rest. bytes.now ≡ quoted text.now ++ rest.now) }
+/// What stands behind a front of the bytes and a second one.
+fn behind_both<'a>(bytes: &'a [u8], front: &[u8], second: &[u8]) -> Option<&'a [u8]>
+    ensures { MatchOption result ((rest : List ℕ) → bytes.now ≢ front.now ++ (second.now ++ rest))
+        (λ rest. bytes.now ≡ front.now ++ (second.now ++ rest.now)) }
 {
-    if !are_plain(text) {
-        return None;
-    }
-    let rest = behind(bytes, b"\"")?;
-    let rest = behind(rest, text)?;
-    behind(rest, b"\"")
-}
-
-/// What stands behind the challenge.
-fn behind_challenge<'a>(bytes: &'a [u8], kind: Kind, challenge: &[u8; 32]) -> Option<&'a [u8]>
-    ensures { IfSome result (λ rest. bytes.now ≡ codes "{\"type\":" ++ (quoted (type_of kind)
-        ++ (codes ",\"challenge\":" ++ (quoted (challenge_text_of challenge.now) ++ rest.now)))) }
-{
-    let text = challenge_bytes(challenge)?;
-    let rest = behind(bytes, b"{\"type\":")?;
-    let rest = behind_quoted(rest, kind.text().as_bytes())?;
-    let rest = behind(rest, b",\"challenge\":")?;
-    behind_quoted(rest, &text)
+    let rest = behind(bytes, front)?;
+    behind(rest, second)
 }
 
 /// Whether the bytes are the serialised client data (WebAuthn Level 2, section 5.8.1.1) of this ceremony,
-/// challenge and origin, whether cross-origin or not. It takes no memory. False also where a character of the
-/// origin is escaped or beyond ASCII.
-pub fn is_serialised(bytes: &[u8], kind: Kind, challenge: &[u8; 32], origin: &str) -> bool
-    ensures { IsTrue result → (cross : Bool) × (bytes.now ≡ client_data_text kind challenge.now origin.now cross) }
+/// challenge and origin, whether cross-origin or not. It takes no memory.
+pub fn is_serialised(
+    bytes: &[u8],
+    kind: Kind,
+    challenge: &[u8; 32],
+    origin: &ExpectedOrigin,
+) -> bool
+    ensures told { IsTrue result ↔ ((cross : Bool) × (bytes.now ≡ client_data_text kind challenge.now origin.now cross)) }
+    ensures utf8 { IsTrue result → IsUtf8 origin.now }
 {
-    let Some(rest) = behind_challenge(bytes, kind, challenge) else {
+    let challenge = challenge_bytes(challenge);
+    let Some(rest) = behind_both(bytes, before_challenge(kind), &challenge) else {
         return false;
     };
-    let Some(rest) = behind(rest, b",\"origin\":") else {
+    let Some(rest) = behind(rest, origin.written()) else {
         return false;
     };
-    let Some(rest) = behind_quoted(rest, origin.as_bytes()) else {
-        return false;
-    };
-    rest == b",\"crossOrigin\":false}".as_slice() || rest == b",\"crossOrigin\":true}".as_slice()
+    rest == b"false}".as_slice() || rest == b"true}".as_slice()
 }

@@ -16,7 +16,7 @@ mod text;
 pub use challenge::challenge_text;
 pub use digest::hash;
 pub use error::Error;
-pub use expected::is_serialised;
+pub use expected::{ExpectedOrigin, is_serialised};
 pub use law::{challenge_texts, digest_lengths, serialised_texts};
 pub use quoting::quoted_text;
 pub use record::{ClientData, Kind};

@@ -1,7 +1,8 @@
 //! Client data that are the expected text: the texts are WebAuthn's (section 5.8.1.1), written out, the texts of
 //! challenges what another program gives for them.
 
-use clientdata::{Kind, is_serialised};
+use clientdata::{ExpectedOrigin, Kind, is_serialised};
+use std::test::Fail;
 
 /// The number 1 in 8 bytes, then 24 bytes 0.
 const CHALLENGE: [u8; 32] = [
@@ -29,6 +30,12 @@ const LONGER: &str =
 const ESCAPED: &str =
     "{\"type\":\"webauthn.get\",\"challenge\":\"AAAAAAAAAAEAAAAAAAAAAAAAAAAAAAAAAAAAAAAAAAA\",\"origin\":\"a\\\"b\",\"crossOrigin\":false}";
 
+const BEYOND_ASCII: &str =
+    "{\"type\":\"webauthn.get\",\"challenge\":\"AAAAAAAAAAEAAAAAAAAAAAAAAAAAAAAAAAAAAAAAAAA\",\"origin\":\"https://é\",\"crossOrigin\":false}";
+
+const OPEN: &str =
+    "{\"type\":\"webauthn.get\",\"challenge\":\"AAAAAAAAAAEAAAAAAAAAAAAAAAAAAAAAAAAAAAAAAAA\",\"origin\":\"https://abc\",\"crossOrigin\":false";
+
 const UNESCAPED: &str =
     "{\"type\":\"webauthn.get\",\"challenge\":\"AAAAAAAAAAEAAAAAAAAAAAAAAAAAAAAAAAAAAAAAAAA\",\"origin\":\"a\"b\",\"crossOrigin\":false}";
 
@@ -44,15 +51,21 @@ const ROWS: &[(&str, Kind, [u8; 32], &str, bool)] = &[
     (SIGN_IN, Kind::Get, CHALLENGE, "", false),
     (SPACED, Kind::Get, CHALLENGE, "https://abc", false),
     (LONGER, Kind::Get, CHALLENGE, "https://abc", false),
-    (ESCAPED, Kind::Get, CHALLENGE, "a\"b", false),
+    (ESCAPED, Kind::Get, CHALLENGE, "a\"b", true),
     (UNESCAPED, Kind::Get, CHALLENGE, "a\"b", false),
+    (BEYOND_ASCII, Kind::Get, CHALLENGE, "https://é", true),
+    (OPEN, Kind::Get, CHALLENGE, "https://abc", false),
     ("", Kind::Get, CHALLENGE, "https://abc", false),
 ];
 
 #[test]
-fn told(rt: HostRuntime) {
+fn told(rt: HostRuntime) -> Result<(), Fail> {
+    let alloc = rt.alloc();
     for (text, kind, challenge, origin, wanted) in ROWS {
-        let told = is_serialised(text.as_bytes(), *kind, challenge, origin);
+        let expected = ExpectedOrigin::new(alloc, origin)?;
+        let told = is_serialised(text.as_bytes(), *kind, challenge, &expected);
         assert!(rt; told == *wanted, "{text} {origin}");
+        assert!(rt; expected.as_str() == *origin, "{origin}");
     }
+    Ok(())
 }

@@ -1,6 +1,7 @@
-//! Room for the bytes of one message each way, made once.
+//! Room for the bytes of one message each way, made once. What is put into it fits, so that no memory is
+//! taken later, and it is never cleared as a whole.
 
-ghost use Rattle.std.specs.Prelude.{◌≡◌, ◌≤◌, ◌<◌, ◌+◌, ◌++◌, ◌↔◌, [], ◌∷◌, List, ℕ, length, take, IfOk, IsTrue, MatchOption};
+ghost use Rattle.std.specs.Prelude.{◌≡◌, ◌≤◌, ◌<◌, ◌++◌, ◌↔◌, [], ◌∷◌, length, take, IfOk, IsTrue, MatchOption};
 ghost use Rattle.hidframe.specs.declared.Packet.{Packet};
 ghost use Rattle.hidframe.specs.Pieces.{frame_list};
 
@@ -10,43 +11,20 @@ use std::alloc::{AllocError, Global};
 use std::marker::Model;
 use std::mem;
 
-/// Puts bytes of a message of `len` bytes behind the `held` first, as many as it lacks; how many are
-/// there then.
-fn store(room: &mut [u8], held: usize, len: u16, bytes: &[u8]) -> usize
-    requires room { length room.old ≡ 7609 }
-    requires len { len ≤ 7609 }
-    requires held { held ≤ len }
-    ensures end { result ≤ 7609 }
-    ensures stored { take result room.new ≡ take len (take held room.old ++ bytes.now) }
-{
-    let end = usize::from(len).min(held + bytes.len());
-    room[held..end].copy_from_slice(&bytes[..end - held]);
-    end
-}
-
-/// Puts bytes at the front.
-fn fill(room: &mut [u8], bytes: &[u8])
-    requires { length bytes.now ≤ length room.old }
-    ensures { take (length bytes.now) room.new ≡ bytes.now }
-{
-    room[..bytes.len()].copy_from_slice(bytes);
-}
-
-/// The bytes of a message that came so far.
+/// The bytes of a message that came so far, in room for the longest.
 #[derive(Drop)]
 pub struct Inbox {
-    room: Box<[u8; MAX_PAYLOAD_SIZE]>,
-    held: usize,
+    came: Vec<u8>,
 }
 
 impl Model for Inbox {
-    ghost use Rattle.std.specs.Prelude.{List, ℕ, length, take, ◌≡◌, ◌≤◌};
+    ghost use Rattle.std.specs.Prelude.{List, ℕ, ◌≤◌, vec_capacity, vec_len};
 
     ghost Value = { List ℕ };
 
-    ghost view = { λ i. take i.held i.room.value };
+    ghost view = { λ i. i.came.items };
 
-    ghost invariant = { λ i. record { held : i.held ≤ 7609; room : length i.room.value ≡ 7609 } };
+    ghost invariant = { λ i. record { held : vec_len i.came ≤ 7609; room : 7609 ≤ vec_capacity i.came } };
 }
 
 impl Inbox {
@@ -54,15 +32,14 @@ impl Inbox {
         ensures { IfOk result (λ i. i ≡ []) }
     {
         Ok(Inbox {
-            room: Box::new(alloc, [0; MAX_PAYLOAD_SIZE])?,
-            held: 0,
+            came: Vec::with_capacity(alloc, MAX_PAYLOAD_SIZE)?,
         })
     }
 
     pub fn clear(&mut self)
         ensures { self.new ≡ [] }
     {
-        self.held = 0;
+        self.came.clear();
     }
 
     /// Takes bytes of a message of `len` bytes, as many as it lacks.
@@ -71,40 +48,41 @@ impl Inbox {
         requires held { length self.old ≤ len }
         ensures { self.new ≡ take len (self.old ++ bytes.now) }
     {
-        self.held = store(&mut self.room[..], self.held, len, bytes);
+        let lacking = usize::from(len) - self.came.len();
+        let taken = bytes.len().min(lacking);
+        self.came.extend_from_slice(&bytes[..taken]).unwrap();
     }
 
     pub fn bytes(&self) -> &[u8]
         ensures { result.now ≡ self.now }
     {
-        &self.room[..self.held]
+        self.came.as_slice()
     }
 }
 
-/// The packets of a message that are left to send.
+/// The packets of a message that are left to send, its payload in room for the longest.
 #[derive(Drop)]
 pub struct Outbox {
-    room: Box<[u8; MAX_PAYLOAD_SIZE]>,
+    payload: Vec<u8>,
     cid: u32,
     cmd: u8,
-    len: usize,
     next: usize,
 }
 
 impl Model for Outbox {
-    ghost use Rattle.std.specs.Prelude.{List, length, take, ◌≡◌, ◌≤◌, ◌<◌};
+    ghost use Rattle.std.specs.Prelude.{List, ◌≤◌, ◌<◌, vec_capacity, vec_len};
     ghost use Rattle.hidframe.specs.declared.Packet.{Packet};
     ghost use Rattle.hidframe.specs.Pieces.{items_from};
 
     ghost Value = { List Packet };
 
-    ghost view = { λ o. items_from o.cid o.cmd (take o.len o.room.value) o.next };
+    ghost view = { λ o. items_from o.cid o.cmd o.payload.items o.next };
 
     ghost invariant = { λ o. record {
       command : o.cmd < 128;
-      size : o.len ≤ 7609;
+      size : vec_len o.payload ≤ 7609;
       place : o.next ≤ 130;
-      room : length o.room.value ≡ 7609;
+      room : 7609 ≤ vec_capacity o.payload;
     } };
 }
 
@@ -113,10 +91,9 @@ impl Outbox {
         ensures { IfOk result (λ o. o ≡ []) }
     {
         Ok(Outbox {
-            room: Box::new(alloc, [0; MAX_PAYLOAD_SIZE])?,
+            payload: Vec::with_capacity(alloc, MAX_PAYLOAD_SIZE)?,
             cid: 0,
             cmd: 0,
-            len: 0,
             next: 1,
         })
     }
@@ -127,10 +104,10 @@ impl Outbox {
         requires len { length payload.now ≤ 7609 }
         ensures { self.new ≡ frame_list cid cmd payload.now }
     {
-        fill(&mut self.room[..], payload);
+        self.payload.clear();
+        self.payload.extend_from_slice(payload).unwrap();
         self.cid = cid;
         self.cmd = cmd;
-        self.len = payload.len();
         self.next = 0;
     }
 
@@ -139,22 +116,21 @@ impl Outbox {
         ensures left { self.new ≡ frame_list cid CTAPHID_PING inbox.old }
         ensures gone { inbox.new ≡ [] }
     {
-        mem::swap(&mut self.room, &mut inbox.room);
+        mem::swap(&mut self.payload, &mut inbox.came);
+        inbox.came.clear();
         self.cid = cid;
         self.cmd = CTAPHID_PING;
-        self.len = inbox.held;
         self.next = 0;
-        inbox.held = 0;
     }
 
     pub fn next(&mut self) -> Option<Packet>
         ensures most { length self.old ≤ 129 }
         ensures gives { MatchOption result ((self.old ≡ []) × (self.new ≡ [])) (λ p. self.old ≡ p ∷ self.new) }
     {
-        if self.next >= packet_count(self.len) {
+        if self.next >= packet_count(self.payload.len()) {
             return None;
         }
-        let packet = packet_at(self.cid, self.cmd, &self.room[..self.len], self.next);
+        let packet = packet_at(self.cid, self.cmd, &self.payload, self.next);
         self.next += 1;
         packet
     }
@@ -163,6 +139,6 @@ impl Outbox {
         ensures drained { IsTrue result ↔ (self.now ≡ []) }
         ensures most { length self.now ≤ 129 }
     {
-        self.next >= packet_count(self.len)
+        self.next >= packet_count(self.payload.len())
     }
 }

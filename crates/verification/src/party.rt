@@ -5,7 +5,7 @@ ghost use Rattle.sha2.specs.Sha256.{sha256};
 ghost use Rattle.verification.specs.ClientData.{IsSerialised};
 ghost use Rattle.verification.specs.Views.{texts_of};
 
-use clientdata::{Kind, is_serialised};
+use clientdata::{ExpectedOrigin, Kind, is_serialised};
 use sha2::{Digest, Sha256};
 use std::alloc::{AllocError, Global};
 use std::marker::Model;
@@ -24,17 +24,17 @@ pub struct Policy {
 pub struct RelyingParty {
     rp_id: String,
     rp_id_hash: [u8; 32],
-    origins: Vec<String>,
+    origins: Vec<ExpectedOrigin>,
     ghost hashed: { rp_id_hash ≡ sha256 (string_bytes rp_id) },
 }
 
 impl Model for RelyingParty {
-    ghost use Rattle.std.specs.Prelude.{map, string_bytes};
+    ghost use Rattle.std.specs.Prelude.{string_bytes};
     ghost use Rattle.verification.specs.Records.{RelyingParty as Party};
 
     ghost Value = { Party };
 
-    ghost view = { λ p. record { rp_id = string_bytes p.rp_id; origins = map string_bytes p.origins.items } };
+    ghost view = { λ p. record { rp_id = string_bytes p.rp_id; origins = p.origins.items } };
 }
 
 impl RelyingParty {
@@ -43,14 +43,14 @@ impl RelyingParty {
     pub fn new(alloc: Global, rp_id: &str, origins: &[&str]) -> Result<RelyingParty, AllocError>
         ensures { IfOk result (λ p. p ≡ record { rp_id = rp_id.now; origins = texts_of origins.now }) }
     {
-        let mut copies = Vec::new(alloc);
+        let mut expected = Vec::new(alloc);
         for origin in origins {
-            copies.push(String::from_str(alloc, origin)?)?;
+            expected.push(ExpectedOrigin::new(alloc, origin)?)?;
         }
         Ok(RelyingParty {
             rp_id: String::from_str(alloc, rp_id)?,
             rp_id_hash: Sha256::digest(rp_id),
-            origins: copies,
+            origins: expected,
         })
     }
 
@@ -81,7 +81,7 @@ impl RelyingParty {
     }
 
     /// Whether the bytes are the serialised client data of this ceremony and challenge for one of the origins, which
-    /// then need not be read. It takes no memory, and may miss where an origin is not plain ASCII.
+    /// then need not be read. It takes no memory.
     pub(crate) fn expects(&self, bytes: &[u8], kind: Kind, challenge: &[u8; 32]) -> bool
         ensures { IsTrue result → IsSerialised kind challenge.now self.now bytes.now }
     {

@@ -1,0 +1,21 @@
+-- The pieces of serialised client data around the challenge, and texts that are written as they are. Private functions
+-- are proved against these.
+use Rattle.std.specs.Prelude.{◌≢◌, ◌≤◌, ◌<◌, ℕ, List, ◌++◌, codes, length, slice_index}
+use Rattle.clientdata.specs.declared.record.Kind.{Kind}
+use Rattle.clientdata.specs.Quoted.{quoted}
+use Rattle.clientdata.specs.Serialised.{type_of}
+
+-- up to the challenge's first character
+unfoldable pub before_challenge : Kind → List ℕ
+before_challenge kind = codes "{\"type\":" ++ quoted (type_of kind) ++ codes ",\"challenge\":\""
+
+-- from behind the challenge's last character to before the last member's value
+unfoldable pub behind_challenge : List ℕ → List ℕ
+behind_challenge origin = codes "\",\"origin\":" ++ quoted origin ++ codes ",\"crossOrigin\":"
+
+-- a byte that is an ASCII character and stands for itself between quotation marks
+abbrev pub IsPlain : ℕ → Type 0
+IsPlain byte = (0x20 ≤ byte) × (byte < 0x80) × (byte ≢ 34) × (byte ≢ 92)
+
+abbrev pub ArePlain : List ℕ → Type 0
+ArePlain bytes = (i : ℕ) → i < length bytes → IsPlain (slice_index bytes i)
