@@ -10,11 +10,10 @@ use Rattle.hidlink.proofs.SoFar.{ArePackets}
 use Rattle.first_line.proofs.Laws.{none_first, one_first}
 use Rattle.ccbor.specs.Item.{Item}
 use Rattle.ccbor.specs.Canon.{Canon}
-use Rattle.ctapmsg.specs.Replies.{Assertion, Creation, HasOtherShape, ReplyOf, ReplyRefused, assertion_reply, assertion_reply_item, creation_reply, creation_reply_item}
+use Rattle.ctapmsg.specs.Replies.{Assertion, Creation, HasOtherShape, ReplyOf, ReplyRefused, assertion_reply, creation_reply}
 use Rattle.replies.specs.declared.reply.Kind.{Kind}
 use Rattle.replies.specs.declared.reply.Kind.TheVariants as kinds
-use Rattle.ccbor.proofs.Decoding.{same_item}
-use Rattle.replies.proofs.Laws.{assertion_items, creation_items, creation_never_both, never_both}
+use Rattle.replies.proofs.Laws.{creation_never_both, never_both, one_assertion_reply, one_creation_reply}
 use Rattle.ctap_status.specs.declared.error.Error.{Error as ReplyError}
 use Rattle.ctap_status.specs.declared.error.Error.TheVariants as replies
 use Rattle.verification.specs.Shared.{Relation}
@@ -123,20 +122,10 @@ pub record IsOne {R W : Type 0} (k : Ceremony R W) : Type 0 where
   pub one_step : (r : R) (w v : W) → k.Fails r w → k.Fails r v → w ≡ v
   pub passed : (r : R) (w : W) → k.Passes r → k.Fails r w → ⊥
 
-one_assertion : (r q : Assertion) (m : List ℕ) → ReplyOf (assertion_reply r) m → ReplyOf (assertion_reply q) m → r ≡ q
-one_assertion r q m a b =
-    let rests : b.0 ≡ a.0 = let f = a.1 in let g = b.1 in cc in
-    assertion_items r q (same_item (assertion_reply_item r) (assertion_reply_item q) a.0 a.2 (subst (λ (l : List ℕ). Canon (assertion_reply_item q) l) rests b.2))
-
-one_creation : (r q : Creation) (m : List ℕ) → ReplyOf (creation_reply r) m → ReplyOf (creation_reply q) m → r ≡ q
-one_creation r q m a b =
-    let rests : b.0 ≡ a.0 = let f = a.1 in let g = b.1 in cc in
-    creation_items r q (same_item (creation_reply_item r) (creation_reply_item q) a.0 a.2 (subst (λ (l : List ℕ). Canon (creation_reply_item q) l) rests b.2))
-
 pub sign_in_one : (valid : Relation) (s : State) (session : ℕ) (t : List ℕ) → IsOne (sign_in.sign_in valid s session t)
 sign_in_one valid s session t = record {
   command = λ e. cc;
-  one_reply = one_assertion;
+  one_reply = one_assertion_reply;
   read = λ r m e spelled refused some. never_both m e refused some r spelled;
   one_step = λ r w v a b. one_first (λ x passed fails. fails passed) authentication.steps w v a b;
   passed = λ r w all fails. none_first (λ x passed failed. failed passed) authentication.steps w all fails;
@@ -145,7 +134,7 @@ sign_in_one valid s session t = record {
 pub registration_one : (valid : Relation) (s : State) (session : ℕ) (t : List ℕ) → IsOne (registration.registration valid s session t)
 registration_one valid s session t = record {
   command = λ e. cc;
-  one_reply = one_creation;
+  one_reply = one_creation_reply;
   read = λ r m e spelled refused some. creation_never_both m e refused some r spelled;
   one_step = λ r w v a b. one_first (λ x passed fails. fails passed) enrolment.steps w v a b;
   passed = λ r w all fails. none_first (λ x passed failed. failed passed) enrolment.steps w all fails;
