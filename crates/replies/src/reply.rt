@@ -43,7 +43,7 @@ pub struct AssertionReply {
     pub number: Option<u64>,
 }
 
-/// A reply to getAssertion or getNextAssertion whose members lie in the bytes that were read.
+/// A reply to getAssertion or getNextAssertion whose members are lent: by the bytes that were read, or by who writes it.
 #[derive(Clone, Copy, Debug, Drop)]
 pub struct AssertionView<'a> {
     /// The credential id: 1 to 64 bytes.

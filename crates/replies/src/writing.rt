@@ -72,8 +72,9 @@ fn status_alone(alloc: Global) -> Result<Vec<u8>, AllocError>
     Ok(out)
 }
 
-/// The bytes of a reply: status 0 and its map. The reply is given by value, since its parts become
-/// those of the map that is encoded; it is dropped.
+/// The bytes of a reply: status 0 and its map. The reply is given by value, since the parts of one to
+/// makeCredential become those of the map that is encoded; it is dropped. Of an assertion
+/// [`write_assertion`] writes the same from lent members.
 ///
 /// Refused as [`Error::Unfit`] where it has none: an id of no byte or more than 64, a number of
 /// credentials below 2 or in a reply to getNextAssertion, an aaguid that hasn't 16 bytes, options
