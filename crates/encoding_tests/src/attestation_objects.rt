@@ -2,7 +2,7 @@
 //! WebAuthn, section 6.5.4.
 
 use crate::made::{Leaf, Made, made_value};
-use crate::pieces::{Piece, joined};
+use crate::pieces::{Table, bytes_of, number, part};
 use authdata::{AttestationObject, Error};
 use ccbor::Value;
 use std::alloc::{AllocError, Global};
@@ -16,66 +16,14 @@ const PACKED: Made = Made::Pairs(&[
     (Leaf::Text("sig"), Leaf::Bytes(&[7, 8])),
 ]);
 
-/// What an object is for, its bytes, its format, its statement and how many members that has, and its
-/// authenticator data.
-const OBJECTS: &[(&str, &[Piece], &str, (Made, usize), &[Piece])] = &[
-    (
-        "none",
-        &[
-            (
-                b"\xa3\x63fmt\x64none\x67attStmt\xa0\x68authData\x58\x62",
-                0,
-                0,
-            ),
-            (b"\x01\x02\x03", 0x41, 95),
-        ],
-        "none",
-        (EMPTY, 0),
-        &[(b"\x01\x02\x03", 0x41, 95)],
-    ),
-    (
-        "packed",
-        &[
-            (
-                b"\xa3\x63fmt\x66packed\x67attStmt\xa2\x63alg\x26\x63sig\x42\x07\x08",
-                0,
-                0,
-            ),
-            (b"\x68authData\x43\x01\x02\x03", 0, 0),
-        ],
-        "packed",
-        (PACKED, 2),
-        &[(b"\x01\x02\x03", 0, 0)],
-    ),
-    (
-        "nothing in it",
-        &[(b"\xa3\x63fmt\x60\x67attStmt\xa0\x68authData\x40", 0, 0)],
-        "",
-        (EMPTY, 0),
-        &[],
-    ),
-    (
-        "a format of 24 letters",
-        &[
-            (b"\xa3\x63fmt\x78\x18", 0x61, 24),
-            (b"\x67attStmt\xa0\x68authData\x40", 0, 0),
-        ],
-        "aaaaaaaaaaaaaaaaaaaaaaaa",
-        (EMPTY, 0),
-        &[],
-    ),
-    (
-        "7,000 bytes of authenticator data",
-        &[(
-            b"\xa3\x63fmt\x64none\x67attStmt\xa0\x68authData\x59\x1b\x58",
-            9,
-            7000,
-        )],
-        "none",
-        (EMPTY, 0),
-        &[(b"", 9, 7000)],
-    ),
-];
+/// What an object is for, its bytes, its format, its authenticator data, and how many members its statement has: that
+/// of two is `PACKED`.
+const OBJECTS: Table =
+    "none|a363 'fmt 64 'none 67 'attStmt a068 'authData 5862 010203 41*95|none|010203 41*95|0
+packed|a363 'fmt 66 'packed 67 'attStmt a263 'alg 2663 'sig 420708 68 'authData 43010203|packed|010203|2
+nothing in it|a363 'fmt 6067 'attStmt a068 'authData 40|||0
+a format of 24 letters|a363 'fmt 7818 61*24 67 'attStmt a068 'authData 40|aaaaaaaaaaaaaaaaaaaaaaaa||0
+7,000 bytes of authenticator data|a363 'fmt 64 'none 67 'attStmt a068 'authData 591b58 09*7000|none|09*7000|0";
 
 /// The object of these parts.
 pub fn object(
@@ -99,174 +47,107 @@ fn has(object: &AttestationObject, fmt: &str, members: usize, auth_data: &[u8]) 
     object.fmt.as_str() == fmt && pairs.len() == members && object.auth_data.as_slice() == auth_data
 }
 
+/// Whether the object of a line is read of its bytes, and written as them.
+fn is_read(alloc: Global, line: &str, bytes: &[u8], auth_data: &[u8]) -> Result<bool, Error> {
+    let members = number(line, 4).unwrap_or(0);
+    let object = AttestationObject::read(alloc, bytes)?;
+    Ok(has(&object, part(line, 2), members, auth_data) && object.write(alloc)?.as_slice() == bytes)
+}
+
+/// Whether the object that is made of a line's parts is written as its bytes.
+fn is_written(alloc: Global, line: &str, bytes: &[u8], auth_data: &[u8]) -> Result<bool, Error> {
+    let statement = if number(line, 4) == Some(0) {
+        EMPTY
+    } else {
+        PACKED
+    };
+    let statement = made_value(alloc, statement)?;
+    let object = object(alloc, part(line, 2), auth_data, statement)?;
+    Ok(object.write(alloc)?.as_slice() == bytes)
+}
+
 #[test]
 fn objects(rt: HostRuntime) -> Result<(), Fail> {
     let alloc = rt.alloc();
-    for (name, pieces, fmt, (statement, members), auth_data) in OBJECTS {
-        let bytes = joined(alloc, &[], pieces)?;
-        let auth_data = joined(alloc, &[], auth_data)?;
-        let read = AttestationObject::read(alloc, &bytes)?;
-        assert!(rt; has(&read, fmt, *members, &auth_data), "{name}");
-        assert!(rt; read.write(alloc)?.as_slice() == bytes.as_slice(), "{name}");
-        let made = object(alloc, fmt, &auth_data, made_value(alloc, *statement)?)?;
-        assert!(rt; made.write(alloc)?.as_slice() == bytes.as_slice(), "{name}");
+    for line in OBJECTS.lines() {
+        let bytes = bytes_of(alloc, part(line, 1))?;
+        let auth_data = bytes_of(alloc, part(line, 3))?;
+        let is_object = is_read(alloc, line, &bytes, &auth_data)?
+            && is_written(alloc, line, &bytes, &auth_data)?;
+        assert!(rt; is_object, "{line}");
     }
     Ok(())
 }
 
-/// What is no object, and why.
-const SHAPES: &[(&str, &[Piece], Error)] = &[
-    ("no bytes", &[(b"", 0, 0)], Error::NotCanonical),
-    (
-        "a byte behind",
-        &[(b"\xa3\x63fmt\x60\x67attStmt\xa0\x68authData\x40\x00", 0, 0)],
-        Error::NotCanonical,
-    ),
-    (
-        "another order",
-        &[(b"\xa3\x67attStmt\xa0\x63fmt\x60\x68authData\x40", 0, 0)],
-        Error::NotCanonical,
-    ),
-    (
-        "a cut object",
-        &[(b"\xa3\x63fmt\x60\x67attStmt\xa0\x68authData", 0, 0)],
-        Error::NotCanonical,
-    ),
-    ("a number", &[(b"\x00", 0, 0)], Error::Shape),
-    ("no members", &[(b"\xa0", 0, 0)], Error::Shape),
-    (
-        "fmt missing",
-        &[(b"\xa2\x67attStmt\xa0\x68authData\x40", 0, 0)],
-        Error::Shape,
-    ),
-    (
-        "attStmt missing",
-        &[(b"\xa2\x63fmt\x60\x68authData\x40", 0, 0)],
-        Error::Shape,
-    ),
-    (
-        "authData missing",
-        &[(b"\xa2\x63fmt\x60\x67attStmt\xa0", 0, 0)],
-        Error::Shape,
-    ),
-];
+/// What is no object, and the number of its refusal.
+const SHAPES: Table = "no bytes||2
+a byte behind|a363 'fmt 6067 'attStmt a068 'authData 4000|2
+another order|a367 'attStmt a063 'fmt 6068 'authData 40|2
+a cut object|a363 'fmt 6067 'attStmt a068 'authData|2
+a number|00|13
+no members|a0|13
+fmt missing|a267 'attStmt a068 'authData 40|13
+attStmt missing|a263 'fmt 6068 'authData 40|13
+authData missing|a263 'fmt 6067 'attStmt a0|13";
 
 /// The same of members of other names, kinds and orders.
-const MEMBERS: &[(&str, &[Piece], Error)] = &[
-    (
-        "another member",
-        &[(
-            b"\xa4\x62ep\xf5\x63fmt\x60\x67attStmt\xa0\x68authData\x40",
-            0,
-            0,
-        )],
-        Error::Shape,
-    ),
-    (
-        "another key",
-        &[(b"\xa3\x63fmu\x60\x67attStmt\xa0\x68authData\x40", 0, 0)],
-        Error::Shape,
-    ),
-    (
-        "fmt of bytes",
-        &[(b"\xa3\x63fmt\x40\x67attStmt\xa0\x68authData\x40", 0, 0)],
-        Error::Shape,
-    ),
-    (
-        "attStmt an array",
-        &[(b"\xa3\x63fmt\x60\x67attStmt\x80\x68authData\x40", 0, 0)],
-        Error::Shape,
-    ),
-    (
-        "authData a text",
-        &[(b"\xa3\x63fmt\x60\x67attStmt\xa0\x68authData\x60", 0, 0)],
-        Error::Shape,
-    ),
-    (
-        "two members exchanged",
-        &[(b"\xa3\x63fmt\x60\x68authData\x40\x67attStmt\xa0", 0, 0)],
-        Error::NotCanonical,
-    ),
-    (
-        "attStmt and authData exchanged",
-        &[(b"\xa3\x63fmt\x60\x67attStmt\x40\x68authData\xa0", 0, 0)],
-        Error::Shape,
-    ),
-    (
-        "a fourth member behind",
-        &[(
-            b"\xa4\x63fmt\x60\x67attStmt\xa0\x68authData\x40\x69authDatas\x40",
-            0,
-            0,
-        )],
-        Error::Shape,
-    ),
-    ("an array", &[(b"\x83\x60\xa0\x40", 0, 0)], Error::Shape),
-    (
-        "a byte of 7,000 missing",
-        &[(
-            b"\xa3\x63fmt\x60\x67attStmt\xa0\x68authData\x59\x1b\x58",
-            9,
-            6999,
-        )],
-        Error::NotCanonical,
-    ),
-    (
-        "a byte behind 7,000",
-        &[(
-            b"\xa3\x63fmt\x60\x67attStmt\xa0\x68authData\x59\x1b\x58",
-            9,
-            7001,
-        )],
-        Error::NotCanonical,
-    ),
-    (
-        "a text of 7,000 bytes as authData",
-        &[(
-            b"\xa3\x63fmt\x60\x67attStmt\xa0\x68authData\x79\x1b\x58",
-            0x61,
-            7000,
-        )],
-        Error::Shape,
-    ),
-];
+const MEMBERS: Table = "another member|a462 'ep f563 'fmt 6067 'attStmt a068 'authData 40|13
+another key|a363 'fmu 6067 'attStmt a068 'authData 40|13
+fmt of bytes|a363 'fmt 4067 'attStmt a068 'authData 40|13
+attStmt an array|a363 'fmt 6067 'attStmt 8068 'authData 40|13
+authData a text|a363 'fmt 6067 'attStmt a068 'authData 60|13
+two members exchanged|a363 'fmt 6068 'authData 4067 'attStmt a0|2
+attStmt and authData exchanged|a363 'fmt 6067 'attStmt 4068 'authData a0|13
+a fourth member behind|a463 'fmt 6067 'attStmt a068 'authData 4069 'authDatas 40|13
+an array|8360a040|13
+a byte of 7,000 missing|a363 'fmt 6067 'attStmt a068 'authData 591b58 09*6999|2
+a byte behind 7,000|a363 'fmt 6067 'attStmt a068 'authData 591b58 09*7001|2
+a text of 7,000 bytes as authData|a363 'fmt 6067 'attStmt a068 'authData 791b58 61*7000|13";
 
-/// Why the bytes are refused, if they are.
-fn refusal(alloc: Global, bytes: &[u8]) -> Option<Error> {
+/// The number of an error, 0 for want of memory.
+fn number_of(error: Error) -> usize {
+    match error.number() {
+        Some(number) => usize::from(number),
+        None => 0,
+    }
+}
+
+/// The number of the refusal of the bytes, if they are refused.
+fn refusal(alloc: Global, bytes: &[u8]) -> Option<usize> {
     match AttestationObject::read(alloc, bytes) {
         Ok(_) => None,
-        Err(e) => Some(e),
+        Err(error) => Some(number_of(error)),
     }
 }
 
 /// What a statement is for, the statement, and how many bytes an object of format none with it and 32 bytes of
-/// authenticator data has, or why it has none.
-const STATEMENTS: &[(&str, Made, Result<usize, Error>)] = &[
-    ("three levels", Made::NestedAtA(1), Ok(66)),
-    ("four levels", Made::NestedAtA(2), Err(Error::Unfit)),
+/// authenticator data has, or the number of its refusal.
+const STATEMENTS: &[(&str, Made, usize)] = &[
+    ("three levels", Made::NestedAtA(1), 66),
+    ("four levels", Made::NestedAtA(2), 1),
     (
         "keys in order",
         Made::Pairs(&[(Leaf::Text("a"), ZERO), (Leaf::Text("b"), ZERO)]),
-        Ok(68),
+        68,
     ),
     (
         "keys out of order",
         Made::Pairs(&[(Leaf::Text("b"), ZERO), (Leaf::Text("a"), ZERO)]),
-        Err(Error::Unfit),
+        1,
     ),
-    ("an array", Made::Leaf(Leaf::NoItems), Err(Error::Unfit)),
-    ("a text", Made::Leaf(Leaf::Text("none")), Err(Error::Unfit)),
-    ("a number", Made::Leaf(ZERO), Err(Error::Unfit)),
+    ("an array", Made::Leaf(Leaf::NoItems), 1),
+    ("a text", Made::Leaf(Leaf::Text("none")), 1),
+    ("a number", Made::Leaf(ZERO), 1),
 ];
 
 const ZERO: Leaf = Leaf::Uint(0);
 
-/// How many bytes an object with this statement has, or why it has none.
-fn written(alloc: Global, statement: Made) -> Result<Result<usize, Error>, AllocError> {
+/// How many bytes an object with this statement has, or the number of its refusal.
+fn written(alloc: Global, statement: Made) -> Result<usize, AllocError> {
     let object = object(alloc, "none", &[5; 32], made_value(alloc, statement)?)?;
     Ok(match object.write(alloc) {
-        Ok(bytes) => Ok(bytes.len()),
-        Err(e) => Err(e),
+        Ok(bytes) => bytes.len(),
+        Err(error) => number_of(error),
     })
 }
 
@@ -274,9 +155,13 @@ fn written(alloc: Global, statement: Made) -> Result<Result<usize, Error>, Alloc
 fn refused(rt: HostRuntime) -> Result<(), Fail> {
     let alloc = rt.alloc();
     for table in [SHAPES, MEMBERS] {
-        for (name, pieces, wanted) in table {
-            let bytes = joined(alloc, &[], pieces)?;
-            assert!(rt; refusal(alloc, &bytes) == Some(*wanted), "{name}");
+        for line in table.lines() {
+            let bytes = bytes_of(alloc, part(line, 1))?;
+            let number = number(line, 2);
+            assert!(rt;
+                number.is_some() && refusal(alloc, &bytes) == number,
+                "{line}"
+            );
         }
     }
     for (name, statement, wanted) in STATEMENTS {

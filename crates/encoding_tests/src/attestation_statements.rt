@@ -2,7 +2,8 @@
 //! the bench key's x and the message, by Python's `hashlib`.
 
 use crate::attestation_objects::object;
-use authdata::{AttestationObject, AttestationType, Error, check_statement};
+use crate::pieces::{Table, bytes_of, number, part};
+use authdata::{AttestationObject, AttestationType, check_statement};
 use ccbor::Value;
 use cose::{Alg, BenchScheme, Signer};
 use std::alloc::{AllocError, Global};
@@ -14,63 +15,52 @@ const AUTH_DATA: [u8; 32] = [
     0xb0, 0x03, 0x61, 0xa3, 0x96, 0x17, 0x7a, 0x9c, 0xb4, 0x10, 0xff, 0x61, 0xf2, 0x00, 0x15, 0xad,
 ];
 
-/// The bench key's signature of AUTH_DATA and 32 bytes 0x22.
-const SIGNATURE: [u8; 32] = [
-    0x54, 0xcd, 0xb9, 0xdf, 0xa0, 0x42, 0x0b, 0xa4, 0xfa, 0xf0, 0xb0, 0x09, 0x88, 0x50, 0xbe, 0x25,
-    0x77, 0x46, 0xcc, 0x14, 0x9a, 0x58, 0xc6, 0xbd, 0xa1, 0xe9, 0x3f, 0x4a, 0x63, 0x9a, 0xa5, 0x17,
-];
-
-/// The bench key's signature of 32 bytes 0x22 alone.
-const OF_THE_HASH: [u8; 32] = [
-    0x48, 0x4f, 0xa9, 0x40, 0x4a, 0xf4, 0x8a, 0x1c, 0x7a, 0xdd, 0xf9, 0xb5, 0xa7, 0xf5, 0x28, 0xe4,
-    0x1d, 0x32, 0xc3, 0xfd, 0xe7, 0x13, 0xf8, 0xe1, 0x40, 0x01, 0x81, 0xe8, 0x48, 0x51, 0x1b, 0x12,
-];
-
-/// Statements: the format, `|`, and the members by name and kind of value (`member_value`).
-type Rows = &'static [&'static str];
-
-const SELF_SIGNED: Rows = &["packed|alg=own sig=signature"];
-
-const NONE: Rows = &["none|"];
-
-const BAD: Rows = &[
-    "packed|alg=other sig=signature",
-    "packed|alg=text sig=signature",
-    "packed|alg=without-sign sig=signature",
-    "packed|alg=own sig=of-the-hash",
-    "packed|alg=own sig=signature x5c=no-pairs",
-    "packed|sig=signature",
-    "packed|alg=own",
-    "packed|alg=own sig=zero",
-    "packed|alg=own sig=no-byte",
-    "packed|alh=own sig=signature",
-    "packed|",
-    "none|alg=own",
-    "none|alg=own sig=signature",
-];
-
-const UNKNOWN: Rows = &[
-    "tpm|",
-    "|",
-    "None|",
-    "packed |",
-    "fido-u2f|alg=own sig=signature",
-];
+/// The format, the members by name and kind of value (`member_value`), and what is shown: 0 for nothing, 1 for self
+/// attestation, or the number of the refusal; of the key of 32 bytes 7 and the hash of 32 bytes 34, or of those bytes
+/// that follow.
+const STATEMENTS: Table = "packed|alg=nint:own sig=bytes:signature|1
+none||0
+packed|alg=nint:other sig=bytes:signature|15
+packed|alg=text:EdDSA sig=bytes:signature|15
+packed|alg=uint:own sig=bytes:signature|15
+packed|alg=nint:own sig=bytes:of-the-hash|15
+packed|alg=nint:own sig=bytes:signature x5c=map|15
+packed|sig=bytes:signature|15
+packed|alg=nint:own|15
+packed|alg=nint:own sig=uint:0|15
+packed|alg=nint:own sig=bytes:|15
+packed|alh=nint:own sig=bytes:signature|15
+packed||15
+none|alg=nint:own|15
+none|alg=nint:own sig=bytes:signature|15
+tpm||14
+||14
+None||14
+packed ||14
+fido-u2f|alg=nint:own sig=bytes:signature|14
+packed|alg=nint:own sig=bytes:signature|15|7|35
+packed|alg=nint:own sig=bytes:signature|15|8|34";
 
 /// An algorithm, the argument of its number, and that of the other.
 const ALGORITHMS: &[(Alg, u64, u64)] = &[(Alg::EdDsa, 7, 6), (Alg::Es256, 6, 7)];
 
-/// The value of a member: the argument of the key's or the other algorithm's number, a signature, or another kind.
-fn member_value(alloc: Global, kind: &str, own: u64, other: u64) -> Result<Value, AllocError> {
+/// The argument of the key's or the other algorithm's number, or 0.
+fn argument(name: &str, own: u64, other: u64) -> u64 {
+    match name {
+        "own" => own,
+        "other" => other,
+        _ => 0,
+    }
+}
+
+/// The value of a member.
+fn member_value(alloc: Global, value: &str, own: u64, other: u64) -> Result<Value, AllocError> {
+    let (kind, content) = value.split_once(":").unwrap_or((value, ""));
     Ok(match kind {
-        "own" => Value::Nint(own),
-        "other" => Value::Nint(other),
-        "without-sign" => Value::Uint(own),
-        "signature" => Value::Bytes(Vec::from_slice(alloc, &SIGNATURE)?),
-        "of-the-hash" => Value::Bytes(Vec::from_slice(alloc, &OF_THE_HASH)?),
-        "no-byte" => Value::Bytes(Vec::new(alloc)),
-        "text" => Value::Text(String::from_str(alloc, "EdDSA")?),
-        "zero" => Value::Uint(0),
+        "nint" => Value::Nint(argument(content, own, other)),
+        "uint" => Value::Uint(argument(content, own, other)),
+        "bytes" => Value::Bytes(bytes_of(alloc, content)?),
+        "text" => Value::Text(String::from_str(alloc, content)?),
         _ => Value::Map(Vec::new(alloc)),
     })
 }
@@ -79,82 +69,45 @@ fn member_value(alloc: Global, kind: &str, own: u64, other: u64) -> Result<Value
 fn statement(alloc: Global, members: &str, own: u64, other: u64) -> Result<Value, AllocError> {
     let mut pairs = Vec::new(alloc);
     for member in members.split_whitespace() {
-        let (key, kind) = member.split_once("=").unwrap_or((member, ""));
+        let (key, value) = member.split_once("=").unwrap_or((member, ""));
         let key = Value::Text(String::from_str(alloc, key)?);
-        pairs.push((key, member_value(alloc, kind, own, other)?))?;
+        pairs.push((key, member_value(alloc, value, own, other)?))?;
     }
     Ok(Value::Map(pairs))
 }
 
 /// What the object shows of the key of one byte 32 times and a hash of one byte 32 times.
-fn shown(
-    object: &AttestationObject,
-    alg: Alg,
-    (secret, hash): (u8, u8),
-) -> Result<AttestationType, Error> {
+fn shown(object: &AttestationObject, alg: Alg, secret: u8, hash: u8) -> usize {
     let key = BenchScheme.public(alg, &[secret; 32]);
-    check_statement(&BenchScheme, object, &key, &[hash; 32])
-}
-
-/// The object of a row.
-fn object_of(
-    alloc: Global,
-    row: &str,
-    own: u64,
-    other: u64,
-) -> Result<AttestationObject, AllocError> {
-    let (format, members) = row.split_once("|").unwrap_or((row, ""));
-    object(
-        alloc,
-        format,
-        &AUTH_DATA,
-        statement(alloc, members, own, other)?,
-    )
-}
-
-/// The first row that shows something else, under each algorithm, of the key of 32 bytes 7 and the hash of 32 bytes 22.
-fn other(
-    alloc: Global,
-    rows: Rows,
-    wanted: Result<AttestationType, Error>,
-) -> Result<Option<&'static str>, AllocError> {
-    for (alg, own, other) in ALGORITHMS {
-        for row in rows {
-            let object = object_of(alloc, row, *own, *other)?;
-            if shown(&object, *alg, (7, 0x22)) != wanted {
-                return Ok(Some(row));
-            }
-        }
+    match check_statement(&BenchScheme, object, &key, &[hash; 32]) {
+        Ok(AttestationType::None) => 0,
+        Ok(AttestationType::SelfSigned) => 1,
+        Err(error) => usize::from(error.number().unwrap_or(255)),
     }
-    Ok(None)
 }
 
+/// What the object of a line shows.
+fn shown_of(alloc: Global, line: &str, algorithm: &(Alg, u64, u64)) -> Result<usize, AllocError> {
+    let (alg, own, other) = *algorithm;
+    let statement = statement(alloc, part(line, 1), own, other)?;
+    let object = object(alloc, part(line, 0), &AUTH_DATA, statement)?;
+    let secret = part(line, 3).parse().unwrap_or(7);
+    let hash = part(line, 4).parse().unwrap_or(34);
+    Ok(shown(&object, alg, secret, hash))
+}
+
+/// Each line, and the object of format none, read from its own bytes.
 #[test]
 fn statements(rt: HostRuntime) -> Result<(), Fail> {
     let alloc = rt.alloc();
-    assert_eq!(rt;
-        other(alloc, SELF_SIGNED, Ok(AttestationType::SelfSigned))?,
-        None
-    );
-    assert_eq!(rt; other(alloc, NONE, Ok(AttestationType::None))?, None);
-    assert_eq!(rt; other(alloc, BAD, Err(Error::BadStatement))?, None);
-    assert_eq!(rt; other(alloc, UNKNOWN, Err(Error::UnknownFormat))?, None);
-    Ok(())
-}
-
-/// A self attestation over another hash, and by another key; and the object of format none, read from its own bytes.
-#[test]
-fn other_statements(rt: HostRuntime) -> Result<(), Fail> {
-    let alloc = rt.alloc();
-    for (alg, own, other) in ALGORITHMS {
-        let object = object_of(alloc, "packed|alg=own sig=signature", *own, *other)?;
-        assert!(rt;
-            shown(&object, *alg, (7, 0x23)) == Err(Error::BadStatement)
-                && shown(&object, *alg, (8, 0x22)) == Err(Error::BadStatement)
-        );
+    for line in STATEMENTS.lines() {
+        for algorithm in ALGORITHMS {
+            let found = shown_of(alloc, line, algorithm)?;
+            assert!(rt; Some(found) == number(line, 2), "{line}");
+        }
     }
     let bytes = b"\xa3\x63fmt\x64none\x67attStmt\xa0\x68authData\x41\x05";
     let object = AttestationObject::read(alloc, bytes)?;
-    assert!(rt; shown(&object, Alg::EdDsa, (7, 0x22)) == Ok(AttestationType::None));
+    assert!(rt; shown(&object, Alg::EdDsa, 7, 34) == 0);
     Ok(())
 }

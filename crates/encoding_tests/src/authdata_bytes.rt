@@ -1,7 +1,7 @@
 //! Authenticator data: what is read, written and refused. The bytes are worked by hand from
 //! WebAuthn, sections 6.1 and 6.5.1.
 
-use crate::pieces::{Piece, joined};
+use crate::pieces::{Table, bytes_of, number, part};
 use authdata::{Attested, AuthData, AuthView, Error, flags, read, read_view, write};
 use cose::CoseKey;
 use std::alloc::{AllocError, Global};
@@ -13,258 +13,125 @@ const H: [u8; 32] = [
     0xb0, 0x03, 0x61, 0xa3, 0x96, 0x17, 0x7a, 0x9c, 0xb4, 0x10, 0xff, 0x61, 0xf2, 0x00, 0x15, 0xad,
 ];
 
-/// The encoding of an EdDSA key before its x.
-const K: &[u8] = &[0xa4, 1, 1, 3, 0x27, 0x20, 6, 0x21, 0x58, 0x20];
-
-/// The encoding of an ES256 key before its x, and between its x and its y.
-const E: &[u8] = &[0xa5, 1, 2, 3, 0x26, 0x20, 1, 0x21, 0x58, 0x20];
-
-const EY: &[u8] = &[0x22, 0x58, 0x20];
-
-/// Flags 41, counter 0, an aaguid of 16 bytes 0; an id of one byte; an EdDSA key.
-const Z: Piece = (&[0x41, 0, 0, 0, 0], 0, 16);
-
-const ID: Piece = (&[0, 1, 0x0a], 0, 0);
-
-const KEY: Piece = (K, 0x11, 32);
-
-/// What comes behind the hash H, and by which refusal it is refused, if it is.
-const BARE: &[(&str, &[Piece], Option<Error>)] = &[
-    ("36 bytes", &[(&[1, 0, 0, 0], 0, 0)], Some(Error::Short)),
-    (
-        "ED alone",
-        &[(&[0x80, 0, 0, 0, 0], 0, 0)],
-        Some(Error::Extensions),
-    ),
-    (
-        "AT with no credential",
-        &[(&[0x41, 0, 0, 0, 0], 0, 0)],
-        Some(Error::Short),
-    ),
-    ("bare", &[(&[1, 0, 0, 0, 1], 0, 0)], None),
-    (
-        "BS without BE",
-        &[(&[0x11, 0, 0, 0, 0], 0, 0)],
-        Some(Error::BadBackup),
-    ),
-    ("BE alone", &[(&[0x09, 0, 0, 0, 0], 0, 0)], None),
-    ("BE and BS", &[(&[0x19, 0, 0, 0, 0], 0, 0)], None),
-    (
-        "ED before BS without BE",
-        &[(&[0x91, 0, 0, 0, 0], 0, 0)],
-        Some(Error::Extensions),
-    ),
-    (
-        "too short before BS without BE",
-        &[(&[0x51, 0, 0, 0, 0], 0, 0)],
-        Some(Error::Short),
-    ),
-    (
-        "BS without BE before a bad id",
-        &[(&[0x51, 0, 0, 0, 0], 0, 16), (&[0, 0], 0, 0)],
-        Some(Error::BadBackup),
-    ),
-    (
-        "BS without BE before a byte more",
-        &[(&[0x11, 0, 0, 0, 0, 0], 0, 0)],
-        Some(Error::BadBackup),
-    ),
-    (
-        "bare, and a byte",
-        &[(&[1, 0, 0, 0, 1, 0], 0, 0)],
-        Some(Error::ExtraBytes),
-    ),
-];
+/// A name, the bytes, and the number of the refusal, if they are refused.
+const BARE: Table = "36 bytes|H 01000000|8
+ED alone|H 8000000000|9
+AT with no credential|H 4100000000|8
+bare|H 0100000001
+BS without BE|H 1100000000|28
+BE alone|H 0900000000
+BE and BS|H 1900000000
+ED before BS without BE|H 9100000000|9
+too short before BS without BE|H 5100000000|8
+BS without BE before a bad id|H 5100000000 00*16 0000|28
+BS without BE before a byte more|H 110000000000|28
+bare, and a byte|H 010000000100|12";
 
 /// The same up to the id of a credential.
-const IDS: &[(&str, &[Piece], Option<Error>)] = &[
-    ("54 bytes", &[Z, (&[0], 0, 0)], Some(Error::Short)),
-    (
-        "an id of 65 bytes that is not there",
-        &[Z, (&[0, 0x41], 0, 0)],
-        Some(Error::Short),
-    ),
-    (
-        "an id that is cut",
-        &[Z, (&[0, 2, 0x0a], 0, 0)],
-        Some(Error::Short),
-    ),
-    ("no id", &[Z, (&[0, 0], 0, 0)], Some(Error::BadId)),
-    (
-        "no id, and a key",
-        &[Z, (&[0, 0], 0, 0), KEY],
-        Some(Error::BadId),
-    ),
-    (
-        "an id of 65 bytes",
-        &[Z, (&[0, 65], 7, 65), KEY],
-        Some(Error::BadId),
-    ),
-    (
-        "an id of 256 bytes",
-        &[Z, (&[1, 0], 7, 256), KEY],
-        Some(Error::BadId),
-    ),
-];
+const IDS: Table = "54 bytes|H Z 00|8
+an id of 65 bytes that is not there|H Z 0041|8
+an id that is cut|H Z 00020a|8
+no id|H Z 0000|10
+no id, and a key|H Z 0000 KEY|10
+an id of 65 bytes|H Z 0041 07*65 KEY|10
+an id of 256 bytes|H Z 0100 07*256 KEY|10";
 
 /// The same of keys.
-const KEYS: &[(&str, &[Piece], Option<Error>)] = &[
-    ("no key", &[Z, ID], Some(Error::BadKey)),
-    (
-        "a number for a key",
-        &[Z, ID, (&[0x18, 0x20], 0, 0)],
-        Some(Error::BadKey),
-    ),
-    (
-        "a key with a long head",
-        &[
-            Z,
-            ID,
-            (&[0xb8, 4], 0, 0),
-            (&[1, 1, 3, 0x27, 0x20, 6, 0x21, 0x58, 0x20], 0x11, 32),
-        ],
-        Some(Error::BadKey),
-    ),
-    ("EdDSA", &[Z, ID, KEY], None),
-    ("ES256", &[Z, ID, (E, 0x11, 32), (EY, 0x33, 32)], None),
-    ("an id of 64 bytes", &[Z, (&[0, 64], 7, 64), KEY], None),
-    (
-        "a byte behind the key",
-        &[Z, ID, KEY, (&[0], 0, 0)],
-        Some(Error::ExtraBytes),
-    ),
-    (
-        "ED before a bad id",
-        &[(&[0xc1, 0, 0, 0, 0], 0, 16), (&[0, 0], 0, 0)],
-        Some(Error::Extensions),
-    ),
-    (
-        "too short before ED",
-        &[(&[0xc1, 0, 0, 0, 0], 0, 0)],
-        Some(Error::Short),
-    ),
-];
+const KEYS: Table = "no key|H Z ID|11
+a number for a key|H Z ID 1820|11
+a key with a long head|H Z ID b804 010103272006215820 11*32|11
+EdDSA|H Z ID KEY
+ES256|H Z ID E 11*32 EY 33*32
+an id of 64 bytes|H Z 0040 07*64 KEY
+a byte behind the key|H Z ID KEY 00|12
+ED before a bad id|H c100000000 00*16 0000|9
+too short before ED|H c100000000|8";
 
 /// The same of ids and keys that are read.
-const WHOLE: &[(&str, &[Piece], Option<Error>)] = &[
-    ("an id of 16 bytes", &[Z, (&[0, 16], 7, 16), KEY], None),
-    ("an id of 17 bytes", &[Z, (&[0, 17], 7, 17), KEY], None),
-    ("an id of 32 bytes", &[Z, (&[0, 32], 7, 32), KEY], None),
-    ("an id of 63 bytes", &[Z, (&[0, 63], 7, 63), KEY], None),
-    (
-        "an id of 64 bytes, ES256",
-        &[Z, (&[0, 64], 7, 64), (E, 0, 32), (EY, 0, 32)],
-        None,
-    ),
-    ("x of zeros", &[Z, ID, (K, 0, 32)], None),
-];
+const WHOLE: Table = "an id of 16 bytes|H Z 0010 07*16 KEY
+an id of 17 bytes|H Z 0011 07*17 KEY
+an id of 32 bytes|H Z 0020 07*32 KEY
+an id of 63 bytes|H Z 003f 07*63 KEY
+an id of 64 bytes, ES256|H Z 0040 07*64 E 00*32 EY 00*32
+x of zeros|H Z ID K 00*32";
 
 /// The same of the hash alone and of long inputs.
-const LONG: &[(&str, &[Piece], Option<Error>)] = &[
-    ("the hash alone", &[], Some(Error::Short)),
-    (
-        "7,000 bytes behind the key",
-        &[Z, ID, KEY, (&[], 0, 7000)],
-        Some(Error::ExtraBytes),
-    ),
-    (
-        "7,000 bytes behind the counter",
-        &[(&[1, 0, 0, 0, 1], 0, 7000)],
-        Some(Error::ExtraBytes),
-    ),
-    (
-        "an id of 7,000 bytes",
-        &[Z, (&[0x1b, 0x58], 7, 7000), KEY],
-        Some(Error::BadId),
-    ),
-    (
-        "a long byte string for a key",
-        &[Z, ID, (&[0x59, 0x1b, 0x58], 7, 7000)],
-        Some(Error::BadKey),
-    ),
-    (
-        "an x of 256 bytes",
-        &[
-            Z,
-            ID,
-            (&[0xa4, 1, 1, 3, 0x27, 0x20, 6, 0x21, 0x59, 1, 0], 0x11, 256),
-        ],
-        Some(Error::BadKey),
-    ),
-];
+const LONG: Table = "the hash alone|H|8
+7,000 bytes behind the key|H Z ID KEY 00*7000|12
+7,000 bytes behind the counter|H 0100000001 00*7000|12
+an id of 7,000 bytes|H Z 1b58 07*7000 KEY|10
+a long byte string for a key|H Z ID 591b58 07*7000|11
+an x of 256 bytes|H Z ID a401010327200621590100 11*256|11";
 
-/// Why the bytes are refused, if they are; want of memory where the two readers differ, or where they are written
-/// otherwise than they were read.
-fn refusal(alloc: Global, bytes: &[u8]) -> Result<Option<Error>, AllocError> {
+/// The same of what is shorter than the hash.
+const SHORTER: Table = "no bytes||8
+31 bytes|ba7816bf8f01cfea414140de5dae2223b00361a396177a9cb410ff61f20015|8";
+
+/// The number of an error, 0 for want of memory.
+fn number_of(error: Error) -> usize {
+    match error.number() {
+        Some(number) => usize::from(number),
+        None => 0,
+    }
+}
+
+/// The number of the refusal of the bytes, if they are refused; 0 where the two readers differ, or where they are
+/// written otherwise than they were read.
+fn refusal(alloc: Global, bytes: &[u8]) -> Result<Option<usize>, AllocError> {
     let viewed = match read_view(bytes) {
         Ok(_) => None,
-        Err(error) => Some(error),
+        Err(error) => Some(number_of(error)),
     };
-    let found = match read(alloc, bytes) {
-        Ok(auth) => {
-            let written = write(alloc, &auth)?;
-            if written.as_slice() == bytes {
-                None
-            } else {
-                Some(Error::Memory)
-            }
+    let auth = match read(alloc, bytes) {
+        Ok(auth) => auth,
+        Err(error) => {
+            let found = Some(number_of(error));
+            return Ok(if found == viewed { found } else { Some(0) });
         }
-        Err(error) => Some(error),
     };
-    Ok(if found == viewed {
-        found
+    let is_written = write(alloc, &auth)?.as_slice() == bytes;
+    Ok(if is_written && viewed.is_none() {
+        None
     } else {
-        Some(Error::Memory)
+        Some(0)
     })
+}
+
+/// Whether no front of authenticator data with a credential is read.
+fn is_refused_cut(alloc: Global, bytes: &[u8]) -> Result<bool, AllocError> {
+    for n in 0..bytes.len() {
+        let wanted = if n < 56 { 8 } else { 11 };
+        if refusal(alloc, &bytes[..n])? != Some(wanted) {
+            return Ok(false);
+        }
+    }
+    Ok(true)
 }
 
 #[test]
 fn readings(rt: HostRuntime) -> Result<(), Fail> {
     let alloc = rt.alloc();
-    for table in [BARE, IDS, KEYS, WHOLE, LONG] {
-        for (name, pieces, refused) in table {
-            let bytes = joined(alloc, &H, pieces)?;
-            assert!(rt; refusal(alloc, &bytes)? == *refused, "{name}");
+    for table in [BARE, IDS, KEYS, WHOLE, LONG, SHORTER] {
+        for line in table.lines() {
+            let bytes = bytes_of(alloc, part(line, 1))?;
+            assert!(rt; refusal(alloc, &bytes)? == number(line, 2), "{line}");
         }
     }
-    for bytes in [&[], &H[..31]] {
-        assert!(rt; refusal(alloc, bytes)? == Some(Error::Short));
-    }
-    // Authenticator data with a credential, cut at each byte: no front of it is read.
-    for (pieces, len) in CUT {
-        let bytes = joined(alloc, &H, pieces)?;
-        assert!(rt; bytes.len() == *len);
-        for n in 0..bytes.len() {
-            let wanted = if n < 56 { Error::Short } else { Error::BadKey };
-            assert!(rt; refusal(alloc, &bytes[..n])? == Some(wanted), "{n}");
-        }
+    for line in CUT.lines() {
+        let bytes = bytes_of(alloc, part(line, 0))?;
+        let is_long = Some(bytes.len()) == number(line, 1);
+        assert!(rt; is_long && is_refused_cut(alloc, &bytes)?, "{line}");
     }
     Ok(())
 }
 
-/// Authenticator data with a credential, by its pieces behind H, and how many bytes they are.
-const CUT: &[(&[Piece], usize)] = &[
-    (&[Z, ID, KEY], 98),
-    (&[Z, ID, (E, 0x11, 32), (EY, 0x33, 32)], 133),
-];
+/// Authenticator data with a credential, and how many bytes they are.
+const CUT: Table = "H Z ID KEY|98
+H Z ID E 11*32 EY 33*32|133";
 
-/// A record each of whose members is another, behind the hash H.
-const FULL: &[Piece] = &[
-    (&[0x45, 1, 2, 3, 4], 0, 0),
-    (
-        &[
-            0xa0, 0xa1, 0xa2, 0xa3, 0xa4, 0xa5, 0xa6, 0xa7, 0xa8, 0xa9, 0xaa, 0xab, 0xac, 0xad,
-            0xae, 0xaf,
-        ],
-        0,
-        0,
-    ),
-    (&[0, 3, 0x0a, 0x0b, 0x0c], 0, 0),
-    (E, 0x55, 31),
-    (&[0x56], 0, 0),
-    (EY, 0x66, 31),
-    (&[0x67], 0, 0),
-];
+/// A record each of whose members is another.
+const FULL: &str =
+    "H 4501020304 a0a1a2a3a4a5a6a7a8a9aaabacadaeaf 00030a0b0c E 55*31 56 EY 66*31 67";
 
 const AAGUID: [u8; 16] = [
     0xa0, 0xa1, 0xa2, 0xa3, 0xa4, 0xa5, 0xa6, 0xa7, 0xa8, 0xa9, 0xaa, 0xab, 0xac, 0xad, 0xae, 0xaf,
@@ -306,9 +173,9 @@ fn shows(view: &AuthView<'_>, auth: &AuthData) -> bool {
         && view.sign_count == auth.sign_count
 }
 
-/// Whether the bytes behind the hash H are read and viewed as these members, and these written as them.
-fn is_record(alloc: Global, auth: &AuthData, pieces: &[Piece]) -> Result<bool, AllocError> {
-    let bytes = joined(alloc, &H, pieces)?;
+/// Whether the bytes are read and viewed as these members, and these written as them.
+fn is_record(alloc: Global, auth: &AuthData, words: &str) -> Result<bool, AllocError> {
+    let bytes = bytes_of(alloc, words)?;
     let Ok(viewed) = read_view(&bytes) else {
         return Ok(false);
     };
@@ -335,16 +202,17 @@ fn records(rt: HostRuntime) -> Result<(), Fail> {
         sign_count: 0xfffe_fdfc,
         attested: None,
     };
-    assert!(rt; is_record(alloc, &bare, &[(&[0x3f, 0xff, 0xfe, 0xfd, 0xfc], 0, 0)])?);
+    assert!(rt; is_record(alloc, &bare, "H 3ffffefdfc")?);
     Ok(())
 }
 
-/// Why flags are refused, if they are: `ED` is bit 7, and bit 4, `BS`, is set only with bit 3, `BE`.
-fn refused_flags(flags: u8) -> Option<Error> {
+/// The number of the refusal of flags, if they are refused: 9 where bit 7, `ED`, is set, 28 where bit 4, `BS`, is set
+/// without bit 3, `BE`.
+fn refused_flags(flags: u8) -> Option<usize> {
     if 128 <= flags {
-        Some(Error::Extensions)
+        Some(9)
     } else if flags / 16 % 2 == 1 && flags / 8 % 2 == 0 {
-        Some(Error::BadBackup)
+        Some(28)
     } else {
         None
     }
@@ -358,8 +226,8 @@ fn is_answered(alloc: Global, flags: u8, rest: &[u8], is_full: bool) -> Result<b
     bytes.extend_from_slice(rest)?;
     let has_credential = flags / 64 % 2 == 1;
     let wanted = match refused_flags(flags) {
-        _ if has_credential && !is_full => Some(Error::Short),
-        None if is_full && !has_credential => Some(Error::ExtraBytes),
+        _ if has_credential && !is_full => Some(8),
+        None if is_full && !has_credential => Some(12),
         refused => refused,
     };
     Ok(match read(alloc, &bytes) {
@@ -376,7 +244,7 @@ fn is_answered(alloc: Global, flags: u8, rest: &[u8], is_full: bool) -> Result<b
 #[test]
 fn every_flags(rt: HostRuntime) -> Result<(), Fail> {
     let alloc = rt.alloc();
-    let credential = joined(alloc, &[], &[(&[], 0, 16), ID, KEY])?;
+    let credential = bytes_of(alloc, "00*16 ID KEY")?;
     for byte in 0..=255u8 {
         assert!(rt; is_answered(alloc, byte, &[], false)?, "{byte}");
         assert!(rt; is_answered(alloc, byte, &credential, true)?, "{byte}");

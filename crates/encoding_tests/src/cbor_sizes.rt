@@ -2,49 +2,36 @@
 //! as a message of CTAPHID can be, 7,609 bytes: each call answers with ample memory.
 
 use crate::cbor_decoding::is_refused;
-use crate::pieces::joined;
+use crate::pieces::{Table, bytes_of, part};
 use ccbor::{Error, Value, View, decode, decode_all, encode};
 use std::alloc::{AllocError, Global};
 use std::test::Fail;
 
-/// A number n, the first byte of its head as an unsigned number, and the rest of the head.
-const NUMBERS: &[(u64, u8, &[u8])] = &[
-    (0, 0x00, b""),
-    (1, 0x01, b""),
-    (23, 0x17, b""),
-    (24, 0x18, b"\x18"),
-    (255, 0x18, b"\xff"),
-    (256, 0x19, b"\x01\0"),
-    (65535, 0x19, b"\xff\xff"),
-    (65536, 0x1a, b"\0\x01\0\0"),
-    (4294967295, 0x1a, b"\xff\xff\xff\xff"),
-    (4294967296, 0x1b, b"\0\0\0\x01\0\0\0\0"),
-    (
-        9223372036854775807,
-        0x1b,
-        b"\x7f\xff\xff\xff\xff\xff\xff\xff",
-    ),
-    (9223372036854775808, 0x1b, b"\x80\0\0\0\0\0\0\0"),
-    (
-        18446744073709551615,
-        0x1b,
-        b"\xff\xff\xff\xff\xff\xff\xff\xff",
-    ),
-];
+/// A number, and its head as an unsigned number.
+const NUMBERS: Table = "0|00
+1|01
+23|17
+24|1818
+255|18ff
+256|190100
+65535|19ffff
+65536|1a00010000
+4294967295|1affffffff
+4294967296|1b0000000100000000
+9223372036854775807|1b7fffffffffffffff
+9223372036854775808|1b8000000000000000
+18446744073709551615|1bffffffffffffffff";
 
-/// How many bytes, items or pairs, the first byte of the head of that number, and the rest of the
-/// head.
-const COUNTS: &[(usize, u8, &[u8])] = &[
-    (1, 0x01, b""),
-    (23, 0x17, b""),
-    (24, 0x18, b"\x18"),
-    (255, 0x18, b"\xff"),
-    (256, 0x19, b"\x01\0"),
-    (1024, 0x19, b"\x04\0"),
-    (7606, 0x19, b"\x1d\xb6"),
-    (65535, 0x19, b"\xff\xff"),
-    (65536, 0x1a, b"\0\x01\0\0"),
-];
+/// How many bytes, items or pairs, and the head of that number.
+const COUNTS: Table = "1|01
+23|17
+24|1818
+255|18ff
+256|190100
+1024|190400
+7606|191db6
+65535|19ffff
+65536|1a00010000";
 
 /// The major type of negative numbers in the first byte of a head.
 const NEGATIVE: u8 = 0x20;
@@ -178,21 +165,30 @@ fn push_pair(bytes: &mut Vec<u8>, key: u16) -> Result<(), AllocError> {
     }
 }
 
+/// The head of these words with another major type in its first byte.
+fn headed(alloc: Global, words: &str, major: u8) -> Result<Vec<u8>, AllocError> {
+    let mut bytes = bytes_of(alloc, words)?;
+    if let Some(first) = bytes.first_mut() {
+        *first |= major;
+    }
+    Ok(bytes)
+}
+
 /// The head, and what is counted behind it.
 fn counted_bytes(
     alloc: Global,
-    head: (u8, &'static [u8]),
+    words: &str,
     kind: &(Counted, u8, u8),
     count: usize,
 ) -> Result<Vec<u8>, AllocError> {
     let (counted, major, byte) = *kind;
-    let front = [head.0 | major];
-    if !matches!(counted, Counted::Pairs) {
-        return joined(alloc, &front, &[(head.1, byte, count)]);
-    }
-    let mut bytes = joined(alloc, &front, &[(head.1, 0, 0)])?;
+    let mut bytes = headed(alloc, words, major)?;
     for n in 0..count {
-        push_pair(&mut bytes, (n % 65536) as u16)?;
+        if matches!(counted, Counted::Pairs) {
+            push_pair(&mut bytes, (n % 65536) as u16)?;
+        } else {
+            bytes.push(byte)?;
+        }
     }
     Ok(bytes)
 }
@@ -200,24 +196,19 @@ fn counted_bytes(
 #[test]
 fn borders(rt: HostRuntime) -> Result<(), Fail> {
     let alloc = rt.alloc();
-    for &(number, first, rest) in NUMBERS {
+    for line in NUMBERS.lines() {
+        let number = part(line, 0).parse().unwrap_or(9);
         for (major, negative) in [(0, false), (NEGATIVE, true)] {
-            let bytes = joined(alloc, &[first | major], &[(rest, 0, 0)])?;
-            assert!(rt;
-                is_number(alloc, &bytes, number, negative),
-                "{number} {negative}"
-            );
+            let bytes = headed(alloc, part(line, 1), major)?;
+            assert!(rt; is_number(alloc, &bytes, number, negative), "{line}");
         }
     }
-    for &(count, first, rest) in COUNTS {
+    for line in COUNTS.lines() {
+        let count = part(line, 0).parse().unwrap_or(0);
         for kind in KINDS {
-            let bytes = counted_bytes(alloc, (first, rest), kind, count)?;
+            let bytes = counted_bytes(alloc, part(line, 1), kind, count)?;
             let is_counted = is_counted(alloc, &bytes, kind.0, count);
-            assert!(rt;
-                is_counted && ends_there(alloc, bytes)?,
-                "{count} of {}",
-                kind.1
-            );
+            assert!(rt; is_counted && ends_there(alloc, bytes)?, "{line}");
         }
     }
     Ok(())
@@ -235,44 +226,14 @@ fn is_unfit(alloc: Global, count: u64) -> Result<bool, AllocError> {
     Ok(matches!(answer, Err(Error::Unfit)) && out.is_empty())
 }
 
-/// A fault behind a long front: the head, one byte so many times, and the bytes of the fault.
-const FAULTS: &[(&str, u8, &[u8], u8, usize, &[u8])] = &[
-    ("null behind 23 items", 0x98, b"\x18", 1, 23, b"\xf6"),
-    ("a tag behind 255 items", 0x99, b"\x01\0", 1, 255, b"\xc0\0"),
-    (
-        "a long head behind 7605 items",
-        0x99,
-        b"\x1d\xb6",
-        1,
-        7605,
-        b"\x18\x17",
-    ),
-    (
-        "no UTF-8 behind 7605 letters",
-        0x79,
-        b"\x1d\xb6",
-        0x61,
-        7605,
-        b"\xff",
-    ),
-    (
-        "a byte less than 7606",
-        0x59,
-        b"\x1d\xb6",
-        0x61,
-        7604,
-        b"\x61",
-    ),
-    (
-        "five deep behind 300 items",
-        0x99,
-        b"\x01\x2d",
-        0x80,
-        300,
-        b"\x81\x81\x81\x80",
-    ),
-    ("equal keys", 0xb9, b"\x01\0", 1, 512, b""),
-];
+/// A fault behind a long front.
+const FAULTS: Table = "null behind 23 items|9818 01*23 f6
+a tag behind 255 items|990100 01*255 c000
+a long head behind 7605 items|991db6 01*7605 1817
+no UTF-8 behind 7605 letters|791db6 61*7605 ff
+a byte less than 7606|591db6 61*7604 61
+five deep behind 300 items|99012d 80*300 81818180
+equal keys|b90100 01*512";
 
 #[test]
 fn large_values_without_encoding(rt: HostRuntime) -> Result<(), Fail> {
@@ -280,9 +241,9 @@ fn large_values_without_encoding(rt: HostRuntime) -> Result<(), Fail> {
     for count in [1, 24, 256, 4000] {
         assert!(rt; is_unfit(alloc, count)?, "{count}");
     }
-    for &(name, first, rest, byte, count, fault) in FAULTS {
-        let bytes = joined(alloc, &[first], &[(rest, byte, count), (fault, 0, 0)])?;
-        assert!(rt; is_refused(alloc, &bytes), "{name}");
+    for line in FAULTS.lines() {
+        let bytes = bytes_of(alloc, part(line, 1))?;
+        assert!(rt; is_refused(alloc, &bytes), "{line}");
     }
     Ok(())
 }

@@ -1,410 +1,125 @@
 //! What is read of client data (WebAuthn Level 2, section 5.8.1). The expected values are written by
 //! hand, by RFC 8259 and WebAuthn.
 
-use crate::pieces::{Piece, joined};
-use clientdata::{Binding, Error, Kind, read};
-use std::alloc::Global;
+use crate::pieces::{Table, bytes_of, part};
+use clientdata::{Binding, Error, Kind, Seen, read};
+use std::alloc::{AllocError, Global};
 use std::test::Fail;
 
-/// What is read: type, challenge, origin and token binding; or nothing.
-type Wanted = Option<(&'static str, &'static str, &'static str, Binding)>;
+/// What an input is for, the input, and what is read, if it can be: type, challenge, origin and token binding, which is
+/// 0 for none, 1 for `supported` and 2 for another. Here behind the members `type`, `challenge` and `origin`.
+const MEMBERS: Table = r#"the three members|'{"type":"x","challenge":"c","origin":"o"}|'x|'c|'o|0
+cross-origin|'{"type":"x","challenge":"c","origin":"o","crossOrigin":true}|'x|'c|'o|0
+crossOrigin isn't tested|'{"type":"x","challenge":"c","origin":"o","crossOrigin":"perhaps"}|'x|'c|'o|0
+an unknown member|'{"type":"x","challenge":"c","origin":"o","y":[1,{"type":"z"}]}|'x|'c|'o|0
+a name written by an escape|'{"type":"x","challenge":"c","origin":"o","typ\u0065":"z"}|'z|'c|'o|0
+the last of equal members|'{"type":"x","challenge":"c","origin":"o","origin":"p"}|'x|'c|'p|0
+the last of equal members is no text|'{"type":"x","challenge":"c","origin":"o","origin":1}
+names differ by case|'{"type":"x","challenge":"c","origin":"o","Type":1}|'x|'c|'o|0
+escapes|'{"type":"x","challenge":"c","origin":"o","type":"\"\\\/\n\u00e9\ud83d\ude00"}|'"\/ 0a 'é😀|'c|'o|0
+white space|'{"type":"x","challenge":"c","origin":"o" 20090d0a ', 20 '"y" 20 ': 20 '[ 20 '] 20 '}|'x|'c|'o|0
+a form feed is no white space|'{"type":"x","challenge":"c","origin":"o" 0c '}
+a control character in a text|'{"type":"x","challenge":"c","origin":"o","y":" 01 '"}
+U+007F in a text|'{"type":"x","challenge":"c","origin":"o","y":" 7f '"}|'x|'c|'o|0
+a lone high surrogate|'{"type":"x","challenge":"c","origin":"o","y":"\ud800"}
+a lone low surrogate|'{"type":"x","challenge":"c","origin":"o","y":"\udc00"}
+an unknown escape|'{"type":"x","challenge":"c","origin":"o","y":"\x"}
+a number out of range|'{"type":"x","challenge":"c","origin":"o","y":1e999}
+a tiny number|'{"type":"x","challenge":"c","origin":"o","y":1e-999}|'x|'c|'o|0
+a long integer|'{"type":"x","challenge":"c","origin":"o","y":123456789012345678901234567890}|'x|'c|'o|0
+a leading zero|'{"type":"x","challenge":"c","origin":"o","y":01}
+a comma at the end|'{"type":"x","challenge":"c","origin":"o",}
+bytes after the object|'{"type":"x","challenge":"c","origin":"o"}x}
+supported|'{"type":"x","challenge":"c","origin":"o","tokenBinding":{"status":"supported"}}|'x|'c|'o|1
+with an id|'{"type":"x","challenge":"c","origin":"o","tokenBinding":{"id":"i","status":"supported"}}|'x|'c|'o|1
+by an escape|'{"type":"x","challenge":"c","origin":"o","tokenBinding":{"status":"support\u0065d"}}|'x|'c|'o|1
+present|'{"type":"x","challenge":"c","origin":"o","tokenBinding":{"status":"present","id":"i"}}|'x|'c|'o|2
+an unknown status|'{"type":"x","challenge":"c","origin":"o","tokenBinding":{"status":"Supported"}}|'x|'c|'o|2
+a status that is no text|'{"type":"x","challenge":"c","origin":"o","tokenBinding":{"status":1}}|'x|'c|'o|2
+no status|'{"type":"x","challenge":"c","origin":"o","tokenBinding":{}}|'x|'c|'o|2
+null|'{"type":"x","challenge":"c","origin":"o","tokenBinding":null}|'x|'c|'o|2
+a text as token binding|'{"type":"x","challenge":"c","origin":"o","tokenBinding":"supported"}|'x|'c|'o|2
+the last binding|'{"type":"x","challenge":"c","origin":"o","tokenBinding":{"status":"supported"},"tokenBinding":1}|'x|'c|'o|2
+a bound id of another status|'{"type":"x","challenge":"c","origin":"o","tokenBinding":{"id":"supported"}}|'x|'c|'o|2
+a longer status|'{"type":"x","challenge":"c","origin":"o","tokenBinding":{"status":"supported 20 '"}}|'x|'c|'o|2
+token binding by another name|'{"type":"x","challenge":"c","origin":"o","tokenbinding":{"status":"supported"}}|'x|'c|'o|0"#;
 
-/// The members x, c and o, and no token binding.
-const PLAIN: Wanted = Some(("x", "c", "o", Binding::Absent));
-
-/// What follows the members `type`, `challenge` and `origin`, and what is read.
-const MEMBERS: &[(&str, &str, Wanted)] = &[
-    (
-        "the three members",
-        "",
-        Some(("x", "c", "o", Binding::Absent)),
-    ),
-    (
-        "cross-origin",
-        r#","crossOrigin":true"#,
-        Some(("x", "c", "o", Binding::Absent)),
-    ),
-    (
-        "crossOrigin isn't tested",
-        r#","crossOrigin":"perhaps""#,
-        Some(("x", "c", "o", Binding::Absent)),
-    ),
-    (
-        "an unknown member",
-        r#","y":[1,{"type":"z"}]"#,
-        Some(("x", "c", "o", Binding::Absent)),
-    ),
-    (
-        "a name written by an escape",
-        r#","typ\u0065":"z""#,
-        Some(("z", "c", "o", Binding::Absent)),
-    ),
-    (
-        "the last of equal members",
-        r#","origin":"p""#,
-        Some(("x", "c", "p", Binding::Absent)),
-    ),
-    (
-        "the last of equal members is no text",
-        r#","origin":1"#,
-        None,
-    ),
-    (
-        "names differ by case",
-        r#","Type":1"#,
-        Some(("x", "c", "o", Binding::Absent)),
-    ),
-    (
-        "escapes",
-        r#","type":"\"\\\/\n\u00e9\ud83d\ude00""#,
-        Some(("\"\\/\né😀", "c", "o", Binding::Absent)),
-    ),
-    (
-        "white space",
-        " \t\r\n, \"y\" : [ ] ",
-        Some(("x", "c", "o", Binding::Absent)),
-    ),
-    ("a form feed is no white space", "\u{c}", None),
-    ("a control character in a text", ",\"y\":\"\u{1}\"", None),
-    (
-        "U+007F in a text",
-        ",\"y\":\"\u{7f}\"",
-        Some(("x", "c", "o", Binding::Absent)),
-    ),
-    ("a lone high surrogate", r#","y":"\ud800""#, None),
-    ("a lone low surrogate", r#","y":"\udc00""#, None),
-    ("an unknown escape", r#","y":"\x""#, None),
-    ("a number out of range", r#","y":1e999"#, None),
-    (
-        "a tiny number",
-        r#","y":1e-999"#,
-        Some(("x", "c", "o", Binding::Absent)),
-    ),
-    (
-        "a long integer",
-        r#","y":123456789012345678901234567890"#,
-        Some(("x", "c", "o", Binding::Absent)),
-    ),
-    ("a leading zero", r#","y":01"#, None),
-    ("a comma at the end", ",", None),
-    ("bytes after the object", "}x", None),
-    (
-        "supported",
-        r#","tokenBinding":{"status":"supported"}"#,
-        Some(("x", "c", "o", Binding::Supported)),
-    ),
-    (
-        "with an id",
-        r#","tokenBinding":{"id":"i","status":"supported"}"#,
-        Some(("x", "c", "o", Binding::Supported)),
-    ),
-    (
-        "by an escape",
-        r#","tokenBinding":{"status":"support\u0065d"}"#,
-        Some(("x", "c", "o", Binding::Supported)),
-    ),
-    (
-        "present",
-        r#","tokenBinding":{"status":"present","id":"i"}"#,
-        Some(("x", "c", "o", Binding::Other)),
-    ),
-    (
-        "an unknown status",
-        r#","tokenBinding":{"status":"Supported"}"#,
-        Some(("x", "c", "o", Binding::Other)),
-    ),
-    (
-        "a status that is no text",
-        r#","tokenBinding":{"status":1}"#,
-        Some(("x", "c", "o", Binding::Other)),
-    ),
-    (
-        "no status",
-        r#","tokenBinding":{}"#,
-        Some(("x", "c", "o", Binding::Other)),
-    ),
-    (
-        "null",
-        r#","tokenBinding":null"#,
-        Some(("x", "c", "o", Binding::Other)),
-    ),
-    (
-        "a text as token binding",
-        r#","tokenBinding":"supported""#,
-        Some(("x", "c", "o", Binding::Other)),
-    ),
-    (
-        "the last binding",
-        r#","tokenBinding":{"status":"supported"},"tokenBinding":1"#,
-        Some(("x", "c", "o", Binding::Other)),
-    ),
-    (
-        "a bound id of another status",
-        r#","tokenBinding":{"id":"supported"}"#,
-        Some(("x", "c", "o", Binding::Other)),
-    ),
-    (
-        "a longer status",
-        r#","tokenBinding":{"status":"supported "}"#,
-        Some(("x", "c", "o", Binding::Other)),
-    ),
-    (
-        "token binding by another name",
-        r#","tokenbinding":{"status":"supported"}"#,
-        Some(("x", "c", "o", Binding::Absent)),
-    ),
-];
-
-/// Whether this is read of the bytes, or they are unreadable.
-fn is_read(alloc: Global, bytes: &[u8], wanted: Wanted) -> bool {
-    match read(alloc, bytes) {
-        Ok(seen) => match wanted {
-            Some((kind, challenge, origin, binding)) => {
-                seen.kind.as_str() == kind
-                    && seen.challenge.as_str() == challenge
-                    && seen.origin.as_str() == origin
-                    && seen.binding == binding
-            }
-            None => false,
-        },
-        Err(Error::Unreadable) => wanted.is_none(),
-        Err(Error::Memory) => false,
-    }
-}
-
-/// Whole inputs in pieces, and what is read.
-const WHOLE: &[(&str, &[Piece], Wanted)] = &[
-    (
-        "empty texts",
-        &[(br#"{"type":"x","challenge":"","origin":""}"#, 0, 0)],
-        Some(("x", "", "", Binding::Absent)),
-    ),
-    (
-        "empty texts, present",
-        &[(
-            br#"{"type":"x","challenge":"","origin":"","tokenBinding":{"status":"present"}}"#,
-            0,
-            0,
-        )],
-        Some(("x", "", "", Binding::Other)),
-    ),
-    (
-        "empty texts, supported",
-        &[(
-            br#"{"type":"x","challenge":"","origin":"","tokenBinding":{"status":"supported"}}"#,
-            0,
-            0,
-        )],
-        Some(("x", "", "", Binding::Supported)),
-    ),
-    (
-        "another order",
-        &[(
-            b" {\"origin\":\"o\",\"type\":\"x\",\"challenge\":\"c\"}\n",
-            0,
-            0,
-        )],
-        Some(("x", "c", "o", Binding::Absent)),
-    ),
-    ("nothing", &[(b"", 0, 0)], None),
-    ("an array", &[(b"[]", 0, 0)], None),
-    ("a text", &[(b"\"type\"", 0, 0)], None),
-    ("no members", &[(b"{}", 0, 0)], None),
-    (
-        "no type",
-        &[(br#"{"challenge":"","origin":""}"#, 0, 0)],
-        None,
-    ),
-    (
-        "no challenge",
-        &[(br#"{"type":"","origin":""}"#, 0, 0)],
-        None,
-    ),
-    (
-        "no origin",
-        &[(br#"{"type":"x","challenge":""}"#, 0, 0)],
-        None,
-    ),
-    (
-        "a type that is no text",
-        &[(br#"{"type":1,"challenge":"","origin":""}"#, 0, 0)],
-        None,
-    ),
-    (
-        "a challenge that is no text",
-        &[(br#"{"type":"x","challenge":null,"origin":""}"#, 0, 0)],
-        None,
-    ),
-    (
-        "an origin that is no text",
-        &[(br#"{"type":"x","challenge":"","origin":["o"]}"#, 0, 0)],
-        None,
-    ),
-];
+/// The same of whole inputs.
+const WHOLE: Table = r#"empty texts|'{"type":"x","challenge":"","origin":""}|'x|||0
+empty texts, present|'{"type":"x","challenge":"","origin":"","tokenBinding":{"status":"present"}}|'x|||2
+empty texts, supported|'{"type":"x","challenge":"","origin":"","tokenBinding":{"status":"supported"}}|'x|||1
+another order|20 '{"origin":"o","type":"x","challenge":"c"} 0a|'x|'c|'o|0
+nothing|
+an array|'[]
+a text|'"type"
+no members|'{}
+no type|'{"challenge":"","origin":""}
+no challenge|'{"type":"","origin":""}
+no origin|'{"type":"x","challenge":""}
+a type that is no text|'{"type":1,"challenge":"","origin":""}
+a challenge that is no text|'{"type":"x","challenge":null,"origin":""}
+an origin that is no text|'{"type":"x","challenge":"","origin":["o"]}"#;
 
 /// The same of bytes that are no UTF-8, and of marks.
-const BYTES: &[(&str, &[Piece], Wanted)] = &[
-    (
-        "a byte order mark",
-        &[(
-            b"\xef\xbb\xbf{\"type\":\"x\",\"challenge\":\"\",\"origin\":\"\"}",
-            0,
-            0,
-        )],
-        None,
-    ),
-    ("no UTF-8", &[(b"\xff", 0, 0)], None),
-    (
-        "no UTF-8 in a text",
-        &[(
-            b"{\"type\":\"\xc3\x28\",\"challenge\":\"\",\"origin\":\"\"}",
-            0,
-            0,
-        )],
-        None,
-    ),
-    (
-        "a surrogate's bytes",
-        &[(
-            b"{\"type\":\"\xed\xa0\x80\",\"challenge\":\"\",\"origin\":\"\"}",
-            0,
-            0,
-        )],
-        None,
-    ),
-    (
-        "cut",
-        &[(br#"{"type":"x","challenge":"","origin":"""#, 0, 0)],
-        None,
-    ),
-    (
-        "each member another",
-        &[(
-            br#"{"type":"webauthn.get","challenge":"AAEC","origin":"https://a.example","crossOrigin":true,"tokenBinding":{"status":"supported"}}"#,
-            0,
-            0,
-        )],
-        Some((
-            "webauthn.get",
-            "AAEC",
-            "https://a.example",
-            Binding::Supported,
-        )),
-    ),
-    (
-        "a mark inside",
-        &[(
-            b"{\"type\":\"\xef\xbb\xbf\",\"challenge\":\"\",\"origin\":\"\"}",
-            0,
-            0,
-        )],
-        Some(("\u{feff}", "", "", Binding::Absent)),
-    ),
-    (
-        "NUL by an escape",
-        &[(br#"{"type":"a\u0000b","challenge":"","origin":""}"#, 0, 0)],
-        Some(("a\0b", "", "", Binding::Absent)),
-    ),
-];
+const BYTES: Table = r#"a byte order mark|efbbbf '{"type":"x","challenge":"","origin":""}
+no UTF-8|ff
+no UTF-8 in a text|'{"type":" c328 '","challenge":"","origin":""}
+a surrogate's bytes|'{"type":" eda080 '","challenge":"","origin":""}
+cut|'{"type":"x","challenge":"","origin":""
+each member another|'{"type":"webauthn.get","challenge":"AAEC","origin":"https://a.example","crossOrigin":true,"tokenBinding":{"status":"supported"}}|'webauthn.get|'AAEC|'https://a.example|1
+a mark inside|'{"type":" efbbbf '","challenge":"","origin":""}|efbbbf|||0
+NUL by an escape|'{"type":"a\u0000b","challenge":"","origin":""}|'a 00 'b|||0"#;
 
 /// The same of long inputs.
-const LONG: &[(&str, &[Piece], Wanted)] = &[
-    (
-        "126 arrays in an object",
-        &[
-            (
-                br#"{"type":"x","challenge":"c","origin":"o","y":"#,
-                b'[',
-                126,
-            ),
-            (b"", b']', 126),
-            (b"}", 0, 0),
-        ],
-        PLAIN,
-    ),
-    (
-        "127 arrays in an object",
-        &[
-            (
-                br#"{"type":"x","challenge":"c","origin":"o","y":"#,
-                b'[',
-                127,
-            ),
-            (b"", b']', 127),
-            (b"}", 0, 0),
-        ],
-        None,
-    ),
-    (
-        "a member of 70,000 letters",
-        &[
-            (
-                br#"{"type":"x","challenge":"c","origin":"o","y":""#,
-                b'a',
-                70000,
-            ),
-            (b"\"}", 0, 0),
-        ],
-        PLAIN,
-    ),
-    (
-        "70,000 spaces behind",
-        &[(br#"{"type":"x","challenge":"c","origin":"o"}"#, b' ', 70000)],
-        PLAIN,
-    ),
-    (
-        "70,000 letters, not ended",
-        &[(
-            br#"{"type":"x","challenge":"c","origin":"o","y":""#,
-            b'a',
-            70000,
-        )],
-        None,
-    ),
-    (
-        "70,000 letters and no UTF-8",
-        &[
-            (
-                br#"{"type":"x","challenge":"c","origin":"o","y":""#,
-                b'a',
-                70000,
-            ),
-            (b"\xff\"}", 0, 0),
-        ],
-        None,
-    ),
-];
+const LONG: Table =
+    r#"126 arrays in an object|'{"type":"x","challenge":"c","origin":"o","y": 5b*126 5d*126 '}|'x|'c|'o|0
+127 arrays in an object|'{"type":"x","challenge":"c","origin":"o","y": 5b*127 5d*127 '}
+a member of 70,000 letters|'{"type":"x","challenge":"c","origin":"o","y":" 61*70000 '"}|'x|'c|'o|0
+70,000 spaces behind|'{"type":"x","challenge":"c","origin":"o"} 20*70000|'x|'c|'o|0
+70,000 letters, not ended|'{"type":"x","challenge":"c","origin":"o","y":" 61*70000
+70,000 letters and no UTF-8|'{"type":"x","challenge":"c","origin":"o","y":" 61*70000 ff '"}"#;
 
-/// Whether an origin of one letter so many times is read.
-fn is_long_origin(alloc: Global, bytes: &[u8], count: usize) -> bool {
-    match read(alloc, bytes) {
-        Ok(seen) => seen.origin.as_str().len() == count && seen.challenge.as_str() == "c",
-        Err(_) => false,
+/// The same of long origins.
+const ORIGINS: Table =
+    r#"255 letters of an origin|'{"type":"x","challenge":"c","origin":" 61*255 '"}|'x|'c|61*255|0
+256 letters of an origin|'{"type":"x","challenge":"c","origin":" 61*256 '"}|'x|'c|61*256|0
+7609 letters of an origin|'{"type":"x","challenge":"c","origin":" 61*7609 '"}|'x|'c|61*7609|0
+65536 letters of an origin|'{"type":"x","challenge":"c","origin":" 61*65536 '"}|'x|'c|61*65536|0"#;
+
+/// Whether this is read that the line says.
+fn is_seen(alloc: Global, seen: &Seen, line: &str) -> Result<bool, AllocError> {
+    let kind = bytes_of(alloc, part(line, 2))?;
+    let challenge = bytes_of(alloc, part(line, 3))?;
+    let origin = bytes_of(alloc, part(line, 4))?;
+    let binding = match seen.binding {
+        Binding::Absent => "0",
+        Binding::Supported => "1",
+        Binding::Other => "2",
+    };
+    Ok(
+        seen.kind.as_str().as_bytes() == kind.as_slice()
+            && seen.challenge.as_str().as_bytes() == challenge.as_slice()
+            && seen.origin.as_str().as_bytes() == origin.as_slice()
+            && binding == part(line, 5),
+    )
+}
+
+/// Whether what the line says is read of its bytes, or they are unreadable where it says nothing.
+fn is_read(alloc: Global, line: &str) -> Result<bool, AllocError> {
+    let bytes = bytes_of(alloc, part(line, 1))?;
+    match read(alloc, &bytes) {
+        Ok(seen) => is_seen(alloc, &seen, line),
+        Err(Error::Unreadable) => Ok(part(line, 5).is_empty()),
+        Err(Error::Memory) => Err(AllocError),
     }
 }
 
 #[test]
 fn readings(rt: HostRuntime) -> Result<(), Fail> {
-    let alloc = rt.alloc();
-    for &(name, members, wanted) in MEMBERS {
-        let behind: [Piece; 2] = [(members.as_bytes(), 0, 0), (b"}", 0, 0)];
-        let bytes = joined(
-            alloc,
-            br#"{"type":"x","challenge":"c","origin":"o""#,
-            &behind,
-        )?;
-        assert!(rt; is_read(alloc, &bytes, wanted), "{name}");
-    }
-    for table in [WHOLE, BYTES, LONG] {
-        for &(name, pieces, wanted) in table {
-            let bytes = joined(alloc, &[], pieces)?;
-            assert!(rt; is_read(alloc, &bytes, wanted), "{name}");
+    for table in [MEMBERS, WHOLE, BYTES, LONG, ORIGINS] {
+        for line in table.lines() {
+            assert!(rt; is_read(rt.alloc(), line)?, "{line}");
         }
-    }
-    for count in [255, 256, 7609, 65536] {
-        let front: Piece = (br#"{"type":"x","challenge":"c","origin":""#, b'a', count);
-        let bytes = joined(alloc, &[], &[front, (b"\"}", 0, 0)])?;
-        assert!(rt; is_long_origin(alloc, &bytes, count), "{count}");
     }
     Ok(())
 }

@@ -2,20 +2,27 @@
 //! RFC 9053, sections 2 and 7.
 
 use crate::made::{Leaf, Made, made_value};
-use crate::pieces::{Piece, joined};
+use crate::pieces::{Table, bytes_of, part};
 use ccbor::{decode_all, encode};
 use cose::{Alg, CoseKey, NotAKey};
 use std::alloc::{AllocError, Global};
 use std::test::Fail;
 
-/// What a key is for, its encoding, the key, and how many bytes the encoding has.
-const KEYS: &[(&str, &[Piece], CoseKey, usize)] = &[
+/// Each byte from 0 to 31, and 16 bytes from 128 and from 240 on.
+const LOW: [u8; 32] = [
+    0, 1, 2, 3, 4, 5, 6, 7, 8, 9, 10, 11, 12, 13, 14, 15, 16, 17, 18, 19, 20, 21, 22, 23, 24, 25,
+    26, 27, 28, 29, 30, 31,
+];
+
+const HIGH: [u8; 32] = [
+    128, 129, 130, 131, 132, 133, 134, 135, 136, 137, 138, 139, 140, 141, 142, 143, 240, 241, 242,
+    243, 244, 245, 246, 247, 248, 249, 250, 251, 252, 253, 254, 255,
+];
+
+/// An encoding, the key, and how many bytes the encoding has.
+const KEYS: &[(&str, CoseKey, usize)] = &[
     (
-        "ES256",
-        &[
-            (&[0xa5, 1, 2, 3, 0x26, 0x20, 1, 0x21, 0x58, 0x20], 0x22, 32),
-            (&[0x22, 0x58, 0x20], 0x33, 32),
-        ],
+        "a5010203262001215820 22*32 225820 33*32",
         CoseKey::Es256 {
             x: [0x22; 32],
             y: [0x33; 32],
@@ -23,17 +30,12 @@ const KEYS: &[(&str, &[Piece], CoseKey, usize)] = &[
         77,
     ),
     (
-        "EdDSA",
-        &[(&[0xa4, 1, 1, 3, 0x27, 0x20, 6, 0x21, 0x58, 0x20], 0x11, 32)],
+        "a4010103272006215820 11*32",
         CoseKey::EdDsa { x: [0x11; 32] },
         42,
     ),
     (
-        "ES256, coordinates of zeros",
-        &[
-            (&[0xa5, 1, 2, 3, 0x26, 0x20, 1, 0x21, 0x58, 0x20], 0, 32),
-            (&[0x22, 0x58, 0x20], 0, 32),
-        ],
+        "a5010203262001215820 00*32 225820 00*32",
         CoseKey::Es256 {
             x: [0; 32],
             y: [0; 32],
@@ -41,273 +43,65 @@ const KEYS: &[(&str, &[Piece], CoseKey, usize)] = &[
         77,
     ),
     (
-        "EdDSA, x of zeros",
-        &[(&[0xa4, 1, 1, 3, 0x27, 0x20, 6, 0x21, 0x58, 0x20], 0, 32)],
+        "a4010103272006215820 00*32",
         CoseKey::EdDsa { x: [0; 32] },
         42,
     ),
     (
-        "ES256, each byte another",
-        &[
-            (&[0xa5, 1, 2, 3, 0x26, 0x20, 1, 0x21, 0x58, 0x20], 0, 0),
-            (
-                &[
-                    0x00, 0x01, 0x02, 0x03, 0x04, 0x05, 0x06, 0x07, 0x08, 0x09, 0x0a, 0x0b, 0x0c,
-                    0x0d, 0x0e, 0x0f, 0x10, 0x11, 0x12, 0x13, 0x14, 0x15, 0x16, 0x17, 0x18, 0x19,
-                    0x1a, 0x1b, 0x1c, 0x1d, 0x1e, 0x1f,
-                ],
-                0,
-                0,
-            ),
-            (&[0x22, 0x58, 0x20], 0, 0),
-            (
-                &[
-                    0x80, 0x81, 0x82, 0x83, 0x84, 0x85, 0x86, 0x87, 0x88, 0x89, 0x8a, 0x8b, 0x8c,
-                    0x8d, 0x8e, 0x8f, 0xf0, 0xf1, 0xf2, 0xf3, 0xf4, 0xf5, 0xf6, 0xf7, 0xf8, 0xf9,
-                    0xfa, 0xfb, 0xfc, 0xfd, 0xfe, 0xff,
-                ],
-                0,
-                0,
-            ),
-        ],
-        CoseKey::Es256 {
-            x: [
-                0, 1, 2, 3, 4, 5, 6, 7, 8, 9, 10, 11, 12, 13, 14, 15, 16, 17, 18, 19, 20, 21, 22,
-                23, 24, 25, 26, 27, 28, 29, 30, 31,
-            ],
-            y: [
-                128, 129, 130, 131, 132, 133, 134, 135, 136, 137, 138, 139, 140, 141, 142, 143,
-                240, 241, 242, 243, 244, 245, 246, 247, 248, 249, 250, 251, 252, 253, 254, 255,
-            ],
-        },
+        "a5010203262001215820 000102030405060708090a0b0c0d0e0f101112131415161718191a1b1c1d1e1f 225820 808182838485868788898a8b8c8d8e8ff0f1f2f3f4f5f6f7f8f9fafbfcfdfeff",
+        CoseKey::Es256 { x: LOW, y: HIGH },
         77,
     ),
 ];
 
 /// What an encoding is for that is the value of no key.
-const MISSING: &[(&str, &[Piece])] = &[
-    ("a number", &[(&[1], 0, 0)]),
-    ("an array", &[(&[0x80], 0, 0)]),
-    ("no members", &[(&[0xa0], 0, 0)]),
-    (
-        "EdDSA without kty",
-        &[(&[0xa3, 3, 0x27, 0x20, 6, 0x21, 0x58, 0x20], 2, 32)],
-    ),
-    (
-        "EdDSA without alg",
-        &[(&[0xa3, 1, 1, 0x20, 6, 0x21, 0x58, 0x20], 2, 32)],
-    ),
-    (
-        "EdDSA without crv",
-        &[(&[0xa3, 1, 1, 3, 0x27, 0x21, 0x58, 0x20], 2, 32)],
-    ),
-    (
-        "EdDSA without x",
-        &[(&[0xa3, 1, 1, 3, 0x27, 0x20, 6], 0, 0)],
-    ),
-    (
-        "ES256 without x",
-        &[(&[0xa4, 1, 2, 3, 0x26, 0x20, 1, 0x22, 0x58, 0x20], 3, 32)],
-    ),
-    (
-        "ES256 without y",
-        &[(&[0xa4, 1, 2, 3, 0x26, 0x20, 1, 0x21, 0x58, 0x20], 2, 32)],
-    ),
-];
+const MISSING: Table = "a number|01
+an array|80
+no members|a0
+EdDSA without kty|a303272006215820 02*32
+EdDSA without alg|a301012006215820 02*32
+EdDSA without crv|a301010327215820 02*32
+EdDSA without x|a3010103272006
+ES256 without x|a4010203262001225820 03*32
+ES256 without y|a4010203262001215820 02*32";
 
 /// The same with more members, and with members of other kinds.
-const OTHER_MEMBERS: &[(&str, &[Piece])] = &[
-    (
-        "EdDSA with a key id",
-        &[(
-            &[0xa5, 1, 1, 2, 0x41, 0, 3, 0x27, 0x20, 6, 0x21, 0x58, 0x20],
-            2,
-            32,
-        )],
-    ),
-    (
-        "EdDSA with y",
-        &[
-            (&[0xa5, 1, 1, 3, 0x27, 0x20, 6, 0x21, 0x58, 0x20], 2, 32),
-            (&[0x22, 0x58, 0x20], 3, 32),
-        ],
-    ),
-    (
-        "EdDSA with a text key",
-        &[
-            (&[0xa5, 1, 1, 3, 0x27, 0x20, 6, 0x21, 0x58, 0x20], 2, 32),
-            (&[0x61, 0x61, 0], 0, 0),
-        ],
-    ),
-    (
-        "ES256 with a secret",
-        &[
-            (&[0xa6, 1, 2, 3, 0x26, 0x20, 1, 0x21, 0x58, 0x20], 2, 32),
-            (&[0x22, 0x58, 0x20], 3, 32),
-            (&[0x23, 0x58, 0x20], 4, 32),
-        ],
-    ),
-    (
-        "kty a text",
-        &[(
-            &[
-                0xa4, 1, 0x63, 0x4f, 0x4b, 0x50, 3, 0x27, 0x20, 6, 0x21, 0x58, 0x20,
-            ],
-            2,
-            32,
-        )],
-    ),
-    (
-        "alg a text",
-        &[(
-            &[
-                0xa4, 1, 1, 3, 0x65, 0x45, 0x64, 0x44, 0x53, 0x41, 0x20, 6, 0x21, 0x58, 0x20,
-            ],
-            2,
-            32,
-        )],
-    ),
-    (
-        "alg 7",
-        &[(&[0xa4, 1, 1, 3, 7, 0x20, 6, 0x21, 0x58, 0x20], 2, 32)],
-    ),
-    (
-        "crv -7",
-        &[(&[0xa4, 1, 1, 3, 0x27, 0x20, 0x26, 0x21, 0x58, 0x20], 2, 32)],
-    ),
-    (
-        "x a text",
-        &[(&[0xa4, 1, 1, 3, 0x27, 0x20, 6, 0x21, 0x78, 0x20], 0x61, 32)],
-    ),
-    (
-        "y true",
-        &[
-            (&[0xa5, 1, 2, 3, 0x26, 0x20, 1, 0x21, 0x58, 0x20], 2, 32),
-            (&[0x22, 0xf5], 0, 0),
-        ],
-    ),
-];
+const OTHER_MEMBERS: Table = "EdDSA with a key id|a5010102410003272006215820 02*32
+EdDSA with y|a5010103272006215820 02*32 225820 03*32
+EdDSA with a text key|a5010103272006215820 02*32 616100
+ES256 with a secret|a6010203262001215820 02*32 225820 03*32 235820 04*32
+kty a text|a401634f4b5003272006215820 02*32
+alg a text|a40101036545644453412006215820 02*32
+alg 7|a4010103072006215820 02*32
+crv -7|a4010103272026215820 02*32
+x a text|a4010103272006217820 61*32
+y true|a5010203262001215820 02*32 22f5";
 
 /// The same with other lengths and numbers.
-const OTHER_VALUES: &[(&str, &[Piece])] = &[
-    (
-        "x of 31 bytes",
-        &[(&[0xa4, 1, 1, 3, 0x27, 0x20, 6, 0x21, 0x58, 0x1f], 0x11, 31)],
-    ),
-    (
-        "x of 33 bytes",
-        &[(&[0xa4, 1, 1, 3, 0x27, 0x20, 6, 0x21, 0x58, 0x21], 0x11, 33)],
-    ),
-    (
-        "ES256, x of 31 bytes",
-        &[
-            (&[0xa5, 1, 2, 3, 0x26, 0x20, 1, 0x21, 0x58, 0x1f], 2, 31),
-            (&[0x22, 0x58, 0x20], 3, 32),
-        ],
-    ),
-    (
-        "ES256, y of 31 bytes",
-        &[
-            (&[0xa5, 1, 2, 3, 0x26, 0x20, 1, 0x21, 0x58, 0x20], 2, 32),
-            (&[0x22, 0x58, 0x1f], 3, 31),
-        ],
-    ),
-    (
-        "ES256, y of 33 bytes",
-        &[
-            (&[0xa5, 1, 2, 3, 0x26, 0x20, 1, 0x21, 0x58, 0x20], 2, 32),
-            (&[0x22, 0x58, 0x21], 3, 33),
-        ],
-    ),
-    (
-        "ES256 with alg -8",
-        &[
-            (&[0xa5, 1, 2, 3, 0x27, 0x20, 1, 0x21, 0x58, 0x20], 2, 32),
-            (&[0x22, 0x58, 0x20], 3, 32),
-        ],
-    ),
-    (
-        "EdDSA with alg -7",
-        &[(&[0xa4, 1, 1, 3, 0x26, 0x20, 6, 0x21, 0x58, 0x20], 2, 32)],
-    ),
-    (
-        "alg -257",
-        &[(
-            &[0xa4, 1, 1, 3, 0x39, 1, 0, 0x20, 6, 0x21, 0x58, 0x20],
-            2,
-            32,
-        )],
-    ),
-    (
-        "EdDSA, kty and crv exchanged",
-        &[(&[0xa4, 1, 6, 3, 0x27, 0x20, 1, 0x21, 0x58, 0x20], 2, 32)],
-    ),
-    (
-        "ES256, kty and crv exchanged",
-        &[
-            (&[0xa5, 1, 1, 3, 0x26, 0x20, 2, 0x21, 0x58, 0x20], 2, 32),
-            (&[0x22, 0x58, 0x20], 3, 32),
-        ],
-    ),
-    (
-        "EdDSA with kty 2",
-        &[(&[0xa4, 1, 2, 3, 0x27, 0x20, 6, 0x21, 0x58, 0x20], 2, 32)],
-    ),
-    (
-        "EdDSA with crv 1",
-        &[(&[0xa4, 1, 1, 3, 0x27, 0x20, 1, 0x21, 0x58, 0x20], 2, 32)],
-    ),
-    (
-        "ES256 with crv 6",
-        &[
-            (&[0xa5, 1, 2, 3, 0x26, 0x20, 6, 0x21, 0x58, 0x20], 2, 32),
-            (&[0x22, 0x58, 0x20], 3, 32),
-        ],
-    ),
-];
+const OTHER_VALUES: Table = "x of 31 bytes|a401010327200621581f 11*31
+x of 33 bytes|a4010103272006215821 11*33
+ES256, x of 31 bytes|a501020326200121581f 02*31 225820 03*32
+ES256, y of 31 bytes|a5010203262001215820 02*32 22581f 03*31
+ES256, y of 33 bytes|a5010203262001215820 02*32 225821 03*33
+ES256 with alg -8|a5010203272001215820 02*32 225820 03*32
+EdDSA with alg -7|a4010103262006215820 02*32
+alg -257|a40101033901002006215820 02*32
+EdDSA, kty and crv exchanged|a4010603272001215820 02*32
+ES256, kty and crv exchanged|a5010103262002215820 02*32 225820 03*32
+EdDSA with kty 2|a4010203272006215820 02*32
+EdDSA with crv 1|a4010103272001215820 02*32
+ES256 with crv 6|a5010203262006215820 02*32 225820 03*32";
 
 /// The same of other values, and with y missing or other labels.
-const MORE: &[(&str, &[Piece])] = &[
-    ("bytes", &[(&[0x58, 0x20], 0x11, 32)]),
-    ("a text", &[(&[0x78, 0x20], 0x61, 32)]),
-    ("true", &[(&[0xf5], 0, 0)]),
-    (
-        "x of no byte",
-        &[(&[0xa4, 1, 1, 3, 0x27, 0x20, 6, 0x21, 0x40], 0, 0)],
-    ),
-    (
-        "x of 256 bytes",
-        &[(&[0xa4, 1, 1, 3, 0x27, 0x20, 6, 0x21, 0x59, 1, 0], 0x11, 256)],
-    ),
-    (
-        "ES256 without kty",
-        &[
-            (&[0xa4, 3, 0x26, 0x20, 1, 0x21, 0x58, 0x20], 2, 32),
-            (&[0x22, 0x58, 0x20], 3, 32),
-        ],
-    ),
-    (
-        "ES256 without alg",
-        &[
-            (&[0xa4, 1, 2, 0x20, 1, 0x21, 0x58, 0x20], 2, 32),
-            (&[0x22, 0x58, 0x20], 3, 32),
-        ],
-    ),
-    (
-        "ES256 without crv",
-        &[
-            (&[0xa4, 1, 2, 3, 0x26, 0x21, 0x58, 0x20], 2, 32),
-            (&[0x22, 0x58, 0x20], 3, 32),
-        ],
-    ),
-    (
-        "labels -3 and -4 for x and y",
-        &[
-            (&[0xa5, 1, 2, 3, 0x26, 0x20, 1, 0x22, 0x58, 0x20], 2, 32),
-            (&[0x23, 0x58, 0x20], 3, 32),
-        ],
-    ),
-];
+const MORE: Table = "bytes|5820 11*32
+a text|7820 61*32
+true|f5
+x of no byte|a40101032720062140
+x of 256 bytes|a401010327200621590100 11*256
+ES256 without kty|a403262001215820 02*32 225820 03*32
+ES256 without alg|a401022001215820 02*32 225820 03*32
+ES256 without crv|a401020326215820 02*32 225820 03*32
+labels -3 and -4 for x and y|a5010203262001225820 02*32 235820 03*32";
 
 /// Whether the bytes decode to the value of this key, and the key's value is encoded as them; for none, whether they
 /// decode to a value that is no key's.
@@ -335,17 +129,17 @@ const OTHER_ORDER: Made = Made::Pairs(&[
 #[test]
 fn keys(rt: HostRuntime) -> Result<(), Fail> {
     let alloc = rt.alloc();
-    for (name, pieces, key, len) in KEYS {
-        let bytes = joined(alloc, b"", pieces)?;
+    for (words, key, len) in KEYS {
+        let bytes = bytes_of(alloc, words)?;
         assert!(rt;
             bytes.len() == *len && is_key(alloc, &bytes, Some(key))?,
-            "{name}"
+            "{words}"
         );
     }
     for table in [MISSING, OTHER_MEMBERS, OTHER_VALUES, MORE] {
-        for (name, pieces) in table {
-            let bytes = joined(alloc, b"", pieces)?;
-            assert!(rt; is_key(alloc, &bytes, None)?, "{name}");
+        for line in table.lines() {
+            let bytes = bytes_of(alloc, part(line, 1))?;
+            assert!(rt; is_key(alloc, &bytes, None)?, "{line}");
         }
     }
     let value = made_value(alloc, OTHER_ORDER)?;

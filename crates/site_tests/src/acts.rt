@@ -10,8 +10,8 @@ use crate::values::{bytes_if_there, bytes_of, is_set, list_of, number, value};
 use authdata::RegistrationResponse;
 use cose::{Alg, BenchScheme, Signer};
 use site::{
-    AssertionParts, BeginError, Error, Registered, RegistrationError, SignInError, SignedIn, Site,
-    Started,
+    AssertionParts, BeginError, CredentialView, Error, Registered, RegistrationError, SignInError,
+    SignedIn, Site, Started,
 };
 use std::alloc::{AllocError, Global};
 
@@ -85,25 +85,41 @@ fn tells(signed_in: &SignedIn, act: &str, user: &[u8], id: &[u8]) -> bool {
         && signed_in.backed_up == is_set(act, "backed")
 }
 
+/// The response to a sign-in.
+#[derive(Drop)]
+struct SignInResponse {
+    id: Vec<u8>,
+    user: Option<Vec<u8>>,
+    auth_data: Vec<u8>,
+    signature: Vec<u8>,
+    client_data: Vec<u8>,
+}
+
+fn sign_in_response(alloc: Global, act: &str) -> Result<SignInResponse, AllocError> {
+    let unsigned = value(act, "unsigned", "").parse().unwrap_or(0);
+    Ok(SignInResponse {
+        id: bytes_of(alloc, value(act, "id", "0a"))?,
+        user: bytes_if_there(alloc, value(act, "user", "01"))?,
+        auth_data: auth_data(alloc, act, unsigned)?,
+        signature: bytes_of(alloc, value(act, "signature", "5a"))?,
+        client_data: client_data(alloc, act, "get")?,
+    })
+}
+
 /// 0, or the number of the step that refuses the response.
 fn finish(alloc: Global, site: &mut Site, act: &str) -> Result<u64, AllocError> {
-    let id = bytes_of(alloc, value(act, "id", "0a"))?;
-    let user = bytes_if_there(alloc, value(act, "user", "01"))?;
-    let client_data = client_data(alloc, act, "get")?;
-    let unsigned = value(act, "unsigned", "").parse().unwrap_or(0);
-    let auth_data = auth_data(alloc, act, unsigned)?;
-    let signature = bytes_of(alloc, value(act, "signature", "5a"))?;
-    let scheme = scheme(alloc, act, &client_data)?;
+    let response = sign_in_response(alloc, act)?;
+    let scheme = scheme(alloc, act, &response.client_data)?;
     let told = bytes_of(alloc, value(act, "told", "01"))?;
     let parts = AssertionParts {
-        credential: &id,
-        user: user.as_deref(),
-        auth_data: &auth_data,
-        signature: &signature,
-        client_data: &client_data,
+        credential: &response.id,
+        user: response.user.as_deref(),
+        auth_data: &response.auth_data,
+        signature: &response.signature,
+        client_data: &response.client_data,
     };
     match site.finish_parts(&scheme, number(act, "session", 1), &parts) {
-        Ok(signed_in) => Ok(if tells(&signed_in, act, &told, &id) {
+        Ok(signed_in) => Ok(if tells(&signed_in, act, &told, &response.id) {
             0
         } else {
             WRONG
@@ -171,24 +187,27 @@ fn finished(
     Ok(if is_kept { step } else { WRONG })
 }
 
-/// Whether the credential is stored so.
-fn is_stored(alloc: Global, site: &Site, act: &str) -> Result<bool, AllocError> {
-    let id = bytes_of(alloc, value(act, "id", "0a"))?;
-    let user = bytes_of(alloc, value(act, "user", "01"))?;
-    let Some(row) = site.row(&id) else {
-        return Ok(false);
-    };
+/// Whether a credential is stored so, of this user.
+fn is_row(row: &CredentialView<'_>, user: &[u8], act: &str) -> bool {
     let eligible = match row.eligible {
         None => "-",
         Some(false) => "0",
         Some(true) => "1",
     };
-    Ok(
-        row.user == user.as_slice()
-            && u64::from(row.sign_count) == number(act, "count", 6)
-            && eligible == value(act, "eligible", "0")
-            && row.retired == is_set(act, "retired"),
-    )
+    row.user == user
+        && u64::from(row.sign_count) == number(act, "count", 6)
+        && eligible == value(act, "eligible", "0")
+        && row.retired == is_set(act, "retired")
+}
+
+/// Whether the credential is stored so.
+fn is_stored(alloc: Global, site: &Site, act: &str) -> Result<bool, AllocError> {
+    let id = bytes_of(alloc, value(act, "id", "0a"))?;
+    let user = bytes_of(alloc, value(act, "user", "01"))?;
+    Ok(match site.row(&id) {
+        Some(row) => is_row(&row, &user, act),
+        None => false,
+    })
 }
 
 /// How many credentials are stored.
@@ -255,21 +274,15 @@ fn answer(alloc: Global, site: &mut Site, act: &str) -> Result<u64, AllocError> 
     }
 }
 
-/// The first line whose act answers otherwise.
-fn wrong_line<'a>(
-    alloc: Global,
-    site: &mut Site,
-    lines: &'a str,
-) -> Result<Option<&'a str>, AllocError> {
+/// Whether each line's act answers as it says.
+fn are_answered(alloc: Global, site: &mut Site, lines: &str) -> Result<bool, Error> {
     for line in lines.split(';') {
-        let Some((wanted, act)) = line.split_once(" ") else {
-            return Ok(Some(line));
-        };
-        if Some(answer(alloc, site, act)?) != wanted.parse::<u64>().ok() {
-            return Ok(Some(line));
+        let (wanted, act) = line.split_once(" ").unwrap_or((line, ""));
+        if Some(answer(alloc, site, act)?) != wanted.parse().ok() {
+            return Ok(false);
         }
     }
-    Ok(None)
+    Ok(true)
 }
 
 /// The site of a script's first line.
@@ -280,11 +293,11 @@ fn made(alloc: Global, line: &str) -> Result<Site, Error> {
     Site::with_rows(alloc, rp_id, &[origin], policy(line), rows)
 }
 
-/// The first line of a script whose act answers otherwise.
-pub(crate) fn wrong_act<'a>(alloc: Global, script: &'a str) -> Result<Option<&'a str>, Error> {
-    let Some((first, lines)) = script.split_once(";") else {
-        return Ok(Some(script));
-    };
-    let mut site = made(alloc, first)?;
-    Ok(wrong_line(alloc, &mut site, lines)?)
+/// Whether each act of a script is answered as its line says.
+pub(crate) fn is_acted(alloc: Global, script: &str) -> Result<bool, Error> {
+    let (first, lines) = script.split_once(";").unwrap_or((script, ""));
+    match made(alloc, first) {
+        Ok(mut site) => are_answered(alloc, &mut site, lines),
+        Err(error) => Err(error),
+    }
 }

@@ -10,6 +10,8 @@ mod registration;
 #[cfg(test)]
 mod responses;
 #[cfg(test)]
+mod rows;
+#[cfg(test)]
 mod saved;
 #[cfg(test)]
 mod sign_in;

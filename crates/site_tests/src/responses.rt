@@ -13,6 +13,15 @@ pub(crate) const KEY: CoseKey = CoseKey::EdDsa { x: [0x11; 32] };
 /// The secret of a credential that is registered: its key's x is the hash of it.
 pub(crate) const SECRET: [u8; 32] = [7; 32];
 
+/// The parts, one after the other.
+fn joined(alloc: Global, parts: &[&[u8]]) -> Result<Vec<u8>, AllocError> {
+    let mut bytes = Vec::new(alloc);
+    for part in parts {
+        bytes.extend_from_slice(part)?;
+    }
+    Ok(bytes)
+}
+
 /// The client data. A session's challenge is its number in 8 bytes, then 24 bytes 0, whose text another program gives:
 /// ten letters A, two by the number, and again A. Or what the line gives whole.
 pub(crate) fn client_data(
@@ -24,22 +33,18 @@ pub(crate) fn client_data(
     if !whole.is_empty() {
         return Vec::from_slice(alloc, whole.as_bytes());
     }
-    let parts = [
-        "{\"type\":\"webauthn.",
-        value(line, "type", ceremony),
-        "\",\"challenge\":\"AAAAAAAAAA",
-        value(line, "challenge", "EA"),
-        "AAAAAAAAAAAAAAAAAAAAAAAAAAAAAAA\",\"origin\":\"",
-        value(line, "origin", "https://abc"),
-        "\"",
-        value(line, "rest", ",\"crossOrigin\":false"),
-        value(line, "end", "}"),
+    let parts: [&[u8]; 9] = [
+        b"{\"type\":\"webauthn.",
+        value(line, "type", ceremony).as_bytes(),
+        b"\",\"challenge\":\"AAAAAAAAAA",
+        value(line, "challenge", "EA").as_bytes(),
+        b"AAAAAAAAAAAAAAAAAAAAAAAAAAAAAAA\",\"origin\":\"",
+        value(line, "origin", "https://abc").as_bytes(),
+        b"\"",
+        value(line, "rest", ",\"crossOrigin\":false").as_bytes(),
+        value(line, "end", "}").as_bytes(),
     ];
-    let mut bytes = Vec::new(alloc);
-    for part in &parts {
-        bytes.extend_from_slice(part.as_bytes())?;
-    }
-    Ok(bytes)
+    joined(alloc, &parts)
 }
 
 /// The flags, of which each word `flip` turns one over.
@@ -53,20 +58,23 @@ fn flags(line: &str, flags: u8) -> u8 {
     flags
 }
 
-/// Appends the hash of an rp id, flags and a counter.
-fn append_head(bytes: &mut Vec<u8>, line: &str, flags: u8, count: u64) -> Result<(), AllocError> {
-    bytes.extend_from_slice(&Sha256::digest(value(line, "rp", "abc")))?;
-    bytes.push(flags)?;
-    bytes.extend_from_slice(&number(line, "count", count).to_be_bytes()[4..])
+/// The hash of an rp id, flags and a counter, and what is behind them.
+fn headed(
+    alloc: Global,
+    line: &str,
+    (flags, count): (u8, u64),
+    behind: &[u8],
+) -> Result<Vec<u8>, AllocError> {
+    let hash = Sha256::digest(value(line, "rp", "abc"));
+    let count = number(line, "count", count).to_be_bytes();
+    joined(alloc, &[&hash, &[flags], &count[4..], behind])
 }
 
 /// The authenticator data of a sign-in, with the flags UP and UV, those that `unsigned` turns over too, and the
 /// counter 6.
 pub(crate) fn auth_data(alloc: Global, line: &str, unsigned: u8) -> Result<Vec<u8>, AllocError> {
-    let mut bytes = Vec::new(alloc);
-    append_head(&mut bytes, line, flags(line, 5) ^ unsigned, 6)?;
-    bytes.extend_from_slice(&bytes_of(alloc, value(line, "behind", ""))?)?;
-    Ok(bytes)
+    let behind = bytes_of(alloc, value(line, "behind", ""))?;
+    headed(alloc, line, (flags(line, 5) ^ unsigned, 6), &behind)
 }
 
 /// The scheme that lists 5a as the signature of the sign-in, under the key of all stored credentials.
@@ -82,38 +90,44 @@ pub(crate) fn scheme(
     Ok(scheme)
 }
 
+/// The length in one byte.
+fn length(bytes: &[u8]) -> [u8; 1] {
+    [u8::try_from(bytes.len()).unwrap_or(0)]
+}
+
+/// A credential: an aaguid of 16 bytes 0, the id, and the key of `SECRET`.
+fn credential(alloc: Global, line: &str) -> Result<Vec<u8>, AllocError> {
+    let id = bytes_of(alloc, value(line, "id", "1a"))?;
+    let x = Sha256::digest(&SECRET);
+    let front = b"\xa4\x01\x01\x03\x27\x20\x06\x21\x58\x20";
+    joined(alloc, &[&[0; 17], &length(&id), &id, front, &x])
+}
+
 /// The authenticator data of a registration, with the flags UP, UV, BE and AT, and the counter 258; with a credential
 /// where AT is set.
 fn attested(alloc: Global, line: &str) -> Result<Vec<u8>, AllocError> {
     let flags = flags(line, 77);
-    let mut bytes = Vec::new(alloc);
-    append_head(&mut bytes, line, flags, 258)?;
     if flags & 64 == 0 {
-        return Ok(bytes);
+        return headed(alloc, line, (flags, 258), &[]);
     }
-    let id = bytes_of(alloc, value(line, "id", "1a"))?;
-    bytes.extend_from_slice(&[0; 17])?;
-    bytes.push(u8::try_from(id.len()).unwrap_or(0))?;
-    bytes.extend_from_slice(&id)?;
-    bytes.extend_from_slice(b"\xa4\x01\x01\x03\x27\x20\x06\x21\x58\x20")?;
-    bytes.extend_from_slice(&Sha256::digest(&SECRET))?;
-    Ok(bytes)
+    let credential = credential(alloc, line)?;
+    headed(alloc, line, (flags, 258), &credential)
 }
 
-/// Appends the statement: an empty map, or the algorithm -8 and the signature by the secret of 32 such bytes.
-fn append_statement(
-    bytes: &mut Vec<u8>,
+/// The statement: an empty map, or the algorithm -8 and the signature by the secret of 32 such bytes.
+fn statement(
+    alloc: Global,
     line: &str,
     auth_data: &[u8],
     client_data: &[u8],
-) -> Result<(), AllocError> {
+) -> Result<Vec<u8>, AllocError> {
     let Ok(secret) = value(line, "secret", "").parse::<u8>() else {
-        bytes.push(0xa0)?;
-        return Ok(());
+        return Vec::from_slice(alloc, &[0xa0]);
     };
-    bytes.extend_from_slice(b"\xa2\x63alg\x27\x63sig\x58\x20")?;
+    let mut bytes = Vec::from_slice(alloc, b"\xa2\x63alg\x27\x63sig\x58\x20")?;
     let parts = [auth_data, &hash(client_data)];
-    BenchScheme.sign(Alg::EdDsa, &[secret; 32], parts, bytes)
+    BenchScheme.sign(Alg::EdDsa, &[secret; 32], parts, &mut bytes)?;
+    Ok(bytes)
 }
 
 /// A format, encoded.
@@ -128,13 +142,17 @@ fn format(line: &str) -> &'static [u8] {
 /// The attestation object.
 pub(crate) fn object(alloc: Global, line: &str, client_data: &[u8]) -> Result<Vec<u8>, AllocError> {
     let auth_data = attested(alloc, line)?;
-    let mut bytes = Vec::from_slice(alloc, b"\xa3\x63fmt")?;
-    bytes.extend_from_slice(format(line))?;
-    bytes.extend_from_slice(b"\x67attStmt")?;
-    append_statement(&mut bytes, line, &auth_data, client_data)?;
-    bytes.extend_from_slice(b"\x68authData\x58")?;
-    bytes.push(u8::try_from(auth_data.len()).unwrap_or(0))?;
-    bytes.extend_from_slice(&auth_data)?;
-    bytes.extend_from_slice(&bytes_of(alloc, value(line, "behind", ""))?)?;
-    Ok(bytes)
+    let statement = statement(alloc, line, &auth_data, client_data)?;
+    let behind = bytes_of(alloc, value(line, "behind", ""))?;
+    let parts: [&[u8]; 8] = [
+        b"\xa3\x63fmt",
+        format(line),
+        b"\x67attStmt",
+        &statement,
+        b"\x68authData\x58",
+        &length(&auth_data),
+        &auth_data,
+        &behind,
+    ];
+    joined(alloc, &parts)
 }
