@@ -51,10 +51,11 @@ fn is_read(alloc: Global, record: &ClientData, row: &str) -> bool {
     let Ok(seen) = read(alloc, part(row, 6).as_bytes()) else {
         return false;
     };
-    seen.kind.as_str() == record.kind.text()
+    let is_same = seen.kind.as_str() == record.kind.text()
         && seen.challenge.as_str() == part(row, 5)
-        && seen.binding == Binding::Absent
-        && seen.origin.into_string().as_str() == record.origin.as_str()
+        && seen.binding == Binding::Absent;
+    let origin = seen.origin.into_string();
+    is_same && origin.as_str() == record.origin.as_str()
 }
 
 /// A name, a text, and whether it is verified against the record of a sign-in with challenge 00 01 02 at

@@ -2,7 +2,7 @@
 
 use crate::line_rows::{BAD_LINES_1, BAD_LINES_2, BAD_LINES_3, BAD_LINES_4, OTHERS_1, OTHERS_2};
 use crate::lines::named;
-use crate::running::{Rows, Wanted, ends};
+use crate::running::{Wanted, ends};
 use crate::verdict_rows::{SESSIONS_1, SESSIONS_2, VERDICTS_1, VERDICTS_2};
 use std::alloc::{AllocError, Global};
 use std::test::Fail;
@@ -31,92 +31,45 @@ fn replays(alloc: Global, script: &str, status: u8, out: &str, err: &str) -> Res
     Ok(ends(alloc, &["passkey", "replay"], script.as_bytes(), &wanted))
 }
 
-/// Whether the script stops at its last line, and what was printed before stands.
-fn stops(alloc: Global, script: &str, out: &str) -> Result<bool, Fail> {
-    let last = script.bytes().filter(|b| *b == b'\n').count();
+/// The part of a line with this number, from 0; nothing where the line has fewer.
+fn part(line: &str, number: usize) -> &str {
+    line.split('|').nth(number).unwrap_or("")
+}
+
+/// Whether the script of a line ends well and prints its text.
+fn is_replayed(alloc: Global, line: &str) -> Result<bool, Fail> {
+    let script = lines_of(alloc, part(line, 1))?;
+    replays(alloc, script.as_str(), 0, part(line, 2), "")
+}
+
+/// Whether the script of a line stops at its last line, and what was printed before stands.
+fn is_stopped(alloc: Global, line: &str) -> Result<bool, Fail> {
+    let script = lines_of(alloc, part(line, 1))?;
+    let last = script.as_str().bytes().filter(|b| *b == b'\n').count();
     let err = format!(in alloc; "line {last}: bad script\n")?;
-    replays(alloc, script, 2, out, err.as_str())
+    replays(alloc, script.as_str(), 2, part(line, 2), err.as_str())
 }
 
-/// The first of the scripts that does not end well and print its text.
-fn wrong(alloc: Global, rows: Rows) -> Result<Option<&'static str>, Fail> {
-    for (name, script, out) in rows {
-        let script = lines_of(alloc, script)?;
-        if !replays(alloc, script.as_str(), 0, out, "")? {
-            return Ok(Some(name));
+#[test]
+fn verdicts_and_others(rt: HostRuntime) -> Result<(), Fail> {
+    let tables = [
+        VERDICTS_1, VERDICTS_2, SESSIONS_1, SESSIONS_2, OTHERS_1, OTHERS_2,
+    ];
+    for table in tables {
+        for line in table.lines() {
+            assert!(rt; is_replayed(rt.alloc(), line)?, "{line}");
         }
     }
-    Ok(None)
+    Ok(())
 }
 
-/// The first of the scripts that does not stop at its last line.
-fn unstopped(alloc: Global, rows: Rows) -> Result<Option<&'static str>, Fail> {
-    for (name, script, out) in rows {
-        let script = lines_of(alloc, script)?;
-        if !stops(alloc, script.as_str(), out)? {
-            return Ok(Some(name));
+#[test]
+fn bad_lines(rt: HostRuntime) -> Result<(), Fail> {
+    for table in [BAD_LINES_1, BAD_LINES_2, BAD_LINES_3, BAD_LINES_4] {
+        for line in table.lines() {
+            assert!(rt; is_stopped(rt.alloc(), line)?, "{line}");
         }
     }
-    Ok(None)
-}
-
-#[test]
-fn verdicts_1(rt: HostRuntime) -> Result<(), Fail> {
-    assert_eq!(rt; wrong(rt.alloc(), VERDICTS_1)?, None);
-    Ok(())
-}
-
-#[test]
-fn verdicts_2(rt: HostRuntime) -> Result<(), Fail> {
-    assert_eq!(rt; wrong(rt.alloc(), VERDICTS_2)?, None);
-    Ok(())
-}
-
-#[test]
-fn sessions_1(rt: HostRuntime) -> Result<(), Fail> {
-    assert_eq!(rt; wrong(rt.alloc(), SESSIONS_1)?, None);
-    Ok(())
-}
-
-#[test]
-fn sessions_2(rt: HostRuntime) -> Result<(), Fail> {
-    assert_eq!(rt; wrong(rt.alloc(), SESSIONS_2)?, None);
-    Ok(())
-}
-
-#[test]
-fn others_1(rt: HostRuntime) -> Result<(), Fail> {
-    assert_eq!(rt; wrong(rt.alloc(), OTHERS_1)?, None);
-    Ok(())
-}
-
-#[test]
-fn others_2(rt: HostRuntime) -> Result<(), Fail> {
-    assert_eq!(rt; wrong(rt.alloc(), OTHERS_2)?, None);
-    Ok(())
-}
-
-#[test]
-fn bad_lines_1(rt: HostRuntime) -> Result<(), Fail> {
-    assert_eq!(rt; unstopped(rt.alloc(), BAD_LINES_1)?, None);
-    Ok(())
-}
-
-#[test]
-fn bad_lines_2(rt: HostRuntime) -> Result<(), Fail> {
-    assert_eq!(rt; unstopped(rt.alloc(), BAD_LINES_2)?, None);
-    Ok(())
-}
-
-#[test]
-fn bad_lines_3(rt: HostRuntime) -> Result<(), Fail> {
-    assert_eq!(rt; unstopped(rt.alloc(), BAD_LINES_3)?, None);
-    Ok(())
-}
-
-#[test]
-fn bad_lines_4(rt: HostRuntime) -> Result<(), Fail> {
-    assert_eq!(rt; unstopped(rt.alloc(), BAD_LINES_4)?, None);
     Ok(())
 }
 
