@@ -46,13 +46,17 @@ fn visited(alloc: Global, key: &mut Key) -> Option<Site> {
     let verifier = BenchScheme; // hides nothing, for tests alone: put your own verifier here
     let mut site = Site::new(alloc, RP_ID, &[ORIGIN], POLICY).ok()?;
 
-    let started = site.begin_registration(USER, &[Alg::EdDsa], true, [1; 24]).ok()?;
+    let started = site
+        .begin_registration(USER, &[Alg::EdDsa], true, [1; 24])
+        .ok()?;
     let response = creates(alloc, key, &started.challenge)?;
-    site.finish_registration(&verifier, started.session, &response).ok()?;
+    site.finish_registration(&verifier, started.session, &response)
+        .ok()?;
 
     let started = site.begin_sign_in(Some(USER), &[], true, [2; 24]).ok()?;
     let response = asserts(alloc, key, &started.challenge)?;
-    site.finish_sign_in(&verifier, started.session, &response).ok()?;
+    site.finish_sign_in(&verifier, started.session, &response)
+        .ok()?;
 
     let mut saved = Vec::new(alloc);
     site.save(&mut saved).ok()?;

@@ -26,7 +26,12 @@ pub(crate) const POLICY: Policy = Policy {
 pub(crate) type Manner = (Alg, AttestationType, bool);
 
 /// What a client asks of the key, in a session with this challenge.
-pub(crate) fn creation(alloc: Global, manner: &Manner, challenge: &[u8], channel: u32) -> Option<Outgoing> {
+pub(crate) fn creation(
+    alloc: Global,
+    manner: &Manner,
+    challenge: &[u8],
+    channel: u32,
+) -> Option<Outgoing> {
     let options = CreationOptions {
         challenge,
         rp_id: RP_ID,
@@ -65,7 +70,12 @@ fn registers(alloc: Global, site: &mut Site, key: &mut Key, manner: &Manner) -> 
 }
 
 /// What a client asks of the key for a sign-in, in a session with this challenge.
-pub(crate) fn assertion(alloc: Global, challenge: &[u8], listed: &[&[u8]], channel: u32) -> Option<Outgoing> {
+pub(crate) fn assertion(
+    alloc: Global,
+    challenge: &[u8],
+    listed: &[&[u8]],
+    channel: u32,
+) -> Option<Outgoing> {
     let options = RequestOptions {
         challenge,
         rp_id: RP_ID,
