@@ -1,11 +1,11 @@
 -- A response passes each step of a registration.
-use Rattle.std.proofs.Common.{◌≡◌, ◌⊎◌, ℕ, List, true, false, Some, refl, sym, ◌∙◌, ap, subst, Contains}
+use Rattle.std.proofs.Common.{◌≡◌, ◌⊎◌, true, false, Some, refl, sym, ◌∙◌, ap, subst, Contains}
 use Rattle.first_line.specs.Lines.{Each}
 use Rattle.clientdata.specs.declared.record.Kind.TheVariants.{Create}
 use Rattle.clientdata.specs.Reading.{seen_of}
 use Rattle.cose.specs.Keys.{alg_of}
 use Rattle.authdata.specs.Layout.{AttestedCredential, AuthenticatorData, AuthOf}
-use Rattle.authdata.specs.Objects.{Attestation, ObjectOf}
+use Rattle.authdata.specs.Objects.{Attestation}
 use Rattle.authdata.specs.Responses as responses
 use Rattle.authdata.specs.Statements.{IsKnownFormat, IsNone, IsSelfSigned}
 use Rattle.verification.specs.ClientData.{Says, lines}

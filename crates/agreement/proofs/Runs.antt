@@ -1,5 +1,5 @@
 -- An honest registration and then an honest sign-in.
-use Rattle.std.proofs.Common.{◌≡◌, inl, inr, ℕ, List, [], ◌∷◌, Some, sym, ◌∙◌, ap, subst, arith}
+use Rattle.std.proofs.Common.{inl, inr, ℕ, [], ◌∷◌, Some, sym, ◌∙◌, ap, subst, arith}
 use Rattle.cose.specs.Schemes.{Validity}
 use Rattle.verification.specs.Records as expects
 use Rattle.site.specs.Laws.{after_begin}

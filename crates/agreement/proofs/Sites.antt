@@ -1,5 +1,5 @@
 -- What an event at a site keeps, and which session it takes.
-use Rattle.std.proofs.Common.{◌≡◌, ◌<◌, ◌-◌, ◌^◌, ◌⊎◌, inl, inr, ℕ, zero, suc, List, Some, None, refl, sym, ◌∙◌, ap, subst, arith}
+use Rattle.std.proofs.Common.{◌≡◌, ◌<◌, ◌-◌, ◌^◌, inl, inr, ℕ, zero, suc, List, Some, None, refl, sym, ◌∙◌, ap, subst, arith}
 use Rattle.std.specs.Int.{w64, to_be_bytes}
 use Rattle.std.specs.FinMap.{gets}
 use Rattle.std.specs.FinMap as finite
@@ -13,7 +13,7 @@ use Rattle.authdata.specs.Responses as responses
 use Rattle.ctapmsg.specs.Replies.{Assertion, Creation, ReplyOf, assertion_reply, creation_reply}
 use Rattle.verification.specs.Authentication as authentication
 use Rattle.verification.specs.Registration as registration
-use Rattle.sessions.specs.Sessions.{Expected, Opening, OpensRegistration, OpensSignIn, begun, closed, expected_of}
+use Rattle.sessions.specs.Sessions.{Expected, Opening, OpensRegistration, OpensSignIn, expected_of}
 use Rattle.site.specs.State.{IsAfterRegistration, IsAfterSignIn, State, attempt_in, enrolment_in, none_open}
 use Rattle.site.specs.Laws.{IsFresh, Keeps, Takes, after_begin, after_restart, challenge_in}
 use Rattle.site.proofs.Goings.{begun_or, still}

@@ -10,7 +10,7 @@ use Rattle.hidlink.proofs.SoFar.{ArePackets}
 use Rattle.first_line.proofs.Laws.{none_first, one_first}
 use Rattle.ccbor.specs.Item.{Item}
 use Rattle.ccbor.specs.Canon.{Canon}
-use Rattle.ctapmsg.specs.Replies.{Assertion, Creation, HasOtherShape, ReplyOf, ReplyRefused, assertion_reply, creation_reply}
+use Rattle.ctapmsg.specs.Replies.{HasOtherShape, ReplyRefused}
 use Rattle.replies.specs.declared.reply.Kind.{Kind}
 use Rattle.replies.specs.declared.reply.Kind.TheVariants as kinds
 use Rattle.replies.proofs.Laws.{creation_never_both, never_both, one_assertion_reply, one_creation_reply}
