@@ -1,6 +1,6 @@
 //! A registration, a sign-in and a restart of a site, whose page hands on what a client answers over a security key.
 
-use crate::honest::{Manner, ORIGIN, POLICY, RP_ID, USER, assertion, creation};
+use crate::honest::{Manner, ORIGIN, POLICY, RP_ID, USER, assertion, creation, restart};
 use crate::key::Key;
 use authdata::{AssertionResponse, AttestationType, RegistrationResponse};
 use client::{Outgoing, assertion_response, creation_response};
@@ -41,10 +41,9 @@ fn asserts(alloc: Global, key: &mut Key, challenge: &[u8]) -> Option<AssertionRe
     }
 }
 
-/// A site at which the user registers and signs in, saved and loaded.
-fn visited(alloc: Global, key: &mut Key) -> Option<Site> {
+/// The user registers and signs in.
+fn visits(alloc: Global, site: &mut Site, key: &mut Key) -> Option<u64> {
     let verifier = BenchScheme; // hides nothing, for tests alone: put your own verifier here
-    let mut site = Site::new(alloc, RP_ID, &[ORIGIN], POLICY).ok()?;
 
     let started = site
         .begin_registration(USER, &[Alg::EdDsa], true, [1; 24])
@@ -57,22 +56,26 @@ fn visited(alloc: Global, key: &mut Key) -> Option<Site> {
     let response = asserts(alloc, key, &started.challenge)?;
     site.finish_sign_in(&verifier, started.session, &response)
         .ok()?;
-
-    let mut saved = Vec::new(alloc);
-    site.save(&mut saved).ok()?;
-    Site::load(alloc, &saved, RP_ID, &[ORIGIN], POLICY).ok()
+    Some(started.session)
 }
 
-/// The counter of the one credential of a visited site.
-fn count(alloc: Global) -> Option<u32> {
-    let mut key = Key::new(alloc, MANNER.1)?;
+/// The counter of the credential after a visit and a restart.
+fn count(alloc: Global, site: &mut Site, key: &mut Key) -> Option<u32> {
     key.open(alloc)?;
-    let site = visited(alloc, &mut key)?;
+    visits(alloc, site, key)?;
+    restart(alloc, site)?;
     site.row(&[5; 32]).map(|row| row.sign_count)
+}
+
+/// The same at a new site with a new key.
+fn count_anew(alloc: Global) -> Option<u32> {
+    let mut key = Key::new(alloc, MANNER.1)?;
+    let mut site = Site::new(alloc, RP_ID, &[ORIGIN], POLICY).ok()?;
+    count(alloc, &mut site, &mut key)
 }
 
 #[test]
 fn example(rt: HostRuntime) -> Result<(), Fail> {
-    assert!(rt; count(rt.alloc()) == Some(1));
+    assert!(rt; count_anew(rt.alloc()) == Some(1));
     Ok(())
 }

@@ -111,7 +111,7 @@ fn count(site: &Site, credential: &[u8]) -> Option<u32> {
 }
 
 /// Saves the site, and puts what is loaded of it in its place.
-fn restart(alloc: Global, site: &mut Site) -> Option<()> {
+pub(crate) fn restart(alloc: Global, site: &mut Site) -> Option<()> {
     let mut saved = Vec::new(alloc);
     site.save(&mut saved).ok()?;
     *site = Site::load(alloc, &saved, RP_ID, &[ORIGIN], POLICY).ok()?;
