@@ -1,6 +1,7 @@
 -- Orders of refusals, line by line; and what a refusal comes to.
-use Rattle.std.proofs.Common.{◌≡◌, ◌<◌, ◌+◌, ◌++◌, ℕ, List, [], ◌∷◌, Bool, true, false, cond, not, ◌&&◌, ◌||◌, Option, Some, None, Vec, Global, refl, sym, ap, ◌∙◌, subst, rules}
-use Rattle.std.specs.Prelude.{Result, Ok, Err, IfOk, OnOk, nat_le, ◌==◌}
+use Rattle.std.proofs.Common.{◌≡◌, ◌<◌, ◌+◌, ◌++◌, ℕ, List, [], ◌∷◌, Bool, true, false, not, ◌&&◌, ◌||◌, Option, Some, None, Vec, Global, refl, sym, ap, ◌∙◌, subst, arith, rules}
+use Rattle.std.specs.Prelude.{Result, Ok, Err, IfOk, OnOk}
+use Rattle.std.proofs.lemmas.Grind.{common_steps}
 use Rattle.first_line.specs.Lines.{first_true}
 use Rattle.ctapmsg.specs.Requests.{AssertionRequest, CreationRequest}
 use Rattle.ctapmsg.specs.Replies.{Assertion, Creation, ReplyMessage, ReplyOf, creation_reply}
@@ -24,14 +25,10 @@ pub past : (b : Bool) (s : ℕ) (rest : List (Bool × ℕ)) (o : Option ℕ) →
 past b s rest o e h = rw e h
 
 two_some : (b c : Bool) (s t : ℕ) (rest : List (Bool × ℕ)) (o : ℕ) → first_true ((b, s) ∷ (c, t) ∷ []) ≡ Some o → first_true ((b, s) ∷ (c, t) ∷ rest) ≡ Some o
-two_some true c s t rest o e = e
-two_some false true s t rest o e = e
-two_some false false s t rest o e = absurd cc
+two_some b c s t rest o e = grind (arith, common_steps, e)
 
 two_none : (b c : Bool) (s t : ℕ) (rest : List (Bool × ℕ)) → first_true ((b, s) ∷ (c, t) ∷ []) ≡ None → first_true ((b, s) ∷ (c, t) ∷ rest) ≡ first_true rest
-two_none true c s t rest e = absurd cc
-two_none false true s t rest e = absurd cc
-two_none false false s t rest e = refl
+two_none b c s t rest e = grind (arith, common_steps, e)
 
 -- ---- refusals
 
@@ -73,10 +70,7 @@ shows valid public c asked message count q auth_data signature (Ok v) spelled si
 shows valid public c asked message count q auth_data signature (Err e) spelled signs id a s user number h = tt
 
 pub not_at_end : (id : List ℕ) (cs : List Credential) (c : Credential) → credential_of id cs ≡ Some c → c.sign_count < 4294967295 → is_at_end (credential_of id cs) ≡ false
-not_at_end id cs c found lt = ap is_at_end found ∙ other c.sign_count lt
-  where
-    other : (n : ℕ) → n < 4294967295 → nat_le 4294967295 n ≡ false
-    other n lt = search (rules, lt)
+not_at_end id cs c found lt = search (rules, found, lt)
 
 pub created : (valid : Validity) (public : Keys) (old new : State) (q : CreationRequest) (consent : Consent) (words : Words) (alg : Alg) (r : Creation) (reply : List ℕ)
     → first_supported q.pub_key_cred_params ≡ Some alg → AuthOf (creation_data old q words.id (public alg words.secret)) r.auth_data
@@ -138,10 +132,6 @@ pub next_goes : (a : State) (channel : ℕ) (r : Remembered) → Some r ≡ reme
     → first_true (next_order a channel) ≡ None
 next_goes a channel r e at = rw (← e, at) refl
 
-kept_on : (b : Bool) (r s : Remembered) → cond b (Some s) None ≡ Some r → s ≡ r
-kept_on true r s e = cc
-kept_on false r s e = absurd cc
-
 pub remembered_is : (channel : ℕ) (o : Option Remembered) (r : Remembered) → Some r ≡ remembered_on channel o → o ≡ Some r
 remembered_is channel None r e = absurd cc
-remembered_is channel (Some s) r e = ap Some (kept_on (s.asked.channel == channel) r s (sym e))
+remembered_is channel (Some s) r e = grind (arith, common_steps, e)

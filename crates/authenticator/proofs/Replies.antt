@@ -1,5 +1,5 @@
 -- Replies have bytes, and few enough of them.
-use Rattle.std.proofs.Common.{◌≡◌, ◌+◌, ◌^◌, ◌<◌, ◌≤◌, ◌++◌, ℕ, List, [], ◌∷◌, Bool, true, false, Option, Some, None, length, refl, sym, ap, ◌∙◌, subst, arith, IsUtf8, nat_lt}
+use Rattle.std.proofs.Common.{◌≡◌, ◌+◌, ◌^◌, ◌<◌, ◌≤◌, ◌++◌, ℕ, List, ◌∷◌, Bool, true, false, Option, Some, None, length, refl, sym, ap, ◌∙◌, subst, arith, rules, IsUtf8, nat_lt}
 use Rattle.std.specs.Prelude.{codes, IfSome, if◌then◌else◌}
 use Rattle.std.proofs.lemmas.List.{length-append}
 use Rattle.replies.specs.Pieces.{HasSizes}
@@ -10,14 +10,13 @@ use Rattle.ccbor.specs.Item.{Item, Items, Pairs, no_items, item, no_pairs, pair}
 use Rattle.ccbor.specs.Canon.{head, before, spelling, spelling_of_items, spelling_of_pairs, count_of_items, count_of_pairs, Fits}
 use Rattle.cose.specs.Keys.{alg_of, alg_item}
 use Rattle.cose.specs.declared.key.CoseKey.{CoseKey}
-use Rattle.cose.specs.declared.key.CoseKey.TheVariants as keys
 use Rattle.cose.specs.Schemes.{Validity}
 use Rattle.authdata.specs.Statements.{packed_statement}
 use Rattle.authdata.specs.declared.statement.AttestationType.{AttestationType}
 use Rattle.authdata.specs.declared.statement.AttestationType.TheVariants as types
 use Rattle.ctapmsg.specs.Schema.{gravest, record_of}
-use Rattle.ctapmsg.specs.Replies.{Creation, Assertion, Info, ReplyMessage, ReplyOf, creation_reply, assertion_reply, info_reply, reset_reply, creation_reply_item, creation_reply_members, assertion_reply_item, info_item}
-use Rattle.authenticator.specs.Private.{IsMessage, FitsReply, IsUser, IsCount}
+use Rattle.ctapmsg.specs.Replies.{Creation, Assertion, Info, ReplyMessage, ReplyOf, creation_reply, assertion_reply, info_reply, creation_reply_item, creation_reply_members, assertion_reply_item, info_item}
+use Rattle.authenticator.specs.Private.{IsMessage, FitsReply, IsUser}
 use Rattle.authenticator.specs.Steps.{Attests, Entry, info_of}
 use Rattle.authenticator.specs.declared.consent.Consent.{Consent}
 
@@ -90,10 +89,7 @@ creation_with r ps e s u f a le =
 
 packed_fits : (key : CoseKey) (signature : List ℕ) → length signature ≤ 128 → Fits 3 (packed_statement (alg_of key) signature)
 unfolding head before
-packed_fits (keys.Es256 x y) signature le =
-    (omega arith, (refl, refl, (omega arith, plain (codes "alg") refl), omega arith, (refl, refl, (omega arith, plain (codes "sig") refl), omega arith, tt)))
-packed_fits (keys.EdDsa x) signature le =
-    (omega arith, (refl, refl, (omega arith, plain (codes "alg") refl), omega arith, (refl, refl, (omega arith, plain (codes "sig") refl), omega arith, tt)))
+packed_fits key signature le = search (rules, arith, le, plain)
 
 named : (fmt : List ℕ) (name : List ℕ) → fmt ≡ name → IsUtf8 name → IsUtf8 fmt
 named fmt name e u = subst IsUtf8 (sym e) u
@@ -123,76 +119,24 @@ told_short id auth signature None (Some k) i a s u = omega arith
 told_short id auth signature (Some x) None i a s u = let le = u.1 in omega arith
 told_short id auth signature (Some x) (Some k) i a s u = let le = u.1 in omega arith
 
-short_number : (number : Option ℕ) → IfSome number IsCount → IfSome number (λ n. n < 2 ^ 64)
-short_number None h = tt
-short_number (Some n) h = h.1
-
-least_number : (number : Option ℕ) → IfSome number IsCount → IfSome number (λ n. 2 ≤ n)
-least_number None h = tt
-least_number (Some n) h = h.0
-
 pub assertion_message : (r : Assertion) → FitsReply r → IsMessage (assertion_reply r)
 assertion_message r h =
     let i = h.credential in
     let a = h.auth_data in
     let s = h.signature in
-    let sizes : HasSizes r = ((omega arith, omega arith), h.user, least_number r.number h.number) in
+    let number : IfSome r.number (λ n. (2 ≤ n) × (n < 2 ^ 64)) = h.number in
+    let sizes : HasSizes r = ((omega arith, omega arith), h.user, search (rules, number)) in
     message (assertion_reply r) (assertion_reply_item r)
-    (spelling (assertion_reply_item r), refl, (assertion_fits r sizes (omega arith) (omega arith) (short_number r.number h.number), refl), assertion_clean r sizes)
+    (spelling (assertion_reply_item r), refl, (assertion_fits r sizes (omega arith) (omega arith) (search (rules, number)), refl), assertion_clean r sizes)
     (told_short r.credential r.auth_data r.signature r.user r.number h.credential h.auth_data h.signature h.user)
 
 -- ---- getInfo
 
 info_fits : (aaguid : List ℕ) (uv : Bool) → length aaguid ≡ 16 → Fits 4 (info_item (info_of aaguid uv))
 unfolding head before
-info_fits aaguid uv l = (
-  omega arith,
-  (
-    refl,
-    refl,
-    omega arith,
-    (omega arith, ((omega arith, plain (codes "FIDO_2_0") refl), tt)),
-    (
-      refl,
-      refl,
-      omega arith,
-      omega arith,
-      (
-        refl,
-        refl,
-        omega arith,
-        (
-          omega arith,
-          (
-            refl,
-            refl,
-            (omega arith, plain (codes "rk") refl),
-            tt,
-            (
-              refl,
-              refl,
-              (omega arith, plain (codes "up") refl),
-              tt,
-              (
-                refl,
-                refl,
-                (omega arith, plain (codes "uv") refl),
-                tt,
-                (refl, refl, (omega arith, plain (codes "plat") refl), tt, tt),
-              ),
-            ),
-          ),
-        ),
-        (refl, refl, omega arith, omega arith, (refl, refl, omega arith, omega arith, (refl, refl, omega arith, omega arith, tt))),
-      ),
-    ),
-  ),
-)
+info_fits aaguid uv l = search (rules, arith, l, plain)
 
 pub info_message : (r : Info) (aaguid : List ℕ) (uv : Bool) → r ≡ info_of aaguid uv → length aaguid ≡ 16 → IsMessage (info_reply r)
 info_message r aaguid uv e l =
     rw e (message (info_reply (info_of aaguid uv)) (info_item (info_of aaguid uv))
     (spelling (info_item (info_of aaguid uv)), refl, (info_fits aaguid uv l, refl), rw l refl) (omega arith))
-
-pub reset_message : IsMessage reset_reply
-reset_message = record { bytes = 0 ∷ []; spelled = refl; size = omega arith }

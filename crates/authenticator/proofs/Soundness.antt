@@ -2,7 +2,7 @@
 use Rattle.std.proofs.Common.{◌≡◌, ◌+◌, ◌++◌, ℕ, List, [], ◌∷◌, Option, Some, None, Bool, true, false, length, sym, refl, subst, arith, ap, ◌∙◌, inl, inr}
 use Rattle.std.specs.Prelude.{if◌then◌else◌, not, ◌&&◌, ◌||◌, All, IfSome, is_some, nat_le, ◌==◌}
 use Rattle.std.proofs.lemmas.List.{length-append}
-use Rattle.std.proofs.lemmas.List.Elements.{All-nil, All-cons, All-same}
+use Rattle.std.proofs.lemmas.List.Elements.{All-nil, All-cons, All-head, All-same, All-tail}
 use Rattle.first_line.specs.Lines.{first_true}
 use Rattle.cose.specs.Schemes.{Validity}
 use Rattle.cose.specs.declared.key.CoseKey.{CoseKey}
@@ -23,7 +23,7 @@ use Rattle.authenticator.specs.declared.consent.Consent.{Consent}
 use Rattle.authenticator.specs.declared.consent.Words.{Words}
 use Rattle.authenticator.proofs.Asked.{assertion_hashed, creation_hashed}
 use Rattle.authenticator.proofs.Store.{has_id}
-use Rattle.authenticator.proofs.Stored.{LaterResident, Stays, all_head, all_tail, keeps_made, keeps_same, keeps_with, last_push, later_candidates, residents_with, stays, unique_made, unique_with, with_at}
+use Rattle.authenticator.proofs.Stored.{LaterResident, Stays, keeps_made, keeps_same, keeps_with, last_push, later_candidates, residents_with, stays, unique_made, unique_with, with_at}
 
 -- ---- flags
 
@@ -65,7 +65,7 @@ unless public (Some status) old out P s f h = refused public old status out s h
 
 remembered_sound : (cs : List Credential) (asked : Asked) (later : List (List ℕ)) → FollowsConsent asked → All (IsResident cs) later → IfSome (remembering asked later) (SoundRemembered cs)
 remembered_sound cs asked [] f h = tt
-remembered_sound cs asked (id ∷ ids) f h = record { asked = f; next = all_head (IsResident cs) id ids h; later = all_tail (IsResident cs) id ids h }
+remembered_sound cs asked (id ∷ ids) f h = record { asked = f; next = All-head (IsResident cs) id ids h; later = All-tail (IsResident cs) id ids h }
 
 answers : (valid : Validity) (public : Keys) (old : State) (id : List ℕ) (asked : Asked) (later : List (List ℕ)) (message : Assertion → ReplyMessage) (count : Option ℕ) (out : Outcome)
     → SoundState old → FollowsConsent asked → All (IsResident old.credentials) later → Answers valid public old id asked later message count out → SoundOutcome public old out

@@ -30,18 +30,14 @@ set_there : (id : List ℕ) (n : ℕ) (xs : List StoredCredential) (i : ℕ) (d 
     → ((k : ℕ) → k < i → bytes_eq (slice_index_or xs k d).id id ≡ false)
     → credential_view y ≡ record (credential_view (slice_index_or xs i d)) { sign_count = n }
     → credentials_view (slice_set xs i y) ≡ with_sign_count id n (credentials_view xs)
-set_there id n [] i d y lt is none same = let bad : i < 0 = lt in absurd (omega arith)
-set_there id n (x ∷ xs) zero d y lt is none same = rw is (ap (λ z. z ∷ credentials_view xs) same)
+set_there id n [] i d y lt is none same = absurd (omega arith)
+set_there id n (x ∷ xs) zero d y lt is none same = grind (arith, common_steps, is, same)
 set_there id n (x ∷ xs) (suc i) d y lt is none same =
-    let first : bytes_eq x.id id ≡ false = none 0 (omega arith) in
-    let rest = set_there id n xs i d y (omega arith) is (λ k l. none (suc k) (omega arith)) same in
-    rw first (ap (λ ys. credential_view x ∷ ys) rest)
+    grind (arith, common_steps, none 0 (omega arith), set_there id n xs i d y (omega arith) is (λ k l. none (suc k) (omega arith)) same)
 
 pub none_there : (id : List ℕ) (n : ℕ) (xs : List StoredCredential) → position (λ c. bytes_eq c.id id) xs ≡ None → credentials_view xs ≡ with_sign_count id n (credentials_view xs)
 none_there id n [] none = refl
-none_there id n (x ∷ xs) none =
-    let t = tail_none (λ c. bytes_eq c.id id) x xs none in
-    rw t.0 (ap (λ ys. credential_view x ∷ ys) (none_there id n xs t.1))
+none_there id n (x ∷ xs) none = grind (arith, common_steps, tail_none (λ c. bytes_eq c.id id) x xs none, none_there id n xs)
 
 pub set_at_place : (id : List ℕ) (n : ℕ) (xs : List StoredCredential) (i : ℕ) (d y : StoredCredential) → position (λ c. bytes_eq c.id id) xs ≡ Some i
     → credential_view y ≡ record (credential_view (slice_index_or xs i d)) { sign_count = n }
@@ -53,22 +49,15 @@ set_at_place id n xs i d y found same =
 
 pub none_removed : (test : Credential → Bool) (xs : List StoredCredential) → position (λ c. test (credential_view c)) xs ≡ None → without_first test (credentials_view xs) ≡ credentials_view xs
 none_removed test [] none = refl
-none_removed test (x ∷ xs) none =
-    let t = tail_none (λ c. test (credential_view c)) x xs none in
-    rw t.0 (ap (λ ys. credential_view x ∷ ys) (none_removed test xs t.1))
-
-remove_suc : {X : Type 0} (x : X) (xs : List X) (i : ℕ) → remove (x ∷ xs) (suc i) ≡ x ∷ remove xs i
-remove_suc x xs i = refl
+none_removed test (x ∷ xs) none = grind (arith, common_steps, tail_none (λ c. test (credential_view c)) x xs none, none_removed test xs)
 
 removed_there : (test : Credential → Bool) (xs : List StoredCredential) (i : ℕ) (d : StoredCredential) → i < length xs → test (credential_view (slice_index_or xs i d)) ≡ true
     → ((k : ℕ) → k < i → test (credential_view (slice_index_or xs k d)) ≡ false)
     → without_first test (credentials_view xs) ≡ credentials_view (remove xs i)
-removed_there test [] i d lt is none = let bad : i < 0 = lt in absurd (omega arith)
+removed_there test [] i d lt is none = absurd (omega arith)
 removed_there test (x ∷ xs) zero d lt is none = rw is refl
 removed_there test (x ∷ xs) (suc i) d lt is none =
-    let first : test (credential_view x) ≡ false = none 0 (omega arith) in
-    let rest = removed_there test xs i d (omega arith) is (λ k l. none (suc k) (omega arith)) in
-    rw first (ap (λ ys. credential_view x ∷ ys) rest ∙ ap credentials_view (sym (remove_suc x xs i)))
+    grind (arith, common_steps, none 0 (omega arith), removed_there test xs i d (omega arith) is (λ k l. none (suc k) (omega arith)))
 
 pub removed_at : (test : Credential → Bool) (xs : List StoredCredential) (o : Option ℕ) → o ≡ position (λ c. test (credential_view c)) xs
     → MatchOption o (without_first test (credentials_view xs) ≡ credentials_view xs)
