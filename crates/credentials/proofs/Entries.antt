@@ -1,6 +1,7 @@
 -- The entries of a map as the credentials that they keep.
-use Rattle.std.proofs.Common.{◌≡◌, ◌↔◌, ℕ, zero, suc, Bool, false, cond, List, [], ◌∷◌, ◌++◌, map, Option, Some, None, is_some, Vec, Global, slice_get, refl, sym, ap, subst, ◌∙◌, inl, inr}
-use Rattle.std.proofs.lemmas.Bool.{cases_Bool}
+use Rattle.std.proofs.Common.{◌≡◌, ◌↔◌, ℕ, zero, suc, Bool, false, List, [], ◌∷◌, ◌++◌, map, Some, None, is_some, Vec, Global, slice_get, arith, refl, sym, ap, subst, ◌∙◌}
+use Rattle.std.proofs.lemmas.Grind.{common_steps}
+use Rattle.std.proofs.lemmas.List.{map-append}
 use Rattle.std.specs.Str.{bytes_eq}
 use Rattle.std.specs.Map.{lookup, lookup_key, values_of}
 use Rattle.indexmap.specs.Layout.{set_value_at}
@@ -22,60 +23,31 @@ test_of id k = bytes_eq id k.items
 pub found : (id : List ℕ) (es : List Entry) (k : Vec ℕ Global) (v : Kept) → lookup_key (test_of id) es ≡ Some k → lookup (test_of id) es ≡ Some v
     → row_of id (map entry_view es) ≡ Some (kept_view k.items v)
 found id [] k v is_key is_value = absurd cc
-found id (e ∷ es) k v is_key is_value = elim (cases_Bool (test_of id e.0)) [
-  | inl t ↦
-      let a : Some e.0 ≡ Some k = sym (ap (λ (c : Bool). cond c (Some e.0) (lookup_key (test_of id) es)) t) ∙ is_key in
-      let b : Some e.1 ≡ Some v = sym (ap (λ (c : Bool). cond c (Some e.1) (lookup (test_of id) es)) t) ∙ is_value in
-      let same_key : e.0 ≡ k = cc in
-      let same_value : e.1 ≡ v = cc in
-      ap (λ (c : Bool). cond c (Some (entry_view e)) (row_of id (map entry_view es))) t ∙ ap (λ (x : Vec ℕ Global). Some (kept_view x.items e.1)) same_key ∙ ap (λ (x : Kept). Some (kept_view k.items x)) same_value
-  | inr t ↦
-      ap (λ (c : Bool). cond c (Some (entry_view e)) (row_of id (map entry_view es))) t
-      ∙ found id es k v (sym (ap (λ (c : Bool). cond c (Some e.0) (lookup_key (test_of id) es)) t) ∙ is_key)
-      (sym (ap (λ (c : Bool). cond c (Some e.1) (lookup (test_of id) es)) t) ∙ is_value)
-]
+found id (e ∷ es) k v is_key is_value = grind (arith, common_steps, is_key, is_value, found id es k v)
 
 pub absent : (id : List ℕ) (es : List Entry) → lookup (test_of id) es ≡ None → row_of id (map entry_view es) ≡ None
 absent id [] none = refl
-absent id (e ∷ es) none = elim (cases_Bool (test_of id e.0)) [
-  | inl t ↦ let some = ap (λ (c : Bool). cond c (Some e.1) (lookup (test_of id) es)) t in absurd cc
-  | inr t ↦
-      ap (λ (c : Bool). cond c (Some (entry_view e)) (row_of id (map entry_view es))) t
-      ∙ absent id es (sym (ap (λ (c : Bool). cond c (Some e.1) (lookup (test_of id) es)) t) ∙ none)
-]
+absent id (e ∷ es) none = grind (arith, common_steps, none, absent id es)
 
 pub none_kept : (id : List ℕ) (es : List Entry) → row_of id (map entry_view es) ≡ None → lookup (test_of id) es ≡ None
 none_kept id [] none = refl
-none_kept id (e ∷ es) none = elim (cases_Bool (test_of id e.0)) [
-  | inl t ↦ let some = ap (λ (c : Bool). cond c (Some (entry_view e)) (row_of id (map entry_view es))) t in absurd cc
-  | inr t ↦
-      ap (λ (c : Bool). cond c (Some e.1) (lookup (test_of id) es)) t
-      ∙ none_kept id es (sym (ap (λ (c : Bool). cond c (Some (entry_view e)) (row_of id (map entry_view es))) t) ∙ none)
-]
+none_kept id (e ∷ es) none = grind (arith, common_steps, none, none_kept id es)
 
 pub at_place : (es : List Entry) (i : ℕ) (e : Entry) → slice_get es i ≡ Some e → slice_get (map entry_view es) i ≡ Some (entry_view e)
 at_place [] i e is = absurd cc
-at_place (x ∷ es) zero e is = let same : x ≡ e = cc in ap (λ (y : Entry). Some (entry_view y)) same
+at_place (x ∷ es) zero e is = cc
 at_place (x ∷ es) (suc i) e is = at_place es i e is
 
 pub set_value : (es : List Entry) (i : ℕ) (e : Entry) (v : Kept) → slice_get es i ≡ Some e → map entry_view (set_value_at es i v) ≡ set_at (map entry_view es) i (entry_view (e.0, v))
 set_value [] i e v is = absurd cc
-set_value (x ∷ es) zero e v is = let same : x ≡ e = cc in ap (λ (y : Entry). entry_view (y.0, v) ∷ map entry_view es) same
+set_value (x ∷ es) zero e v is = cc
 set_value (x ∷ es) (suc i) e v is = ap (λ (l : List Credential). entry_view x ∷ l) (set_value es i e v is)
 
-no_value : {A : Type 0} (o : Option A) → is_some o ≡ false → o ≡ None
-no_value None e = refl
-no_value (Some x) e = absurd cc
-
 pub has_not : (id : List ℕ) (es : List Entry) (b : Bool) → b ≡ is_some (lookup (test_of id) es) → b ≡ false ↔ row_of id (map entry_view es) ≡ None
-has_not id es b is = (λ e. absent id es (no_value (lookup (test_of id) es) (sym is ∙ e)), λ none. is ∙ ap is_some (none_kept id es none))
-
-shown_append : (es fs : List Entry) → map entry_view (es ++ fs) ≡ map entry_view es ++ map entry_view fs
-shown_append [] fs = refl
-shown_append (e ∷ es) fs = ap (λ (l : List Credential). entry_view e ∷ l) (shown_append es fs)
+has_not id es b is = grind (arith, common_steps, is, absent id es, none_kept id es)
 
 pub one_entry_more : (es new : List Entry) (e : Entry) → new ≡ es ++ e ∷ [] → map entry_view new ≡ map entry_view es ++ entry_view e ∷ []
-one_entry_more es new e is = ap (map entry_view) is ∙ shown_append es (e ∷ [])
+one_entry_more es new e is = ap (map entry_view) is ∙ map-append entry_view es (e ∷ [])
 
 -- ---- a value written at a place
 

@@ -1,21 +1,16 @@
 -- A table that is made row by row.
-use Rattle.std.proofs.Common.{◌≡◌, ◌<◌, List, [], ◌∷◌, ◌++◌, length, None, refl, ap, ◌∙◌, subst, arith}
-use Rattle.std.proofs.lemmas.List.{length-append}
-use Rattle.verification.specs.Records.{Credential}
+use Rattle.std.proofs.Common.{◌≡◌, ◌<◌, List, ◌∷◌, ◌++◌, length, None, ap, ◌∙◌, subst, arith}
+use Rattle.std.proofs.lemmas.List.{length-append, map-append}
 use Rattle.credentials.specs.Table.{row_of, IsRow, IsTable}
 use Rattle.credentials.specs.Views.{row_view, rows_view}
 use Rattle.credentials.specs.declared.row.Row.{Row}
 use Rattle.credentials.proofs.RowLemmas.{front_absent}
 
-pub joined : (xs ys : List Row) → rows_view (xs ++ ys) ≡ rows_view xs ++ rows_view ys
-joined [] ys = refl
-joined (x ∷ xs) ys = ap (λ (l : List Credential). row_view x ∷ l) (joined xs ys)
-
 -- a row of a table may stand behind those before it
 pub admitted : (rows front rest : List Row) (row : Row) → rows ≡ front ++ row ∷ rest → IsTable (rows_view rows)
     → IsRow (row_view row) × (row_of row.id.items (rows_view front) ≡ None) × (length (rows_view front) < 65536)
 admitted rows front rest row is table =
-    let parts : rows_view rows ≡ rows_view front ++ row_view row ∷ rows_view rest = ap rows_view is ∙ joined front (row ∷ rest) in
+    let parts : rows_view rows ≡ rows_view front ++ row_view row ∷ rows_view rest = ap rows_view is ∙ map-append row_view front (row ∷ rest) in
     let whole : IsTable (rows_view front ++ row_view row ∷ rows_view rest) = subst IsTable parts table in
     let absent = front_absent (rows_view front) (rows_view rest) (row_view row) whole.1 in
     let len = length-append (rows_view front) (row_view row ∷ rows_view rest) in

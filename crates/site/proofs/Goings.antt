@@ -21,7 +21,7 @@ use Rattle.credentials.specs.Table.{row_of, with_row, signed_in, retired}
 use Rattle.credentials.proofs.RowLemmas.{found_id}
 use Rattle.saved_table.specs.Saved.{TableOf}
 use Rattle.saved_table.proofs.Tables.{one_saved}
-use Rattle.sessions.specs.Sessions.{Expected, ForSignIn, ForRegistration, Opening, OpensSignIn, OpensRegistration, begun, challenge_of, closed, expected_of, for_registration, for_sign_in, sign_in_at}
+use Rattle.sessions.specs.Sessions.{Expected, ForSignIn, Opening, OpensSignIn, OpensRegistration, begun, challenge_of, closed, expected_of, for_registration, for_sign_in, sign_in_at}
 use Rattle.site.specs.State.{State, IsAfterRegistration, IsAfterSignIn, attempt_in, enrolment_in, registered, saved_of}
 use Rattle.site.specs.Laws.{GoesOn, IsFresh, IsGone, IsNumbered, Keeps, SiteLaws, Takes, after_abandon, after_begin, after_restart, after_retire, challenge_in}
 use Rattle.site.proofs.Judged.{no_row, same_attempt}
@@ -70,8 +70,7 @@ gone_now : (s : State) (rows : List Credential) (n : ℕ) → IsFresh s → IsSo
 gone_now s rows n fresh is = (fresh n is, grind (arith, gets, common_steps))
 
 pub none_there : {X : Type 0} (o : Option X) → IsSome o → o ≡ None → ⊥
-none_there None is e = let bad : false ≡ true = is in cc
-none_there (Some x) is e = let bad : Some x ≡ None = e in cc
+none_there o is e = grind (arith, common_steps, is, e)
 
 empty_fresh : (s : State) → s.sessions.expected ≡ finite.empty → IsFresh s
 empty_fresh s e n is =
@@ -112,17 +111,13 @@ one_number n k v w ln lk e =
     (sym (from_be_bytes-to_be_bytes_8 n ln) ∙ ap (from_be_bytes w64) front ∙ from_be_bytes-to_be_bytes_8 k lk, rest)
 
 is_open_by : (o : Option Expected) (e : SignIn) → for_sign_in o ≡ Some e → o ≡ Some (ForSignIn e)
-is_open_by None e h = let bad : None ≡ Some e = h in cc
-is_open_by (Some (ForSignIn x)) e h = let k : Some x ≡ Some e = h in cc
-is_open_by (Some (ForRegistration x)) e h = let bad : None ≡ Some e = h in cc
+is_open_by o e h = grind (arith, common_steps, h)
 
 some_sign_in : (o : Option Expected) → IsSome (for_sign_in o) → IsSome o
-some_sign_in None h = h
-some_sign_in (Some e) h = refl
+some_sign_in o h = grind (arith, common_steps, h)
 
 some_registration : (o : Option Expected) (e : Registration) → for_registration o ≡ Some e → IsSome o
-some_registration None e h = let bad : None ≡ Some e = h in cc
-some_registration (Some x) e h = refl
+some_registration o e h = grind (arith, common_steps, h)
 
 -- ---- what happens
 

@@ -1,20 +1,16 @@
 -- What a credential keeps.
-use Rattle.std.proofs.Common.{◌≡◌, ◌≤◌, ℕ, List, [], ◌∷◌, ◌++◌, Some, None, Bool, true, false, sym, ◌∙◌, ap, refl, subst, arith, inl, inr}
+use Rattle.std.proofs.Common.{◌≡◌, ◌≤◌, ℕ, List, [], ◌∷◌, ◌++◌, Some, Bool, true, false, sym, ◌∙◌, ap, refl, subst, arith, inl, inr}
 use Rattle.std.proofs.lemmas.Bool.{cases_Bool}
-use Rattle.std.proofs.lemmas.Option.{same_Some}
+use Rattle.std.proofs.lemmas.Grind.{common_steps}
 use Rattle.std.specs.Str.{bytes_eq}
 use Rattle.verification.specs.Records.{Credential}
 use Rattle.credentials.specs.Table.{row_of, with_row}
-use Rattle.credentials.proofs.RowLemmas.{behind, found_id, here, with_behind, with_here}
+use Rattle.credentials.proofs.RowLemmas.{found_id}
 use Rattle.std.specs.Cmp.Lexicographic.{bytes_decides}
 use Rattle.site.specs.Laws.{IsKept}
 
--- ids that differ from one do not equal what equals it
-not_both : (id k x : List ℕ) → bytes_eq id k ≡ false → bytes_eq id x ≡ true → bytes_eq k x ≡ false
-not_both id k x apart is = elim (cases_Bool (bytes_eq k x)) [
-  | inl same ↦ let bad = (bytes_decides id k).1 ((bytes_decides id x).0 is ∙ sym ((bytes_decides k x).0 same)) in absurd cc
-  | inr differs ↦ differs
-]
+same_id : (x y : List ℕ) → bytes_eq x y ≡ true → x ≡ y
+same_id x y e = (bytes_decides x y).0 e
 
 -- a row that is there is kept
 pub kept_here : (rows : List Credential) (row : Credential) → row_of row.id rows ≡ Some row → IsKept row rows
@@ -50,33 +46,15 @@ changed_kept rows row change k e =
 -- the row that was changed
 pub row_changed : (id : List ℕ) (change : Credential → Credential) (rows : List Credential) (row : Credential) → ((x : Credential) → (change x).id ≡ x.id) → row_of id rows ≡ Some row
     → row_of id (with_row id change rows) ≡ Some (change row)
-row_changed id change [] row same e = let bad : None ≡ Some row = e in cc
-row_changed id change (r ∷ rs) row same e =
-    elim (cases_Bool (bytes_eq id r.id)) [
-      | inl first ↦
-          let is : r ≡ row = same_Some r row (sym (here id r rs first) ∙ e) in
-          ap (row_of id) (with_here id change r rs first) ∙ here id (change r) rs (ap (bytes_eq id) (same r) ∙ first) ∙ ap (λ x. Some (change x)) is
-      | inr there ↦
-          ap (row_of id) (with_behind id change r rs there) ∙ behind id r (with_row id change rs) there ∙ row_changed id change rs row same (sym (behind id r rs there) ∙ e)
-    ]
+row_changed id change [] row same e = absurd cc
+row_changed id change (r ∷ rs) row same e = grind (arith, common_steps, e, same r, row_changed id change rs row same)
 
--- another row, or the same, where one was changed
+-- another row where one was changed
 row_beside : (id k : List ℕ) (change : Credential → Credential) (rows : List Credential) (row : Credential) → ((x : Credential) → (change x).id ≡ x.id) → row_of k rows ≡ Some row
-    → bytes_eq id k ≡ false → ((r : Credential) → bytes_eq id r.id ≡ true → bytes_eq k r.id ≡ false) → row_of k (with_row id change rows) ≡ Some row
-row_beside id k change [] row same e other apart = let bad : None ≡ Some row = e in cc
-row_beside id k change (r ∷ rs) row same e other apart =
-    elim (cases_Bool (bytes_eq id r.id)) [
-      | inl first ↦
-          let away : bytes_eq k r.id ≡ false = apart r first in
-          ap (row_of k) (with_here id change r rs first) ∙ behind k (change r) rs (ap (bytes_eq k) (same r) ∙ away) ∙ sym (behind k r rs away) ∙ e
-      | inr there ↦ elim (cases_Bool (bytes_eq k r.id)) [
-        | inl mine ↦
-            ap (row_of k) (with_behind id change r rs there) ∙ here k r (with_row id change rs) mine ∙ sym (here k r rs mine) ∙ e
-        | inr not_mine ↦
-            ap (row_of k) (with_behind id change r rs there) ∙ behind k r (with_row id change rs) not_mine
-            ∙ row_beside id k change rs row same (sym (behind k r rs not_mine) ∙ e) other apart
-      ]
-    ]
+    → bytes_eq id k ≡ false → row_of k (with_row id change rows) ≡ Some row
+row_beside id k change [] row same e other = absurd cc
+row_beside id k change (r ∷ rs) row same e other =
+    grind (arith, common_steps, e, other, same r, same_id id r.id, same_id k r.id, bytes_decides, row_beside id k change rs row same)
 
 -- each row is kept where one is changed by a change that keeps it
 pub kept_changed : (id : List ℕ) (change : Credential → Credential) (rows : List Credential) (k : List ℕ) (row : Credential) → ((x : Credential) → (change x).id ≡ x.id)
@@ -85,19 +63,13 @@ kept_changed id change rows k row same keeps e =
     let mine : row.id ≡ k = found_id k rows row e in
     elim (cases_Bool (bytes_eq id k)) [
       | inl first ↦
-          let ids : id ≡ k = (bytes_decides id k).0 first in
-          let there : row_of id rows ≡ Some row = ap (λ x. row_of x rows) ids ∙ e in
+          let ids : id ≡ k = same_id id k first in
+          let there : row_of id rows ≡ Some row = rw ids e in
           changed_kept (with_row id change rows) row change (keeps row there) (ap (λ x. row_of x (with_row id change rows)) (mine ∙ sym ids) ∙ row_changed id change rows row same there)
-      | inr apart ↦
-          kept_here (with_row id change rows) row (ap (λ x. row_of x (with_row id change rows)) mine
-          ∙ row_beside id k change rows row same e apart (λ r is. not_both id k r.id apart is))
+      | inr apart ↦ kept_here (with_row id change rows) row (ap (λ x. row_of x (with_row id change rows)) mine ∙ row_beside id k change rows row same e apart)
     ]
 
 -- the row of an id where one more stands last
 pub row_before : (k : List ℕ) (rows more : List Credential) (row : Credential) → row_of k rows ≡ Some row → row_of k (rows ++ more) ≡ Some row
-row_before k [] more row e = let bad : None ≡ Some row = e in cc
-row_before k (r ∷ rs) more row e =
-    elim (cases_Bool (bytes_eq k r.id)) [
-      | inl first ↦ here k r (rs ++ more) first ∙ sym (here k r rs first) ∙ e
-      | inr there ↦ behind k r (rs ++ more) there ∙ row_before k rs more row (sym (behind k r rs there) ∙ e)
-    ]
+row_before k [] more row e = absurd cc
+row_before k (r ∷ rs) more row e = grind (arith, common_steps, e, row_before k rs more row)

@@ -1,6 +1,7 @@
 use Rattle.std.proofs.Common.{◌≡◌, ◌∷◌, [], ◌++◌, sym, ap, ◌∙◌, append_assoc, rules}
 use Rattle.credentials.specs.Views.{row_view}
-use Rattle.credentials.proofs.Made.{admitted, joined}
+use Rattle.std.proofs.lemmas.List.{map-append}
+use Rattle.credentials.proofs.Made.{admitted}
 use Rattle.credentials.proofs.table.Table.from_rows.Goals as goal
 
 pub loop-row-preserved : goal.loop-row-preserved
@@ -8,7 +9,7 @@ loop-row-preserved c =
     let rest : c.loop-row.row-iterator.rest.items ≡ c.in-Some.row ∷ c.next.new.self.rest.items = search rules in (
       tt,
       tt,
-      c.in_ok-push.ensures.pushed ∙ ap (λ l. l ++ row_view c.in-Some.row ∷ []) c.loop-row.invariant.2 ∙ sym (joined c.loop-row.yielded (c.in-Some.row ∷ [])),
+      c.in_ok-push.ensures.pushed ∙ ap (λ l. l ++ row_view c.in-Some.row ∷ []) c.loop-row.invariant.2 ∙ sym (map-append row_view c.loop-row.yielded (c.in-Some.row ∷ [])),
       c.loop-row.invariant.3 ∙ ap (λ l. c.loop-row.yielded ++ l) rest ∙ sym (append_assoc c.loop-row.yielded (c.in-Some.row ∷ []) c.next.new.self.rest.items),
     )
 
