@@ -1,8 +1,7 @@
 -- A response passes each step of a registration.
-use Rattle.std.proofs.Common.{◌≡◌, ◌⊎◌, true, false, Some, refl, sym, ◌∙◌, ap, subst, Contains}
+use Rattle.std.proofs.Common.{◌≡◌, ◌⊎◌, true, false, Some, refl, sym, ◌∙◌, ap, subst, get_or, Contains}
 use Rattle.first_line.specs.Lines.{Each}
 use Rattle.clientdata.specs.declared.record.Kind.TheVariants.{Create}
-use Rattle.clientdata.specs.Reading.{seen_of}
 use Rattle.cose.specs.Keys.{alg_of}
 use Rattle.authdata.specs.Layout.{AttestedCredential, AuthenticatorData, AuthOf}
 use Rattle.authdata.specs.Objects.{Attestation}
@@ -10,10 +9,12 @@ use Rattle.authdata.specs.Responses as responses
 use Rattle.authdata.specs.Statements.{IsKnownFormat, IsNone, IsSelfSigned}
 use Rattle.verification.specs.ClientData.{Says, lines}
 use Rattle.verification.specs.Records.{Registration}
-use Rattle.verification.specs.Registration.{Attested, Attests, Enrolment, PassesAll, hash_in}
-use Rattle.verification.specs.Shared.{HasChallenge, IsFor, IsPresent, IsVerifiedAs, Relation}
+use Rattle.verification.specs.Registration.{Attested, Attests, Enrolment, Passes, PassesAll, hash_in, steps}
+use Rattle.verification.specs.declared.refusal.RegistrationRefusal.{RegistrationRefusal}
+use Rattle.verification.specs.declared.refusal.RegistrationRefusal.TheVariants as step
+use Rattle.std.proofs.lemmas.List.Elements.{recursion_from_All}
+use Rattle.verification.specs.Shared.{IsFor, IsPresent, IsVerifiedAs, Relation}
 use Rattle.verification.proofs.Steps.{of_some}
-use Rattle.std.specs.Option.{ForSome}
 use Rattle.agreement.specs.Below.{Readings}
 
 -- at most one object, one authenticator's data and one credential are attested
@@ -51,51 +52,23 @@ module _ (readings : Readings) (valid : Relation) (x : Enrolment) (e : Registrat
     pub not_registered : x.is_registered c.id ≡ false
     pub not_full : x.is_full ≡ false
 
+  passed : Enrols → (w : RegistrationRefusal) → Passes valid x w
+  passed h step.SessionNotOpen = rw h.is_open refl
+  passed h step.UnreadableClientData = h.says.0
+  passed h step.WrongType = h.says.1.0
+  passed h step.WrongChallenge = of_some _ x.session e h.is_open h.says.1.1.0
+  passed h step.WrongOrigin = h.says.1.1.1.0
+  passed h step.TokenBinding = h.says.1.1.1.1.0
+  passed h step.BadAttestationObject = (o, a, c, h.attests)
+  passed h step.WrongRelyingParty = all _ h.attests h.party
+  passed h step.UserNotPresent = all _ h.attests h.present
+  passed h step.UserNotVerified = of_some _ x.session e h.is_open (all _ h.attests h.verified)
+  passed h step.AlgorithmNotOffered = of_some _ x.session e h.is_open (all _ h.attests h.offered)
+  passed h step.UnknownFormat = all _ h.attests h.known
+  passed h step.BadStatement = all _ h.attests h.statement
+  passed h step.AttestationNotAccepted = all _ h.attests h.accepted
+  passed h step.CredentialRegistered = all _ h.attests h.not_registered
+  passed h step.TableFull = h.not_full
+
   pub enrols : Enrols → PassesAll valid x
-  enrols h =
-      let s = h.says in (
-        rw h.is_open refl,
-        (
-          s.0,
-          (
-            s.1.0,
-            (
-              of_some (λ (f : Registration). ForSome (seen_of x.response.client_data) (HasChallenge f.challenge)) x.session e h.is_open s.1.1.0,
-              (
-                s.1.1.1.0,
-                (
-                  s.1.1.1.1.0,
-                  (
-                    (o, a, c, h.attests),
-                    (
-                      all (λ p b d. IsFor x.rp b) h.attests h.party,
-                      (
-                        all (λ p b d. IsPresent b) h.attests h.present,
-                        (
-                          of_some (λ (f : Registration). Attested x.response (λ p b d. IsVerifiedAs f.verified b)) x.session e h.is_open
-                              (all (λ p b d. IsVerifiedAs e.verified b) h.attests h.verified),
-                          (
-                            of_some (λ (f : Registration). Attested x.response (λ p b d. Contains f.algorithms (alg_of d.key))) x.session e h.is_open
-                                (all (λ p b d. Contains e.algorithms (alg_of d.key)) h.attests h.offered),
-                            (
-                              all (λ p b d. IsKnownFormat p.fmt) h.attests h.known,
-                              (
-                                all (λ p b d. IsNone p ⊎ IsSelfSigned valid p d.key (hash_in x.response)) h.attests h.statement,
-                                (
-                                  all (λ p b d. (IsNone p → x.policy.accept_none ≡ true) × (IsSelfSigned valid p d.key (hash_in x.response) → x.policy.accept_self ≡ true))
-                                      h.attests h.accepted,
-                                  (all (λ p b d. x.is_registered d.id ≡ false) h.attests h.not_registered, (h.not_full, tt)),
-                                ),
-                              ),
-                            ),
-                          ),
-                        ),
-                      ),
-                    ),
-                  ),
-                ),
-              ),
-            ),
-          ),
-        ),
-      )
+  enrols h = recursion_from_All (Passes valid x) steps (λ k w lt. passed h (get_or steps k w))

@@ -1,19 +1,21 @@
 -- An honest sign-in is accepted.
-use Rattle.std.proofs.Common.{◌≡◌, ◌≢◌, ◌⊎◌, inl, inr, ℕ, ◌<◌, ◌≤◌, ◌+◌, ◌-◌, ◌^◌, List, [], ◌∷◌, ◌++◌, length, Bool, true, false, not, if◌then◌else◌, Option, Some, None, refl, sym, ◌∙◌, ap, subst, arith, Contains}
+use Rattle.std.proofs.Common.{◌≡◌, ◌≢◌, ◌⊎◌, inl, inr, ℕ, ◌<◌, ◌≤◌, ◌+◌, ◌-◌, ◌^◌, List, [], ◌∷◌, ◌++◌, length, Bool, true, false, not, if◌then◌else◌, Option, Some, None, refl, sym, ◌∙◌, ap, subst, arith, get_or, Contains}
 use Rattle.std.specs.Option.{ForSome}
 use Rattle.first_line.specs.Lines.{Each}
 use Rattle.clientdata.specs.declared.record.Kind.TheVariants.{Get}
-use Rattle.clientdata.specs.Reading.{seen_of}
 use Rattle.clientdata.specs.Serialised.{client_data_text, hash_of}
 use Rattle.cose.specs.Schemes.{Validity}
 use Rattle.authdata.specs.Flags.{is_set, AT, BE, UP, UV}
 use Rattle.authdata.specs.Layout.{AuthenticatorData, AuthOf}
 use Rattle.ctapmsg.specs.Replies.{Assertion, ReplyOf, assertion_reply}
 use Rattle.ctapmsg.specs.Requests.{AssertionRequest, get_assertion}
-use Rattle.verification.specs.Authentication.{AreUser, Attempt, IsCounted, PassesAll}
+use Rattle.verification.specs.Authentication.{AreUser, Attempt, IsCounted, Passes, PassesAll, steps}
+use Rattle.verification.specs.declared.refusal.SignInRefusal.{SignInRefusal}
+use Rattle.verification.specs.declared.refusal.SignInRefusal.TheVariants as step
+use Rattle.std.proofs.lemmas.List.Elements.{recursion_from_All}
 use Rattle.verification.specs.ClientData.{Says, lines}
 use Rattle.verification.specs.Records as expects
-use Rattle.verification.specs.Shared.{HasChallenge, IsFor, IsPresent, IsVerifiedAs, Relation}
+use Rattle.verification.specs.Shared.{IsFor, IsPresent, IsVerifiedAs, Relation}
 use Rattle.verification.proofs.Expected.{expected_says}
 use Rattle.verification.proofs.Steps.{of_some}
 use Rattle.credentials.specs.Table.{row_of, signed_in}
@@ -72,62 +74,26 @@ module _ (readings : Readings) (valid : Relation) (x : Attempt) (e : expects.Sig
     pub counted : IsCounted c.sign_count a.sign_count
     pub eligible : ForSome c.eligible (λ known. is_set a.flags BE ≡ known)
 
+  passed : Signs → (w : SignInRefusal) → Passes valid x w
+  passed h step.SessionNotOpen = rw h.is_open refl
+  passed h step.CredentialNotAllowed = of_some _ x.session e h.is_open h.allowed
+  passed h step.UnknownCredential = (rw h.registered refl, of_some _ x.credential c h.registered h.not_retired)
+  passed h step.OtherUser = of_some _ x.session e h.is_open (of_some _ x.credential c h.registered h.user)
+  passed h step.UnreadableClientData = h.says.0
+  passed h step.WrongType = h.says.1.0
+  passed h step.WrongChallenge = of_some _ x.session e h.is_open h.says.1.1.0
+  passed h step.WrongOrigin = h.says.1.1.1.0
+  passed h step.TokenBinding = h.says.1.1.1.1.0
+  passed h step.BadAuthenticatorData = (a, h.spelled, h.bare)
+  passed h step.WrongRelyingParty = all _ h.spelled h.party
+  passed h step.UserNotPresent = all _ h.spelled h.present
+  passed h step.UserNotVerified = of_some _ x.session e h.is_open (all _ h.spelled h.verified)
+  passed h step.BadSignature = of_some _ x.credential c h.registered h.signature
+  passed h step.CounterNotGreater = of_some _ x.credential c h.registered (all _ h.spelled h.counted)
+  passed h step.EligibilityChanged = of_some _ x.credential c h.registered (λ known is. all _ h.spelled (h.eligible known is))
+
   signs : Signs → PassesAll valid x
-  signs h =
-      let s = h.says in (
-        rw h.is_open refl,
-        (
-          of_some (λ (f : expects.SignIn). (f.allow ≡ []) ⊎ Contains f.allow x.response.credential) x.session e h.is_open h.allowed,
-          (
-            (rw h.registered refl, of_some (λ (d : expects.Credential). d.retired ≡ false) x.credential c h.registered h.not_retired),
-            (
-              of_some (λ (f : expects.SignIn). ForSome x.credential (λ d. AreUser f.user x.response.user d.user)) x.session e h.is_open
-                  (of_some (λ (d : expects.Credential). AreUser e.user x.response.user d.user) x.credential c h.registered h.user),
-              (
-                s.0,
-                (
-                  s.1.0,
-                  (
-                    of_some (λ (f : expects.SignIn). ForSome (seen_of x.response.client_data) (HasChallenge f.challenge)) x.session e h.is_open s.1.1.0,
-                    (
-                      s.1.1.1.0,
-                      (
-                        s.1.1.1.1.0,
-                        (
-                          (a, h.spelled, h.bare),
-                          (
-                            all (IsFor x.rp) h.spelled h.party,
-                            (
-                              all IsPresent h.spelled h.present,
-                              (
-                                of_some (λ (f : expects.SignIn). (b : AuthenticatorData) → AuthOf b x.response.auth_data → IsVerifiedAs f.verified b) x.session e h.is_open
-                                    (all (IsVerifiedAs e.verified) h.spelled h.verified),
-                                (
-                                  of_some (λ (d : expects.Credential). valid d.key (x.response.auth_data ++ hash_of x.response.client_data) x.response.signature) x.credential c
-                                      h.registered h.signature,
-                                  (
-                                    of_some (λ (d : expects.Credential). (b : AuthenticatorData) → AuthOf b x.response.auth_data → IsCounted d.sign_count b.sign_count) x.credential c
-                                        h.registered (all (λ b. IsCounted c.sign_count b.sign_count) h.spelled h.counted),
-                                    (
-                                      of_some (λ (d : expects.Credential). ForSome d.eligible (λ known. (b : AuthenticatorData) → AuthOf b x.response.auth_data → is_set b.flags BE ≡ known))
-                                          x.credential c h.registered (λ known is. all (λ b. is_set b.flags BE ≡ known) h.spelled (h.eligible known is)),
-                                      tt,
-                                    ),
-                                  ),
-                                ),
-                              ),
-                            ),
-                          ),
-                        ),
-                      ),
-                    ),
-                  ),
-                ),
-              ),
-            ),
-          ),
-        ),
-      )
+  signs h = recursion_from_All (Passes valid x) steps (λ k w lt. passed h (get_or steps k w))
 
 -- ---- who is asked for
 

@@ -1,6 +1,5 @@
 -- Credentials that are stored and registered.
-use Rattle.std.proofs.Common.{◌≡◌, ℕ, ◌<◌, ◌≤◌, List, [], ◌∷◌, ◌++◌, length, map, filter, reverse, Bool, true, false, cond, Some, None, refl, sym, ◌∙◌, ap, arith, inl, inr}
-use Rattle.std.proofs.lemmas.Bool.{cases_Bool}
+use Rattle.std.proofs.Common.{◌≡◌, ℕ, ◌<◌, ◌≤◌, List, [], ◌∷◌, ◌++◌, length, map, filter, reverse, Bool, true, Some, None, refl, ◌∙◌, ap, arith}
 use Rattle.std.proofs.lemmas.List.{map-append, reverse-append}
 use Rattle.std.proofs.lemmas.List.Elements.{filter-append}
 use Rattle.std.specs.Str.{bytes_eq}
@@ -8,36 +7,24 @@ use Rattle.std.specs.Cmp.Lexicographic.{bytes_decides}
 use Rattle.ctapmsg.specs.Requests.{CreationRequest}
 use Rattle.authenticator.specs.State.{Credential}
 use Rattle.authenticator.specs.Credentials.{credential_of, is_resident_for, is_resident_of, resident_ids, without_first}
-use Rattle.authenticator.specs.Orders.{candidates, creation_flags, is_stored_for, is_true, kept}
+use Rattle.authenticator.specs.Orders.{candidates, is_stored_for, kept}
 use Rattle.client.specs.Asked.{descriptor_of}
 use Rattle.verification.specs.Records as registered
 use Rattle.authenticator.proofs.Stored.{itself, none_without}
 use Rattle.credentials.specs.Table.{row_of}
-use Rattle.credentials.proofs.RowLemmas.{behind, here}
+use Rattle.std.proofs.lemmas.Grind.{common_steps}
 
 -- ---- at the authenticator
 
 fewer : (test : Credential → Bool) (cs : List Credential) → length (without_first test cs) ≤ length cs
 fewer test [] = omega arith
-fewer test (c ∷ cs) = split (test c) (fewer test cs)
-  where
-    split : (b : Bool) → length (without_first test cs) ≤ length cs → length (cond b cs (c ∷ without_first test cs)) ≤ length (c ∷ cs)
-    split true less = omega arith
-    split false less = omega (arith, less)
+fewer test (c ∷ cs) = grind (arith, common_steps, fewer test cs)
 
 pub none_kept : (cs : List Credential) (q : CreationRequest) (id : List ℕ) → credential_of id cs ≡ None → credential_of id (kept cs q) ≡ None
-none_kept cs q id none = split (is_true (creation_flags q.options).rk)
-  where
-    split : (b : Bool) → credential_of id (cond b (without_first (is_resident_of q.rp.id q.user.id) cs) cs) ≡ None
-    split true = none_without (is_resident_of q.rp.id q.user.id) cs id none
-    split false = none
+none_kept cs q id none = grind (arith, common_steps, none, none_without (is_resident_of q.rp.id q.user.id) cs id none)
 
 pub few_kept : (cs : List Credential) (q : CreationRequest) → length cs < 256 → length (kept cs q) < 256
-few_kept cs q few = split (is_true (creation_flags q.options).rk)
-  where
-    split : (b : Bool) → length (cond b (without_first (is_resident_of q.rp.id q.user.id) cs) cs) < 256
-    split true = let less = fewer (is_resident_of q.rp.id q.user.id) cs in omega (arith, less, few)
-    split false = few
+few_kept cs q few = grind (arith, common_steps, few, fewer (is_resident_of q.rp.id q.user.id) cs)
 
 pub newest_first : (rp_id : List ℕ) (cs : List Credential) (c : Credential) → c.resident ≡ true → c.rp_id ≡ rp_id
     → resident_ids rp_id (cs ++ c ∷ []) ≡ c.id ∷ resident_ids rp_id cs
@@ -62,8 +49,5 @@ listed cs rp_id c found of =
 -- ---- at the site
 
 pub row_last : (rows : List registered.Credential) (row : registered.Credential) → row_of row.id rows ≡ None → row_of row.id (rows ++ row ∷ []) ≡ Some row
-row_last [] row none = here row.id row [] (itself row.id)
-row_last (r ∷ rows) row none = elim (cases_Bool (bytes_eq row.id r.id)) [
-  | inl is ↦ let found = here row.id r rows is in absurd cc
-  | inr other ↦ behind row.id r (rows ++ row ∷ []) other ∙ row_last rows row (sym (behind row.id r rows other) ∙ none)
-]
+row_last [] row none = rw (itself row.id) refl
+row_last (r ∷ rows) row none = grind (arith, common_steps, none, row_last rows row)
