@@ -47,7 +47,7 @@ creation_of c = record { fmt = c.0; auth_data = c.1.0; statement = c.1.1.0 }
 creation_contents : (q r : Creation) → creation_reply_content q ≡ creation_reply_content r → q ≡ r
 creation_contents q r e = ap creation_of e
 
-pub creation_items : (q r : Creation) → creation_reply_item q ≡ creation_reply_item r → q ≡ r
+creation_items : (q r : Creation) → creation_reply_item q ≡ creation_reply_item r → q ≡ r
 creation_items q r e = creation_contents q r (one_read (record_of creation_reply_members) creation_ordered (creation_reply_content q) (creation_reply_content r) e)
 
 abbrev assertion_of : Contents assertion_reply_members → Assertion
@@ -69,7 +69,7 @@ info_of c = record { versions = c.0; aaguid = c.1.0; options = c.1.1.0; max_msg_
 info_contents : (q r : Info) → info_content q ≡ info_content r → q ≡ r
 info_contents q r e = ap info_of e
 
-pub assertion_items : (q r : Assertion) → assertion_reply_item q ≡ assertion_reply_item r → q ≡ r
+assertion_items : (q r : Assertion) → assertion_reply_item q ≡ assertion_reply_item r → q ≡ r
 assertion_items q r e = assertion_contents q r (one_read (record_of assertion_reply_members) assertion_ordered (assertion_reply_content q) (assertion_reply_content r) e)
 
 -- bytes are one reply

@@ -1,14 +1,12 @@
 -- The sessions of a map, seen by what they expect.
 use Rattle.std.proofs.Common.{◌≡◌, ℕ, List, [], ◌∷◌, true, false, sym, ◌∙◌, ap, arith, subst, refl, length, map, ◌+◌, ◌-◌}
 use Rattle.std.proofs.lemmas.Grind.{common_steps}
-use Rattle.std.proofs.lemmas.Option.{same_Some}
 use Rattle.std.specs.Prelude.{Bool, Option, Some, None, cond, option_map, is_some, if◌then◌else◌}
 use Rattle.std.specs.Ordering.{nat_cmp, eq_by_cmp}
 use Rattle.std.specs.Cmp.{nat_cmp_total, eq_by_cmp_equiv}
 use Rattle.std.specs.Borrow.{Bor}
-use Rattle.std.specs.Option.{ForSome, option_copied}
-use Rattle.credentials.specs.Table.{IsWithin}
-use Rattle.sessions.specs.Sessions.{AreLimits, Expected, ForSignIn, ForRegistration, Open, for_registration}
+use Rattle.std.specs.Option.{option_copied}
+use Rattle.sessions.specs.Sessions.{AreLimits, Expected, Open}
 use Rattle.std.specs.Map.{lookup}
 use Rattle.std.specs.BTreeMap as tree
 use Rattle.std.specs.BTreeMap.{BTreeMap}
@@ -116,9 +114,3 @@ copied (Some x) = refl
 
 abbrev pub open_with : ℕ → finite.FinMap nat_cmp Expected → Open
 open_with next expected = record { expected = expected; next = next }
-
--- a session that is open for registration is within its limits
-pub registration_limits : (o : Option Expected) → AreLimits o → ForSome (for_registration o) (λ e. IsWithin 64 e.user)
-registration_limits None limits e is = let bad : None ≡ Some e = is in cc
-registration_limits (Some (ForSignIn x)) limits e is = let bad : None ≡ Some e = is in cc
-registration_limits (Some (ForRegistration x)) limits e is = let same : Some x ≡ Some e = is in subst (λ y. IsWithin 64 y.user) (same_Some x e same) limits
