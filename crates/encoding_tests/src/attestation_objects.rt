@@ -1,20 +1,15 @@
 //! Attestation objects: what is read, written and refused. The bytes are worked by hand from
 //! WebAuthn, section 6.5.4.
 
-use crate::made::{Leaf, Made, made_value};
+use crate::made::made_value;
 use crate::pieces::{Table, bytes_of, number, part};
 use authdata::{AttestationObject, Error};
 use ccbor::Value;
 use std::alloc::{AllocError, Global};
 use std::test::Fail;
 
-const EMPTY: Made = Made::Leaf(Leaf::NoPairs);
-
 /// The statement of a packed object, of ES256.
-const PACKED: Made = Made::Pairs(&[
-    (Leaf::Text("alg"), Leaf::Nint(6)),
-    (Leaf::Text("sig"), Leaf::Bytes(&[7, 8])),
-]);
+const PACKED: &str = "text:alg=nint:6 text:sig=bytes:0708";
 
 /// What an object is for, its bytes, its format, its authenticator data, and how many members its statement has: that
 /// of two is `PACKED`.
@@ -57,7 +52,7 @@ fn is_read(alloc: Global, line: &str, bytes: &[u8], auth_data: &[u8]) -> Result<
 /// Whether the object that is made of a line's parts is written as its bytes.
 fn is_written(alloc: Global, line: &str, bytes: &[u8], auth_data: &[u8]) -> Result<bool, Error> {
     let statement = if number(line, 4) == Some(0) {
-        EMPTY
+        "map:"
     } else {
         PACKED
     };
@@ -122,28 +117,16 @@ fn refusal(alloc: Global, bytes: &[u8]) -> Option<usize> {
 
 /// What a statement is for, the statement, and how many bytes an object of format none with it and 32 bytes of
 /// authenticator data has, or the number of its refusal.
-const STATEMENTS: &[(&str, Made, usize)] = &[
-    ("three levels", Made::NestedAtA(1), 66),
-    ("four levels", Made::NestedAtA(2), 1),
-    (
-        "keys in order",
-        Made::Pairs(&[(Leaf::Text("a"), ZERO), (Leaf::Text("b"), ZERO)]),
-        68,
-    ),
-    (
-        "keys out of order",
-        Made::Pairs(&[(Leaf::Text("b"), ZERO), (Leaf::Text("a"), ZERO)]),
-        1,
-    ),
-    ("an array", Made::Leaf(Leaf::NoItems), 1),
-    ("a text", Made::Leaf(Leaf::Text("none")), 1),
-    ("a number", Made::Leaf(ZERO), 1),
-];
-
-const ZERO: Leaf = Leaf::Uint(0);
+const STATEMENTS: Table = "three levels|text:a=items:1|66
+four levels|text:a=items:2|1
+keys in order|text:a=uint:0 text:b=uint:0|68
+keys out of order|text:b=uint:0 text:a=uint:0|1
+an array|items:0|1
+a text|text:none|1
+a number|uint:0|1";
 
 /// How many bytes an object with this statement has, or the number of its refusal.
-fn written(alloc: Global, statement: Made) -> Result<usize, AllocError> {
+fn written(alloc: Global, statement: &str) -> Result<usize, AllocError> {
     let object = object(alloc, "none", &[5; 32], made_value(alloc, statement)?)?;
     Ok(match object.write(alloc) {
         Ok(bytes) => bytes.len(),
@@ -164,8 +147,9 @@ fn refused(rt: HostRuntime) -> Result<(), Fail> {
             );
         }
     }
-    for (name, statement, wanted) in STATEMENTS {
-        assert!(rt; written(alloc, *statement)? == *wanted, "{name}");
+    for line in STATEMENTS.lines() {
+        let written = written(alloc, part(line, 1))?;
+        assert!(rt; Some(written) == number(line, 2), "{line}");
     }
     Ok(())
 }

@@ -2,7 +2,8 @@
 //! the bench key's x and the message, by Python's `hashlib`.
 
 use crate::attestation_objects::object;
-use crate::pieces::{Table, bytes_of, number, part};
+use crate::made::word_value;
+use crate::pieces::{Table, number, part};
 use authdata::{AttestationObject, AttestationType, check_statement};
 use ccbor::Value;
 use cose::{Alg, BenchScheme, Signer};
@@ -44,25 +45,14 @@ packed|alg=nint:own sig=bytes:signature|15|8|34";
 /// An algorithm, the argument of its number, and that of the other.
 const ALGORITHMS: &[(Alg, u64, u64)] = &[(Alg::EdDsa, 7, 6), (Alg::Es256, 6, 7)];
 
-/// The argument of the key's or the other algorithm's number, or 0.
-fn argument(name: &str, own: u64, other: u64) -> u64 {
-    match name {
-        "own" => own,
-        "other" => other,
-        _ => 0,
-    }
-}
-
-/// The value of a member.
+/// The value of a member; `own` and `other` are the argument of the key's algorithm, and of the other.
 fn member_value(alloc: Global, value: &str, own: u64, other: u64) -> Result<Value, AllocError> {
-    let (kind, content) = value.split_once(":").unwrap_or((value, ""));
-    Ok(match kind {
-        "nint" => Value::Nint(argument(content, own, other)),
-        "uint" => Value::Uint(argument(content, own, other)),
-        "bytes" => Value::Bytes(bytes_of(alloc, content)?),
-        "text" => Value::Text(String::from_str(alloc, content)?),
-        _ => Value::Map(Vec::new(alloc)),
-    })
+    match value {
+        "nint:own" => Ok(Value::Nint(own)),
+        "nint:other" => Ok(Value::Nint(other)),
+        "uint:own" => Ok(Value::Uint(own)),
+        _ => word_value(alloc, value),
+    }
 }
 
 /// The statement of these members.

@@ -1,207 +1,87 @@
 //! What `ccbor` encodes and what has no encoding. The expected bytes are worked by hand from RFC
 //! 8949 and CTAP 2.1, "Message Encoding".
 
-use crate::made::{Leaf, Made, made_value};
+use crate::made::made_value;
+use crate::pieces::{Table, bytes_of, part};
 use ccbor::{Error, encode};
 use std::alloc::{AllocError, Global};
 use std::test::Fail;
 
-const ZERO: Leaf = Leaf::Uint(0);
-
 /// What a value is for, the value and its encoding, no bytes where it has none.
-const UNSIGNED: &[(&str, Made, &[u8])] = &[
-    ("0", Made::Leaf(Leaf::Uint(0)), b"\0"),
-    ("23", Made::Leaf(Leaf::Uint(23)), b"\x17"),
-    ("24", Made::Leaf(Leaf::Uint(24)), b"\x18\x18"),
-    ("255", Made::Leaf(Leaf::Uint(255)), b"\x18\xff"),
-    ("256", Made::Leaf(Leaf::Uint(256)), b"\x19\x01\0"),
-    ("65535", Made::Leaf(Leaf::Uint(65535)), b"\x19\xff\xff"),
-    ("65536", Made::Leaf(Leaf::Uint(65536)), b"\x1a\0\x01\0\0"),
-    (
-        "2^32 - 1",
-        Made::Leaf(Leaf::Uint(4294967295)),
-        b"\x1a\xff\xff\xff\xff",
-    ),
-    (
-        "2^32",
-        Made::Leaf(Leaf::Uint(4294967296)),
-        b"\x1b\0\0\0\x01\0\0\0\0",
-    ),
-    (
-        "2^64 - 1",
-        Made::Leaf(Leaf::Uint(18446744073709551615)),
-        b"\x1b\xff\xff\xff\xff\xff\xff\xff\xff",
-    ),
-];
-
-/// The same of negative numbers.
-const NEGATIVE: &[(&str, Made, &[u8])] = &[
-    ("-1", Made::Leaf(Leaf::Nint(0)), b"\x20"),
-    ("-24", Made::Leaf(Leaf::Nint(23)), b"\x37"),
-    ("-25", Made::Leaf(Leaf::Nint(24)), b"\x38\x18"),
-    ("-256", Made::Leaf(Leaf::Nint(255)), b"\x38\xff"),
-    ("-257", Made::Leaf(Leaf::Nint(256)), b"\x39\x01\0"),
-    ("-65536", Made::Leaf(Leaf::Nint(65535)), b"\x39\xff\xff"),
-    ("-65537", Made::Leaf(Leaf::Nint(65536)), b"\x3a\0\x01\0\0"),
-    (
-        "-2^32",
-        Made::Leaf(Leaf::Nint(4294967295)),
-        b"\x3a\xff\xff\xff\xff",
-    ),
-    (
-        "-2^32 - 1",
-        Made::Leaf(Leaf::Nint(4294967296)),
-        b"\x3b\0\0\0\x01\0\0\0\0",
-    ),
-    (
-        "-2^64",
-        Made::Leaf(Leaf::Nint(18446744073709551615)),
-        b"\x3b\xff\xff\xff\xff\xff\xff\xff\xff",
-    ),
-];
+const NUMBERS: Table = "0|uint:0|00
+23|uint:23|17
+24|uint:24|1818
+255|uint:255|18ff
+256|uint:256|190100
+65535|uint:65535|19ffff
+65536|uint:65536|1a00010000
+2^32 - 1|uint:4294967295|1affffffff
+2^32|uint:4294967296|1b0000000100000000
+2^64 - 1|uint:18446744073709551615|1bffffffffffffffff
+-1|nint:0|20
+-24|nint:23|37
+-25|nint:24|3818
+-256|nint:255|38ff
+-257|nint:256|390100
+-65536|nint:65535|39ffff
+-65537|nint:65536|3a00010000
+-2^32|nint:4294967295|3affffffff
+-2^32 - 1|nint:4294967296|3b0000000100000000
+-2^64|nint:18446744073709551615|3bffffffffffffffff";
 
 /// The same of other values.
-const OTHERS: &[(&str, Made, &[u8])] = &[
-    ("false", Made::Leaf(Leaf::Bool(false)), b"\xf4"),
-    ("true", Made::Leaf(Leaf::Bool(true)), b"\xf5"),
-    ("a text", Made::Leaf(Leaf::Text("fmt")), b"\x63fmt"),
-    ("no text", Made::Leaf(Leaf::Text("")), b"\x60"),
-    (
-        "a text with NUL",
-        Made::Leaf(Leaf::Text("a\0b")),
-        b"\x63a\0b",
-    ),
-    (
-        "a text of two-byte characters",
-        Made::Leaf(Leaf::Text("\u{e9}\u{e8}")),
-        b"\x64\xc3\xa9\xc3\xa8",
-    ),
-    ("bytes", Made::Leaf(Leaf::Bytes(&[1, 255])), b"\x42\x01\xff"),
-    ("no bytes", Made::Leaf(Leaf::Bytes(&[])), b"\x40"),
-    ("no items", Made::Leaf(Leaf::NoItems), b"\x80"),
-    ("no pairs", Made::Leaf(Leaf::NoPairs), b"\xa0"),
-    ("two items", Made::Ones(2), b"\x82\x01\x01"),
-    ("four deep", Made::Nested(4), b"\x81\x81\x81\x81\xf5"),
-    (
-        "a shorter text before a lower one",
-        Made::Pairs(&[(Leaf::Text("id"), ZERO), (Leaf::Text("fmt"), ZERO)]),
-        b"\xa2\x62id\0\x63fmt\0",
-    ),
-    (
-        "a longer number before a shorter negative one",
-        Made::Pairs(&[(Leaf::Uint(24), ZERO), (Leaf::Nint(0), ZERO)]),
-        b"\xa2\x18\x18\0\x20\0",
-    ),
-    (
-        "two negative numbers of one length",
-        Made::Pairs(&[(Leaf::Nint(0), ZERO), (Leaf::Nint(1), ZERO)]),
-        b"\xa2\x20\0\x21\0",
-    ),
-    (
-        "keys of each kind",
-        Made::Pairs(&[
-            (Leaf::Uint(0), ZERO),
-            (Leaf::Uint(24), ZERO),
-            (Leaf::Nint(0), ZERO),
-            (Leaf::Nint(24), ZERO),
-            (Leaf::Text(""), ZERO),
-        ]),
-        b"\xa5\0\0\x18\x18\0\x20\0\x38\x18\0\x60\0",
-    ),
-];
+const OTHERS: Table = "false|bool:false|f4
+true|bool:true|f5
+a text|text:fmt|63 'fmt
+no text|text:|60
+a text with NUL|text:a\0b|63 'a 00 'b
+a text of two-byte characters|text:\u{e9}\u{e8}|64c3a9c3a8
+bytes|bytes:01ff|4201ff
+no bytes|bytes:|40
+no items|items:0|80
+no pairs|map:|a0
+two items|ones:2|820101
+four deep|deep:4|81818181f5
+a shorter text before a lower one|text:id=uint:0 text:fmt=uint:0|a262 'id 0063 'fmt 00
+a longer number before a shorter negative one|uint:24=uint:0 nint:0=uint:0|a21818002000
+two negative numbers of one length|nint:0=uint:0 nint:1=uint:0|a220002100
+keys of each kind|uint:0=uint:0 uint:24=uint:0 nint:0=uint:0 nint:24=uint:0 text:=uint:0|a5000018180020003818006000";
 
 /// The same of values that have none.
-const UNFIT: &[(&str, Made, &[u8])] = &[
-    ("five deep", Made::Nested(5), b""),
-    ("six deep", Made::Nested(6), b""),
-    (
-        "an array as a key",
-        Made::Pairs(&[(Leaf::Uint(0), ZERO), (Leaf::NoItems, ZERO)]),
-        b"",
-    ),
-    (
-        "a map as a key",
-        Made::Pairs(&[(Leaf::Uint(0), ZERO), (Leaf::NoPairs, ZERO)]),
-        b"",
-    ),
-    (
-        "a longer text first",
-        Made::Pairs(&[(Leaf::Text("fmt"), ZERO), (Leaf::Text("id"), ZERO)]),
-        b"",
-    ),
-    (
-        "a higher text first",
-        Made::Pairs(&[(Leaf::Text("b"), ZERO), (Leaf::Text("a"), ZERO)]),
-        b"",
-    ),
-    (
-        "a longer number first",
-        Made::Pairs(&[(Leaf::Uint(24), ZERO), (Leaf::Uint(0), ZERO)]),
-        b"",
-    ),
-    (
-        "a higher number first",
-        Made::Pairs(&[(Leaf::Uint(1), ZERO), (Leaf::Uint(0), ZERO)]),
-        b"",
-    ),
-    (
-        "a negative number first",
-        Made::Pairs(&[(Leaf::Nint(0), ZERO), (Leaf::Uint(24), ZERO)]),
-        b"",
-    ),
-    (
-        "a higher negative number first",
-        Made::Pairs(&[(Leaf::Nint(1), ZERO), (Leaf::Nint(0), ZERO)]),
-        b"",
-    ),
-    (
-        "a text before a number",
-        Made::Pairs(&[(Leaf::Text(""), ZERO), (Leaf::Uint(0), ZERO)]),
-        b"",
-    ),
-    (
-        "a number twice",
-        Made::Pairs(&[(Leaf::Uint(1), ZERO), (Leaf::Uint(1), ZERO)]),
-        b"",
-    ),
-    (
-        "a negative number twice",
-        Made::Pairs(&[(Leaf::Nint(1), ZERO), (Leaf::Nint(1), ZERO)]),
-        b"",
-    ),
-    (
-        "a text twice",
-        Made::Pairs(&[(Leaf::Text("a"), ZERO), (Leaf::Text("a"), ZERO)]),
-        b"",
-    ),
-    (
-        "true as a key",
-        Made::Pairs(&[(Leaf::Uint(1), ZERO), (Leaf::Bool(true), ZERO)]),
-        b"",
-    ),
-    (
-        "bytes as a key",
-        Made::Pairs(&[(Leaf::Uint(1), ZERO), (Leaf::Bytes(&[1]), ZERO)]),
-        b"",
-    ),
-];
+const UNFIT: Table = "five deep|deep:5
+six deep|deep:6
+an array as a key|uint:0=uint:0 items:0=uint:0
+a map as a key|uint:0=uint:0 map:=uint:0
+a longer text first|text:fmt=uint:0 text:id=uint:0
+a higher text first|text:b=uint:0 text:a=uint:0
+a longer number first|uint:24=uint:0 uint:0=uint:0
+a higher number first|uint:1=uint:0 uint:0=uint:0
+a negative number first|nint:0=uint:0 uint:24=uint:0
+a higher negative number first|nint:1=uint:0 nint:0=uint:0
+a text before a number|text:=uint:0 uint:0=uint:0
+a number twice|uint:1=uint:0 uint:1=uint:0
+a negative number twice|nint:1=uint:0 nint:1=uint:0
+a text twice|text:a=uint:0 text:a=uint:0
+true as a key|uint:1=uint:0 bool:true=uint:0
+bytes as a key|uint:1=uint:0 bytes:01=uint:0";
 
-/// Whether the value is appended as these bytes, or for no bytes refused, and the output as it was.
-fn is_encoded(alloc: Global, made: Made, bytes: &[u8]) -> Result<bool, AllocError> {
-    let value = made_value(alloc, made)?;
+/// Whether the value of a line is appended as its bytes, or for no bytes refused, and the output as it was.
+fn is_encoded(alloc: Global, line: &str) -> Result<bool, AllocError> {
+    let value = made_value(alloc, part(line, 1))?;
+    let bytes = bytes_of(alloc, part(line, 2))?;
     let mut out = Vec::from_slice(alloc, b"before")?;
     let fits = match encode(&value, &mut out) {
         Ok(()) => !bytes.is_empty(),
         Err(error) => bytes.is_empty() && matches!(error, Error::Unfit),
     };
-    Ok(fits && out.as_slice().strip_prefix(b"before") == Some(bytes))
+    Ok(fits && out.as_slice().strip_prefix(b"before") == Some(bytes.as_slice()))
 }
 
 #[test]
 fn encodes(rt: HostRuntime) -> Result<(), Fail> {
-    for table in [UNSIGNED, NEGATIVE, OTHERS, UNFIT] {
-        for (name, made, bytes) in table {
-            assert!(rt; is_encoded(rt.alloc(), *made, bytes)?, "{name}");
+    for table in [NUMBERS, OTHERS, UNFIT] {
+        for line in table.lines() {
+            assert!(rt; is_encoded(rt.alloc(), line)?, "{line}");
         }
     }
     Ok(())

@@ -1,17 +1,18 @@
 //! What a value and a view of it have in them, what a map has at a key, and the names of refusals. The Ed25519 key is in
 //! the form of RFC 9053, section 7.2.
 
+use crate::pieces::{Table, bytes_of, number, part};
 use ccbor::{Error, Key, MapView, Value, View, decode_all, is_end, split_key, value_at};
 use std::alloc::{AllocError, Global};
 use std::test::Fail;
 
 /// What the accessors give of a value.
 #[derive(Clone, Copy)]
-struct Content {
+struct Content<'a> {
     uint: Option<u64>,
     nint: Option<u64>,
-    bytes: Option<&'static [u8]>,
-    text: Option<&'static str>,
+    bytes: Option<&'a [u8]>,
+    text: Option<&'a str>,
     bool: Option<bool>,
     /// How many items an array has.
     items: Option<usize>,
@@ -19,120 +20,48 @@ struct Content {
     pairs: Option<usize>,
 }
 
-const NOTHING: Content = Content {
-    uint: None,
-    nint: None,
-    bytes: None,
-    text: None,
-    bool: None,
-    items: None,
-    pairs: None,
-};
+/// What the accessors give of a value of this kind in which this is; of bytes, the bytes beside it.
+fn content_of<'a>(kind: &str, inside: &'a str, bytes: &'a [u8]) -> Content<'a> {
+    let mut content = Content {
+        uint: None,
+        nint: None,
+        bytes: None,
+        text: None,
+        bool: None,
+        items: None,
+        pairs: None,
+    };
+    match kind {
+        "uint" => content.uint = inside.parse().ok(),
+        "nint" => content.nint = inside.parse().ok(),
+        "bytes" => content.bytes = Some(bytes),
+        "text" => content.text = Some(inside),
+        "bool" => content.bool = Some(inside == "true"),
+        "items" => content.items = inside.parse().ok(),
+        _ => content.pairs = inside.parse().ok(),
+    }
+    content
+}
 
-/// Values of each kind: the bytes, and what is in them.
-const CONTENTS: &[(&[u8], Content)] = &[
-    (
-        b"\x05",
-        Content {
-            uint: Some(5),
-            ..NOTHING
-        },
-    ),
-    (
-        b"\x18\x18",
-        Content {
-            uint: Some(24),
-            ..NOTHING
-        },
-    ),
-    (
-        b"\x25",
-        Content {
-            nint: Some(5),
-            ..NOTHING
-        },
-    ),
-    (
-        b"\x39\x01\x00",
-        Content {
-            nint: Some(256),
-            ..NOTHING
-        },
-    ),
-    (
-        b"\x41\x05",
-        Content {
-            bytes: Some(b"\x05"),
-            ..NOTHING
-        },
-    ),
-    (
-        b"\x40",
-        Content {
-            bytes: Some(b""),
-            ..NOTHING
-        },
-    ),
-    (
-        b"\x61a",
-        Content {
-            text: Some("a"),
-            ..NOTHING
-        },
-    ),
-    (
-        b"\x62ab",
-        Content {
-            text: Some("ab"),
-            ..NOTHING
-        },
-    ),
-    (
-        b"\xf4",
-        Content {
-            bool: Some(false),
-            ..NOTHING
-        },
-    ),
-    (
-        b"\xf5",
-        Content {
-            bool: Some(true),
-            ..NOTHING
-        },
-    ),
-    (
-        b"\x81\x05",
-        Content {
-            items: Some(1),
-            ..NOTHING
-        },
-    ),
-    (
-        b"\x82\x05\x06",
-        Content {
-            items: Some(2),
-            ..NOTHING
-        },
-    ),
-    (
-        b"\xa0",
-        Content {
-            pairs: Some(0),
-            ..NOTHING
-        },
-    ),
-    (
-        b"\xa1\x05\x06",
-        Content {
-            pairs: Some(1),
-            ..NOTHING
-        },
-    ),
-];
+/// The bytes of values of each kind, the kind, and what is in them: the number, the text, the truth, or how many items or
+/// pairs; or, behind, the bytes.
+const CONTENTS: Table = "05|uint|5
+1818|uint|24
+25|nint|5
+390100|nint|256
+4105|bytes||05
+40|bytes
+61 'a|text|a
+62 'ab|text|ab
+f4|bool|false
+f5|bool|true
+8105|items|1
+820506|items|2
+a0|pairs|0
+a10506|pairs|1";
 
 /// Whether the accessors of a value give this.
-fn has(value: &Value, content: &Content) -> bool {
+fn has(value: &Value, content: &Content<'_>) -> bool {
     let items = match value.as_array() {
         Some(items) => Some(items.len()),
         None => None,
@@ -151,7 +80,7 @@ fn has(value: &Value, content: &Content) -> bool {
 }
 
 /// Whether the accessors of a view give this, and it spans the bytes.
-fn shows(view: &View<'_>, content: &Content, bytes: &[u8]) -> bool {
+fn shows(view: &View<'_>, content: &Content<'_>, bytes: &[u8]) -> bool {
     let len = content.items.unwrap_or(content.pairs.unwrap_or(0));
     view.as_uint() == content.uint
         && view.as_nint() == content.nint
@@ -177,12 +106,13 @@ fn has_five(value: &Value) -> bool {
 #[test]
 fn contents(rt: HostRuntime) -> Result<(), Fail> {
     let alloc = rt.alloc();
-    for (bytes, content) in CONTENTS {
-        assert!(rt; has(&decode_all(alloc, bytes)?, content), "{bytes:?}");
-        assert!(rt;
-            shows(&View::check_all(bytes)?, content, bytes),
-            "{bytes:?}"
-        );
+    for line in CONTENTS.lines() {
+        let bytes = bytes_of(alloc, part(line, 0))?;
+        let inside = bytes_of(alloc, part(line, 3))?;
+        let content = content_of(part(line, 1), part(line, 2), &inside);
+        let is_given = has(&decode_all(alloc, &bytes)?, &content)
+            && shows(&View::check_all(&bytes)?, &content, &bytes);
+        assert!(rt; is_given, "{line}");
     }
     for bytes in [b"\x81\x05".as_slice(), b"\xa1\x05\x06".as_slice()] {
         assert!(rt; has_five(&decode_all(alloc, bytes)?), "{bytes:?}");
@@ -194,50 +124,65 @@ fn contents(rt: HostRuntime) -> Result<(), Fail> {
 const MAP: &[u8] = b"\xa3\x01\x0a\x20\x0b\x61a\x0c";
 
 /// A key, the number at it, and how many pairs are behind it where it is the first.
-const KEYS: &[(Key<'static>, Option<u64>, Option<usize>)] = &[
-    (Key::Uint(1), Some(10), Some(2)),
-    (Key::Nint(0), Some(11), None),
-    (Key::Text("a"), Some(12), None),
-    (Key::Uint(0), None, None),
-    (Key::Nint(1), None, None),
-    (Key::Text("b"), None, None),
-    (Key::Text(""), None, None),
-];
+const KEYS: Table = "uint:1|10|2
+nint:0|11
+text:a|12
+uint:0
+nint:1
+text:b
+text:";
+
+/// The key of a word.
+fn key_of(word: &str) -> Key<'_> {
+    let (kind, content) = word.split_once(":").unwrap_or((word, ""));
+    let number = content.parse().unwrap_or(0);
+    match kind {
+        "uint" => Key::Uint(number),
+        "nint" => Key::Nint(number),
+        _ => Key::Text(content),
+    }
+}
 
 /// The number that is there, if there is one.
-fn number(value: Option<&Value>) -> Option<u64> {
+fn uint(value: Option<&Value>) -> Option<u64> {
     value?.as_uint()
 }
 
-/// Whether the map has this number at the key, and so many pairs behind it.
-fn has_at(map: &Value, key: Key<'_>, wanted: Option<u64>, behind: Option<usize>) -> bool {
+/// Whether the map has the number of a line at its key, and so many pairs behind it.
+fn has_at(map: &Value, line: &str) -> bool {
     let Some(pairs) = map.as_map() else {
         return false;
     };
+    let key = key_of(part(line, 0));
+    let wanted = part(line, 1).parse().ok();
     let left = match split_key(pairs, key) {
         Some((_, rest)) => Some(rest.len()),
         None => None,
     };
-    let found = number(map.get(key));
-    found == wanted && number(value_at(pairs, key)) == wanted && left == behind && !is_end(pairs)
+    let found = uint(map.get(key));
+    found == wanted
+        && uint(value_at(pairs, key)) == wanted
+        && left == number(line, 2)
+        && !is_end(pairs)
 }
 
 /// Bytes of a value that is no map, a key, and whether the value is that key.
-const ALONE: &[(&[u8], Key<'static>, bool)] = &[
-    (b"\x01", Key::Uint(1), true),
-    (b"\x01", Key::Nint(1), false),
-    (b"\x21", Key::Nint(1), true),
-    (b"\xf5", Key::Uint(1), false),
-    (b"\x0a", Key::Uint(10), true),
-    (b"\x0a", Key::Nint(10), false),
-    (b"\x61a", Key::Text("a"), true),
-    (b"\x61a", Key::Text("b"), false),
-];
+const ALONE: Table = "01|uint:1|true
+01|nint:1|false
+21|nint:1|true
+f5|uint:1|false
+0a|uint:10|true
+0a|nint:10|false
+61 'a|text:a|true
+61 'a|text:b|false";
 
-/// Whether the value, and a view of it, are the key or not, and have nothing at it.
-fn is_alone(alloc: Global, bytes: &[u8], key: Key<'_>, is_key: bool) -> Result<bool, Error> {
-    let value = decode_all(alloc, bytes)?;
-    let view = View::check_all(bytes)?;
+/// Whether the value of a line, and a view of it, are the key or not, and have nothing at it.
+fn is_alone(alloc: Global, line: &str) -> Result<bool, Fail> {
+    let bytes = bytes_of(alloc, part(line, 0))?;
+    let value = decode_all(alloc, &bytes)?;
+    let view = View::check_all(&bytes)?;
+    let key = key_of(part(line, 1));
+    let is_key = part(line, 2) == "true";
     Ok(
         value.is_key(key) == is_key
             && view.is_key(key) == is_key
@@ -250,100 +195,68 @@ fn is_alone(alloc: Global, bytes: &[u8], key: Key<'_>, is_key: bool) -> Result<b
 fn keys(rt: HostRuntime) -> Result<(), Fail> {
     let alloc = rt.alloc();
     let map = decode_all(alloc, MAP)?;
-    for (key, wanted, behind) in KEYS {
-        assert!(rt; has_at(&map, *key, *wanted, *behind), "{key:?}");
+    for line in KEYS.lines() {
+        assert!(rt; has_at(&map, line), "{line}");
     }
-    for (bytes, key, is_key) in ALONE {
-        assert!(rt; is_alone(alloc, bytes, *key, *is_key)?, "{bytes:?} {key:?}");
+    for line in ALONE.lines() {
+        assert!(rt; is_alone(alloc, line)?, "{line}");
     }
     assert!(rt; is_end(&[]));
     Ok(())
 }
 
-/// A step through a map's pairs: keys that the first pair hasn't, its key, the bytes of its value and what is in it.
-type Step = (
-    &'static [Key<'static>],
-    Key<'static>,
-    &'static [u8],
-    Content,
-);
+/// Steps through a map's pairs: keys that the first pair hasn't, its key, the bytes of its value, and what is in it as in
+/// `CONTENTS`. Of the map of 10 at 1, of a map at -1, and of 12 at "a".
+const WALK: Table = "uint:0 nint:0|uint:1|0a|uint|10
+uint:1 text:a|nint:0|a100410b|pairs|1
+uint:1 nint:0|text:a|0c|uint|12";
 
-/// Maps, each with its steps.
-const WALKS: &[(&[u8], &[Step])] = &[
-    (
-        b"\xa3\x01\x0a\x20\xa1\0\x41\x0b\x61a\x0c",
-        &[
-            (
-                &[Key::Uint(0), Key::Nint(0)],
-                Key::Uint(1),
-                b"\x0a",
-                Content {
-                    uint: Some(10),
-                    ..NOTHING
-                },
-            ),
-            (
-                &[Key::Uint(1), Key::Text("a")],
-                Key::Nint(0),
-                b"\xa1\0\x41\x0b",
-                Content {
-                    pairs: Some(1),
-                    ..NOTHING
-                },
-            ),
-            (
-                &[Key::Uint(1), Key::Nint(0)],
-                Key::Text("a"),
-                b"\x0c",
-                Content {
-                    uint: Some(12),
-                    ..NOTHING
-                },
-            ),
-        ],
-    ),
-    (
-        b"\xa1\0\x41\x0b",
-        &[(
-            &[Key::Nint(0), Key::Text("")],
-            Key::Uint(0),
-            b"\x41\x0b",
-            Content {
-                bytes: Some(b"\x0b"),
-                ..NOTHING
-            },
-        )],
-    ),
-];
+/// The same of the map of bytes at 0.
+const SHORT_WALK: Table = "nint:0 text:|uint:0|410b|bytes||0b";
 
-/// Whether the first pair has one of these keys, or there is none.
-fn has_first(pairs: &MapView<'_>, keys: &[Key<'_>]) -> bool {
-    for key in keys {
-        if pairs.split_key(*key).is_some() {
+/// Whether the first pair has one of the keys of these words, or there is none.
+fn has_first(pairs: &MapView<'_>, words: &str) -> bool {
+    for word in words.split_whitespace() {
+        if pairs.split_key(key_of(word)).is_some() {
             return true;
         }
     }
     pairs.is_end()
 }
 
+/// What is behind the first pair, if this is the pair of a line.
+fn after_step<'a>(
+    alloc: Global,
+    pairs: &MapView<'a>,
+    line: &str,
+) -> Result<Option<MapView<'a>>, AllocError> {
+    let span = bytes_of(alloc, part(line, 2))?;
+    let inside = bytes_of(alloc, part(line, 5))?;
+    let content = content_of(part(line, 3), part(line, 4), &inside);
+    Ok(match pairs.split_key(key_of(part(line, 1))) {
+        Some((value, rest)) if !has_first(pairs, part(line, 0)) => {
+            if shows(&value, &content, &span) {
+                Some(rest)
+            } else {
+                None
+            }
+        }
+        _ => None,
+    })
+}
+
 /// Whether a walk through the map's pairs takes these steps, and is then at the end, where no key is.
-fn is_walked(map: &View<'_>, steps: &[Step]) -> bool {
+fn is_walked(alloc: Global, map: &View<'_>, steps: Table) -> Result<bool, AllocError> {
     let Some(mut pairs) = map.as_map() else {
-        return false;
+        return Ok(false);
     };
-    for (others, key, span, content) in steps {
-        if has_first(&pairs, others) {
-            return false;
-        }
-        let Some((value, rest)) = pairs.split_key(*key) else {
-            return false;
+    for line in steps.lines() {
+        let Some(rest) = after_step(alloc, &pairs, line)? else {
+            return Ok(false);
         };
-        if !shows(&value, content, span) {
-            return false;
-        }
         pairs = rest;
     }
-    pairs.is_end() && pairs.split_key(Key::Text("a")).is_none()
+    Ok(pairs.is_end() && pairs.split_key(Key::Text("a")).is_none())
 }
 
 /// {1: 1, 3: -8, -1: 6, -2: 32 bytes of 0x11}.
@@ -415,9 +328,10 @@ fn places(rt: HostRuntime) -> Result<(), Fail> {
     assert!(rt; has_items(&View::check_all(NESTED)?));
     let map = View::check_all(ED25519)?;
     assert!(rt; has_pairs(&map) && is_copied(rt.alloc(), &map)?);
-    for (bytes, steps) in WALKS {
-        assert!(rt; is_walked(&View::check_all(bytes)?, steps), "{bytes:?}");
-    }
+    let walked = View::check_all(b"\xa3\x01\x0a\x20\xa1\0\x41\x0b\x61a\x0c")?;
+    assert!(rt; is_walked(rt.alloc(), &walked, WALK)?);
+    let walked = View::check_all(b"\xa1\0\x41\x0b")?;
+    assert!(rt; is_walked(rt.alloc(), &walked, SHORT_WALK)?);
     Ok(())
 }
 

@@ -1,46 +1,13 @@
-//! Values that tables write, some of which no bytes encode.
+//! Values that tables write as words, some of which no bytes encode.
+//!
+//! A word alone is a value: its kind, `:` and what it holds. Words with `=` are the pairs of a map, each a key's word and
+//! a value's.
 
+use crate::pieces::bytes_of;
 use ccbor::Value;
 use std::alloc::{AllocError, Global};
 
-/// A key of a map, or what is none.
-#[derive(Clone, Copy)]
-pub enum Leaf {
-    Uint(u64),
-    Nint(u64),
-    Bytes(&'static [u8]),
-    Text(&'static str),
-    Bool(bool),
-    NoItems,
-    NoPairs,
-}
-
-/// A value to be made.
-#[derive(Clone, Copy)]
-pub enum Made {
-    Leaf(Leaf),
-    /// The number 1, so many times in an array.
-    Ones(u64),
-    /// True, in so many arrays.
-    Nested(u64),
-    /// A map of `a` to no items, in so many arrays.
-    NestedAtA(u64),
-    /// A map of these keys and values.
-    Pairs(&'static [(Leaf, Leaf)]),
-}
-
-pub fn leaf_value(alloc: Global, made: Leaf) -> Result<Value, AllocError> {
-    Ok(match made {
-        Leaf::Uint(n) => Value::Uint(n),
-        Leaf::Nint(n) => Value::Nint(n),
-        Leaf::Bytes(content) => Value::Bytes(Vec::from_slice(alloc, content)?),
-        Leaf::Text(content) => Value::Text(String::from_str(alloc, content)?),
-        Leaf::Bool(b) => Value::Bool(b),
-        Leaf::NoItems => Value::Array(Vec::new(alloc)),
-        Leaf::NoPairs => Value::Map(Vec::new(alloc)),
-    })
-}
-
+/// The number 1, so many times in an array.
 fn array_of_ones(alloc: Global, count: u64) -> Result<Value, AllocError> {
     let mut items = Vec::new(alloc);
     for _ in 0..count {
@@ -59,28 +26,32 @@ fn nested(alloc: Global, mut value: Value, depth: u64) -> Result<Value, AllocErr
     Ok(value)
 }
 
-fn map_at_a(alloc: Global, value: Value) -> Result<Value, AllocError> {
-    let mut pairs = Vec::new(alloc);
-    pairs.push((Value::Text(String::from_str(alloc, "a")?), value))?;
-    Ok(Value::Map(pairs))
+/// The value of one word: a number, bytes as words of `pieces`, a text, true or false, so many numbers 1 in an array,
+/// true in so many arrays, or no items in so many arrays; for any other kind a map without pairs.
+pub fn word_value(alloc: Global, word: &str) -> Result<Value, AllocError> {
+    let (kind, content) = word.split_once(":").unwrap_or((word, ""));
+    let number = content.parse().unwrap_or(0);
+    Ok(match kind {
+        "uint" => Value::Uint(number),
+        "nint" => Value::Nint(number),
+        "bytes" => Value::Bytes(bytes_of(alloc, content)?),
+        "text" => Value::Text(String::from_str(alloc, content)?),
+        "bool" => Value::Bool(content == "true"),
+        "ones" => array_of_ones(alloc, number)?,
+        "deep" => nested(alloc, Value::Bool(true), number)?,
+        "items" => nested(alloc, Value::Array(Vec::new(alloc)), number)?,
+        _ => Value::Map(Vec::new(alloc)),
+    })
 }
 
-fn map_of_pairs(alloc: Global, leaves: &[(Leaf, Leaf)]) -> Result<Value, AllocError> {
+/// The value of these words: the first of them, or a map of all where the first has `=`.
+pub fn made_value(alloc: Global, words: &str) -> Result<Value, AllocError> {
     let mut pairs = Vec::new(alloc);
-    for (key, value) in leaves {
-        pairs.push((leaf_value(alloc, *key)?, leaf_value(alloc, *value)?))?;
-    }
-    Ok(Value::Map(pairs))
-}
-
-pub fn made_value(alloc: Global, made: Made) -> Result<Value, AllocError> {
-    match made {
-        Made::Leaf(made) => leaf_value(alloc, made),
-        Made::Ones(count) => array_of_ones(alloc, count),
-        Made::Nested(depth) => nested(alloc, Value::Bool(true), depth),
-        Made::NestedAtA(depth) => {
-            map_at_a(alloc, nested(alloc, Value::Array(Vec::new(alloc)), depth)?)
+    for word in words.split_whitespace() {
+        match word.split_once("=") {
+            Some((key, value)) => pairs.push((word_value(alloc, key)?, word_value(alloc, value)?))?,
+            None => return word_value(alloc, word),
         }
-        Made::Pairs(pairs) => map_of_pairs(alloc, pairs),
     }
+    Ok(Value::Map(pairs))
 }
