@@ -1,7 +1,7 @@
 -- A response passes each step of a registration.
 use Rattle.std.proofs.Common.{◌≡◌, ◌⊎◌, true, false, Some, refl, sym, ◌∙◌, ap, subst, get_or, Contains}
 use Rattle.first_line.specs.Lines.{Each}
-use Rattle.clientdata.specs.declared.record.Kind.TheVariants.{Create}
+use Rattle.clientdata.specs.declared.record.CeremonyType.TheVariants.{Create}
 use Rattle.cose.specs.Keys.{alg_of}
 use Rattle.authdata.specs.Layout.{AttestedCredential, AuthenticatorData, AuthOf}
 use Rattle.authdata.specs.Objects.{Attestation}

@@ -1,7 +1,7 @@
 -- An honest registration is accepted.
 use Rattle.std.proofs.Common.{◌≡◌, ◌≢◌, ◌⊎◌, inl, inr, ℕ, ◌<◌, ◌≤◌, ◌+◌, ◌^◌, List, [], ◌∷◌, ◌++◌, length, Bool, true, false, not, is_some, Option, Some, codes, refl, sym, ◌∙◌, ap, subst, arith, rules, Contains}
 use Rattle.std.specs.Prelude.{nat_lt}
-use Rattle.clientdata.specs.declared.record.Kind.TheVariants.{Create}
+use Rattle.clientdata.specs.declared.record.CeremonyType.TheVariants.{Create}
 use Rattle.clientdata.specs.Serialised.{client_data_text, hash_of}
 use Rattle.cose.specs.Keys.{alg_of}
 use Rattle.cose.specs.Schemes.{Validity}

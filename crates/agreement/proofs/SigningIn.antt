@@ -2,7 +2,7 @@
 use Rattle.std.proofs.Common.{◌≡◌, ◌≢◌, ◌⊎◌, inl, inr, ℕ, ◌<◌, ◌≤◌, ◌+◌, ◌-◌, ◌^◌, List, [], ◌∷◌, ◌++◌, length, Bool, true, false, not, if◌then◌else◌, Option, Some, None, refl, sym, ◌∙◌, ap, subst, arith, get_or, Contains}
 use Rattle.std.specs.Option.{ForSome}
 use Rattle.first_line.specs.Lines.{Each}
-use Rattle.clientdata.specs.declared.record.Kind.TheVariants.{Get}
+use Rattle.clientdata.specs.declared.record.CeremonyType.TheVariants.{Get}
 use Rattle.clientdata.specs.Serialised.{client_data_text, hash_of}
 use Rattle.cose.specs.Schemes.{Validity}
 use Rattle.authdata.specs.Flags.{is_set, AT, BE, UP, UV}

@@ -11,7 +11,7 @@ use crate::error::RequestError;
 use crate::options::{CreationOptions, RequestOptions};
 use crate::origin::check_origin;
 use crate::outgoing::{Outgoing, packets_of};
-use clientdata::Kind;
+use clientdata::CeremonyType;
 use ctapmsg::Request;
 use std::alloc::Global;
 
@@ -55,7 +55,7 @@ pub fn assertion_request(
     ensures refused { IfErr result (IsRefused (sign_in_call origin.now (sign_in_view options.now))) }
 {
     check_origin(alloc, origin, options.rp_id)?;
-    let client_data = client_data(alloc, Kind::Get, options.challenge, origin)?;
+    let client_data = client_data(alloc, CeremonyType::Get, options.challenge, origin)?;
     let request = get_assertion(alloc, options, &client_data)?;
     outgoing(alloc, client_data, &Request::GetAssertion(request), cid)
 }
@@ -81,7 +81,7 @@ pub fn creation_request(
     ensures refused { IfErr result (IsRefused (registration_call origin.now (registration_view options.now))) }
 {
     check_origin(alloc, origin, options.rp_id)?;
-    let client_data = client_data(alloc, Kind::Create, options.challenge, origin)?;
+    let client_data = client_data(alloc, CeremonyType::Create, options.challenge, origin)?;
     let request = make_credential(alloc, options, &client_data)?;
     outgoing(alloc, client_data, &Request::MakeCredential(request), cid)
 }

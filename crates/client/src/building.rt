@@ -8,14 +8,14 @@ ghost use Rattle.client.specs.Options.{registration_view, sign_in_view};
 
 use crate::entities::{descriptors, parameters};
 use crate::options::{CreationOptions, RequestOptions};
-use clientdata::{ClientData, Kind, hash, serialise};
+use clientdata::{ClientData, CeremonyType, hash, serialise};
 use ctapmsg::{AssertionOptions, GetAssertion, MakeCredential, RelyingParty, User};
 use std::alloc::{AllocError, Global};
 
 /// The client data of a ceremony, not cross-origin.
 pub fn client_data(
     alloc: Global,
-    kind: Kind,
+    kind: CeremonyType,
     challenge: &[u8],
     origin: &str,
 ) -> Result<Vec<u8>, AllocError>

@@ -5,7 +5,7 @@ use crate::device::{packet, payload};
 use client::{
     CreationOptions, Outgoing, RequestOptions, assertion_request, creation_request, next_request,
 };
-use clientdata::{Kind, read};
+use clientdata::{CeremonyType, read};
 use cose::Alg;
 use ctapmsg::{GetAssertion, MakeCredential, Request, read_request};
 use std::alloc::{AllocError, Global};
@@ -266,7 +266,7 @@ fn registrations(rt: HostRuntime) -> Result<(), Fail> {
 }
 
 /// Whether a relying party reads client data of this ceremony, challenge text and origin.
-fn is_read(alloc: Global, bytes: &[u8], kind: Kind, challenge: &str, origin: &str) -> bool {
+fn is_read(alloc: Global, bytes: &[u8], kind: CeremonyType, challenge: &str, origin: &str) -> bool {
     match read(alloc, bytes) {
         Ok(seen) => {
             seen.kind.as_str() == kind.text()
@@ -284,9 +284,9 @@ fn others(rt: HostRuntime) -> Result<(), Fail> {
     let alloc = rt.alloc();
     let text =
         br#"{"type":"webauthn.get","challenge":"AAEC","origin":"https://a.example","crossOrigin":false}"#;
-    assert!(rt; is_read(alloc, text, Kind::Get, "AAEC", "https://a.example"));
+    assert!(rt; is_read(alloc, text, CeremonyType::Get, "AAEC", "https://a.example"));
     let text = CLIENT_DATA.as_bytes();
-    assert!(rt; is_read(alloc, text, Kind::Create, "AAEC", "https://a.example:8443"));
+    assert!(rt; is_read(alloc, text, CeremonyType::Create, "AAEC", "https://a.example:8443"));
     let message: &[u8] = &[8];
     let taken = payload(alloc, &[next_request(2)])?;
     assert!(rt; matches!(&taken, Some(bytes) if bytes.as_slice() == message));

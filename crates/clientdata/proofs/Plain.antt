@@ -10,8 +10,8 @@ use Rattle.base64.specs.Rfc4648.{encode_symbols}
 use Rattle.clientdata.specs.Expected.{ArePlain, IsPlain}
 use Rattle.clientdata.specs.Quoted.{escaped, quoted}
 use Rattle.clientdata.specs.Serialised.{challenge_text_of, type_of}
-use Rattle.clientdata.specs.declared.record.Kind.{Kind}
-use Rattle.clientdata.specs.declared.record.Kind.TheVariants.{Create, Get}
+use Rattle.clientdata.specs.declared.record.CeremonyType.{CeremonyType}
+use Rattle.clientdata.specs.declared.record.CeremonyType.TheVariants.{Create, Get}
 
 escaped_plain : (byte : ℕ) → IsPlain byte → escaped byte ≡ byte ∷ []
 escaped_plain byte is = rw (ne_eqb byte 34 is.2, ne_eqb byte 92 is.3, le-ltb byte 0x20 is.0) (encode_ascii byte is.1)
@@ -65,7 +65,7 @@ all_here : (bytes : List ℕ) → are_plain bytes ≡ true → AllByRecursion Is
 all_here [] e = tt
 all_here (byte ∷ bytes) e = let p = and_parts (is_plain byte) (are_plain bytes) e in (plain_from byte p.0, all_here bytes p.1)
 
-pub type_plain : (kind : Kind) → ArePlain (type_of kind)
+pub type_plain : (kind : CeremonyType) → ArePlain (type_of kind)
 type_plain Create = index (type_of Create) (all_here (type_of Create) refl)
 type_plain Get = index (type_of Get) (all_here (type_of Get) refl)
 

@@ -12,8 +12,8 @@ use Rattle.json.specs.Json as json
 use Rattle.json.specs.Tree.{json_tokens}
 use Rattle.json.proofs.Printed.Trees.{value-json_tokens}
 use Rattle.serde_json.specs.Read.{read, of_json, max_depth}
-use Rattle.clientdata.specs.declared.record.Kind.{Kind}
-use Rattle.clientdata.specs.declared.record.Kind.TheVariants.{Create, Get}
+use Rattle.clientdata.specs.declared.record.CeremonyType.{CeremonyType}
+use Rattle.clientdata.specs.declared.record.CeremonyType.TheVariants.{Create, Get}
 use Rattle.clientdata.specs.declared.seen.Binding.TheVariants.{Absent}
 use Rattle.clientdata.specs.declared.seen.Seen.{Seen}
 use Rattle.clientdata.specs.Quoted.{escaped, quoted}
@@ -83,11 +83,11 @@ module _ (t c o : List ℕ) (cross : Bool) where
       let parsed = ap (json.value max_depth) same ∙ value-json_tokens tree max_depth [] (omega arith) in
       ap (λ p. option_and_then seen_in (option_and_then of_json (option_and_then (λ q. json.if_last q.0 q.1) p))) parsed
 
-pieces-text : (kind : Kind) (challenge origin : List ℕ) (cross : Bool) → client_data_text kind challenge origin cross ≡ pieces (type_of kind) (challenge_text_of challenge) origin cross
+pieces-text : (kind : CeremonyType) (challenge origin : List ℕ) (cross : Bool) → client_data_text kind challenge origin cross ≡ pieces (type_of kind) (challenge_text_of challenge) origin cross
 unfolding client_data_front
 pieces-text kind challenge origin cross = simp append_assoc
 
-pub seen_of-text : (kind : Kind) (challenge origin : List ℕ) (cross : Bool) → IsUtf8 origin
+pub seen_of-text : (kind : CeremonyType) (challenge origin : List ℕ) (cross : Bool) → IsUtf8 origin
     → seen_of (client_data_text kind challenge origin cross) ≡ Some (record { kind = type_of kind; challenge = challenge_text_of challenge; origin = origin; binding = Absent })
 unfolding seen_of
 seen_of-text kind challenge origin cross u =
@@ -97,7 +97,7 @@ seen_of-text kind challenge origin cross u =
 
 -- ---- two records with one text
 
-one_kind : (k l : Kind) → type_of k ≡ type_of l → k ≡ l
+one_kind : (k l : CeremonyType) → type_of k ≡ type_of l → k ≡ l
 one_kind Create Create e = refl
 one_kind Create Get e = absurd (cc)
 one_kind Get Create e = absurd (cc)
@@ -112,7 +112,7 @@ one_truth false false e = refl
 one_end : (front : List ℕ) (x y : Bool) → (front ++ truth_of x) ++ codes "}" ≡ (front ++ truth_of y) ++ codes "}" → x ≡ y
 one_end front x y e = one_truth x y (append_cancel_left front _ _ (sym (append_assoc front (truth_of x) (codes "}")) ∙ e ∙ append_assoc front (truth_of y) (codes "}")))
 
-one_cross : (kind : Kind) (challenge origin : List ℕ) (x y : Bool) → client_data_text kind challenge origin x ≡ client_data_text kind challenge origin y → x ≡ y
+one_cross : (kind : CeremonyType) (challenge origin : List ℕ) (x y : Bool) → client_data_text kind challenge origin x ≡ client_data_text kind challenge origin y → x ≡ y
 unfolding client_data_front
 one_cross kind challenge origin x y e =
     one_end (codes "{\"type\":" ++ quoted (type_of kind) ++ codes ",\"challenge\":" ++ quoted (challenge_text_of challenge)
@@ -122,7 +122,7 @@ abbrev some_seen : Option Seen → Seen
 some_seen None = record { kind = []; challenge = []; origin = []; binding = Absent }
 some_seen (Some seen) = seen
 
-pub one_record : (k l : Kind) (a b o p : List ℕ) (x y : Bool) → IsBytes a → IsBytes b → IsUtf8 o → IsUtf8 p → client_data_text k a o x ≡ client_data_text l b p y → (k ≡ l) × (a ≡ b) × (o ≡ p) × (x ≡ y)
+pub one_record : (k l : CeremonyType) (a b o p : List ℕ) (x y : Bool) → IsBytes a → IsBytes b → IsUtf8 o → IsUtf8 p → client_data_text k a o x ≡ client_data_text l b p y → (k ≡ l) × (a ≡ b) × (o ≡ p) × (x ≡ y)
 one_record k l a b o p x y a_bytes b_bytes uo up e =
     let seen = sym (seen_of-text k a o x uo) ∙ ap seen_of e ∙ seen_of-text l b p y up in
     let kinds : type_of k ≡ type_of l = ap (λ s. (some_seen s).kind) seen in
@@ -132,5 +132,5 @@ one_record k l a b o p x y a_bytes b_bytes uo up e =
     let challenge = one_challenge a b a_bytes b_bytes texts in
     (kind, challenge, origins, one_cross k a o x y (e ∙ sym (ap₃ kind challenge origins)))
   where
-    ap₃ : {k l : Kind} {a b o p : List ℕ} → k ≡ l → a ≡ b → o ≡ p → client_data_text k a o y ≡ client_data_text l b p y
+    ap₃ : {k l : CeremonyType} {a b o p : List ℕ} → k ≡ l → a ≡ b → o ≡ p → client_data_text k a o y ≡ client_data_text l b p y
     ap₃ kind challenge origins = cc

@@ -7,8 +7,8 @@ use lib.Utf8.{scalar, scalars, encode}
 use Rattle.base64.specs.Engines.{url_safe_no_pad}
 use Rattle.base64.proofs.EngineFacts.{IsAscii-encode_of}
 use Rattle.json.proofs.Printed.Utf8.{IsUtf8-are_ascii, are_ascii}
-use Rattle.clientdata.specs.declared.record.Kind.{Kind}
-use Rattle.clientdata.specs.declared.record.Kind.TheVariants.{Create, Get}
+use Rattle.clientdata.specs.declared.record.CeremonyType.{CeremonyType}
+use Rattle.clientdata.specs.declared.record.CeremonyType.TheVariants.{Create, Get}
 use Rattle.clientdata.specs.Quoted.{escaped, quoted}
 use Rattle.clientdata.specs.Serialised.{type_of, challenge_text_of, truth_of, client_data_front, client_data_text}
 use Rattle.clientdata.specs.Reading.{is_text}
@@ -47,7 +47,7 @@ IsUtf8-quoted s u =
     let quote : IsUtf8 (34 ∷ []) = IsUtf8-are_ascii (34 ∷ []) refl in
     IsUtf8-append _ _ (IsUtf8-append _ _ quote (IsUtf8-escapes (chars s) (scalars-chars s u))) quote
 
-pub IsUtf8-type_of : (kind : Kind) → IsUtf8 (type_of kind)
+pub IsUtf8-type_of : (kind : CeremonyType) → IsUtf8 (type_of kind)
 IsUtf8-type_of Create = IsUtf8-are_ascii _ refl
 IsUtf8-type_of Get = IsUtf8-are_ascii _ refl
 
@@ -59,7 +59,7 @@ IsUtf8-truth : (value : Bool) → IsUtf8 (truth_of value)
 IsUtf8-truth true = IsUtf8-are_ascii _ refl
 IsUtf8-truth false = IsUtf8-are_ascii _ refl
 
-IsUtf8-text : (kind : Kind) (challenge origin : List ℕ) (cross : Bool) → IsUtf8 origin → IsUtf8 (client_data_text kind challenge origin cross)
+IsUtf8-text : (kind : CeremonyType) (challenge origin : List ℕ) (cross : Bool) → IsUtf8 origin → IsUtf8 (client_data_text kind challenge origin cross)
 unfolding client_data_front
 IsUtf8-text kind challenge origin cross u =
     let ascii : (xs : List ℕ) → are_ascii xs ≡ true → IsUtf8 xs = IsUtf8-are_ascii in
@@ -76,6 +76,6 @@ IsUtf8-text kind challenge origin cross u =
     (ascii (codes ",\"crossOrigin\":") refl)) (IsUtf8-truth cross))
     (ascii (codes "}") refl)
 
-pub is_text-text : (kind : Kind) (challenge origin : List ℕ) (cross : Bool) → IsUtf8 origin → is_text (client_data_text kind challenge origin cross) ≡ true
+pub is_text-text : (kind : CeremonyType) (challenge origin : List ℕ) (cross : Bool) → IsUtf8 origin → is_text (client_data_text kind challenge origin cross) ≡ true
 unfolding client_data_front
 is_text-text kind challenge origin cross u = is_utf8-from_IsUtf8 _ (IsUtf8-text kind challenge origin cross u)

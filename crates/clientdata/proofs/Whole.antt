@@ -2,7 +2,7 @@
 use Rattle.std.proofs.Common.{◌≡◌, ◌≢◌, ℕ, Bool, Bor, List, ◌++◌, Option, Some, None, true, false, ◌⊎◌, inl, inr, ap, subst, sym, ◌∙◌, append_assoc}
 use Rattle.std.specs.Prelude.{MatchOption, codes}
 use Rattle.std.proofs.lemmas.List.{append_cancel_left}
-use Rattle.clientdata.specs.declared.record.Kind.{Kind}
+use Rattle.clientdata.specs.declared.record.CeremonyType.{CeremonyType}
 use Rattle.clientdata.specs.Quoted.{quoted}
 use Rattle.clientdata.specs.Expected.{ArePlain, before_challenge, behind_challenge}
 use Rattle.clientdata.specs.Serialised.{challenge_text_of, client_data_front, client_data_text, truth_of, type_of}
@@ -14,7 +14,7 @@ joined : (a t b mark c o origin x truth z : List ℕ)
 joined a t b mark c o origin x truth z = simp append_assoc
 
 -- the text, cut before the challenge, behind it and before the last member's value
-pub whole : (kind : Kind) (challenge origin : List ℕ) (cross : Bool) → ArePlain (challenge_text_of challenge)
+pub whole : (kind : CeremonyType) (challenge origin : List ℕ) (cross : Bool) → ArePlain (challenge_text_of challenge)
     → client_data_text kind challenge origin cross
     ≡ before_challenge kind ++ (challenge_text_of challenge ++ (behind_challenge origin ++ (truth_of cross ++ codes "}")))
 unfolding client_data_front before_challenge behind_challenge
@@ -32,7 +32,7 @@ behind_two None bytes a b r e none = λ rest other. none rest (append_cancel_lef
 behind_two (Some rest) bytes a b r e is = e ∙ ap (λ (l : List ℕ). a ++ l) is
 
 -- what is told of bytes by the three pieces
-module _ (kind : Kind) (challenge origin bytes front text back : List ℕ)
+module _ (kind : CeremonyType) (challenge origin bytes front text back : List ℕ)
     (ef : front ≡ before_challenge kind) (et : text ≡ challenge_text_of challenge) (eb : back ≡ behind_challenge origin) (plain : ArePlain text) where
   pieces : (cross : Bool) → client_data_text kind challenge origin cross ≡ front ++ (text ++ (back ++ (truth_of cross ++ codes "}")))
   pieces cross = rw (ef, et, eb) (whole kind challenge origin cross (subst ArePlain et plain))

@@ -1,12 +1,12 @@
 -- The pieces of serialised client data around the challenge, and texts that are written as they are. Private functions
 -- are proved against these.
 use Rattle.std.specs.Prelude.{◌≢◌, ◌≤◌, ◌<◌, ℕ, List, ◌++◌, codes, length, slice_index}
-use Rattle.clientdata.specs.declared.record.Kind.{Kind}
+use Rattle.clientdata.specs.declared.record.CeremonyType.{CeremonyType}
 use Rattle.clientdata.specs.Quoted.{quoted}
 use Rattle.clientdata.specs.Serialised.{type_of}
 
 -- up to the challenge's first character
-unfoldable pub before_challenge : Kind → List ℕ
+unfoldable pub before_challenge : CeremonyType → List ℕ
 before_challenge kind = codes "{\"type\":" ++ quoted (type_of kind) ++ codes ",\"challenge\":\""
 
 -- from behind the challenge's last character to before the last member's value

@@ -3,13 +3,13 @@ use Rattle.std.specs.Prelude.{ℕ, Bool, List, ◌++◌, codes, if◌then◌else
 use Rattle.base64.specs.GeneralPurpose.{encode_of}
 use Rattle.base64.specs.Engines.{url_safe_no_pad}
 use Rattle.sha2.specs.Sha256.{sha256}
-use Rattle.clientdata.specs.declared.record.Kind.{Kind}
-use Rattle.clientdata.specs.declared.record.Kind.TheVariants.{Create, Get}
+use Rattle.clientdata.specs.declared.record.CeremonyType.{CeremonyType}
+use Rattle.clientdata.specs.declared.record.CeremonyType.TheVariants.{Create, Get}
 use Rattle.clientdata.specs.declared.record.ClientData.{ClientData}
 use Rattle.clientdata.specs.Quoted.{quoted}
 
 -- the member `type` (section 5.8.1)
-abbrev pub type_of : Kind → List ℕ
+abbrev pub type_of : CeremonyType → List ℕ
 type_of Create = codes "webauthn.create"
 type_of Get = codes "webauthn.get"
 
@@ -22,7 +22,7 @@ abbrev pub truth_of : Bool → List ℕ
 truth_of value = if value then codes "true" else codes "false"
 
 -- the text of a ceremony, a challenge, an origin and whether it is cross-origin, without the brace at its end
-unfoldable pub client_data_front : Kind → List ℕ → List ℕ → Bool → List ℕ
+unfoldable pub client_data_front : CeremonyType → List ℕ → List ℕ → Bool → List ℕ
 client_data_front kind challenge origin cross_origin =
     codes "{\"type\":" ++ quoted (type_of kind)
     ++ codes ",\"challenge\":" ++ quoted (challenge_text_of challenge)
@@ -30,7 +30,7 @@ client_data_front kind challenge origin cross_origin =
     ++ codes ",\"crossOrigin\":" ++ truth_of cross_origin
 
 -- the whole text
-abbrev pub client_data_text : Kind → List ℕ → List ℕ → Bool → List ℕ
+abbrev pub client_data_text : CeremonyType → List ℕ → List ℕ → Bool → List ℕ
 client_data_text kind challenge origin cross_origin = client_data_front kind challenge origin cross_origin ++ codes "}"
 
 -- the same of a record: the text without its last brace, and whole

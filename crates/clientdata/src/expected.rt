@@ -6,7 +6,7 @@ ghost use Rattle.clientdata.specs.Serialised.{challenge_text_of, client_data_tex
 
 use crate::challenge::challenge_bytes;
 use crate::quoting::push_quoted;
-use crate::record::Kind;
+use crate::record::CeremonyType;
 use std::alloc::{AllocError, Global};
 use std::marker::Model;
 
@@ -60,12 +60,12 @@ impl ExpectedOrigin {
 }
 
 /// The text before the challenge.
-fn before_challenge(kind: Kind) -> &'static [u8]
+fn before_challenge(kind: CeremonyType) -> &'static [u8]
     ensures { result.now ≡ before_challenge kind }
 {
     match kind {
-        Kind::Create => b"{\"type\":\"webauthn.create\",\"challenge\":\"",
-        Kind::Get => b"{\"type\":\"webauthn.get\",\"challenge\":\"",
+        CeremonyType::Create => b"{\"type\":\"webauthn.create\",\"challenge\":\"",
+        CeremonyType::Get => b"{\"type\":\"webauthn.get\",\"challenge\":\"",
     }
 }
 
@@ -89,7 +89,7 @@ fn behind_both<'a>(bytes: &'a [u8], front: &[u8], second: &[u8]) -> Option<&'a [
 /// challenge and origin, whether cross-origin or not. It takes no memory.
 pub fn is_serialised(
     bytes: &[u8],
-    kind: Kind,
+    kind: CeremonyType,
     challenge: &[u8; 32],
     origin: &ExpectedOrigin,
 ) -> bool

@@ -6,7 +6,7 @@ ghost use Rattle.clientdata.specs.Reading.{seen_of};
 ghost use Rattle.clientdata.specs.Serialised.{challenge_text_of, hash_of, type_of};
 ghost use Rattle.clientdata.specs.Serialised.{client_data_front, client_data_text};
 ghost use Rattle.clientdata.specs.Verified.{IsVerified};
-ghost use Rattle.clientdata.specs.declared.record.Kind.{Kind};
+ghost use Rattle.clientdata.specs.declared.record.CeremonyType.{CeremonyType};
 ghost use Rattle.clientdata.specs.declared.seen.Binding.TheVariants.{Absent};
 
 /// A hash of client data has 32 bytes.
@@ -23,10 +23,10 @@ pub fn challenge_texts()
 /// A serialised text is verified against its own record. It is read as its own type, challenge text
 /// and origin, without token binding, whatever the origin. Two records with one text are one.
 pub fn serialised_texts()
-    ensures verified { (kind : Kind) (challenge origin : List ℕ) (cross : Bool)
+    ensures verified { (kind : CeremonyType) (challenge origin : List ℕ) (cross : Bool)
         → IsVerified (client_data_text kind challenge origin cross)
         (client_data_front kind challenge origin cross) }
-    ensures read { (kind : Kind) (challenge origin : List ℕ) (cross : Bool) → IsUtf8 origin
+    ensures read { (kind : CeremonyType) (challenge origin : List ℕ) (cross : Bool) → IsUtf8 origin
         → seen_of (client_data_text kind challenge origin cross)
         ≡ Some (record {
           kind = type_of kind;
@@ -34,7 +34,7 @@ pub fn serialised_texts()
           origin = origin;
           binding = Absent;
         }) }
-    ensures one_record { (k l : Kind) (a b o p : List ℕ) (x y : Bool)
+    ensures one_record { (k l : CeremonyType) (a b o p : List ℕ) (x y : Bool)
         → IsBytes a → IsBytes b → IsUtf8 o → IsUtf8 p
         → client_data_text k a o x ≡ client_data_text l b p y
         → (k ≡ l) × (a ≡ b) × (o ≡ p) × (x ≡ y) }

@@ -19,7 +19,7 @@ pub use error::Error;
 pub use expected::{ExpectedOrigin, is_serialised};
 pub use law::{challenge_texts, digest_lengths, serialised_texts};
 pub use quoting::quoted_text;
-pub use record::{ClientData, Kind};
+pub use record::{CeremonyType, ClientData};
 pub use seen::{Binding, Seen, read};
 pub use serialising::{limited_verify, serialise};
 pub use text::Text;

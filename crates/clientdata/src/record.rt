@@ -4,14 +4,14 @@ ghost use Rattle.std.specs.Prelude.{◌≡◌};
 
 /// The ceremony that client data were collected for (WebAuthn Level 2, section 5.8.1, `type`).
 #[derive(Clone, Copy, Debug, PartialEq, Eq)]
-pub enum Kind {
+pub enum CeremonyType {
     /// Registration, `webauthn.create`.
     Create,
     /// Sign-in, `webauthn.get`.
     Get,
 }
 
-impl Kind {
+impl CeremonyType {
     ghost use Rattle.clientdata.specs.Serialised.{type_of};
 
     /// The text of the member `type`.
@@ -19,8 +19,8 @@ impl Kind {
         ensures { result.now ≡ type_of self }
     {
         match self {
-            Kind::Create => "webauthn.create",
-            Kind::Get => "webauthn.get",
+            CeremonyType::Create => "webauthn.create",
+            CeremonyType::Get => "webauthn.get",
         }
     }
 }
@@ -30,7 +30,7 @@ impl Kind {
 #[derive(Debug, Drop)]
 pub struct ClientData {
     /// The ceremony.
-    pub kind: Kind,
+    pub kind: CeremonyType,
     /// The challenge's bytes; the text has them in base64url without padding.
     pub challenge: Vec<u8>,
     /// The origin of the caller, as it is serialised.

@@ -1,8 +1,8 @@
 use Rattle.std.specs.Prelude.{◌≡◌, List, Option, Some, None, codes, true, false}
 use Rattle.clap.specs.Words.{App, Row, Rule, Text, app_of, new_app, new_rule, with_rule, with_subcommand, subcommand_of, first_of, one_of}
 use Rattle.std.specs.Prelude.{string_bytes}
-use Rattle.clientdata.specs.declared.record.Kind.{Kind}
-use Rattle.clientdata.specs.declared.record.Kind.TheVariants.{Create, Get}
+use Rattle.clientdata.specs.declared.record.CeremonyType.{CeremonyType}
+use Rattle.clientdata.specs.declared.record.CeremonyType.TheVariants.{Create, Get}
 use Rattle.command_line.specs.declared.words.Inspection.{Inspection}
 use Rattle.command_line.specs.declared.words.Inspection.TheVariants.{Cbor, AuthData, Packets, ClientData}
 use Rattle.command_line.specs.declared.words.Subcommand.{Subcommand}
@@ -56,7 +56,7 @@ inspection_word Packets = codes "packets"
 inspection_word ClientData = codes "clientdata"
 
 -- the word for a ceremony
-abbrev pub ceremony_word : Kind → Text
+abbrev pub ceremony_word : CeremonyType → Text
 ceremony_word Create = codes "create"
 ceremony_word Get = codes "get"
 

@@ -3,13 +3,13 @@
 ghost use Rattle.std.specs.Prelude.{◌≡◌, false, IfNone, IfOk, IfSome, map, codes};
 ghost use Rattle.clap.specs.Words.{app_of, new_app, shape_of, subcommand_rows_of, with_rule, with_subcommand};
 ghost use Rattle.clap.specs.declared.builder.command.Command.TheViews.{out-Command as fields_of};
-ghost use Rattle.clientdata.specs.declared.record.Kind.{Kind};
+ghost use Rattle.clientdata.specs.declared.record.CeremonyType.{CeremonyType};
 ghost use Rattle.command_line.specs.declared.words.Inspection.{Inspection};
 ghost use Rattle.command_line.specs.CommandLine.{check_app, check_options_app, inspect_app, passkey_app, replay_app, HasApp, HasAppOf, HasAppOfBoth, IsAsked, IsAskedBy, ceremony_word, inspection_word, required, required_option};
 
 use clap::error::ErrorKind;
 use clap::{Arg, ArgAction, ArgMatches, Command as Parser, Error};
-use clientdata::Kind;
+use clientdata::CeremonyType;
 use std::alloc::{AllocError, Global};
 
 /// The words for the kinds of bytes that can be inspected.
@@ -39,7 +39,7 @@ pub enum Subcommand {
     /// Verify client data on standard input against these members: the ceremony, the challenge in hex, the
     /// origin, and whether the ceremony was in a cross-origin frame.
     Check {
-        kind: Kind,
+        kind: CeremonyType,
         challenge: String,
         origin: String,
         cross: bool,
@@ -185,13 +185,13 @@ fn inspection_named(word: &str) -> Option<Inspection>
 }
 
 /// The ceremony that a word names.
-fn ceremony_named(word: &str) -> Option<Kind>
+fn ceremony_named(word: &str) -> Option<CeremonyType>
     ensures named { IfSome result (λ kind. ceremony_word kind ≡ word.now) }
-    ensures none { IfNone result ((kind : Kind) → ceremony_word kind ≡ word.now → ⊥) }
+    ensures none { IfNone result ((kind : CeremonyType) → ceremony_word kind ≡ word.now → ⊥) }
 {
     match word {
-        "create" => Some(Kind::Create),
-        "get" => Some(Kind::Get),
+        "create" => Some(CeremonyType::Create),
+        "get" => Some(CeremonyType::Get),
         _ => None,
     }
 }

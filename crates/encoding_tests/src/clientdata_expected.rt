@@ -1,7 +1,7 @@
 //! Client data that are the expected text: the texts are WebAuthn's (section 5.8.1.1), written out, the texts of
 //! challenges what another program gives for them.
 
-use clientdata::{ExpectedOrigin, Kind, is_serialised};
+use clientdata::{ExpectedOrigin, CeremonyType, is_serialised};
 use std::test::Fail;
 
 /// The number 1 in 8 bytes, then 24 bytes 0.
@@ -40,22 +40,22 @@ const UNESCAPED: &str =
     "{\"type\":\"webauthn.get\",\"challenge\":\"AAAAAAAAAAEAAAAAAAAAAAAAAAAAAAAAAAAAAAAAAAA\",\"origin\":\"a\"b\",\"crossOrigin\":false}";
 
 /// A text, the ceremony, challenge and origin, and whether it is told as their text.
-const ROWS: &[(&str, Kind, [u8; 32], &str, bool)] = &[
-    (SIGN_IN, Kind::Get, CHALLENGE, "https://abc", true),
-    (CROSS_ORIGIN, Kind::Get, CHALLENGE, "https://abc", true),
-    (REGISTRATION, Kind::Create, HIGHEST, "https://abc", true),
-    (SIGN_IN, Kind::Create, CHALLENGE, "https://abc", false),
-    (SIGN_IN, Kind::Get, HIGHEST, "https://abc", false),
-    (SIGN_IN, Kind::Get, CHALLENGE, "https://ab", false),
-    (SIGN_IN, Kind::Get, CHALLENGE, "https://abcd", false),
-    (SIGN_IN, Kind::Get, CHALLENGE, "", false),
-    (SPACED, Kind::Get, CHALLENGE, "https://abc", false),
-    (LONGER, Kind::Get, CHALLENGE, "https://abc", false),
-    (ESCAPED, Kind::Get, CHALLENGE, "a\"b", true),
-    (UNESCAPED, Kind::Get, CHALLENGE, "a\"b", false),
-    (BEYOND_ASCII, Kind::Get, CHALLENGE, "https://é", true),
-    (OPEN, Kind::Get, CHALLENGE, "https://abc", false),
-    ("", Kind::Get, CHALLENGE, "https://abc", false),
+const ROWS: &[(&str, CeremonyType, [u8; 32], &str, bool)] = &[
+    (SIGN_IN, CeremonyType::Get, CHALLENGE, "https://abc", true),
+    (CROSS_ORIGIN, CeremonyType::Get, CHALLENGE, "https://abc", true),
+    (REGISTRATION, CeremonyType::Create, HIGHEST, "https://abc", true),
+    (SIGN_IN, CeremonyType::Create, CHALLENGE, "https://abc", false),
+    (SIGN_IN, CeremonyType::Get, HIGHEST, "https://abc", false),
+    (SIGN_IN, CeremonyType::Get, CHALLENGE, "https://ab", false),
+    (SIGN_IN, CeremonyType::Get, CHALLENGE, "https://abcd", false),
+    (SIGN_IN, CeremonyType::Get, CHALLENGE, "", false),
+    (SPACED, CeremonyType::Get, CHALLENGE, "https://abc", false),
+    (LONGER, CeremonyType::Get, CHALLENGE, "https://abc", false),
+    (ESCAPED, CeremonyType::Get, CHALLENGE, "a\"b", true),
+    (UNESCAPED, CeremonyType::Get, CHALLENGE, "a\"b", false),
+    (BEYOND_ASCII, CeremonyType::Get, CHALLENGE, "https://é", true),
+    (OPEN, CeremonyType::Get, CHALLENGE, "https://abc", false),
+    ("", CeremonyType::Get, CHALLENGE, "https://abc", false),
 ];
 
 #[test]

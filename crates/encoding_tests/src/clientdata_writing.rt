@@ -3,7 +3,7 @@
 
 use crate::pieces::{Table, bytes_of, part};
 use clientdata::{
-    Binding, ClientData, Kind, challenge_text, hash, limited_verify, quoted_text, read, serialise,
+    Binding, ClientData, CeremonyType, challenge_text, hash, limited_verify, quoted_text, read, serialise,
 };
 use std::alloc::{AllocError, Global};
 use std::test::Fail;
@@ -23,9 +23,9 @@ const TEXTS: &[&str] = &[
 fn record_of(alloc: Global, row: &str) -> Result<ClientData, AllocError> {
     let challenge = bytes_of(alloc, part(row, 2))?;
     let kind = if part(row, 1) == "get" {
-        Kind::Get
+        CeremonyType::Get
     } else {
-        Kind::Create
+        CeremonyType::Create
     };
     Ok(ClientData {
         kind,
@@ -92,7 +92,7 @@ fn long_text(alloc: Global, count: usize) -> Result<(usize, bool), AllocError> {
     }
     let origin = "a".repeat(alloc, count)?;
     let record = ClientData {
-        kind: Kind::Get,
+        kind: CeremonyType::Get,
         challenge,
         origin,
         cross_origin: false,

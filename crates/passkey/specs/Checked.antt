@@ -2,13 +2,13 @@
 use Rattle.std.specs.Prelude.{◌↔◌, ℕ, List, Bool, IsTrue, Some, None}
 use Rattle.clientdata.specs.Serialised.{client_data_front}
 use Rattle.clientdata.specs.Verified.{IsVerified}
-use Rattle.clientdata.specs.declared.record.Kind.{Kind}
+use Rattle.clientdata.specs.declared.record.CeremonyType.{CeremonyType}
 use Rattle.command_line.specs.HexText.{IsRead}
 use Rattle.passkey.specs.declared.check.CheckFault.{CheckFault}
 use Rattle.passkey.specs.declared.check.CheckFault.TheVariants.{BadHex, Memory}
 
 -- the digits are hex, and the verdict is that of the limited verification against the challenge that they spell
-abbrev pub IsChecked : List ℕ → Kind → List ℕ → List ℕ → Bool → Bool → Type 0
+abbrev pub IsChecked : List ℕ → CeremonyType → List ℕ → List ℕ → Bool → Bool → Type 0
 IsChecked bytes kind digits origin cross_origin verified =
     (challenge : List ℕ) × IsRead digits (Some challenge)
     × (IsTrue verified ↔ IsVerified bytes (client_data_front kind challenge origin cross_origin))

@@ -4,7 +4,7 @@ ghost use Rattle.std.specs.Prelude.{◌≡◌, IfErr, IfOk, string_bytes};
 ghost use Rattle.passkey.specs.Checked.{IsChecked, IsUnchecked};
 ghost use Rattle.passkey.specs.declared.check.CheckFault.TheVariants as faults;
 
-use clientdata::{ClientData, Kind, limited_verify};
+use clientdata::{ClientData, CeremonyType, limited_verify};
 use command_line::unhex;
 use std::alloc::{AllocError, Global};
 
@@ -30,7 +30,7 @@ impl From<AllocError> for CheckFault {
 /// `BadHex` where `unhex` reads no challenge.
 pub fn check(
     alloc: Global,
-    kind: Kind,
+    kind: CeremonyType,
     challenge: &str,
     origin: String,
     cross_origin: bool,

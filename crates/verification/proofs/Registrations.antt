@@ -2,7 +2,7 @@
 use Rattle.std.proofs.Common.{◌≡◌, ◌⊎◌, inl, inr, ℕ, List, [], ◌∷◌, ◌++◌, Some, None, refl, subst, sym, Bool, true, false, Contains, codes, ◌∙◌}
 use Rattle.first_line.proofs.Laws.{each_joined, first_along, first_at, first_before, first_behind, first_image}
 use Rattle.first_line.specs.Lines.{Each, FirstFailing}
-use Rattle.clientdata.specs.declared.record.Kind.TheVariants.{Create}
+use Rattle.clientdata.specs.declared.record.CeremonyType.TheVariants.{Create}
 use Rattle.cose.specs.Keys.{alg_of}
 use Rattle.authdata.specs.Layout.{AuthenticatorData, AttestedCredential, AuthOf}
 use Rattle.authdata.specs.Objects.{Attestation, ObjectOf}

@@ -2,7 +2,7 @@
 use Rattle.std.proofs.Common.{◌≡◌, ℕ, List, ◌++◌, Some, refl, subst, sym, false}
 use Rattle.first_line.proofs.Laws.{each_joined, first_along, first_at, first_before, first_behind, first_image}
 use Rattle.first_line.specs.Lines.{Each, FirstFailing}
-use Rattle.clientdata.specs.declared.record.Kind.TheVariants.{Get}
+use Rattle.clientdata.specs.declared.record.CeremonyType.TheVariants.{Get}
 use Rattle.std.specs.Prelude.{Option}
 use Rattle.std.specs.Option.{ForSome}
 use Rattle.sha2.specs.Sha256.{sha256}

@@ -5,7 +5,7 @@ use Rattle.std.specs.Option.{ForSome}
 use Rattle.sha2.specs.Sha256.{sha256}
 use Rattle.first_line.specs.Lines.{Each, FirstFailing}
 use Rattle.clientdata.specs.Reading.{seen_of}
-use Rattle.clientdata.specs.declared.record.Kind.TheVariants.{Get}
+use Rattle.clientdata.specs.declared.record.CeremonyType.TheVariants.{Get}
 use Rattle.authdata.specs.Flags.{is_set, AT, BE}
 use Rattle.authdata.specs.Layout.{AuthenticatorData, AuthOf}
 use Rattle.authdata.specs.Responses.{Assertion}

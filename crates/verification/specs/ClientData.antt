@@ -4,7 +4,7 @@ use Rattle.std.specs.Prelude.{◌≡◌, ℕ, Bool, List, [], ◌∷◌, Contain
 use Rattle.std.specs.Option.{ForSome}
 use Rattle.clientdata.specs.Reading.{seen_of}
 use Rattle.clientdata.specs.Serialised.{client_data_text}
-use Rattle.clientdata.specs.declared.record.Kind.{Kind}
+use Rattle.clientdata.specs.declared.record.CeremonyType.{CeremonyType}
 use Rattle.first_line.specs.Lines.{FirstFailing}
 use Rattle.verification.specs.Records.{RelyingParty}
 use Rattle.verification.specs.Shared.{HasType, HasChallenge, HasOrigin, HasNoBinding}
@@ -13,7 +13,7 @@ use Rattle.verification.specs.declared.client_data.ClientDataError.TheVariants a
 use Rattle.verification.specs.declared.client_data.ClientDataLine.{ClientDataLine}
 use Rattle.verification.specs.declared.client_data.ClientDataLine.TheVariants as line
 
-abbrev pub Says : Kind → List ℕ → RelyingParty → List ℕ → ClientDataLine → Type 0
+abbrev pub Says : CeremonyType → List ℕ → RelyingParty → List ℕ → ClientDataLine → Type 0
 Says kind challenge rp t line.Readable = IsSome (seen_of t)
 Says kind challenge rp t line.Type = ForSome (seen_of t) (HasType kind)
 Says kind challenge rp t line.Challenge = ForSome (seen_of t) (HasChallenge challenge)
@@ -24,11 +24,11 @@ abbrev pub lines : List ClientDataLine
 lines = line.Readable ∷ line.Type ∷ line.Challenge ∷ line.Origin ∷ line.TokenBinding ∷ []
 
 -- the first line that fails is named; want of memory says nothing
-abbrev pub Fails : Kind → List ℕ → RelyingParty → List ℕ → ClientDataError → Type 0
+abbrev pub Fails : CeremonyType → List ℕ → RelyingParty → List ℕ → ClientDataError → Type 0
 Fails kind challenge rp t (errors.Fails line) = FirstFailing (Says kind challenge rp t) lines line
 Fails kind challenge rp t errors.Memory = Unit {0}
 
 -- the bytes are the serialised client data (section 5.8.1.1) of this ceremony and challenge, for one of the origins
-abbrev pub IsSerialised : Kind → List ℕ → RelyingParty → List ℕ → Type 0
+abbrev pub IsSerialised : CeremonyType → List ℕ → RelyingParty → List ℕ → Type 0
 IsSerialised kind challenge rp t =
     (origin : List ℕ) × (cross : Bool) × Contains rp.origins origin × IsUtf8 origin × (t ≡ client_data_text kind challenge origin cross)

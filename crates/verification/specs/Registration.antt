@@ -5,7 +5,7 @@ use Rattle.sha2.specs.Sha256.{sha256}
 use Rattle.first_line.specs.Lines.{Each, FirstFailing}
 use Rattle.cose.specs.Keys.{alg_of}
 use Rattle.clientdata.specs.Reading.{seen_of}
-use Rattle.clientdata.specs.declared.record.Kind.TheVariants.{Create}
+use Rattle.clientdata.specs.declared.record.CeremonyType.TheVariants.{Create}
 use Rattle.authdata.specs.Layout.{AuthenticatorData, AttestedCredential, AuthOf}
 use Rattle.authdata.specs.Objects.{Attestation, ObjectOf}
 use Rattle.authdata.specs.Responses as responses

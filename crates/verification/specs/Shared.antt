@@ -4,7 +4,7 @@ use Rattle.std.specs.Prelude.{◌≡◌, ◌⊎◌, ℕ, List, Bool, true, Conta
 use Rattle.sha2.specs.Sha256.{sha256}
 use Rattle.cose.specs.declared.key.CoseKey.{CoseKey}
 use Rattle.clientdata.specs.Serialised.{challenge_text_of, type_of}
-use Rattle.clientdata.specs.declared.record.Kind.{Kind}
+use Rattle.clientdata.specs.declared.record.CeremonyType.{CeremonyType}
 use Rattle.clientdata.specs.declared.seen.Binding.TheVariants.{Absent, Supported}
 use Rattle.clientdata.specs.declared.seen.Seen.{Seen}
 use Rattle.authdata.specs.Flags.{is_set, UP, UV}
@@ -16,7 +16,7 @@ abbrev pub Relation : Type 1
 Relation = CoseKey → List ℕ → List ℕ → Type 0
 
 -- the type is the ceremony's
-abbrev pub HasType : Kind → Seen → Type 0
+abbrev pub HasType : CeremonyType → Seen → Type 0
 HasType kind seen = seen.kind ≡ type_of kind
 
 -- the challenge is the text of this one

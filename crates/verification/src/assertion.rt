@@ -17,7 +17,7 @@ use crate::party::RelyingParty;
 use crate::record::{AssertionParts, CredentialView, SignInSession};
 use crate::refusal::{SignInError, SignInRefusal};
 use authdata::{AuthView, flags, read_view};
-use clientdata::{Kind, hash};
+use clientdata::{CeremonyType, hash};
 use cose::{CoseKey, Verifier};
 use std::alloc::Global;
 
@@ -160,7 +160,7 @@ impl<'a> SignInAttempt<'a> {
         match check_client_data(
             alloc,
             self.response.client_data,
-            Kind::Get,
+            CeremonyType::Get,
             &session.challenge,
             self.party,
         ) {

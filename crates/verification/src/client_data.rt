@@ -6,7 +6,7 @@ ghost use Rattle.verification.specs.ClientData.{Fails, Says, lines};
 ghost use Rattle.verification.specs.declared.client_data.ClientDataError.TheVariants as errors;
 
 use crate::party::RelyingParty;
-use clientdata::{Binding, Kind, Seen, challenge_text, read};
+use clientdata::{Binding, CeremonyType, Seen, challenge_text, read};
 use std::alloc::{AllocError, Global};
 
 /// The line on client data that fails.
@@ -39,7 +39,7 @@ impl From<AllocError> for ClientDataError {
 pub(crate) fn check_client_data(
     alloc: Global,
     bytes: &[u8],
-    kind: Kind,
+    kind: CeremonyType,
     challenge: &[u8; 32],
     party: &RelyingParty,
 ) -> Result<(), ClientDataError>

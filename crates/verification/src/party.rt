@@ -5,7 +5,7 @@ ghost use Rattle.sha2.specs.Sha256.{sha256};
 ghost use Rattle.verification.specs.ClientData.{IsSerialised};
 ghost use Rattle.verification.specs.Views.{texts_of};
 
-use clientdata::{ExpectedOrigin, Kind, is_serialised};
+use clientdata::{ExpectedOrigin, CeremonyType, is_serialised};
 use sha2::{Digest, Sha256};
 use std::alloc::{AllocError, Global};
 use std::marker::Model;
@@ -82,7 +82,7 @@ impl RelyingParty {
 
     /// Whether the bytes are the serialised client data of this ceremony and challenge for one of the origins, which
     /// then need not be read. It takes no memory.
-    pub(crate) fn expects(&self, bytes: &[u8], kind: Kind, challenge: &[u8; 32]) -> bool
+    pub(crate) fn expects(&self, bytes: &[u8], kind: CeremonyType, challenge: &[u8; 32]) -> bool
         ensures { IsTrue result → IsSerialised kind challenge.now self.now bytes.now }
     {
         for origin in &self.origins {

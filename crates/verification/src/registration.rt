@@ -19,7 +19,7 @@ use crate::refusal::{RegistrationError, RegistrationRefusal};
 use authdata::{
     AttestationObject, AttestationType, Attested, AuthData, check_statement, flags, read,
 };
-use clientdata::{Kind, hash};
+use clientdata::{CeremonyType, hash};
 use cose::{Alg, CoseKey, Verifier};
 use std::alloc::Global;
 
@@ -184,7 +184,7 @@ impl<'a> RegistrationAttempt<'a> {
         match check_client_data(
             alloc,
             self.response.client_data,
-            Kind::Create,
+            CeremonyType::Create,
             &session.challenge,
             self.party,
         ) {

@@ -1,7 +1,7 @@
 use Rattle.std.proofs.Common.{refl}
 use Rattle.clientdata.specs.Expected.{before_challenge}
 use Rattle.clientdata.specs.Serialised.{type_of}
-use Rattle.clientdata.specs.declared.record.Kind.TheVariants.{Create, Get}
+use Rattle.clientdata.specs.declared.record.CeremonyType.TheVariants.{Create, Get}
 use Rattle.clientdata.proofs.Plain.{quoted_plain, type_plain}
 use Rattle.clientdata.proofs.expected.before_challenge.Goals as goal
 
