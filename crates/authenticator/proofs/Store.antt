@@ -1,5 +1,5 @@
 -- The credentials that stored ones stand for.
-use Rattle.std.proofs.Common.{◌≡◌, ◌<◌, ℕ, zero, suc, List, [], ◌∷◌, ◌++◌, Bool, true, false, Some, None, sym, ◌∙◌, ap, arith, refl, length, slice_index_or, slice_set, map, reverse, append-nil, Bor, Vec, Global, string_bytes}
+use Rattle.std.proofs.Common.{◌≡◌, ◌<◌, ℕ, zero, suc, List, [], ◌∷◌, ◌++◌, Bool, true, false, Some, None, sym, ◌∙◌, ap, arith, refl, length, slice_index_or, slice_set, map, reverse, append-nil, Bor, Vec, Global}
 use Rattle.std.specs.Prelude.{Option, filter, find, option_map, option_to_list, position, remove, MatchOption}
 use Rattle.std.proofs.lemmas.List.{map-append, reverse-append}
 use Rattle.replies.proofs.Texts.{and_right}
@@ -9,8 +9,9 @@ use Rattle.std.specs.Str.{bytes_eq}
 use Rattle.std.proofs.lemmas.Slice.Eq.{bytes_eq-Decides}
 use Rattle.ctapmsg.specs.Entities.{CredentialDescriptor}
 use Rattle.ctapmsg.specs.Requests.{CreationRequest}
-use Rattle.ctapmsg.specs.RequestView.{descriptor_view}
+use Rattle.ctapmsg.specs.RequestView.{descriptor_view, lent_descriptor_view}
 use Rattle.requests.specs.declared.request.Descriptor.{Descriptor}
+use Rattle.requests.specs.declared.request.DescriptorView.{DescriptorView}
 use Rattle.std.proofs.lemmas.Grind.{common_steps}
 use Rattle.std.proofs.lemmas.List.Quantifiers.{position-Some}
 use Rattle.authenticator.specs.State.{Credential}
@@ -91,23 +92,23 @@ ids_with rp xs ids later (Some id) is cut = sym (reverse-append later (id ∷ []
 pub has_id : (id : List ℕ) (cs : List Credential) (c : Credential) → credential_of id cs ≡ Some c → c.id ≡ id
 has_id id cs c is = (bytes_eq-Decides c.id id).0 (find_passes (λ (d : Credential). bytes_eq d.id id) cs c is)
 
-pub listed_none : (cs : List Credential) (rp : List ℕ) (ds : List Descriptor) (o : Option Candidates) → o ≡ None → None ≡ find (λ d. is_stored_for rp cs (descriptor_view d)) ds
-    → candidates_view o ≡ candidates cs rp (Some (map descriptor_view ds))
+pub listed_none : (cs : List Credential) (rp : List ℕ) (ds : List DescriptorView) (o : Option Candidates) → o ≡ None → None ≡ find (λ d. is_stored_for rp cs (lent_descriptor_view d)) ds
+    → candidates_view o ≡ candidates cs rp (Some (map lent_descriptor_view ds))
 listed_none cs rp ds o is none =
-    ap candidates_view is ∙ sym (ap (λ (x : Option CredentialDescriptor). option_to_list (option_map (λ d. d.id) x)) (find_mapped descriptor_view (is_stored_for rp cs) ds ∙ ap (option_map descriptor_view) (sym none)))
+    ap candidates_view is ∙ sym (ap (λ (x : Option CredentialDescriptor). option_to_list (option_map (λ d. d.id) x)) (find_mapped lent_descriptor_view (is_stored_for rp cs) ds ∙ ap (option_map lent_descriptor_view) (sym none)))
 
-pub listed_some : (cs : List Credential) (rp : List ℕ) (ds : List Descriptor) (d : Descriptor) (c : Credential) (later : List (List ℕ)) → Some d ≡ find (λ d. is_stored_for rp cs (descriptor_view d)) ds
-    → Some c ≡ credential_of d.id.items cs → later ≡ [] → c.id ∷ reverse later ≡ candidates cs rp (Some (map descriptor_view ds))
+pub listed_some : (cs : List Credential) (rp : List ℕ) (ds : List DescriptorView) (d : DescriptorView) (c : Credential) (later : List (List ℕ)) → Some d ≡ find (λ d. is_stored_for rp cs (lent_descriptor_view d)) ds
+    → Some c ≡ credential_of d.id.now cs → later ≡ [] → c.id ∷ reverse later ≡ candidates cs rp (Some (map lent_descriptor_view ds))
 listed_some cs rp ds d c later some is none =
-    let listed : d.id.items ∷ [] ≡ candidates cs rp (Some (map descriptor_view ds)) =
-    sym (ap (λ (x : Option CredentialDescriptor). option_to_list (option_map (λ d. d.id) x)) (find_mapped descriptor_view (is_stored_for rp cs) ds ∙ ap (option_map descriptor_view) (sym some))) in
-    ap (λ ids. c.id ∷ reverse ids) none ∙ ap (λ id. id ∷ []) (has_id d.id.items cs c (sym is)) ∙ listed
+    let listed : d.id.now ∷ [] ≡ candidates cs rp (Some (map lent_descriptor_view ds)) =
+    sym (ap (λ (x : Option CredentialDescriptor). option_to_list (option_map (λ d. d.id) x)) (find_mapped lent_descriptor_view (is_stored_for rp cs) ds ∙ ap (option_map lent_descriptor_view) (sym some))) in
+    ap (λ ids. c.id ∷ reverse ids) none ∙ ap (λ id. id ∷ []) (has_id d.id.now cs c (sym is)) ∙ listed
 
-pub listed_gone : (cs : List Credential) (rp : List ℕ) (ds : List Descriptor) (d : Descriptor) → Some d ≡ find (λ d. is_stored_for rp cs (descriptor_view d)) ds
-    → None ≡ credential_of d.id.items cs → ⊥
+pub listed_gone : (cs : List Credential) (rp : List ℕ) (ds : List DescriptorView) (d : DescriptorView) → Some d ≡ find (λ d. is_stored_for rp cs (lent_descriptor_view d)) ds
+    → None ≡ credential_of d.id.now cs → ⊥
 listed_gone cs rp ds d some none =
-    let passes : is_stored_for rp cs (descriptor_view d) ≡ true = find_passes (λ (e : Descriptor). is_stored_for rp cs (descriptor_view e)) ds d (sym some) in
-    let of_rp : is_of rp (credential_of d.id.items cs) ≡ true = and_right (is_public_key (string_bytes d.kind)) _ passes in
+    let passes : is_stored_for rp cs (lent_descriptor_view d) ≡ true = find_passes (λ (e : DescriptorView). is_stored_for rp cs (lent_descriptor_view e)) ds d (sym some) in
+    let of_rp : is_of rp (credential_of d.id.now cs) ≡ true = and_right (is_public_key d.kind.now) _ passes in
     let bad : is_of rp None ≡ true = ap (is_of rp) none ∙ of_rp in
     absurd cc
 

@@ -1,7 +1,7 @@
 //! The authenticator.
 
 ghost use Rattle.std.specs.Prelude.{◌≡◌, ◌≤◌, ◌∷◌, [], IfOk, OnErr, OnOk, length};
-ghost use Rattle.ctapmsg.specs.RequestView.{request_view};
+ghost use Rattle.ctapmsg.specs.RequestView.{lent_request_view};
 ghost use Rattle.ctapmsg.specs.Requests as requests;
 ghost use Rattle.authenticator.specs.Private.{Happens, HasUser};
 ghost use Rattle.authenticator.specs.State.{forgotten, new_state};
@@ -16,7 +16,7 @@ use crate::reply::{info_bytes, status_alone, written};
 use authdata::AttestationType;
 use cose::Signer;
 use ctapmsg::status::OPERATION_DENIED;
-use ctapmsg::{Error, Reply, Request, read_request};
+use ctapmsg::{Error, Reply, RequestView, view_request};
 use std::alloc::{AllocError, Global};
 use std::marker::Model;
 
@@ -118,32 +118,32 @@ impl Authenticator {
         &mut self,
         scheme: &S,
         channel: u32,
-        request: Request,
+        request: RequestView<'_>,
         consent: Consent,
         words: Words,
     ) -> Result<Vec<u8>, AllocError>
-        requires { HasUser (request_view request) }
-        ensures done { IfOk result (λ reply. Happens (S.valid scheme.now) (S.public_of scheme.now) self.old channel consent words (request_view request) reply.items self.new) }
+        requires { HasUser (lent_request_view request) }
+        ensures done { IfOk result (λ reply. Happens (S.valid scheme.now) (S.public_of scheme.now) self.old channel consent words (lent_request_view request.entry) reply.items self.new) }
         ensures size { IfOk result (λ reply. length reply.items ≤ 7609) }
         ensures err { OnErr result (self.new ≡ self.old) }
     {
         match request {
-            Request::MakeCredential(request) => {
+            RequestView::MakeCredential(request) => {
                 self.make_credential(scheme, request, consent, words)
             }
-            Request::GetAssertion(request) => {
-                self.get_assertion(scheme, channel, request, consent)
+            RequestView::GetAssertion(request) => {
+                self.get_assertion(scheme, channel, &request, consent)
             }
-            Request::GetNextAssertion => self.get_next_assertion(scheme, channel),
-            Request::GetInfo => self.get_info(),
-            Request::Reset => self.reset(consent),
+            RequestView::GetNextAssertion => self.get_next_assertion(scheme, channel),
+            RequestView::GetInfo => self.get_info(),
+            RequestView::Reset => self.reset(consent),
         }
     }
 
     /// Answers a request that came on a channel: always with a status byte first, and with at most 7,609 bytes.
     ///
     /// Bytes that are no request are answered by the status byte that
-    /// [`read_request`](ctapmsg::read_request) gives for them, and a request by the first of these that applies:
+    /// [`view_request`](ctapmsg::view_request) gives for them, and a request by the first of these that applies:
     ///
     /// - makeCredential (CTAP 2.1, section 6.1): 0x26 no algorithm of type `public-key` is supported (ES256 and
     ///   EdDSA are); 0x2C `up` is false, or `uv` is true and verification isn't configured; 0x27 presence isn't
@@ -174,7 +174,7 @@ impl Authenticator {
         ensures size { IfOk result (λ reply. length reply.items ≤ 7609) }
         ensures memory { OnErr result (self.new ≡ self.old) }
     {
-        match read_request(self.allocator(), request) {
+        match view_request(self.allocator(), request) {
             Ok(request) => self.carry_out(scheme, channel, request, consent, words),
             Err(Error::Status(status)) => self.refuse(status),
             Err(_) => Err(AllocError),

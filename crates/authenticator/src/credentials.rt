@@ -4,14 +4,14 @@ ghost use Rattle.std.specs.Prelude.{◌≡◌, ◌<◌, ◌++◌, ◌∷◌, [],
 ghost use Rattle.std.specs.List.{list_any};
 ghost use Rattle.std.specs.Prelude as list;
 ghost use Rattle.std.specs.Str.{bytes_eq};
-ghost use Rattle.ctapmsg.specs.RequestView.{descriptor_view};
+ghost use Rattle.ctapmsg.specs.RequestView.{descriptor_view, lent_descriptor_view};
 ghost use Rattle.authenticator.specs.Credentials.{credential_of, is_resident_for, is_resident_of, resident_ids, with_sign_count, without_first};
 ghost use Rattle.authenticator.specs.Orders.{candidates, is_excluded, is_public_key, is_stored_for};
 ghost use Rattle.authenticator.specs.Views.{credential_view, credentials_view, candidates_view};
 
 use crate::credential::StoredCredential;
 use crate::remembered::Candidates;
-use ctapmsg::Descriptor;
+use ctapmsg::{Descriptor, DescriptorView};
 use std::alloc::{AllocError, Global};
 
 /// Where the credential of an id stands.
@@ -54,14 +54,14 @@ pub(crate) fn is_public_key(kind: &str) -> bool
     kind == "public-key"
 }
 
-/// Whether a descriptor is of a credential that is stored for the relying party.
-fn is_stored_for(credentials: &[StoredCredential], rp_id: &str, descriptor: &Descriptor) -> bool
-    ensures { result ≡ is_stored_for rp_id.now (credentials_view credentials.now) (descriptor_view descriptor.now) }
+/// Whether a descriptor of this type and id is of a credential that is stored for the relying party.
+fn is_stored_for(credentials: &[StoredCredential], rp_id: &str, kind: &str, id: &[u8]) -> bool
+    ensures { result ≡ is_stored_for rp_id.now (credentials_view credentials.now) (record { id = id.now; kind = kind.now }) }
 {
-    if !is_public_key(descriptor.kind.as_str()) {
+    if !is_public_key(kind) {
         return false;
     }
-    match find(credentials, &descriptor.id) {
+    match find(credentials, id) {
         Some(credential) => credential.rp_id.as_str() == rp_id,
         None => false,
     }
@@ -73,7 +73,7 @@ fn is_any_stored(credentials: &[StoredCredential], rp_id: &str, descriptors: &[D
 {
     descriptors
         .iter()
-        .any(|d| is_stored_for(credentials, rp_id, d))
+        .any(|d| is_stored_for(credentials, rp_id, &d.kind, &d.id))
 }
 
 /// Whether the descriptors, where they are there, have one of a credential that is stored for the relying party.
@@ -150,16 +150,16 @@ fn residents(
 }
 
 /// The first of the descriptors that is of a credential stored for the relying party.
-fn first_stored<'a>(
+fn first_stored<'a, 'b>(
     credentials: &[StoredCredential],
     rp_id: &str,
-    descriptors: &'a [Descriptor],
-) -> Option<&'a Descriptor>
-    ensures { option_map (λ d. d.now) result ≡ list.find (λ d. is_stored_for rp_id.now (credentials_view credentials.now) (descriptor_view d)) descriptors.entry.now }
+    descriptors: &'a [DescriptorView<'b>],
+) -> Option<&'a DescriptorView<'b>>
+    ensures { option_map (λ d. d.now) result ≡ list.find (λ d. is_stored_for rp_id.now (credentials_view credentials.now) (lent_descriptor_view d)) descriptors.entry.now }
 {
     descriptors
         .iter()
-        .find(|d| is_stored_for(credentials, rp_id, d))
+        .find(|d| is_stored_for(credentials, rp_id, d.kind, d.id))
 }
 
 /// The credential of the first of the descriptors that is of one stored for the relying party.
@@ -167,12 +167,12 @@ fn listed(
     alloc: Global,
     credentials: &[StoredCredential],
     rp_id: &str,
-    descriptors: &[Descriptor],
+    descriptors: &[DescriptorView<'_>],
 ) -> Option<Candidates>
-    ensures { candidates_view result ≡ candidates (credentials_view credentials.now) rp_id.now (Some (map descriptor_view descriptors.now)) }
+    ensures { candidates_view result ≡ candidates (credentials_view credentials.now) rp_id.now (Some (map lent_descriptor_view descriptors.now)) }
 {
     let descriptor = first_stored(credentials, rp_id, descriptors)?;
-    let credential = find(credentials, &descriptor.id)?;
+    let credential = find(credentials, descriptor.id)?;
     Some(Candidates {
         first: credential.id,
         later: Vec::new(alloc),
@@ -185,9 +185,9 @@ pub(crate) fn candidates_for(
     alloc: Global,
     credentials: &[StoredCredential],
     rp_id: &str,
-    allow_list: &Option<Vec<Descriptor>>,
+    allow_list: &Option<Vec<DescriptorView<'_>>>,
 ) -> Result<Option<Candidates>, AllocError>
-    ensures { IfOk result (λ o. candidates_view o ≡ candidates (credentials_view credentials.now) rp_id.now (option_map (λ v. map descriptor_view v.items) allow_list.now)) }
+    ensures { IfOk result (λ o. candidates_view o ≡ candidates (credentials_view credentials.now) rp_id.now (option_map (λ v. map lent_descriptor_view v.items) allow_list.now)) }
 {
     match allow_list {
         Some(descriptors) => Ok(listed(alloc, credentials, rp_id, descriptors)),

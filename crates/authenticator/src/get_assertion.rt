@@ -2,7 +2,7 @@
 
 ghost use Rattle.std.specs.Prelude.{◌≡◌, ◌<◌, ◌≤◌, ◌∷◌, IfOk, IfSome, MatchOption, OnErr, length, option_map, reverse, true};
 ghost use Rattle.first_line.specs.Lines.{first_true};
-ghost use Rattle.ctapmsg.specs.RequestView.{assertion_view};
+ghost use Rattle.ctapmsg.specs.RequestView.{lent_get_assertion_view};
 ghost use Rattle.authenticator.specs.Credentials.{credential_of, with_sign_count};
 ghost use Rattle.authenticator.specs.Orders.{candidates, is_at_end, remembered_on};
 ghost use Rattle.authenticator.specs.Private.{AssertionHappens, FirstHappens, IsCount, NextHappens, consent_order};
@@ -18,22 +18,27 @@ use crate::credentials::{candidates_for, find, set_sign_count};
 use crate::options::{assertion_options, is_denied, is_false, is_true, is_unmet};
 use crate::remembered::{AskedAssertion, Candidates, RememberedAssertion, remember};
 use cose::Signer;
-use ctapmsg::GetAssertion;
+use ctapmsg::GetAssertionView;
 use ctapmsg::status::{INVALID_OPTION, NO_CREDENTIALS, NOT_ALLOWED, OPERATION_DENIED, OTHER};
 use std::alloc::{AllocError, Global};
 
 /// What a getAssertion asks.
-fn asked_by(channel: u32, request: GetAssertion, consent: Consent) -> AskedAssertion
-    ensures { asked_view result ≡ asked_by channel (assertion_view request) consent }
+fn asked_by(
+    alloc: Global,
+    channel: u32,
+    request: &GetAssertionView<'_>,
+    consent: Consent,
+) -> Result<AskedAssertion, AllocError>
+    ensures { IfOk result (λ asked. asked_view asked ≡ asked_by channel (lent_get_assertion_view request.now) consent) }
 {
     let options = assertion_options(request.options);
-    AskedAssertion {
+    Ok(AskedAssertion {
         channel,
-        client_data_hash: request.client_data_hash,
+        client_data_hash: Vec::from_slice(alloc, request.client_data_hash)?,
         up: !is_false(options.up),
         uv: is_true(options.uv),
         consent,
-    }
+    })
 }
 
 /// How many may answer, told where there are later ones.
@@ -83,21 +88,16 @@ impl Authenticator {
     fn candidates(
         &self,
         alloc: Global,
-        request: &GetAssertion,
+        request: &GetAssertionView<'_>,
     ) -> Result<Option<Candidates>, AllocError>
-        ensures { IfOk result (λ o. candidates_view o ≡ candidates self.now.credentials (assertion_view request.now).rp_id (assertion_view request.now).allow_list) }
+        ensures { IfOk result (λ o. candidates_view o ≡ candidates self.now.credentials (lent_get_assertion_view request.now).rp_id (lent_get_assertion_view request.now).allow_list) }
     {
-        candidates_for(
-            alloc,
-            &self.credentials,
-            request.rp_id.as_str(),
-            &request.allow_list,
-        )
+        candidates_for(alloc, &self.credentials, request.rp_id, &request.allow_list)
     }
 
     /// The status by which a getAssertion is refused for its options or for want of consent.
-    fn consent_refusal(&self, request: &GetAssertion, consent: Consent) -> Option<u8>
-        ensures { result ≡ first_true (consent_order self.now (assertion_view request.now) consent) }
+    fn consent_refusal(&self, request: &GetAssertionView<'_>, consent: Consent) -> Option<u8>
+        ensures { result ≡ first_true (consent_order self.now (lent_get_assertion_view request.now) consent) }
     {
         let options = assertion_options(request.options);
         if is_unmet(options.uv, self.uv) {
@@ -145,21 +145,22 @@ impl Authenticator {
         &mut self,
         scheme: &S,
         channel: u32,
-        request: GetAssertion,
+        request: &GetAssertionView<'_>,
         consent: Consent,
     ) -> Result<Vec<u8>, AllocError>
-        ensures done { IfOk result (λ reply. AssertionHappens (S.valid scheme.now) (S.public_of scheme.now) self.old channel (assertion_view request) consent reply.items self.new) }
+        ensures done { IfOk result (λ reply. AssertionHappens (S.valid scheme.now) (S.public_of scheme.now) self.old channel (lent_get_assertion_view request.now) consent reply.items self.new) }
         ensures size { IfOk result (λ reply. length reply.items ≤ 7609) }
         ensures err { OnErr result (self.new ≡ self.old) }
     {
-        if let Some(status) = self.consent_refusal(&request, consent) {
+        if let Some(status) = self.consent_refusal(request, consent) {
             return self.refuse(status);
         }
-        let found = self.candidates(self.allocator(), &request)?;
+        let alloc = self.allocator();
+        let found = self.candidates(alloc, request)?;
         let Some(candidates) = found else {
             return self.refuse(NO_CREDENTIALS);
         };
-        let asked = asked_by(channel, request, consent);
+        let asked = asked_by(alloc, channel, request, consent)?;
         self.answer_first(scheme, asked, candidates)
     }
 

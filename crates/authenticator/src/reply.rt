@@ -1,6 +1,7 @@
 //! Replies that need no key.
 
-ghost use Rattle.std.specs.Prelude.{◌≡◌, ◌∷◌, ◌≤◌, [], IfOk, None, length};
+ghost use Rattle.std.specs.Prelude.{◌≡◌, ◌∷◌, ◌≤◌, [], IfOk, IsErrOf, None, Ok, length};
+ghost use Rattle.ctap_status.specs.declared.error.Error.TheVariants as errors;
 ghost use Rattle.ctapmsg.specs.Replies.{ReplyOf, assertion_reply, info_reply, next_reply};
 ghost use Rattle.ctapmsg.specs.ReplyView.{info_view, lent_assertion_view, reply_view};
 ghost use Rattle.authenticator.specs.Private.{IsMessage};
@@ -9,17 +10,25 @@ ghost use Rattle.authenticator.specs.Steps.{info_of};
 use ctapmsg::{AssertionView, Error, InfoReply, Reply, write_assertion, write_reply};
 use std::alloc::{AllocError, Global};
 
+/// The bytes of a reply that has some.
+fn bytes_of(written: Result<Vec<u8>, Error>) -> Result<Vec<u8>, AllocError>
+    requires { IsErrOf written errors.Unfit → ⊥ }
+    ensures { IfOk result (λ bytes. written ≡ Ok bytes) }
+{
+    match written {
+        Ok(bytes) => Ok(bytes),
+        Err(Error::Unfit) => unreachable!("the reply has bytes"),
+        Err(_) => Err(AllocError),
+    }
+}
+
 /// The bytes of a reply that has some, at most 7,609.
 pub(crate) fn written(alloc: Global, reply: Reply) -> Result<Vec<u8>, AllocError>
     requires { IsMessage (reply_view reply) }
     ensures spelled { IfOk result (λ bytes. ReplyOf (reply_view reply) bytes.items) }
     ensures size { IfOk result (λ bytes. length bytes.items ≤ 7609) }
 {
-    match write_reply(alloc, reply) {
-        Ok(bytes) => Ok(bytes),
-        Err(Error::Unfit) => unreachable!("the reply has bytes"),
-        Err(_) => Err(AllocError),
-    }
+    bytes_of(write_reply(alloc, reply))
 }
 
 /// The bytes of a reply to getAssertion that has some, at most 7,609; without a number of credentials they are those of
@@ -33,11 +42,7 @@ pub(crate) fn written_assertion(
     ensures next { shown.now.number ≡ None → IfOk result (λ bytes. ReplyOf (next_reply (lent_assertion_view shown.now)) bytes.items) }
     ensures size { IfOk result (λ bytes. length bytes.items ≤ 7609) }
 {
-    match write_assertion(alloc, shown) {
-        Ok(bytes) => Ok(bytes),
-        Err(Error::Unfit) => unreachable!("the reply has bytes"),
-        Err(_) => Err(AllocError),
-    }
+    bytes_of(write_assertion(alloc, shown))
 }
 
 /// A status alone.

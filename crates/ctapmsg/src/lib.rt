@@ -8,6 +8,7 @@ pub use replies::{
     read_creation, read_reply, write_assertion, write_reply,
 };
 pub use requests::{
-    AssertionOptions, CreationOptions, Descriptor, GetAssertion, MakeCredential, Parameters,
-    RelyingParty, Request, User, one_rank, read_request, write_request,
+    AssertionOptions, CreationOptions, Descriptor, DescriptorView, GetAssertion, GetAssertionView,
+    MakeCredential, Parameters, RelyingParty, Request, RequestView, User, one_rank, read_request,
+    view_request, write_request,
 };

@@ -5,14 +5,14 @@ use Rattle.requests.specs.Pieces.{Alone}
 use Rattle.requests.specs.Status.{Rank, unknown_command, bytes_behind, status_of, ranks, has_map, has_none, Applies, Refused}
 use Rattle.ctap_status.specs.declared.error.Error.{Error}
 use Rattle.requests.proofs.Ranks.{applies_first}
-use Rattle.requests.specs.declared.request.Request.{Request}
+use Rattle.requests.specs.declared.request.RequestView.{RequestView}
 
-refused_alone : (command : ℕ) (q : Request) (rest : List ℕ) (result : Result Request Error) → has_none command ≡ true → Alone q rest result
+refused_alone : (command : ℕ) (q : RequestView) (rest : List ℕ) (result : Result RequestView Error) → has_none command ≡ true → Alone q rest result
     → IfErr result (λ e. Refused (command ∷ rest) e)
 refused_alone command q [] result h is = rw is tt
 refused_alone command q (b ∷ rest) result h is = rw is (bytes_behind, applies_first (command ∷ b ∷ rest) bytes_behind (h, λ e. absurd cc), refl)
 
-pub alone_refused : (command : ℕ) (q : Request) (bs rest : List ℕ) (result : Result Request Error) → has_none command ≡ true → bs ≡ command ∷ rest → Alone q rest result
+pub alone_refused : (command : ℕ) (q : RequestView) (bs rest : List ℕ) (result : Result RequestView Error) → has_none command ≡ true → bs ≡ command ∷ rest → Alone q rest result
     → IfErr result (λ e. Refused bs e)
 alone_refused command q bs rest result h begins is =
     subst (λ (l : List ℕ). IfErr result (λ e. Refused l e)) (sym begins) (refused_alone command q rest result h is)

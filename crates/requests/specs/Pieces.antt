@@ -8,7 +8,7 @@ use Rattle.cbor_map.specs.declared.fault.Fault.{Fault}
 use Rattle.cbor_map.specs.declared.fault.Fault.TheVariants as faults
 use Rattle.ctap_status.specs.declared.error.Error.{Error}
 use Rattle.ctap_status.specs.declared.error.Error.TheVariants as errors
-use Rattle.requests.specs.declared.request.Request.{Request}
+use Rattle.requests.specs.declared.request.RequestView.{RequestView}
 use Rattle.requests.specs.Entities.{CredentialParameters}
 use Rattle.requests.specs.Requests.{creation_members, assertion_members, RequestMessage, RequestOf}
 use Rattle.requests.specs.Status.{NoStatus, Rank, another_kind, unlisted_key, missing_member, invalid_size, over_limit}
@@ -31,7 +31,7 @@ rank_of faults.InvalidSize = invalid_size
 rank_of faults.OverLimit = over_limit
 
 -- a command byte alone
-abbrev pub Alone : Request → List ℕ → Result Request Error → Type 0
+abbrev pub Alone : RequestView → List ℕ → Result RequestView Error → Type 0
 Alone request [] result = result ≡ Ok request
 Alone request (b ∷ rest) result = result ≡ Err (errors.Status 0x02)
 

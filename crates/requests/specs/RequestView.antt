@@ -1,6 +1,8 @@
--- Requests without where they lie in memory: a `Vec` is its items, a `String` its UTF-8.
+-- Requests without where they lie in memory: a `Vec` is its items, a `String` its UTF-8. What is lent is seen as
+-- what is owned.
 use Rattle.std.specs.Prelude.{map, option_map, string_bytes}
 use Rattle.requests.specs.declared.request.Descriptor.{Descriptor}
+use Rattle.requests.specs.declared.request.DescriptorView.{DescriptorView}
 use Rattle.requests.specs.declared.request.RelyingParty.{RelyingParty}
 use Rattle.requests.specs.declared.request.User.{User}
 use Rattle.requests.specs.declared.request.Parameters.{Parameters}
@@ -8,13 +10,19 @@ use Rattle.requests.specs.declared.request.CreationOptions.{CreationOptions}
 use Rattle.requests.specs.declared.request.AssertionOptions.{AssertionOptions}
 use Rattle.requests.specs.declared.request.MakeCredential.{MakeCredential}
 use Rattle.requests.specs.declared.request.GetAssertion.{GetAssertion}
+use Rattle.requests.specs.declared.request.GetAssertionView.{GetAssertionView}
 use Rattle.requests.specs.declared.request.Request.{Request}
 use Rattle.requests.specs.declared.request.Request.TheVariants as requests
+use Rattle.requests.specs.declared.request.RequestView.{RequestView}
+use Rattle.requests.specs.declared.request.RequestView.TheVariants as lent
 use Rattle.requests.specs.Entities.{CredentialDescriptor, RpEntity, UserEntity, CredentialParameters, CreationFlags, AssertionFlags}
 use Rattle.requests.specs.Requests.{CreationRequest, AssertionRequest, RequestMessage, make_credential, get_assertion, get_next_assertion, get_info, reset}
 
 abbrev pub descriptor_view : Descriptor → CredentialDescriptor
 descriptor_view d = record { id = d.id.items; kind = string_bytes d.kind }
+
+abbrev pub lent_descriptor_view : DescriptorView → CredentialDescriptor
+lent_descriptor_view d = record { id = d.id.now; kind = d.kind.now }
 
 abbrev pub rp_view : RelyingParty → RpEntity
 rp_view r = record { id = string_bytes r.id; name = option_map (λ s. string_bytes s) r.name }
@@ -53,9 +61,24 @@ assertion_view q = record {
   options = option_map assertion_options_view q.options;
 }
 
+abbrev pub lent_get_assertion_view : GetAssertionView → AssertionRequest
+lent_get_assertion_view q = record {
+  rp_id = q.rp_id.now;
+  client_data_hash = q.client_data_hash.now;
+  allow_list = option_map (λ v. map lent_descriptor_view v.items) q.allow_list;
+  options = option_map assertion_options_view q.options;
+}
+
 abbrev pub request_view : Request → RequestMessage
 request_view (requests.MakeCredential q) = make_credential (creation_view q)
 request_view (requests.GetAssertion q) = get_assertion (assertion_view q)
 request_view requests.GetNextAssertion = get_next_assertion
 request_view requests.GetInfo = get_info
 request_view requests.Reset = reset
+
+abbrev pub lent_request_view : RequestView → RequestMessage
+lent_request_view (lent.MakeCredential q) = make_credential (creation_view q)
+lent_request_view (lent.GetAssertion q) = get_assertion (lent_get_assertion_view q)
+lent_request_view lent.GetNextAssertion = get_next_assertion
+lent_request_view lent.GetInfo = get_info
+lent_request_view lent.Reset = reset

@@ -1,4 +1,4 @@
-//! Reading the maps inside requests, copied out.
+//! Reading the maps inside requests: descriptors and options where they lie, the others copied out.
 
 ghost use Rattle.std.specs.Prelude.{◌≡◌, map, option_map, string_bytes};
 ghost use Rattle.ccbor.specs.Viewing.{shown};
@@ -6,10 +6,10 @@ ghost use Rattle.cbor_map.specs.Table.{record_of, list_of};
 ghost use Rattle.cbor_map.specs.Reading.{Gives, Yields, maybe, read_in};
 ghost use Rattle.ccbor.specs.Access.{text_in};
 ghost use Rattle.requests.specs.Entities.{descriptor_members, descriptor_content, rp_members, rp_content, user_members, user_content, parameters_members, parameters_content, creation_options_members, creation_options_content, assertion_options_members, assertion_options_content};
-ghost use Rattle.requests.specs.RequestView.{descriptor_view, rp_view, user_view, parameters_view, creation_options_view, assertion_options_view};
+ghost use Rattle.requests.specs.RequestView.{lent_descriptor_view, rp_view, user_view, parameters_view, creation_options_view, assertion_options_view};
 
 use crate::request::{
-    AssertionOptions, CreationOptions, Descriptor, Parameters, RelyingParty, User,
+    AssertionOptions, CreationOptions, DescriptorView, Parameters, RelyingParty, User,
 };
 use cbor_map::{
     Error, Shape, bytes, end, items, members, number, optional, required, sized, text,
@@ -18,29 +18,39 @@ use cbor_map::{
 use ccbor::{Key, View};
 use std::alloc::Global;
 
-fn descriptor(alloc: Global, value: &View<'_>) -> Result<Descriptor, Error>
-    ensures { Gives (λ d. descriptor_content (descriptor_view d)) result
+/// The text, where it lies.
+pub fn lent_text<'a>(value: &View<'a>) -> Result<&'a str, Shape>
+    ensures { Yields (λ s. s.now) result (text_in (shown value.now)) }
+{
+    match value.as_text() {
+        Some(content) => Ok(content),
+        None => Err(Shape),
+    }
+}
+
+fn descriptor<'a>(value: &View<'a>) -> Result<DescriptorView<'a>, Shape>
+    ensures { Yields (λ d. descriptor_content (lent_descriptor_view d)) result
         (read_in (record_of descriptor_members) (shown value.now)) }
 {
     let rest = members(value)?;
     let (held, rest) = required(&rest, Key::Text("id"))?;
     sized(&held, 1, 64)?;
-    let id = Vec::from_slice(alloc, bytes(&held)?)?;
+    let id = bytes(&held)?;
     let (held, rest) = required(&rest, Key::Text("type"))?;
-    let kind = text(alloc, &held)?;
+    let kind = lent_text(&held)?;
     end(&rest)?;
-    Ok(Descriptor { id, kind })
+    Ok(DescriptorView { id, kind })
 }
 
-/// The descriptors of a list.
-pub fn descriptors(alloc: Global, value: &View<'_>) -> Result<Vec<Descriptor>, Error>
-    ensures { Gives (λ v. map descriptor_content (map descriptor_view v.items)) result
+/// The descriptors of a list, where they lie.
+pub fn descriptors<'a>(alloc: Global, value: &View<'a>) -> Result<Vec<DescriptorView<'a>>, Error>
+    ensures { Gives (λ v. map descriptor_content (map lent_descriptor_view v.items)) result
         (read_in (list_of (record_of descriptor_members)) (shown value.now)) }
 {
     let mut rest = items(value)?;
     let mut all = Vec::new(alloc);
     while let Some((item, after)) = rest.split_first() {
-        all.push(descriptor(alloc, &item)?)?;
+        all.push(descriptor(&item)?)?;
         rest = after;
     }
     Ok(all)

@@ -4,6 +4,7 @@
 mod entities;
 mod law;
 mod maps;
+mod owned;
 mod reading;
 mod request;
 mod tables;
@@ -11,9 +12,9 @@ mod values;
 mod writing;
 
 pub use law::one_rank;
-pub use reading::read_request;
+pub use reading::{read_request, view_request};
 pub use request::{
-    AssertionOptions, CreationOptions, Descriptor, GetAssertion, MakeCredential, Parameters,
-    RelyingParty, Request, User,
+    AssertionOptions, CreationOptions, Descriptor, DescriptorView, GetAssertion, GetAssertionView,
+    MakeCredential, Parameters, RelyingParty, Request, RequestView, User,
 };
 pub use writing::write_request;

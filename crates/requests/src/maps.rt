@@ -1,4 +1,5 @@
-//! Reading the maps of requests, copied out. Extensions are passed over.
+//! Reading the maps of requests: a getAssertion's where it lies, a makeCredential's copied out. Extensions are
+//! passed over.
 
 ghost use Rattle.std.specs.Prelude.{◌≡◌, map, None, option_map};
 ghost use Rattle.ccbor.specs.Viewing.{shown};
@@ -8,15 +9,17 @@ ghost use Rattle.cbor_map.specs.declared.fault.Fault.TheVariants as faults;
 ghost use Rattle.requests.specs.Entities.{descriptor_members, descriptor_content, creation_options_members, creation_options_content, assertion_options_members, assertion_options_content};
 ghost use Rattle.requests.specs.Pieces.{forget_creation, forget_assertion};
 ghost use Rattle.requests.specs.Requests.{creation_members, creation_content, assertion_members, assertion_content};
-ghost use Rattle.requests.specs.RequestView.{descriptor_view, creation_options_view, assertion_options_view, creation_view, assertion_view};
+ghost use Rattle.requests.specs.RequestView.{descriptor_view, lent_descriptor_view, creation_options_view, assertion_options_view, creation_view, lent_get_assertion_view};
 
 use crate::entities::{
-    assertion_options, creation_options, descriptors, parameter_list, relying_party, user,
+    assertion_options, creation_options, descriptors, lent_text, parameter_list, relying_party,
+    user,
 };
-use crate::request::{AssertionOptions, CreationOptions, Descriptor, GetAssertion, MakeCredential};
-use cbor_map::{
-    Error, Shape, any_map, bytes, end, members, not_empty, optional, required, sized, text,
+use crate::owned::owned_descriptors;
+use crate::request::{
+    AssertionOptions, CreationOptions, Descriptor, DescriptorView, GetAssertionView, MakeCredential,
 };
+use cbor_map::{Error, Shape, any_map, bytes, end, members, not_empty, optional, required, sized};
 use ccbor::{Key, View};
 use std::alloc::Global;
 
@@ -29,12 +32,16 @@ fn exclude_list(alloc: Global, held: Option<View<'_>>) -> Result<Option<Vec<Desc
         return Ok(None);
     };
     sized(&value, 0, 8)?;
-    Ok(Some(descriptors(alloc, &value)?))
+    let lent = descriptors(alloc, &value)?;
+    Ok(Some(owned_descriptors(alloc, &lent)?))
 }
 
 /// From 1 to 8 descriptors, which may be absent.
-fn allow_list(alloc: Global, held: Option<View<'_>>) -> Result<Option<Vec<Descriptor>>, Error>
-    ensures { Gives (λ o. option_map (λ v. map descriptor_content (map descriptor_view v.items)) o) result
+fn allow_list<'a>(
+    alloc: Global,
+    held: Option<View<'a>>,
+) -> Result<Option<Vec<DescriptorView<'a>>>, Error>
+    ensures { Gives (λ o. option_map (λ v. map descriptor_content (map lent_descriptor_view v.items)) o) result
         (maybe (read_in (not_empty faults.InvalidSize (sized 0 8 faults.OverLimit (list_of (record_of descriptor_members))))) (option_map shown held.entry)) }
 {
     let Some(value) = held else {
@@ -109,17 +116,17 @@ pub fn creation(alloc: Global, value: &View<'_>) -> Result<MakeCredential, Error
 }
 
 /// The map of a getAssertion request (CTAP 2.1, section 6.2).
-pub fn assertion(alloc: Global, value: &View<'_>) -> Result<GetAssertion, Error>
-    ensures { Gives (λ q. assertion_content (assertion_view q) None) result
+pub fn assertion<'a>(alloc: Global, value: &View<'a>) -> Result<GetAssertionView<'a>, Error>
+    ensures { Gives (λ q. assertion_content (lent_get_assertion_view q) None) result
         (option_map forget_assertion (read_in (record_of assertion_members) (shown value.now))) }
 {
     let rest = members(value)?;
     let (held, rest) = required(&rest, Key::Uint(1))?;
     sized(&held, 1, 253)?;
-    let rp_id = text(alloc, &held)?;
+    let rp_id = lent_text(&held)?;
     let (held, rest) = required(&rest, Key::Uint(2))?;
     sized(&held, 32, 32)?;
-    let client_data_hash = Vec::from_slice(alloc, bytes(&held)?)?;
+    let client_data_hash = bytes(&held)?;
     let (held, rest) = optional(rest, Key::Uint(3));
     let allow_list = allow_list(alloc, held)?;
     let (held, rest) = optional(rest, Key::Uint(4));
@@ -127,7 +134,7 @@ pub fn assertion(alloc: Global, value: &View<'_>) -> Result<GetAssertion, Error>
     let (held, rest) = optional(rest, Key::Uint(5));
     let options = assertion_options_if_there(held)?;
     end(&rest)?;
-    Ok(GetAssertion {
+    Ok(GetAssertionView {
         rp_id,
         client_data_hash,
         allow_list,

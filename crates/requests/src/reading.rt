@@ -9,13 +9,14 @@ ghost use Rattle.cbor_map.specs.declared.fault.Fault as map_faults;
 ghost use Rattle.ctap_status.specs.declared.error.Error.TheVariants as errors;
 ghost use Rattle.requests.specs.Pieces.{rank_of, Alone};
 ghost use Rattle.requests.specs.Requests.{map_of, make_credential, get_assertion};
-ghost use Rattle.requests.specs.RequestView.{creation_view, assertion_view, request_view};
+ghost use Rattle.requests.specs.RequestView.{creation_view, lent_get_assertion_view, request_view, lent_request_view};
 ghost use Rattle.requests.specs.Status.{status_of, Refused, IsRequest};
 
 use crate::maps::{assertion, creation};
+use crate::owned::owned_request;
 use crate::request::{
-    GET_ASSERTION, GET_INFO, GET_NEXT_ASSERTION, GetAssertion, MAKE_CREDENTIAL, MakeCredential,
-    RESET, Request,
+    GET_ASSERTION, GET_INFO, GET_NEXT_ASSERTION, GetAssertionView, MAKE_CREDENTIAL, MakeCredential,
+    RESET, Request, RequestView,
 };
 use crate::tables::map_fault;
 use cbor_map::Fault;
@@ -84,8 +85,8 @@ fn creation_request(alloc: Global, rest: &[u8]) -> Result<MakeCredential, Error>
 }
 
 /// A getAssertion request.
-fn assertion_request(alloc: Global, rest: &[u8]) -> Result<GetAssertion, Error>
-    ensures found { IfOk result (λ q. IsRequest (get_assertion (assertion_view q)) (2 ∷ rest.now)) }
+fn assertion_request<'a>(alloc: Global, rest: &'a [u8]) -> Result<GetAssertionView<'a>, Error>
+    ensures found { IfOk result (λ q. IsRequest (get_assertion (lent_get_assertion_view q)) (2 ∷ rest.now)) }
     ensures refused { IfErr result (λ e. Refused (2 ∷ rest.now) e) }
 {
     let value = match whole(rest) {
@@ -100,8 +101,8 @@ fn assertion_request(alloc: Global, rest: &[u8]) -> Result<GetAssertion, Error>
 }
 
 /// A request that is its command byte alone.
-fn alone(request: Request, rest: &[u8]) -> Result<Request, Error>
-    ensures { Alone request rest.now result }
+fn alone<'a>(request: RequestView<'a>, rest: &[u8]) -> Result<RequestView<'a>, Error>
+    ensures { Alone request.entry rest.now result }
 {
     match rest.split_first() {
         None => Ok(request),
@@ -109,7 +110,9 @@ fn alone(request: Request, rest: &[u8]) -> Result<Request, Error>
     }
 }
 
-/// The request of these bytes. The inside of its extensions isn't looked at, and they are not kept.
+/// The request of these bytes. The members of a getAssertion lie in them: of what they hold nothing is
+/// copied, and memory is taken only for the list of the descriptors. The inside of extensions isn't
+/// looked at, and they are not kept.
 ///
 /// Otherwise it is refused by [`Error::Status`] with the status byte of the first of these that
 /// applies (CTAP 2.1, section 8.2, has the bytes; their order is this product's), or as
@@ -124,8 +127,8 @@ fn alone(request: Request, rest: &[u8]) -> Result<Request, Error>
 /// 7. 0x02: the hash hasn't 32 bytes, or the allow list is there and empty;
 /// 8. 0x15: a relying party id outside 1 to 253 bytes, a user's or descriptor's id outside 1 to 64,
 ///    or a list of more than 8 descriptors.
-pub fn read_request(alloc: Global, bytes: &[u8]) -> Result<Request, Error>
-    ensures found { IfOk result (λ q. IsRequest (request_view q) bytes.now) }
+pub fn view_request(alloc: Global, bytes: &[u8]) -> Result<RequestView<'_>, Error>
+    ensures found { IfOk result (λ q. IsRequest (lent_request_view q) bytes.now) }
     ensures refused { IfErr result (λ e. Refused bytes.now e) }
 {
     let Some((command, rest)) = bytes.split_first() else {
@@ -133,16 +136,29 @@ pub fn read_request(alloc: Global, bytes: &[u8]) -> Result<Request, Error>
     };
     match *command {
         MAKE_CREDENTIAL => match creation_request(alloc, rest) {
-            Ok(request) => Ok(Request::MakeCredential(request)),
+            Ok(request) => Ok(RequestView::MakeCredential(request)),
             Err(e) => Err(e),
         },
         GET_ASSERTION => match assertion_request(alloc, rest) {
-            Ok(request) => Ok(Request::GetAssertion(request)),
+            Ok(request) => Ok(RequestView::GetAssertion(request)),
             Err(e) => Err(e),
         },
-        GET_INFO => alone(Request::GetInfo, rest),
-        RESET => alone(Request::Reset, rest),
-        GET_NEXT_ASSERTION => alone(Request::GetNextAssertion, rest),
+        GET_INFO => alone(RequestView::GetInfo, rest),
+        RESET => alone(RequestView::Reset, rest),
+        GET_NEXT_ASSERTION => alone(RequestView::GetNextAssertion, rest),
         _ => Err(Error::Status(INVALID_COMMAND)),
+    }
+}
+
+/// The request of these bytes, in memory of its own.
+///
+/// Refused as [`view_request`] refuses.
+pub fn read_request(alloc: Global, bytes: &[u8]) -> Result<Request, Error>
+    ensures found { IfOk result (λ q. IsRequest (request_view q) bytes.now) }
+    ensures refused { IfErr result (λ e. Refused bytes.now e) }
+{
+    match view_request(alloc, bytes) {
+        Ok(request) => Ok(owned_request(alloc, request)?),
+        Err(e) => Err(e),
     }
 }

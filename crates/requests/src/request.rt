@@ -9,6 +9,15 @@ pub struct Descriptor {
     pub kind: String,
 }
 
+/// A credential's descriptor whose members are lent by the bytes that were read.
+#[derive(Clone, Copy, Debug, Drop)]
+pub struct DescriptorView<'a> {
+    /// The credential id: 1 to 64 bytes.
+    pub id: &'a [u8],
+    /// The member `type`.
+    pub kind: &'a str,
+}
+
 /// A relying party (WebAuthn section 5.4.2).
 #[derive(Debug, Drop)]
 pub struct RelyingParty {
@@ -88,6 +97,20 @@ pub struct GetAssertion {
     pub options: Option<AssertionOptions>,
 }
 
+/// A getAssertion request whose members are lent by the bytes that were read. Its extensions are not
+/// kept.
+#[derive(Debug, Drop)]
+pub struct GetAssertionView<'a> {
+    /// The relying party id: 1 to 253 bytes.
+    pub rp_id: &'a str,
+    /// The hash of the client data: 32 bytes.
+    pub client_data_hash: &'a [u8],
+    /// Credentials one of which is wanted: 1 to 8.
+    pub allow_list: Option<Vec<DescriptorView<'a>>>,
+    /// The options.
+    pub options: Option<AssertionOptions>,
+}
+
 /// A request.
 #[derive(Debug, Drop)]
 pub enum Request {
@@ -95,6 +118,21 @@ pub enum Request {
     MakeCredential(MakeCredential),
     /// Asks for an assertion (section 6.2).
     GetAssertion(GetAssertion),
+    /// Asks for the next assertion (section 6.3).
+    GetNextAssertion,
+    /// Asks what the authenticator is (section 6.4).
+    GetInfo,
+    /// Removes all credentials (section 6.6).
+    Reset,
+}
+
+/// A request of which a getAssertion's members are lent by the bytes that were read.
+#[derive(Debug, Drop)]
+pub enum RequestView<'a> {
+    /// Makes a credential (section 6.1).
+    MakeCredential(MakeCredential),
+    /// Asks for an assertion (section 6.2).
+    GetAssertion(GetAssertionView<'a>),
     /// Asks for the next assertion (section 6.3).
     GetNextAssertion,
     /// Asks what the authenticator is (section 6.4).

@@ -2,7 +2,7 @@ use Rattle.std.proofs.Common.{◌≡◌, ◌∷◌, refl, ap, ◌∙◌, ◌||�
 use Rattle.std.proofs.lemmas.Bool.Decides.{nat_tests}
 use Rattle.requests.specs.Status.{has_map, has_none}
 use Rattle.requests.proofs.Commands.{alone_refused, no_byte, no_command}
-use Rattle.requests.proofs.reading.read_request.Goals as goal
+use Rattle.requests.proofs.reading.view_request.Goals as goal
 
 pub returns-in_default-clause-refused : goal.returns-in_default-clause-refused
 returns-in_default-clause-refused c = no_byte c.args.bytes.now c.in_default.ensures.cases
