@@ -99,6 +99,7 @@ fn advance(
     ensures fits { PhaseFits result.0 inbox.new }
     ensures left { outbox.new ≡ packets_of (on_receipt cid cmd len next (inbox.old ++ bytes.now)).sent }
     ensures step { result.1 ≡ (on_receipt cid cmd len next (inbox.old ++ bytes.now)).step }
+    ensures uncancelled { result.1 ≡ step.Cancelled → ⊥ }
 {
     inbox.append(len, bytes);
     if usize::from(next) + 1 < packet_count(usize::from(len)) {
@@ -263,8 +264,9 @@ impl Device {
     fn initial(&mut self, cid: u32, cmd: u8, len: u16, bytes: &[u8]) -> Step
         requires drained { self.old.left ≡ [] }
         requires bytes { length bytes.now ≡ 57 }
-        ensures { Does self.new result (packet_effect self.old.channels self.old.state (Initial cid cmd len bytes.now))
+        ensures does { Does self.new result (packet_effect self.old.channels self.old.state (Initial cid cmd len bytes.now))
             (response self.old.channels self.old.state (Initial cid cmd len bytes.now)) }
+        ensures cancelled { result ≡ step.Cancelled → IsWorking self.old.state × (self.new ≡ self.old) }
     {
         let receiving = self.is_receiving_on(cid);
         let working = self.is_working_on(cid);
@@ -285,8 +287,9 @@ impl Device {
         requires drained { self.old.left ≡ [] }
         requires bytes { length bytes.now ≡ 57 }
         requires may { MayChoose self.old.channels self.old.state cmd len choice }
-        ensures { Does self.new result (chosen_effect self.old.channels self.old.state cid cmd len bytes.now choice)
+        ensures does { Does self.new result (chosen_effect self.old.channels self.old.state cid cmd len bytes.now choice)
             (chosen_response self.old.channels self.old.state cid cmd len bytes.now choice) }
+        ensures cancelled { result ≡ step.Cancelled → IsWorking self.old.state × (self.new ≡ self.old) }
     {
         match choice {
             Arbitration::Refused(code) => {
@@ -332,8 +335,9 @@ impl Device {
     fn continuation(&mut self, cid: u32, seq: u8, bytes: &[u8]) -> Step
         requires drained { self.old.left ≡ [] }
         requires bytes { length bytes.now ≡ 59 }
-        ensures { Does self.new result (packet_effect self.old.channels self.old.state (Continuation cid seq bytes.now))
+        ensures does { Does self.new result (packet_effect self.old.channels self.old.state (Continuation cid seq bytes.now))
             (response self.old.channels self.old.state (Continuation cid seq bytes.now)) }
+        ensures cancelled { result ≡ step.Cancelled → IsWorking self.old.state × (self.new ≡ self.old) }
     {
         match self.phase {
             Phase::Receiving {
