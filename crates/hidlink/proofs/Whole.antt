@@ -12,7 +12,7 @@ use Rattle.hidlink.specs.Ranks.{State, Idle, Receiving, Working, chosen, chosen_
 use Rattle.hidlink.specs.History.{Answered, Call, Kept, Leaves, Took}
 use Rattle.hidlink.specs.Machine.{Effect, came, chosen_effect, packet_effect, to}
 use Rattle.hidlink.specs.Told.{IsOut, told_before}
-use Rattle.hidlink.proofs.Calls.{answered, kept, leaves_to}
+use Rattle.hidlink.proofs.Calls.{leaves_to}
 use Rattle.hidlink.proofs.Most.{at_most}
 use Rattle.hidlink.proofs.Moves.{came_all, came_more}
 use Rattle.hidlink.proofs.Steps.{leaves-push}
@@ -132,7 +132,7 @@ quiet h n c m (b ∷ before) p after l out some z =
 -- ---- a keepalive, and an answer
 
 pub stays : (h : List Call) (n c status : ℕ) (m : List ℕ) → Leaves h n (Working c m) → Leaves (h ++ Kept status ∷ []) n (Working c m)
-stays h n c status m l = leaves_to h n (Working c m) (Kept status) n (Working c m) (kept n (Working c m) status) l
+stays h n c status m l = leaves_to (Kept status) l refl
 
 pub ends : (h : List Call) (n c : ℕ) (m reply : List ℕ) → Leaves h n (Working c m) → length reply ≤ 7609 → Leaves (h ++ Answered reply ∷ []) n Idle
-ends h n c m reply l room = leaves_to h n (Working c m) (Answered reply) n Idle (answered n (Working c m) c m reply refl room) l
+ends h n c m reply l room = leaves_to (Answered reply) l (rw (le-ltb 7609 (length reply) room) refl)

@@ -426,7 +426,7 @@ impl Device {
         ensures history { (h : List Call) → Leaves h self.old.channels self.old.state
             → Leaves (h ++ Answered payload.now ∷ []) self.new.channels self.new.state }
     {
-        let Phase::Working { cid } = self.phase else {
+        let Some(cid) = self.working() else {
             return Err(Refusal::NotWorking);
         };
         if payload.len() > MAX_PAYLOAD_SIZE {
@@ -451,7 +451,7 @@ impl Device {
         ensures history { (h : List Call) → Leaves h self.old.channels self.old.state
             → Leaves (h ++ Kept status ∷ []) self.new.channels self.new.state }
     {
-        let Phase::Working { cid } = self.phase else {
+        let Some(cid) = self.working() else {
             return Err(Refusal::NotWorking);
         };
         self.outbox.send(cid, CTAPHID_KEEPALIVE, &[status]);
@@ -470,12 +470,15 @@ impl Device {
         ensures history { (h : List Call) → Leaves h self.old.channels self.old.state
             → Leaves (h ++ Expired ∷ []) self.new.channels self.new.state }
     {
-        let Phase::Receiving { cid, .. } = self.phase else {
-            return false;
-        };
-        self.phase = Phase::Idle;
-        self.error(cid, ERR_MSG_TIMEOUT);
-        true
+        match self.phase {
+            Phase::Receiving { cid, .. } => {
+                self.phase = Phase::Idle;
+                self.error(cid, ERR_MSG_TIMEOUT);
+                true
+            }
+            Phase::Idle => false,
+            Phase::Working { .. } => false,
+        }
     }
 }
 
