@@ -178,6 +178,7 @@ impl Device {
 
     /// A device with no channel handed out, that does nothing and has nothing to send. Makes room for
     /// 7,609 bytes each way; refused only where memory for it is wanting.
+    #[tactic(auto, using(crate::proofs::Steps::leaves_none))]
     pub fn new(alloc: Global) -> Result<Self, AllocError>
         ensures new { IfOk result (λ d. d ≡ record { channels = 0; state = Idle; left = [] }) }
         ensures history { IfOk result (λ d. Leaves [] d.channels d.state) }
@@ -416,6 +417,7 @@ impl Device {
     /// Answers the request that it works on: a CBOR message on its channel is to be sent, and the
     /// device is idle. Refused, in this order: [`Refusal::NotWorking`]; [`Refusal::TooLong`], more than
     /// 7,609 bytes. A refusal changes nothing. The caller sees to it that nothing is left to send.
+    #[tactic(auto, using(crate::proofs::Calls::leaves_to))]
     pub fn answer(&mut self, payload: &[u8]) -> Result<(), Refusal>
         requires { self.old.left ≡ [] }
         ensures sent { OnOk result (self.new.left ≡ packets_of (on_working self.old.state CTAPHID_CBOR payload.now)) }
@@ -440,6 +442,7 @@ impl Device {
     /// Says that it still works: a KEEPALIVE on its channel is to be sent. Refused:
     /// [`Refusal::NotWorking`], which changes nothing. The caller sees to it that the status is 1
     /// (processing) or 2 (user presence needed) and nothing is left to send.
+    #[tactic(auto, using(crate::proofs::Calls::leaves_to))]
     pub fn keepalive(&mut self, status: u8) -> Result<(), Refusal>
         requires status { status ≡ STATUS_PROCESSING ⊎ status ≡ STATUS_UPNEEDED }
         requires drained { self.old.left ≡ [] }
@@ -461,6 +464,7 @@ impl Device {
     /// Ends a message that took too long: true exactly if one was coming in, whose channel is sent an
     /// ERROR; the device is idle then. Otherwise nothing changes. The caller sees to it that nothing is
     /// left to send.
+    #[tactic(auto, using(crate::proofs::Calls::leaves_to))]
     pub fn expire(&mut self) -> bool
         requires { self.old.left ≡ [] }
         ensures expired { IsTrue result ↔ IsReceiving self.old.state }
@@ -483,6 +487,7 @@ impl Device {
 }
 
 /// The law of a packet's step: of what a device did before and after a packet one step tells.
+#[tactic(auto, using(crate::proofs::Telling::one_step))]
 pub fn one_step()
     ensures { (s t : State) (f : Fields) (x y : Step) → Tells s f t x → Tells s f t y → x ≡ y }
 {}
