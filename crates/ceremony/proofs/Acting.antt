@@ -3,7 +3,7 @@ use Rattle.std.proofs.Common.{◌≡◌, ℕ, suc, ◌+◌, ◌-◌, ◌≤◌, 
 use Rattle.std.specs.Prelude.{Some, IsErrOf, IsOk, OnOk, is_ok}
 use Rattle.hidframe.specs.declared.Packet.{Packet}
 use Rattle.hidlink.specs.History.{Answered, Call, Expired, Kept, Leaves}
-use Rattle.hidlink.specs.Ranks.{State, Idle, Receiving, Working, IsWorking, DeviceState, expiry, on_working, packets_of, request_payload, working_channel}
+use Rattle.hidlink.specs.Ranks.{State, Working, IsWorking, DeviceState, expiry, on_working, packets_of, request_payload, working_channel}
 use Rattle.hidlink.specs.Told.{work}
 use Rattle.hidlink.specs.declared.transaction.Refusal.{Refusal}
 use Rattle.hidlink.specs.declared.transaction.Refusal.TheVariants.{NotWorking, TooLong}
@@ -19,15 +19,12 @@ use Rattle.ceremony.specs.declared.serving.Act.TheVariants as act
 
 -- the request that a device works on
 pub at_work : (s : State) (c : ℕ) (m : List ℕ) → working_channel s ≡ Some c → request_payload s ≡ Some m → work s ≡ Some (c, m)
-at_work Idle c m e f = absurd (cc)
-at_work (Receiving cid cmd len next bytes) c m e f = absurd (cc)
-at_work (Working cid payload) c m e f =
-    let a : cid ≡ c = cc in let b : payload ≡ m = cc in ap (λ k. Some (k, payload)) a ∙ ap (λ x. Some (c, x)) b
+at_work (Working cid payload) c m e f = cc
+at_work _ c m e f = absurd (cc)
 
 pub works : (s : State) (c : ℕ) → working_channel s ≡ Some c → IsWorking s
-works Idle c e = absurd (cc)
-works (Receiving cid cmd len next bytes) c e = absurd (cc)
 works (Working cid payload) c e = tt
+works _ c e = absurd (cc)
 
 -- an answer that isn't refused
 pub not_refused : {A X : Type 0} (r : Result A Refusal) → (IsErrOf r NotWorking → ⊥) → (IsErrOf r TooLong → ⊥) → OnOk r X → X

@@ -1,26 +1,22 @@
 -- What a collector's answer to a packet says of a ceremony.
-use Rattle.std.proofs.Common.{◌≡◌, ℕ, inl, inr, List, [], ◌∷◌, ◌++◌, refl, Ok, Err}
+use Rattle.std.proofs.Common.{◌≡◌, ℕ, List, [], ◌∷◌, ◌++◌, refl, Ok, Err}
 use Rattle.hidframe.specs.declared.Packet.{Packet}
 use Rattle.hidlink.specs.declared.collection.Ended.{Ended}
 use Rattle.hidlink.specs.declared.collection.Outcome.{Outcome}
 use Rattle.hidlink.specs.declared.collection.Outcome.TheVariants.{More, Reply, DeviceError, Dead}
 use Rattle.hidlink.specs.Feeds.{Answers}
 use Rattle.hidlink.specs.Wire.{HasEnded}
-use Rattle.hidlink.proofs.Beginnings.{begins_itself, begins_later}
+use Rattle.hidlink.proofs.Beginnings.{has_ended_later}
+use Rattle.hidlink.proofs.Laws.{carried_ends, death_ends}
 use Rattle.ceremony.specs.Packets as packets
 use Rattle.ceremony.specs.declared.live.Fed.{Fed}
 use Rattle.ceremony.specs.declared.live.Fed.TheVariants as fed
 
--- what has ended has ended with more packets
-pub ended_on : (c : ℕ) (ps more : List Packet) → HasEnded c ps → HasEnded c (ps ++ more)
-ended_on c ps more (inl e) = inl (e.0, e.1, e.2, begins_later e.0 ps (ps ++ more) e.3 (more, refl), e.4)
-ended_on c ps more (inr e) = inr (e.0, begins_later e.0 ps (ps ++ more) e.1 (more, refl), e.2)
-
 over : (c : ℕ) (ps : List Packet) (p : Packet) (f : Outcome) → Answers c ps p (Ok f) → (f ≡ More → ⊥) → HasEnded c (ps ++ p ∷ [])
 over c ps p More a some = absurd (some refl)
-over c ps p (Reply bytes) a some = inl (ps ++ p ∷ [], 16, bytes.now, begins_itself (ps ++ p ∷ []), (a.reply bytes.now).0 refl)
-over c ps p (DeviceError code) a some = inl (ps ++ p ∷ [], 63, code ∷ [], begins_itself (ps ++ p ∷ []), (a.device_error code).0 refl)
-over c ps p (Dead kind) a some = inr (ps ++ p ∷ [], begins_itself (ps ++ p ∷ []), ((a.dead kind).0 refl).dead)
+over c ps p (Reply bytes) a some = carried_ends c (ps ++ p ∷ []) 16 bytes.now ((a.reply bytes.now).0 refl)
+over c ps p (DeviceError code) a some = carried_ends c (ps ++ p ∷ []) 63 (code ∷ []) ((a.device_error code).0 refl)
+over c ps p (Dead kind) a some = death_ends c (ps ++ p ∷ []) kind ((a.dead kind).0 refl)
 
 pub more_wanted : (c : ℕ) (ps : List Packet) (p : Packet) → Answers c ps p (Ok More) → packets.Answers c ps p (Ok fed.More)
 more_wanted c ps p a = record {
@@ -40,7 +36,7 @@ pub ended : (c : ℕ) (ps : List Packet) (p : Packet) (e : Ended) → Answers c 
 ended c ps p e a = record {
   ended = (λ x. a.ended.0 tt, λ x. tt);
   ready = (λ x. absurd x, λ x. absurd (x.0 (a.ended.0 tt)));
-  more = (λ x. absurd x, λ x. absurd (x (ended_on c ps (p ∷ []) (a.ended.0 tt))));
+  more = (λ x. absurd x, λ x. absurd (x (has_ended_later ps (ps ++ p ∷ []) (p ∷ [], refl) (a.ended.0 tt))));
 }
 
 -- where it is ready all has ended

@@ -4,7 +4,7 @@ use Rattle.std.specs.Prelude.{codes}
 use Rattle.std.proofs.lemmas.Str.{IsUtf8-from_ascii}
 use Rattle.std.specs.Str.{IsAscii}
 use Rattle.std.specs.List.{AllByRecursion}
-use Rattle.ccbor.specs.Item.{Item, uint, nint, bytes, text, array, map, boolean, Pairs, no_pairs, pair}
+use Rattle.ccbor.specs.Item.{Item, uint, bytes, text, map, Pairs, no_pairs, pair}
 use Rattle.ccbor.specs.Canon.{Fits, PairsFit, before, head, is_key, spelling}
 use Rattle.cbor_map.specs.Table.{has_fault, record_of}
 use Rattle.cbor_map.specs.declared.fault.Fault.TheVariants.{AnotherKind}
@@ -63,12 +63,7 @@ members_fit fmt auth_data statement f s a =
 -- the statement is a map
 statement_map : (fmt auth_data : List ℕ) (v : Item) → has_fault AnotherKind (record_of creation_reply_members) (creation_reply_item (record { fmt = fmt; auth_data = auth_data; statement = v })) ≡ false → IsMap v
 statement_map fmt auth_data (map ps) e = (ps, refl)
-statement_map fmt auth_data (uint n) e = absurd (cc)
-statement_map fmt auth_data (nint n) e = absurd (cc)
-statement_map fmt auth_data (bytes bs) e = absurd (cc)
-statement_map fmt auth_data (text bs) e = absurd (cc)
-statement_map fmt auth_data (array xs) e = absurd (cc)
-statement_map fmt auth_data (boolean b) e = absurd (cc)
+statement_map fmt auth_data _ e = absurd (cc)
 
 pub has_object : (r : Creation) (m : List ℕ) → ReplyOf (creation_reply r) m → ObjectOf (object_of r) (spelling (object_item (object_of r)))
 has_object r m h =

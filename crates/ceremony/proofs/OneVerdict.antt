@@ -1,7 +1,6 @@
 -- The verdict on packets is one: what the packets give is one thing, and what a message is refused for.
-use Rattle.std.proofs.Common.{◌≡◌, ◌≢◌, ◌+◌, ◌<◌, ◌≤◌, ◌^◌, ℕ, List, [], ◌∷◌, length, take, inl, inr, refl, sym, ◌∙◌, ap, subst, arith}
+use Rattle.std.proofs.Common.{◌≡◌, ◌≢◌, ◌+◌, ◌<◌, ◌≤◌, ◌^◌, ◌⊎◌, ℕ, List, [], ◌∷◌, length, take, inl, inr, refl, sym, ◌∙◌, ap, subst, arith}
 use Rattle.hidframe.specs.declared.Packet.{Packet}
-use Rattle.hidframe.specs.declared.ctaphid.TheConstants.{CTAPHID_ERROR}
 use Rattle.hidlink.specs.declared.collection.DeadKind.{DeadKind}
 use Rattle.hidlink.specs.Wire.{Carries, Dies, HasEnded}
 use Rattle.hidlink.proofs.Beginnings.{taken}
@@ -22,53 +21,37 @@ use Rattle.verification.specs.Registration as enrolment
 use Rattle.site.specs.State.{State}
 use Rattle.ceremony.specs.SignIn as sign_in
 use Rattle.ceremony.specs.Registration as registration
-use Rattle.ceremony.specs.Verdict.{Ceremony, Delivers, RefusedMessage, Refused, Succeeds}
+use Rattle.ceremony.specs.Verdict.{Ceremony, RefusedMessage, Refused, Succeeds}
 use Rattle.ceremony.specs.declared.error.Error.{Error}
 use Rattle.ceremony.specs.declared.error.Error.TheVariants as errors
 
 -- ---- packets
 
--- what packets give: a message after so many, the device's error after so many, a death, or nothing yet
+-- what packets give: a message of a command after so many, a death, or nothing yet
 data Given : Type 0 where
-  message : ℕ → List ℕ → Given
-  failure : ℕ → ℕ → Given
-  death : ℕ → DeadKind → Given
+  message : (n cmd : ℕ) (m : List ℕ) → Given
+  death : (index : ℕ) (kind : DeadKind) → Given
   nothing : Given
 
 Gives : ℕ → List Packet → Given → Type 0
-Gives c ps (message n m) = Delivers c ps n m
-Gives c ps (failure n code) = (n ≤ length ps) × Carries c (take n ps) CTAPHID_ERROR (code ∷ [])
+Gives c ps (message n cmd m) = (n ≤ length ps) × Carries c (take n ps) cmd m
 Gives c ps (death index kind) = (index < length ps) × Dies c (take (index + 1) ps) kind
 Gives c ps nothing = HasEnded c ps → ⊥
 
--- the command of a message is not that of an error
-apart : ◌≡◌ {A = ℕ} 16 63 → ⊥
-apart e = omega (arith, e)
-
--- a message or an error excludes a death; each of the three excludes that nothing has come
+-- a message excludes a death; each of them excludes that nothing has come
 one_given : (c : ℕ) (ps : List Packet) → c < 2 ^ 32 → ArePackets ps → (x y : Given) → Gives c ps x → Gives c ps y → x ≡ y
 unfolding Gives
-one_given c ps low all (message n m) (message k l) a b = let o = one_carried c n k ps 16 16 m l a.0 b.0 a.1 b.1 in ap (λ i. message i m) o.0 ∙ ap (message k) o.2
-one_given c ps low all (message n m) (failure k code) a b = let o = one_carried c n k ps 16 63 m (code ∷ []) a.0 b.0 a.1 b.1 in absurd (apart o.1)
-one_given c ps low all (message n m) (death index kind) a b = absurd (not_both c n (index + 1) ps 16 m kind a.1 b.1)
-one_given c ps low all (message n m) nothing a b = absurd (b (inl (take n ps, 16, m, taken n ps, a.1)))
-one_given c ps low all (failure n code) (message k l) a b = let o = one_carried c n k ps 63 16 (code ∷ []) l a.0 b.0 a.1 b.1 in absurd (apart (sym o.1))
-one_given c ps low all (failure n code) (failure k other) a b =
-    let o = one_carried c n k ps 63 63 (code ∷ []) (other ∷ []) a.0 b.0 a.1 b.1 in
-    let same : code ∷ [] ≡ other ∷ [] = o.2 in let e : code ≡ other = cc in
-    ap (λ i. failure i code) o.0 ∙ ap (failure k) e
-one_given c ps low all (failure n code) (death index kind) a b = absurd (not_both c n (index + 1) ps 63 (code ∷ []) kind a.1 b.1)
-one_given c ps low all (failure n code) nothing a b = absurd (b (inl (take n ps, 63, code ∷ [], taken n ps, a.1)))
-one_given c ps low all (death index kind) (message k l) a b = absurd (not_both c k (index + 1) ps 16 l kind b.1 a.1)
-one_given c ps low all (death index kind) (failure k other) a b = absurd (not_both c k (index + 1) ps 63 (other ∷ []) kind b.1 a.1)
+one_given c ps low all (message n cmd m) (message k other l) a b = let o = one_carried c n k ps cmd other m l a.0 b.0 a.1 b.1 in cc (o.0, o.1, o.2)
+one_given c ps low all (message n cmd m) (death index kind) a b = absurd (not_both c n (index + 1) ps cmd m kind a.1 b.1)
+one_given c ps low all (message n cmd m) nothing a b = absurd (b (inl (take n ps, cmd, m, taken n ps, a.1)))
+one_given c ps low all (death index kind) (message k cmd l) a b = absurd (not_both c k (index + 1) ps cmd l kind b.1 a.1)
 one_given c ps low all (death index kind) (death i k) a b =
     let here : index < length ps = a.0 in let there : i < length ps = b.0 in
     let o = one_death c (index + 1) (i + 1) ps kind k low (packets_taken (index + 1) ps all) (omega arith) (omega arith) a.1 b.1 in
     let same : index + 1 ≡ i + 1 = o.0 in let e : index ≡ i = omega arith in
     ap (λ n. death n kind) e ∙ ap (death i) o.1
 one_given c ps low all (death index kind) nothing a b = absurd (b (inr (take (index + 1) ps, taken (index + 1) ps, a.1.dead)))
-one_given c ps low all nothing (message k l) a b = absurd (a (inl (take k ps, 16, l, taken k ps, b.1)))
-one_given c ps low all nothing (failure k other) a b = absurd (a (inl (take k ps, 63, other ∷ [], taken k ps, b.1)))
+one_given c ps low all nothing (message k cmd l) a b = absurd (a (inl (take k ps, cmd, l, taken k ps, b.1)))
 one_given c ps low all nothing (death i k) a b = absurd (a (inr (take (i + 1) ps, taken (i + 1) ps, b.1.dead)))
 one_given c ps low all nothing nothing a b = refl
 
@@ -86,32 +69,13 @@ value_and_none : (kind : Kind) (a b : List ℕ) → kind ≢ kinds.Reset → a �
 value_and_none kind a b some e none h = let v = shape_value kind b some h in none v.0 (subst (λ (l : List ℕ). Canon v.0 l) (sym e) v.1)
 
 one_unread : (kind : Kind) (m : List ℕ) (e f : ReplyError) → kind ≢ kinds.Reset → e ≢ replies.Memory → f ≢ replies.Memory → ReplyRefused kind m e → ReplyRefused kind m f → e ≡ f
-one_unread kind m replies.Memory f some se sf a b = absurd (se refl)
-one_unread kind m replies.Empty replies.Memory some se sf a b = absurd (sf refl)
 one_unread kind m replies.Empty replies.Empty some se sf a b = refl
-one_unread kind m replies.Empty (replies.Refused t) some se sf a b = let g = b.1 in absurd (cc)
-one_unread kind m replies.Empty replies.NotCanonical some se sf a b = let g = b.1 in absurd (cc)
-one_unread kind m replies.Empty replies.Shape some se sf a b = let g = b.1 in absurd (cc)
-one_unread kind m replies.Empty _ some se sf a b = absurd b
-one_unread kind m (replies.Refused s) replies.Memory some se sf a b = absurd (sf refl)
-one_unread kind m (replies.Refused s) replies.Empty some se sf a b = let g = a.1 in absurd (cc)
 one_unread kind m (replies.Refused s) (replies.Refused t) some se sf a b = ap (λ x. replies.Refused x) (let g = a.1 in let h = b.1 in cc)
-one_unread kind m (replies.Refused s) replies.NotCanonical some se sf a b = absurd (a.2 (let g = a.1 in let h = b.1 in cc))
-one_unread kind m (replies.Refused s) replies.Shape some se sf a b = absurd (a.2 (let g = a.1 in let h = b.1 in cc))
-one_unread kind m (replies.Refused s) _ some se sf a b = absurd b
-one_unread kind m replies.NotCanonical replies.Memory some se sf a b = absurd (sf refl)
-one_unread kind m replies.NotCanonical replies.Empty some se sf a b = let g = a.1 in absurd (cc)
-one_unread kind m replies.NotCanonical (replies.Refused t) some se sf a b = absurd (b.2 (let g = a.1 in let h = b.1 in cc))
 one_unread kind m replies.NotCanonical replies.NotCanonical some se sf a b = refl
 one_unread kind m replies.NotCanonical replies.Shape some se sf a b = absurd (value_and_none kind a.0 b.0 some (let g = a.1 in let h = b.1 in cc) a.2.1 b.2)
-one_unread kind m replies.NotCanonical _ some se sf a b = absurd b
-one_unread kind m replies.Shape replies.Memory some se sf a b = absurd (sf refl)
-one_unread kind m replies.Shape replies.Empty some se sf a b = let g = a.1 in absurd (cc)
-one_unread kind m replies.Shape (replies.Refused t) some se sf a b = absurd (b.2 (let g = a.1 in let h = b.1 in cc))
 one_unread kind m replies.Shape replies.NotCanonical some se sf a b = absurd (value_and_none kind b.0 a.0 some (let g = a.1 in let h = b.1 in cc) b.2.1 a.2)
 one_unread kind m replies.Shape replies.Shape some se sf a b = refl
-one_unread kind m replies.Shape _ some se sf a b = absurd b
-one_unread kind m _ f some se sf a b = absurd a
+one_unread kind m _ _ some se sf a b = absurd (grind arith)
 
 -- ---- ceremonies whose replies and steps are one
 
@@ -144,21 +108,15 @@ registration_one valid s session t = record {
 
 module _ {R W : Type 0} (k : Ceremony R W) (one : IsOne k) where
   one_message : (m : List ℕ) (e f : Error W) → e ≢ errors.Memory → f ≢ errors.Memory → RefusedMessage k m e → RefusedMessage k m f → e ≡ f
-  one_message m errors.Memory f se sf a b = absurd (se refl)
-  one_message m (errors.Reply x) errors.Memory se sf a b = absurd (sf refl)
   one_message m (errors.Reply x) (errors.Reply y) se sf a b = ap (λ z. errors.Reply z) (one_unread k.command m x y one.command a.1 b.1 a.0 b.0)
   one_message m (errors.Reply x) (errors.Refused w) se sf a b = absurd (one.read b.0 m x b.1 a.0 a.1)
-  one_message m (errors.Reply x) _ se sf a b = absurd b
-  one_message m (errors.Refused w) errors.Memory se sf a b = absurd (sf refl)
   one_message m (errors.Refused w) (errors.Reply y) se sf a b = absurd (one.read a.0 m y a.1 b.0 b.1)
   one_message m (errors.Refused w) (errors.Refused v) se sf a b =
       ap (λ z. errors.Refused z) (one.one_step b.0 w v (subst (λ (r : R). k.Fails r w) (one.one_reply a.0 b.0 m a.1 b.1) a.2) b.2)
-  one_message m (errors.Refused w) _ se sf a b = absurd b
-  one_message m _ f se sf a b = absurd a
+  one_message m _ _ se sf a b = absurd (grind arith)
 
   Says : Given → Error W → Type 0
-  Says (message n m) e = RefusedMessage k m e
-  Says (failure n code) e = e ≡ errors.DeviceError code
+  Says (message n cmd m) e = ((cmd ≡ 16) × RefusedMessage k m e) ⊎ ((code : ℕ) × (cmd ≡ 63) × (m ≡ code ∷ []) × (e ≡ errors.DeviceError code))
   Says (death index kind) e = e ≡ errors.Dead index kind
   Says nothing e = e ≡ errors.Incomplete
 
@@ -166,15 +124,17 @@ module _ {R W : Type 0} (k : Ceremony R W) (one : IsOne k) where
   unfolding Gives Says
   given_of c ps errors.Incomplete some h = (nothing, h, refl)
   given_of c ps (errors.Dead index kind) some h = (death index kind, h, refl)
-  given_of c ps (errors.DeviceError code) some h = (failure h.0 code, (h.1, h.2), refl)
-  given_of c ps (errors.Reply e) some h = (message h.0 h.1, h.2, h.3)
-  given_of c ps (errors.Refused w) some h = (message h.0 h.1, h.2, h.3)
+  given_of c ps (errors.DeviceError code) some h = (message h.0 63 (code ∷ []), (h.1, h.2), inr (code, refl, refl, refl))
+  given_of c ps (errors.Reply e) some h = (message h.0 16 h.1, h.2, inl (refl, h.3))
+  given_of c ps (errors.Refused w) some h = (message h.0 16 h.1, h.2, inl (refl, h.3))
   given_of c ps errors.Memory some h = absurd (some refl)
 
   one_said : (x : Given) (e f : Error W) → e ≢ errors.Memory → f ≢ errors.Memory → Says x e → Says x f → e ≡ f
   unfolding Says
-  one_said (message n m) e f se sf a b = one_message m e f se sf a b
-  one_said (failure n code) e f se sf a b = a ∙ sym b
+  one_said (message n cmd m) e f se sf (inl a) (inl b) = one_message m e f se sf a.1 b.1
+  one_said (message n cmd m) e f se sf (inr a) (inr b) = let code : a.0 ≡ b.0 = cc in a.3 ∙ ap (λ i. errors.DeviceError i) code ∙ sym b.3
+  one_said (message n cmd m) e f se sf (inl a) (inr b) = absurd (omega arith)
+  one_said (message n cmd m) e f se sf (inr a) (inl b) = absurd (omega arith)
   one_said (death index kind) e f se sf a b = a ∙ sym b
   one_said nothing e f se sf a b = a ∙ sym b
 
@@ -201,5 +161,5 @@ module _ {R W : Type 0} (k : Ceremony R W) (one : IsOne k) where
   unfolding Gives Says
   not_both_verdicts c ps low all n r e some a b =
       let x = given_of c ps e some b in
-      let same : x.0 ≡ message n a.0 = one_given c ps low all x.0 (message n a.0) x.1 a.1 in
-      good_message a.0 r e some a.2 a.3 (subst (λ (g : Given). Says g e) same x.2)
+      let same : x.0 ≡ message n 16 a.0 = one_given c ps low all x.0 (message n 16 a.0) x.1 a.1 in
+      elim (subst (λ (g : Given). Says g e) same x.2) [ inl h ↦ good_message a.0 r e some a.2 a.3 h.1 | inr h ↦ absurd (omega (arith, h.1)) ]

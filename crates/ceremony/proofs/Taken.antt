@@ -1,34 +1,19 @@
 -- How many packets are taken.
-use Rattle.std.proofs.Common.{◌≡◌, ℕ, suc, zero, ◌+◌, ◌<◌, ◌≤◌, inl, inr, List, [], ◌∷◌, ◌++◌, length, take, refl, sym, ◌∙◌, ap, subst, arith}
-use Rattle.std.proofs.lemmas.List.{length-append, length_push, take_at, take_all}
-use Rattle.std.proofs.lemmas.Bool.{cases_lt}
+use Rattle.std.proofs.Common.{◌≡◌, ℕ, ◌+◌, ◌<◌, ◌≤◌, ◌⊎◌, inl, inr, List, [], ◌∷◌, ◌++◌, length, take, refl, sym, ◌∙◌, ap, subst, arith}
+use Rattle.std.proofs.lemmas.List.{length-append, length-take, length_push, take-append-le, take_at, take_all}
 use Rattle.hidframe.specs.declared.Packet.{Packet}
 use Rattle.hidlink.specs.declared.collection.DeadKind.{DeadKind}
 use Rattle.hidlink.specs.Wire.{Carries, Dies, Got, HasEnded, IsBeginning, Shown}
-use Rattle.hidlink.proofs.Beginnings.{begins_itself, begins_later, taken}
-use Rattle.hidlink.proofs.Laws.{carries_first, dies_first}
+use Rattle.hidlink.proofs.Beginnings.{has_ended_later, taken}
+use Rattle.hidlink.proofs.Laws.{carried_ends, carries_first, death_ends, dies_first, one_place}
 use Rattle.ceremony.specs.Packets.{LiveState, HasGot, IsTaken}
-
--- what ended with the first packets has ended
-pub ended_later : (c n : ℕ) (ps : List Packet) → HasEnded c (take n ps) → HasEnded c ps
-ended_later c n ps (inl e) = inl (e.0, e.1, e.2, begins_later e.0 (take n ps) ps e.3 (taken n ps), e.4)
-ended_later c n ps (inr e) = inr (e.0, begins_later e.0 (take n ps) ps e.1 (taken n ps), e.2)
-
--- the first packets are the same with more behind them
-take-push : (j : ℕ) (ps qs : List Packet) → j ≤ length ps → take j (ps ++ qs) ≡ take j ps
-take-push j ps qs h = push j ps h
-  where
-    push : (j : ℕ) (ps : List Packet) → j ≤ length ps → take j (ps ++ qs) ≡ take j ps
-    push zero ps h = refl
-    push (suc j) [] h = absurd (omega arith)
-    push (suc j) (p ∷ ps) h = ap (λ xs. p ∷ xs) (push j ps (omega arith))
 
 pub none_taken : (c : ℕ) → IsTaken c [] 0
 none_taken c = record { within = omega arith; shortest = λ j less. absurd (omega arith); ended = inr refl }
 
 -- where all has not ended, each packet is taken
 pub all_taken : (c : ℕ) (ps : List Packet) (n : ℕ) → IsTaken c ps n → (HasEnded c ps → ⊥) → n ≡ length ps
-all_taken c ps n t open_still = elim t.ended [ inl e ↦ absurd (open_still (ended_later c n ps e)) | inr e ↦ e ]
+all_taken c ps n t open_still = elim t.ended [ inl e ↦ absurd (open_still (has_ended_later (take n ps) ps (taken n ps) e)) | inr e ↦ e ]
 
 pub taken_on : (c : ℕ) (ps : List Packet) (p : Packet) (n : ℕ) → IsTaken c ps n → (HasEnded c ps → ⊥) → IsTaken c (ps ++ p ∷ []) (n + 1)
 taken_on c ps p n t open_still =
@@ -36,7 +21,7 @@ taken_on c ps p n t open_still =
     let size : length (ps ++ p ∷ []) ≡ length ps + 1 = length_push ps p in
     record {
       within = omega arith;
-      shortest = λ j less e. open_still (ended_later c j ps (subst (HasEnded c) (take-push j ps (p ∷ []) (omega arith)) e));
+      shortest = λ j less e. open_still (has_ended_later (take j ps) ps (taken j ps) (subst (HasEnded c) (take-append-le j ps (p ∷ []) (omega arith)) e));
       ended = inr (omega arith);
     }
 
@@ -48,8 +33,8 @@ taken_still c ps p n t over =
     let E : List Packet → Type 0 = HasEnded c in
     record {
       within = omega arith;
-      shortest = λ j less e. t.shortest j less (subst E (take-push j ps (p ∷ []) (omega arith)) e);
-      ended = inl (subst E (sym (take-push n ps (p ∷ []) within)) (elim t.ended [
+      shortest = λ j less e. t.shortest j less (subst E (take-append-le j ps (p ∷ []) (omega arith)) e);
+      ended = inl (subst E (sym (take-append-le n ps (p ∷ []) within)) (elim t.ended [
         | inl e ↦ e
         | inr all ↦ subst E (sym (take_all n ps (omega arith))) over
       ]));
@@ -70,13 +55,8 @@ got_still c k taken old new ps p h same got over =
 
 -- a number of packets with which all has ended, and with no fewer, is how many are taken
 pub taken_is : (c n t : ℕ) (ps : List Packet) → n ≤ length ps → HasEnded c (take n ps) → ((j : ℕ) → j < n → HasEnded c (take j ps) → ⊥) → IsTaken c ps t → n ≡ t
-taken_is c n t ps within over none taken = elim (cases_lt n t) [
-  | inl less ↦ absurd (taken.shortest n less over)
-  | inr more ↦ elim (cases_lt t n) [
-    | inl less ↦ elim taken.ended [ inl e ↦ absurd (none t less e) | inr all ↦ absurd (omega arith) ]
-    | inr same ↦ omega arith
-  ]
-]
+taken_is c n t ps within over none taken =
+    one_place n t (λ less. taken.shortest n less over) (λ less. elim taken.ended [ inl e ↦ none t less e | inr all ↦ omega arith ])
 
 begins_take : (qs ps : List Packet) → IsBeginning qs ps → (length qs ≤ length ps) × (qs ≡ take (length qs) ps)
 begins_take qs ps b =
@@ -88,7 +68,7 @@ pub carried : (c t : ℕ) (ps qs : List Packet) (cmd : ℕ) (m : List ℕ) → I
 carried c t ps qs cmd m b h taken =
     let k = begins_take qs ps b in
     let h' : Carries c (take (length qs) ps) cmd m = subst (λ (xs : List Packet). Carries c xs cmd m) k.1 h in
-    let same : length qs ≡ t = taken_is c (length qs) t ps k.0 (inl (take (length qs) ps, cmd, m, begins_itself (take (length qs) ps), h'))
+    let same : length qs ≡ t = taken_is c (length qs) t ps k.0 (carried_ends c (take (length qs) ps) cmd m h')
     (λ j less. carries_first c j (length qs) ps cmd m less k.0 h') taken in
     (taken.within, subst (λ (n : ℕ). Carries c (take n ps) cmd m) same h')
 
@@ -97,7 +77,7 @@ pub died : (c t : ℕ) (ps qs : List Packet) (kind : DeadKind) → IsBeginning q
 died c t ps qs kind b d taken =
     let k = begins_take qs ps b in
     let d' : Dies c (take (length qs) ps) kind = subst (λ (xs : List Packet). Dies c xs kind) k.1 d in
-    let same : length qs ≡ t = taken_is c (length qs) t ps k.0 (inr (take (length qs) ps, begins_itself (take (length qs) ps), d'.dead))
+    let same : length qs ≡ t = taken_is c (length qs) t ps k.0 (death_ends c (take (length qs) ps) kind d')
     (λ j less. dies_first c j (length qs) ps kind less k.0 d') taken in
     let some : length qs ≡ length d.before + 1 = ap length d.ends ∙ length_push d.before d.last in
     (omega arith, subst (λ (n : ℕ). Dies c (take n ps) kind) same d')
@@ -112,12 +92,13 @@ died_at c t i ps kind d taken e =
 pub few_taken : (v : LiveState) (ps : List Packet) → HasGot v ps → v.taken ≤ length ps
 few_taken v ps g = g.taken.within
 
-few : (n : ℕ) (ps : List Packet) → length (take n ps) ≤ n
-few zero ps = omega arith
-few (suc n) [] = omega arith
-few (suc n) (p ∷ ps) = let less : length (take n ps) ≤ n = few n ps in omega arith
-
 pub none_more : (n : ℕ) (ps : List Packet) (v : LiveState) → HasGot v (take n ps) → v.taken ≤ n
 none_more n ps v g =
     let within : v.taken ≤ length (take n ps) = g.taken.within in
-    let size : length (take n ps) ≤ n = few n ps in omega arith
+    omega (arith, length-take {A = Packet})
+
+-- all has ended with the packet at i
+pub ended_with : (c k i : ℕ) (v : LiveState) (ps : List Packet) (p : Packet) → take (i + 1) ps ≡ take i ps ++ p ∷ [] → c ≡ k → HasGot v (take i ps ++ p ∷ []) → HasEnded c (take i ps ++ p ∷ [])
+    → (n : ℕ) × HasGot v (take n ps) × (HasEnded k (take n ps) ⊎ (length ps ≤ n))
+ended_with c k i v ps p push same got over =
+    (i + 1, subst (λ (qs : List Packet). HasGot v qs) (sym push) got, inl (subst (λ (j : ℕ). HasEnded j (take (i + 1) ps)) same (subst (HasEnded c) (sym push) over)))

@@ -1,8 +1,8 @@
 -- From a message's verdict to that on the packets, and from some of the packets to all.
-use Rattle.std.proofs.Common.{◌≡◌, ℕ, ◌+◌, ◌<◌, ◌≤◌, ◌⊎◌, inl, inr, List, [], ◌∷◌, length, take, refl, sym, ap, subst, arith, suc, zero, Result, Ok, Err}
+use Rattle.std.proofs.Common.{◌≡◌, ℕ, ◌+◌, ◌<◌, ◌≤◌, ◌⊎◌, inl, inr, List, [], ◌∷◌, length, take, sym, subst, arith, Result, Ok, Err}
 use Rattle.std.specs.Prelude.{IfErr, IfOk, OnOk}
 use Rattle.std.proofs.lemmas.Bool.{cases_lt}
-use Rattle.std.proofs.lemmas.List.{take_all}
+use Rattle.std.proofs.lemmas.List.{length-take, take-take, take_all}
 use Rattle.hidframe.specs.declared.Packet.{Packet}
 use Rattle.hidlink.specs.Wire.{Carries, Dies, HasEnded}
 use Rattle.hidlink.proofs.Laws.{carries_first, one_carried}
@@ -21,15 +21,12 @@ pub undelivered : {R W : Type 0} (k : Ceremony R W) (c : ℕ) (ps : List Packet)
 undelivered k c ps errors.Incomplete h = h
 undelivered k c ps (errors.Dead index kind) h = h
 undelivered k c ps (errors.DeviceError code) h = h
-undelivered k c ps (errors.Reply e) h = absurd h
-undelivered k c ps (errors.Refused w) h = absurd h
 undelivered k c ps errors.Memory h = tt
+undelivered k c ps _ h = absurd h
 
 pub never_memory : {W : Type 0} (c : ℕ) (ps : List Packet) (e : Error W) → Undelivered c ps e → e ≡ errors.Memory → ⊥
-never_memory c ps errors.Incomplete h e = absurd (cc)
-never_memory c ps (errors.Dead index kind) h e = absurd (cc)
-never_memory c ps (errors.DeviceError code) h e = absurd (cc)
-never_memory c ps _ h e = h
+never_memory c ps errors.Memory h e = h
+never_memory c ps _ h e = absurd (cc)
 
 -- packets deliver one message
 pub one_message : (c : ℕ) (ps : List Packet) (n k : ℕ) (m l : List ℕ) → Delivers c ps n m → Delivers c ps k l → (n ≡ k) × (m ≡ l)
@@ -40,21 +37,10 @@ one_message c ps n k m l a b = let o = one_carried c n k ps 16 16 m l a.0 b.0 a.
 abbrev pub AreEnough : ℕ → ℕ → List Packet → Type 0
 AreEnough c k ps = HasEnded c (take k ps) ⊎ (length ps ≤ k)
 
--- fewer of the first packets
-take-take : (n k : ℕ) (ps : List Packet) → n ≤ length (take k ps) → (n ≤ length ps) × (take n (take k ps) ≡ take n ps)
-take-take zero k ps h = (omega arith, refl)
-take-take (suc n) zero ps h = absurd (omega arith)
-take-take (suc n) (suc k) [] h = absurd (omega arith)
-take-take (suc n) (suc k) (p ∷ ps) h = let less = take-take n k ps (omega arith) in let within : n ≤ length ps = less.0 in (omega arith, ap (λ xs. p ∷ xs) less.1)
-
-take_within : (n k : ℕ) (ps : List Packet) → n ≤ k → n ≤ length ps → n ≤ length (take k ps)
-take_within zero k ps h w = omega arith
-take_within (suc n) zero ps h w = absurd (omega arith)
-take_within (suc n) (suc k) [] h w = absurd (omega arith)
-take_within (suc n) (suc k) (p ∷ ps) h w = let less : n ≤ length (take k ps) = take_within n k ps (omega arith) (omega arith) in omega arith
-
 carried_more : (c k n cmd : ℕ) (ps : List Packet) (m : List ℕ) → (n ≤ length (take k ps)) × Carries c (take n (take k ps)) cmd m → (n ≤ length ps) × Carries c (take n ps) cmd m
-carried_more c k n cmd ps m d = let t = take-take n k ps d.0 in (t.0, subst (λ (xs : List Packet). Carries c xs cmd m) t.1 d.1)
+carried_more c k n cmd ps m d =
+    let within : n ≤ length (take k ps) = d.0 in
+    (omega (arith, length-take k ps), subst (λ (xs : List Packet). Carries c xs cmd m) (take-take n k ps (omega (arith, length-take k ps))) d.1)
 
 pub succeeds_more : {R W : Type 0} (x : Ceremony R W) (c k : ℕ) (ps : List Packet) (n : ℕ) (r : R) → Succeeds x c (take k ps) n r → Succeeds x c ps n r
 succeeds_more x c k ps n r s = (s.0, carried_more c k n 16 ps s.0 s.1, s.2, s.3)
@@ -64,9 +50,7 @@ succeeds_less x c k ps n r (inr all) s = subst (λ (xs : List Packet). Succeeds 
 succeeds_less x c k ps n r (inl over) s = elim (cases_lt k n) [
   | inl less ↦ absurd (carries_first c k n ps 16 s.0 less s.1.0 s.1.1 over)
   | inr within ↦ let w : n ≤ length ps = s.1.0 in
-      let few = take_within n k ps within w in
-      let t = take-take n k ps few in
-      (s.0, (few, subst (λ (xs : List Packet). Carries c xs 16 s.0) (sym t.1) s.1.1), s.2, s.3)
+      (s.0, (omega (arith, length-take k ps), subst (λ (xs : List Packet). Carries c xs 16 s.0) (sym (take-take n k ps within)) s.1.1), s.2, s.3)
 ]
 
 pub refused_more : {R W : Type 0} (x : Ceremony R W) (c k : ℕ) (ps : List Packet) (e : Error W) → AreEnough c k ps → Refused x c (take k ps) e → Refused x c ps e
@@ -74,9 +58,7 @@ refused_more x c k ps errors.Incomplete (inl over) h = absurd (h over)
 refused_more x c k ps errors.Incomplete (inr all) h = subst (λ (xs : List Packet). HasEnded c xs → ⊥) (take_all k ps all) h
 refused_more x c k ps (errors.Dead index kind) enough h =
     let below : index < length (take k ps) = h.0 in
-    let t = take-take (index + 1) k ps (omega arith) in
-    let within : index + 1 ≤ length ps = t.0 in
-    (omega arith, subst (λ (xs : List Packet). Dies c xs kind) t.1 h.1)
+    (omega (arith, length-take k ps), subst (λ (xs : List Packet). Dies c xs kind) (take-take (index + 1) k ps (omega (arith, length-take k ps))) h.1)
 refused_more x c k ps (errors.DeviceError code) enough h = let d = carried_more c k h.0 63 ps (code ∷ []) (h.1, h.2) in (h.0, d.0, d.1)
 refused_more x c k ps (errors.Reply e) enough h = (h.0, h.1, carried_more c k h.0 16 ps h.1 h.2, h.3)
 refused_more x c k ps (errors.Refused w) enough h = (h.0, h.1, carried_more c k h.0 16 ps h.1 h.2, h.3)

@@ -1,7 +1,7 @@
 use Rattle.std.proofs.Common.{◌≡◌, ℕ, suc, zero, ◌≤◌, ◌⊎◌, inl, inr, List, [], ◌∷◌, ◌++◌, take, drop, refl, sym, ◌∙◌, ap, arith}
 use Rattle.std.proofs.lemmas.List.{append_assoc, append-nil, same_from_push, take-append-drop}
 use Rattle.hidframe.specs.declared.Packet.{Packet}
-use Rattle.hidlink.specs.Wire.{IsBeginning, IsDead, SomeIsDead}
+use Rattle.hidlink.specs.Wire.{HasEnded, IsBeginning, IsDead, SomeIsDead}
 use Rattle.hidlink.proofs.Runs.{cases_last}
 
 -- of two beginnings of one list one begins the other
@@ -30,6 +30,11 @@ dead_later c qs ps b dead rs cmd m (inr r) carries = dead rs cmd m (inr (begins_
 
 pub dead_itself : (c : ℕ) (ps : List Packet) → SomeIsDead c ps → IsDead c ps
 dead_itself c ps h = dead_later c h.0 ps h.1 h.2
+
+-- what has ended stays so
+pub has_ended_later : {c : ℕ} (qs ps : List Packet) → IsBeginning qs ps → HasEnded c qs → HasEnded c ps
+has_ended_later qs ps b (inl h) = inl (h.0, h.1, h.2, begins_later h.0 qs ps h.3 b, h.4)
+has_ended_later qs ps b (inr h) = inr (h.0, begins_later h.0 qs ps h.1 b, h.2)
 
 pub begins_itself : (ps : List Packet) → IsBeginning ps ps
 begins_itself ps = ([], sym (append-nil ps))

@@ -1,18 +1,18 @@
-use Rattle.std.proofs.Common.{◌≡◌, ℕ, ◌^◌, ◌<◌, inl, inr, List, [], ◌∷◌, ◌++◌, refl, sym, ◌∙◌, ap, subst}
-use Rattle.std.specs.Prelude.{Ok, Err}
+use Rattle.std.proofs.Common.{◌≡◌, ℕ, inl, inr, List, [], ◌∷◌, ◌++◌, refl, sym, ◌∙◌, ap, subst}
+use Rattle.std.specs.Prelude.{◌↔◌, Ok, Err}
 use Rattle.hidframe.specs.declared.Packet.{Packet}
 use Rattle.hidframe.specs.Packets.{fields, IsPacket}
 use Rattle.hidlink.specs.declared.collection.DeadKind.{DeadKind}
 use Rattle.hidlink.specs.declared.collection.Ended.{Ended}
 use Rattle.hidlink.specs.declared.collection.Outcome.{Outcome}
 use Rattle.hidlink.specs.declared.collection.Outcome.TheVariants.{More, Reply, DeviceError, Dead}
-use Rattle.hidlink.specs.Wire.{HasEnded, Shown, Waiting, Receiving, Replied, Failed, Died, Holds, Got}
+use Rattle.hidlink.specs.Wire.{Carries, Dies, HasEnded, IsBeginning, Shown, Replied, Failed, Died, Holds, Got}
 use Rattle.hidlink.specs.Collected.{Collected}
-use Rattle.hidlink.specs.Steps.{step, state, IsEnded}
+use Rattle.hidlink.specs.Steps.{step, IsEnded}
 use Rattle.hidlink.specs.Feeds.{Tells, Answers, Gives, IsMore, IsReply, IsDeviceError, IsDeath}
-use Rattle.hidlink.proofs.Beginnings.{begins_later, dead_itself, begins_itself}
-use Rattle.hidlink.proofs.SoFar.{ArePackets, packets-append}
-use Rattle.hidlink.proofs.Shows.{holds-step, got-state, carries_now, carried_here, dies_now, died_here, dead_from_state, state-carried, ending_ended, alive_open, alive_waiting}
+use Rattle.hidlink.proofs.Beginnings.{beginning_cases, begins_itself, has_ended_later}
+use Rattle.hidlink.proofs.SoFar.{packets-append}
+use Rattle.hidlink.proofs.Shows.{carries_now, dies_now, ended_holds, holds-step, holds_ended, one_shown}
 
 -- one packet more
 pub got-step : (c : ℕ) (ps : List Packet) (p : Packet) (s t : Shown) → IsPacket p → t ≡ step c s (fields p) → Got c ps s → Got c (ps ++ p ∷ []) t
@@ -27,130 +27,92 @@ pub got_taken : (old new : Collected) (p : Packet) → IsPacket p → new ≡ re
     → (new.cid ≡ old.cid) × ((ps : List Packet) → Got old.cid ps old.shown → Got old.cid (ps ++ p ∷ []) new.shown)
 got_taken old new p whole e = (ap (λ k. k.cid) e, λ ps g. got-step old.cid ps p old.shown new.shown whole (ap (λ k. k.shown) e) g)
 
--- an end that is shown is the end of the list
-ended-holds : (c : ℕ) (ps : List Packet) (s : Shown) → s ≡ state c ps → IsEnded s → Holds c ps s → HasEnded c ps
-ended-holds c ps Waiting is e h = absurd e
-ended-holds c ps (Receiving len next bytes) is e h = absurd e
-ended-holds c ps (Replied m) is e h = inl (h.0, 16, m, h.1, h.2)
-ended-holds c ps (Failed code) is e h = inl (h.0, 63, code ∷ [], h.1, h.2)
-ended-holds c ps (Died kind) is e h = inr (ps, begins_itself ps, dead_from_state c ps kind (sym is))
+-- ---- what is so with the packet before which the list had not ended
 
-pub holds-ended : (c : ℕ) (ps : List Packet) (s : Shown) → c < 2 ^ 32 → ArePackets ps → s ≡ state c ps → Holds c ps s → HasEnded c ps → IsEnded s
-holds-ended c ps s low all is h (inl e) = let P : Shown → Type 0 = IsEnded in subst P (sym (is ∙ state-carried c e.0 ps e.1 e.2 e.3 e.4)) (ending_ended e.1 e.2)
-holds-ended c ps Waiting low all is h (inr dead) = alive_waiting c ps low h (dead_itself c ps dead)
-holds-ended c ps (Receiving len next bytes) low all is h (inr dead) = alive_open c ps len next bytes low all h (dead_itself c ps dead)
-holds-ended c ps (Replied m) low all is h (inr dead) = tt
-holds-ended c ps (Failed code) low all is h (inr dead) = tt
-holds-ended c ps (Died kind) low all is h (inr dead) = tt
+here : (c : ℕ) (ps : List Packet) (p : Packet) (X : List Packet → Type 0) → ((qs : List Packet) → IsBeginning qs ps → X qs → HasEnded c ps) → (HasEnded c ps → ⊥)
+    → (qs : List Packet) × IsBeginning qs (ps ++ p ∷ []) × X qs → X (ps ++ p ∷ [])
+here c ps p X ends before h = elim (beginning_cases h.0 ps p h.1) [ inl b ↦ absurd (before (ends h.0 b h.2)) | inr e ↦ subst X e h.2 ]
 
--- what has ended stays so
-later : (c : ℕ) (ps : List Packet) (p : Packet) → HasEnded c ps → HasEnded c (ps ++ p ∷ [])
-later c ps p (inl h) = inl (h.0, h.1, h.2, begins_later h.0 ps (ps ++ p ∷ []) h.3 (p ∷ [], refl), h.4)
-later c ps p (inr h) = inr (h.0, begins_later h.0 ps (ps ++ p ∷ []) h.1 (p ∷ [], refl), h.2)
+pub record Now (c : ℕ) (ps : List Packet) (t : Shown) : Type 0 where
+  pub reply : (m : List ℕ) → Carries c ps 16 m ↔ (t ≡ Replied m)
+  pub device_error : (code : ℕ) → Carries c ps 63 (code ∷ []) ↔ (t ≡ Failed code)
+  pub dead : (kind : DeadKind) → Dies c ps kind ↔ (t ≡ Died kind)
 
-pub answers-err : (c : ℕ) (ps : List Packet) (p : Packet) (s : Shown) (e : Ended) → IsPacket p → IsEnded s → Got c ps s → Answers c ps p (Err e)
-answers-err c ps p s e whole ended g =
-    let is : s ≡ state c ps = got-state c ps s g.channel g.packets g.holds in
+pub now : (c : ℕ) (ps : List Packet) (p : Packet) (t : Shown) → (HasEnded c ps → ⊥) → Got c (ps ++ p ∷ []) t → Now c (ps ++ p ∷ []) t
+now c ps p t before g =
+    let P : Shown → Type 0 = Holds c (ps ++ p ∷ []) in
+    let one = λ (s : Shown) (h : Holds c (ps ++ p ∷ []) s). one_shown c (ps ++ p ∷ []) t s g.channel g.packets g.holds h in
+    let carried = λ (cmd : ℕ) (m : List ℕ). here c ps p (λ qs. Carries c qs cmd m) (λ qs b h. inl (qs, cmd, m, b, h)) before in
     record {
-      reply = λ m. (λ h. absurd h, λ h. (carries_now c ps p 16 m s is h).0 ended);
-      device_error = λ code. (λ h. absurd h, λ h. (carries_now c ps p 63 (code ∷ []) s is h).0 ended);
-      dead = λ kind. (λ h. absurd h, λ h. (dies_now c ps p kind s g.channel (packets-append ps (p ∷ []) g.packets (whole, tt)) g.holds h).0 ended);
-      ended = (λ h. ended-holds c ps s is ended g.holds, λ h. tt);
-      more = (λ h. absurd h, λ h. h (later c ps p (ended-holds c ps s is ended g.holds)));
+      reply = λ m. (λ h. one (Replied m) (ps ++ p ∷ [], begins_itself (ps ++ p ∷ []), h), λ e. carried 16 m (subst P e g.holds));
+      device_error = λ code. (λ h. one (Failed code) (ps ++ p ∷ [], begins_itself (ps ++ p ∷ []), h), λ e. carried 63 (code ∷ []) (subst P e g.holds));
+      dead = λ kind. (
+        λ h. one (Died kind) (ps ++ p ∷ [], begins_itself (ps ++ p ∷ []), h),
+        λ e. here c ps p (λ qs. Dies c qs kind) (λ qs b h. inr (qs, b, h.dead)) before (subst P e g.holds),
+      );
     }
 
--- the answers that a state allows
-says_reply : (t : Shown) (outcome : Outcome) (m : List ℕ) → Tells t outcome → t ≡ Replied m → IsReply (Ok outcome) m
-says_reply t More m h e = h (let P : Shown → Type 0 = IsEnded in subst P (sym e) tt)
-says_reply t (Reply bytes) m h e = cc
-says_reply t (DeviceError code) m h e = absurd (cc)
-says_reply t (Dead kind) m h e = absurd (cc)
+-- ---- the answers that a state allows
 
-is_reply : (t : Shown) (outcome : Outcome) (m : List ℕ) → Tells t outcome → IsReply (Ok outcome) m → t ≡ Replied m
-is_reply t More m h e = absurd e
-is_reply t (Reply bytes) m h e = h ∙ ap Replied e
-is_reply t (DeviceError code) m h e = absurd e
-is_reply t (Dead kind) m h e = absurd e
+reply : (t : Shown) (outcome : Outcome) (m : List ℕ) → Tells t outcome → IsReply (Ok outcome) m ↔ (t ≡ Replied m)
+reply t (Reply bytes) m h = (λ e. h ∙ ap Replied e, λ e. cc)
+reply t More m h = (λ e. absurd e, λ e. h (rw e tt))
+reply t _ m h = (λ e. absurd e, λ e. absurd (cc))
 
-says_error : (t : Shown) (outcome : Outcome) (code : ℕ) → Tells t outcome → t ≡ Failed code → IsDeviceError (Ok outcome) code
-says_error t More m h e = h (let P : Shown → Type 0 = IsEnded in subst P (sym e) tt)
-says_error t (Reply bytes) m h e = absurd (cc)
-says_error t (DeviceError code) m h e = cc
-says_error t (Dead kind) m h e = absurd (cc)
+device_error : (t : Shown) (outcome : Outcome) (code : ℕ) → Tells t outcome → IsDeviceError (Ok outcome) code ↔ (t ≡ Failed code)
+device_error t (DeviceError code') code h = (λ e. h ∙ ap Failed e, λ e. cc)
+device_error t More code h = (λ e. absurd e, λ e. h (rw e tt))
+device_error t _ code h = (λ e. absurd e, λ e. absurd (cc))
 
-is_error : (t : Shown) (outcome : Outcome) (code : ℕ) → Tells t outcome → IsDeviceError (Ok outcome) code → t ≡ Failed code
-is_error t More m h e = absurd e
-is_error t (Reply bytes) m h e = absurd e
-is_error t (DeviceError code) m h e = h ∙ ap Failed e
-is_error t (Dead kind) m h e = absurd e
+death : (t : Shown) (outcome : Outcome) (kind : DeadKind) → Tells t outcome → IsDeath (Ok outcome) kind ↔ (t ≡ Died kind)
+death t (Dead kind') kind h = (λ e. h ∙ ap Died e, λ e. cc)
+death t More kind h = (λ e. absurd e, λ e. h (rw e tt))
+death t _ kind h = (λ e. absurd e, λ e. absurd (cc))
 
-says_death : (t : Shown) (outcome : Outcome) (kind : DeadKind) → Tells t outcome → t ≡ Died kind → IsDeath (Ok outcome) kind
-says_death t More m h e = h (let P : Shown → Type 0 = IsEnded in subst P (sym e) tt)
-says_death t (Reply bytes) m h e = absurd (cc)
-says_death t (DeviceError code) m h e = absurd (cc)
-says_death t (Dead kind) m h e = cc
+more : (t : Shown) (outcome : Outcome) → Tells t outcome → IsMore (Ok outcome) ↔ (IsEnded t → ⊥)
+more t More h = (λ _. h, λ _. tt)
+more t (Reply bytes) h = (λ e. absurd e, λ e. e (rw h tt))
+more t (DeviceError code) h = (λ e. absurd e, λ e. e (rw h tt))
+more t (Dead kind) h = (λ e. absurd e, λ e. e (rw h tt))
 
-is_death : (t : Shown) (outcome : Outcome) (kind : DeadKind) → Tells t outcome → IsDeath (Ok outcome) kind → t ≡ Died kind
-is_death t More m h e = absurd e
-is_death t (Reply bytes) m h e = absurd e
-is_death t (DeviceError code) m h e = absurd e
-is_death t (Dead kind) m h e = h ∙ ap Died e
+pub by_way : {A B C : Type 0} → A ↔ B → B ↔ C → A ↔ C
+by_way e f = (λ a. f.0 (e.0 a), λ c. e.1 (f.1 c))
 
-says_more : (t : Shown) (outcome : Outcome) → Tells t outcome → (IsEnded t → ⊥) → IsMore (Ok outcome)
-says_more t More h e = tt
-says_more t (Reply bytes) h e = e (let P : Shown → Type 0 = IsEnded in subst P (sym h) tt)
-says_more t (DeviceError code) h e = e (let P : Shown → Type 0 = IsEnded in subst P (sym h) tt)
-says_more t (Dead kind) h e = e (let P : Shown → Type 0 = IsEnded in subst P (sym h) tt)
-
-is_more : (t : Shown) (outcome : Outcome) → Tells t outcome → IsMore (Ok outcome) → IsEnded t → ⊥
-is_more t More h e = h
-is_more t (Reply bytes) h e = absurd e
-is_more t (DeviceError code) h e = absurd e
-is_more t (Dead kind) h e = absurd e
+pub back : {A B : Type 0} → A ↔ B → B ↔ A
+back e = (e.1, e.0)
 
 -- what an outcome says of the packets that a collector got
 pub outcome_gives : (c : ℕ) (ps : List Packet) (s : Shown) (outcome : Outcome) → Tells s outcome → Got c ps s → Gives c ps outcome
 outcome_gives c ps s outcome told g =
-    let is : s ≡ state c ps = got-state c ps s g.channel g.packets g.holds in
     let P : Shown → Type 0 = Holds c ps in
+    let shown : (t : Shown) → (s ≡ t) ↔ Holds c ps t = λ t. (λ e. subst P e g.holds, λ h. one_shown c ps s t g.channel g.packets g.holds h) in
     record {
-      reply = λ m. (
-        λ h. subst P (is_reply s outcome m told h) g.holds,
-        λ h. says_reply s outcome m told (is ∙ state-carried c h.0 ps 16 m h.1 h.2),
-      );
-      device_error = λ code. (
-        λ h. subst P (is_error s outcome code told h) g.holds,
-        λ h. says_error s outcome code told (is ∙ state-carried c h.0 ps 63 (code ∷ []) h.1 h.2),
-      );
-      dead = λ kind. (
-        λ h. subst P (is_death s outcome kind told h) g.holds,
-        λ h. says_death s outcome kind told (is ∙ sym (got-state c ps (Died kind) g.channel g.packets h)),
-      );
-      more = (
-        λ h e. is_more s outcome told h (holds-ended c ps s g.channel g.packets is g.holds e),
-        λ h. says_more s outcome told (λ e. h (ended-holds c ps s is e g.holds)),
-      );
+      reply = λ m. by_way (reply s outcome m told) (shown (Replied m));
+      device_error = λ code. by_way (device_error s outcome code told) (shown (Failed code));
+      dead = λ kind. by_way (death s outcome kind told) (shown (Died kind));
+      more = by_way (more s outcome told) (λ n e. n (holds_ended c ps s g.channel g.packets g.holds e), λ n e. n (ended_holds c ps s e g.holds));
     }
 
 pub answers-ok : (c : ℕ) (ps : List Packet) (p : Packet) (s t : Shown) (outcome : Outcome) → IsPacket p → (IsEnded s → ⊥) → t ≡ step c s (fields p) → Tells t outcome → Got c ps s → Answers c ps p (Ok outcome)
-answers-ok c ps p s t outcome whole alive now told g =
-    let is : s ≡ state c ps = got-state c ps s g.channel g.packets g.holds in
-    let all : ArePackets (ps ++ p ∷ []) = packets-append ps (p ∷ []) g.packets (whole, tt) in
-    let P : Shown → Type 0 = Holds c (ps ++ p ∷ []) in
-    let h' : Holds c (ps ++ p ∷ []) t = subst P (sym now) (holds-step c ps p s g.channel all g.holds) in
+answers-ok c ps p s t outcome whole alive is told g =
+    let before : HasEnded c ps → ⊥ = λ h. alive (holds_ended c ps s g.channel g.packets g.holds h) in
+    let g' : Got c (ps ++ p ∷ []) t = got-step c ps p s t whole is g in
+    let n = now c ps p t before g' in
     record {
-      reply = λ m. (
-        λ h. carried_here c ps p 16 m s is alive (subst P (is_reply t outcome m told h) h'),
-        λ h. says_reply t outcome m told (now ∙ (carries_now c ps p 16 m s is h).1),
-      );
-      device_error = λ code. (
-        λ h. carried_here c ps p 63 (code ∷ []) s is alive (subst P (is_error t outcome code told h) h'),
-        λ h. says_error t outcome code told (now ∙ (carries_now c ps p 63 (code ∷ []) s is h).1),
-      );
-      dead = λ kind. (
-        λ h. died_here c ps p kind s g.channel all is alive (subst P (is_death t outcome kind told h) h'),
-        λ h. says_death t outcome kind told (now ∙ (dies_now c ps p kind s g.channel all g.holds h).1),
-      );
-      ended = (λ h. absurd h, λ h. alive (holds-ended c ps s g.channel g.packets is g.holds h));
-      more = (outcome_gives c (ps ++ p ∷ []) t outcome told (record { channel = g.channel; packets = all; holds = h' })).more;
+      reply = λ m. by_way (reply t outcome m told) (back (n.reply m));
+      device_error = λ code. by_way (device_error t outcome code told) (back (n.device_error code));
+      dead = λ kind. by_way (death t outcome kind told) (back (n.dead kind));
+      ended = (λ h. absurd h, before);
+      more = (outcome_gives c (ps ++ p ∷ []) t outcome told g').more;
+    }
+
+pub answers-err : (c : ℕ) (ps : List Packet) (p : Packet) (s : Shown) (e : Ended) → IsEnded s → Got c ps s → Answers c ps p (Err e)
+answers-err c ps p s e ended g =
+    let now : HasEnded c ps = ended_holds c ps s ended g.holds in
+    record {
+      reply = λ m. (λ h. absurd h, λ h. carries_now c ps p 16 m h now);
+      device_error = λ code. (λ h. absurd h, λ h. carries_now c ps p 63 (code ∷ []) h now);
+      dead = λ kind. (λ h. absurd h, λ h. dies_now c ps p kind h now);
+      ended = (λ h. now, λ h. tt);
+      more = (λ h. absurd h, λ h. h (has_ended_later ps (ps ++ p ∷ []) (p ∷ [], refl) now));
     }

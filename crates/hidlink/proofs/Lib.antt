@@ -7,13 +7,11 @@ pub mod Laws
 pub mod Reception
 pub mod Left
 pub mod Readings
-pub mod Lines
+mod Lines
 pub mod Moves
-pub mod Plain
 pub mod Steps
 pub mod Calls
 pub mod Hearing
 pub mod Telling
 pub mod Whole
-pub mod Cancels
 pub mod Most

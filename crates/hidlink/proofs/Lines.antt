@@ -1,55 +1,123 @@
-use Rattle.std.proofs.Common.{◌≡◌, ◌≢◌, ℕ, ◌+◌, ◌⊎◌, inl, inr, Bool, true, false, cond, List, [], refl, sym, ◌∙◌, arith}
-use Rattle.std.specs.Prelude.{◌==◌, ◌&&◌, not, unwrap_or}
-use Rattle.std.proofs.lemmas.Bool.{and_cases, eqb-true, true≢false}
-use Rattle.first_line.specs.Lines.{first_true}
+-- What a call does to a device: the first line of the table that applies to an initial packet, and the calls by states.
+use Rattle.std.proofs.Common.{◌≡◌, ◌≢◌, ℕ, ◌+◌, ◌<◌, ◌≤◌, ◌⊎◌, inl, inr, Bool, true, false, cond, List, [], ◌∷◌, ◌++◌, length, refl, sym, ◌∙◌, arith}
+use Rattle.std.specs.Prelude.{◌==◌, ◌||◌, nat_lt}
+use Rattle.std.proofs.lemmas.Bool.{cond_both, eqb-true, eqb-false, eq-eqb, ne_eqb, ltb-true, ltb-false}
+use Rattle.std.proofs.lemmas.Bool.Decides.{nat_tests}
 use Rattle.first_line.proofs.Laws.{by_lines}
-use Rattle.hidlink.specs.Ranks.{Idle, Receiving, Working, rank}
-use Rattle.hidlink.specs.Machine.{Effect, came, table}
+use Rattle.hidframe.specs.declared.Packet.{Packet}
+use Rattle.hidframe.specs.Packets.{Fields, Initial, Continuation, fields}
+use Rattle.hidlink.specs.declared.arbitration.Arbitration.{Arbitration}
+use Rattle.hidlink.specs.declared.arbitration.Arbitration.TheVariants.{Refused, NewChannel, ChannelAnew, Interrupted, Cancelled, Ignored, Begins}
+use Rattle.hidlink.specs.Ranks.{State, Idle, Receiving, Working, chosen, is_busy, is_receiving_on, is_working_on, lines, rank}
+use Rattle.hidlink.specs.History.{Call, Took, Answered, Kept, Expired, HasRank, Breaks, EndsWork, Unbroken, assigns_channel, continuation_on}
+use Rattle.hidlink.specs.Machine.{Effect, came, chosen_effect, effect, packet_effect, to}
 
--- of an idle device
-pub idle_line : (n c cmd len : ℕ) (area : List ℕ) →
-    let e = unwrap_or (first_true (table n Idle c cmd len)) (came n c cmd len 0 area) in
-    ((rank n Idle c cmd len ≡ 15) × (e ≡ came n c cmd len 0 area) × ((cmd ≡ 1) ⊎ (cmd ≡ 16)))
-    ⊎ ((rank n Idle c cmd len ≢ 15) × (e.after ≡ Idle) × (e.channels ≡ cond (rank n Idle c cmd len == 6) (n + 1) n))
-idle_line n c cmd len area = by_lines P (table n Idle c cmd len) (came n c cmd len 0 area) 1
-    ((λ _. inr ((λ x. omega arith), refl, refl)), λ r1. ((λ _. inr ((λ x. omega arith), refl, refl)), λ r2. ((λ _. inr ((λ x. omega arith), refl, refl)), λ r3. ((λ _. inr ((λ x. omega arith), refl, refl)), λ r4. ((λ _. inr ((λ x. omega arith), refl, refl)), λ r5. ((λ _. inr ((λ x. omega arith), refl, refl)), λ r6. ((λ _. inr ((λ x. omega arith), refl, refl)), λ r7. ((λ _. inr ((λ x. omega arith), refl, refl)), λ r8. ((λ x. absurd (cc)), λ r9. ((λ _. inr ((λ x. omega arith), refl, refl)), λ r10. ((λ _. inr ((λ x. omega arith), refl, refl)), λ r11. ((λ x. absurd (cc)), λ r12. ((λ _. inr ((λ x. omega arith), refl, refl)), λ r13. ((λ _. inr ((λ x. omega arith), refl, refl)), λ r14. inl (refl, refl, kinds r13)))))))))))))))
+-- what a rank and a choice rest on, of a device that is busy or not, and receives or works on c or not
+abbrev pub Rests : ℕ → Bool → Bool → Bool → ℕ → ℕ → ℕ → Arbitration → Type 0
+Rests n busy receiving working c cmd k (Refused code) = (k ≢ 6) × (k ≢ 8) × (k ≢ 9) × (k ≢ 15) × (1 ≤ c → c ≤ n → c ≢ 0xFFFFFFFF → cmd ≢ 17)
+Rests n busy receiving working c cmd k NewChannel = (k ≡ 6) × (cmd ≡ 6) × (busy ≡ false) × (n ≢ 65535)
+Rests n busy receiving working c cmd k ChannelAnew = (k ≡ 8) × (cmd ≡ 6) × ((busy ≡ false) ⊎ ((receiving || working) ≡ true))
+Rests n busy receiving working c cmd k Interrupted = (k ≡ 9) × (receiving ≡ true)
+Rests n busy receiving working c cmd k Cancelled = (k ≡ 10) × (cmd ≡ 17) × (working ≡ true)
+Rests n busy receiving working c cmd k Ignored = (k ≡ 11) × (working ≡ false)
+Rests n busy receiving working c cmd k Begins = (k ≡ 15) × (busy ≡ false) × ((cmd ≡ 1) ⊎ ((cmd ≡ 16) × (1 ≤ c) × (c ≤ n) × (c ≢ 0xFFFFFFFF)))
+
+pub first_line : (n : ℕ) (s : State) (c cmd len : ℕ) → Rests n (is_busy s) (is_receiving_on s c) (is_working_on s c) c cmd (rank n s c cmd len) (chosen n s c cmd len)
+first_line n s c cmd len = by_lines (Rests n (is_busy s) (is_receiving_on s c) (is_working_on s c) c cmd) (lines n s c cmd len) Begins 1
+    (λ on. grind (arith, nat_tests), λ r1. (λ on. grind (arith, nat_tests), λ r2. (λ on. grind (arith, nat_tests), λ r3. (λ on. grind (arith, nat_tests), λ r4. (λ on. grind (arith, nat_tests), λ r5. (λ on. grind (arith, nat_tests), λ r6. (λ on. grind (arith, nat_tests), λ r7. (λ on. grind (arith, nat_tests), λ r8. (λ on. grind (arith, nat_tests), λ r9. (λ on. grind (arith, nat_tests), λ r10. (λ on. grind (arith, nat_tests), λ r11. (λ on. grind (arith, nat_tests), λ r12. (λ on. grind (arith, nat_tests), λ r13. (λ on. grind (arith, nat_tests), λ r14. grind (arith, nat_tests)))))))))))))))
+
+-- ---- of an idle device
+
+pub data AtIdle (n : ℕ) (call : Call) (e : Effect) : Type 0 where
+  begins : (p : Packet) (c cmd len : ℕ) (area : List ℕ) → call ≡ Took p → fields p ≡ Initial c cmd len area → rank n Idle c cmd len ≡ 15 → e ≡ came n c cmd len 0 area → AtIdle n call e
+  stands : (HasRank n Idle 15 call → ⊥) → e ≡ to (cond (assigns_channel n call) (n + 1) n) Idle → AtIdle n call e
+
+pub at_idle : (n : ℕ) (call : Call) → AtIdle n call (effect n Idle call)
+at_idle n (Answered m) = stands (λ h. h) refl
+at_idle n (Kept status) = stands (λ h. h) refl
+at_idle n Expired = stands (λ h. h) refl
+at_idle n (Took p) = packet (fields p) refl
   where
-    P : ℕ → Effect → Type 0
-    P k e = ((k ≡ 15) × (e ≡ came n c cmd len 0 area) × ((cmd ≡ 1) ⊎ (cmd ≡ 16))) ⊎ ((k ≢ 15) × (e.after ≡ Idle) × (e.channels ≡ cond (k == 6) (n + 1) n))
+    packet : (f : Fields) → fields p ≡ f → AtIdle n (Took p) (packet_effect n Idle f)
+    packet (Continuation c seq area) says = stands (λ r. rw says at r) (rw says refl)
+    packet (Initial c cmd len area) says = by (chosen n Idle c cmd len) (first_line n Idle c cmd len)
+      where
+        by : (a : Arbitration) → Rests n false false false c cmd (rank n Idle c cmd len) a → AtIdle n (Took p) (chosen_effect n Idle c cmd len area a)
+        by (Refused code) r = stands (λ h. r.3 (rw says at h)) (rw (says, ne_eqb (rank n Idle c cmd len) 6 r.0) refl)
+        by Interrupted r = absurd (cc)
+        by Cancelled r = absurd (cc)
+        by Begins r = begins p c cmd len area refl says r.0 refl
+        by _ r = stands (λ h. let k : rank n Idle c cmd len ≡ 15 = rw says at h in omega arith) (rw (says, r.0) refl)
 
-    unnot : (b : Bool) → not b ≡ false → b ≡ true
-    unnot true e = refl
-    unnot false e = absurd (cc)
-
-    kinds : (not (cmd == 1) && not (cmd == 16)) ≡ false → (cmd ≡ 1) ⊎ (cmd ≡ 16)
-    kinds e = elim (and_cases (not (cmd == 1)) (not (cmd == 16)) e) [
-      | inl h ↦ inl (eqb-true cmd 1 (unnot (cmd == 1) h))
-      | inr h ↦ inr (eqb-true cmd 16 (unnot (cmd == 16) h))
-    ]
-
-busy_six : {b : Bool} → (b && true) ≡ false → b ≡ true → ⊥
-busy_six {b} e t = elim (and_cases b true e) [ inl h ↦ true≢false (sym t ∙ h) | inr h ↦ true≢false h ]
-
--- of one to which a message comes
-pub coming_line : (n cid kind size next c cmd len : ℕ) (bytes area : List ℕ) →
-    let s = Receiving cid kind size next bytes in
-    let e = unwrap_or (first_true (table n (Receiving cid kind size next bytes) c cmd len)) (came n c cmd len 0 area) in
-    let k = rank n (Receiving cid kind size 0 []) c cmd len in
-    (e.channels ≡ n) × ((((k ≡ 8) ⊎ (k ≡ 9)) × (e.after ≡ Idle)) ⊎ ((k ≢ 8) × (k ≢ 9) × (e.after ≡ s)))
-coming_line n cid kind size next c cmd len bytes area = by_lines P (table n (Receiving cid kind size next bytes) c cmd len) (came n c cmd len 0 area) 1
-    ((λ _. (refl, inr ((λ x. omega arith), (λ x. omega arith), refl))), λ r1. ((λ _. (refl, inr ((λ x. omega arith), (λ x. omega arith), refl))), λ r2. ((λ _. (refl, inr ((λ x. omega arith), (λ x. omega arith), refl))), λ r3. ((λ _. (refl, inr ((λ x. omega arith), (λ x. omega arith), refl))), λ r4. ((λ _. (refl, inr ((λ x. omega arith), (λ x. omega arith), refl))), λ r5. ((λ x. absurd (busy_six r4 x)), λ r6. ((λ _. (refl, inr ((λ x. omega arith), (λ x. omega arith), refl))), λ r7. ((λ _. (refl, inl (inl refl, refl))), λ r8. ((λ _. (refl, inl (inr refl, refl))), λ r9. ((λ _. (refl, inr ((λ x. omega arith), (λ x. omega arith), refl))), λ r10. ((λ _. (refl, inr ((λ x. omega arith), (λ x. omega arith), refl))), λ r11. ((λ _. (refl, inr ((λ x. omega arith), (λ x. omega arith), refl))), λ r12. ((λ _. (refl, inr ((λ x. omega arith), (λ x. omega arith), refl))), λ r13. ((λ _. (refl, inr ((λ x. omega arith), (λ x. omega arith), refl))), λ r14. absurd (true≢false r12)))))))))))))))
+-- a packet of rank 15 begins a message
+pub ranked : (n c cmd len : ℕ) → rank n Idle c cmd len ≡ 15 → (cmd ≡ 1) ⊎ ((cmd ≡ 16) × (1 ≤ c) × (c ≤ n) × (c ≢ 0xFFFFFFFF))
+ranked n c cmd len e = by (chosen n Idle c cmd len) (first_line n Idle c cmd len)
   where
-    P : ℕ → Effect → Type 0
-    P k e = (e.channels ≡ n) × ((((k ≡ 8) ⊎ (k ≡ 9)) × (e.after ≡ Idle)) ⊎ ((k ≢ 8) × (k ≢ 9) × (e.after ≡ Receiving cid kind size next bytes)))
+    by : (a : Arbitration) → Rests n false false false c cmd (rank n Idle c cmd len) a → (cmd ≡ 1) ⊎ ((cmd ≡ 16) × (1 ≤ c) × (c ≤ n) × (c ≢ 0xFFFFFFFF))
+    by (Refused code) r = absurd (r.3 e)
+    by Begins r = r.2
+    by _ r = absurd (omega arith)
 
--- of one that works
-pub working_line : (n cid c cmd len : ℕ) (payload area : List ℕ) →
-    let s = Working cid payload in
-    let e = unwrap_or (first_true (table n (Working cid payload) c cmd len)) (came n c cmd len 0 area) in
-    let k = rank n (Working cid payload) c cmd len in
-    (e.channels ≡ n) × (((k ≡ 8) × (e.after ≡ Idle)) ⊎ ((k ≢ 8) × (e.after ≡ s)))
-working_line n cid c cmd len payload area = by_lines P (table n (Working cid payload) c cmd len) (came n c cmd len 0 area) 1
-    ((λ _. (refl, inr ((λ x. omega arith), refl))), λ r1. ((λ _. (refl, inr ((λ x. omega arith), refl))), λ r2. ((λ _. (refl, inr ((λ x. omega arith), refl))), λ r3. ((λ _. (refl, inr ((λ x. omega arith), refl))), λ r4. ((λ _. (refl, inr ((λ x. omega arith), refl))), λ r5. ((λ x. absurd (busy_six r4 x)), λ r6. ((λ _. (refl, inr ((λ x. omega arith), refl))), λ r7. ((λ _. (refl, inl (refl, refl))), λ r8. ((λ x. absurd (true≢false (sym x))), λ r9. ((λ _. (refl, inr ((λ x. omega arith), refl))), λ r10. ((λ _. (refl, inr ((λ x. omega arith), refl))), λ r11. ((λ _. (refl, inr ((λ x. omega arith), refl))), λ r12. ((λ _. (refl, inr ((λ x. omega arith), refl))), λ r13. ((λ _. (refl, inr ((λ x. omega arith), refl))), λ r14. absurd (true≢false r12)))))))))))))))
+-- ---- of one to which a message comes
+
+pub data AtIncoming (n c cmd len next : ℕ) (bytes : List ℕ) (call : Call) (e : Effect) : Type 0 where
+  passes : continuation_on c call ≡ [] → Unbroken n c cmd len call → e ≡ to n (Receiving c cmd len next bytes) → AtIncoming n c cmd len next bytes call e
+  continues : (p : Packet) (area : List ℕ) → call ≡ Took p → continuation_on c call ≡ Continuation c next area ∷ [] → Unbroken n c cmd len call
+      → e ≡ came n c cmd len (next + 1) (bytes ++ area) → AtIncoming n c cmd len next bytes call e
+  breaks : Breaks n c cmd len next call → e ≡ to n Idle → AtIncoming n c cmd len next bytes call e
+
+pub at_incoming : (n c cmd len next : ℕ) (bytes : List ℕ) (call : Call) → AtIncoming n c cmd len next bytes call (effect n (Receiving c cmd len next bytes) call)
+at_incoming n c cmd len next bytes (Answered m) = passes refl ((λ e. cc), (λ r. r), (λ r. r)) refl
+at_incoming n c cmd len next bytes (Kept status) = passes refl ((λ e. cc), (λ r. r), (λ r. r)) refl
+at_incoming n c cmd len next bytes Expired = breaks (inl refl) refl
+at_incoming n c cmd len next bytes (Took p) = packet (fields p) refl
   where
-    P : ℕ → Effect → Type 0
-    P k e = (e.channels ≡ n) × (((k ≡ 8) × (e.after ≡ Idle)) ⊎ ((k ≢ 8) × (e.after ≡ Working cid payload)))
+    s : State
+    s = Receiving c cmd len next bytes
+
+    packet : (f : Fields) → fields p ≡ f → AtIncoming n c cmd len next bytes (Took p) (packet_effect n s f)
+    packet (Initial cid kind size area) says = by (chosen n s cid kind size) (first_line n s cid kind size)
+      where
+        by : (a : Arbitration) → Rests n true (c == cid) false cid kind (rank n s cid kind size) a → AtIncoming n c cmd len next bytes (Took p) (chosen_effect n s cid kind size area a)
+        by (Refused code) r = passes (rw says refl) ((λ e. cc), (λ k. r.1 (rw says at k)), (λ k. r.2 (rw says at k))) refl
+        by ChannelAnew r = breaks (inr (inl (rw says r.0))) refl
+        by Interrupted r = breaks (inr (inr (inl (rw says r.0)))) refl
+        by Ignored r =
+            let other : (k : ℕ) → k ≢ 11 → rank n s cid kind size ≢ k = λ k apart e. apart (sym e ∙ r.0) in
+            passes (rw says refl) ((λ e. cc), (λ k. other 8 (λ e. omega arith) (rw says at k)), (λ k. other 9 (λ e. omega arith) (rw says at k))) refl
+        by _ r = absurd (cc)
+    packet (Continuation cid seq area) says = split (c == cid) (seq == next) refl refl
+      where
+        split : (here right : Bool) → (c == cid) ≡ here → (seq == next) ≡ right
+            → AtIncoming n c cmd len next bytes (Took p) (cond here (cond right (came n c cmd len (next + 1) (bytes ++ area)) (to n Idle)) (to n s))
+        split true true e k = continues p area refl (rw (says, eq-eqb cid c (sym (eqb-true c cid e)), eqb-true c cid e, eqb-true seq next k) refl) ((λ x. cc), (λ r. rw says at r), (λ r. rw says at r)) refl
+        split true false e k = breaks (inr (inr (inr (seq, area, rw (says, eq-eqb cid c (sym (eqb-true c cid e)), eqb-true c cid e) refl, eqb-false seq next k)))) refl
+        split false right e k = passes (rw (says, ne_eqb cid c (λ x. eqb-false c cid e (sym x))) refl) ((λ x. cc), (λ r. rw says at r), (λ r. rw says at r)) refl
+
+-- ---- of one that works
+
+pub data AtWork (n c : ℕ) (payload : List ℕ) (call : Call) (e : Effect) : Type 0 where
+  stays : (EndsWork n c payload call → ⊥) → e ≡ to n (Working c payload) → AtWork n c payload call e
+  ends : EndsWork n c payload call → e ≡ to n Idle → AtWork n c payload call e
+
+pub at_work : (n c : ℕ) (payload : List ℕ) (call : Call) → AtWork n c payload call (effect n (Working c payload) call)
+at_work n c payload (Answered m) = cond_both (nat_lt 7609 (length m)) _ _ (AtWork n c payload (Answered m))
+    (λ long. let h : 7609 < length m = ltb-true 7609 (length m) long in stays (λ short. omega arith) refl)
+    (λ short. ends (ltb-false 7609 (length m) short) refl)
+at_work n c payload (Kept status) = stays (λ r. r) refl
+at_work n c payload Expired = stays (λ r. r) refl
+at_work n c payload (Took p) = packet (fields p) refl
+  where
+    s : State
+    s = Working c payload
+
+    packet : (f : Fields) → fields p ≡ f → AtWork n c payload (Took p) (packet_effect n s f)
+    packet (Continuation cid seq area) says = stays (λ r. rw says at r) refl
+    packet (Initial cid kind size area) says = by (chosen n s cid kind size) (first_line n s cid kind size)
+      where
+        by : (a : Arbitration) → Rests n true false (c == cid) cid kind (rank n s cid kind size) a → AtWork n c payload (Took p) (chosen_effect n s cid kind size area a)
+        by (Refused code) r = stays (λ e. r.1 (rw says at e)) refl
+        by ChannelAnew r = ends (rw says r.0) refl
+        by Cancelled r = stays (λ e. let k : rank n s cid kind size ≡ 8 = rw says at e in omega arith) refl
+        by Ignored r = stays (λ e. let k : rank n s cid kind size ≡ 8 = rw says at e in omega arith) refl
+        by _ r = absurd (cc)

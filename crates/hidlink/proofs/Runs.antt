@@ -7,8 +7,7 @@ use Rattle.hidframe.specs.declared.Packet.{Packet}
 use Rattle.hidframe.specs.Packets.{Fields, Initial, Continuation, fields}
 use Rattle.hidframe.specs.Frames.{continuations, continuation_count, joined}
 use Rattle.std.specs.Prelude.{◌==◌}
-use Rattle.hidlink.specs.declared.collection.DeadKind.TheVariants.{WrongSequence, BadLength}
-use Rattle.hidlink.specs.Wire.{channel_of, on, IsKeepalive, AreKeepalives, Carries, IsBeginning, Shown, Waiting, Receiving, Replied, Failed, Died}
+use Rattle.hidlink.specs.Wire.{channel_of, on, IsKeepalive, AreKeepalives, Begun, Carries, IsBeginning, Shown, Waiting, Receiving, Replied, Failed, Died}
 use Rattle.hidlink.specs.Steps.{received, on_channel, step, run, state, IsEnded}
 
 -- a run in two parts
@@ -54,7 +53,7 @@ pub state-ended : (c : ℕ) (qs ps : List Packet) → IsBeginning qs ps → IsEn
 state-ended c qs ps b h = ap (state c) b.1 ∙ state-append c qs b.0 ∙ run-ended (state c qs) h (map fields (on c b.0))
 
 -- keepalives change nothing
-keepalive_stays : (f : Fields) → IsKeepalive f → on_channel Waiting f ≡ Waiting
+pub keepalive_stays : (f : Fields) → IsKeepalive f → on_channel Waiting f ≡ Waiting
 unfolding on_channel
 keepalive_stays (Initial cid cmd len area) h =
     rw (h.0, h.1) (elim h.2 [ inl e ↦ rw e refl | inr e ↦ rw e refl ])
@@ -71,25 +70,22 @@ received-missing len next bytes h = ap (λ b. cond b (Receiving len next bytes) 
 pub received-whole : (len next : ℕ) (bytes : List ℕ) → continuation_count len ≤ next → received len next bytes ≡ Replied (take len bytes)
 received-whole len next bytes h = ap (λ b. cond b (Receiving len next bytes) (Replied (take len bytes))) (le-ltb next (continuation_count len) h)
 
-pub takes_next : (len next c : ℕ) (bytes area : List ℕ) → on_channel (Receiving len next bytes) (Continuation c next area) ≡ received len (next + 1) (bytes ++ area)
-unfolding on_channel
-takes_next len next c bytes area = ap (λ b. cond b (received len (next + 1) (bytes ++ area)) (Died WrongSequence)) (eq-eqb next next refl)
-
 pub run-continuations : (len c next : ℕ) (bytes : List ℕ) (later : List (List ℕ)) → next + length later ≤ continuation_count len
     → run (received len next bytes) (continuations c next later) ≡ received len (next + length later) (bytes ++ joined later)
+unfolding on_channel
 run-continuations len c next bytes [] h =
     ap (λ n. received len n bytes) (sym (add-zero next)) ∙ ap (received len (next + 0)) (sym (append-nil bytes))
 run-continuations len c next bytes (a ∷ areas) h =
     ap (λ s. run s (continuations c next (a ∷ areas))) (received-missing len next bytes (omega arith))
-    ∙ ap (λ s. run s (continuations c (next + 1) areas)) (takes_next len next c bytes a)
+    ∙ ap (λ s. run s (continuations c (next + 1) areas)) (rw (eq-eqb next next refl) refl)
     ∙ run-continuations len c (next + 1) (bytes ++ a) areas (omega arith)
     ∙ ap (λ n. received len n ((bytes ++ a) ++ joined areas)) (omega arith)
     ∙ ap (received len (next + suc (length areas))) (append_assoc bytes a (joined areas))
 
--- the first packet of a message
-pub opens : (cid len : ℕ) (area : List ℕ) → len ≤ 7609 → on_channel Waiting (Initial cid 16 len area) ≡ received len 0 area
+-- an error of one byte
+error_says : (c : ℕ) (area : List ℕ) → on_channel Waiting (Initial c 63 1 area) ≡ Failed (slice_index area 0)
 unfolding on_channel
-opens cid len area h = ap (λ b. cond b (received len 0 area) (Died BadLength)) (le-leb len 7609 h)
+error_says c area = refl
 
 -- a list has a last element, or none
 pub cases_last : {X : Type 0} (xs : List X) → (xs ≡ []) ⊎ ((front : List X) × (last : X) × (xs ≡ front ++ last ∷ []))
@@ -104,80 +100,99 @@ continuations-append c k [] y = ap (λ n. Continuation c n y ∷ []) (sym (add-z
 continuations-append c k (x ∷ xs) y =
     ap (λ fs. Continuation c k x ∷ fs) (continuations-append c (k + 1) xs y ∙ ap (λ n. continuations c (k + 1) xs ++ Continuation c n y ∷ []) (omega arith))
 
+-- ---- a message that has begun
+
+-- keepalives, and then a packet that says f
+run_from : (waits begun : List Packet) (f : Fields) (fs : List Fields) → AreKeepalives waits → map fields begun ≡ f ∷ fs → run Waiting (map fields (waits ++ begun)) ≡ run (on_channel Waiting f) fs
+run_from waits begun f fs k e =
+    ap (run Waiting) (map-append fields waits begun ∙ ap (λ xs. map fields waits ++ xs) e) ∙ run-append Waiting (map fields waits) (f ∷ fs) ∙ ap (λ s. run s (f ∷ fs)) (run-keepalives waits k)
+
+pub run_begun : {c len next : ℕ} {qs : List Packet} {bytes : List ℕ} (b : Begun c qs 16 len next bytes) → len ≤ 7609 → next ≤ continuation_count len → run Waiting (map fields qs) ≡ received len next bytes
+unfolding on_channel
+run_begun {c} {len} {next} b room within =
+    let number : length b.later ≡ next = b.number in
+    ap (λ xs. run Waiting (map fields xs)) b.split ∙ run_from b.waits b.begun (Initial c 16 len b.first) (continuations c 0 b.later) b.keepalives b.packets
+    ∙ ap (λ s. run s (continuations c 0 b.later)) (rw (le-leb len 7609 room) refl)
+    ∙ run-continuations len c 0 b.first b.later (omega arith)
+    ∙ ap (λ k. received len k (b.first ++ joined b.later)) (omega arith) ∙ ap (received len next) (sym b.so_far)
+
+-- a packet before, it has begun too, or isn't there
+before_last : {c cmd len next : ℕ} {qs : List Packet} {bytes : List ℕ} (p : Packet) → Begun c (qs ++ p ∷ []) cmd len next bytes
+    → AreKeepalives qs ⊎ ((k : ℕ) × (less : List ℕ) × Begun c qs cmd len k less × (k + 1 ≡ next))
+before_last {c} {cmd} {len} {next} {qs} p b = elim (cases_last b.begun) [
+  | inl none ↦ let x : [] ≡ Initial c cmd len b.first ∷ continuations c 0 b.later = ap (map fields) (sym none) ∙ b.packets in absurd (cc)
+  | inr q ↦
+      let same : qs ≡ b.waits ++ q.0 = (same_from_push qs (b.waits ++ q.0) p q.1 (b.split ∙ ap (λ xs. b.waits ++ xs) q.2 ∙ sym (append_assoc b.waits q.0 (q.1 ∷ [])))).0 in
+      let said : map fields q.0 ++ fields q.1 ∷ [] ≡ Initial c cmd len b.first ∷ continuations c 0 b.later = sym (map-append fields q.0 (q.1 ∷ [])) ∙ ap (map fields) (sym q.2) ∙ b.packets in
+      elim (cases_last b.later) [
+        | inl none ↦
+            let first : q.0 ≡ [] = no_packets q.0 (same_from_push (map fields q.0) [] (fields q.1) (Initial c cmd len b.first) (said ∙ ap (λ l. Initial c cmd len b.first ∷ continuations c 0 l) none)).0 in
+            inl (rw (same, first, append-nil) b.keepalives)
+        | inr k ↦
+            let size : length b.later ≡ length k.0 + 1 = ap length k.2 ∙ length_push k.0 k.1 in
+            let packets : map fields q.0 ≡ Initial c cmd len b.first ∷ continuations c 0 k.0 =
+            (same_from_push (map fields q.0) (Initial c cmd len b.first ∷ continuations c 0 k.0) (fields q.1) (Continuation c (0 + length k.0) k.1)
+            (said ∙ ap (λ fs. Initial c cmd len b.first ∷ fs) (ap (continuations c 0) k.2 ∙ continuations-append c 0 k.0 k.1))).0 in
+            inr (
+              length k.0,
+              b.first ++ joined k.0,
+              record { waits = b.waits; begun = q.0; first = b.first; later = k.0; split = same; keepalives = b.keepalives; packets = packets; number = refl; so_far = refl },
+              sym size ∙ b.number,
+            )
+      ]
+]
+  where
+    no_packets : (xs : List Packet) → map fields xs ≡ [] → xs ≡ []
+    no_packets [] e = refl
+    no_packets (x ∷ xs) e = absurd (cc)
+
+-- ---- a list that carries a message
+
 -- how a message ends
 abbrev pub ending : ℕ → List ℕ → Shown
 ending cmd m = cond (cmd == 16) (Replied m) (Failed (slice_index m 0))
 
--- an error of one byte
-one_byte : (c : ℕ) (m first : List ℕ) (later : List (List ℕ)) (rest : List ℕ) → length m ≡ 1
-    → length later ≡ continuation_count (length m) → first ++ joined later ≡ m ++ rest
-    → run Waiting (Initial c 63 (length m) first ∷ continuations c 0 later) ≡ Failed (slice_index m 0)
-unfolding on_channel
-one_byte c [] first later rest one count begins = absurd (omega arith)
-one_byte c (b ∷ m) first later rest one count begins =
-    let none : later ≡ [] = nil_from_length later (rw one at count) in
-    let e : first ++ joined [] ≡ (b ∷ m) ++ rest = rw none at begins in
-    rw (one, none) (ap (λ xs. Failed (slice_index xs 0)) (sym (append-nil first) ∙ e))
+begun_whole : {c cmd : ℕ} {ps : List Packet} {m : List ℕ} (h : Carries c ps cmd m) → Begun c (on c ps) cmd (length m) (continuation_count (length m)) (m ++ h.frames.rest)
+begun_whole h = record {
+  waits = h.waits;
+  begun = h.message;
+  first = h.frames.first;
+  later = h.frames.later;
+  split = h.split;
+  keepalives = h.keepalives;
+  packets = h.frames.packets;
+  number = h.frames.count;
+  so_far = sym h.frames.begins;
+}
 
--- a message of which each packet came
-pub run-message : (c cmd : ℕ) (m first : List ℕ) (later : List (List ℕ)) (rest : List ℕ) → length m ≤ 7609
-    → length later ≡ continuation_count (length m) → first ++ joined later ≡ m ++ rest → (cmd ≡ 16) ⊎ ((cmd ≡ 63) × (length m ≡ 1))
-    → run Waiting (Initial c cmd (length m) first ∷ continuations c 0 later) ≡ ending cmd m
-run-message c cmd m first later rest room count begins kind = elim kind [
-  | inl e ↦ rw e (
-      ap (λ s. run s (continuations c 0 later)) (opens c (length m) first room)
-      ∙ run-continuations (length m) c 0 first later (omega arith)
-      ∙ received-whole (length m) (0 + length later) (first ++ joined later) (omega arith)
-      ∙ ap (λ xs. Replied (take (length m) xs)) begins
-      ∙ ap Replied (take_at m rest (length m) refl))
-  | inr h ↦ rw h.0 (one_byte c m first later rest h.1 count begins)
-]
-
--- what the packets on c of a carrying list say
-pub said : (c : ℕ) (ps : List Packet) (cmd : ℕ) (m : List ℕ) (h : Carries c ps cmd m)
-    → map fields (on c ps) ≡ map fields h.waits ++ (Initial c cmd (length m) h.frames.first ∷ continuations c 0 h.frames.later)
-said c ps cmd m h =
-    ap (map fields) h.split ∙ map-append fields h.waits h.message ∙ ap (λ fs. map fields h.waits ++ fs) h.frames.packets
-
--- A list that carries a message ends with it.
+-- it ends with it
 pub state-carries : (c : ℕ) (ps : List Packet) (cmd : ℕ) (m : List ℕ) → Carries c ps cmd m → state c ps ≡ ending cmd m
-state-carries c ps cmd m h =
-    ap (run Waiting) (said c ps cmd m h)
-    ∙ run-append Waiting (map fields h.waits) (Initial c cmd (length m) h.frames.first ∷ continuations c 0 h.frames.later)
-    ∙ ap (λ s. run s (Initial c cmd (length m) h.frames.first ∷ continuations c 0 h.frames.later)) (run-keepalives h.waits h.keepalives)
-    ∙ run-message c cmd m h.frames.first h.frames.later h.frames.rest h.frames.room h.frames.count h.frames.begins h.kind
+state-carries c ps cmd m h = elim h.kind [
+  | inl e ↦ run_begun (subst (λ k. Begun c (on c ps) k (length m) (continuation_count (length m)) (m ++ h.frames.rest)) e (begun_whole h)) h.frames.room (omega arith)
+      ∙ received-whole (length m) (continuation_count (length m)) (m ++ h.frames.rest) (omega arith) ∙ ap Replied (take_at m h.frames.rest (length m) refl) ∙ rw e refl
+  | inr e ↦ ap (λ xs. run Waiting (map fields xs)) h.split ∙ run_from h.waits h.message (Initial c cmd (length m) h.frames.first) (continuations c 0 h.frames.later) h.keepalives h.frames.packets
+      ∙ rw e.0 (one_byte m h.frames.first h.frames.later h.frames.rest e.1 h.frames.count h.frames.begins)
+]
+  where
+    one_byte : (m first : List ℕ) (later : List (List ℕ)) (rest : List ℕ) → length m ≡ 1 → length later ≡ continuation_count (length m) → first ++ joined later ≡ m ++ rest
+        → run (on_channel Waiting (Initial c 63 (length m) first)) (continuations c 0 later) ≡ Failed (slice_index m 0)
+    one_byte [] first later rest one count begins = absurd (omega arith)
+    one_byte (b ∷ m) first later rest one count begins =
+        let none : later ≡ [] = nil_from_length later (rw one at count) in
+        let e : first ++ joined [] ≡ (b ∷ m) ++ rest = rw none at begins in
+        rw (one, none) (error_says c first ∙ ap (λ xs. Failed (slice_index xs 0)) (sym (append-nil first) ∙ e))
 
--- before its last packet the list isn't at an end
+-- before its last packet it isn't at an end
 pub pending_before : (c : ℕ) (ps : List Packet) (p : Packet) (cmd : ℕ) (m : List ℕ) → Carries c (ps ++ p ∷ []) cmd m → IsEnded (state c ps) → ⊥
 pending_before c ps p cmd m h ended =
-    let here : p ≡ h.last = (same_from_push ps h.before p h.last h.ends).1 in
-    let on_c : channel_of (fields p) ≡ c = ap (λ q. channel_of (fields q)) here ∙ h.last_on in
-    let all : map fields (on c ps) ++ fields p ∷ [] ≡ map fields h.waits ++ (Initial c cmd (length m) h.frames.first ∷ continuations c 0 h.frames.later) =
-    sym (ap (map fields) (on-push c ps p on_c) ∙ map-append fields (on c ps) (p ∷ [])) ∙ said c (ps ++ p ∷ []) cmd m h in
-    elim (cases_last h.frames.later) [
-      | inl none ↦ let P : Shown → Type 0 = IsEnded in
-          subst P (ap (run Waiting) (same_from_push (map fields (on c ps)) (map fields h.waits) (fields p) (Initial c cmd (length m) h.frames.first)
-          (all ∙ ap (λ ks. map fields h.waits ++ (Initial c cmd (length m) h.frames.first ∷ continuations c 0 ks)) none)).0
-          ∙ run-keepalives h.waits h.keepalives) ended
-      | inr more ↦ elim h.kind [
-        | inl e ↦ let P : Shown → Type 0 = IsEnded in
-            let front : map fields (on c ps) ≡ map fields h.waits ++ (Initial c 16 (length m) h.frames.first ∷ continuations c 0 more.0) =
-            (same_from_push (map fields (on c ps)) (map fields h.waits ++ (Initial c 16 (length m) h.frames.first ∷ continuations c 0 more.0)) (fields p)
-            (Continuation c (0 + length more.0) more.1)
-            (all ∙ ap (λ n. map fields h.waits ++ (Initial c n (length m) h.frames.first ∷ continuations c 0 h.frames.later)) e
-            ∙ ap (λ ks. map fields h.waits ++ (Initial c 16 (length m) h.frames.first ∷ continuations c 0 ks)) more.2
-            ∙ ap (λ ks. map fields h.waits ++ (Initial c 16 (length m) h.frames.first ∷ ks)) (continuations-append c 0 more.0 more.1)
-            ∙ sym (append_assoc (map fields h.waits) (Initial c 16 (length m) h.frames.first ∷ continuations c 0 more.0) (Continuation c (0 + length more.0) more.1 ∷ [])))).0 in
-            let size : length h.frames.later ≡ length more.0 + 1 = ap length more.2 ∙ length_push more.0 more.1 in
-            let total : length h.frames.later ≡ continuation_count (length m) = h.frames.count in
-            subst P (ap (run Waiting) front
-            ∙ run-append Waiting (map fields h.waits) (Initial c 16 (length m) h.frames.first ∷ continuations c 0 more.0)
-            ∙ ap (λ s. run s (Initial c 16 (length m) h.frames.first ∷ continuations c 0 more.0)) (run-keepalives h.waits h.keepalives)
-            ∙ ap (λ s. run s (continuations c 0 more.0)) (opens c (length m) h.frames.first h.frames.room)
-            ∙ run-continuations (length m) c 0 h.frames.first more.0 (omega arith)
-            ∙ received-missing (length m) (0 + length more.0) (h.frames.first ++ joined more.0) (omega arith)) ended
-        | inr e ↦ let size : length h.frames.later ≡ length more.0 + 1 = ap length more.2 ∙ length_push more.0 more.1 in
-            let total : length h.frames.later ≡ continuation_count (length m) = h.frames.count in
-            let one : length m ≡ 1 = e.1 in omega arith
+    let P : Shown → Type 0 = IsEnded in
+    let on_c : channel_of (fields p) ≡ c = ap (λ q. channel_of (fields q)) (same_from_push ps h.before p h.last h.ends).1 ∙ h.last_on in
+    let b : Begun c (on c ps ++ p ∷ []) cmd (length m) (continuation_count (length m)) (m ++ h.frames.rest) =
+    subst (λ qs. Begun c qs cmd (length m) (continuation_count (length m)) (m ++ h.frames.rest)) (on-push c ps p on_c) (begun_whole h) in
+    elim (before_last p b) [
+      | inl waits ↦ subst P (run-keepalives (on c ps) waits) ended
+      | inr o ↦ let less : o.0 + 1 ≡ continuation_count (length m) = o.3 in elim h.kind [
+        | inl e ↦ subst P (run_begun (subst (λ k. Begun c (on c ps) k (length m) o.0 o.1) e o.2) h.frames.room (omega arith) ∙ received-missing (length m) o.0 o.1 (omega arith)) ended
+        | inr e ↦ let one : length m ≡ 1 = e.1 in omega arith
       ]
     ]

@@ -6,8 +6,7 @@ use Rattle.hidlink.specs.History.{Call}
 use Rattle.hidlink.specs.Machine.{Effect, effect}
 use Rattle.hidlink.specs.History.{Closed, alone, pinged, broken, ended, NoneShorter, AreClosed, Reads, Leaves, Doing, channels, channels_after}
 use Rattle.hidlink.proofs.Runs.{cases_last}
-use Rattle.hidlink.proofs.Moves.{goes, Goes, complete_calls}
-use Rattle.hidlink.proofs.Plain.{open_not_closed, run, run-doing}
+use Rattle.hidlink.proofs.Moves.{Goes, goes, open_not_closed, run, run-doing, some_calls}
 use Rattle.hidlink.proofs.Readings.{one_reading}
 
 push_some : (xs : List Call) (x : Call) → xs ++ x ∷ [] ≢ []
@@ -17,7 +16,7 @@ push_some xs x e = let size : length (xs ++ x ∷ []) ≡ 0 = ap length e in
 -- no calls are no part
 closed_some : (n : ℕ) (calls : List Call) → Closed n calls → calls ≢ []
 closed_some n _ (alone call h) = push_some [] call
-closed_some n _ (pinged calls c payload d) = complete_calls n calls c 1 payload d
+closed_some n _ (pinged calls c payload d) = some_calls d.transaction
 closed_some n _ (broken before call c cmd len next bytes d b) = push_some before call
 closed_some n _ (ended before call c payload d b) = push_some before call
 

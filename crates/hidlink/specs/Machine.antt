@@ -1,10 +1,9 @@
 -- The plain program of the device: what a call does to the channels and the state. The crate's private
 -- functions are proved against it; no public clause cites it. What it means is in History.antt.
-use Rattle.std.specs.Prelude.{◌≡◌, ◌<◌, ◌≤◌, ◌*◌, ℕ, Bool, ◌+◌, ◌==◌, nat_lt, List, [], ◌++◌, length, map, take, unwrap_or, if◌then◌else◌}
-use Rattle.first_line.specs.Lines.{first_true}
+use Rattle.std.specs.Prelude.{◌≡◌, ◌<◌, ◌≤◌, ◌*◌, ℕ, ◌+◌, ◌==◌, nat_lt, List, ◌++◌, length, take, if◌then◌else◌}
 use Rattle.hidframe.specs.Packets.{Fields, Initial, Continuation, fields}
 use Rattle.hidframe.specs.Frames.{continuation_count}
-use Rattle.hidlink.specs.Ranks.{State, Idle, Receiving, Working, is_busy, is_receiving_on, is_working_on, Response, DeviceState, choices, packets_of}
+use Rattle.hidlink.specs.Ranks.{State, Idle, Receiving, Working, IsWorking, Response, DeviceState, chosen, packets_of}
 use Rattle.hidlink.specs.declared.arbitration.Arbitration.{Arbitration}
 use Rattle.hidlink.specs.declared.arbitration.Arbitration.TheVariants.{Refused, NewChannel, ChannelAnew, Interrupted, Cancelled, Ignored, Begins}
 use Rattle.hidlink.specs.declared.transaction.Step.{Step}
@@ -35,13 +34,9 @@ chosen_effect n s c cmd len area Cancelled = to n s
 chosen_effect n s c cmd len area Ignored = to n s
 chosen_effect n s c cmd len area Begins = came n c cmd len 0 area
 
--- the table of a device in this state, with what the choices do
-abbrev pub table : ℕ → State → ℕ → ℕ → ℕ → List (Bool × Effect)
-table n s c cmd len = map (λ line. (line.0, chosen_effect n s c cmd len [] line.1)) (choices n (is_busy s) (is_receiving_on s c) (is_working_on s c) c cmd len)
-
 -- what a packet does that says this
 abbrev pub packet_effect : ℕ → State → Fields → Effect
-packet_effect n s (Initial c cmd len area) = unwrap_or (first_true (table n s c cmd len)) (came n c cmd len 0 area)
+packet_effect n s (Initial c cmd len area) = chosen_effect n s c cmd len area (chosen n s c cmd len)
 packet_effect n Idle (Continuation c seq area) = to n Idle
 packet_effect n (Working cid payload) (Continuation c seq area) = to n (Working cid payload)
 packet_effect n (Receiving cid cmd len next bytes) (Continuation c seq area) =
@@ -65,7 +60,7 @@ MayChoose n s cmd len (Refused code) = Unit {0}
 MayChoose n s cmd len NewChannel = n < 65535
 MayChoose n s cmd len ChannelAnew = Unit {0}
 MayChoose n s cmd len Interrupted = Unit {0}
-MayChoose n s cmd len Cancelled = Unit {0}
+MayChoose n s cmd len Cancelled = IsWorking s
 MayChoose n s cmd len Ignored = Unit {0}
 MayChoose n s cmd len Begins = (len ≤ 7609) × (s ≡ Idle)
 

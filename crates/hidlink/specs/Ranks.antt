@@ -1,4 +1,4 @@
-use Rattle.std.specs.Prelude.{ℕ, Bool, true, false, ◌+◌, ◌==◌, ◌&&◌, ◌||◌, not, nat_lt, List, [], ◌∷◌, ◌++◌, map, take, Option, Some, None, unwrap_or, if◌then◌else◌}
+use Rattle.std.specs.Prelude.{ℕ, Bool, true, false, ◌+◌, ◌==◌, ◌&&◌, ◌||◌, not, nat_lt, List, [], ◌∷◌, ◌++◌, take, Option, Some, None, unwrap_or, if◌then◌else◌}
 use Rattle.std.specs.List.{position_or_len}
 use Rattle.std.specs.Int.{w32, to_be_bytes}
 use Rattle.first_line.specs.Lines.{first_true}
@@ -114,19 +114,21 @@ chosen_response n s c cmd len area choice.Cancelled = tells Cancelled
 chosen_response n s c cmd len area choice.Ignored = tells Quiet
 chosen_response n s c cmd len area choice.Begins = on_receipt c cmd len 0 area
 
--- the table of a device in this state, with the responses
-abbrev pub lines : ℕ → State → ℕ → ℕ → ℕ → List ℕ → List (Bool × Response)
-lines n s c cmd len area =
-    map (λ line. (line.0, chosen_response n s c cmd len area line.1)) (choices n (is_busy s) (is_receiving_on s c) (is_working_on s c) c cmd len)
+-- the table of a device in this state
+abbrev pub lines : ℕ → State → ℕ → ℕ → ℕ → List (Bool × Arbitration)
+lines n s c cmd len = choices n (is_busy s) (is_receiving_on s c) (is_working_on s c) c cmd len
+
+-- what is chosen for an initial packet: by the first line that applies; where none does, the message begins
+abbrev pub chosen : ℕ → State → ℕ → ℕ → ℕ → Arbitration
+chosen n s c cmd len = unwrap_or (first_true (lines n s c cmd len)) choice.Begins
 
 -- the rank of an initial packet: the number of the first line that applies, and 15 where none does
 abbrev pub rank : ℕ → State → ℕ → ℕ → ℕ → ℕ
-rank n s c cmd len = position_or_len (λ line. line.0) (lines n s c cmd len []) + 1
+rank n s c cmd len = position_or_len (λ line. line.0) (lines n s c cmd len) + 1
 
--- the response to a packet that says this: of an initial packet that of the first line that applies
+-- the response to a packet that says this
 abbrev pub response : ℕ → State → Fields → Response
-response n s (Initial c cmd len area) =
-    unwrap_or (first_true (lines n s c cmd len area)) (on_receipt c cmd len 0 area)
+response n s (Initial c cmd len area) = chosen_response n s c cmd len area (chosen n s c cmd len)
 response n Idle (Continuation c seq area) = tells Quiet
 response n (Working cid payload) (Continuation c seq area) = tells Quiet
 response n (Receiving cid cmd len next bytes) (Continuation c seq area) =

@@ -59,6 +59,7 @@ fn response(nonce: &[u8; 8], packet: &Packet) -> Option<u32>
 }
 
 /// The channel after one more packet.
+#[tactic(auto, using(crate::proofs::Hearing::heard_more, crate::proofs::Hearing::heard_now))]
 fn channel_after(channel: Option<u32>, nonce: &[u8; 8], packet: &Packet) -> Option<u32>
     ensures { (ps : List Packet) → Heard nonce.now ps channel → Heard nonce.now (ps ++ packet.now ∷ []) result }
 {
@@ -98,6 +99,7 @@ impl Opener {
     }
 
     /// The packet to send: an INIT of the nonce on the broadcast channel.
+    #[tactic(auto, using(crate::proofs::Hearing::first_packet_is, crate::proofs::Hearing::one_packet))]
     pub fn request(&self) -> Packet
         ensures { frame_list CTAPHID_BROADCAST_CID CTAPHID_INIT self.now.nonce ≡ result ∷ [] }
     {

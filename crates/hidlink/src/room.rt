@@ -87,6 +87,7 @@ impl Model for Outbox {
 }
 
 impl Outbox {
+    #[tactic(auto, using(crate::proofs::Left::nothing_left))]
     pub fn new(alloc: Global) -> Result<Self, AllocError>
         ensures { IfOk result (λ o. o ≡ []) }
     {
@@ -123,6 +124,7 @@ impl Outbox {
         self.next = 0;
     }
 
+    #[tactic(auto, using(crate::proofs::Left::few_left, crate::proofs::Left::nothing_left, crate::proofs::Left::takes_one))]
     pub fn next(&mut self) -> Option<Packet>
         ensures most { length self.old ≤ 129 }
         ensures gives { MatchOption result ((self.old ≡ []) × (self.new ≡ [])) (λ p. self.old ≡ p ∷ self.new) }
@@ -135,6 +137,7 @@ impl Outbox {
         packet
     }
 
+    #[tactic(auto, using(crate::proofs::Left::few_left, crate::proofs::Left::nothing_left, crate::proofs::Left::none_left))]
     pub fn is_drained(&self) -> bool
         ensures drained { IsTrue result ↔ (self.now ≡ []) }
         ensures most { length self.now ≤ 129 }

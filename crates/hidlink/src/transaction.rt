@@ -99,6 +99,7 @@ fn advance(
     ensures fits { PhaseFits result.0 inbox.new }
     ensures left { outbox.new ≡ packets_of (on_receipt cid cmd len next (inbox.old ++ bytes.now)).sent }
     ensures step { result.1 ≡ (on_receipt cid cmd len next (inbox.old ++ bytes.now)).step }
+    ensures uncancelled { result.1 ≡ step.Cancelled → ⊥ }
 {
     inbox.append(len, bytes);
     if usize::from(next) + 1 < packet_count(usize::from(len)) {
@@ -177,6 +178,7 @@ impl Device {
 
     /// A device with no channel handed out, that does nothing and has nothing to send. Makes room for
     /// 7,609 bytes each way; refused only where memory for it is wanting.
+    #[tactic(auto, using(crate::proofs::Steps::leaves_none))]
     pub fn new(alloc: Global) -> Result<Self, AllocError>
         ensures new { IfOk result (λ d. d ≡ record { channels = 0; state = Idle; left = [] }) }
         ensures history { IfOk result (λ d. Leaves [] d.channels d.state) }
@@ -263,8 +265,9 @@ impl Device {
     fn initial(&mut self, cid: u32, cmd: u8, len: u16, bytes: &[u8]) -> Step
         requires drained { self.old.left ≡ [] }
         requires bytes { length bytes.now ≡ 57 }
-        ensures { Does self.new result (packet_effect self.old.channels self.old.state (Initial cid cmd len bytes.now))
+        ensures does { Does self.new result (packet_effect self.old.channels self.old.state (Initial cid cmd len bytes.now))
             (response self.old.channels self.old.state (Initial cid cmd len bytes.now)) }
+        ensures cancelled { result ≡ step.Cancelled → IsWorking self.old.state × (self.new ≡ self.old) }
     {
         let receiving = self.is_receiving_on(cid);
         let working = self.is_working_on(cid);
@@ -285,8 +288,9 @@ impl Device {
         requires drained { self.old.left ≡ [] }
         requires bytes { length bytes.now ≡ 57 }
         requires may { MayChoose self.old.channels self.old.state cmd len choice }
-        ensures { Does self.new result (chosen_effect self.old.channels self.old.state cid cmd len bytes.now choice)
+        ensures does { Does self.new result (chosen_effect self.old.channels self.old.state cid cmd len bytes.now choice)
             (chosen_response self.old.channels self.old.state cid cmd len bytes.now choice) }
+        ensures cancelled { result ≡ step.Cancelled → IsWorking self.old.state × (self.new ≡ self.old) }
     {
         match choice {
             Arbitration::Refused(code) => {
@@ -332,8 +336,9 @@ impl Device {
     fn continuation(&mut self, cid: u32, seq: u8, bytes: &[u8]) -> Step
         requires drained { self.old.left ≡ [] }
         requires bytes { length bytes.now ≡ 59 }
-        ensures { Does self.new result (packet_effect self.old.channels self.old.state (Continuation cid seq bytes.now))
+        ensures does { Does self.new result (packet_effect self.old.channels self.old.state (Continuation cid seq bytes.now))
             (response self.old.channels self.old.state (Continuation cid seq bytes.now)) }
+        ensures cancelled { result ≡ step.Cancelled → IsWorking self.old.state × (self.new ≡ self.old) }
     {
         match self.phase {
             Phase::Receiving {
@@ -412,6 +417,7 @@ impl Device {
     /// Answers the request that it works on: a CBOR message on its channel is to be sent, and the
     /// device is idle. Refused, in this order: [`Refusal::NotWorking`]; [`Refusal::TooLong`], more than
     /// 7,609 bytes. A refusal changes nothing. The caller sees to it that nothing is left to send.
+    #[tactic(auto, using(crate::proofs::Calls::leaves_to))]
     pub fn answer(&mut self, payload: &[u8]) -> Result<(), Refusal>
         requires { self.old.left ≡ [] }
         ensures sent { OnOk result (self.new.left ≡ packets_of (on_working self.old.state CTAPHID_CBOR payload.now)) }
@@ -422,7 +428,7 @@ impl Device {
         ensures history { (h : List Call) → Leaves h self.old.channels self.old.state
             → Leaves (h ++ Answered payload.now ∷ []) self.new.channels self.new.state }
     {
-        let Phase::Working { cid } = self.phase else {
+        let Some(cid) = self.working() else {
             return Err(Refusal::NotWorking);
         };
         if payload.len() > MAX_PAYLOAD_SIZE {
@@ -436,6 +442,7 @@ impl Device {
     /// Says that it still works: a KEEPALIVE on its channel is to be sent. Refused:
     /// [`Refusal::NotWorking`], which changes nothing. The caller sees to it that the status is 1
     /// (processing) or 2 (user presence needed) and nothing is left to send.
+    #[tactic(auto, using(crate::proofs::Calls::leaves_to))]
     pub fn keepalive(&mut self, status: u8) -> Result<(), Refusal>
         requires status { status ≡ STATUS_PROCESSING ⊎ status ≡ STATUS_UPNEEDED }
         requires drained { self.old.left ≡ [] }
@@ -447,7 +454,7 @@ impl Device {
         ensures history { (h : List Call) → Leaves h self.old.channels self.old.state
             → Leaves (h ++ Kept status ∷ []) self.new.channels self.new.state }
     {
-        let Phase::Working { cid } = self.phase else {
+        let Some(cid) = self.working() else {
             return Err(Refusal::NotWorking);
         };
         self.outbox.send(cid, CTAPHID_KEEPALIVE, &[status]);
@@ -457,6 +464,7 @@ impl Device {
     /// Ends a message that took too long: true exactly if one was coming in, whose channel is sent an
     /// ERROR; the device is idle then. Otherwise nothing changes. The caller sees to it that nothing is
     /// left to send.
+    #[tactic(auto, using(crate::proofs::Calls::leaves_to))]
     pub fn expire(&mut self) -> bool
         requires { self.old.left ≡ [] }
         ensures expired { IsTrue result ↔ IsReceiving self.old.state }
@@ -466,16 +474,20 @@ impl Device {
         ensures history { (h : List Call) → Leaves h self.old.channels self.old.state
             → Leaves (h ++ Expired ∷ []) self.new.channels self.new.state }
     {
-        let Phase::Receiving { cid, .. } = self.phase else {
-            return false;
-        };
-        self.phase = Phase::Idle;
-        self.error(cid, ERR_MSG_TIMEOUT);
-        true
+        match self.phase {
+            Phase::Receiving { cid, .. } => {
+                self.phase = Phase::Idle;
+                self.error(cid, ERR_MSG_TIMEOUT);
+                true
+            }
+            Phase::Idle => false,
+            Phase::Working { .. } => false,
+        }
     }
 }
 
 /// The law of a packet's step: of what a device did before and after a packet one step tells.
+#[tactic(auto, using(crate::proofs::Telling::one_step))]
 pub fn one_step()
     ensures { (s t : State) (f : Fields) (x y : Step) → Tells s f t x → Tells s f t y → x ≡ y }
 {}

@@ -8,7 +8,7 @@ returns-then-ended c = (
   (refl, λ _. tt, got_taken c.args.self.now c.take.new.self c.args.packet.now c.take.ensures.whole c.take.ensures.shown),
   record {
     after = tt;
-    answer = λ ps g. answers-err c.args.self.now.cid ps c.args.packet.now c.args.self.now.shown _ c.take.ensures.whole
+    answer = λ ps g. answers-err c.args.self.now.cid ps c.args.packet.now c.args.self.now.shown _
         (c.is_ended-ended.ensures.0 c.if-ended.true) g;
   },
 )
