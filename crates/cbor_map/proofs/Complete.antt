@@ -19,46 +19,12 @@ use Rattle.cbor_map.proofs.Rebuilt.{in_order, in_order_is}
 abbrev pub IsComplete : Holds → Type 0
 IsComplete h = (x : Item) (d : ℕ) → Fits d x → Clean h x → (c : Content h) × (read_in h x ≡ Some c)
 
--- ---- values that are no records
-
-complete_number : IsComplete a_number
-complete_number (of.uint n) d fits clean = (pos n, refl)
-complete_number (of.nint n) d fits clean = (negsuc n, refl)
-complete_number _ d fits clean = let e = clean faults.AnotherKind in absurd cc
-
-complete_bytes : IsComplete some_bytes
-complete_bytes (of.bytes bs) d fits clean = (bs, refl)
-complete_bytes _ d fits clean = let e = clean faults.AnotherKind in absurd cc
-
-complete_text : IsComplete a_text
-complete_text (of.text s) d fits clean = (s, refl)
-complete_text _ d fits clean = let e = clean faults.AnotherKind in absurd cc
-
-complete_truth : IsComplete a_truth
-complete_truth (of.boolean b) d fits clean = (b, refl)
-complete_truth _ d fits clean = let e = clean faults.AnotherKind in absurd cc
-
-complete_map : IsComplete any_map
-complete_map (of.map ps) d fits clean = (of.map ps, refl)
-complete_map _ d fits clean = let e = clean faults.AnotherKind in absurd cc
-
-complete_that : (t : List ℕ) → IsComplete (that_text t)
-complete_that t x d fits clean = (tt, rw (holds faults.AnotherKind (is_same_key x (of.text t)) (clean faults.AnotherKind)) refl)
-
-complete_unsigned : (low : ℕ) → IsComplete (unsigned low)
-complete_unsigned low (of.uint n) d fits clean = (n, rw (holds faults.AnotherKind (nat_le low n) (clean faults.AnotherKind)) refl)
-complete_unsigned low _ d fits clean = let e = clean faults.AnotherKind in absurd cc
+-- ---- lists and truth values
 
 truths_there : (ps : Pairs) → all_truths ps ≡ true → (c : List (List ℕ × Bool)) × (each_truth ps ≡ Some c)
 truths_there no_pairs e = ([], refl)
 truths_there (pair (of.text k) (of.boolean b) ps) e = let rest = truths_there ps e in ((k, b) ∷ rest.0, rw rest.1 refl)
 truths_there (pair _ _ ps) e = absurd cc
-
-complete_truths : IsComplete truths
-complete_truths (of.map ps) d fits clean = truths_there ps (holds faults.AnotherKind (all_truths ps) (clean faults.AnotherKind))
-complete_truths _ d fits clean = let e = clean faults.AnotherKind in absurd cc
-
--- ---- lists
 
 each_complete : (h : Holds) → IsComplete h → (xs : Items) (d : ℕ) → ItemsFit d xs → ((f : Fault) → any_item (has_fault f h) xs ≡ false) → (cs : List (Content h)) × (each_in (read_in h) xs ≡ Some cs)
 each_complete h complete no_items d fits clean = ([], refl)
@@ -67,19 +33,11 @@ each_complete h complete (item x xs) d fits clean =
     let rest = each_complete h complete xs d fits.1 (λ f. (or_none (has_fault f h x) (any_item (has_fault f h) xs) (clean f)).1) in
     (first.0 ∷ rest.0, rw (first.1, rest.1) refl)
 
-complete_list : (h : Holds) → IsComplete h → IsComplete (list_of h)
-complete_list h complete (of.array xs) zero fits clean = absurd fits.1
-complete_list h complete (of.array xs) (suc d) fits clean = each_complete h complete xs d fits.1 clean
-complete_list h complete _ d fits clean = let e = clean faults.AnotherKind in absurd cc
-
 -- ---- records
 
 -- the members that are there are read in the table's order
 abbrev pub AreComplete : Members → Type 0
 AreComplete ms = (ps : Pairs) (d : ℕ) → ((k v : Item) → value_at k ps ≡ Some v → Fits d v) → ((f : Fault) → in_members f ms (of.map ps) ≡ false) → (c : Contents ms) × (members_in ms (in_order ms ps) ≡ Some c)
-
-complete_end : AreComplete no_more
-complete_end ps d fits clean = (tt, refl)
 
 -- a key before all of a table's is at the front of no map of its members
 no_front : (k : Item) (ms : Members) (ps : Pairs) (last : List ℕ) → ((x : List ℕ) → before last x ≡ true → before (spelling k) x ≡ true) → IsOrderedFrom last ms → split_key k (in_order ms ps) ≡ None
@@ -130,15 +88,6 @@ held_fits k d last (pair l w ps) v fits e =
       | false ↦ λ s. held_fits k d (spelling l) ps v fits.4 s
     ] e
 
-complete_record : (ms : Members) → IsOrderedFrom [] ms → AreComplete ms → IsComplete (record_of ms)
-complete_record ms ordered complete (of.map ps) zero fits clean = absurd fits.1
-complete_record ms ordered complete (of.map ps) (suc d) fits clean =
-    let parts = λ (f : Fault). or_none (fails f faults.UnlistedKey (all_keys (is_listed ms) ps)) (in_members f ms (of.map ps)) (clean f) in
-    let keys = holds faults.UnlistedKey (all_keys (is_listed ms) ps) (parts faults.UnlistedKey).0 in
-    let read = complete ps d (λ k v e. held_fits k d [] ps v fits.1 e) (λ f. (parts f).1) in
-    (read.0, ap (members_in ms) (sym (in_order_is ms d [] ps ordered fits.1 keys)) ∙ read.1)
-complete_record ms ordered complete _ d fits clean = let e = clean faults.AnotherKind in absurd cc
-
 tested : {A : Type 0} (b : Bool) (o : Option A) (c : A) → b ≡ true → o ≡ Some c → (checked b >>= λ u. o) ≡ Some c
 tested true o c e read = read
 tested false o c e read = absurd cc
@@ -147,26 +96,42 @@ tested false o c e read = absurd cc
 
 mutual
   pub complete : (h : Holds) → IsOrdered h → IsComplete h
-  complete a_number o = complete_number
-  complete some_bytes o = complete_bytes
-  complete a_text o = complete_text
-  complete a_truth o = complete_truth
-  complete any_map o = complete_map
-  complete (that_text t) o = complete_that t
-  complete (unsigned low) o = complete_unsigned low
-  complete truths o = complete_truths
-  complete (list_of h) o = complete_list h (complete h o)
-  complete (record_of ms) o = complete_record ms o (complete_members ms [] o)
-  complete (not_empty here h) o = λ x d fits clean.
+  complete a_number o (of.uint n) d fits clean = (pos n, refl)
+  complete a_number o (of.nint n) d fits clean = (negsuc n, refl)
+  complete a_number o _ d fits clean = let e = clean faults.AnotherKind in absurd cc
+  complete some_bytes o (of.bytes bs) d fits clean = (bs, refl)
+  complete some_bytes o _ d fits clean = let e = clean faults.AnotherKind in absurd cc
+  complete a_text o (of.text s) d fits clean = (s, refl)
+  complete a_text o _ d fits clean = let e = clean faults.AnotherKind in absurd cc
+  complete a_truth o (of.boolean b) d fits clean = (b, refl)
+  complete a_truth o _ d fits clean = let e = clean faults.AnotherKind in absurd cc
+  complete any_map o (of.map ps) d fits clean = (of.map ps, refl)
+  complete any_map o _ d fits clean = let e = clean faults.AnotherKind in absurd cc
+  complete (that_text t) o x d fits clean = (tt, rw (holds faults.AnotherKind (is_same_key x (of.text t)) (clean faults.AnotherKind)) refl)
+  complete (unsigned low) o (of.uint n) d fits clean = (n, rw (holds faults.AnotherKind (nat_le low n) (clean faults.AnotherKind)) refl)
+  complete (unsigned low) o _ d fits clean = let e = clean faults.AnotherKind in absurd cc
+  complete truths o (of.map ps) d fits clean = truths_there ps (holds faults.AnotherKind (all_truths ps) (clean faults.AnotherKind))
+  complete truths o _ d fits clean = let e = clean faults.AnotherKind in absurd cc
+  complete (list_of h) o (of.array xs) zero fits clean = absurd fits.1
+  complete (list_of h) o (of.array xs) (suc d) fits clean = each_complete h (complete h o) xs d fits.1 clean
+  complete (list_of h) o _ d fits clean = let e = clean faults.AnotherKind in absurd cc
+  complete (record_of ms) o (of.map ps) zero fits clean = absurd fits.1
+  complete (record_of ms) o (of.map ps) (suc d) fits clean =
+      let parts = λ (f : Fault). or_none (fails f faults.UnlistedKey (all_keys (is_listed ms) ps)) (in_members f ms (of.map ps)) (clean f) in
+      let keys = holds faults.UnlistedKey (all_keys (is_listed ms) ps) (parts faults.UnlistedKey).0 in
+      let read = complete_members ms [] o ps d (λ k v e. held_fits k d [] ps v fits.1 e) (λ f. (parts f).1) in
+      (read.0, ap (members_in ms) (sym (in_order_is ms d [] ps o fits.1 keys)) ∙ read.1)
+  complete (record_of ms) o _ d fits clean = let e = clean faults.AnotherKind in absurd cc
+  complete (not_empty here h) o x d fits clean =
       let parts = λ (f : Fault). or_none (has_fault f h x) (fails f here (nat_lt 0 (size_of x))) (clean f) in
       let inner = complete h o x d fits (λ f. (parts f).0) in
       (inner.0, tested (nat_lt 0 (size_of x)) (read_in h x) inner.0 (holds here (nat_lt 0 (size_of x)) (parts here).1) inner.1)
-  complete (sized low high here h) o = λ x d fits clean.
+  complete (sized low high here h) o x d fits clean =
       let parts = λ (f : Fault). or_none (has_fault f h x) (fails f here (is_within low high x)) (clean f) in
       let inner = complete h o x d fits (λ f. (parts f).0) in
       (inner.0, tested (is_within low high x) (read_in h x) inner.0 (holds here (is_within low high x) (parts here).1) inner.1)
 
   complete_members : (ms : Members) (last : List ℕ) → IsOrderedFrom last ms → AreComplete ms
-  complete_members no_more last o = complete_end
-  complete_members (listed k true h ms) last o = complete_required k h ms (complete h o.1) (complete_members ms (spelling k) o.2)
-  complete_members (listed k false h ms) last o = complete_optional k h ms o.2 (complete h o.1) (complete_members ms (spelling k) o.2)
+  complete_members no_more last o ps d fits clean = (tt, refl)
+  complete_members (listed k true h ms) last o ps d fits clean = complete_required k h ms (complete h o.1) (complete_members ms (spelling k) o.2) ps d fits clean
+  complete_members (listed k false h ms) last o ps d fits clean = complete_optional k h ms o.2 (complete h o.1) (complete_members ms (spelling k) o.2) ps d fits clean

@@ -14,12 +14,6 @@ HasOne h = (c d : Content h) → item_of h c ≡ item_of h d → c ≡ d
 abbrev pub HaveOne : Members → Type 0
 HaveOne ms = (c d : Contents ms) → members_item ms c ≡ members_item ms d → c ≡ d
 
-one_number : HasOne a_number
-one_number (pos n) (pos m) e = cc
-one_number (negsuc n) (negsuc m) e = cc
-one_number (pos n) (negsuc m) e = absurd cc
-one_number (negsuc n) (pos m) e = absurd cc
-
 one_list_of_truths : (c d : List (List ℕ × Bool)) → pairs_of (map truth_pair c) ≡ pairs_of (map truth_pair d) → c ≡ d
 one_list_of_truths [] [] e = refl
 one_list_of_truths [] (q ∷ d) e = absurd cc
@@ -67,18 +61,21 @@ one_optional k h ms ordered one others (Some a, c) (None, d) e = absurd (before_
 
 mutual
   pub one_content : (h : Holds) → IsOrdered h → HasOne h
-  one_content a_number o = one_number
-  one_content some_bytes o = λ c d e. cc
-  one_content a_text o = λ c d e. cc
-  one_content a_truth o = λ c d e. cc
-  one_content any_map o = λ c d e. e
-  one_content (that_text t) o = λ c d e. refl
-  one_content (unsigned low) o = λ c d e. cc
-  one_content truths o = λ c d e. let inner : pairs_of (map truth_pair c) ≡ pairs_of (map truth_pair d) = cc in one_list_of_truths c d inner
-  one_content (list_of h) o = λ c d e. let inner : items_of (map (item_of h) c) ≡ items_of (map (item_of h) d) = cc in one_each h (one_content h o) c d inner
-  one_content (record_of ms) o = λ c d e. let inner : members_item ms c ≡ members_item ms d = cc in one_members ms [] o c d inner
-  one_content (not_empty here h) o = one_content h o
-  one_content (sized low high here h) o = one_content h o
+  one_content a_number o (pos n) (pos m) e = cc
+  one_content a_number o (negsuc n) (negsuc m) e = cc
+  one_content a_number o (pos n) (negsuc m) e = absurd cc
+  one_content a_number o (negsuc n) (pos m) e = absurd cc
+  one_content some_bytes o c d e = cc
+  one_content a_text o c d e = cc
+  one_content a_truth o c d e = cc
+  one_content any_map o c d e = e
+  one_content (that_text t) o c d e = refl
+  one_content (unsigned low) o c d e = cc
+  one_content truths o c d e = let inner : pairs_of (map truth_pair c) ≡ pairs_of (map truth_pair d) = cc in one_list_of_truths c d inner
+  one_content (list_of h) o c d e = let inner : items_of (map (item_of h) c) ≡ items_of (map (item_of h) d) = cc in one_each h (one_content h o) c d inner
+  one_content (record_of ms) o c d e = let inner : members_item ms c ≡ members_item ms d = cc in one_members ms [] o c d inner
+  one_content (not_empty here h) o c d e = one_content h o c d e
+  one_content (sized low high here h) o c d e = one_content h o c d e
 
   one_members : (ms : Members) (last : List ℕ) → IsOrderedFrom last ms → HaveOne ms
   one_members no_more last o = λ c d e. refl

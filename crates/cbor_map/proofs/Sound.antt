@@ -1,5 +1,5 @@
 -- What is read by a table is the content of the value, and the value has no fault.
-use Rattle.std.proofs.Common.{◌≡◌, ℕ, Bool, true, false, List, [], ◌∷◌, map, Option, Some, None, refl, sym, ap, subst, ◌∙◌, pos, negsuc, nat_le, nat_lt}
+use Rattle.std.proofs.Common.{◌≡◌, ℕ, Bool, true, false, List, [], ◌∷◌, map, Option, Some, None, refl, sym, ap, ◌∙◌, pos, negsuc, nat_le, nat_lt}
 use Rattle.std.proofs.lemmas.Option.{cond_some, same_Some}
 use Rattle.ccbor.specs.Item as of
 use Rattle.ccbor.specs.Item.{Item, Items, no_items, item, Pairs, no_pairs, pair}
@@ -33,38 +33,6 @@ cond_some_of : {A : Type 0} (b : Bool) (o : Option A) (c : A) → (checked b >>=
 cond_some_of true o c e = (refl, e)
 cond_some_of false o c e = absurd cc
 
--- ---- values that are no records
-
-sound_number : IsSound a_number
-sound_number (of.uint n) c e = (ap number_item (same_Some (pos n) c e), λ f. refl)
-sound_number (of.nint n) c e = (ap number_item (same_Some (negsuc n) c e), λ f. refl)
-sound_number _ c e = absurd cc
-
-sound_bytes : IsSound some_bytes
-sound_bytes (of.bytes bs) c e = (ap of.bytes (same_Some bs c e), λ f. refl)
-sound_bytes _ c e = absurd cc
-
-sound_text : IsSound a_text
-sound_text (of.text s) c e = (ap of.text (same_Some s c e), λ f. refl)
-sound_text _ c e = absurd cc
-
-sound_truth : IsSound a_truth
-sound_truth (of.boolean b) c e = (ap of.boolean (same_Some b c e), λ f. refl)
-sound_truth _ c e = absurd cc
-
-sound_map : IsSound any_map
-sound_map (of.map ps) c e = (same_Some (of.map ps) c e, λ f. refl)
-sound_map _ c e = absurd cc
-
-sound_that : (t : List ℕ) → IsSound (that_text t)
-sound_that t x c e =
-    let s = cond_some (is_same_key x (of.text t)) tt c e in
-    (same_key x (of.text t) s.0, λ f. rw s.0 refl)
-
-sound_unsigned : (low : ℕ) → IsSound (unsigned low)
-sound_unsigned low (of.uint n) c e = let s = cond_some (nat_le low n) n c e in (ap of.uint s.1, λ f. rw s.0 refl)
-sound_unsigned low _ c e = absurd cc
-
 truths_read : (ps : Pairs) (c : List (List ℕ × Bool)) → each_truth ps ≡ Some c → (ps ≡ pairs_of (map truth_pair c)) × (all_truths ps ≡ true)
 truths_read no_pairs c e = (ap (λ (os : List (List ℕ × Bool)). pairs_of (map truth_pair os)) (same_Some [] c e), refl)
 truths_read (pair (of.text k) (of.boolean b) ps) c e =
@@ -75,11 +43,7 @@ truths_read (pair (of.text k) (of.boolean b) ps) c e =
     )
 truths_read (pair _ _ ps) c e = absurd cc
 
-sound_truths : IsSound truths
-sound_truths (of.map ps) c e = let r = truths_read ps c e in (ap of.map r.0, λ f. rw r.1 refl)
-sound_truths _ c e = absurd cc
-
--- ---- lists
+-- ---- lists and truth values
 
 each_sound : (h : Holds) → IsSound h → (xs : Items) (cs : List (Content h)) → each_in (read_in h) xs ≡ Some cs → (xs ≡ items_of (map (item_of h) cs)) × ((f : Fault) → any_item (has_fault f h) xs ≡ false)
 each_sound h sound no_items cs e = (ap (λ (l : List (Content h)). items_of (map (item_of h) l)) (same_Some [] cs e), λ f. refl)
@@ -91,10 +55,6 @@ each_sound h sound (item x xs) cs e =
       ap (λ (i : Item). item i xs) first.0 ∙ ap (λ (is : Items). item (item_of h a.0) is) inner.0 ∙ ap (λ (l : List (Content h)). items_of (map (item_of h) l)) (same_Some (a.0 ∷ r.0) cs r.2),
       λ f. none_or (has_fault f h x) (any_item (has_fault f h) xs) (first.1 f) (inner.1 f),
     )
-
-sound_list : (h : Holds) → IsSound h → IsSound (list_of h)
-sound_list h sound (of.array xs) c e = let r = each_sound h sound xs c e in (ap of.array r.0, r.1)
-sound_list h sound _ c e = absurd cc
 
 -- ---- records
 
@@ -114,28 +74,24 @@ passes f k v ps (listed l r h ms) last up ordered =
     let inner = passes f k v ps ms (spelling l) (λ x b. before_trans (spelling k) (spelling l) x after b) ordered.2 in
     rw (other, inner) refl
 
-front : (k : Item) (r : Bool) (h : Holds) (ms : Members) (v : Item) (ps : Pairs) → IsOrderedFrom (spelling k) ms → is_same_key k k ≡ true → Clean h v
-    → all_keys (is_listed ms) ps ≡ true → ((f : Fault) → in_members f ms (of.map ps) ≡ false)
-    → (all_keys (is_listed (listed k r h ms)) (pair k v ps) ≡ true) × ((f : Fault) → in_members f (listed k r h ms) (of.map (pair k v ps)) ≡ false)
-front k r h ms v ps ordered same clean keys rest = (
-  rw (same, listed_too k r h ms ps keys) refl,
-  λ f. rw (same, clean f, passes f k v ps ms (spelling k) (λ x b. b) ordered) (rest f),
-)
+-- a member that is there
+there : (k : Item) (r : Bool) (h : Holds) (ms : Members) → IsOrderedFrom (spelling k) ms → (ps : Pairs) (m : Item × Pairs) → split_key k ps ≡ Some m → (a : Content h) → (m.0 ≡ item_of h a) × Clean h m.0
+    → (rest : Contents ms) → AreMembers ms m.1 rest → (c : Contents (listed k r h ms)) → pair k (item_of h a) (members_item ms rest) ≡ members_item (listed k r h ms) c → AreMembers (listed k r h ms) ps c
+there k r h ms ordered ps m s a value rest others c made =
+    let is = split_key_takes k ps m s in
+    let same = split_same k ps m s in
+    record {
+      is = is ∙ ap (λ (i : Item). pair k i m.1) value.0 ∙ ap (λ (q : Pairs). pair k (item_of h a) q) others.is ∙ made;
+      keys = rw (is, same, listed_too k r h ms m.1 others.keys) refl;
+      clean = λ f. rw (is, same, value.1 f, passes f k m.0 m.1 ms (spelling k) (λ x b. b) ordered) (others.clean f);
+    }
 
 sound_required : (k : Item) (h : Holds) (ms : Members) → IsOrderedFrom (spelling k) ms → IsSound h → AreSound ms → AreSound (listed k true h ms)
 sound_required k h ms ordered sound others ps c e =
     let m = bind_some (split_key k ps) _ c e in
     let a = bind_some (read_in h m.0.0) _ c m.2 in
     let r = bind_some (members_in ms m.0.1) _ c a.2 in
-    let value = sound m.0.0 a.0 a.1 in
-    let rest = others m.0.1 r.0 r.1 in
-    let is = split_key_takes k ps m.0 m.1 in
-    let whole = front k true h ms m.0.0 m.0.1 ordered (split_same k ps m.0 m.1) value.1 rest.keys rest.clean in
-    record {
-      is = is ∙ ap (λ (i : Item). pair k i m.0.1) value.0 ∙ ap (λ (q : Pairs). pair k (item_of h a.0) q) rest.is ∙ ap (members_item (listed k true h ms)) (same_Some (a.0, r.0) c r.2);
-      keys = subst (λ (q : Pairs). all_keys (is_listed (listed k true h ms)) q ≡ true) (sym is) whole.0;
-      clean = λ f. subst (λ (q : Pairs). in_members f (listed k true h ms) (of.map q) ≡ false) (sym is) (whole.1 f);
-    }
+    there k true h ms ordered ps m.0 m.1 a.0 (sound m.0.0 a.0 a.1) r.0 (others m.0.1 r.0 r.1) c (ap (members_item (listed k true h ms)) (same_Some (a.0, r.0) c r.2))
 
 optional_there : (k : Item) (h : Holds) (ms : Members) → IsOrderedFrom (spelling k) ms → IsSound h → AreSound ms → (ps : Pairs) (c : Contents (listed k false h ms)) (m : Item × Pairs) → split_key k ps ≡ Some m
     → (maybe (read_in h) (Some m.0) >>= λ a. members_in ms m.1 >>= λ rest. Some (a, rest)) ≡ Some c → AreMembers (listed k false h ms) ps c
@@ -143,17 +99,9 @@ optional_there k h ms ordered sound others ps c m s e =
     let b = bind_some (maybe (read_in h) (Some m.0)) _ c e in
     let a = bind_some (read_in h m.0) (λ a. Some (Some a)) b.0 b.1 in
     let r = bind_some (members_in ms m.1) _ c b.2 in
-    let value = sound m.0 a.0 a.1 in
-    let rest = others m.1 r.0 r.1 in
-    let is = split_key_takes k ps m s in
-    let whole = front k false h ms m.0 m.1 ordered (split_same k ps m s) value.1 rest.keys rest.clean in
     let made : Contents (listed k false h ms) = (Some a.0, r.0) in
     let same : made ≡ c = ap (λ (o : Option (Content h)). (o, r.0)) (same_Some (Some a.0) b.0 a.2) ∙ same_Some (b.0, r.0) c r.2 in
-    record {
-      is = is ∙ ap (λ (i : Item). pair k i m.1) value.0 ∙ ap (λ (q : Pairs). pair k (item_of h a.0) q) rest.is ∙ ap (members_item (listed k false h ms)) same;
-      keys = subst (λ (q : Pairs). all_keys (is_listed (listed k false h ms)) q ≡ true) (sym is) whole.0;
-      clean = λ f. subst (λ (q : Pairs). in_members f (listed k false h ms) (of.map q) ≡ false) (sym is) (whole.1 f);
-    }
+    there k false h ms ordered ps m s a.0 (sound m.0 a.0 a.1) r.0 (others m.1 r.0 r.1) c (ap (members_item (listed k false h ms)) same)
 
 optional_absent : (k : Item) (h : Holds) (ms : Members) → IsOrderedFrom (spelling k) ms → AreSound ms → (ps : Pairs) (c : Contents (listed k false h ms))
     → (members_in ms ps >>= λ rest. Some (None, rest)) ≡ Some c → AreMembers (listed k false h ms) ps c
@@ -173,40 +121,41 @@ sound_optional k h ms ordered sound others ps c e = go (split_key k ps) refl e w
   go (Some m) s g = optional_there k h ms ordered sound others ps c m s g
   go None s g = optional_absent k h ms ordered others ps c g
 
-sound_end : AreSound no_more
-sound_end no_pairs c e = record { is = refl; keys = refl; clean = λ f. refl }
-sound_end (pair k v ps) c e = absurd cc
-
-sound_record : (ms : Members) → AreSound ms → IsSound (record_of ms)
-sound_record ms sound (of.map ps) c e =
-    let m = sound ps c e in
-    (ap of.map m.is, λ f. rw m.keys (m.clean f))
-sound_record ms sound _ c e = absurd cc
-
 -- ---- each table
 
 mutual
   pub sound : (h : Holds) → IsOrdered h → IsSound h
-  sound a_number o = sound_number
-  sound some_bytes o = sound_bytes
-  sound a_text o = sound_text
-  sound a_truth o = sound_truth
-  sound any_map o = sound_map
-  sound (that_text t) o = sound_that t
-  sound (unsigned low) o = sound_unsigned low
-  sound truths o = sound_truths
-  sound (list_of h) o = sound_list h (sound h o)
-  sound (record_of ms) o = sound_record ms (sound_members ms [] o)
-  sound (not_empty here h) o = λ x c e.
+  sound a_number o (of.uint n) c e = (ap number_item (same_Some (pos n) c e), λ f. refl)
+  sound a_number o (of.nint n) c e = (ap number_item (same_Some (negsuc n) c e), λ f. refl)
+  sound a_number o _ c e = absurd cc
+  sound some_bytes o (of.bytes bs) c e = (ap of.bytes (same_Some bs c e), λ f. refl)
+  sound some_bytes o _ c e = absurd cc
+  sound a_text o (of.text s) c e = (ap of.text (same_Some s c e), λ f. refl)
+  sound a_text o _ c e = absurd cc
+  sound a_truth o (of.boolean b) c e = (ap of.boolean (same_Some b c e), λ f. refl)
+  sound a_truth o _ c e = absurd cc
+  sound any_map o (of.map ps) c e = (same_Some (of.map ps) c e, λ f. refl)
+  sound any_map o _ c e = absurd cc
+  sound (that_text t) o x c e = let s = cond_some (is_same_key x (of.text t)) tt c e in (same_key x (of.text t) s.0, λ f. rw s.0 refl)
+  sound (unsigned low) o (of.uint n) c e = let s = cond_some (nat_le low n) n c e in (ap of.uint s.1, λ f. rw s.0 refl)
+  sound (unsigned low) o _ c e = absurd cc
+  sound truths o (of.map ps) c e = let r = truths_read ps c e in (ap of.map r.0, λ f. rw r.1 refl)
+  sound truths o _ c e = absurd cc
+  sound (list_of h) o (of.array xs) c e = let r = each_sound h (sound h o) xs c e in (ap of.array r.0, r.1)
+  sound (list_of h) o _ c e = absurd cc
+  sound (record_of ms) o (of.map ps) c e = let m = sound_members ms [] o ps c e in (ap of.map m.is, λ f. rw m.keys (m.clean f))
+  sound (record_of ms) o _ c e = absurd cc
+  sound (not_empty here h) o x c e =
       let s = cond_some_of (nat_lt 0 (size_of x)) (read_in h x) c e in
       let inner = sound h o x c s.1 in
       (inner.0, λ f. rw (inner.1 f, s.0) refl)
-  sound (sized low high here h) o = λ x c e.
+  sound (sized low high here h) o x c e =
       let s = cond_some_of (is_within low high x) (read_in h x) c e in
       let inner = sound h o x c s.1 in
       (inner.0, λ f. rw (inner.1 f, s.0) refl)
 
   sound_members : (ms : Members) (last : List ℕ) → IsOrderedFrom last ms → AreSound ms
-  sound_members no_more last o = sound_end
-  sound_members (listed k true h ms) last o = sound_required k h ms o.2 (sound h o.1) (sound_members ms (spelling k) o.2)
-  sound_members (listed k false h ms) last o = sound_optional k h ms o.2 (sound h o.1) (sound_members ms (spelling k) o.2)
+  sound_members no_more last o no_pairs c e = record { is = refl; keys = refl; clean = λ f. refl }
+  sound_members no_more last o (pair k v ps) c e = absurd cc
+  sound_members (listed k true h ms) last o ps c e = sound_required k h ms o.2 (sound h o.1) (sound_members ms (spelling k) o.2) ps c e
+  sound_members (listed k false h ms) last o ps c e = sound_optional k h ms o.2 (sound h o.1) (sound_members ms (spelling k) o.2) ps c e

@@ -1,9 +1,9 @@
 -- What a look-up says of the pairs.
-use Rattle.std.proofs.Common.{◌≡◌, ℕ, List, Bool, true, false, cond, Some, None, refl, ap, ◌∙◌}
+use Rattle.std.proofs.Common.{◌≡◌, ℕ, List, true, false, cond, Some, None, refl, ap, ◌∙◌}
 use Rattle.std.proofs.lemmas.Bool.{eqb-true}
 use Rattle.std.proofs.lemmas.Slice.Eq.{bytes_eq-Decides}
-use Rattle.ccbor.specs.Item.{Item, uint, nint, bytes, text, array, map, boolean, Items, Pairs, no_pairs, pair}
-use Rattle.ccbor.specs.Access.{is_same_key, split_key, pairs_in, bytes_in, text_in, uint_in, nint_in, bool_in, items_in, is_end}
+use Rattle.ccbor.specs.Item.{Item, uint, nint, bytes, text, array, map, Items, Pairs, no_pairs, pair}
+use Rattle.ccbor.specs.Access.{is_same_key, split_key, pairs_in, bytes_in, text_in, uint_in, items_in, is_end}
 
 pub same_key : (a b : Item) → is_same_key a b ≡ true → a ≡ b
 same_key (uint n) (uint m) e = ap uint (eqb-true n m e)
@@ -35,14 +35,6 @@ text_in_is _ bs e = absurd cc
 pub uint_in_is : (x : Item) (n : ℕ) → uint_in x ≡ Some n → x ≡ uint n
 uint_in_is (uint m) n e = cc
 uint_in_is _ n e = absurd cc
-
-pub nint_in_is : (x : Item) (n : ℕ) → nint_in x ≡ Some n → x ≡ nint n
-nint_in_is (nint m) n e = cc
-nint_in_is _ n e = absurd cc
-
-pub bool_in_is : (x : Item) (b : Bool) → bool_in x ≡ Some b → x ≡ boolean b
-bool_in_is (boolean c) b e = cc
-bool_in_is _ b e = absurd cc
 
 pub items_in_is : (x : Item) (xs : Items) → items_in x ≡ Some xs → x ≡ array xs
 items_in_is (array ys) xs e = cc

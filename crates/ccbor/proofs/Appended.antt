@@ -23,50 +23,33 @@ pub record Left (P R : Type 0) (bytes rest old new : List ℕ) : Type 0 where
   pub text : new ++ rest ≡ old ++ bytes
   pub grows : Grows old new
 
-pub Left-start : (P : Type 0) (bytes old : List ℕ) → Left P P bytes bytes old old
-Left-start P bytes old = record { down = λ p. p; up = λ p. p; text = refl; grows = ([], sym (append-nil old)) }
-
 -- what was appended and holds is no longer left
-pub Left-step : (P F R R' : Type 0) (bytes s rest old mid new : List ℕ) → Left P R bytes (s ++ rest) old mid → (R → R') → (R' → R) → new ≡ mid ++ s → Left P R' bytes rest old new
-Left-step P F R R' bytes s rest old mid new l to from e =
+Left-step : {P R R' : Type 0} {bytes rest old mid new : List ℕ} (s : List ℕ) → Left P R bytes (s ++ rest) old mid → (R → R') → (R' → R) → new ≡ mid ++ s → Left P R' bytes rest old new
+Left-step {rest = rest} {old = old} {mid = mid} {new = new} s l to from e =
     record { down = λ p. to (l.down p); up = λ r. l.up (from r); text = rw e (append_assoc mid s rest ∙ l.text); grows = Grows-then old mid new l.grows (s, e) }
 
-pub Left-done : (P R : Type 0) (bytes old new : List ℕ) → R → Left P R bytes [] old new → P × (new ≡ old ++ bytes)
-Left-done P R bytes old new r l = (l.up r, sym (append-nil new) ∙ l.text)
+Left-done : {P R : Type 0} {bytes old new : List ℕ} → R → Left P R bytes [] old new → P × (new ≡ old ++ bytes)
+Left-done {new = new} r l = (l.up r, sym (append-nil new) ∙ l.text)
 
-pub Left-fail : (P F R : Type 0) (bytes rest s old now mid new new' : List ℕ) (e : Error) → Left P R bytes rest old now → (R → F) → Writes F s mid new (Err e) → Writes P bytes old new' (Err e)
-Left-fail P F R bytes rest s old now mid new new' errors.Memory l part w = tt
-Left-fail P F R bytes rest s old now mid new new' errors.NotCanonical l part w = absurd w
-Left-fail P F R bytes rest s old now mid new new' errors.Trailing l part w = absurd w
-Left-fail P F R bytes rest s old now mid new new' errors.Unfit l part w = λ p. w (part (l.down p))
+Writes-fail : {P F : Type 0} (bytes s old mid new new' : List ℕ) (e : Error) → (P → F) → Writes F s mid new (Err e) → Writes P bytes old new' (Err e)
+Writes-fail bytes s old mid new new' errors.Memory part w = tt
+Writes-fail bytes s old mid new new' errors.Unfit part w = λ p. w (part p)
+Writes-fail bytes s old mid new new' _ part w = absurd w
 
 -- ---- items
 
 abbrev pub ItemsLeft : ℕ → ℕ → List Value → List ℕ → List ℕ → Type 0
 ItemsLeft d i vs old new = Left (ItemsFit d (items_view vs)) (ItemsFit d (items_view (drop i vs))) (spelling_of_items (items_view vs)) (spelling_of_items (items_view (drop i vs))) old new
 
-module _ (d i : ℕ) (vs : List Value) (v : Value) (old mid : List ℕ) (lt : i < length vs) (is : get_or vs i v ≡ v) (left : ItemsLeft d i vs old mid) where
-  first : drop i vs ≡ v ∷ drop (i + 1) vs
-  first = rw (add-one, drop-cons vs i v lt, is) refl
+at_place : {A : Type 0} (i : ℕ) (xs : List A) (x : A) → i < length xs → get_or xs i x ≡ x → drop i xs ≡ x ∷ drop (i + 1) xs
+at_place i xs x lt is = rw (add-one, drop-cons xs i x lt, is) refl
 
-  opened : Left (ItemsFit d (items_view vs)) (Fits d (view v) × ItemsFit d (items_view (drop (i + 1) vs))) (spelling_of_items (items_view vs)) (spelling (view v) ++ spelling_of_items (items_view (drop (i + 1) vs))) old mid
-  opened = subst (λ (ws : List Value). Left (ItemsFit d (items_view vs)) (ItemsFit d (items_view ws)) (spelling_of_items (items_view vs)) (spelling_of_items (items_view ws)) old mid) first left
-
-  pub items_step : (new : List ℕ) → Fits d (view v) → new ≡ mid ++ spelling (view v) → ItemsLeft d (i + 1) vs old new
-  items_step new fits e =
-      Left-step (ItemsFit d (items_view vs)) (Fits d (view v)) (Fits d (view v) × ItemsFit d (items_view (drop (i + 1) vs))) (ItemsFit d (items_view (drop (i + 1) vs)))
-      (spelling_of_items (items_view vs)) (spelling (view v)) (spelling_of_items (items_view (drop (i + 1) vs))) old mid new opened (λ p. p.1) (λ p. (fits, p)) e
-
-  pub items_fail : (new new' : List ℕ) (e : Error) → Writes (Fits d (view v)) (spelling (view v)) mid new (Err e) → Writes (ItemsFit d (items_view vs)) (spelling_of_items (items_view vs)) old new' (Err e)
-  items_fail new new' e w =
-      Left-fail (ItemsFit d (items_view vs)) (Fits d (view v)) (Fits d (view v) × ItemsFit d (items_view (drop (i + 1) vs)))
-      (spelling_of_items (items_view vs)) (spelling (view v) ++ spelling_of_items (items_view (drop (i + 1) vs))) (spelling (view v)) old mid mid new new' e opened (λ p. p.0) w
+pub items_step : (d i : ℕ) (vs : List Value) (v : Value) (old mid new : List ℕ) → i < length vs → get_or vs i v ≡ v → ItemsLeft d i vs old mid
+    → Fits d (view v) → new ≡ mid ++ spelling (view v) → ItemsLeft d (i + 1) vs old new
+items_step d i vs v old mid new lt is left fits e = Left-step (spelling (view v)) (rw (at_place i vs v lt is) at left) (λ p. p.1) (λ p. (fits, p)) e
 
 pub items_end : (d i : ℕ) (vs : List Value) (old new : List ℕ) → length vs ≤ i → ItemsLeft d i vs old new → ItemsFit d (items_view vs) × (new ≡ old ++ spelling_of_items (items_view vs))
-items_end d i vs old new le left =
-    let none : drop i vs ≡ [] = drop_all i vs le in
-    let l = subst (λ (ws : List Value). Left (ItemsFit d (items_view vs)) (ItemsFit d (items_view ws)) (spelling_of_items (items_view vs)) (spelling_of_items (items_view ws)) old new) none left in
-    Left-done (ItemsFit d (items_view vs)) (Unit {0}) (spelling_of_items (items_view vs)) old new tt l
+items_end d i vs old new le left = Left-done tt (rw (drop_all i vs le) at left)
 
 -- ---- pairs
 
@@ -96,67 +79,41 @@ pub record PairsLeft (d i : ℕ) (ps : List (Value × Value)) (old new : List �
   pub within : b ≤ length new
   pub left : Left (KeysFrom d [] ps) (KeysFrom d (part a b new) (drop i ps)) (text_of ps) (text_of (drop i ps)) old new
 
-abbrev pub Opened : ℕ → List (Value × Value) → Value → Value → List (Value × Value) → List ℕ → List ℕ → ℕ → ℕ → Type 0
-Opened d ps k v rest old mid a b =
-    Left (KeysFrom d [] ps)
-    (IsTrue (is_key (view k)) × IsTrue (before (part a b mid) (spelling (view k))) × Fits d (view k) × Fits d (view v) × KeysFrom d (spelling (view k)) rest)
-    (text_of ps) (spelling (view k) ++ (spelling (view v) ++ text_of rest)) old mid
+module _ (d i : ℕ) (ps : List (Value × Value)) (k v : Value) (old mid : List ℕ) (a b : ℕ) (lt : i < length ps) (is : get_or ps i (k, v) ≡ (k, v)) (so_far : PairsLeft d i ps old mid a b) where
+  opened : Left (KeysFrom d [] ps) (IsTrue (is_key (view k)) × IsTrue (before (part a b mid) (spelling (view k))) × Fits d (view k) × Fits d (view v) × KeysFrom d (spelling (view k)) (drop (i + 1) ps))
+      (text_of ps) (spelling (view k) ++ (spelling (view v) ++ text_of (drop (i + 1) ps))) old mid
+  opened = rw (at_place i ps (k, v) lt is) at so_far.left
 
-pub pairs_open : (d i : ℕ) (ps : List (Value × Value)) (k v : Value) (old mid : List ℕ) (a b : ℕ) → i < length ps → get_or ps i (k, v) ≡ (k, v) → PairsLeft d i ps old mid a b → Opened d ps k v (drop (i + 1) ps) old mid a b
-pairs_open d i ps k v old mid a b lt is so_far =
-    let first : drop i ps ≡ (k, v) ∷ drop (i + 1) ps = rw (add-one, drop-cons ps i (k, v) lt, is) refl in
-    subst (λ (ws : List (Value × Value)). Left (KeysFrom d [] ps) (KeysFrom d (part a b mid) ws) (text_of ps) (text_of ws) old mid) first so_far.left
-
-module _ (d : ℕ) (ps : List (Value × Value)) (k v : Value) (rest : List (Value × Value)) (old mid : List ℕ) (a b : ℕ) (l : Opened d ps k v rest old mid a b) where
   pub no_key : is_key (view k) ≡ false → KeysFrom d [] ps → ⊥
-  no_key f p = let r = (l.down p).0 in absurd cc
+  no_key f p = let r = (opened.down p).0 in absurd cc
 
   pub key_fail : (new new' : List ℕ) (e : Error) → Writes (Fits d (view k)) (spelling (view k)) mid new (Err e) → Writes (KeysFrom d [] ps) (text_of ps) old new' (Err e)
-  key_fail new new' errors.Memory w = tt
-  key_fail new new' errors.NotCanonical w = absurd w
-  key_fail new new' errors.Trailing w = absurd w
-  key_fail new new' errors.Unfit w = λ p. w (l.down p).2
+  key_fail new new' e w = Writes-fail (text_of ps) (spelling (view k)) old mid new new' e (λ p. (opened.down p).2) w
 
   pub value_fail : (mid' new new' : List ℕ) (e : Error) → Writes (Fits d (view v)) (spelling (view v)) mid' new (Err e) → Writes (KeysFrom d [] ps) (text_of ps) old new' (Err e)
-  value_fail mid' new new' errors.Memory w = tt
-  value_fail mid' new new' errors.NotCanonical w = absurd w
-  value_fail mid' new new' errors.Trailing w = absurd w
-  value_fail mid' new new' errors.Unfit w = λ p. w (l.down p).3
+  value_fail mid' new new' e w = Writes-fail (text_of ps) (spelling (view v)) old mid' new new' e (λ p. (opened.down p).3) w
 
-  same_keys : (mid' : List ℕ) → a ≤ b → b ≤ length mid → mid' ≡ mid ++ spelling (view k) → before (part a b mid') (part (length mid) (length mid') mid') ≡ before (part a b mid) (spelling (view k))
-  same_keys mid' le within e = rw (e, part-append a b mid (spelling (view k)) le within, part-end mid (spelling (view k))) refl
+  module _ (mid' : List ℕ) (e : mid' ≡ mid ++ spelling (view k)) where
+    same_keys : before (part a b mid') (part (length mid) (length mid') mid') ≡ before (part a b mid) (spelling (view k))
+    same_keys = rw (e, part-append a b mid (spelling (view k)) so_far.ordered so_far.within, part-end mid (spelling (view k))) refl
 
-  pub order_fail : (mid' : List ℕ) → a ≤ b → b ≤ length mid → mid' ≡ mid ++ spelling (view k) → before (part a b mid') (part (length mid) (length mid') mid') ≡ false → KeysFrom d [] ps → ⊥
-  order_fail mid' le within e f p =
-      let r = (l.down p).1 in
-      let s = same_keys mid' le within e in
-      absurd cc
+    pub order_fail : before (part a b mid') (part (length mid) (length mid') mid') ≡ false → KeysFrom d [] ps → ⊥
+    order_fail f p = let r = (opened.down p).1 in let s = same_keys in absurd cc
 
-pub pairs_step : (d i : ℕ) (ps : List (Value × Value)) (k v : Value) (old mid mid' new : List ℕ) (a b : ℕ) → a ≤ b → b ≤ length mid → Opened d ps k v (drop (i + 1) ps) old mid a b
-    → is_key (view k) ≡ true → Fits d (view k) → mid' ≡ mid ++ spelling (view k) → before (part a b mid') (part (length mid) (length mid') mid') ≡ true → Fits d (view v) → new ≡ mid' ++ spelling (view v)
-    → PairsLeft d (i + 1) ps old new (length mid) (length mid')
-pairs_step d i ps k v old mid mid' new a b le within l key fits_key e sorted fits_value f =
-    let key_text = spelling (view k) in
-    let in_order : before (part a b mid) key_text ≡ true = sym (same_keys d ps k v (drop (i + 1) ps) old mid a b l mid' le within e) ∙ sorted in
-    let at_mid : part (length mid) (length mid') mid' ≡ key_text = rw e (part-end mid key_text) in
-    let long : length mid ≤ length mid' = omega (arith, ap length e, length-append mid key_text) in
-    let last : part (length mid) (length mid') new ≡ key_text = rw f (part-append (length mid) (length mid') mid' (spelling (view v)) long (omega arith) ∙ at_mid) in
-    let whole : new ≡ mid ++ (key_text ++ spelling (view v)) = rw (f, e) (append_assoc mid key_text (spelling (view v))) in
-    let grouped : Left (KeysFrom d [] ps) (IsTrue (is_key (view k)) × IsTrue (before (part a b mid) key_text) × Fits d (view k) × Fits d (view v) × KeysFrom d key_text (drop (i + 1) ps)) (text_of ps) ((key_text ++ spelling (view v)) ++ text_of (drop (i + 1) ps)) old mid =
-    record { down = l.down; up = l.up; text = ap (λ (t : List ℕ). mid ++ t) (append_assoc key_text (spelling (view v)) (text_of (drop (i + 1) ps))) ∙ l.text; grows = l.grows } in
-    let stepped = Left-step (KeysFrom d [] ps) (Unit {0}) (IsTrue (is_key (view k)) × IsTrue (before (part a b mid) key_text) × Fits d (view k) × Fits d (view v) × KeysFrom d key_text (drop (i + 1) ps))
-    (KeysFrom d key_text (drop (i + 1) ps)) (text_of ps) (key_text ++ spelling (view v)) (text_of (drop (i + 1) ps)) old mid new grouped (λ p. p.4) (λ p. (key, in_order, fits_key, fits_value, p)) whole in
-    record {
-      ordered = long;
-      within = omega (arith, ap length f, length-append mid' (spelling (view v)));
-      left = subst (λ (s : List ℕ). Left (KeysFrom d [] ps) (KeysFrom d s (drop (i + 1) ps)) (text_of ps) (text_of (drop (i + 1) ps)) old new) (sym last) stepped;
-    }
+    pub pairs_step : (new : List ℕ) → is_key (view k) ≡ true → Fits d (view k) → before (part a b mid') (part (length mid) (length mid') mid') ≡ true → Fits d (view v) → new ≡ mid' ++ spelling (view v)
+        → PairsLeft d (i + 1) ps old new (length mid) (length mid')
+    pairs_step new key fits_key sorted fits_value f =
+        let long : length mid ≤ length mid' = omega (arith, ap length e, length-append mid (spelling (view k))) in
+        let last : part (length mid) (length mid') new ≡ spelling (view k) = rw f (part-append (length mid) (length mid') mid' (spelling (view v)) long (omega arith) ∙ rw e (part-end mid (spelling (view k)))) in
+        let keyed = Left-step (spelling (view k)) opened (λ p. p) (λ p. p) e in
+        record {
+          ordered = long;
+          within = omega (arith, ap length f, length-append mid' (spelling (view v)));
+          left = rw last (Left-step (spelling (view v)) keyed (λ p. p.4) (λ p. (key, sym same_keys ∙ sorted, fits_key, fits_value, p)) f);
+        }
 
 pub pairs_end : (d i : ℕ) (ps : List (Value × Value)) (old new : List ℕ) (a b : ℕ) → length ps ≤ i → PairsLeft d i ps old new a b → KeysFrom d [] ps × (new ≡ old ++ text_of ps)
-pairs_end d i ps old new a b le so_far =
-    let none : drop i ps ≡ [] = drop_all i ps le in
-    let l = subst (λ (ws : List (Value × Value)). Left (KeysFrom d [] ps) (KeysFrom d (part a b new) ws) (text_of ps) (text_of ws) old new) none so_far.left in
-    Left-done (KeysFrom d [] ps) (Unit {0}) (text_of ps) old new tt l
+pairs_end d i ps old new a b le so_far = Left-done tt (rw (drop_all i ps le) at so_far.left)
 
 -- ---- counts
 
@@ -182,22 +139,7 @@ map_written d ps old mid new lt count p w =
     let fits : Fits (suc (d - 1)) (map ps) = (count, w.0) in
     (subst (λ (n : ℕ). Fits n (map ps)) (sym k) fits, rw (w.1, p) (append_assoc old (head 5 (count_of_pairs ps)) (spelling_of_pairs ps)))
 
--- the turn of the loop, with the code's own names for what it read
-pub pairs_turn : (d i : ℕ) (ps : List (Value × Value)) (kv : Value × Value) (old mid mid' new : List ℕ) (a b start end : ℕ) (is_one : Bool) (sorted : Bool) (one two : List ℕ)
-    → i < length ps → kv ≡ get_or ps i kv → PairsLeft d i ps old mid a b → start ≡ length mid → end ≡ length mid' → one ≡ mid' → two ≡ mid'
-    → is_one ≡ is_key (view kv.0) → is_one ≡ true → Fits d (view kv.0) × (mid' ≡ mid ++ spelling (view kv.0))
-    → sorted ≡ before (part a b one) (part start end two) → sorted ≡ true → Fits d (view kv.1) × (new ≡ mid' ++ spelling (view kv.1))
-    → PairsLeft d (i + 1) ps old new start end
-pairs_turn d i ps kv old mid mid' new a b start end is_one sorted one two lt at so_far p q first second key-is key-true key wrote-sorted sorted-true value =
-    let l = pairs_open d i ps kv.0 kv.1 old mid a b lt (sym at) so_far in
-    let in_order : before (part a b mid') (part (length mid) (length mid') mid') ≡ true = cc in
-    rw (p, q) (pairs_step d i ps kv.0 kv.1 old mid mid' new a b so_far.ordered so_far.within l (sym key-is ∙ key-true) key.0 key.1 in_order value.0 value.1)
-
--- the same where the keys turn out to be out of order
-pub order_turn : (d i : ℕ) (ps : List (Value × Value)) (kv : Value × Value) (old mid mid' : List ℕ) (a b start end : ℕ) (sorted : Bool) (one two : List ℕ)
-    → i < length ps → kv ≡ get_or ps i kv → PairsLeft d i ps old mid a b → start ≡ length mid → end ≡ length mid' → one ≡ mid' → two ≡ mid'
-    → mid' ≡ mid ++ spelling (view kv.0) → sorted ≡ before (part a b one) (part start end two) → sorted ≡ false → KeysFrom d [] ps → ⊥
-order_turn d i ps kv old mid mid' a b start end sorted one two lt at so_far p q first second key sorted-is sorted-false =
-    let l = pairs_open d i ps kv.0 kv.1 old mid a b lt (sym at) so_far in
-    let out_of_order : before (part a b mid') (part (length mid) (length mid') mid') ≡ false = cc in
-    order_fail d ps kv.0 kv.1 (drop (i + 1) ps) old mid a b l mid' so_far.ordered so_far.within key out_of_order
+-- what the keys' comparison answers, with the code's own names for what it read
+pub compared : (a b start end : ℕ) (mid mid' one two : List ℕ) (found t : Bool) → start ≡ length mid → end ≡ length mid' → one ≡ mid' → two ≡ mid'
+    → found ≡ before (part a b one) (part start end two) → found ≡ t → before (part a b mid') (part (length mid) (length mid') mid') ≡ t
+compared a b start end mid mid' one two found t p q first second is e = cc

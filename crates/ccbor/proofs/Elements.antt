@@ -1,114 +1,87 @@
--- The items of an array, one after another.
-use Rattle.std.proofs.Common.{Bor, ◌≡◌, ◌≢◌, [], append-nil, ℕ, zero, suc, ◌-◌, ◌<◌, ◌≤◌, List, ◌++◌, Option, Some, None, refl, sym, ap, subst, ◌∙◌, arith}
+-- The items of an array, and the pairs of a map, one after another.
+use Rattle.std.proofs.Common.{◌≡◌, ◌≢◌, [], append-nil, ℕ, ◌-◌, false, List, ◌++◌, Some, refl, ap, arith}
 use Rattle.std.proofs.lemmas.Option.{same_Some}
-use Rattle.std.specs.Prelude.{MatchOption}
-use Rattle.ccbor.specs.Item.{Item, uint, nint, bytes, text, array, map, boolean, Items, no_items, item}
-use Rattle.ccbor.specs.Canon.{spelling, spelling_of_items, count_of_items, Canon}
-use Rattle.ccbor.specs.Access.{items_first, item_at, item_in}
-use Rattle.ccbor.specs.Viewing.{AreItems, read_or, shown, shown_items, parts_in}
-use Rattle.ccbor.specs.Reading.{items_at, item_at as read_at}
-use Rattle.ccbor.proofs.Trees.{items_again}
+use Rattle.ccbor.specs.Item.{Item, array, map, Items, no_items, item, Pairs, no_pairs, pair}
+use Rattle.ccbor.specs.Canon.{spelling, spelling_of_items, spelling_of_pairs, count_of_items, count_of_pairs, Canon, PairsFit}
+use Rattle.ccbor.specs.Access.{items_first, items_in, pairs_first, pairs_in}
+use Rattle.ccbor.specs.Viewing.{AreItems, ArePairs, shown, shown_items, shown_pairs, parts_in}
+use Rattle.ccbor.proofs.Firsts.{key_after_nothing}
+use Rattle.ccbor.proofs.Trees.{items_again, pairs_again}
 use Rattle.ccbor.proofs.Shows.{shown_is, shows, wider}
 
-pub array_items : (x : Item) (bs : List ℕ) → Canon x bs → (n : ℕ) (rest : List ℕ) → Some (n, rest) ≡ parts_in 4 x → (xs : Items) × (x ≡ array xs) × AreItems xs n rest
-array_items (array xs) bs c n rest e =
-    let both = same_Some (n, rest) (count_of_items xs, spelling_of_items xs) e in
-    (xs, refl, record { count = ap (λ (p : ℕ × List ℕ). p.0) both; spelled = ap (λ (p : ℕ × List ℕ). p.1) both; fit = c.0.1 })
-array_items (uint k) bs c n rest e = absurd cc
-array_items (nint k) bs c n rest e = absurd cc
-array_items (bytes cs) bs c n rest e = absurd cc
-array_items (text s) bs c n rest e = absurd cc
-array_items (map ps) bs c n rest e = absurd cc
-array_items (boolean b) bs c n rest e = absurd cc
+-- what the bytes are cut into, if a canonical encoding is at their front
+abbrev Cuts : List ℕ → List ℕ → List ℕ → Type 0
+Cuts bs found rest = (x : Item) (a more : List ℕ) → Canon x a → bs ≡ a ++ more → (found ≡ a) × (rest ≡ more)
 
--- so many items are left, and that at this place is the one that is looked for
-abbrev pub Left : ℕ → ℕ → List ℕ → Option Item → Type 0
-Left index left bs found = (xs : Items) × AreItems xs left bs × (item_at index xs ≡ found)
+-- none is there
+abbrev pub NoFront : List ℕ → Type 0
+NoFront bs = (x : Item) (a more : List ℕ) → Canon x a → bs ≡ a ++ more → ⊥
 
-pub all_left : (bs : List ℕ) → Canon (shown bs) bs → (index n : ℕ) (rest : List ℕ) → Some (n, rest) ≡ parts_in 4 (shown bs) → Left index n rest (item_in index (shown bs))
-all_left bs c index n rest e =
-    let is = array_items (shown bs) bs c n rest e in
-    (is.0, is.2, ap (item_in index) (sym is.1))
-
-past : (index : ℕ) (xs : Items) → count_of_items xs ≤ index → item_at index xs ≡ None
-past index no_items le = refl
-past zero (item x xs) le = absurd (omega arith)
-past (suc index) (item x xs) le = past index xs (omega arith)
-
-pub none_left : (index left : ℕ) (bs : List ℕ) (found : Option Item) → left ≤ index → Left index left bs found → None ≡ found
-none_left index left bs found le (xs, are, is) = sym (past index xs (omega (arith, le, are.count))) ∙ is
-
--- what passing over the first makes of them; r is what it answers
-step : (index left : ℕ) (bs : List ℕ) (found : Option Item) (r : Option (Bor (List ℕ) × Bor (List ℕ))) → 0 < left → Left (suc index) left bs found
-    → ((x : Item) (a more : List ℕ) → Canon x a → bs ≡ a ++ more → MatchOption r ⊥ (λ q. (q.0.now ≡ a) × (q.1.now ≡ more)))
-    → MatchOption r ⊥ (λ q. Left index (left - 1) q.1.now found)
-step index left bs found r some (no_items, are, is) front = absurd (omega (arith, some, are.count))
-step index left bs found (Some q) some (item x xs, are, is) front =
-    let k = front x (spelling x) (spelling_of_items xs) (wider x 3 are.fit.0, refl) are.spelled in
-    (xs, record { count = omega (arith, are.count); spelled = k.1; fit = are.fit.1 }, is)
-step index left bs found None some (item x xs, are, is) front = front x (spelling x) (spelling_of_items xs) (wider x 3 are.fit.0, refl) are.spelled
-
-pub goes_on : (wide index left next : ℕ) (bs : List ℕ) (found : Option Item) (r : Option (Bor (List ℕ) × Bor (List ℕ))) → wide ≡ suc index → next ≡ left - 1 → 0 < left → Left wide left bs found
-    → ((x : Item) (a more : List ℕ) → Canon x a → bs ≡ a ++ more → MatchOption r ⊥ (λ q. (q.0.now ≡ a) × (q.1.now ≡ more)))
-    → MatchOption r ⊥ (λ q. Left index next q.1.now found)
-goes_on wide index left next bs found r w n some l front =
-    subst (λ (i : ℕ). MatchOption r ⊥ (λ q. Left index i q.1.now found)) (sym n) (step index left bs found r some (subst (λ (i : ℕ). Left i left bs found) w l) front)
-
-here : (left : ℕ) (bs : List ℕ) (found : Option Item) (r : Option (Bor (List ℕ) × Bor (List ℕ))) → 0 < left → Left 0 left bs found
-    → ((x : Item) (a more : List ℕ) → Canon x a → bs ≡ a ++ more → MatchOption r ⊥ (λ q. (q.0.now ≡ a) × (q.1.now ≡ more)))
-    → MatchOption r ⊥ (λ q. Canon (shown q.0.now) q.0.now × (Some (shown q.0.now) ≡ found))
-here left bs found r some (no_items, are, is) front = absurd (omega (arith, some, are.count))
-here left bs found (Some q) some (item x xs, are, is) front =
-    let k = front x (spelling x) (spelling_of_items xs) (wider x 3 are.fit.0, refl) are.spelled in
-    let canon : Canon x q.0.now = ((wider x 3 are.fit.0), k.0) in
-    (shows x q.0.now canon, ap (λ (y : Item). Some y) (shown_is x q.0.now canon) ∙ is)
-here left bs found None some (item x xs, are, is) front = front x (spelling x) (spelling_of_items xs) (wider x 3 are.fit.0, refl) are.spelled
-
-pub found_here : (index left : ℕ) (bs : List ℕ) (found : Option Item) (r : Option (Bor (List ℕ) × Bor (List ℕ))) → index ≡ 0 → 0 < left → Left index left bs found
-    → ((x : Item) (a more : List ℕ) → Canon x a → bs ≡ a ++ more → MatchOption r ⊥ (λ q. (q.0.now ≡ a) × (q.1.now ≡ more)))
-    → MatchOption r ⊥ (λ q. Canon (shown q.0.now) q.0.now × (Some (shown q.0.now) ≡ found))
-found_here index left bs found r first some l front = here left bs found r some (subst (λ (i : ℕ). Left i left bs found) first l) front
-
--- ---- the items that are left
+-- ---- items
 
 pub shown_items_is : (xs : Items) (n : ℕ) (bs : List ℕ) → AreItems xs n bs → shown_items (n, bs) ≡ xs
-shown_items_is xs n bs are = rw (are.count, are.spelled) (ap (λ (r : Option (Items × List ℕ)). read_or no_items r) (ap (items_at (read_at 3) (count_of_items xs)) (sym (append-nil (spelling_of_items xs))) ∙ items_again xs 3 [] are.fit))
+shown_items_is xs n bs are = rw (are.count, are.spelled, ← append-nil (spelling_of_items xs), items_again false xs 3 [] are.fit) refl
 
-pub shows_items : (xs : Items) (n : ℕ) (bs : List ℕ) → AreItems xs n bs → AreItems (shown_items (n, bs)) n bs
-shows_items xs n bs are = subst (λ (ys : Items). AreItems ys n bs) (sym (shown_items_is xs n bs are)) are
+shows_items : (xs : Items) (n : ℕ) (bs : List ℕ) → AreItems xs n bs → AreItems (shown_items (n, bs)) n bs
+shows_items xs n bs are = rw (shown_items_is xs n bs are) are
 
-some_items : (xs : Items) (n : ℕ) → n ≡ count_of_items xs → n ≢ 0 → (x : Item) × (ys : Items) × (xs ≡ item x ys)
-some_items no_items n e some = absurd (some e)
-some_items (item x ys) n e some = (x, ys, refl)
+pub array_items : (x : Item) (bs : List ℕ) → Canon x bs → (n : ℕ) (rest : List ℕ) → Some (n, rest) ≡ parts_in 4 x
+    → AreItems (shown_items (n, rest)) n rest × (Some (shown_items (n, rest)) ≡ items_in x)
+array_items (array xs) bs c n rest e =
+    let both = same_Some (n, rest) (count_of_items xs, spelling_of_items xs) e in
+    let are : AreItems xs n rest = record { count = ap (λ (p : ℕ × List ℕ). p.0) both; spelled = ap (λ (p : ℕ × List ℕ). p.1) both; fit = c.0.1 } in
+    (shows_items xs n rest are, rw (shown_items_is xs n rest are) refl)
+array_items _ bs c n rest e = absurd cc
 
-module _ (n : ℕ) (bs : List ℕ) (are : AreItems (shown_items (n, bs)) n bs) (some : n ≢ 0) where
-  opened : (x : Item) × (xs : Items) × (shown_items (n, bs) ≡ item x xs)
-  opened = some_items (shown_items (n, bs)) n are.count some
+pub no_item : (all : Items) (n : ℕ) (bs : List ℕ) → AreItems all n bs → n ≢ 0 → NoFront bs → ⊥
+no_item no_items n bs are some none = some are.count
+no_item (item x xs) n bs are some none = none x (spelling x) (spelling_of_items xs) (wider x 3 are.fit.0, refl) are.spelled
 
-  these : AreItems (item opened.0 opened.1) n bs
-  these = subst (λ (xs : Items). AreItems xs n bs) opened.2 are
+pub first_item : (all : Items) (n : ℕ) (bs found rest : List ℕ) → AreItems all n bs → n ≢ 0 → Cuts bs found rest
+    → Canon (shown found) found × AreItems (shown_items (n - 1, rest)) (n - 1) rest × (Some (shown found, shown_items (n - 1, rest)) ≡ items_first all)
+first_item no_items n bs found rest are some cuts = absurd (some are.count)
+first_item (item x xs) n bs found rest are some cuts =
+    let cut = cuts x (spelling x) (spelling_of_items xs) (wider x 3 are.fit.0, refl) are.spelled in
+    let canon : Canon x found = (wider x 3 are.fit.0, cut.0) in
+    let others : AreItems xs (n - 1) rest = record { count = omega (arith, are.count); spelled = cut.1; fit = are.fit.1 } in
+    (shows x found canon, shows_items xs (n - 1) rest others, rw (shown_is x found canon, shown_items_is xs (n - 1) rest others) refl)
 
-  first_fits : Canon opened.0 (spelling opened.0)
-  first_fits = (wider opened.0 3 these.fit.0, refl)
+-- ---- pairs
 
-  pub no_front_item : ((x : Item) (a more : List ℕ) → Canon x a → bs ≡ a ++ more → ⊥) → ⊥
-  no_front_item front = front opened.0 (spelling opened.0) (spelling_of_items opened.1) first_fits these.spelled
+pub shown_pairs_is : (ps : Pairs) (n : ℕ) (bs : List ℕ) → ArePairs ps n bs → shown_pairs (n, bs) ≡ ps
+shown_pairs_is ps n bs are = rw (are.count, are.spelled, ← append-nil (spelling_of_pairs ps), pairs_again false ps 3 [] [] are.fit) refl
 
-  module _ (found rest : List ℕ) (front : (x : Item) (a more : List ℕ) → Canon x a → bs ≡ a ++ more → (found ≡ a) × (rest ≡ more)) where
-    cut : (found ≡ spelling opened.0) × (rest ≡ spelling_of_items opened.1)
-    cut = front opened.0 (spelling opened.0) (spelling_of_items opened.1) first_fits these.spelled
+shows_pairs : (ps : Pairs) (n : ℕ) (bs : List ℕ) → ArePairs ps n bs → ArePairs (shown_pairs (n, bs)) n bs
+shows_pairs ps n bs are = rw (shown_pairs_is ps n bs are) are
 
-    first_canon : Canon opened.0 found
-    first_canon = (first_fits.0, cut.0)
+pub map_pairs : (x : Item) (bs : List ℕ) → Canon x bs → (n : ℕ) (rest : List ℕ) → Some (n, rest) ≡ parts_in 5 x
+    → ArePairs (shown_pairs (n, rest)) n rest × (Some (shown_pairs (n, rest)) ≡ pairs_in x)
+map_pairs (map ps) bs c n rest e =
+    let both = same_Some (n, rest) (count_of_pairs ps, spelling_of_pairs ps) e in
+    let are : ArePairs ps n rest = record { count = ap (λ (p : ℕ × List ℕ). p.0) both; spelled = ap (λ (p : ℕ × List ℕ). p.1) both; fit = c.0.1 } in
+    (shows_pairs ps n rest are, rw (shown_pairs_is ps n rest are) refl)
+map_pairs _ bs c n rest e = absurd cc
 
-    rest_are : AreItems opened.1 (n - 1) rest
-    rest_are = record { count = omega (arith, these.count); spelled = cut.1; fit = these.fit.1 }
+first_of : (ps : Pairs) (d : ℕ) (last : List ℕ) → PairsFit d last ps → PairsFit d [] ps
+first_of no_pairs d last fits = tt
+first_of (pair k v ps) d last fits = (fits.0, key_after_nothing k fits.0, fits.2, fits.3, fits.4)
 
-    pub item_shows : Canon (shown found) found
-    item_shows = shows opened.0 found first_canon
+pub no_key : (all : Pairs) (n : ℕ) (bs : List ℕ) → ArePairs all n bs → n ≢ 0 → NoFront bs → ⊥
+no_key no_pairs n bs are some none = some are.count
+no_key (pair k v ps) n bs are some none = none k (spelling k) (spelling v ++ spelling_of_pairs ps) (wider k 3 are.fit.2, refl) are.spelled
 
-    pub items_show : AreItems (shown_items (n - 1, rest)) (n - 1) rest
-    items_show = shows_items opened.1 (n - 1) rest rest_are
+pub no_value : (all : Pairs) (n : ℕ) (bs found mid : List ℕ) → ArePairs all n bs → n ≢ 0 → Cuts bs found mid → NoFront mid → ⊥
+no_value no_pairs n bs found mid are some cuts none = some are.count
+no_value (pair k v ps) n bs found mid are some cuts none =
+    none v (spelling v) (spelling_of_pairs ps) (wider v 3 are.fit.3, refl) (cuts k (spelling k) (spelling v ++ spelling_of_pairs ps) (wider k 3 are.fit.2, refl) are.spelled).1
 
-    pub first_item_shown : Some (shown found, shown_items (n - 1, rest)) ≡ items_first (shown_items (n, bs))
-    first_item_shown = rw (opened.2, shown_is opened.0 found first_canon, shown_items_is opened.1 (n - 1) rest rest_are) refl
+pub first_pair : (all : Pairs) (n : ℕ) (bs found mid value rest : List ℕ) → ArePairs all n bs → n ≢ 0 → Cuts bs found mid → Cuts mid value rest
+    → Canon (shown found) found × Canon (shown value) value × ArePairs (shown_pairs (n - 1, rest)) (n - 1) rest × (Some (shown found, shown value, shown_pairs (n - 1, rest)) ≡ pairs_first all)
+first_pair no_pairs n bs found mid value rest are some cuts then = absurd (some are.count)
+first_pair (pair k v ps) n bs found mid value rest are some cuts then =
+    let one = cuts k (spelling k) (spelling v ++ spelling_of_pairs ps) (wider k 3 are.fit.2, refl) are.spelled in
+    let two = then v (spelling v) (spelling_of_pairs ps) (wider v 3 are.fit.3, refl) one.1 in
+    let key : Canon k found = (wider k 3 are.fit.2, one.0) in
+    let canon : Canon v value = (wider v 3 are.fit.3, two.0) in
+    let others : ArePairs ps (n - 1) rest = record { count = omega (arith, are.count); spelled = two.1; fit = first_of ps 3 (spelling k) are.fit.4 } in
+    (shows k found key, shows v value canon, shows_pairs ps (n - 1) rest others, rw (shown_is k found key, shown_is v value canon, shown_pairs_is ps (n - 1) rest others) refl)

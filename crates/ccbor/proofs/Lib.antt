@@ -5,7 +5,6 @@ pub mod Trees
 pub mod Appended
 pub mod Firsts
 pub mod Shows
-pub mod Known
 pub mod Elements
 pub mod Loop
 pub mod Walks

@@ -3,7 +3,6 @@ pub mod View
 pub mod Canon
 pub mod Reading
 pub mod Viewing
-pub mod Skipping
 pub mod Writing
 pub mod Access
 pub mod Refusals

@@ -1,13 +1,14 @@
 -- The plain program that the private functions of reading are proved against. Of the public clauses
 -- only those of views reach it, by `shown`, which the law `shown_values` pins to `Canon`.
--- Each function reads from the front of a list: what it read and the bytes after it, or None.
-use Rattle.std.specs.Prelude.{◌≡◌, ℕ, zero, suc, ◌-◌, ◌/◌, ◌%◌, ◌^◌, List, [], ◌∷◌, length, take, drop, true, false, Option, Some, None, option_map, Result, Ok, Err, nat_lt, ◌==◌, if◌then◌else◌}
+-- Each function reads from the front of a list: what it read and the bytes after it, or None. Where the
+-- bytes are known to be canonical, the order of keys and whether texts are UTF-8 are not looked at.
+use Rattle.std.specs.Prelude.{◌≡◌, ℕ, zero, suc, ◌-◌, ◌/◌, ◌%◌, ◌^◌, List, [], ◌∷◌, length, take, drop, true, false, Option, Some, None, option_map, Result, Ok, Err, nat_lt, ◌==◌, ◌||◌, Bool, if◌then◌else◌}
 use Rattle.std.specs.Str.{is_utf8}
 use Rattle.std.specs.Int.{Width, w8, w16, w32, w64, byte_len, from_be_bytes}
 use Rattle.ccbor.specs.declared.error.Error.{Error}
 use Rattle.ccbor.specs.declared.error.Error.TheVariants as errors
 use Rattle.ccbor.specs.Item.{Item, uint, nint, bytes, text, array, map, boolean, Items, no_items, item, Pairs, no_pairs, pair}
-use Rattle.ccbor.specs.Canon.{before, is_key}
+use Rattle.ccbor.specs.Canon.{before}
 
 abbrev pub Read : Type 0 → Type 0
 Read A = Option (A × List ℕ)
@@ -78,28 +79,33 @@ bytes_at n bs = do
   c ← content_at n bs
   Some (bytes c.0, c.1)
 
-unfoldable pub text_at : ℕ → List ℕ → Read Item
-text_at n bs = do
+unfoldable pub text_at : Bool → ℕ → List ℕ → Read Item
+text_at known n bs = do
   c ← content_at n bs
-  if is_utf8 c.0 then Some (text c.0, c.1) else None
+  if known || is_utf8 c.0 then Some (text c.0, c.1) else None
 
 -- what a head begins that is no array and no map
-unfoldable pub leaf_at : ℕ × ℕ → List ℕ → Read Item
-leaf_at h bs =
+unfoldable pub leaf_at : Bool → ℕ × ℕ → List ℕ → Read Item
+leaf_at known h bs =
     if h.0 == 0 then Some (uint h.1, bs)
     else if h.0 == 1 then Some (nint h.1, bs)
     else if h.0 == 2 then bytes_at h.1 bs
-    else if h.0 == 3 then text_at h.1 bs
+    else if h.0 == 3 then text_at known h.1 bs
     else if h.0 == 7 then (
     if h.1 == 20 then Some (boolean false, bs) else if h.1 == 21 then Some (boolean true, bs) else None)
     else None
 
+-- whether a value of this major type may be a key
+abbrev pub begins_key : ℕ → Bool
+begins_key major = major == 0 || major == 1 || major == 3
+
 -- a key, and its encoding
-unfoldable pub key_at : List ℕ → Read (Item × List ℕ)
-key_at bs = do
+unfoldable pub key_at : Bool → List ℕ → Read (Item × List ℕ)
+key_at known bs = do
   h ← head_at bs
-  k ← leaf_at h.0 h.1
-  if is_key k.0 then Some ((k.0, take (length bs - length k.1) bs), k.1) else None
+  if begins_key h.0.0 then (do
+    k ← leaf_at known h.0 h.1
+    Some ((k.0, take (length bs - length k.1) bs), k.1)) else None
 
 unfoldable pub items_at : (List ℕ → Read Item) → ℕ → List ℕ → Read Items
 items_at inside zero bs = Some (no_items, bs)
@@ -108,29 +114,29 @@ items_at inside (suc n) bs = do
   xs ← items_at inside n x.1
   Some (item x.0 xs.0, xs.1)
 
-unfoldable pub pairs_at : (List ℕ → Read Item) → List ℕ → ℕ → List ℕ → Read Pairs
-pairs_at inside last zero bs = Some (no_pairs, bs)
-pairs_at inside last (suc n) bs = do
-  k ← key_at bs
-  if before last k.0.1 then (do
+unfoldable pub pairs_at : Bool → (List ℕ → Read Item) → List ℕ → ℕ → List ℕ → Read Pairs
+pairs_at known inside last zero bs = Some (no_pairs, bs)
+pairs_at known inside last (suc n) bs = do
+  k ← key_at known bs
+  if known || before last k.0.1 then (do
     v ← inside k.1
-    ps ← pairs_at inside k.0.1 n v.1
+    ps ← pairs_at known inside k.0.1 n v.1
     Some (pair k.0.0 v.0 ps.0, ps.1)) else None
 
-abbrev pub nested_at : (List ℕ → Read Item) → ℕ × ℕ → List ℕ → Read Item
-nested_at inside h bs =
+abbrev pub nested_at : Bool → (List ℕ → Read Item) → ℕ × ℕ → List ℕ → Read Item
+nested_at known inside h bs =
     if h.0 == 4 then (do
       xs ← items_at inside h.1 bs
       Some (array xs.0, xs.1))
     else if h.0 == 5 then (do
-      ps ← pairs_at inside [] h.1 bs
+      ps ← pairs_at known inside [] h.1 bs
       Some (map ps.0, ps.1))
-    else leaf_at h bs
+    else leaf_at known h bs
 
-unfoldable pub item_at : ℕ → List ℕ → Read Item
-item_at zero bs = do
+unfoldable pub item_at : Bool → ℕ → List ℕ → Read Item
+item_at known zero bs = do
   h ← head_at bs
-  leaf_at h.0 h.1
-item_at (suc d) bs = do
+  leaf_at known h.0 h.1
+item_at known (suc d) bs = do
   h ← head_at bs
-  nested_at (item_at d) h.0 h.1
+  nested_at known (item_at known d) h.0 h.1

@@ -1,5 +1,5 @@
 -- What encoded bytes show, where they lie: a value, or the pairs of a map that are left.
-use Rattle.std.specs.Prelude.{◌≡◌, ◌==◌, ℕ, List, [], length, Option, Some, None, if◌then◌else◌}
+use Rattle.std.specs.Prelude.{◌≡◌, ◌==◌, ℕ, false, List, [], length, Option, Some, None, if◌then◌else◌}
 use Rattle.ccbor.specs.Item.{Item, uint, nint, bytes, text, array, map, boolean, Items, no_items, Pairs, no_pairs}
 use Rattle.ccbor.specs.Canon.{count_of_items, count_of_pairs, spelling_of_items, spelling_of_pairs, ItemsFit, PairsFit}
 use Rattle.ccbor.specs.Reading.{Read, item_at, items_at, pairs_at}
@@ -22,15 +22,15 @@ read_or other None = other
 
 -- the value that the bytes encode, which is the only one (the law `shown_values`); 0 where they encode none
 abbrev pub shown : List ℕ → Item
-shown bs = read_or (uint 0) (item_at 4 bs)
+shown bs = read_or (uint 0) (item_at false 4 bs)
 
 -- the n pairs that the bytes encode, which are the only ones; none where they encode no such
 abbrev pub shown_pairs : ℕ × List ℕ → Pairs
-shown_pairs m = read_or no_pairs (pairs_at (item_at 3) [] m.0 m.1)
+shown_pairs m = read_or no_pairs (pairs_at false (item_at false 3) [] m.0 m.1)
 
 -- the n items that the bytes encode, which are the only ones; none where they encode no such
 abbrev pub shown_items : ℕ × List ℕ → Items
-shown_items m = read_or no_items (items_at (item_at 3) m.0 m.1)
+shown_items m = read_or no_items (items_at (item_at false 3) m.0 m.1)
 
 -- ---- what private functions are proved against
 

@@ -1,9 +1,8 @@
 //! Values with no values in them, and keys.
 
-ghost use Rattle.std.specs.Prelude.{◌≡◌};
-ghost use Rattle.ccbor.specs.Canon.{is_key};
+ghost use Rattle.std.specs.Prelude.{◌≡◌, ◌-◌, false, length, take};
 ghost use Rattle.ccbor.specs.View.{view};
-ghost use Rattle.ccbor.specs.Reading.{Gives, Yields, content_at, bytes_at, text_at, leaf_at, key_at};
+ghost use Rattle.ccbor.specs.Reading.{Gives, Yields, content_at, bytes_at, text_at, leaf_at, begins_key, key_at};
 
 use crate::error::Error;
 use crate::head::{BYTES, FALSE, Head, NEGATIVE, SIMPLE, TEXT, TRUE, UNSIGNED, head_at};
@@ -34,7 +33,7 @@ fn bytes_at(alloc: Global, count: u64, rest: &[u8]) -> Result<(Value, &[u8]), Er
 /// The text whose UTF-8 is the next `count` bytes.
 #[tactic(auto, unfolding(crate::specs::Reading::text_at))]
 fn text_at(alloc: Global, count: u64, rest: &[u8]) -> Result<(Value, &[u8]), Error>
-    ensures { Gives (λ x. (view x.0, x.1.now)) result (text_at count rest.now) }
+    ensures { Gives (λ x. (view x.0, x.1.now)) result (text_at false count rest.now) }
 {
     let (content, rest) = content_at(rest, count)?;
     match str::from_utf8(content) {
@@ -47,7 +46,7 @@ fn text_at(alloc: Global, count: u64, rest: &[u8]) -> Result<(Value, &[u8]), Err
 #[tactic(auto, unfolding(crate::specs::Reading::leaf_at))]
 pub fn leaf_at(alloc: Global, head: Head, rest: &[u8]) -> Result<(Value, &[u8]), Error>
     ensures { Gives (λ x. (view x.0, x.1.now)) result
-        (leaf_at (head.major, head.argument) rest.now) }
+        (leaf_at false (head.major, head.argument) rest.now) }
 {
     match head.major {
         UNSIGNED => Ok((Value::Uint(head.argument), rest)),
@@ -60,23 +59,29 @@ pub fn leaf_at(alloc: Global, head: Head, rest: &[u8]) -> Result<(Value, &[u8]),
     }
 }
 
-/// Whether the value may be a key of a map.
-pub fn is_key(value: &Value) -> bool
-    ensures { result ≡ is_key (view value.now) }
+/// Whether a value of this major type may be a key of a map.
+pub fn begins_key(major: u8) -> bool
+    ensures { result ≡ begins_key major }
 {
-    matches!(value, Value::Uint(_) | Value::Nint(_) | Value::Text(_))
+    matches!(major, UNSIGNED | NEGATIVE | TEXT)
+}
+
+/// What stands before `rest`, which is the end of `bytes`.
+pub fn span_before<'a>(bytes: &'a [u8], rest: &[u8]) -> &'a [u8]
+    ensures { result.now ≡ take (length bytes.now - length rest.now) bytes.now }
+{
+    &bytes[..bytes.len().saturating_sub(rest.len())]
 }
 
 /// The key at the front, its encoding, and what follows it.
 #[tactic(auto, unfolding(crate::specs::Reading::key_at))]
 pub fn key_at(alloc: Global, bytes: &[u8]) -> Result<(Value, &[u8], &[u8]), Error>
-    ensures { Gives (λ x. ((view x.0, x.1.now), x.2.now)) result (key_at bytes.now) }
+    ensures { Gives (λ x. ((view x.0, x.1.now), x.2.now)) result (key_at false bytes.now) }
 {
     let (head, rest) = head_at(bytes)?;
-    let (key, rest) = leaf_at(alloc, head, rest)?;
-    if !is_key(&key) {
+    if !begins_key(head.major) {
         return Err(Error::NotCanonical);
     }
-    let encoding = &bytes[..bytes.len() - rest.len()];
-    Ok((key, encoding, rest))
+    let (key, rest) = leaf_at(alloc, head, rest)?;
+    Ok((key, span_before(bytes, rest), rest))
 }

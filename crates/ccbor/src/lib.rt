@@ -40,7 +40,6 @@ mod leaf;
 mod order;
 mod passing;
 mod reading;
-mod skipping;
 mod value;
 mod view;
 mod writing;

@@ -1,6 +1,6 @@
 //! Reading a value from the front of an input.
 
-ghost use Rattle.std.specs.Prelude.{◌≡◌, ℕ, ◌≤◌, ◌<◌, ◌⊎◌, [], length, take, IfOk, IfErr, IsErrOf};
+ghost use Rattle.std.specs.Prelude.{◌≡◌, ℕ, ◌≤◌, ◌<◌, ◌⊎◌, [], false, length, take, IfOk, IfErr, IsErrOf};
 ghost use Rattle.ccbor.specs.declared.error.Error.TheVariants as errors;
 ghost use Rattle.ccbor.specs.Item.{Item};
 ghost use Rattle.ccbor.specs.Canon.{Canon};
@@ -18,7 +18,7 @@ use std::alloc::Global;
 /// The value at the front with this many levels of arrays and maps left, and what follows it.
 #[cycle(reading)]
 pub fn item_at(alloc: Global, depth: u8, bytes: &[u8]) -> Result<(Value, &[u8]), Error>
-    ensures { Gives (λ x. (view x.0, x.1.now)) result (item_at depth bytes.now) }
+    ensures { Gives (λ x. (view x.0, x.1.now)) result (item_at false depth bytes.now) }
 {
     let (head, rest) = head_at(bytes)?;
     if depth == 0 {
@@ -47,7 +47,7 @@ fn items_at(
     bytes: &[u8],
 ) -> Result<(Vec<Value>, &[u8]), Error>
     ensures { Gives (λ x. (items_view x.0.items, x.1.now)) result
-        (items_at (item_at depth) count bytes.now) }
+        (items_at (item_at false depth) count bytes.now) }
 {
     let mut items = Vec::new(alloc);
     let mut rest = bytes;
@@ -69,7 +69,7 @@ fn pairs_at(
     bytes: &[u8],
 ) -> Result<(Vec<(Value, Value)>, &[u8]), Error>
     ensures { Gives (λ x. (pairs_view x.0.items, x.1.now)) result
-        (pairs_at (item_at depth) [] count bytes.now) }
+        (pairs_at false (item_at false depth) [] count bytes.now) }
 {
     let mut pairs = Vec::new(alloc);
     let mut last: &[u8] = &[];

@@ -10,9 +10,8 @@ ghost use Rattle.ccbor.specs.Viewing.{ArePairs, parts_in, shown, shown_items, sh
 
 use crate::error::Error;
 use crate::head::{ARRAY, BYTES, MAP, NEGATIVE, SIMPLE, TEXT, TRUE, UNSIGNED, head_at};
-use crate::passing::front;
+use crate::passing::{front, known_front};
 use crate::reading::item_at;
-use crate::skipping::known_front;
 use crate::value::{Key, MAX_DEPTH, Value};
 use std::alloc::{AllocError, Global};
 use std::marker::Model;
@@ -105,17 +104,6 @@ fn is_key(bytes: &[u8], key: Key<'_>) -> bool
             None => false,
         },
     }
-}
-
-/// The encodings of the first pair's key and value, and what follows them. They are known to be canonical, so
-/// only heads are read.
-fn first_pair(bytes: &[u8]) -> Option<(&[u8], &[u8], &[u8])>
-    ensures { (k v : Item) (ps : Pairs) (n : ℕ) → ArePairs (pair k v ps) n bytes.now → MatchOption result ⊥
-        (λ r. Canon k r.0.now × Canon v r.1.now × ((m : ℕ) → n ≡ suc m → ArePairs ps m r.2.now)) }
-{
-    let (key, rest) = known_front(bytes)?;
-    let (value, rest) = known_front(rest)?;
-    Some((key, value, rest))
 }
 
 impl<'a> View<'a> {
@@ -263,16 +251,13 @@ impl<'a> View<'a> {
     pub fn item(&self, index: usize) -> Option<View<'a>>
         ensures { option_map shown result ≡ item_in index (shown self.now) }
     {
-        let (count, mut rest) = parts(self.bytes, ARRAY)?;
-        if count <= index as u64 {
-            return None;
-        }
+        let mut items = self.as_array()?;
         for _ in 0..index {
-            let (_, after) = known_front(rest)?;
-            rest = after;
+            let (_, rest) = items.split_first()?;
+            items = rest;
         }
-        let (item, _) = known_front(rest)?;
-        Some(View { bytes: item })
+        let (item, _) = items.split_first()?;
+        Some(item)
     }
 
     /// The pair of key and value at this place, if this is a map that has one there.
@@ -341,7 +326,8 @@ impl<'a> MapView<'a> {
         if self.left == 0 {
             return None;
         }
-        let (key, value, rest) = first_pair(self.bytes)?;
+        let (key, rest) = known_front(self.bytes)?;
+        let (value, rest) = known_front(rest)?;
         Some((
             View { bytes: key },
             View { bytes: value },

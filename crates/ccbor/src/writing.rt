@@ -3,13 +3,12 @@
 ghost use Rattle.std.specs.Prelude.{◌≡◌, ◌<◌, [], ◌++◌, ℕ, List, length, OnOk, OnErr, IfErr, IsErrOf, ◌⊎◌};
 ghost use Rattle.ccbor.specs.Item.{Item};
 ghost use Rattle.ccbor.specs.declared.error.Error.TheVariants as errors;
-ghost use Rattle.ccbor.specs.Canon.{Canon, head, spelling, spelling_of_items, spelling_of_pairs, Fits, ItemsFit, PairsFit, AppendsCanon};
+ghost use Rattle.ccbor.specs.Canon.{Canon, head, is_key, spelling, spelling_of_items, spelling_of_pairs, Fits, ItemsFit, PairsFit, AppendsCanon};
 ghost use Rattle.ccbor.specs.View.{view, items_view, pairs_view};
 ghost use Rattle.ccbor.specs.Writing.{Writes, Grows};
 
 use crate::error::Error;
 use crate::head::{ARRAY, BYTES, FALSE, MAP, NEGATIVE, SIMPLE, TEXT, TRUE, UNSIGNED, put_head};
-use crate::leaf::is_key;
 use crate::order::before;
 use crate::value::{MAX_DEPTH, Value};
 use std::alloc::AllocError;
@@ -24,6 +23,13 @@ pub(crate) fn put_string(major: u8, content: &[u8], out: &mut Vec<u8>) -> Result
     put_head(major, content.len() as u64, out)?;
     out.extend_from_slice(content)?;
     Ok(())
+}
+
+/// Whether the value may be a key of a map.
+fn is_key(value: &Value) -> bool
+    ensures { result ≡ is_key (view value.now) }
+{
+    matches!(value, Value::Uint(_) | Value::Nint(_) | Value::Text(_))
 }
 
 /// Appends the value's encoding with this many levels of arrays and maps left. An error may leave

@@ -1,4 +1,5 @@
-use Rattle.ccbor.proofs.Shows.{shown_is, shown_pairs_is}
+use Rattle.ccbor.proofs.Shows.{shown_is}
+use Rattle.ccbor.proofs.Elements.{shown_pairs_is}
 use Rattle.ccbor.proofs.law.shown_values.Goals as goal
 
 pub returns-clause-value : goal.returns-clause-value

@@ -1,8 +1,7 @@
-use Rattle.std.proofs.Common.{◌-◌, ◌<◌}
-use Rattle.ccbor.specs.Access.{item_in}
-use Rattle.ccbor.specs.Viewing.{shown}
-use Rattle.ccbor.proofs.Elements.{Left}
+use Rattle.std.proofs.Common.{◌≡◌, ◌-◌}
+use Rattle.ccbor.specs.Access.{item_at, item_in}
+use Rattle.ccbor.specs.Viewing.{shown, shown_items}
 use Rattle.ccbor.proofs.view.View.item.Given as goal
 
 abbrev pub invariant-loop : goal.invariant-loop
-invariant-loop l = (l.index < l.count) × Left (l.index - l.counter) (l.count - l.counter) l.rest (item_in l.index (shown l.self))
+invariant-loop l = item_at (l.index - l.counter) (shown_items l.items) ≡ item_in l.index (shown l.self)
