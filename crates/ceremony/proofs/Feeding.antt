@@ -18,13 +18,6 @@ over c ps p (Reply bytes) a some = carried_ends c (ps ++ p ∷ []) 16 bytes.now 
 over c ps p (DeviceError code) a some = carried_ends c (ps ++ p ∷ []) 63 (code ∷ []) ((a.device_error code).0 refl)
 over c ps p (Dead kind) a some = death_ends c (ps ++ p ∷ []) kind ((a.dead kind).0 refl)
 
-pub more_wanted : (c : ℕ) (ps : List Packet) (p : Packet) → Answers c ps p (Ok More) → packets.Answers c ps p (Ok fed.More)
-more_wanted c ps p a = record {
-  ended = (λ e. absurd e, λ e. a.ended.1 e);
-  ready = (λ e. absurd e, λ e. a.more.0 tt e.1);
-  more = (λ e. a.more.0 tt, λ e. tt);
-}
-
 pub ready : (c : ℕ) (ps : List Packet) (p : Packet) (f : Outcome) → (f ≡ More → ⊥) → Answers c ps p (Ok f) → packets.Answers c ps p (Ok fed.Ready)
 ready c ps p f some a = record {
   ended = (λ e. absurd e, λ e. a.ended.1 e);

@@ -8,9 +8,6 @@ use Rattle.hidlink.proofs.Beginnings.{has_ended_later, taken}
 use Rattle.hidlink.proofs.Laws.{carried_ends, carries_first, death_ends, dies_first, one_place}
 use Rattle.ceremony.specs.Packets.{LiveState, HasGot, IsTaken}
 
-pub none_taken : (c : ℕ) → IsTaken c [] 0
-none_taken c = record { within = omega arith; shortest = λ j less. absurd (omega arith); ended = inr refl }
-
 -- where all has not ended, each packet is taken
 pub all_taken : (c : ℕ) (ps : List Packet) (n : ℕ) → IsTaken c ps n → (HasEnded c ps → ⊥) → n ≡ length ps
 all_taken c ps n t open_still = elim t.ended [ inl e ↦ absurd (open_still (has_ended_later (take n ps) ps (taken n ps) e)) | inr e ↦ e ]
