@@ -1,5 +1,5 @@
 -- The first refusal that applies.
-use Rattle.std.proofs.Common.{◌≡◌, ℕ, ◌<◌, ◌^◌, false, List, [], ◌∷◌, ◌++◌, length, drop, Option, Some, None, option_map, is_some, refl, sym, ap, ◌∙◌, append_assoc, append-nil, arith, inl, inr}
+use Rattle.std.proofs.Common.{◌≡◌, ℕ, ◌<◌, ◌^◌, false, List, [], ◌∷◌, ◌++◌, length, drop, Option, Some, None, option_map, is_some, refl, sym, ap, ◌∙◌, append_assoc, inl, inr}
 use Rattle.std.specs.Prelude.{IfSome}
 use Rattle.std.specs.Int.{w32, to_be_bytes}
 use Rattle.first_line.specs.Lines.{First}
@@ -8,7 +8,7 @@ use Rattle.authdata.specs.declared.error.Error.{Error}
 use Rattle.authdata.specs.declared.error.Error.TheVariants as errors
 use Rattle.authdata.specs.declared.auth.AttestedView.{AttestedView}
 use Rattle.authdata.specs.Flags.{is_set, HasBackup, AT, ED}
-use Rattle.authdata.specs.Layout.{AttestedCredential, AuthenticatorData, AuthOf, IsAttestedCredential, IsAuthenticatorData, attested_bytes, lent_attested_view, data_bytes}
+use Rattle.authdata.specs.Layout.{AttestedCredential, AuthenticatorData, IsAttestedCredential, IsAuthenticatorData, attested_bytes, lent_attested_view, data_bytes}
 use Rattle.authdata.specs.Refusals.{flags_in, Applies, IsAttested, later_order, order}
 use Rattle.authdata.specs.Private.{WrongCredential}
 
@@ -64,12 +64,3 @@ auth_is bs hash flags count o len f c same at ed backup m = record {
 pub extra_applies : (bs r37 rest : List ℕ) (a : AuthenticatorData) → IsAuthenticatorData a → bs ≡ a.rp_id_hash ++ (a.flags ∷ (to_be_bytes w32 a.sign_count ++ r37)) → r37 ≡ drop 37 bs
     → drop 37 bs ≡ attested_bytes a.attested ++ rest → 0 < length rest → Applies bs errors.ExtraBytes
 extra_applies bs r37 rest a is e f g some = (a, data_bytes a, rest, (is, refl), some, parts_join a bs r37 rest e (f ∙ g))
-
-pub auth_found : (bs r37 rest : List ℕ) (a : AuthenticatorData) → IsAuthenticatorData a → bs ≡ a.rp_id_hash ++ (a.flags ∷ (to_be_bytes w32 a.sign_count ++ r37)) → r37 ≡ drop 37 bs
-    → drop 37 bs ≡ attested_bytes a.attested ++ rest → length rest ≡ 0 → AuthOf a bs
-auth_found bs r37 rest a is e f g none =
-    let nothing : rest ≡ [] = empty rest none in
-    (is, parts_join a bs r37 rest e (f ∙ g) ∙ ap (λ (l : List ℕ). data_bytes a ++ l) nothing ∙ append-nil (data_bytes a)) where
-      empty : (l : List ℕ) → length l ≡ 0 → l ≡ []
-      empty [] e = refl
-      empty (x ∷ xs) e = absurd (omega arith)

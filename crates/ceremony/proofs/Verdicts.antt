@@ -17,17 +17,6 @@ lifted k c ps n m (errors.Refused w) d h = (n, m, d, h)
 lifted k c ps n m errors.Memory d h = tt
 lifted k c ps n m _ d h = absurd h
 
-pub undelivered : {R W : Type 0} (k : Ceremony R W) (c : ℕ) (ps : List Packet) (e : Error W) → Undelivered c ps e → Refused k c ps e
-undelivered k c ps errors.Incomplete h = h
-undelivered k c ps (errors.Dead index kind) h = h
-undelivered k c ps (errors.DeviceError code) h = h
-undelivered k c ps errors.Memory h = tt
-undelivered k c ps _ h = absurd h
-
-pub never_memory : {W : Type 0} (c : ℕ) (ps : List Packet) (e : Error W) → Undelivered c ps e → e ≡ errors.Memory → ⊥
-never_memory c ps errors.Memory h e = h
-never_memory c ps _ h e = absurd (cc)
-
 -- packets deliver one message
 pub one_message : (c : ℕ) (ps : List Packet) (n k : ℕ) (m l : List ℕ) → Delivers c ps n m → Delivers c ps k l → (n ≡ k) × (m ≡ l)
 one_message c ps n k m l a b = let o = one_carried c n k ps 16 16 m l a.0 b.0 a.1 b.1 in (o.0, o.2)

@@ -105,16 +105,6 @@ first_true_of _ x (_, later row more line off f, e) = split row.0 refl (first_tr
 pub tested : {X : Type 0} (lines : List (Bool × X)) (x : X) → (first_true lines ≡ Some x) ↔ ((line : Bool × X) × First (λ (l : Bool × X). l.0 ≡ true) lines line × (line.1 ≡ x))
 tested lines x = (true_first lines x, first_true_of lines x)
 
--- the lines with what a function makes of what each gives
-pub first_true_mapped : {X Y : Type 0} (f : X → Y) (lines : List (Bool × X)) → first_true (map (λ (line : Bool × X). (line.0, f line.1)) lines) ≡ option_map f (first_true lines)
-first_true_mapped f [] = refl
-first_true_mapped {X} {Y} f (row ∷ more) = split row.0 (first_true_mapped f more) where
-  split : (b : Bool) → first_true (map (λ (line : Bool × X). (line.0, f line.1)) more) ≡ option_map f (first_true more)
-      → option_map (λ (line : Bool × Y). line.1) (cond b (Some (row.0, f row.1)) (find (λ (line : Bool × Y). line.0) (map (λ (line : Bool × X). (line.0, f line.1)) more)))
-      ≡ option_map f (option_map (λ (line : Bool × X). line.1) (cond b (Some row) (find (λ (line : Bool × X). line.0) more)))
-  split true rest = refl
-  split false rest = rest
-
 -- a fact of each line, counted from k, where its test is true and those before it are not
 abbrev pub EachTested : {X : Type 0} → (ℕ → X → Type 0) → ℕ → List (Bool × X) → X → Type 0
 EachTested P k [] last = P k last

@@ -7,7 +7,7 @@ use Rattle.hidframe.specs.declared.Packet.{Packet}
 use Rattle.hidframe.specs.Packets.{Fields, Initial, Continuation, fields}
 use Rattle.hidframe.specs.Frames.{continuations, continuation_count, joined}
 use Rattle.std.specs.Prelude.{◌==◌}
-use Rattle.hidlink.specs.Wire.{channel_of, on, IsKeepalive, AreKeepalives, Begun, Carries, IsBeginning, Shown, Waiting, Receiving, Replied, Failed, Died}
+use Rattle.hidlink.specs.Wire.{channel_of, on, IsKeepalive, AreKeepalives, Carries, IsBeginning, Open, Shown, Waiting, Receiving, Replied, Failed, Died}
 use Rattle.hidlink.specs.Steps.{received, on_channel, step, run, state, IsEnded}
 
 -- a run in two parts
@@ -106,6 +106,38 @@ continuations-append c k (x ∷ xs) y =
 run_from : (waits begun : List Packet) (f : Fields) (fs : List Fields) → AreKeepalives waits → map fields begun ≡ f ∷ fs → run Waiting (map fields (waits ++ begun)) ≡ run (on_channel Waiting f) fs
 run_from waits begun f fs k e =
     ap (run Waiting) (map-append fields waits begun ∙ ap (λ xs. map fields waits ++ xs) e) ∙ run-append Waiting (map fields waits) (f ∷ fs) ∙ ap (λ s. run s (f ∷ fs)) (run-keepalives waits k)
+
+-- The packets qs are keepalives, then packets of a message of len bytes on c: these data areas joined, with
+-- `next` continuations.
+pub record Begun (c : ℕ) (qs : List Packet) (cmd len next : ℕ) (bytes : List ℕ) : Type 0 where
+  pub waits : List Packet
+  pub begun : List Packet
+  pub first : List ℕ
+  pub later : List (List ℕ)
+  pub split : qs ≡ waits ++ begun
+  pub keepalives : AreKeepalives waits
+  pub packets : map fields begun ≡ Initial c cmd len first ∷ continuations c 0 later
+  pub number : length later ≡ next
+  pub so_far : bytes ≡ first ++ joined later
+
+-- a message is open that has begun, can be carried and is not all there
+pub begun_of : {c len next : ℕ} {ps : List Packet} {bytes : List ℕ} → Open c ps len next bytes → Begun c (on c ps) 16 len next bytes
+begun_of o = record { waits = o.waits; begun = o.begun; first = o.first; later = o.later; split = o.split; keepalives = o.keepalives; packets = o.packets; number = o.number; so_far = o.so_far }
+
+pub open_as : {c len next : ℕ} {ps : List Packet} {bytes : List ℕ} → Begun c (on c ps) 16 len next bytes → len ≤ 7609 → next < continuation_count len → Open c ps len next bytes
+open_as b room missing = record {
+  waits = b.waits;
+  begun = b.begun;
+  first = b.first;
+  later = b.later;
+  split = b.split;
+  keepalives = b.keepalives;
+  room = room;
+  packets = b.packets;
+  number = b.number;
+  missing = missing;
+  so_far = b.so_far;
+}
 
 pub run_begun : {c len next : ℕ} {qs : List Packet} {bytes : List ℕ} (b : Begun c qs 16 len next bytes) → len ≤ 7609 → next ≤ continuation_count len → run Waiting (map fields qs) ≡ received len next bytes
 unfolding on_channel

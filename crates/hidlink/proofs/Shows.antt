@@ -10,7 +10,7 @@ use Rattle.hidlink.specs.declared.collection.DeadKind.{DeadKind}
 use Rattle.hidlink.specs.declared.collection.DeadKind.TheVariants.{WrongCommand, BadLength, BadKeepalive, StrayContinuation, WrongSequence, Interrupted}
 use Rattle.hidlink.specs.Wire.{channel_of, on, IsKeepalive, AreKeepalives, IsWrongCommand, IsBadLength, IsBadKeepalive, Carries, IsBeginning, IsDead, Open, IsOpen, Fault, Dies, Shown, Waiting, Receiving, Replied, Failed, Died, Holds, HasEnded}
 use Rattle.hidlink.specs.Steps.{on_channel, step, state, IsEnded}
-use Rattle.hidlink.proofs.Runs.{on-push, on-other, keepalive_stays, run-keepalives, received-missing, run_begun, state-push, state-ended, state-carries, ending, pending_before}
+use Rattle.hidlink.proofs.Runs.{begun_of, open_as, on-push, on-other, keepalive_stays, run-keepalives, received-missing, run_begun, state-push, state-ended, state-carries, ending, pending_before}
 use Rattle.hidlink.proofs.Beginnings.{begins_itself, begins_later, dead_itself}
 use Rattle.hidframe.proofs.Uniqueness.{AreaFits, fields_fit}
 use Rattle.hidlink.proofs.SoFar.{ArePackets, packets_left, completes, completes_waiting, first_packet, begins_with, goes_on, holds-received, packets_right, carries}
@@ -19,7 +19,7 @@ use Rattle.hidlink.proofs.SoFar.{ArePackets, packets_left, completes, completes_
 pub state-open : {c len next : ℕ} {ps : List Packet} {bytes : List ℕ} → Open c ps len next bytes → state c ps ≡ Receiving len next bytes
 state-open {len} {next} {bytes} o =
     let missing : next < continuation_count len = o.missing in
-    run_begun o.begun o.room (omega arith) ∙ received-missing len next bytes missing
+    run_begun (begun_of o) o.room (omega arith) ∙ received-missing len next bytes missing
 
 -- a message isn't a death
 pub ending_ended : (cmd : ℕ) (m : List ℕ) → IsEnded (ending cmd m)
@@ -42,7 +42,7 @@ pub alive : (c : ℕ) (ps : List Packet) (s : Shown) → c < 2 ^ 32 → ArePacke
 alive c ps Waiting low all waits n dead = dead (ps ++ first_packet c ∷ []) 16 [] (inr (first_packet c ∷ [], refl)) (completes_waiting c ps low waits)
 alive c ps (Receiving len next bytes) low all o n dead =
     let missing : next < continuation_count len = o.missing in
-    let done : (more : List Packet) × (m : List ℕ) × Carries c (ps ++ more) 16 m = completes c ps len next bytes (continuation_count len - next - 1) low all o.begun o.room (omega arith) in
+    let done : (more : List Packet) × (m : List ℕ) × Carries c (ps ++ more) 16 m = completes c ps len next bytes (continuation_count len - next - 1) low all (begun_of o) o.room (omega arith) in
     dead (ps ++ done.0) 16 done.1 (inr (done.0, refl)) done.2
 alive c ps _ low all h n dead = n tt
 
@@ -64,7 +64,7 @@ holds-later c ps p (Died kind) e h = (h.0, more_begins h.0 ps p h.1, h.2)
 -- a packet on another channel changes nothing
 holds-other : (c : ℕ) (ps : List Packet) (p : Packet) (s : Shown) → (channel_of (fields p) ≡ c → ⊥) → Holds c ps s → Holds c (ps ++ p ∷ []) s
 holds-other c ps p Waiting n h = rw (on-other c ps p n) h
-holds-other c ps p (Receiving len next bytes) n h = record { begun = rw (on-other c ps p n) h.begun; room = h.room; missing = h.missing }
+holds-other c ps p (Receiving len next bytes) n h = open_as (rw (on-other c ps p n) (begun_of h)) h.room h.missing
 holds-other c ps p (Replied m) n h = holds-later c ps p (Replied m) tt h
 holds-other c ps p (Failed code) n h = holds-later c ps p (Failed code) tt h
 holds-other c ps p (Died kind) n h = holds-later c ps p (Died kind) tt h
@@ -163,7 +163,7 @@ holds-here c ps p (Receiving len next bytes) (Initial cid cmd more area) low all
     dies c ps p (Receiving len next bytes) (Initial cid cmd more area) Interrupted low all h (λ e. e) says here refl ((len, next, bytes, h), tt)
 holds-here c ps p (Receiving len next bytes) (Continuation cid seq area) low all says here h = elim (eqb_tells seq next) [
   | inl same ↦ let missing : next < continuation_count len = h.missing in
-      rw same.0 (holds-received ps p all (goes_on ps p area h.begun (says ∙ ap (λ k. Continuation k seq area) here ∙ ap (λ k. Continuation c k area) same.1)) h.room (ap channel_of says ∙ here) (omega arith))
+      rw same.0 (holds-received ps p all (goes_on ps p area (begun_of h) (says ∙ ap (λ k. Continuation k seq area) here ∙ ap (λ k. Continuation c k area) same.1)) h.room (ap channel_of says ∙ here) (omega arith))
   | inr other ↦ dies c ps p (Receiving len next bytes) (Continuation cid seq area) WrongSequence low all h (λ e. e) says here (rw other.0 refl) (len, next, bytes, h, other.1)
 ]
 holds-here c ps p (Replied m) f low all says here h = holds-later c ps p (Replied m) tt h

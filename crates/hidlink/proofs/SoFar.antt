@@ -10,9 +10,9 @@ use Rattle.hidframe.specs.Packets.{Initial, Continuation, fields, IsPacket, chan
 use Rattle.hidframe.specs.Frames.{continuations, continuation_count, joined}
 use Rattle.hidframe.proofs.Uniqueness.{AreaFits, areas_size, fields_fit}
 use Rattle.hidframe.proofs.Bytes.{bytes-append, bytes-cons, bytes_zeros, bytes_of_32}
-use Rattle.hidlink.specs.Wire.{channel_of, on, AreKeepalives, Begun, Carries, Holds}
+use Rattle.hidlink.specs.Wire.{channel_of, on, AreKeepalives, Carries, Holds}
 use Rattle.hidlink.specs.Steps.{received}
-use Rattle.hidlink.proofs.Runs.{on-push, continuations-append}
+use Rattle.hidlink.proofs.Runs.{on-push, continuations-append, Begun, open_as}
 
 abbrev pub ArePackets : List Packet → Type 0
 ArePackets ps = AllByRecursion IsPacket ps
@@ -113,7 +113,7 @@ pub holds-received : {c len next : ℕ} {bytes : List ℕ} (ps : List Packet) (p
     → channel_of (fields p) ≡ c → next ≤ continuation_count len → Holds c (ps ++ p ∷ []) (received len next bytes)
 holds-received {c} {len} {next} {bytes} ps p all s room on_c within =
     cond_both (nat_lt next (continuation_count len)) _ _ (Holds c (ps ++ p ∷ []))
-    (λ e. record { begun = s; room = room; missing = ltb-true next (continuation_count len) e })
+    (λ e. open_as s room (ltb-true next (continuation_count len) e))
     (λ e. let h : continuation_count len ≤ next = ltb-false next (continuation_count len) e in
     let whole : next ≡ continuation_count len = omega arith in
     let all_came : length bytes ≡ 57 + 59 * next = size (ps ++ p ∷ []) all s in

@@ -63,24 +63,20 @@ SomeIsDead c ps = (qs : List Packet) × IsBeginning qs ps × IsDead c qs
 abbrev pub HasEnded : ℕ → List Packet → Type 0
 HasEnded c ps = SomeCarries c ps ⊎ SomeIsDead c ps
 
--- The packets qs are keepalives, then packets of a message of len bytes on c: these data areas joined, with
--- `next` continuations.
-pub record Begun (c : ℕ) (qs : List Packet) (cmd len next : ℕ) (bytes : List ℕ) : Type 0 where
+-- The packets on c are keepalives, then less than all packets of a message of len bytes: these data
+-- areas joined, with `next` continuations.
+pub record Open (c : ℕ) (ps : List Packet) (len next : ℕ) (bytes : List ℕ) : Type 0 where
   pub waits : List Packet
   pub begun : List Packet
   pub first : List ℕ
   pub later : List (List ℕ)
-  pub split : qs ≡ waits ++ begun
+  pub split : on c ps ≡ waits ++ begun
   pub keepalives : AreKeepalives waits
-  pub packets : map fields begun ≡ Initial c cmd len first ∷ continuations c 0 later
-  pub number : length later ≡ next
-  pub so_far : bytes ≡ first ++ joined later
-
--- on c a CBOR message that can be carried has begun, and not all of its packets are there
-pub record Open (c : ℕ) (ps : List Packet) (len next : ℕ) (bytes : List ℕ) : Type 0 where
-  pub begun : Begun c (on c ps) CTAPHID_CBOR len next bytes
   pub room : len ≤ MAX_PAYLOAD_SIZE
+  pub packets : map fields begun ≡ Initial c CTAPHID_CBOR len first ∷ continuations c 0 later
+  pub number : length later ≡ next
   pub missing : next < continuation_count len
+  pub so_far : bytes ≡ first ++ joined later
 
 abbrev pub IsOpen : ℕ → List Packet → Type 0
 IsOpen c ps = (len : ℕ) × (next : ℕ) × (bytes : List ℕ) × Open c ps len next bytes
