@@ -6,7 +6,7 @@ use Rattle.std.proofs.lemmas.List.{length-take, take-take, take_all}
 use Rattle.hidframe.specs.declared.Packet.{Packet}
 use Rattle.hidlink.specs.Wire.{Carries, Dies, HasEnded}
 use Rattle.hidlink.proofs.Laws.{carries_first, one_carried}
-use Rattle.ceremony.specs.Verdict.{CarriesReply, Ceremony, Delivers, Refused, RefusedMessage, Succeeds, Undelivered}
+use Rattle.ceremony.specs.Verdict.{CarriesReply, Ceremony, Delivers, Refused, RefusedMessage, Succeeds}
 use Rattle.ceremony.specs.declared.error.Error.{Error}
 use Rattle.ceremony.specs.declared.error.Error.TheVariants as errors
 

@@ -8,7 +8,7 @@ ghost use Rattle.client.specs.Options.{registration_view, sign_in_view};
 
 use crate::entities::{descriptors, parameters};
 use crate::options::{CreationOptions, RequestOptions};
-use clientdata::{ClientData, CeremonyType, hash, serialise};
+use clientdata::{CeremonyType, ClientData, hash, serialise};
 use ctapmsg::{AssertionOptions, GetAssertion, MakeCredential, RelyingParty, User};
 use std::alloc::{AllocError, Global};
 

@@ -286,7 +286,15 @@ fn others(rt: HostRuntime) -> Result<(), Fail> {
         br#"{"type":"webauthn.get","challenge":"AAEC","origin":"https://a.example","crossOrigin":false}"#;
     assert!(rt; is_read(alloc, text, CeremonyType::Get, "AAEC", "https://a.example"));
     let text = CLIENT_DATA.as_bytes();
-    assert!(rt; is_read(alloc, text, CeremonyType::Create, "AAEC", "https://a.example:8443"));
+    assert!(rt;
+        is_read(
+            alloc,
+            text,
+            CeremonyType::Create,
+            "AAEC",
+            "https://a.example:8443"
+        )
+    );
     let message: &[u8] = &[8];
     let taken = payload(alloc, &[next_request(2)])?;
     assert!(rt; matches!(&taken, Some(bytes) if bytes.as_slice() == message));

@@ -1,7 +1,7 @@
 //! Client data that are the expected text: the texts are WebAuthn's (section 5.8.1.1), written out, the texts of
 //! challenges what another program gives for them.
 
-use clientdata::{ExpectedOrigin, CeremonyType, is_serialised};
+use clientdata::{CeremonyType, ExpectedOrigin, is_serialised};
 use std::test::Fail;
 
 /// The number 1 in 8 bytes, then 24 bytes 0.
@@ -42,9 +42,27 @@ const UNESCAPED: &str =
 /// A text, the ceremony, challenge and origin, and whether it is told as their text.
 const ROWS: &[(&str, CeremonyType, [u8; 32], &str, bool)] = &[
     (SIGN_IN, CeremonyType::Get, CHALLENGE, "https://abc", true),
-    (CROSS_ORIGIN, CeremonyType::Get, CHALLENGE, "https://abc", true),
-    (REGISTRATION, CeremonyType::Create, HIGHEST, "https://abc", true),
-    (SIGN_IN, CeremonyType::Create, CHALLENGE, "https://abc", false),
+    (
+        CROSS_ORIGIN,
+        CeremonyType::Get,
+        CHALLENGE,
+        "https://abc",
+        true,
+    ),
+    (
+        REGISTRATION,
+        CeremonyType::Create,
+        HIGHEST,
+        "https://abc",
+        true,
+    ),
+    (
+        SIGN_IN,
+        CeremonyType::Create,
+        CHALLENGE,
+        "https://abc",
+        false,
+    ),
     (SIGN_IN, CeremonyType::Get, HIGHEST, "https://abc", false),
     (SIGN_IN, CeremonyType::Get, CHALLENGE, "https://ab", false),
     (SIGN_IN, CeremonyType::Get, CHALLENGE, "https://abcd", false),
@@ -53,7 +71,13 @@ const ROWS: &[(&str, CeremonyType, [u8; 32], &str, bool)] = &[
     (LONGER, CeremonyType::Get, CHALLENGE, "https://abc", false),
     (ESCAPED, CeremonyType::Get, CHALLENGE, "a\"b", true),
     (UNESCAPED, CeremonyType::Get, CHALLENGE, "a\"b", false),
-    (BEYOND_ASCII, CeremonyType::Get, CHALLENGE, "https://é", true),
+    (
+        BEYOND_ASCII,
+        CeremonyType::Get,
+        CHALLENGE,
+        "https://é",
+        true,
+    ),
     (OPEN, CeremonyType::Get, CHALLENGE, "https://abc", false),
     ("", CeremonyType::Get, CHALLENGE, "https://abc", false),
 ];

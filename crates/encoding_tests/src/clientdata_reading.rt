@@ -2,7 +2,7 @@
 //! hand, by RFC 8259 and WebAuthn.
 
 use crate::pieces::{Table, bytes_of, part};
-use clientdata::{Binding, Error, CeremonyType, Seen, read};
+use clientdata::{Binding, CeremonyType, Error, Seen, read};
 use std::alloc::{AllocError, Global};
 use std::test::Fail;
 
@@ -139,6 +139,9 @@ fn names(rt: HostRuntime) -> Result<(), Fail> {
             "{text}"
         );
     }
-    assert!(rt; CeremonyType::Create.text() == "webauthn.create" && CeremonyType::Get.text() == "webauthn.get");
+    assert!(rt;
+        CeremonyType::Create.text() == "webauthn.create"
+            && CeremonyType::Get.text() == "webauthn.get"
+    );
     Ok(())
 }

@@ -3,7 +3,8 @@
 
 use crate::pieces::{Table, bytes_of, part};
 use clientdata::{
-    Binding, ClientData, CeremonyType, challenge_text, hash, limited_verify, quoted_text, read, serialise,
+    Binding, CeremonyType, ClientData, challenge_text, hash, limited_verify, quoted_text, read,
+    serialise,
 };
 use std::alloc::{AllocError, Global};
 use std::test::Fail;

@@ -4,7 +4,7 @@ ghost use Rattle.std.specs.Prelude.{◌≡◌, IfErr, IfOk, string_bytes};
 ghost use Rattle.passkey.specs.Checked.{IsChecked, IsUnchecked};
 ghost use Rattle.passkey.specs.declared.check.CheckFault.TheVariants as faults;
 
-use clientdata::{ClientData, CeremonyType, limited_verify};
+use clientdata::{CeremonyType, ClientData, limited_verify};
 use command_line::unhex;
 use std::alloc::{AllocError, Global};
 

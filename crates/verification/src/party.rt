@@ -5,7 +5,7 @@ ghost use Rattle.sha2.specs.Sha256.{sha256};
 ghost use Rattle.verification.specs.ClientData.{IsSerialised};
 ghost use Rattle.verification.specs.Views.{texts_of};
 
-use clientdata::{ExpectedOrigin, CeremonyType, is_serialised};
+use clientdata::{CeremonyType, ExpectedOrigin, is_serialised};
 use sha2::{Digest, Sha256};
 use std::alloc::{AllocError, Global};
 use std::marker::Model;
