@@ -9,15 +9,8 @@ use Rattle.credentials.specs.Table.{row_of, with_row, IsRow, AreRows}
 own_id : (id : List ℕ) → bytes_eq id id ≡ true
 own_id id = (bytes_decides id id).1 refl
 
-same_id : (x y : List ℕ) → bytes_eq x y ≡ true → x ≡ y
+pub same_id : (x y : List ℕ) → bytes_eq x y ≡ true → x ≡ y
 same_id x y e = (bytes_decides x y).0 e
-
--- the first of more rows has the id, or it is found behind it
-pub here : (id : List ℕ) (r : Credential) (rows : List Credential) → bytes_eq id r.id ≡ true → row_of id (r ∷ rows) ≡ Some r
-here id r rows e = rw e refl
-
-pub behind : (id : List ℕ) (r : Credential) (rows : List Credential) → bytes_eq id r.id ≡ false → row_of id (r ∷ rows) ≡ row_of id rows
-behind id r rows e = rw e refl
 
 -- a credential at a place is there
 at_place : (rows : List Credential) (i : ℕ) (row : Credential) → slice_get rows i ≡ Some row → row_of row.id rows ≡ None → ⊥

@@ -5,12 +5,9 @@ use Rattle.std.proofs.lemmas.Grind.{common_steps}
 use Rattle.std.specs.Str.{bytes_eq}
 use Rattle.verification.specs.Records.{Credential}
 use Rattle.credentials.specs.Table.{row_of, with_row}
-use Rattle.credentials.proofs.RowLemmas.{found_id}
+use Rattle.credentials.proofs.RowLemmas.{found_id, same_id}
 use Rattle.std.specs.Cmp.Lexicographic.{bytes_decides}
 use Rattle.site.specs.Laws.{IsKept}
-
-same_id : (x y : List ℕ) → bytes_eq x y ≡ true → x ≡ y
-same_id x y e = (bytes_decides x y).0 e
 
 -- a row that is there is kept
 pub kept_here : (rows : List Credential) (row : Credential) → row_of row.id rows ≡ Some row → IsKept row rows
