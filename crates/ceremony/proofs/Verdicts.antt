@@ -6,16 +6,9 @@ use Rattle.std.proofs.lemmas.List.{length-take, take-take, take_all}
 use Rattle.hidframe.specs.declared.Packet.{Packet}
 use Rattle.hidlink.specs.Wire.{Carries, Dies, HasEnded}
 use Rattle.hidlink.proofs.Laws.{carries_first, one_carried}
-use Rattle.ceremony.specs.Verdict.{CarriesReply, Ceremony, Delivers, Refused, RefusedMessage, Succeeds}
+use Rattle.ceremony.specs.Verdict.{CarriesReply, Ceremony, Delivers, Refused, Succeeds}
 use Rattle.ceremony.specs.declared.error.Error.{Error}
 use Rattle.ceremony.specs.declared.error.Error.TheVariants as errors
-
--- what refuses a message refuses the packets, and so does that none came
-pub lifted : {R W : Type 0} (k : Ceremony R W) (c : ℕ) (ps : List Packet) (n : ℕ) (m : List ℕ) (e : Error W) → Delivers c ps n m → RefusedMessage k m e → Refused k c ps e
-lifted k c ps n m (errors.Reply e) d h = (n, m, d, h)
-lifted k c ps n m (errors.Refused w) d h = (n, m, d, h)
-lifted k c ps n m errors.Memory d h = tt
-lifted k c ps n m _ d h = absurd h
 
 -- packets deliver one message
 pub one_message : (c : ℕ) (ps : List Packet) (n k : ℕ) (m l : List ℕ) → Delivers c ps n m → Delivers c ps k l → (n ≡ k) × (m ≡ l)
