@@ -19,28 +19,28 @@ const AUTH_DATA: [u8; 32] = [
 /// The format, the members by name and kind of value (`member_value`), and what is shown: 0 for nothing, 1 for self
 /// attestation, or the number of the refusal; of the key of 32 bytes 7 and the hash of 32 bytes 34, or of those bytes
 /// that follow.
-const STATEMENTS: Table = "packed|alg=nint:own sig=bytes:signature|1
+const STATEMENTS: Table = "packed|alg=nint:own sig=bytes:bench-signature|1
 none||0
-packed|alg=nint:other sig=bytes:signature|15
-packed|alg=text:EdDSA sig=bytes:signature|15
-packed|alg=uint:own sig=bytes:signature|15
-packed|alg=nint:own sig=bytes:of-the-hash|15
-packed|alg=nint:own sig=bytes:signature x5c=map|15
-packed|sig=bytes:signature|15
+packed|alg=nint:other sig=bytes:bench-signature|15
+packed|alg=text:EdDSA sig=bytes:bench-signature|15
+packed|alg=uint:own sig=bytes:bench-signature|15
+packed|alg=nint:own sig=bytes:bench-signature-of-the-hash|15
+packed|alg=nint:own sig=bytes:bench-signature x5c=map|15
+packed|sig=bytes:bench-signature|15
 packed|alg=nint:own|15
 packed|alg=nint:own sig=uint:0|15
 packed|alg=nint:own sig=bytes:|15
-packed|alh=nint:own sig=bytes:signature|15
+packed|alh=nint:own sig=bytes:bench-signature|15
 packed||15
 none|alg=nint:own|15
-none|alg=nint:own sig=bytes:signature|15
+none|alg=nint:own sig=bytes:bench-signature|15
 tpm||14
 ||14
 None||14
 packed ||14
-fido-u2f|alg=nint:own sig=bytes:signature|14
-packed|alg=nint:own sig=bytes:signature|15|7|35
-packed|alg=nint:own sig=bytes:signature|15|8|34";
+fido-u2f|alg=nint:own sig=bytes:bench-signature|14
+packed|alg=nint:own sig=bytes:bench-signature|15|7|35
+packed|alg=nint:own sig=bytes:bench-signature|15|8|34";
 
 /// An algorithm, the argument of its number, and that of the other.
 const ALGORITHMS: &[(Alg, u64, u64)] = &[(Alg::EdDsa, 7, 6), (Alg::Es256, 6, 7)];

@@ -1,4 +1,4 @@
-//! Tests of the crates that read and write bytes: `ccbor`, `cose`, `authdata` and `clientdata`.
+//! Tests of the crates that read and write bytes: `ccbor`, `cose`, `authdata`, `clientdata` and `ctapmsg`.
 #![tactic(auto)]
 
 #[cfg(test)]
@@ -27,5 +27,39 @@ mod cose_keys;
 mod cose_schemes;
 #[cfg(test)]
 mod made;
+#[cfg(test)]
+mod message_answers;
+#[cfg(test)]
+mod message_commands;
+#[cfg(test)]
+mod message_creation_maps;
+#[cfg(test)]
+mod message_extensions;
+#[cfg(test)]
+mod message_information;
+#[cfg(test)]
+mod message_large;
+#[cfg(test)]
+mod message_literals;
+#[cfg(test)]
+mod message_maps;
+#[cfg(test)]
+mod message_names;
+#[cfg(test)]
+mod message_pairs;
+#[cfg(test)]
+mod message_parts;
+#[cfg(test)]
+mod message_reply_records;
+#[cfg(test)]
+mod message_reply_rows;
+#[cfg(test)]
+mod message_request_records;
+#[cfg(test)]
+mod message_request_rows;
+#[cfg(test)]
+mod message_request_values;
+#[cfg(test)]
+mod message_rows;
 #[cfg(test)]
 mod pieces;

@@ -3,6 +3,7 @@
 //! A table is lines, each of parts with `|` between them. Bytes are words between spaces: hexadecimal digits, with `*`
 //! and how often they stand where that is not once; characters behind `'`; or a name, which stands for its own words.
 
+use crate::message_names;
 use std::alloc::{AllocError, Global};
 
 /// Lines, each of parts with `|` between them.
@@ -12,26 +13,15 @@ pub type Table = &'static str;
 /// before its x, and between its x and its y; flags 41, counter 0 and an aaguid of 16 bytes 0; an id of one byte with its
 /// length; an EdDSA key; and the signatures of the bench key of 32 bytes 7, by Python's `hashlib`: of H and 32 bytes 34,
 /// and of these alone.
-const NAMES: &[(&str, &str)] = &[
-    (
-        "H",
-        "ba7816bf8f01cfea414140de5dae2223b00361a396177a9cb410ff61f20015ad",
-    ),
-    ("K", "a4010103272006215820"),
-    ("E", "a5010203262001215820"),
-    ("EY", "225820"),
-    ("Z", "4100000000 00*16"),
-    ("ID", "00010a"),
-    ("KEY", "a4010103272006215820 11*32"),
-    (
-        "signature",
-        "54cdb9dfa0420ba4faf0b0098850be257746cc149a58c6bda1e93f4a639aa517",
-    ),
-    (
-        "of-the-hash",
-        "484fa9404af48a1c7addf9b5a7f528e41d32c3fde713f8e1400181e848511b12",
-    ),
-];
+const NAMES: Table = "H|ba7816bf8f01cfea414140de5dae2223b00361a396177a9cb410ff61f20015ad
+K|a4010103272006215820
+E|a5010203262001215820
+EY|225820
+Z|4100000000 00*16
+ID|00010a
+KEY|a4010103272006215820 11*32
+bench-signature|54cdb9dfa0420ba4faf0b0098850be257746cc149a58c6bda1e93f4a639aa517
+bench-signature-of-the-hash|484fa9404af48a1c7addf9b5a7f528e41d32c3fde713f8e1400181e848511b12";
 
 /// The part of a line with this number, from 0; nothing where the line has fewer.
 pub fn part(line: &str, number: usize) -> &str {
@@ -45,9 +35,11 @@ pub fn number(line: &str, index: usize) -> Option<usize> {
 
 /// What a name stands for; another word stands for itself.
 fn meaning(word: &str) -> &str {
-    for (name, words) in NAMES {
-        if *name == word {
-            return words;
+    for names in [NAMES, message_names::NAMES] {
+        for line in names.lines() {
+            if part(line, 0) == word {
+                return part(line, 1);
+            }
         }
     }
     word
@@ -71,13 +63,19 @@ fn append(alloc: Global, bytes: &mut Vec<u8>, word: &str) -> Result<(), AllocErr
     Ok(())
 }
 
+/// Appends the bytes of these words.
+pub fn append_words(alloc: Global, bytes: &mut Vec<u8>, words: &str) -> Result<(), AllocError> {
+    for name in words.split_whitespace() {
+        for word in meaning(name).split_whitespace() {
+            append(alloc, bytes, word)?;
+        }
+    }
+    Ok(())
+}
+
 /// The bytes of these words.
 pub fn bytes_of(alloc: Global, words: &str) -> Result<Vec<u8>, AllocError> {
     let mut bytes = Vec::new(alloc);
-    for name in words.split_whitespace() {
-        for word in meaning(name).split_whitespace() {
-            append(alloc, &mut bytes, word)?;
-        }
-    }
+    append_words(alloc, &mut bytes, words)?;
     Ok(bytes)
 }

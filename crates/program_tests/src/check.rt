@@ -98,12 +98,19 @@ fn verdict(matches: bool) -> Wanted<'static> {
 }
 
 #[test]
-fn verified(rt: HostRuntime) -> Result<(), Fail> {
+fn checks(rt: HostRuntime) -> Result<(), Fail> {
     for (name, words, input, matches) in VERDICTS {
         let wanted = verdict(*matches);
         assert!(rt;
             ends(rt.alloc(), words, input.as_bytes(), &wanted),
             "{name}"
+        );
+    }
+    for (words, beginning) in REFUSED {
+        let mut reader = TEXT.as_bytes();
+        assert!(rt;
+            refuses(rt.alloc(), words, &mut reader, beginning),
+            "{beginning}"
         );
     }
     Ok(())
@@ -147,18 +154,6 @@ const REFUSED: &[(&[&str], &str)] = &[
     ),
 ];
 
-#[test]
-fn refused_words(rt: HostRuntime) -> Result<(), Fail> {
-    for (words, beginning) in REFUSED {
-        let mut reader = TEXT.as_bytes();
-        assert!(rt;
-            refuses(rt.alloc(), words, &mut reader, beginning),
-            "{beginning}"
-        );
-    }
-    Ok(())
-}
-
 const INSPECT: &[&str] = &["passkey", "inspect", "clientdata"];
 
 /// Client data, and what is printed of them.
@@ -200,6 +195,9 @@ fn client_data(rt: HostRuntime) -> Result<(), Fail> {
     for (input, out) in SHOWN {
         assert!(rt; shows(rt.alloc(), input, out), "{input}");
     }
+    for input in UNREADABLE {
+        assert!(rt; ends(rt.alloc(), INSPECT, input, &UNREAD), "{input:?}");
+    }
     Ok(())
 }
 
@@ -217,11 +215,3 @@ const UNREAD: Wanted<'static> = Wanted {
     out: "",
     err: "fault 16 Unreadable\n",
 };
-
-#[test]
-fn unreadable(rt: HostRuntime) -> Result<(), Fail> {
-    for input in UNREADABLE {
-        assert!(rt; ends(rt.alloc(), INSPECT, input, &UNREAD), "{input:?}");
-    }
-    Ok(())
-}

@@ -45,47 +45,61 @@ const LETTERS: &str =
 000000017f0000000000000000000000000000000000000000000000000000000000000000000000000000000000000000000000000000000000000000000000
 ";
 
-/// A kind, standard input, and what is printed of it.
-const SHOWN: &[(&str, &str, &str)] = &[
-    ("cbor", "a1 01 81 41 0a", "{1: [h'0a']}\n"),
-    ("cbor", "80", "[]\n"),
-    ("cbor", "a0\n", "{}\n"),
-    ("cbor", "40", "h''\n"),
-    ("cbor", "3bffffffffffffffff", "-18446744073709551616\n"),
-    ("cbor", "3BFFFFFFFFFFFFFFFE", "-18446744073709551615\n"),
-    ("cbor", "1bffffffffffffffff", "18446744073709551615\n"),
-    ("cbor", "656122625c01", "\"a\\\"b\\\\\\u0001\"\n"),
-    ("cbor", "62c3bc", "\"\u{fc}\"\n"),
+/// A kind, standard input, the status, and what is printed: on standard output where the status is 0, else on standard
+/// error.
+type Row<'a> = (&'a str, &'a str, u8, &'a str);
+
+/// What is shown.
+const SHOWN: &[Row] = &[
+    ("cbor", "a1 01 81 41 0a", 0, "{1: [h'0a']}\n"),
+    ("cbor", "80", 0, "[]\n"),
+    ("cbor", "a0\n", 0, "{}\n"),
+    ("cbor", "40", 0, "h''\n"),
+    ("cbor", "3bffffffffffffffff", 0, "-18446744073709551616\n"),
+    ("cbor", "3BFFFFFFFFFFFFFFFE", 0, "-18446744073709551615\n"),
+    ("cbor", "1bffffffffffffffff", 0, "18446744073709551615\n"),
+    ("cbor", "656122625c01", 0, "\"a\\\"b\\\\\\u0001\"\n"),
+    ("cbor", "62c3bc", 0, "\"\u{fc}\"\n"),
     (
         "cbor",
         "a2 01f4 6161 82f520",
+        0,
         "{1: false, \"a\": [true, -1]}\n",
     ),
     (
         "authdata",
         DATA,
+        0,
         "rp ba7816bf8f01cfea414140de5dae2223b00361a396177a9cb410ff61f20015ad\nflags 01\ncount 1\n",
     ),
     (
         "authdata",
         ATTESTED,
+        0,
         "rp ba7816bf8f01cfea414140de5dae2223b00361a396177a9cb410ff61f20015ad\nflags 41\ncount 0\naaguid 00000000000000000000000000000000\nid 0a\nkey EdDSA\n",
     ),
-    ("packets", PACKETS, "init 00000001 10 68\ncont 00000001 0\n"),
+    (
+        "packets",
+        PACKETS,
+        0,
+        "init 00000001 10 68\ncont 00000001 0\n",
+    ),
     (
         "authdata",
         ES256,
+        0,
         "rp ba7816bf8f01cfea414140de5dae2223b00361a396177a9cb410ff61f20015ad\nflags 4d\ncount 10\naaguid 000102030405060708090a0b0c0d0e0f\nid 0a0b\nkey ES256\n",
     ),
     (
         "packets",
         LETTERS,
+        0,
         "init deadbeef 3b 1\ncont 00000001 10\ncont 00000001 127\n",
     ),
 ];
 
-/// A kind, standard input that is refused, the status and the text.
-const REFUSED: &[(&str, &str, u8, &str)] = &[
+/// What is refused.
+const REFUSED: &[Row] = &[
     ("cbor", "1817", 1, "fault 2 NotCanonical\n"),
     ("cbor", "", 1, "fault 2 NotCanonical\n"),
     ("cbor", "0000", 1, "fault 3 Trailing\n"),
@@ -106,57 +120,23 @@ const REFUSED: &[(&str, &str, u8, &str)] = &[
 
 const BAD_AND_NO_HEX: &str = "00 0";
 
-/// Whether an inspection ends so.
-fn inspects(alloc: Global, kind: &str, input: &[u8], wanted: &Wanted<'_>) -> bool {
-    ends(alloc, &["passkey", "inspect", kind], input, wanted)
-}
-
-/// Whether the input is shown so.
-fn shows(alloc: Global, kind: &str, input: &str, out: &str) -> bool {
-    let wanted = Wanted {
-        status: 0,
-        out,
-        err: "",
-    };
-    inspects(alloc, kind, input.as_bytes(), &wanted)
+/// Whether an inspection ends with this status and this text.
+fn inspects(alloc: Global, kind: &str, input: &[u8], status: u8, text: &str) -> bool {
+    let (out, err) = if status == 0 { (text, "") } else { ("", text) };
+    let wanted = Wanted { status, out, err };
+    ends(alloc, &["passkey", "inspect", kind], input, &wanted)
 }
 
 #[test]
-fn shown(rt: HostRuntime) -> Result<(), Fail> {
-    for (kind, input, out) in SHOWN {
-        assert!(rt; shows(rt.alloc(), kind, input, out), "{kind} {input}");
+fn inspections(rt: HostRuntime) -> Result<(), Fail> {
+    for rows in [SHOWN, REFUSED] {
+        for (kind, input, status, text) in rows {
+            assert!(rt;
+                inspects(rt.alloc(), kind, input.as_bytes(), *status, text),
+                "{kind} {input}"
+            );
+        }
     }
-    Ok(())
-}
-
-/// Whether the input is refused so.
-fn refuses(alloc: Global, kind: &str, input: &str, status: u8, err: &str) -> bool {
-    let wanted = Wanted {
-        status,
-        out: "",
-        err,
-    };
-    inspects(alloc, kind, input.as_bytes(), &wanted)
-}
-
-#[test]
-fn refused(rt: HostRuntime) -> Result<(), Fail> {
-    for (kind, input, status, err) in REFUSED {
-        assert!(rt;
-            refuses(rt.alloc(), kind, input, *status, err),
-            "{kind} {input}"
-        );
-    }
-    Ok(())
-}
-
-#[test]
-fn no_text(rt: HostRuntime) -> Result<(), Fail> {
-    let wanted = Wanted {
-        status: 2,
-        out: "",
-        err: "bad hex\n",
-    };
-    assert!(rt; inspects(rt.alloc(), "cbor", b"\xff", &wanted));
+    assert!(rt; inspects(rt.alloc(), "cbor", b"\xff", 2, "bad hex\n"));
     Ok(())
 }

@@ -8,7 +8,7 @@ use hidlink::{Collector, DeadKind, Received, receive};
 use rand_core::Rng;
 use rand_pcg::Pcg32;
 use site::{Policy, SignInRefusal, Site};
-use std::alloc::Global;
+use std::alloc::{AllocError, Global};
 use std::test::Fail;
 
 const CHANNEL: u32 = 1;
@@ -76,26 +76,27 @@ fn area_of(packet: &Packet, number: usize, index: usize) -> Result<&[u8], Given>
     }
 }
 
-/// What the packets give, read as a whole: those on the channel are keepalives, then one message.
-fn plain(alloc: Global, packets: &[Packet]) -> Result<Given, Fail> {
-    let mut own: Vec<(usize, Packet)> = Vec::new(alloc);
+/// A packet, and its place in the list.
+type Placed = (usize, Packet);
+
+/// The packets on the channel.
+fn own_packets(alloc: Global, packets: &[Packet]) -> Result<Vec<Placed>, AllocError> {
+    let mut own = Vec::new(alloc);
     for (i, packet) in packets.iter().enumerate() {
         if channel_of(packet) == CHANNEL {
             own.push((i, *packet))?;
         }
     }
-    let waits = own.iter().take_while(|p| is_keepalive(&p.1)).count();
-    let Some(((index, first), later)) = own
-        .as_slice()
-        .get(waits..)
-        .and_then(|rest| rest.split_first())
-    else {
-        return Ok(Given::Incomplete);
-    };
-    let len = match first_gives(first, *index) {
-        Ok(len) => len,
-        Err(given) => return Ok(given),
-    };
+    Ok(own)
+}
+
+/// The message of so many bytes that begins with the first packet, and goes on with the later ones.
+fn message_of(
+    alloc: Global,
+    (index, first): &Placed,
+    later: &[Placed],
+    len: usize,
+) -> Result<Given, AllocError> {
     let mut message = first.0.get(7..).unwrap_or(&[]).to_vec(alloc)?;
     let mut used = index.saturating_add(1);
     for (number, (index, packet)) in later
@@ -114,6 +115,18 @@ fn plain(alloc: Global, packets: &[Packet]) -> Result<Given, Fail> {
     }
     message.truncate(len);
     Ok(Given::Message(message, used))
+}
+
+/// What the packets on the channel give, read as a whole: they are keepalives, then one message.
+fn plain(alloc: Global, own: &[Placed]) -> Result<Given, AllocError> {
+    let waits = own.iter().take_while(|p| is_keepalive(&p.1)).count();
+    let Some((first, later)) = own.get(waits..).and_then(|rest| rest.split_first()) else {
+        return Ok(Given::Incomplete);
+    };
+    match first_gives(&first.1, first.0) {
+        Ok(len) => message_of(alloc, first, later, len),
+        Err(given) => Ok(given),
+    }
 }
 
 /// What a new collector gives.
@@ -151,30 +164,47 @@ fn random_packet(rng: &mut Pcg32, next: &mut u8) -> Packet {
     Packet(bytes)
 }
 
-/// What a sign-in without an open session is refused for, by the list and packet by packet, with how many packets were
-/// taken; none where the two differ, or where either is accepted.
-fn refused(alloc: Global, packets: &[Packet]) -> Result<Option<(Error<SignInRefusal>, u64)>, Fail> {
-    let policy = Policy {
-        accept_none: true,
-        accept_self: true,
-    };
-    let mut site = Site::new(alloc, "abc", &["https://abc"], policy)?;
+/// What a sign-in without an open session is refused for, by the list.
+fn refused_list(
+    alloc: Global,
+    site: &mut Site,
+    packets: &[Packet],
+) -> Option<Error<SignInRefusal>> {
     let scheme = ListScheme::new(alloc);
-    let mut live = Live::new(alloc, CHANNEL)?;
+    sign_in(alloc, site, &scheme, 1, CHANNEL, b"", packets).err()
+}
+
+/// The same packet by packet.
+fn refused_live(
+    alloc: Global,
+    site: &mut Site,
+    live: &mut Live,
+    packets: &[Packet],
+) -> Option<Error<SignInRefusal>> {
+    live.restart(CHANNEL);
     for packet in packets {
         if live.fed() > 100 || live.feed(packet).is_err() {
             break;
         }
     }
-    let whole = sign_in(alloc, &mut site, &scheme, 1, CHANNEL, b"", packets);
-    let single = live.finish(&mut site, &scheme, 1, b"");
-    let (Err(whole), Err(single)) = (whole, single) else {
-        return Ok(None);
-    };
-    if whole != single {
-        return Ok(None);
+    let scheme = ListScheme::new(alloc);
+    live.finish(site, &scheme, 1, b"").err()
+}
+
+/// What both are refused for, with how many packets were taken; none where the two differ, or where either is accepted.
+fn refused(
+    alloc: Global,
+    site: &mut Site,
+    live: &mut Live,
+    packets: &[Packet],
+) -> Option<(Error<SignInRefusal>, u64)> {
+    let whole = refused_list(alloc, site, packets)?;
+    let single = refused_live(alloc, site, live, packets)?;
+    if whole == single {
+        Some((whole, live.fed()))
+    } else {
+        None
     }
-    Ok(Some((whole, live.fed())))
 }
 
 /// Whether a refusal is the one for what the packets give, after as many packets.
@@ -200,39 +230,78 @@ fn is_for(given: &Given, packets: usize, refused: &(Error<SignInRefusal>, u64)) 
     named && u64::try_from(taken).is_ok_and(|taken| taken == refused.1)
 }
 
-#[test]
-fn plain_reader_and_collector_agree(rt: HostRuntime) -> Result<(), Fail> {
+/// Whether the packets give a message; none where the plain reader and the collector, or the plain reader and a refused
+/// sign-in, differ.
+fn is_message(
+    alloc: Global,
+    packets: &[Packet],
+    refused: &(Error<SignInRefusal>, u64),
+) -> Result<Option<bool>, Fail> {
+    let own = own_packets(alloc, packets)?;
+    let wanted = plain(alloc, &own)?;
+    if !is_for(&wanted, packets.len(), refused) || collected(alloc, packets)? != wanted {
+        return Ok(None);
+    }
+    Ok(Some(matches!(&wanted, Given::Message(..))))
+}
+
+/// A list of at most eight packets, most of which are keepalives and then a message.
+fn random_list(alloc: Global, rng: &mut Pcg32) -> Result<Vec<Packet>, AllocError> {
+    let mut packets = Vec::new(alloc);
+    let mut next = 0;
+    let waits = rng.next_u32() % 4;
+    for i in 0..rng.next_u32() % 9 {
+        let mut packet = random_packet(rng, &mut next);
+        if i == waits {
+            packet.0[4] = 0x90;
+            packet.0[5] = 0;
+        } else if i < waits {
+            packet.0[4] = 0xbb;
+            packet.0[5..8].copy_from_slice(&[0, 1, 1]);
+        }
+        if i <= waits {
+            next = 0;
+        }
+        packets.push(packet)?;
+    }
+    Ok(packets)
+}
+
+/// How many of the lists give a message; or the number of the first on which the readers differ.
+fn messages(alloc: Global, site: &mut Site, live: &mut Live) -> Result<Result<usize, usize>, Fail> {
     let mut rng = Pcg32::new(2026, 11);
     let mut messages = 0usize;
     for list in 0..LISTS {
-        let mut packets = Vec::new(rt.alloc());
-        let mut next = 0;
-        let waits = rng.next_u32() % 4;
-        for i in 0..rng.next_u32() % 9 {
-            let mut packet = random_packet(&mut rng, &mut next);
-            if i == waits {
-                packet.0[4] = 0x90;
-                packet.0[5] = 0;
-            } else if i < waits {
-                packet.0[4] = 0xbb;
-                packet.0[5..8].copy_from_slice(&[0, 1, 1]);
-            }
-            if i <= waits {
-                next = 0;
-            }
-            packets.push(packet)?;
+        let packets = random_list(alloc, &mut rng)?;
+        let Some(refused) = refused(alloc, site, live, &packets) else {
+            return Ok(Err(list));
+        };
+        match is_message(alloc, &packets, &refused)? {
+            Some(true) => messages = messages.saturating_add(1),
+            Some(false) => {}
+            None => return Ok(Err(list)),
         }
-        let wanted = plain(rt.alloc(), &packets)?;
-        if matches!(&wanted, Given::Message(..)) {
-            messages = messages.saturating_add(1);
-        }
-        let refused = refused(rt.alloc(), &packets)?.ok_or("the list and its packets differ")?;
-        assert!(rt;
-            is_for(&wanted, packets.len(), &refused),
-            "list {list}: {refused:?}"
-        );
-        assert_eq!(rt; collected(rt.alloc(), &packets)?, wanted, "list {list}");
     }
-    assert!(rt; messages > 400, "{messages} messages");
+    Ok(Ok(messages))
+}
+
+/// The same at a new site.
+fn messages_anew(alloc: Global) -> Result<Result<usize, usize>, Fail> {
+    let policy = Policy {
+        accept_none: true,
+        accept_self: true,
+    };
+    let mut site = Site::new(alloc, "abc", &["https://abc"], policy)?;
+    let mut live = Live::new(alloc, CHANNEL)?;
+    messages(alloc, &mut site, &mut live)
+}
+
+#[test]
+fn plain_reader_and_collector_agree(rt: HostRuntime) -> Result<(), Fail> {
+    let messages = messages_anew(rt.alloc())?;
+    assert!(rt;
+        messages.is_ok_and(|messages| messages > 400),
+        "{messages:?}"
+    );
     Ok(())
 }

@@ -51,7 +51,7 @@ fn is_stopped(alloc: Global, line: &str) -> Result<bool, Fail> {
 }
 
 #[test]
-fn verdicts_and_others(rt: HostRuntime) -> Result<(), Fail> {
+fn replayed(rt: HostRuntime) -> Result<(), Fail> {
     let tables = [
         VERDICTS_1, VERDICTS_2, SESSIONS_1, SESSIONS_2, OTHERS_1, OTHERS_2,
     ];
@@ -60,11 +60,6 @@ fn verdicts_and_others(rt: HostRuntime) -> Result<(), Fail> {
             assert!(rt; is_replayed(rt.alloc(), line)?, "{line}");
         }
     }
-    Ok(())
-}
-
-#[test]
-fn bad_lines(rt: HostRuntime) -> Result<(), Fail> {
     for table in [BAD_LINES_1, BAD_LINES_2, BAD_LINES_3, BAD_LINES_4] {
         for line in table.lines() {
             assert!(rt; is_stopped(rt.alloc(), line)?, "{line}");

@@ -83,6 +83,11 @@ impl Write for FailingWriter {
 
 const LINES: &[&str] = &[SITE, ROW, "table", "table x"];
 
+/// The numbers of the reads that fail, and of the writes of a script's text.
+const READS: &[u32] = &[1, 60, 131];
+
+const WRITES: &[u32] = &[1, 2, 8];
+
 const TABLE: &[u8] = b"0a 01 0\n";
 
 /// Whether the program ends with `read failed` and status 4 where the read of this number fails.
@@ -98,18 +103,6 @@ fn read_fails(alloc: Global, input: &[u8], fails_at: u32) -> bool {
         &mut err,
     );
     status == 4 && out.is_empty() && err.as_slice() == b"read failed\n".as_slice()
-}
-
-#[test]
-fn failing_reads(rt: HostRuntime) -> Result<(), Fail> {
-    let text = script(rt.alloc(), LINES)?;
-    for fails_at in [1u32, 60, 131] {
-        assert!(rt;
-            read_fails(rt.alloc(), text.as_bytes(), fails_at),
-            "read {fails_at}"
-        );
-    }
-    Ok(())
 }
 
 /// Whether the program ends with `write failed` and status 5 where the write of this number fails, after the
@@ -139,29 +132,15 @@ const CHECK: &[&str] = &[
     "--origin=a",
 ];
 
-#[test]
-fn failing_writes(rt: HostRuntime) -> Result<(), Fail> {
-    let text = script(rt.alloc(), LINES)?;
-    let replay = ["passkey", "replay"];
-    let inspect = ["passkey", "inspect", "cbor"];
-    for fails_at in [1u32, 2, 8] {
-        assert!(rt;
-            write_fails(rt.alloc(), &replay, text.as_bytes(), TABLE, fails_at),
-            "replay {fails_at}"
-        );
-    }
-    for fails_at in [1u32, 3] {
-        assert!(rt;
-            write_fails(rt.alloc(), &inspect, b"80", b"[]\n", fails_at),
-            "inspect {fails_at}"
-        );
-        assert!(rt;
-            write_fails(rt.alloc(), CHECK, b"", b"differ\n", fails_at),
-            "check {fails_at}"
-        );
-    }
-    Ok(())
-}
+const INSPECT: &[&str] = &["passkey", "inspect", "cbor"];
+
+/// Other words, input, the whole text, and the number of the write that fails.
+const OTHER_WRITES: &[(&[&str], &[u8], &[u8], u32)] = &[
+    (INSPECT, b"80", b"[]\n", 1),
+    (INSPECT, b"80", b"[]\n", 3),
+    (CHECK, b"", b"differ\n", 1),
+    (CHECK, b"", b"differ\n", 3),
+];
 
 /// Whether the status and standard output are those of a bad script where nothing can be written to standard
 /// error.
@@ -179,9 +158,35 @@ fn error_fails(alloc: Global, input: &[u8]) -> bool {
     status == 2 && out.as_slice() == TABLE
 }
 
+/// The first read, write or write to standard error whose failing the program does not answer as it has to, with the
+/// number of the call, if any.
+fn first_unanswered(alloc: Global, text: &[u8]) -> Option<(&'static str, u32)> {
+    for &fails_at in READS {
+        if !read_fails(alloc, text, fails_at) {
+            return Some(("read", fails_at));
+        }
+    }
+    for &fails_at in WRITES {
+        if !write_fails(alloc, &["passkey", "replay"], text, TABLE, fails_at) {
+            return Some(("write of a script", fails_at));
+        }
+    }
+    for &(words, input, whole, fails_at) in OTHER_WRITES {
+        if !write_fails(alloc, words, input, whole, fails_at) {
+            return Some(("write of another command", fails_at));
+        }
+    }
+    if error_fails(alloc, text) {
+        None
+    } else {
+        Some(("write to standard error", 1))
+    }
+}
+
 #[test]
-fn failing_errors(rt: HostRuntime) -> Result<(), Fail> {
+fn failing(rt: HostRuntime) -> Result<(), Fail> {
     let text = script(rt.alloc(), LINES)?;
-    assert!(rt; error_fails(rt.alloc(), text.as_bytes()));
+    let unanswered = first_unanswered(rt.alloc(), text.as_bytes());
+    assert!(rt; unanswered.is_none(), "{unanswered:?}");
     Ok(())
 }

@@ -106,13 +106,19 @@ fn refuses_too_long(alloc: Global, words: &[&str], beginning: &str) -> bool {
     refuses(alloc, words, &mut reader, beginning)
 }
 
+/// Words are judged before the input, and that it can be read and is not too long before what it says.
 #[test]
-fn words_come_first(rt: HostRuntime) -> Result<(), Fail> {
+fn order_of_faults(rt: HostRuntime) -> Result<(), Fail> {
     for (words, beginning) in REFUSED {
         assert!(rt; refuses_unread(rt.alloc(), words, beginning), "{beginning}");
     }
     let (words, beginning) = REFUSED[1];
     assert!(rt; refuses_too_long(rt.alloc(), words, beginning));
+    for words in [BAD_HEX, INSPECT] {
+        assert!(rt; ends_on_hashes(rt.alloc(), MAX_INPUT + 1, words, &TOO_LONG));
+        let mut reader = FailingReader::new(b"x", 2);
+        assert!(rt; ends_on(rt.alloc(), words, &mut reader, &READ_FAILED));
+    }
     Ok(())
 }
 
@@ -127,13 +133,3 @@ const BAD_HEX: &[&str] = &[
 
 /// Input that is not hex, read to its end or not.
 const INSPECT: &[&str] = &["passkey", "inspect", "cbor"];
-
-#[test]
-fn input_comes_before_hex(rt: HostRuntime) -> Result<(), Fail> {
-    for words in [BAD_HEX, INSPECT] {
-        assert!(rt; ends_on_hashes(rt.alloc(), MAX_INPUT + 1, words, &TOO_LONG));
-        let mut reader = FailingReader::new(b"x", 2);
-        assert!(rt; ends_on(rt.alloc(), words, &mut reader, &READ_FAILED));
-    }
-    Ok(())
-}

@@ -288,9 +288,9 @@ fn are_answered(alloc: Global, site: &mut Site, lines: &str) -> Result<bool, Err
 /// The site of a script's first line.
 fn made(alloc: Global, line: &str) -> Result<Site, Error> {
     let rp_id = value(line, "site", "abc");
-    let origin = value(line, "at", "https://abc");
+    let origins = [value(line, "at", "https://abc"), "https://def"];
     let rows = rows(alloc, value(line, "rows", "five"))?;
-    Site::with_rows(alloc, rp_id, &[origin], policy(line), rows)
+    Site::with_rows(alloc, rp_id, &origins, policy(line), rows)
 }
 
 /// Whether each act of a script is answered as its line says.

@@ -1,10 +1,25 @@
-//! Tests of `site` and `saved_table`, by public calls only.
+//! Tests of what a site does, by public calls only: `verification` and `credentials`, `saved_table` and `site`, and whole
+//! ceremonies, from a page's request over the packets to the site's verdict.
 #![tactic(auto)]
 
 #[cfg(test)]
 mod acts;
 #[cfg(test)]
+mod credentials_table;
+#[cfg(test)]
+mod example;
+#[cfg(test)]
+mod honest;
+#[cfg(test)]
 mod kept;
+#[cfg(test)]
+mod key;
+#[cfg(test)]
+mod lists;
+#[cfg(test)]
+mod packets;
+#[cfg(test)]
+mod random;
 #[cfg(test)]
 mod registration;
 #[cfg(test)]
@@ -19,3 +34,5 @@ mod sign_in;
 mod stored;
 #[cfg(test)]
 mod values;
+#[cfg(test)]
+mod verdicts;

@@ -26,7 +26,10 @@ user not present|flip=1 flip=8|9|0|0
 user not verified|flip=4 flip=8|10|0|0
 another algorithm offered|algs=es256|11|11|1
 another format|format=tpm|12|0|0
+the format fido-u2f|format=fido-u2f|12|0|0
+no format|format=|12|0|0
 members of a statement of format none|secret=7|13|0|0
+no members of a statement of format packed|format=packed|13|0|0
 another key's signature|format=packed secret=8|13|0|0
 none not accepted|policy=self|14|14|1
 self attestation not accepted|policy=none format=packed secret=7|14|0|0

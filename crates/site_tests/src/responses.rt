@@ -1,7 +1,7 @@
 //! Responses to sign-ins and registrations, as a line describes them: what it does not name is as in a response that is
 //! accepted.
 
-use crate::values::{bytes_of, number, value};
+use crate::values::{bytes_of, is_set, number, value};
 use clientdata::hash;
 use cose::{Alg, BenchScheme, CoseKey, ListScheme, Signer};
 use sha2::{Digest, Sha256};
@@ -23,7 +23,7 @@ fn joined(alloc: Global, parts: &[&[u8]]) -> Result<Vec<u8>, AllocError> {
 }
 
 /// The client data. A session's challenge is its number in 8 bytes, then 24 bytes 0, whose text another program gives:
-/// ten letters A, two by the number, and again A. Or what the line gives whole.
+/// ten letters A, two by the number, and again A. Or what the line gives whole. A space may stand behind.
 pub(crate) fn client_data(
     alloc: Global,
     line: &str,
@@ -33,7 +33,8 @@ pub(crate) fn client_data(
     if !whole.is_empty() {
         return Vec::from_slice(alloc, whole.as_bytes());
     }
-    let parts: [&[u8]; 9] = [
+    let behind: &[u8] = if is_set(line, "space") { b" " } else { b"" };
+    let parts: [&[u8]; 10] = [
         b"{\"type\":\"webauthn.",
         value(line, "type", ceremony).as_bytes(),
         b"\",\"challenge\":\"AAAAAAAAAA",
@@ -43,6 +44,7 @@ pub(crate) fn client_data(
         b"\"",
         value(line, "rest", ",\"crossOrigin\":false").as_bytes(),
         value(line, "end", "}").as_bytes(),
+        behind,
     ];
     joined(alloc, &parts)
 }
@@ -130,23 +132,17 @@ fn statement(
     Ok(bytes)
 }
 
-/// A format, encoded.
-fn format(line: &str) -> &'static [u8] {
-    match value(line, "format", "none") {
-        "none" => b"\x64none",
-        "packed" => b"\x66packed",
-        _ => b"\x63tpm",
-    }
-}
-
 /// The attestation object.
 pub(crate) fn object(alloc: Global, line: &str, client_data: &[u8]) -> Result<Vec<u8>, AllocError> {
     let auth_data = attested(alloc, line)?;
     let statement = statement(alloc, line, &auth_data, client_data)?;
     let behind = bytes_of(alloc, value(line, "behind", ""))?;
-    let parts: [&[u8]; 8] = [
+    let format = value(line, "format", "none").as_bytes();
+    let [length_of_format] = length(format);
+    let parts: [&[u8]; 9] = [
         b"\xa3\x63fmt",
-        format(line),
+        &[0x60 | length_of_format],
+        format,
         b"\x67attStmt",
         &statement,
         b"\x68authData\x58",

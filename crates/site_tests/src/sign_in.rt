@@ -41,20 +41,24 @@ no counter|count=0|15
 a counter at its end|id=0f count=4294967295|15
 no counter behind its end|id=0f count=0|15
 newly eligible|id=0b user=02 flip=8|16
-client data without members|client={}|5"#;
+client data without members|client={}|5
+client data without an origin|client={"type":"webauthn.get","challenge":"AAAAAAAAAAEAAAAAAAAAAAAAAAAAAAAAAAAAAAAAAAA"}|5"#;
 
 /// The same sessions. The response is accepted, that credential alone is changed, and that session alone is closed.
 const ACCEPTED: Pattern =
     "rows=five;1 sign-in allow=0a,0b,0c,0d,0e,0f uv=1;2 register uv=1;0 answer $1$;1 row $2$;1 row id=0f count=4294967295 eligible=-;0 abandon;1 abandon session=2";
 
 /// A name, the response, and the credential that is stored then.
-const ACCEPTANCES: Table = "not eligible||
+const ACCEPTANCES: Table = r#"not eligible||
 eligible|flip=8|eligible=1
 backed up|flip=8 flip=16 backed=1|eligible=1
 a reserved flag|flip=2|
 the greatest counter|count=4294967295|count=4294967295
 no counters|id=0b user=02 told=02 count=0|id=0b user=02 count=0
-a first counter|id=0b user=02 told=02 count=1|id=0b user=02 count=1";
+a first counter|id=0b user=02 told=02 count=1|id=0b user=02 count=1
+members in another order, the second origin, binding supported|client={"origin":"https://def","tokenBinding":{"status":"supported"},"challenge":"AAAAAAAAAAEAAAAAAAAAAAAAAAAAAAAAAAAAAAAAAAA","type":"webauthn.get"}|
+cross-origin, at the second origin|origin=https://def rest=,"crossOrigin":true|
+a space behind the client data|space=1|"#;
 
 /// The session stays open where the response is refused.
 const EXPECTED: Pattern = "rows=five;1 sign-in $0$;$2$ answer $1$;$3$ abandon";
@@ -66,6 +70,7 @@ account=01|user=-|0|0
 account=01 allow=0f,0a uv=1||0|0
 uv=1||0|0
 uv=1|user=-|4|1
+account=01 uv=1|user=02|4|1
 account=02 uv=1||4|1
 account=02 uv=1|user=-|4|1
 account=02 uv=1|user=02|4|1
