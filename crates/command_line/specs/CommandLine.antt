@@ -27,10 +27,11 @@ inspect_app p = with_rule (new_app (codes "inspect")) (record (new_rule (codes "
 abbrev pub required_option : Text → Rule
 required_option name = record (new_rule name) { long = Some name; required = true }
 
+abbrev pub check_type_app : ValueParser → App
+check_type_app p = with_rule (new_app (codes "check")) (record (required_option (codes "type")) { parser = Some p })
+
 abbrev pub check_options_app : ValueParser → App
-check_options_app p =
-    with_rule (with_rule (with_rule (new_app (codes "check")) (record (required_option (codes "type")) { parser = Some p }))
-    (required_option (codes "challenge"))) (required_option (codes "origin"))
+check_options_app p = with_rule (with_rule (check_type_app p) (required_option (codes "challenge"))) (required_option (codes "origin"))
 
 abbrev pub check_app : ValueParser → App
 check_app p = with_rule (check_options_app p) (record (new_rule (codes "cross")) { long = Some (codes "cross"); action = Some SetTrue })

@@ -5,7 +5,7 @@ ghost use Rattle.clap.specs.Words.{app_of, new_app, shape_of, subcommand_rows_of
 ghost use Rattle.clap.specs.declared.builder.command.Command.TheViews.{out-Command as fields_of};
 ghost use Rattle.clientdata.specs.declared.record.CeremonyType.{CeremonyType};
 ghost use Rattle.command_line.specs.declared.words.Inspection.{Inspection};
-ghost use Rattle.command_line.specs.CommandLine.{check_app, check_options_app, inspect_app, passkey_app, replay_app, HasApp, HasAppOf, HasAppOfBoth, IsAsked, IsAskedBy, ceremony_word, inspection_word, required, required_option};
+ghost use Rattle.command_line.specs.CommandLine.{check_app, check_options_app, check_type_app, inspect_app, passkey_app, replay_app, HasApp, HasAppOf, HasAppOfBoth, IsAsked, IsAskedBy, ceremony_word, inspection_word, required, required_option};
 
 use clap::error::ErrorKind;
 use clap::{Arg, ArgAction, ArgMatches, Command as Parser, Error};
@@ -103,9 +103,9 @@ fn with_required<'a>(
     parser.arg(option)
 }
 
-/// The options of a check but the last.
-fn check_options<'a>(alloc: Global) -> Result<Parser<'a>, AllocError>
-    ensures { IfOk result (λ c. HasAppOf check_options_app c) }
+/// The subcommand that checks client data with its first option.
+fn check_type<'a>(alloc: Global) -> Result<Parser<'a>, AllocError>
+    ensures { IfOk result (λ c. HasAppOf check_type_app c) }
 {
     let kind = Arg::new(alloc, "type")
         .long("type")
@@ -114,8 +114,15 @@ fn check_options<'a>(alloc: Global) -> Result<Parser<'a>, AllocError>
         .help("The ceremony");
     let parser = Parser::new(alloc, "check")
         .about("Verify client data against what they should say")
-        .after_help(CHECK_HELP)
-        .arg(kind)?;
+        .after_help(CHECK_HELP);
+    parser.arg(kind)
+}
+
+/// The same with its options but the last.
+fn check_options<'a>(alloc: Global) -> Result<Parser<'a>, AllocError>
+    ensures { IfOk result (λ c. HasAppOf check_options_app c) }
+{
+    let parser = check_type(alloc)?;
     let parser = with_required(alloc, parser, "challenge", "The challenge, in hex")?;
     with_required(alloc, parser, "origin", "The origin, as https://a.example")
 }
@@ -257,15 +264,26 @@ fn asked_by(alloc: Global, matches: &ArgMatches<'_>) -> Result<Option<Subcommand
     Ok(replayed(matches))
 }
 
+/// What the words ask the program's parser for; nothing where a value is missing.
+fn asked<'a>(
+    alloc: Global,
+    parser: &mut Parser<'a>,
+    words: &'a [&'a str],
+) -> Result<Option<Subcommand>, Error>
+    requires { HasAppOfBoth passkey_app parser.old }
+    ensures { IfOk result (λ o. IfSome o (IsAskedBy (map (λ w. w.now) words.now))) }
+{
+    let matches = parser.try_get_matches_from_mut(words)?;
+    Ok(asked_by(alloc, &matches)?)
+}
+
 /// What the words ask for, the program's name first. Words that are refused, and a call for help, give
 /// clap's error, which has the text to show; its kind is `OutOfMemory` where there was no memory.
 pub fn command<'a>(alloc: Global, words: &'a [&'a str]) -> Result<Subcommand, Error>
     ensures { IfOk result (λ a. IsAskedBy (map (λ w. w.now) words.now) a) }
 {
     let mut parser = passkey(alloc)?;
-    let matches = parser.try_get_matches_from_mut(words)?;
-    let found = asked_by(alloc, &matches)?;
-    match found {
+    match asked(alloc, &mut parser, words)? {
         Some(asked) => Ok(asked),
         None => Err(parser.error(ErrorKind::MissingRequiredArgument, "a value is missing")?),
     }

@@ -1,46 +1,19 @@
-//! Calls of an authenticator, and what is read from its replies.
+//! Calls of an authenticator as lines, and what its replies say.
+//!
+//! A line is a channel, the words of a request, what is given to it (`up` for presence, `uv` for verification), the byte
+//! that the id and the secret handed in are 32 times, and what is answered: `status` and a status other than 0 alone;
+//! `made`, the id of the credential that was made, flags and an algorithm's number; `asserted`, the id of the credential
+//! that answered, a user, a number (0 for none), flags and a counter; `information`; or `reset`. Statuses and flags are
+//! in hexadecimal digits. An id is named by its byte, and so are users by their only byte, 0 for none.
 
-use crate::authenticator_pieces::{Piece, joined};
+use crate::authenticator_names::bytes_of;
 use authdata::{AttestationType, AuthData};
 use authenticator::{Authenticator, Consent, Words};
 use cose::{Alg, BenchScheme, CoseKey, Signer, Verifier};
 use ctapmsg::{AssertionReply, CreationReply, Error, Kind, Reply, read_reply};
 use sha2::{Digest, Sha256};
 use std::alloc::{AllocError, Global};
-
-/// What is given to a request: presence, and verification.
-pub type Given = (bool, bool);
-
-pub const NONE: Given = (false, false);
-
-pub const PRESENT: Given = (true, false);
-
-pub const VERIFIED: Given = (true, true);
-
-pub const VERIFIED_ALONE: Given = (false, true);
-
-/// What is answered. An id and a secret are 32 times one byte, by which they are named; so are users by their only
-/// byte, 0 for none.
-#[derive(Clone, Copy, Debug, PartialEq, Eq, Drop)]
-pub enum Answer {
-    /// A status other than 0, alone.
-    Status(u8),
-    /// A credential of this id was made, with flags and an algorithm's number; its authenticator data and statement
-    /// are right.
-    Made(u8, u8, i64),
-    /// The credential of this id answered, with a user, a number (0 for none), flags and a counter; its
-    /// authenticator data are right, and so is its signature under the key of the algorithm.
-    Asserted(u8, u8, u64, u8, u32),
-    /// Information.
-    Information,
-    /// All credentials went.
-    Reset,
-    /// Anything else.
-    Wrong,
-}
-
-/// A channel, a request in pieces, what is given, the id and secret handed in, and what is answered.
-pub type Call = (u32, &'static [Piece], Given, u8, Answer);
+use test_words::{Table, part};
 
 /// The kind of the command.
 fn kind_of(request: &[u8]) -> Kind {
@@ -81,99 +54,120 @@ fn is_key_of(key: &CoseKey, secret: u8) -> bool {
     *key == BenchScheme.public(key.alg(), &[secret; 32])
 }
 
-/// What a reply to makeCredential says.
-fn made(alloc: Global, reply: &CreationReply) -> Result<Answer, AllocError> {
-    let data = match authdata::read(alloc, &reply.auth_data) {
-        Ok(data) => data,
-        Err(_) => return Ok(Answer::Wrong),
+/// What no line says.
+fn wrong(alloc: Global) -> Result<String, AllocError> {
+    String::from_str(alloc, "wrong")
+}
+
+/// What a reply to makeCredential says, whose authenticator data are right.
+fn made(alloc: Global, reply: &CreationReply) -> Result<String, AllocError> {
+    let Ok(data) = authdata::read(alloc, &reply.auth_data) else {
+        return wrong(alloc);
     };
     let Some(attested) = &data.attested else {
-        return Ok(Answer::Wrong);
+        return wrong(alloc);
     };
     let id = byte_of(&attested.id);
     if !is_for_known(&data) || data.sign_count != 0 || !is_key_of(&attested.key, id) {
-        return Ok(Answer::Wrong);
+        return wrong(alloc);
     }
-    Ok(Answer::Made(id, data.flags, attested.key.alg().number()))
+    let number = attested.key.alg().number();
+    format!(in alloc; "made {id} {:02x} {number}", data.flags)
 }
 
-/// What a reply to getAssertion or getNextAssertion says.
-fn asserted(alloc: Global, reply: &AssertionReply) -> Result<Answer, AllocError> {
-    let data = match authdata::read(alloc, &reply.auth_data) {
-        Ok(data) => data,
-        Err(_) => return Ok(Answer::Wrong),
+/// What a reply to getAssertion or getNextAssertion says, whose authenticator data are right, and so is its signature
+/// under a key of the id's secret.
+fn asserted(alloc: Global, reply: &AssertionReply) -> Result<String, AllocError> {
+    let Ok(data) = authdata::read(alloc, &reply.auth_data) else {
+        return wrong(alloc);
     };
     let id = byte_of(&reply.credential);
     if !is_for_known(&data) || !is_signed(id, &reply.auth_data, &reply.signature) {
-        return Ok(Answer::Wrong);
+        return wrong(alloc);
     }
     let user = match &reply.user {
         Some(user) => user.first().copied().unwrap_or(0xff),
         None => 0,
     };
     let number = reply.number.unwrap_or(0);
-    Ok(Answer::Asserted(id, user, number, data.flags, data.sign_count))
+    format!(in alloc;
+        "asserted {id} {user} {number} {:02x} {}",
+        data.flags, data.sign_count
+    )
 }
 
 /// What the reply to a command says.
-fn read(alloc: Global, kind: Kind, bytes: &[u8]) -> Result<Answer, AllocError> {
+fn said(alloc: Global, kind: Kind, bytes: &[u8]) -> Result<String, AllocError> {
     match read_reply(alloc, kind, bytes) {
         Ok(Reply::MakeCredential(reply)) => made(alloc, &reply),
         Ok(Reply::GetAssertion(reply)) => asserted(alloc, &reply),
         Ok(Reply::GetNextAssertion(reply)) => asserted(alloc, &reply),
-        Ok(Reply::GetInfo(_)) => Ok(Answer::Information),
-        Ok(Reply::Reset) => Ok(Answer::Reset),
-        Err(Error::Refused(status)) if bytes.len() == 1 => Ok(Answer::Status(status)),
-        Err(_) => Ok(Answer::Wrong),
+        Ok(Reply::GetInfo(_)) => String::from_str(alloc, "information"),
+        Ok(Reply::Reset) => String::from_str(alloc, "reset"),
+        Err(Error::Refused(status)) if bytes.len() == 1 => {
+            format!(in alloc; "status {status:02x}")
+        }
+        Err(_) => wrong(alloc),
     }
 }
 
-/// What the authenticator answers to a call.
-pub fn answered(
-    alloc: Global,
-    authenticator: &mut Authenticator,
-    channel: u32,
-    pieces: &[Piece],
-    given: Given,
-    word: u8,
-) -> Result<Answer, AllocError> {
-    let request = joined(alloc, pieces)?;
-    let (present, verified) = given;
-    let reply = authenticator.handle(
-        &BenchScheme,
-        channel,
-        &request,
-        Consent { present, verified },
-        Words {
-            id: [word; 32],
-            secret: [word; 32],
-        },
-    )?;
-    read(alloc, kind_of(&request), &reply)
+/// What is given to a request.
+fn given(words: &str) -> Consent {
+    Consent {
+        present: words.starts_with("up"),
+        verified: words.ends_with("uv"),
+    }
 }
 
-/// The place of the first call that is answered otherwise, and that answer.
+/// The authenticator's reply to a request, of which the id and the secret handed in are 32 times this byte.
+pub fn reply(
+    alloc: Global,
+    authenticator: &mut Authenticator,
+    line: &str,
+    request: &[u8],
+) -> Result<Vec<u8>, AllocError> {
+    let channel = part(line, 0).parse().unwrap_or(0);
+    let word = part(line, 3).parse().unwrap_or(0);
+    let words = Words {
+        id: [word; 32],
+        secret: [word; 32],
+    };
+    authenticator.handle(&BenchScheme, channel, request, given(part(line, 2)), words)
+}
+
+/// Whether the authenticator answers a line as it says.
+pub fn is_answered(
+    alloc: Global,
+    authenticator: &mut Authenticator,
+    line: &str,
+) -> Result<bool, AllocError> {
+    let request = bytes_of(alloc, part(line, 1))?;
+    let reply = reply(alloc, authenticator, line, &request)?;
+    let said = said(alloc, kind_of(&request), &reply)?;
+    Ok(said.as_str() == part(line, 4))
+}
+
+/// The first line that is answered otherwise, if one is.
 pub fn first_other(
     alloc: Global,
     authenticator: &mut Authenticator,
-    calls: &[Call],
-) -> Result<Option<(usize, Answer)>, AllocError> {
-    for (place, (channel, pieces, given, word, wanted)) in calls.iter().enumerate() {
-        let found = answered(alloc, authenticator, *channel, pieces, *given, *word)?;
-        if found != *wanted {
-            return Ok(Some((place, found)));
+    table: Table,
+) -> Result<Option<&'static str>, AllocError> {
+    for line in table.lines() {
+        if !is_answered(alloc, authenticator, line)? {
+            return Ok(Some(line));
         }
     }
     Ok(None)
 }
 
-/// The place of the first call that a new authenticator answers otherwise, and that answer.
+/// The first line that a new authenticator answers otherwise, if it does one.
 pub fn first_wrong(
     alloc: Global,
     uv: bool,
     attest: AttestationType,
-    calls: &[Call],
-) -> Result<Option<(usize, Answer)>, AllocError> {
+    table: Table,
+) -> Result<Option<&'static str>, AllocError> {
     let mut authenticator = Authenticator::new(alloc, [0; 16], uv, attest);
-    first_other(alloc, &mut authenticator, calls)
+    first_other(alloc, &mut authenticator, table)
 }

@@ -1,112 +1,52 @@
-//! An authenticator that stores 256 credentials (CTAP 2.1, section 6.1).
+//! New authenticators, and one that stores 256 credentials (CTAP 2.1, section 6.1).
 
-use crate::authenticator_answers::*;
-use crate::authenticator_pieces::*;
-use Answer::{Asserted, Made, Status};
+use crate::authenticator_answers::{first_other, first_wrong, is_answered, reply};
+use crate::authenticator_calls::{AGAIN, BETWEEN, NEW, SAME, THREE};
+use crate::authenticator_candidates::{EXCLUSIONS, LISTS, WITHOUT_PRESENCE};
+use crate::authenticator_names::bytes_of;
+use crate::authenticator_orders::{ASKING, MAKING, VERIFYING};
 use authdata::AttestationType;
 use authenticator::{Authenticator, Consent, Words};
 use cose::BenchScheme;
 use std::alloc::{AllocError, Global};
 use std::test::Fail;
+use test_words::Table;
 
-// Where the id 01 is a resident credential of user 01, and 256 are stored.
-const FULL: &[Call] = &[
-    (
-        1,
-        &[CREATE_4, CREATE_HASH, RP, USER2, EDDSA],
-        PRESENT,
-        2,
-        Status(0x28),
-    ),
-    (
-        1,
-        &[CREATE_5, CREATE_HASH, RP, USER2, EDDSA, RK],
-        PRESENT,
-        2,
-        Status(0x28),
-    ),
-    (
-        1,
-        &[CREATE_5, CREATE_HASH, OTHER_RP, USER1, EDDSA, RK],
-        PRESENT,
-        2,
-        Status(0x28),
-    ),
-    (
-        1,
-        &[CREATE_5, CREATE_HASH, RP, USER1, EDDSA, NO_RK],
-        PRESENT,
-        2,
-        Status(0x28),
-    ),
-    (
-        1,
-        &[CREATE_4, CREATE_HASH, RP, USER2, RS256],
-        PRESENT,
-        2,
-        Status(0x26),
-    ),
-    (
-        1,
-        &[CREATE_5, CREATE_HASH, RP, USER2, EDDSA, NO_UP],
-        PRESENT,
-        2,
-        Status(0x2c),
-    ),
-    (
-        1,
-        &[CREATE_4, CREATE_HASH, RP, USER2, EDDSA],
-        NONE,
-        2,
-        Status(0x27),
-    ),
-    (
-        1,
-        &[CREATE_5, CREATE_HASH, RP, USER2, EDDSA, EXCLUDED, TYPE],
-        PRESENT,
-        2,
-        Status(0x19),
-    ),
-    (
-        1,
-        &[CREATE_4, CREATE_HASH, RP, USER2, EDDSA],
-        PRESENT,
-        1,
-        Status(0x7f),
-    ),
-    (
-        1,
-        &[CREATE_5, CREATE_HASH, RP, USER1, EDDSA, RK],
-        PRESENT,
-        2,
-        Made(2, 0x41, -8),
-    ),
-    (
-        1,
-        &[GET_2, RP_ID, GET_HASH],
-        PRESENT,
-        0,
-        Asserted(2, 1, 0, 1, 1),
-    ),
-    (
-        1,
-        &[GET_3, RP_ID, GET_HASH, LIST_OF_1, DESCRIPTOR_01, TYPE],
-        PRESENT,
-        0,
-        Status(0x2e),
-    ),
-    (
-        1,
-        &[CREATE_4, CREATE_HASH, RP, USER2, EDDSA],
-        PRESENT,
-        3,
-        Status(0x28),
-    ),
+/// Whether verification is configured, how credentials are attested, and calls on such an authenticator. `SAME` stands
+/// twice, since two authenticators are handed the same words.
+const TABLES: &[(bool, AttestationType, Table)] = &[
+    (false, AttestationType::None, THREE),
+    (false, AttestationType::None, NEW),
+    (false, AttestationType::None, BETWEEN),
+    (false, AttestationType::None, AGAIN),
+    (false, AttestationType::None, SAME),
+    (false, AttestationType::None, SAME),
+    (false, AttestationType::None, LISTS),
+    (false, AttestationType::None, EXCLUSIONS),
+    (false, AttestationType::None, WITHOUT_PRESENCE),
+    (false, AttestationType::SelfSigned, MAKING),
+    (false, AttestationType::SelfSigned, ASKING),
+    (true, AttestationType::SelfSigned, VERIFYING),
 ];
+
+/// Where the id 01 is a resident credential of user 01, and 256 are stored.
+const FULL: Table = "1|create4 rp user2 eddsa|up|2|status 28
+1|create5 rp user2 eddsa rk|up|2|status 28
+1|create5 other-rp user1 eddsa rk|up|2|status 28
+1|create5 rp user1 eddsa no-rk|up|2|status 28
+1|create4 rp user2 rs256|up|2|status 26
+1|create5 rp user2 eddsa no-up|up|2|status 2c
+1|create4 rp user2 eddsa||2|status 27
+1|create5 rp user2 eddsa excluded type|up|2|status 19
+1|create4 rp user2 eddsa|up|1|status 7f
+1|create5 rp user1 eddsa rk|up|2|made 2 41 -8
+1|get2 rp-id get-hash|up|0|asserted 2 1 0 01 1
+1|get3 rp-id get-hash list1 id1 type|up|0|status 2e
+1|create4 rp user2 eddsa|up|3|status 28";
 
 /// Makes a credential that isn't resident, whose id is a number and zero bytes; whether it was made.
 fn make(alloc: Global, authenticator: &mut Authenticator, number: u8) -> Result<bool, AllocError> {
-    let request = joined(alloc, &[CREATE_4, CREATE_HASH, RP, USER1, EDDSA])?;
+    let request = bytes_of(alloc, "create4 rp user1 eddsa")?;
     let mut id = [0; 32];
     id[0] = number;
     let reply = authenticator.handle(
@@ -128,8 +68,8 @@ fn make(alloc: Global, authenticator: &mut Authenticator, number: u8) -> Result<
 /// An authenticator with the resident credential 01 and 255 others, if each was made.
 fn filled(alloc: Global) -> Result<Option<Authenticator>, AllocError> {
     let mut authenticator = Authenticator::new(alloc, [0; 16], false, AttestationType::None);
-    let first = &[CREATE_5, CREATE_HASH, RP, USER1, EDDSA, RK];
-    if answered(alloc, &mut authenticator, 1, first, PRESENT, 1)? != Made(1, 0x41, -8) {
+    let first = "1|create5 rp user1 eddsa rk|up|1|made 1 41 -8";
+    if !is_answered(alloc, &mut authenticator, first)? {
         return Ok(None);
     }
     for number in 0..255 {
@@ -140,19 +80,33 @@ fn filled(alloc: Global) -> Result<Option<Authenticator>, AllocError> {
     Ok(Some(authenticator))
 }
 
-/// The place of the first wrong answer; how many are stored before and after.
-fn outcome(alloc: Global) -> Result<Option<(usize, Option<(usize, Answer)>, usize)>, AllocError> {
+/// Whether it is full before and after the calls, each of which is answered as it says.
+fn is_full(alloc: Global) -> Result<bool, AllocError> {
     let Some(mut authenticator) = filled(alloc)? else {
-        return Ok(None);
+        return Ok(false);
     };
     let before = authenticator.len();
-    let wrong = first_other(alloc, &mut authenticator, FULL)?;
-    Ok(Some((before, wrong, authenticator.len())))
+    let other = first_other(alloc, &mut authenticator, FULL)?;
+    Ok(other.is_none() && before == 256 && authenticator.len() == 256)
+}
+
+/// Whether getInfo of an authenticator whose aaguid is 16 zero bytes, without verification, answers these 60 bytes.
+fn is_information(alloc: Global) -> Result<bool, AllocError> {
+    let mut authenticator = Authenticator::new(alloc, [0; 16], false, AttestationType::None);
+    let reply = reply(alloc, &mut authenticator, "1|||1", &[4])?;
+    let wanted = bytes_of(
+        alloc,
+        "00a6018168 'FIDO_2_0 0350 00*16 04a462 'rk f562 'up f562 'uv f464 'plat f405191db9070808 1840",
+    )?;
+    Ok(reply.len() == 60 && reply.as_slice() == wanted.as_slice())
 }
 
 #[test]
-fn full(rt: HostRuntime) -> Result<(), Fail> {
-    let outcome = outcome(rt.alloc())?;
-    assert!(rt; outcome == Some((256, None, 256)), "{outcome:?}");
+fn calls(rt: HostRuntime) -> Result<(), Fail> {
+    for (uv, attest, table) in TABLES {
+        let other = first_wrong(rt.alloc(), *uv, *attest, table)?;
+        assert!(rt; other.is_none(), "{other:?}");
+    }
+    assert!(rt; is_information(rt.alloc())? && is_full(rt.alloc())?);
     Ok(())
 }

@@ -1,11 +1,10 @@
 //! The statements of makeCredential's replies (WebAuthn Level 2, sections 8.2 and 8.7), judged as a relying party
-//! does, and two authenticators of one secret.
+//! does.
 
-use crate::authenticator_answers::*;
-use crate::authenticator_pieces::*;
-use Answer::{Asserted, Made};
+use crate::authenticator_answers::reply;
+use crate::authenticator_names::bytes_of;
 use authdata::{AttestationObject, AttestationType, check_statement};
-use authenticator::{Authenticator, Consent, Words};
+use authenticator::Authenticator;
 use cose::{Alg, BenchScheme, Signer};
 use ctapmsg::{Kind, Reply, read_reply};
 use std::alloc::{AllocError, Global};
@@ -15,24 +14,12 @@ use std::test::Fail;
 fn statement(
     alloc: Global,
     attest: AttestationType,
-    algorithm: Piece,
+    request: &str,
     alg: Alg,
 ) -> Result<Option<AttestationType>, AllocError> {
     let mut authenticator = Authenticator::new(alloc, [7; 16], false, attest);
-    let request = joined(alloc, &[CREATE_4, CREATE_HASH, RP, USER1, algorithm])?;
-    let reply = authenticator.handle(
-        &BenchScheme,
-        1,
-        &request,
-        Consent {
-            present: true,
-            verified: false,
-        },
-        Words {
-            id: [1; 32],
-            secret: [1; 32],
-        },
-    )?;
+    let request = bytes_of(alloc, request)?;
+    let reply = reply(alloc, &mut authenticator, "1||up|1", &request)?;
     let made = match read_reply(alloc, Kind::MakeCredential, &reply) {
         Ok(Reply::MakeCredential(made)) => made,
         _ => return Ok(None),
@@ -49,45 +36,26 @@ fn statement(
     }
 }
 
-const STATEMENTS: &[(AttestationType, Piece, Alg)] = &[
-    (AttestationType::None, EDDSA, Alg::EdDsa),
-    (AttestationType::None, ES256, Alg::Es256),
-    (AttestationType::SelfSigned, EDDSA, Alg::EdDsa),
-    (AttestationType::SelfSigned, ES256, Alg::Es256),
+const STATEMENTS: &[(AttestationType, &str, Alg)] = &[
+    (AttestationType::None, "create4 rp user1 eddsa", Alg::EdDsa),
+    (AttestationType::None, "create4 rp user1 es256", Alg::Es256),
+    (
+        AttestationType::SelfSigned,
+        "create4 rp user1 eddsa",
+        Alg::EdDsa,
+    ),
+    (
+        AttestationType::SelfSigned,
+        "create4 rp user1 es256",
+        Alg::Es256,
+    ),
 ];
 
 #[test]
 fn statements(rt: HostRuntime) -> Result<(), Fail> {
-    for (attest, algorithm, alg) in STATEMENTS {
-        let shown = statement(rt.alloc(), *attest, *algorithm, *alg)?;
+    for (attest, request, alg) in STATEMENTS {
+        let shown = statement(rt.alloc(), *attest, request, *alg)?;
         assert!(rt; shown == Some(*attest), "{attest:?}");
     }
-    Ok(())
-}
-
-// Each of two authenticators that were handed the same words has a counter of its own.
-const SAME: &[Call] = &[
-    (
-        1,
-        &[CREATE_5, CREATE_HASH, RP, USER1, EDDSA, RK],
-        PRESENT,
-        1,
-        Made(1, 0x41, -8),
-    ),
-    (
-        1,
-        &[GET_2, RP_ID, GET_HASH],
-        PRESENT,
-        0,
-        Asserted(1, 1, 0, 1, 1),
-    ),
-];
-
-#[test]
-fn same_words(rt: HostRuntime) -> Result<(), Fail> {
-    let mut one = Authenticator::new(rt.alloc(), [0; 16], false, AttestationType::None);
-    let mut other = Authenticator::new(rt.alloc(), [0; 16], false, AttestationType::None);
-    assert!(rt; first_other(rt.alloc(), &mut one, SAME)?.is_none());
-    assert!(rt; first_other(rt.alloc(), &mut other, SAME)?.is_none());
     Ok(())
 }

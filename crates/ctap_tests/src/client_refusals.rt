@@ -8,7 +8,10 @@ pub fn sign_in_refusal(
     origin: &str,
     options: &RequestOptions<'_>,
 ) -> Option<RequestError> {
-    assertion_request(alloc, origin, options, 1).err()
+    match assertion_request(alloc, origin, options, 1) {
+        Ok(_) => None,
+        Err(error) => Some(error),
+    }
 }
 
 pub fn registration_refusal(
@@ -16,5 +19,8 @@ pub fn registration_refusal(
     origin: &str,
     options: &CreationOptions<'_>,
 ) -> Option<RequestError> {
-    creation_request(alloc, origin, options, 1).err()
+    match creation_request(alloc, origin, options, 1) {
+        Ok(_) => None,
+        Err(error) => Some(error),
+    }
 }

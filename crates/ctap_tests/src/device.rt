@@ -10,37 +10,27 @@ use std::alloc::{AllocError, Global};
 /// An INIT on the broadcast channel.
 pub const INIT: &[u8] = &[0xff, 0xff, 0xff, 0xff, 0x86, 0, 8, 1, 2, 3, 4, 5, 6, 7, 8];
 
-/// What a device is doing, as the tables write it.
-#[derive(Clone, Copy, PartialEq, Eq, Debug)]
-pub enum Doing {
-    Idle,
-    Receiving,
-    Working,
-}
+/// What a device does: it is idle, receives, or works.
+pub type Doing = &'static str;
 
-/// The packets that make an idle device receive or work on channel 1, and no packet.
+pub const IDLE: Doing = "Idle";
+
+pub const RECEIVING: Doing = "Receiving";
+
+pub const WORKING: Doing = "Working";
+
+/// The packets that make an idle device receive or work on channel 1.
 const RECEIVES: &[u8] = &[0, 0, 0, 1, 0x90, 0, 70];
 
 const WORKS: &[u8] = &[0, 0, 0, 1, 0x90, 0, 1, 4];
 
-const NONE: &[u8] = &[];
-
-/// The packet that makes an idle device do this on channel 1, or no bytes.
-fn beginning(doing: Doing) -> &'static [u8] {
-    match doing {
-        Doing::Idle => NONE,
-        Doing::Receiving => RECEIVES,
-        Doing::Working => WORKS,
-    }
-}
-
 /// A device with channels 1 and 2 that does this on channel 1.
-pub fn device_doing(alloc: Global, doing: Doing) -> Result<Device, AllocError> {
+pub fn device_doing(alloc: Global, doing: &str) -> Result<Device, AllocError> {
     let mut device = Device::new(alloc)?;
     take(&mut device, &packet(INIT));
     take(&mut device, &packet(INIT));
-    let first = beginning(doing);
-    if !first.is_empty() {
+    if doing != IDLE {
+        let first = if doing == WORKING { WORKS } else { RECEIVES };
         take(&mut device, &packet(first));
     }
     Ok(device)
@@ -71,10 +61,10 @@ pub fn drain(device: &mut Device) -> usize {
 pub fn state_after(device: &mut Device) -> Doing {
     drain(device);
     if device.working().is_some() {
-        return Doing::Working;
+        return WORKING;
     }
     if device.drained() && device.expire() {
-        return Doing::Receiving;
+        return RECEIVING;
     }
-    Doing::Idle
+    IDLE
 }

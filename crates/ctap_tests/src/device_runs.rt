@@ -3,34 +3,50 @@
 
 ghost use Rattle.std.specs.Prelude.{◌≡◌, ◌≤◌, ◌⊎◌, [], length};
 
-use crate::device::Doing::{self, Idle, Receiving, Working};
-use crate::device::{INIT, device_doing, state_after, take};
-use crate::device_ranks::{CHANNELS, COMMANDS, CONTINUATIONS, INITS, LENGTHS, Wanted};
+use crate::device::{IDLE, INIT, RECEIVING, WORKING, device_doing, state_after, take};
+use crate::device_ranks::{CHANNELS, COMMANDS, CONTINUATIONS, INITS, INTERLEAVED, LENGTHS};
 use crate::framing::{packet, packet_or_none};
 use hidframe::ctaphid::{CTAPHID_CBOR, CTAPHID_PING};
 use hidframe::{Packet, frame, packet_at};
 use hidlink::{Device, MAX_CHANNELS, Refusal, Step};
 use std::alloc::{AllocError, Global};
 use std::test::Fail;
+use test_words::{Table, bytes_of, part};
 
-/// Whether a device in this state does with this packet what is wanted.
-fn is_row(alloc: Global, bytes: &[u8], state: Doing, wanted: &Wanted) -> Result<bool, AllocError> {
-    let (sent, step, after) = *wanted;
+/// The word for no packet.
+const NAMES: Table = "-|";
+
+/// Whether a device does this with the packet: the packet that is sent, and the step.
+fn does(alloc: Global, device: &mut Device, words: &str, wanted: &str) -> Result<bool, AllocError> {
+    let (step, sent) = take(device, &packet(&bytes_of(alloc, &[NAMES], words)?));
+    let (front, told) = wanted.split_once(" ").unwrap_or((wanted, ""));
+    let found = format!(in alloc; "{step:?}")?;
+    let front = bytes_of(alloc, &[NAMES], front)?;
+    Ok(sent == packet_or_none(&front) && found.as_str() == told)
+}
+
+/// Whether a device in this state does this with the packet, and is in the state then that is named last.
+fn is_done(alloc: Global, state: &str, words: &str, wanted: &str) -> Result<bool, AllocError> {
     let mut device = device_doing(alloc, state)?;
-    let got = take(&mut device, &packet(bytes));
-    Ok(got == (step, packet_or_none(sent)) && state_after(&mut device) == after)
+    let (done, after) = wanted.rsplit_once(" ").unwrap_or((wanted, ""));
+    Ok(does(alloc, &mut device, words, done)? && state_after(&mut device) == after)
+}
+
+/// Whether a device does in each state what a line says.
+fn is_row(alloc: Global, line: &str) -> Result<bool, AllocError> {
+    for (state, place) in [(IDLE, 2), (RECEIVING, 3), (WORKING, 4)] {
+        if !is_done(alloc, state, part(line, 1), part(line, place))? {
+            return Ok(false);
+        }
+    }
+    Ok(true)
 }
 
 #[test]
 fn ranks_in_each_state(rt: HostRuntime) -> Result<(), Fail> {
     for table in [CHANNELS, INITS, COMMANDS, LENGTHS, CONTINUATIONS] {
-        for (name, bytes, idle, receiving, working) in table {
-            for (state, wanted) in [(Idle, idle), (Receiving, receiving), (Working, working)] {
-                assert!(rt;
-                    is_row(rt.alloc(), bytes, state, wanted)?,
-                    "{name}: {state:?}"
-                );
-            }
+        for line in table.lines() {
+            assert!(rt; is_row(rt.alloc(), line)?, "{line}");
         }
     }
     Ok(())
@@ -107,7 +123,7 @@ fn is_answered(device: &mut Device, len: usize) -> bool
 
 #[test]
 fn echoes_requests_and_answers(rt: HostRuntime) -> Result<(), Fail> {
-    let mut device = device_doing(rt.alloc(), Idle)?;
+    let mut device = device_doing(rt.alloc(), IDLE)?;
     for len in [0, 1, 57, 58, 117, 7609] {
         assert!(rt; is_echoed(&mut device, len)?, "at {len}");
     }
@@ -181,26 +197,27 @@ fn is_expiring(device: &mut Device) -> bool {
 }
 
 /// Whether a device that does this on channel 1 has two channels, and answers each call as it has to.
-fn acts(device: &mut Device, doing: Doing) -> bool {
-    let channels = device.channels();
-    let acts = match doing {
-        Idle => is_idle(device),
-        Receiving => is_expiring(device),
-        Working => is_working(device),
-    };
-    acts && channels == 2
+fn acts(device: &mut Device, doing: &str) -> bool {
+    if device.channels() != 2 {
+        return false;
+    }
+    match doing {
+        "Idle" => is_idle(device),
+        "Receiving" => is_expiring(device),
+        _ => is_working(device),
+    }
 }
 
 /// Whether a device that was made to do this acts so.
-fn acts_in(alloc: Global, doing: Doing) -> Result<bool, AllocError> {
+fn acts_in(alloc: Global, doing: &str) -> Result<bool, AllocError> {
     let mut device = device_doing(alloc, doing)?;
     Ok(acts(&mut device, doing))
 }
 
 #[test]
 fn states(rt: HostRuntime) -> Result<(), Fail> {
-    for &doing in &[Idle, Receiving, Working] {
-        assert!(rt; acts_in(rt.alloc(), doing)?, "{doing:?}");
+    for doing in [IDLE, RECEIVING, WORKING] {
+        assert!(rt; acts_in(rt.alloc(), doing)?, "{doing}");
     }
     let mut device = Device::new(rt.alloc())?;
     let idle = is_idle(&mut device);
@@ -246,77 +263,22 @@ fn channels(rt: HostRuntime) -> Result<(), Fail> {
     Ok(())
 }
 
-/// A packet, and what comes of it: the step and the packet that is sent (no bytes for none).
-type Taken<'a> = (&'a str, &'a [u8], Step, &'a [u8]);
-
-/// A request of 117 bytes on channel 1 among packets on others; then a CANCEL, an INIT, and a message
-/// that another channel and a wrong number disturb.
-const INTERLEAVED: &[Taken] = &[
-    ("channel 3", INIT, Step::Quiet, THIRD),
-    (
-        "the first packet",
-        &[0, 0, 0, 1, 0x90, 0, 117],
-        Step::Quiet,
-        &[],
-    ),
-    ("CANCEL elsewhere", &[0, 0, 0, 2, 0x91], Step::Quiet, &[]),
-    ("number 0 elsewhere", &[0, 0, 0, 2, 0], Step::Quiet, &[]),
-    ("PING elsewhere", &[0, 0, 0, 3, 0x81], Step::Quiet, BUSY_3),
-    ("number 0", &[0, 0, 0, 1, 0], Step::Quiet, &[]),
-    ("CANCEL again", &[0, 0, 0, 2, 0x91], Step::Quiet, &[]),
-    ("number 0 again", &[0, 0, 0, 2, 0], Step::Quiet, &[]),
-    ("PING again", &[0, 0, 0, 3, 0x81], Step::Quiet, BUSY_3),
-    ("number 1", &[0, 0, 0, 1, 1], Step::Request { cid: 1 }, &[]),
-    ("CANCEL at work", &[0, 0, 0, 2, 0x91], Step::Quiet, &[]),
-    ("number 0 at work", &[0, 0, 0, 2, 0], Step::Quiet, &[]),
-    ("PING at work", &[0, 0, 0, 3, 0x81], Step::Quiet, BUSY_3),
-    ("CANCEL", &[0, 0, 0, 1, 0x91], Step::Cancelled, &[]),
-    (
-        "CANCEL once more",
-        &[0, 0, 0, 1, 0x91],
-        Step::Cancelled,
-        &[],
-    ),
-    ("INIT", &[0, 0, 0, 1, 0x86, 0, 8], Step::Aborted, ANEW),
-    ("a message", &[0, 0, 0, 1, 0x90, 0, 70], Step::Quiet, &[]),
-    (
-        "PING on channel 2",
-        &[0, 0, 0, 2, 0x81],
-        Step::Quiet,
-        BUSY_2,
-    ),
-    (
-        "a wrong number",
-        &[0, 0, 0, 1, 1],
-        Step::Quiet,
-        &[0, 0, 0, 1, 0xbf, 0, 1, 4],
-    ),
-    ("CANCEL while idle", &[0, 0, 0, 1, 0x91], Step::Quiet, &[]),
-];
-
-const THIRD: &[u8] = &[
-    0xff, 0xff, 0xff, 0xff, 0x86, 0, 0x11, 1, 2, 3, 4, 5, 6, 7, 8, 0, 0, 0, 3, 2, 1, 0, 0, 0x0c,
-];
-
-const ANEW: &[u8] = &[
-    0, 0, 0, 1, 0x86, 0, 0x11, 0, 0, 0, 0, 0, 0, 0, 0, 0, 0, 0, 1, 2, 1, 0, 0, 0x0c,
-];
-
-const BUSY_2: &[u8] = &[0, 0, 0, 2, 0xbf, 0, 1, 6];
-
-const BUSY_3: &[u8] = &[0, 0, 0, 3, 0xbf, 0, 1, 6];
+/// The first line that an idle device does not do, if it does not do one, and whether it is idle at the end.
+fn first_undone(alloc: Global, table: Table) -> Result<(Option<&'static str>, bool), AllocError> {
+    let mut device = device_doing(alloc, IDLE)?;
+    for line in table.lines() {
+        if !does(alloc, &mut device, part(line, 1), part(line, 2))? {
+            return Ok((Some(line), false));
+        }
+    }
+    Ok((None, state_after(&mut device) == IDLE))
+}
 
 #[test]
 fn interleaved(rt: HostRuntime) -> Result<(), Fail> {
-    let mut device = device_doing(rt.alloc(), Idle)?;
-    for (name, bytes, step, sent) in INTERLEAVED {
-        let taken = take(&mut device, &packet(bytes));
-        assert!(rt; taken == (*step, packet_or_none(sent)), "{name}");
-    }
-    assert!(rt; state_after(&mut device) == Idle);
-    let mut device = device_doing(rt.alloc(), Idle)?;
-    take(&mut device, &packet(INIT));
-    assert!(rt; is_requested_among(&mut device)?);
+    let undone = first_undone(rt.alloc(), INTERLEAVED)?;
+    assert!(rt; undone == (None, true), "{undone:?}");
+    assert!(rt; is_requested_among(rt.alloc())?);
     Ok(())
 }
 
@@ -331,11 +293,13 @@ fn disturb(device: &mut Device) {
 }
 
 /// Whether a device takes a request of 117 bytes `66` on channel 1 among them, and works on it then.
-fn is_requested_among(device: &mut Device) -> Result<bool, Fail> {
+fn is_requested_among(alloc: Global) -> Result<bool, Fail> {
+    let mut device = device_doing(alloc, IDLE)?;
+    take(&mut device, &packet(INIT));
     let payload = [0x66; 117];
     for packet in frame(1, CTAPHID_CBOR, payload.as_slice())? {
-        take(device, &packet);
-        disturb(device);
+        take(&mut device, &packet);
+        disturb(&mut device);
     }
     Ok(device.working() == Some(1) && device.request() == payload.as_slice())
 }

@@ -5,17 +5,17 @@
 #[cfg(test)]
 mod authenticator_answers;
 #[cfg(test)]
+mod authenticator_calls;
+#[cfg(test)]
 mod authenticator_candidates;
 #[cfg(test)]
 mod authenticator_full;
 #[cfg(test)]
 mod authenticator_making;
 #[cfg(test)]
+mod authenticator_names;
+#[cfg(test)]
 mod authenticator_orders;
-#[cfg(test)]
-mod authenticator_pieces;
-#[cfg(test)]
-mod authenticator_rows;
 #[cfg(test)]
 mod client_limits;
 #[cfg(test)]

@@ -13,7 +13,7 @@ const PACKED: &str = "text:alg=nint:6 text:sig=bytes:0708";
 
 /// What an object is for, its bytes, its format, its authenticator data, and how many members its statement has: that
 /// of two is `PACKED`.
-const OBJECTS: Table =
+pub const OBJECTS: Table =
     "none|a363 'fmt 64 'none 67 'attStmt a068 'authData 5862 010203 41*95|none|010203 41*95|0
 packed|a363 'fmt 66 'packed 67 'attStmt a263 'alg 2663 'sig 420708 68 'authData 43010203|packed|010203|2
 nothing in it|a363 'fmt 6067 'attStmt a068 'authData 40|||0
@@ -61,21 +61,15 @@ fn is_written(alloc: Global, line: &str, bytes: &[u8], auth_data: &[u8]) -> Resu
     Ok(object.write(alloc)?.as_slice() == bytes)
 }
 
-#[test]
-fn objects(rt: HostRuntime) -> Result<(), Fail> {
-    let alloc = rt.alloc();
-    for line in OBJECTS.lines() {
-        let bytes = bytes_of(alloc, part(line, 1))?;
-        let auth_data = bytes_of(alloc, part(line, 3))?;
-        let is_object = is_read(alloc, line, &bytes, &auth_data)?
-            && is_written(alloc, line, &bytes, &auth_data)?;
-        assert!(rt; is_object, "{line}");
-    }
-    Ok(())
+/// Whether the object of a line is read of its bytes, and what is made of its parts written as them.
+pub fn is_object(alloc: Global, line: &str) -> Result<bool, Fail> {
+    let bytes = bytes_of(alloc, part(line, 1))?;
+    let auth_data = bytes_of(alloc, part(line, 3))?;
+    Ok(is_read(alloc, line, &bytes, &auth_data)? && is_written(alloc, line, &bytes, &auth_data)?)
 }
 
 /// What is no object, and the number of its refusal.
-const SHAPES: Table = "no bytes||2
+pub const SHAPES: Table = "no bytes||2
 a byte behind|a363 'fmt 6067 'attStmt a068 'authData 4000|2
 another order|a367 'attStmt a063 'fmt 6068 'authData 40|2
 a cut object|a363 'fmt 6067 'attStmt a068 'authData|2
@@ -86,7 +80,7 @@ attStmt missing|a263 'fmt 6068 'authData 40|13
 authData missing|a263 'fmt 6067 'attStmt a0|13";
 
 /// The same of members of other names, kinds and orders.
-const MEMBERS: Table = "another member|a462 'ep f563 'fmt 6067 'attStmt a068 'authData 40|13
+pub const MEMBERS: Table = "another member|a462 'ep f563 'fmt 6067 'attStmt a068 'authData 40|13
 another key|a363 'fmu 6067 'attStmt a068 'authData 40|13
 fmt of bytes|a363 'fmt 4067 'attStmt a068 'authData 40|13
 attStmt an array|a363 'fmt 6067 'attStmt 8068 'authData 40|13
@@ -107,17 +101,18 @@ fn number_of(error: Error) -> usize {
     }
 }
 
-/// The number of the refusal of the bytes, if they are refused.
-fn refusal(alloc: Global, bytes: &[u8]) -> Option<usize> {
-    match AttestationObject::read(alloc, bytes) {
-        Ok(_) => None,
-        Err(error) => Some(number_of(error)),
-    }
+/// Whether the bytes of a line are refused by its number.
+pub fn is_no_object(alloc: Global, line: &str) -> Result<bool, Fail> {
+    let bytes = bytes_of(alloc, part(line, 1))?;
+    Ok(match AttestationObject::read(alloc, &bytes) {
+        Ok(_) => false,
+        Err(error) => Some(number_of(error)) == number(line, 2),
+    })
 }
 
 /// What a statement is for, the statement, and how many bytes an object of format none with it and 32 bytes of
 /// authenticator data has, or the number of its refusal.
-const STATEMENTS: Table = "three levels|text:a=items:1|66
+pub const STATEMENTS: Table = "three levels|text:a=items:1|66
 four levels|text:a=items:2|1
 keys in order|text:a=uint:0 text:b=uint:0|68
 keys out of order|text:b=uint:0 text:a=uint:0|1
@@ -125,31 +120,12 @@ an array|items:0|1
 a text|text:none|1
 a number|uint:0|1";
 
-/// How many bytes an object with this statement has, or the number of its refusal.
-fn written(alloc: Global, statement: &str) -> Result<usize, AllocError> {
-    let object = object(alloc, "none", &[5; 32], made_value(alloc, statement)?)?;
-    Ok(match object.write(alloc) {
+/// Whether an object with the statement of a line has as many bytes, or is refused by its number.
+pub fn is_statement(alloc: Global, line: &str) -> Result<bool, Fail> {
+    let statement = made_value(alloc, part(line, 1))?;
+    let written = match object(alloc, "none", &[5; 32], statement)?.write(alloc) {
         Ok(bytes) => bytes.len(),
         Err(error) => number_of(error),
-    })
-}
-
-#[test]
-fn refused(rt: HostRuntime) -> Result<(), Fail> {
-    let alloc = rt.alloc();
-    for table in [SHAPES, MEMBERS] {
-        for line in table.lines() {
-            let bytes = bytes_of(alloc, part(line, 1))?;
-            let number = number(line, 2);
-            assert!(rt;
-                number.is_some() && refusal(alloc, &bytes) == number,
-                "{line}"
-            );
-        }
-    }
-    for line in STATEMENTS.lines() {
-        let written = written(alloc, part(line, 1))?;
-        assert!(rt; Some(written) == number(line, 2), "{line}");
-    }
-    Ok(())
+    };
+    Ok(Some(written) == number(line, 2))
 }

@@ -14,7 +14,7 @@ const H: [u8; 32] = [
 ];
 
 /// A name, the bytes, and the number of the refusal, if they are refused.
-const BARE: Table = "36 bytes|H 01000000|8
+pub const BARE: Table = "36 bytes|H 01000000|8
 ED alone|H 8000000000|9
 AT with no credential|H 4100000000|8
 bare|H 0100000001
@@ -28,7 +28,7 @@ BS without BE before a byte more|H 110000000000|28
 bare, and a byte|H 010000000100|12";
 
 /// The same up to the id of a credential.
-const IDS: Table = "54 bytes|H Z 00|8
+pub const IDS: Table = "54 bytes|H Z 00|8
 an id of 65 bytes that is not there|H Z 0041|8
 an id that is cut|H Z 00020a|8
 no id|H Z 0000|10
@@ -37,7 +37,7 @@ an id of 65 bytes|H Z 0041 07*65 KEY|10
 an id of 256 bytes|H Z 0100 07*256 KEY|10";
 
 /// The same of keys.
-const KEYS: Table = "no key|H Z ID|11
+pub const KEYS: Table = "no key|H Z ID|11
 a number for a key|H Z ID 1820|11
 a key with a long head|H Z ID b804 010103272006215820 11*32|11
 EdDSA|H Z ID KEY
@@ -48,7 +48,7 @@ ED before a bad id|H c100000000 00*16 0000|9
 too short before ED|H c100000000|8";
 
 /// The same of ids and keys that are read.
-const WHOLE: Table = "an id of 16 bytes|H Z 0010 07*16 KEY
+pub const WHOLE: Table = "an id of 16 bytes|H Z 0010 07*16 KEY
 an id of 17 bytes|H Z 0011 07*17 KEY
 an id of 32 bytes|H Z 0020 07*32 KEY
 an id of 63 bytes|H Z 003f 07*63 KEY
@@ -56,7 +56,7 @@ an id of 64 bytes, ES256|H Z 0040 07*64 E 00*32 EY 00*32
 x of zeros|H Z ID K 00*32";
 
 /// The same of the hash alone and of long inputs.
-const LONG: Table = "the hash alone|H|8
+pub const LONG: Table = "the hash alone|H|8
 7,000 bytes behind the key|H Z ID KEY 00*7000|12
 7,000 bytes behind the counter|H 0100000001 00*7000|12
 an id of 7,000 bytes|H Z 1b58 07*7000 KEY|10
@@ -64,7 +64,7 @@ a long byte string for a key|H Z ID 591b58 07*7000|11
 an x of 256 bytes|H Z ID a401010327200621590100 11*256|11";
 
 /// The same of what is shorter than the hash.
-const SHORTER: Table = "no bytes||8
+pub const SHORTER: Table = "no bytes||8
 31 bytes|ba7816bf8f01cfea414140de5dae2223b00361a396177a9cb410ff61f20015|8";
 
 /// The number of an error, 0 for want of memory.
@@ -97,36 +97,26 @@ fn refusal(alloc: Global, bytes: &[u8]) -> Result<Option<usize>, AllocError> {
     })
 }
 
-/// Whether no front of authenticator data with a credential is read.
-fn is_refused_cut(alloc: Global, bytes: &[u8]) -> Result<bool, AllocError> {
+/// Whether the bytes of a line are refused by its number, or not where it has none.
+pub fn is_reading(alloc: Global, line: &str) -> Result<bool, Fail> {
+    let bytes = bytes_of(alloc, part(line, 1))?;
+    Ok(refusal(alloc, &bytes)? == number(line, 2))
+}
+
+/// Whether the authenticator data of a line are as long as it says, and no front of them is read.
+pub fn is_refused_cut(alloc: Global, line: &str) -> Result<bool, Fail> {
+    let bytes = bytes_of(alloc, part(line, 0))?;
     for n in 0..bytes.len() {
         let wanted = if n < 56 { 8 } else { 11 };
         if refusal(alloc, &bytes[..n])? != Some(wanted) {
             return Ok(false);
         }
     }
-    Ok(true)
-}
-
-#[test]
-fn readings(rt: HostRuntime) -> Result<(), Fail> {
-    let alloc = rt.alloc();
-    for table in [BARE, IDS, KEYS, WHOLE, LONG, SHORTER] {
-        for line in table.lines() {
-            let bytes = bytes_of(alloc, part(line, 1))?;
-            assert!(rt; refusal(alloc, &bytes)? == number(line, 2), "{line}");
-        }
-    }
-    for line in CUT.lines() {
-        let bytes = bytes_of(alloc, part(line, 0))?;
-        let is_long = Some(bytes.len()) == number(line, 1);
-        assert!(rt; is_long && is_refused_cut(alloc, &bytes)?, "{line}");
-    }
-    Ok(())
+    Ok(Some(bytes.len()) == number(line, 1))
 }
 
 /// Authenticator data with a credential, and how many bytes they are.
-const CUT: Table = "H Z ID KEY|98
+pub const CUT: Table = "H Z ID KEY|98
 H Z ID E 11*32 EY 33*32|133";
 
 /// A record each of whose members is another.

@@ -8,7 +8,7 @@ use std::test::Fail;
 
 /// What an input is for, the input, the value that `decode` reads from it as `{:?}` prints it, and
 /// how many bytes encode that value.
-const NUMBERS: Table = "0 and a byte behind it|0000|Uint(0)|1
+pub const NUMBERS: Table = "0 and a byte behind it|0000|Uint(0)|1
 23 in the first byte|17|Uint(23)|1
 24 in one byte|1818|Uint(24)|2
 255 in one byte|18ff|Uint(255)|2
@@ -21,7 +21,7 @@ const NUMBERS: Table = "0 and a byte behind it|0000|Uint(0)|1
 -2^64|3bffffffffffffffff|Nint(18446744073709551615)|9";
 
 /// The same of other values.
-const OTHERS: Table = r#"bytes, and one behind them|4201ff00|Bytes([1, 255])|3
+pub const OTHERS: Table = r#"bytes, and one behind them|4201ff00|Bytes([1, 255])|3
 no bytes|40|Bytes([])|1
 a text of two-byte characters|64c3a9c3a8|Text("éè")|5
 no text|60|Text("")|1
@@ -32,7 +32,7 @@ four arrays deep|81818180|Array([Array([Array([Array([])])])])|4
 four maps and arrays deep|a10181a102a0|Map([(Uint(1), Array([Map([(Uint(2), Map([]))])]))])|6"#;
 
 /// The same of more of them.
-const MORE_OTHERS: Table =
+pub const MORE_OTHERS: Table =
     r#"two negative numbers of one length|a220012102|Map([(Nint(0), Uint(1)), (Nint(1), Uint(2))])|5
 two negative numbers of two bytes|a2381801381902|Map([(Nint(24), Uint(1)), (Nint(25), Uint(2))])|7
 a negative number behind a longer unsigned one|a2190100012002|Map([(Uint(256), Uint(1)), (Nint(0), Uint(2))])|7
@@ -40,7 +40,7 @@ a text with NUL|63 'a 00 'b|Text("a\0b")|4
 texts with NUL as keys|a262 'a 000162 'aa 02|Map([(Text("a\0"), Uint(1)), (Text("aa"), Uint(2))])|9"#;
 
 /// What an input is for, and an input of which no front is an encoding.
-const LONGER_FORMS: Table = "nothing|
+pub const LONGER_FORMS: Table = "nothing|
 23 in one byte|1817
 255 in two bytes|1900ff
 65535 in four bytes|1a0000ffff
@@ -53,7 +53,7 @@ a longer length of a map|b8010000
 false in one byte more|f814";
 
 /// The same of keys.
-const KEYS: Table = "a longer text before a shorter|a263 'fmt 0062 'id 00
+pub const KEYS: Table = "a longer text before a shorter|a263 'fmt 0062 'id 00
 a longer number before a shorter|a21818000000
 a higher text of the same length first|a261 'b 0061 'a 00
 a higher number first|a201000000
@@ -67,7 +67,7 @@ a map as a key|a1a000
 true as a key|a1f500";
 
 /// The same of depths and kinds of values.
-const KINDS: Table = "five arrays deep|8181818180
+pub const KINDS: Table = "five arrays deep|8181818180
 five maps deep|a100a100a100a100a0
 a tag|c000
 a tag in one byte more|d81841 'a
@@ -80,7 +80,7 @@ another simple value|f0
 a simple value in one byte more|f8ff";
 
 /// The same of indefinite lengths, infos and texts.
-const UNENDED: Table = "bytes of indefinite length|5f41 'a ff
+pub const UNENDED: Table = "bytes of indefinite length|5f41 'a ff
 a text of indefinite length|7f61 'a ff
 an array of indefinite length|9f00ff
 a map of indefinite length|bf0000ff
@@ -96,7 +96,7 @@ a surrogate|63eda080
 a character above the last one|64f4908080";
 
 /// The same of inputs that end too soon.
-const CUT: Table = "no byte of one|18
+pub const CUT: Table = "no byte of one|18
 one byte of two|1901
 three bytes of four|1a010000
 seven bytes of eight|1b01000000000000
@@ -114,7 +114,7 @@ a text of 2^64 - 1 bytes|7bffffffffffffffff 'a
 2^64 - 1 pairs|bbffffffffffffffff0000";
 
 /// The same of faults further inside.
-const INNER: Table = "a longer number in a map in an array|81a1001817
+pub const INNER: Table = "a longer number in a map in an array|81a1001817
 a higher negative number first|a221002000
 a higher negative number of two bytes first|a2381900381800
 the same negative number twice|a220002000
@@ -157,24 +157,17 @@ pub fn is_refused(alloc: Global, bytes: &[u8]) -> bool {
         && matches!(View::check_all(bytes), Err(Error::NotCanonical))
 }
 
-#[test]
-fn decodes(rt: HostRuntime) -> Result<(), Fail> {
-    let alloc = rt.alloc();
-    for table in [NUMBERS, OTHERS, MORE_OTHERS] {
-        for line in table.lines() {
-            let bytes = bytes_of(alloc, part(line, 1))?;
-            let value = part(line, 2);
-            let len = number(line, 3).unwrap_or(0);
-            let found = is_front(alloc, &bytes, value, len)?
-                && is_decoded(alloc, &bytes, value, len == bytes.len())?;
-            assert!(rt; found, "{line}");
-        }
-    }
-    for table in [LONGER_FORMS, KEYS, KINDS, UNENDED, CUT, INNER] {
-        for line in table.lines() {
-            let bytes = bytes_of(alloc, part(line, 1))?;
-            assert!(rt; is_refused(alloc, &bytes), "{line}");
-        }
-    }
-    Ok(())
+/// Whether the bytes of a line are decoded as its value.
+pub fn is_value(alloc: Global, line: &str) -> Result<bool, Fail> {
+    let bytes = bytes_of(alloc, part(line, 1))?;
+    let len = number(line, 3).unwrap_or(0);
+    Ok(
+        is_front(alloc, &bytes, part(line, 2), len)?
+            && is_decoded(alloc, &bytes, part(line, 2), len == bytes.len())?,
+    )
+}
+
+/// Whether no front of the bytes of a line is a value.
+pub fn is_no_value(alloc: Global, line: &str) -> Result<bool, Fail> {
+    Ok(is_refused(alloc, &bytes_of(alloc, part(line, 1))?))
 }

@@ -8,7 +8,7 @@ use std::alloc::{AllocError, Global};
 use std::test::Fail;
 
 /// A number, and its head as an unsigned number.
-const NUMBERS: Table = "0|00
+pub const NUMBERS: Table = "0|00
 1|01
 23|17
 24|1818
@@ -23,7 +23,7 @@ const NUMBERS: Table = "0|00
 18446744073709551615|1bffffffffffffffff";
 
 /// How many bytes, items or pairs, and the head of that number.
-const COUNTS: Table = "1|01
+pub const COUNTS: Table = "1|01
 23|17
 24|1818
 255|18ff
@@ -193,31 +193,36 @@ fn counted_bytes(
     Ok(bytes)
 }
 
-#[test]
-fn borders(rt: HostRuntime) -> Result<(), Fail> {
-    let alloc = rt.alloc();
-    for line in NUMBERS.lines() {
-        let number = part(line, 0).parse().unwrap_or(9);
-        for (major, negative) in [(0, false), (NEGATIVE, true)] {
-            let bytes = headed(alloc, part(line, 1), major)?;
-            assert!(rt; is_number(alloc, &bytes, number, negative), "{line}");
-        }
-    }
-    for line in COUNTS.lines() {
-        let count = part(line, 0).parse().unwrap_or(0);
-        for kind in KINDS {
-            let bytes = counted_bytes(alloc, part(line, 1), kind, count)?;
-            let is_counted = is_counted(alloc, &bytes, kind.0, count);
-            assert!(rt; is_counted && ends_there(alloc, bytes)?, "{line}");
-        }
-    }
-    Ok(())
+/// Whether the number of a line, and what it is of negative numbers, has its head.
+pub fn is_border(alloc: Global, line: &str) -> Result<bool, Fail> {
+    let number = part(line, 0).parse().unwrap_or(9);
+    let bytes = headed(alloc, part(line, 1), 0)?;
+    let negative = headed(alloc, part(line, 1), NEGATIVE)?;
+    Ok(is_number(alloc, &bytes, number, false) && is_number(alloc, &negative, number, true))
 }
 
-/// Whether a map of so many pairs, and then the key 0 again, is refused and not for want of memory.
-fn is_unfit(alloc: Global, count: u64) -> Result<bool, AllocError> {
+/// Whether as much as a line says of each kind has its head, and ends there.
+pub fn is_length(alloc: Global, line: &str) -> Result<bool, Fail> {
+    let count = part(line, 0).parse().unwrap_or(0);
+    for kind in KINDS {
+        let bytes = counted_bytes(alloc, part(line, 1), kind, count)?;
+        if !is_counted(alloc, &bytes, kind.0, count) || !ends_there(alloc, bytes)? {
+            return Ok(false);
+        }
+    }
+    Ok(true)
+}
+
+/// How many pairs a map has before the key 0 comes again.
+pub const UNFIT: Table = "1
+24
+256
+4000";
+
+/// Whether a map of as many pairs as a line says, and then the key 0 again, is refused and not for want of memory.
+pub fn is_unfit(alloc: Global, line: &str) -> Result<bool, Fail> {
     let mut pairs = Vec::new(alloc);
-    for n in 0..count {
+    for n in 0..line.parse().unwrap_or(0) {
         pairs.push((Value::Uint(n), Value::Bool(true)))?;
     }
     pairs.push((Value::Uint(0), Value::Bool(true)))?;
@@ -227,23 +232,10 @@ fn is_unfit(alloc: Global, count: u64) -> Result<bool, AllocError> {
 }
 
 /// A fault behind a long front.
-const FAULTS: Table = "null behind 23 items|9818 01*23 f6
+pub const FAULTS: Table = "null behind 23 items|9818 01*23 f6
 a tag behind 255 items|990100 01*255 c000
 a long head behind 7605 items|991db6 01*7605 1817
 no UTF-8 behind 7605 letters|791db6 61*7605 ff
 a byte less than 7606|591db6 61*7604 61
 five deep behind 300 items|99012d 80*300 81818180
 equal keys|b90100 01*512";
-
-#[test]
-fn large_values_without_encoding(rt: HostRuntime) -> Result<(), Fail> {
-    let alloc = rt.alloc();
-    for count in [1, 24, 256, 4000] {
-        assert!(rt; is_unfit(alloc, count)?, "{count}");
-    }
-    for line in FAULTS.lines() {
-        let bytes = bytes_of(alloc, part(line, 1))?;
-        assert!(rt; is_refused(alloc, &bytes), "{line}");
-    }
-    Ok(())
-}

@@ -45,7 +45,7 @@ fn content_of<'a>(kind: &str, inside: &'a str, bytes: &'a [u8]) -> Content<'a> {
 
 /// The bytes of values of each kind, the kind, and what is in them: the number, the text, the truth, or how many items or
 /// pairs; or, behind, the bytes.
-const CONTENTS: Table = "05|uint|5
+pub const CONTENTS: Table = "05|uint|5
 1818|uint|24
 25|nint|5
 390100|nint|256
@@ -103,28 +103,22 @@ fn has_five(value: &Value) -> bool {
     }
 }
 
-#[test]
-fn contents(rt: HostRuntime) -> Result<(), Fail> {
-    let alloc = rt.alloc();
-    for line in CONTENTS.lines() {
-        let bytes = bytes_of(alloc, part(line, 0))?;
-        let inside = bytes_of(alloc, part(line, 3))?;
-        let content = content_of(part(line, 1), part(line, 2), &inside);
-        let is_given = has(&decode_all(alloc, &bytes)?, &content)
-            && shows(&View::check_all(&bytes)?, &content, &bytes);
-        assert!(rt; is_given, "{line}");
-    }
-    for bytes in [b"\x81\x05".as_slice(), b"\xa1\x05\x06".as_slice()] {
-        assert!(rt; has_five(&decode_all(alloc, bytes)?), "{bytes:?}");
-    }
-    Ok(())
+/// Whether the accessors of the value of a line, and of a view of it, give what it says.
+pub fn is_content(alloc: Global, line: &str) -> Result<bool, Fail> {
+    let bytes = bytes_of(alloc, part(line, 0))?;
+    let inside = bytes_of(alloc, part(line, 3))?;
+    let content = content_of(part(line, 1), part(line, 2), &inside);
+    let (Ok(value), Ok(view)) = (decode_all(alloc, &bytes), View::check_all(&bytes)) else {
+        return Ok(false);
+    };
+    Ok(has(&value, &content) && shows(&view, &content, &bytes))
 }
 
 /// A map: 10 at 1, 11 at -1, 12 at "a".
 const MAP: &[u8] = b"\xa3\x01\x0a\x20\x0b\x61a\x0c";
 
 /// A key, the number at it, and how many pairs are behind it where it is the first.
-const KEYS: Table = "uint:1|10|2
+pub const KEYS: Table = "uint:1|10|2
 nint:0|11
 text:a|12
 uint:0
@@ -148,10 +142,13 @@ fn uint(value: Option<&Value>) -> Option<u64> {
     value?.as_uint()
 }
 
-/// Whether the map has the number of a line at its key, and so many pairs behind it.
-fn has_at(map: &Value, line: &str) -> bool {
+/// Whether `MAP` has the number of a line at its key, and so many pairs behind it.
+pub fn is_at(alloc: Global, line: &str) -> Result<bool, Fail> {
+    let Ok(map) = decode_all(alloc, MAP) else {
+        return Ok(false);
+    };
     let Some(pairs) = map.as_map() else {
-        return false;
+        return Ok(false);
     };
     let key = key_of(part(line, 0));
     let wanted = part(line, 1).parse().ok();
@@ -159,15 +156,16 @@ fn has_at(map: &Value, line: &str) -> bool {
         Some((_, rest)) => Some(rest.len()),
         None => None,
     };
-    let found = uint(map.get(key));
-    found == wanted
-        && uint(value_at(pairs, key)) == wanted
-        && left == number(line, 2)
-        && !is_end(pairs)
+    Ok(
+        uint(map.get(key)) == wanted
+            && uint(value_at(pairs, key)) == wanted
+            && left == number(line, 2)
+            && !is_end(pairs),
+    )
 }
 
 /// Bytes of a value that is no map, a key, and whether the value is that key.
-const ALONE: Table = "01|uint:1|true
+pub const ALONE: Table = "01|uint:1|true
 01|nint:1|false
 21|nint:1|true
 f5|uint:1|false
@@ -177,32 +175,19 @@ f5|uint:1|false
 61 'a|text:b|false";
 
 /// Whether the value of a line, and a view of it, are the key or not, and have nothing at it.
-fn is_alone(alloc: Global, line: &str) -> Result<bool, Fail> {
+pub fn is_alone(alloc: Global, line: &str) -> Result<bool, Fail> {
     let bytes = bytes_of(alloc, part(line, 0))?;
-    let value = decode_all(alloc, &bytes)?;
-    let view = View::check_all(&bytes)?;
     let key = key_of(part(line, 1));
     let is_key = part(line, 2) == "true";
+    let (Ok(value), Ok(view)) = (decode_all(alloc, &bytes), View::check_all(&bytes)) else {
+        return Ok(false);
+    };
     Ok(
         value.is_key(key) == is_key
             && view.is_key(key) == is_key
             && value.get(key).is_none()
             && view.get(key).is_none(),
     )
-}
-
-#[test]
-fn keys(rt: HostRuntime) -> Result<(), Fail> {
-    let alloc = rt.alloc();
-    let map = decode_all(alloc, MAP)?;
-    for line in KEYS.lines() {
-        assert!(rt; has_at(&map, line), "{line}");
-    }
-    for line in ALONE.lines() {
-        assert!(rt; is_alone(alloc, line)?, "{line}");
-    }
-    assert!(rt; is_end(&[]));
-    Ok(())
 }
 
 /// Steps through a map's pairs: keys that the first pair hasn't, its key, the bytes of its value, and what is in it as in
@@ -323,15 +308,39 @@ fn is_copied(alloc: Global, map: &View<'_>) -> Result<bool, AllocError> {
     })
 }
 
+/// Whether the items, the pairs and members of both are seen.
+fn are_seen(alloc: Global) -> Result<bool, AllocError> {
+    let (Ok(array), Ok(map)) = (View::check_all(NESTED), View::check_all(ED25519)) else {
+        return Ok(false);
+    };
+    Ok(has_items(&array) && has_pairs(&map) && is_copied(alloc, &map)?)
+}
+
+/// Whether a walk through the pairs of these bytes takes these steps.
+fn is_walk(alloc: Global, bytes: &[u8], steps: Table) -> Result<bool, AllocError> {
+    match View::check_all(bytes) {
+        Ok(map) => is_walked(alloc, &map, steps),
+        Err(_) => Ok(false),
+    }
+}
+
+/// Whether these bytes are of an array or a map with a five.
+fn is_five(alloc: Global, bytes: &[u8]) -> bool {
+    match decode_all(alloc, bytes) {
+        Ok(value) => has_five(&value),
+        Err(_) => false,
+    }
+}
+
 #[test]
 fn places(rt: HostRuntime) -> Result<(), Fail> {
-    assert!(rt; has_items(&View::check_all(NESTED)?));
-    let map = View::check_all(ED25519)?;
-    assert!(rt; has_pairs(&map) && is_copied(rt.alloc(), &map)?);
-    let walked = View::check_all(b"\xa3\x01\x0a\x20\xa1\0\x41\x0b\x61a\x0c")?;
-    assert!(rt; is_walked(rt.alloc(), &walked, WALK)?);
-    let walked = View::check_all(b"\xa1\0\x41\x0b")?;
-    assert!(rt; is_walked(rt.alloc(), &walked, SHORT_WALK)?);
+    let alloc = rt.alloc();
+    assert!(rt; are_seen(alloc)? && is_end(&[]));
+    assert!(rt;
+        is_walk(alloc, b"\xa3\x01\x0a\x20\xa1\0\x41\x0b\x61a\x0c", WALK)?
+            && is_walk(alloc, b"\xa1\0\x41\x0b", SHORT_WALK)?
+    );
+    assert!(rt; is_five(alloc, b"\x81\x05") && is_five(alloc, b"\xa1\x05\x06"));
     Ok(())
 }
 

@@ -1,95 +1,50 @@
 //! Client data that are the expected text: the texts are WebAuthn's (section 5.8.1.1), written out, the texts of
 //! challenges what another program gives for them.
 
+use crate::pieces::{Table, part};
 use clientdata::{CeremonyType, ExpectedOrigin, is_serialised};
+use std::alloc::Global;
 use std::test::Fail;
 
 /// The number 1 in 8 bytes, then 24 bytes 0.
-const CHALLENGE: [u8; 32] = [
+const FIRST: [u8; 32] = [
     0, 0, 0, 0, 0, 0, 0, 1, 0, 0, 0, 0, 0, 0, 0, 0, 0, 0, 0, 0, 0, 0, 0, 0, 0, 0, 0, 0, 0, 0, 0, 0,
 ];
 
 /// 32 bytes 0xff.
 const HIGHEST: [u8; 32] = [0xff; 32];
 
-const SIGN_IN: &str =
-    "{\"type\":\"webauthn.get\",\"challenge\":\"AAAAAAAAAAEAAAAAAAAAAAAAAAAAAAAAAAAAAAAAAAA\",\"origin\":\"https://abc\",\"crossOrigin\":false}";
+/// The ceremony, the challenge and the origin, whether a text is told as theirs, and the text.
+pub const TEXTS: Table =
+    r#"get|first|https://abc|true|{"type":"webauthn.get","challenge":"AAAAAAAAAAEAAAAAAAAAAAAAAAAAAAAAAAAAAAAAAAA","origin":"https://abc","crossOrigin":false}
+get|first|https://abc|true|{"type":"webauthn.get","challenge":"AAAAAAAAAAEAAAAAAAAAAAAAAAAAAAAAAAAAAAAAAAA","origin":"https://abc","crossOrigin":true}
+create|highest|https://abc|true|{"type":"webauthn.create","challenge":"__________________________________________8","origin":"https://abc","crossOrigin":false}
+create|first|https://abc|false|{"type":"webauthn.get","challenge":"AAAAAAAAAAEAAAAAAAAAAAAAAAAAAAAAAAAAAAAAAAA","origin":"https://abc","crossOrigin":false}
+get|highest|https://abc|false|{"type":"webauthn.get","challenge":"AAAAAAAAAAEAAAAAAAAAAAAAAAAAAAAAAAAAAAAAAAA","origin":"https://abc","crossOrigin":false}
+get|first|https://ab|false|{"type":"webauthn.get","challenge":"AAAAAAAAAAEAAAAAAAAAAAAAAAAAAAAAAAAAAAAAAAA","origin":"https://abc","crossOrigin":false}
+get|first|https://abcd|false|{"type":"webauthn.get","challenge":"AAAAAAAAAAEAAAAAAAAAAAAAAAAAAAAAAAAAAAAAAAA","origin":"https://abc","crossOrigin":false}
+get|first||false|{"type":"webauthn.get","challenge":"AAAAAAAAAAEAAAAAAAAAAAAAAAAAAAAAAAAAAAAAAAA","origin":"https://abc","crossOrigin":false}
+get|first|https://abc|false|{"type": "webauthn.get","challenge":"AAAAAAAAAAEAAAAAAAAAAAAAAAAAAAAAAAAAAAAAAAA","origin":"https://abc","crossOrigin":false}
+get|first|https://abc|false|{"type":"webauthn.get","challenge":"AAAAAAAAAAEAAAAAAAAAAAAAAAAAAAAAAAAAAAAAAAA","origin":"https://abc","crossOrigin":false,"x":1}
+get|first|a"b|true|{"type":"webauthn.get","challenge":"AAAAAAAAAAEAAAAAAAAAAAAAAAAAAAAAAAAAAAAAAAA","origin":"a\"b","crossOrigin":false}
+get|first|a"b|false|{"type":"webauthn.get","challenge":"AAAAAAAAAAEAAAAAAAAAAAAAAAAAAAAAAAAAAAAAAAA","origin":"a"b","crossOrigin":false}
+get|first|https://é|true|{"type":"webauthn.get","challenge":"AAAAAAAAAAEAAAAAAAAAAAAAAAAAAAAAAAAAAAAAAAA","origin":"https://é","crossOrigin":false}
+get|first|https://abc|false|{"type":"webauthn.get","challenge":"AAAAAAAAAAEAAAAAAAAAAAAAAAAAAAAAAAAAAAAAAAA","origin":"https://abc","crossOrigin":false
+get|first|https://abc|false|"#;
 
-const CROSS_ORIGIN: &str =
-    "{\"type\":\"webauthn.get\",\"challenge\":\"AAAAAAAAAAEAAAAAAAAAAAAAAAAAAAAAAAAAAAAAAAA\",\"origin\":\"https://abc\",\"crossOrigin\":true}";
-
-const REGISTRATION: &str =
-    "{\"type\":\"webauthn.create\",\"challenge\":\"__________________________________________8\",\"origin\":\"https://abc\",\"crossOrigin\":false}";
-
-const SPACED: &str =
-    "{\"type\": \"webauthn.get\",\"challenge\":\"AAAAAAAAAAEAAAAAAAAAAAAAAAAAAAAAAAAAAAAAAAA\",\"origin\":\"https://abc\",\"crossOrigin\":false}";
-
-const LONGER: &str =
-    "{\"type\":\"webauthn.get\",\"challenge\":\"AAAAAAAAAAEAAAAAAAAAAAAAAAAAAAAAAAAAAAAAAAA\",\"origin\":\"https://abc\",\"crossOrigin\":false,\"x\":1}";
-
-const ESCAPED: &str =
-    "{\"type\":\"webauthn.get\",\"challenge\":\"AAAAAAAAAAEAAAAAAAAAAAAAAAAAAAAAAAAAAAAAAAA\",\"origin\":\"a\\\"b\",\"crossOrigin\":false}";
-
-const BEYOND_ASCII: &str =
-    "{\"type\":\"webauthn.get\",\"challenge\":\"AAAAAAAAAAEAAAAAAAAAAAAAAAAAAAAAAAAAAAAAAAA\",\"origin\":\"https://é\",\"crossOrigin\":false}";
-
-const OPEN: &str =
-    "{\"type\":\"webauthn.get\",\"challenge\":\"AAAAAAAAAAEAAAAAAAAAAAAAAAAAAAAAAAAAAAAAAAA\",\"origin\":\"https://abc\",\"crossOrigin\":false";
-
-const UNESCAPED: &str =
-    "{\"type\":\"webauthn.get\",\"challenge\":\"AAAAAAAAAAEAAAAAAAAAAAAAAAAAAAAAAAAAAAAAAAA\",\"origin\":\"a\"b\",\"crossOrigin\":false}";
-
-/// A text, the ceremony, challenge and origin, and whether it is told as their text.
-const ROWS: &[(&str, CeremonyType, [u8; 32], &str, bool)] = &[
-    (SIGN_IN, CeremonyType::Get, CHALLENGE, "https://abc", true),
-    (
-        CROSS_ORIGIN,
-        CeremonyType::Get,
-        CHALLENGE,
-        "https://abc",
-        true,
-    ),
-    (
-        REGISTRATION,
-        CeremonyType::Create,
-        HIGHEST,
-        "https://abc",
-        true,
-    ),
-    (
-        SIGN_IN,
-        CeremonyType::Create,
-        CHALLENGE,
-        "https://abc",
-        false,
-    ),
-    (SIGN_IN, CeremonyType::Get, HIGHEST, "https://abc", false),
-    (SIGN_IN, CeremonyType::Get, CHALLENGE, "https://ab", false),
-    (SIGN_IN, CeremonyType::Get, CHALLENGE, "https://abcd", false),
-    (SIGN_IN, CeremonyType::Get, CHALLENGE, "", false),
-    (SPACED, CeremonyType::Get, CHALLENGE, "https://abc", false),
-    (LONGER, CeremonyType::Get, CHALLENGE, "https://abc", false),
-    (ESCAPED, CeremonyType::Get, CHALLENGE, "a\"b", true),
-    (UNESCAPED, CeremonyType::Get, CHALLENGE, "a\"b", false),
-    (
-        BEYOND_ASCII,
-        CeremonyType::Get,
-        CHALLENGE,
-        "https://é",
-        true,
-    ),
-    (OPEN, CeremonyType::Get, CHALLENGE, "https://abc", false),
-    ("", CeremonyType::Get, CHALLENGE, "https://abc", false),
-];
-
-#[test]
-fn told(rt: HostRuntime) -> Result<(), Fail> {
-    let alloc = rt.alloc();
-    for (text, kind, challenge, origin, wanted) in ROWS {
-        let expected = ExpectedOrigin::new(alloc, origin)?;
-        let told = is_serialised(text.as_bytes(), *kind, challenge, &expected);
-        assert!(rt; told == *wanted, "{text} {origin}");
-        assert!(rt; expected.as_str() == *origin, "{origin}");
-    }
-    Ok(())
+/// Whether the text of a line is told as it says.
+pub fn is_told(alloc: Global, line: &str) -> Result<bool, Fail> {
+    let kind = if part(line, 0) == "get" {
+        CeremonyType::Get
+    } else {
+        CeremonyType::Create
+    };
+    let challenge = if part(line, 1) == "first" {
+        &FIRST
+    } else {
+        &HIGHEST
+    };
+    let expected = ExpectedOrigin::new(alloc, part(line, 2))?;
+    let told = is_serialised(part(line, 4).as_bytes(), kind, challenge, &expected);
+    Ok(told == (part(line, 3) == "true") && expected.as_str() == part(line, 2))
 }

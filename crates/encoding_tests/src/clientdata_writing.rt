@@ -1,7 +1,7 @@
 //! Client data written, verified and hashed (WebAuthn Level 2, section 5.8.1). The expected texts are
 //! written by hand.
 
-use crate::pieces::{Table, bytes_of, part};
+use crate::pieces::{Table, bytes_of, number, part};
 use clientdata::{
     Binding, CeremonyType, ClientData, challenge_text, hash, limited_verify, quoted_text, read,
     serialise,
@@ -61,7 +61,7 @@ fn is_read(alloc: Global, record: &ClientData, row: &str) -> bool {
 
 /// A name, a text, and whether it is verified against the record of a sign-in with challenge 00 01 02 at
 /// https://a.example, not cross-origin (section 5.8.1.2).
-const VERIFIED: Table =
+pub const VERIFIED: Table =
     r#"the whole text|{"type":"webauthn.get","challenge":"AAEC","origin":"https://a.example","crossOrigin":false}|true
 a further member|{"type":"webauthn.get","challenge":"AAEC","origin":"https://a.example","crossOrigin":false,"x":1}|true
 what follows isn't looked at|{"type":"webauthn.get","challenge":"AAEC","origin":"https://a.example","crossOrigin":false}]|true
@@ -76,32 +76,61 @@ another challenge|{"type":"webauthn.get","challenge":"AAED","origin":"https://a.
 a space in front| {"type":"webauthn.get","challenge":"AAEC","origin":"https://a.example","crossOrigin":false}|false
 nothing||false"#;
 
-/// How many bytes a text has around a challenge of so many bytes and an origin of as many letters.
-const LONG: &[(usize, usize)] = &[
-    (16, 108),
-    (64, 220),
-    (255, 665),
-    (7609, 17825),
-    (65536, 152988),
-];
+/// Whether the text of a line is verified or not.
+pub fn is_verified(alloc: Global, line: &str) -> Result<bool, Fail> {
+    let record = record_of(alloc, "|get|000102|https://a.example|false")?;
+    let verified = limited_verify(alloc, part(line, 1).as_bytes(), &record)?;
+    Ok(verified == (part(line, 2) == "true"))
+}
 
-/// How many bytes the text has, and whether it is verified against its own record.
-fn long_text(alloc: Global, count: usize) -> Result<(usize, bool), AllocError> {
+/// How many bytes a text has around a challenge of so many bytes and an origin of as many letters.
+pub const LONG: Table = "16|108
+64|220
+255|665
+7609|17825
+65536|152988";
+
+/// Whether the text of a line has as many bytes, and is verified against its own record.
+pub fn is_long(alloc: Global, line: &str) -> Result<bool, Fail> {
+    let count = part(line, 0).parse().unwrap_or(0);
     let mut challenge = Vec::new(alloc);
     for _ in 0..count {
         challenge.push(0xff)?;
     }
-    let origin = "a".repeat(alloc, count)?;
     let record = ClientData {
         kind: CeremonyType::Get,
         challenge,
-        origin,
+        origin: "a".repeat(alloc, count)?,
         cross_origin: false,
     };
     let text = serialise(alloc, &record)?;
-    let verified = limited_verify(alloc, text.as_bytes(), &record)?;
-    Ok((text.len(), verified))
+    Ok(Some(text.len()) == number(line, 1) && limited_verify(alloc, text.as_bytes(), &record)?)
 }
+
+/// Bytes and their base64url text (RFC 4648, sections 5 and 10).
+pub const ENCODED: Table = "|
+'f|Zg
+'fo|Zm8
+'foo|Zm9v
+'foob|Zm9vYg
+'fooba|Zm9vYmE
+'foobar|Zm9vYmFy
+fbff|-_8
+000000|AAAA";
+
+/// Whether the bytes of a line have its text.
+pub fn is_base64url(alloc: Global, line: &str) -> Result<bool, Fail> {
+    let bytes = bytes_of(alloc, part(line, 0))?;
+    Ok(challenge_text(alloc, &bytes)?.as_str() == part(line, 1))
+}
+
+/// A text, and the same as client data have it.
+const QUOTED: &[(&str, &str)] = &[
+    ("", "\"\""),
+    ("a\"b\\\u{1}\u{e9}", "\"a\\\"b\\\\\\u0001\u{e9}\""),
+    ("\0\u{1f} \u{7f}/", "\"\\u0000\\u001f \u{7f}/\""),
+    ("\n\t\r", "\"\\u000a\\u0009\\u000d\""),
+];
 
 #[test]
 fn texts(rt: HostRuntime) -> Result<(), Fail> {
@@ -113,57 +142,19 @@ fn texts(rt: HostRuntime) -> Result<(), Fail> {
             "{row}"
         );
     }
-    let record = record_of(alloc, "|get|000102|https://a.example|false")?;
-    for line in VERIFIED.lines() {
-        let verified = limited_verify(alloc, part(line, 1).as_bytes(), &record)?;
-        assert!(rt; verified == (part(line, 2) == "true"), "{line}");
-    }
-    for &(count, len) in LONG {
-        assert!(rt; long_text(alloc, count)? == (len, true), "{count}");
+    for &(text, wanted) in QUOTED {
+        assert!(rt; quoted_text(alloc, text)?.as_str() == wanted, "{text}");
     }
     Ok(())
 }
 
-/// Bytes and their base64url text (RFC 4648, sections 5 and 10).
-const ENCODED: Table = "|
-'f|Zg
-'fo|Zm8
-'foo|Zm9v
-'foob|Zm9vYg
-'fooba|Zm9vYmE
-'foobar|Zm9vYmFy
-fbff|-_8
-000000|AAAA";
-
-/// A text, and the same as client data have it.
-const QUOTED: &[(&str, &str)] = &[
-    ("", "\"\""),
-    ("a\"b\\\u{1}\u{e9}", "\"a\\\"b\\\\\\u0001\u{e9}\""),
-    ("\0\u{1f} \u{7f}/", "\"\\u0000\\u001f \u{7f}/\""),
-    ("\n\t\r", "\"\\u000a\\u0009\\u000d\""),
-];
-
 /// Bytes and their SHA-256, as NIST gives them for FIPS 180-4.
-const HASHED: Table = "'abc|ba7816bf8f01cfea414140de5dae2223b00361a396177a9cb410ff61f20015ad
+pub const HASHED: Table = "'abc|ba7816bf8f01cfea414140de5dae2223b00361a396177a9cb410ff61f20015ad
 |e3b0c44298fc1c149afbf4c8996fb92427ae41e4649b934ca495991b7852b855";
 
-#[test]
-fn parts(rt: HostRuntime) -> Result<(), Fail> {
-    let alloc = rt.alloc();
-    for line in ENCODED.lines() {
-        let bytes = bytes_of(alloc, part(line, 0))?;
-        assert!(rt;
-            challenge_text(alloc, &bytes)?.as_str() == part(line, 1),
-            "{line}"
-        );
-    }
-    for &(text, wanted) in QUOTED {
-        assert!(rt; quoted_text(alloc, text)?.as_str() == wanted, "{text}");
-    }
-    for line in HASHED.lines() {
-        let bytes = bytes_of(alloc, part(line, 0))?;
-        let digest = bytes_of(alloc, part(line, 1))?;
-        assert!(rt; hash(&bytes).as_slice() == digest.as_slice(), "{line}");
-    }
-    Ok(())
+/// Whether the bytes of a line have its hash.
+pub fn is_hashed(alloc: Global, line: &str) -> Result<bool, Fail> {
+    let bytes = bytes_of(alloc, part(line, 0))?;
+    let digest = bytes_of(alloc, part(line, 1))?;
+    Ok(hash(&bytes).as_slice() == digest.as_slice())
 }

@@ -12,6 +12,8 @@ mod cbor_decoding;
 #[cfg(test)]
 mod cbor_encoding;
 #[cfg(test)]
+mod cbor_rows;
+#[cfg(test)]
 mod cbor_sizes;
 #[cfg(test)]
 mod cbor_values;
@@ -26,6 +28,8 @@ mod cose_keys;
 #[cfg(test)]
 mod cose_schemes;
 #[cfg(test)]
+mod data_rows;
+#[cfg(test)]
 mod made;
 #[cfg(test)]
 mod message_answers;
@@ -39,8 +43,6 @@ mod message_extensions;
 mod message_information;
 #[cfg(test)]
 mod message_large;
-#[cfg(test)]
-mod message_literals;
 #[cfg(test)]
 mod message_maps;
 #[cfg(test)]
@@ -57,8 +59,6 @@ mod message_reply_rows;
 mod message_request_records;
 #[cfg(test)]
 mod message_request_rows;
-#[cfg(test)]
-mod message_request_values;
 #[cfg(test)]
 mod message_rows;
 #[cfg(test)]

@@ -3,6 +3,7 @@
 use crate::pieces::{bytes_of, part};
 use ctapmsg::{Error, Kind, read_reply, read_request, write_reply, write_request};
 use std::alloc::{AllocError, Global};
+use std::test::Fail;
 
 /// The status of a request, or 0 where it is read and written again as it came.
 pub fn answer(alloc: Global, bytes: &[u8]) -> Result<u8, AllocError> {
@@ -23,13 +24,13 @@ pub fn is_status(alloc: Global, status: u8, line: &str) -> Result<bool, AllocErr
 }
 
 /// Whether the request of a line, a name, its words and the status, is answered so.
-pub fn is_answered(alloc: Global, line: &str) -> Result<bool, AllocError> {
+pub fn is_answered(alloc: Global, line: &str) -> Result<bool, Fail> {
     let bytes = bytes_of(alloc, part(line, 1))?;
-    is_status(alloc, answer(alloc, bytes.as_slice())?, line)
+    Ok(is_status(alloc, answer(alloc, bytes.as_slice())?, line)?)
 }
 
 /// The number of a reply's refusal, or 0 where it is read and written again as it came.
-fn refusal(alloc: Global, kind: Kind, bytes: &[u8]) -> u8 {
+pub fn refusal(alloc: Global, kind: Kind, bytes: &[u8]) -> u8 {
     match read_reply(alloc, kind, bytes) {
         Ok(reply) => match write_reply(alloc, reply) {
             Ok(again) => if again.as_slice() == bytes { 0 } else { 0xfe },
@@ -43,7 +44,7 @@ fn refusal(alloc: Global, kind: Kind, bytes: &[u8]) -> u8 {
 }
 
 /// The command of a word.
-fn kind_of(word: &str) -> Kind {
+pub fn kind_of(word: &str) -> Kind {
     match word {
         "create" => Kind::MakeCredential,
         "get" => Kind::GetAssertion,
@@ -55,7 +56,7 @@ fn kind_of(word: &str) -> Kind {
 
 /// Whether the reply of a line, a name, its words, the command and the number of its refusal, or 0 where it is read and
 /// written again as it came, is refused so.
-pub fn is_refused(alloc: Global, line: &str) -> Result<bool, AllocError> {
+pub fn is_refused(alloc: Global, line: &str) -> Result<bool, Fail> {
     let bytes = bytes_of(alloc, part(line, 1))?;
     let refusal = refusal(alloc, kind_of(part(line, 2)), bytes.as_slice());
     Ok(part(line, 3).parse() == Ok(refusal))

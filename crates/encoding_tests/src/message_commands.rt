@@ -2,8 +2,8 @@
 //! are worked by hand from CTAP 2.1, sections 6 and 8, and the order of the ranks (`message_maps.rt`).
 
 use crate::message_answers::answer;
-use crate::pieces::{Table, append_words, part};
-use std::alloc::{AllocError, Global};
+use crate::pieces::{Table, append_words, bytes_of, part};
+use std::alloc::Global;
 use std::test::Fail;
 
 /// What can stand behind a command.
@@ -18,21 +18,25 @@ no member|a0
 a hash of no byte|a2 rp-id 0240
 an rp id of no byte|a20160 get-hash";
 
-/// A command, and the status that answers it with each of these behind it.
-const COMMANDS: &[(u8, u8)] = &[
-    (0, 0x01),
-    (3, 0x01),
-    (255, 0x01),
-    (4, 0x02),
-    (7, 0x02),
-    (8, 0x02),
-];
+/// A command in hexadecimal digits, and the status that answers it with each of these behind it.
+pub const COMMANDS: Table = "00|01
+03|01
+ff|01
+04|02
+07|02
+08|02";
 
-/// The status that answers a command with this text behind it.
-fn status_of(alloc: Global, command: u8, text: &str) -> Result<u8, AllocError> {
-    let mut bytes = Vec::from_slice(alloc, &[command])?;
-    append_words(alloc, &mut bytes, text)?;
-    answer(alloc, bytes.as_slice())
+/// Whether the command of a line is answered by its status, with each of `BEHIND` behind it.
+pub fn is_command(alloc: Global, line: &str) -> Result<bool, Fail> {
+    let status = bytes_of(alloc, part(line, 1))?;
+    for behind in BEHIND.lines() {
+        let mut bytes = bytes_of(alloc, part(line, 0))?;
+        append_words(alloc, &mut bytes, part(behind, 1))?;
+        if status.as_slice() != [answer(alloc, &bytes)?].as_slice() {
+            return Ok(false);
+        }
+    }
+    Ok(true)
 }
 
 /// Commands alone that are unknown, and no command.
@@ -43,14 +47,3 @@ command 5|05|01
 command 6|06|01
 command 9|09|01
 command 255|ff|01";
-
-#[test]
-fn commands(rt: HostRuntime) -> Result<(), Fail> {
-    for (command, status) in COMMANDS {
-        for line in BEHIND.lines() {
-            let found = status_of(rt.alloc(), *command, part(line, 1))?;
-            assert!(rt; found == *status, "{command} and {line}: {found}");
-        }
-    }
-    Ok(())
-}

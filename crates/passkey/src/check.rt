@@ -9,7 +9,7 @@ use command_line::unhex;
 use std::alloc::{AllocError, Global};
 
 /// Why nothing is checked.
-#[derive(Clone, Copy, Debug, PartialEq, Eq, Drop)]
+#[derive(Drop)]
 pub enum CheckFault {
     /// The challenge is not hex.
     BadHex,

@@ -3,8 +3,9 @@
 ghost use Rattle.std.specs.Prelude.{◌≡◌};
 ghost use Rattle.passkey.specs.declared.inspect.InspectFault.TheVariants as faults;
 
+use authdata::{Attested, AuthData};
 use ccbor::{Value, decode_all};
-use clientdata::{Binding, quoted_text};
+use clientdata::{Binding, Seen, quoted_text};
 use command_line::{Inspection, unhex};
 use cose::Alg;
 use hidframe::{Head, Packet};
@@ -13,7 +14,7 @@ use std::fmt::{Debug, Write};
 use std::str;
 
 /// Why nothing is printed.
-#[derive(Debug, Drop)]
+#[derive(Drop)]
 pub enum InspectFault {
     /// The input is not hex.
     BadHex,
@@ -32,6 +33,7 @@ impl From<AllocError> for InspectFault {
 }
 
 /// Writes a value: numbers in decimal, bytes as `h'` hex `'`, texts in quotes, `[a, b]`, `{k: v, k: v}`.
+#[cycle(values)]
 fn write_value(value: &Value, alloc: Global, out: &mut String) -> Result<(), AllocError> {
     match value {
         Value::Uint(n) => write!(out, "{n}"),
@@ -44,30 +46,42 @@ fn write_value(value: &Value, alloc: Global, out: &mut String) -> Result<(), All
             write!(out, "h'{digits}'")
         }
         Value::Text(text) => out.push_str(quoted_text(alloc, text)?.as_str()),
-        Value::Array(items) => {
-            out.push('[')?;
-            for (i, item) in items.iter().enumerate() {
-                if i > 0 {
-                    out.push_str(", ")?;
-                }
-                write_value(item, alloc, out)?;
-            }
-            out.push(']')
-        }
-        Value::Map(pairs) => {
-            out.push('{')?;
-            for (i, (key, value)) in pairs.iter().enumerate() {
-                if i > 0 {
-                    out.push_str(", ")?;
-                }
-                write_value(key, alloc, out)?;
-                out.push_str(": ")?;
-                write_value(value, alloc, out)?;
-            }
-            out.push('}')
-        }
+        Value::Array(items) => write_items(items, alloc, out),
+        Value::Map(pairs) => write_pairs(pairs, alloc, out),
         Value::Bool(b) => write!(out, "{b}"),
     }
+}
+
+/// Writes the items of an array.
+#[cycle(values)]
+fn write_items(items: &[Value], alloc: Global, out: &mut String) -> Result<(), AllocError> {
+    out.push('[')?;
+    for (i, item) in items.iter().enumerate() {
+        if i > 0 {
+            out.push_str(", ")?;
+        }
+        write_value(item, alloc, out)?;
+    }
+    out.push(']')
+}
+
+/// Writes the pairs of a map.
+#[cycle(values)]
+fn write_pairs(
+    pairs: &[(Value, Value)],
+    alloc: Global,
+    out: &mut String,
+) -> Result<(), AllocError> {
+    out.push('{')?;
+    for (i, (key, value)) in pairs.iter().enumerate() {
+        if i > 0 {
+            out.push_str(", ")?;
+        }
+        write_value(key, alloc, out)?;
+        out.push_str(": ")?;
+        write_value(value, alloc, out)?;
+    }
+    out.push('}')
 }
 
 /// The fault that a refusal with a number is told as.
@@ -93,6 +107,31 @@ fn cbor(alloc: Global, bytes: &[u8]) -> Result<String, InspectFault> {
     Ok(out)
 }
 
+/// Writes the lines that show an attested credential.
+fn write_attested(alloc: Global, attested: &Attested, out: &mut String) -> Result<(), AllocError> {
+    let aaguid = hex::encode(alloc, attested.aaguid.as_slice())?;
+    let id = hex::encode(alloc, attested.id.as_slice())?;
+    let key = match attested.key.alg() {
+        Alg::Es256 => "ES256",
+        Alg::EdDsa => "EdDSA",
+    };
+    write!(out, "aaguid {aaguid}\nid {id}\nkey {key}\n")
+}
+
+/// Writes the lines that show authenticator data.
+fn write_auth_data(alloc: Global, data: &AuthData, out: &mut String) -> Result<(), AllocError> {
+    let rp_id_hash = hex::encode(alloc, data.rp_id_hash.as_slice())?;
+    let (flags, sign_count) = (data.flags, data.sign_count);
+    write!(
+        out,
+        "rp {rp_id_hash}\nflags {flags:02x}\ncount {sign_count}\n"
+    )?;
+    match &data.attested {
+        Some(attested) => write_attested(alloc, attested, out),
+        None => Ok(()),
+    }
+}
+
 /// The lines that show authenticator data.
 fn auth_data(alloc: Global, bytes: &[u8]) -> Result<String, InspectFault> {
     let read = match authdata::read(alloc, bytes) {
@@ -101,21 +140,7 @@ fn auth_data(alloc: Global, bytes: &[u8]) -> Result<String, InspectFault> {
         Err(error) => return Err(refused(alloc, error.number(), &error)?),
     };
     let mut out = String::new(alloc);
-    let rp_id_hash = hex::encode(alloc, read.rp_id_hash.as_slice())?;
-    let (flags, sign_count) = (read.flags, read.sign_count);
-    write!(
-        out,
-        "rp {rp_id_hash}\nflags {flags:02x}\ncount {sign_count}\n"
-    )?;
-    if let Some(attested) = &read.attested {
-        let aaguid = hex::encode(alloc, attested.aaguid.as_slice())?;
-        let id = hex::encode(alloc, attested.id.as_slice())?;
-        let key = match attested.key.alg() {
-            Alg::Es256 => "ES256",
-            Alg::EdDsa => "EdDSA",
-        };
-        write!(out, "aaguid {aaguid}\nid {id}\nkey {key}\n")?;
-    }
+    write_auth_data(alloc, &read, &mut out)?;
     Ok(out)
 }
 
@@ -148,6 +173,24 @@ fn packets(alloc: Global, text: &str) -> Result<String, InspectFault> {
     Ok(out)
 }
 
+/// Writes the line that shows a member of client data.
+fn write_member(alloc: Global, name: &str, text: &str, out: &mut String) -> Result<(), AllocError> {
+    let text = quoted_text(alloc, text)?;
+    writeln!(out, "{name} {text}")
+}
+
+/// Writes the lines that show client data.
+fn write_client_data(alloc: Global, seen: &Seen, out: &mut String) -> Result<(), AllocError> {
+    write_member(alloc, "type", seen.kind.as_str(), out)?;
+    write_member(alloc, "challenge", seen.challenge.as_str(), out)?;
+    write_member(alloc, "origin", seen.origin.as_str(), out)?;
+    out.push_str(match seen.binding {
+        Binding::Absent => "binding absent\n",
+        Binding::Supported => "binding supported\n",
+        Binding::Other => "binding other\n",
+    })
+}
+
 /// The lines that show client data.
 fn client_data(alloc: Global, bytes: &[u8]) -> Result<String, InspectFault> {
     let seen = match clientdata::read(alloc, bytes) {
@@ -156,20 +199,7 @@ fn client_data(alloc: Global, bytes: &[u8]) -> Result<String, InspectFault> {
         Err(error) => return Err(refused(alloc, error.number(), &error)?),
     };
     let mut out = String::new(alloc);
-    for (name, text) in [
-        ("type ", seen.kind.as_str()),
-        ("challenge ", seen.challenge.as_str()),
-        ("origin ", seen.origin.as_str()),
-    ] {
-        out.push_str(name)?;
-        out.push_str(quoted_text(alloc, text)?.as_str())?;
-        out.push('\n')?;
-    }
-    out.push_str(match seen.binding {
-        Binding::Absent => "binding absent\n",
-        Binding::Supported => "binding supported\n",
-        Binding::Other => "binding other\n",
-    })?;
+    write_client_data(alloc, &seen, &mut out)?;
     Ok(out)
 }
 

@@ -16,7 +16,7 @@ use std::io::{Read, Write};
 pub const MAX_INPUT: usize = 16_777_216;
 
 /// Why there is no input.
-#[derive(Clone, Copy, Debug, PartialEq, Eq, Drop)]
+#[derive(Drop)]
 enum InputFault {
     TooLong,
     Unread,

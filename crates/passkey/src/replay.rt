@@ -24,7 +24,7 @@ struct Replay<'a> {
 }
 
 /// Where a script ended, by the line's number from 1, and why.
-#[derive(Clone, Copy, Debug, PartialEq, Eq, Drop)]
+#[derive(Drop)]
 pub struct ScriptEnd {
     pub line: usize,
     pub fault: Fault,
@@ -188,10 +188,11 @@ impl<'a> Replay<'a> {
         Ok(())
     }
 
-    /// Runs a line that is neither the first nor a row.
+    /// Does what a line says that is not the first.
     fn step(&mut self, alloc: Global, line: Line<'a>, out: &mut String) -> Result<(), Fault> {
         match line {
-            Line::Site { .. } | Line::Row(_) => return Err(Fault::BadScript),
+            Line::Site { .. } => return Err(Fault::BadScript),
+            Line::Row(row) => add_row(&mut self.rows, row)?,
             Line::Session {
                 user,
                 verified,
@@ -217,6 +218,14 @@ impl<'a> Replay<'a> {
         }
         Ok(())
     }
+
+    /// Runs a line that is not the first, behind the rows where it is none.
+    fn run(&mut self, alloc: Global, line: Line<'a>, out: &mut String) -> Result<(), Fault> {
+        if !matches!(line, Line::Row(_)) {
+            self.close_rows(alloc)?;
+        }
+        self.step(alloc, line, out)
+    }
 }
 
 /// Runs one line of a script that has begun or not.
@@ -230,15 +239,31 @@ fn run_line<'a>(
         return Err(Fault::BadScript);
     };
     let line = parse_line(alloc, text)?;
-    let Some(replay) = state else {
-        *state = Some(begin(alloc, line)?);
-        return Ok(());
-    };
-    if let Line::Row(row) = line {
-        return add_row(&mut replay.rows, row);
+    match state {
+        None => {
+            *state = Some(begin(alloc, line)?);
+            Ok(())
+        }
+        Some(replay) => replay.run(alloc, line, out),
     }
-    replay.close_rows(alloc)?;
-    replay.step(alloc, line, out)
+}
+
+/// Runs the lines of a script that has begun or not.
+fn run_lines<'a>(
+    alloc: Global,
+    script: &'a [u8],
+    state: &mut Option<Replay<'a>>,
+    out: &mut String,
+) -> Result<(), ScriptEnd> {
+    for (i, bytes) in script.split(|b| *b == b'\n').enumerate() {
+        if bytes.is_empty() || bytes[0] == b'#' {
+            continue;
+        }
+        if let Err(fault) = run_line(alloc, bytes, state, out) {
+            return Err(ScriptEnd { line: i + 1, fault });
+        }
+    }
+    Ok(())
 }
 
 /// Runs a script; what it prints is appended to `out`, also where it ends early.
@@ -246,13 +271,5 @@ fn run_line<'a>(
 /// Lines end with a line feed. Empty ones, and those that begin with `#`, are passed over.
 pub fn run_script(alloc: Global, script: &[u8], out: &mut String) -> Result<(), ScriptEnd> {
     let mut state = None;
-    for (i, bytes) in script.split(|b| *b == b'\n').enumerate() {
-        if bytes.is_empty() || bytes[0] == b'#' {
-            continue;
-        }
-        if let Err(fault) = run_line(alloc, bytes, &mut state, out) {
-            return Err(ScriptEnd { line: i + 1, fault });
-        }
-    }
-    Ok(())
+    run_lines(alloc, script, &mut state, out)
 }

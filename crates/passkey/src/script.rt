@@ -53,7 +53,7 @@ pub enum Line<'a> {
 }
 
 /// Why a script ends.
-#[derive(Clone, Copy, Debug, PartialEq, Eq, Drop)]
+#[derive(Drop)]
 pub enum Fault {
     /// The line has none of the forms, or its call is refused.
     BadScript,
@@ -161,26 +161,45 @@ fn session(field: &str) -> Result<u64, Fault> {
     field.parse::<u64>().map_err(|_| Fault::BadScript)
 }
 
-/// The line that a text is.
-pub fn parse_line<'a>(alloc: Global, text: &'a str) -> Result<Line<'a>, Fault> {
-    if let Some(client_data) = text.strip_prefix("client ") {
-        return Ok(Line::Client(client_data));
-    }
-    let fields: Vec<&str> = text.split(' ').collect(alloc)?;
-    match fields.as_slice() {
+/// The line that begins a sign-in.
+fn session_line<'a>(
+    alloc: Global,
+    named: &str,
+    verified: &str,
+    words: &str,
+    listed: &[&str],
+) -> Result<Line<'a>, Fault> {
+    Ok(Line::Session {
+        user: user(alloc, named)?,
+        verified: truth(verified)?,
+        words: array(alloc, words)?,
+        allow: ids(alloc, listed)?,
+    })
+}
+
+/// The line that lists a signature as valid.
+fn valid_line<'a>(
+    alloc: Global,
+    found: &str,
+    auth_data: &str,
+    sig: &str,
+) -> Result<Line<'a>, Fault> {
+    Ok(Line::Valid {
+        key: key(alloc, found)?,
+        auth_data: bytes(alloc, auth_data)?,
+        sig: bytes(alloc, sig)?,
+    })
+}
+
+/// The line that these fields are.
+fn line_of<'a>(alloc: Global, fields: &[&'a str]) -> Result<Line<'a>, Fault> {
+    match fields {
         ["site", rp_id, origin] => Ok(Line::Site { rp_id, origin }),
         ["row", id, user, found, count] => Ok(Line::Row(row(alloc, id, user, found, count)?)),
-        ["session", named, verified, words, listed @ ..] => Ok(Line::Session {
-            user: user(alloc, named)?,
-            verified: truth(verified)?,
-            words: array(alloc, words)?,
-            allow: ids(alloc, listed)?,
-        }),
-        ["valid", found, auth_data, sig] => Ok(Line::Valid {
-            key: key(alloc, found)?,
-            auth_data: bytes(alloc, auth_data)?,
-            sig: bytes(alloc, sig)?,
-        }),
+        ["session", named, verified, words, listed @ ..] => {
+            session_line(alloc, named, verified, words, listed)
+        }
+        ["valid", found, auth_data, sig] => valid_line(alloc, found, auth_data, sig),
         ["packet", found] => Ok(Line::Packet(packet(&bytes(alloc, found)?)?)),
         ["clear"] => Ok(Line::Clear),
         ["signin", number, channel] => Ok(Line::SignIn {
@@ -192,4 +211,13 @@ pub fn parse_line<'a>(alloc: Global, text: &'a str) -> Result<Line<'a>, Fault> {
         ["retire", id] => Ok(Line::Retire(bytes(alloc, id)?)),
         _ => Err(Fault::BadScript),
     }
+}
+
+/// The line that a text is.
+pub fn parse_line<'a>(alloc: Global, text: &'a str) -> Result<Line<'a>, Fault> {
+    if let Some(client_data) = text.strip_prefix("client ") {
+        return Ok(Line::Client(client_data));
+    }
+    let fields: Vec<&str> = text.split(' ').collect(alloc)?;
+    line_of(alloc, &fields)
 }

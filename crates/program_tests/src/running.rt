@@ -4,9 +4,6 @@ use passkey::run;
 use std::alloc::{AllocError, Global};
 use std::io::Read;
 
-/// Lines, each of parts with `|` between them: what a script is for, the names of its lines, and of those that it prints.
-pub type Table = &'static str;
-
 /// What a run is to end with: its status, and all of standard output and of standard error.
 #[derive(Clone, Copy, Drop)]
 pub struct Wanted<'a> {

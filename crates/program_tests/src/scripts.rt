@@ -6,6 +6,7 @@ use crate::running::{Wanted, ends};
 use crate::verdict_rows::{SESSIONS_1, SESSIONS_2, VERDICTS_1, VERDICTS_2};
 use std::alloc::{AllocError, Global};
 use std::test::Fail;
+use test_words::part;
 
 /// The lines that a text names, parted by semicolons, each ended by a line feed.
 fn lines_of(alloc: Global, text: &str) -> Result<String, AllocError> {
@@ -29,11 +30,6 @@ fn replays(alloc: Global, script: &str, status: u8, out: &str, err: &str) -> Res
         err,
     };
     Ok(ends(alloc, &["passkey", "replay"], script.as_bytes(), &wanted))
-}
-
-/// The part of a line with this number, from 0; nothing where the line has fewer.
-fn part(line: &str, number: usize) -> &str {
-    line.split('|').nth(number).unwrap_or("")
 }
 
 /// Whether the script of a line ends well and prints its text.

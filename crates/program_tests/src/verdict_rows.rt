@@ -1,8 +1,9 @@
 //! Scripts of sign-ins, and what `passkey replay` prints of them.
 
-use crate::running::Table;
+use test_words::Table;
 
-/// Of packets, replies, and steps of the site.
+/// What a script is for, the names of its lines, and of those that it prints. Here of packets, replies, and steps of the
+/// site.
 pub const VERDICTS_1: Table = r#"accepted|LISTED;PACKETS;SIGNIN;table|OPENED;ACCEPTED;0a 01 1
 bytes behind the message|LISTED;FIRST;packet 00000001000015ad010000000103415aff;SIGNIN|OPENED;ACCEPTED
 an unknown credential|SITE;OTHER_ROW;SESSION;CLIENT;VALID;PACKETS;SIGNIN;table|OPENED;refused W3;0b 01 0
@@ -20,7 +21,8 @@ no value|LISTED;packet 0000000190000100;SIGNIN|OPENED;refused NotCanonical
 an empty map|LISTED;packet 0000000190000200a0;SIGNIN|OPENED;refused Shape
 the device's error|LISTED;packet 00000001bf000106;SIGNIN|OPENED;refused DeviceError 06"#;
 
-/// Of packets, replies, and steps of the site.
+/// What a script is for, the names of its lines, and of those that it prints. Here of packets, replies, and steps of the
+/// site.
 pub const VERDICTS_2: Table =
     "a reserved flag|BEGUN;valid a40101032720062158201111111111111111111111111111111111111111111111111111111111111111 ba7816bf8f01cfea414140de5dae2223b00361a396177a9cb410ff61f20015ad0300000001 5a;FIRST;packet 00000001000015ad030000000103415a;SIGNIN|OPENED;ACCEPTED
 a reserved flag that was not signed|LISTED;FIRST;packet 00000001000015ad030000000103415a;SIGNIN|OPENED;refused W14

@@ -93,13 +93,13 @@ pub fn creation_reply(alloc: Global, value: &View<'_>) -> Result<CreationReply, 
     let (held, rest) = required(&rest, Key::Uint(1))?;
     let fmt = text(alloc, &held)?;
     let (held, rest) = required(&rest, Key::Uint(2))?;
-    let auth_data = Vec::from_slice(alloc, bytes(&held)?)?;
+    let auth_data = bytes(&held)?;
     let (held, rest) = required(&rest, Key::Uint(3))?;
     any_map(&held)?;
     end(&rest)?;
     Ok(CreationReply {
         fmt,
-        auth_data,
+        auth_data: Vec::from_slice(alloc, auth_data)?,
         statement: held.to_value(alloc)?,
     })
 }
@@ -148,7 +148,7 @@ pub fn info(alloc: Global, value: &View<'_>) -> Result<InfoReply, Error>
     let versions = texts(alloc, &held)?;
     let (held, rest) = required(&rest, Key::Uint(3))?;
     sized(&held, 16, 16)?;
-    let aaguid = Vec::from_slice(alloc, bytes(&held)?)?;
+    let aaguid = bytes(&held)?;
     let (held, rest) = required(&rest, Key::Uint(4))?;
     let options = truths(alloc, &held)?;
     let (held, rest) = required(&rest, Key::Uint(5))?;
@@ -160,7 +160,7 @@ pub fn info(alloc: Global, value: &View<'_>) -> Result<InfoReply, Error>
     end(&rest)?;
     Ok(InfoReply {
         versions,
-        aaguid,
+        aaguid: Vec::from_slice(alloc, aaguid)?,
         options,
         max_msg_size,
         max_credential_count_in_list,

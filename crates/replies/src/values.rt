@@ -53,18 +53,18 @@ fn truths_value(alloc: Global, options: &[(String, bool)]) -> Result<Value, Allo
 pub fn info_value(alloc: Global, reply: &InfoReply) -> Result<Value, AllocError>
     ensures { IfOk result (λ v. view v ≡ info_item (info_view reply.now)) }
 {
-    let versions = texts_value(alloc, &reply.versions)?;
-    let aaguid = bytes_value(alloc, &reply.aaguid)?;
-    let options = truths_value(alloc, &reply.options)?;
-    let size = Value::Uint(reply.max_msg_size);
-    let count = Value::Uint(reply.max_credential_count_in_list);
-    let length = Value::Uint(reply.max_credential_id_length);
     let mut pairs = Vec::new(alloc);
+    let versions = texts_value(alloc, &reply.versions)?;
     push_member(alloc, &mut pairs, Key::Uint(1), versions)?;
+    let aaguid = bytes_value(alloc, &reply.aaguid)?;
     push_member(alloc, &mut pairs, Key::Uint(3), aaguid)?;
+    let options = truths_value(alloc, &reply.options)?;
     push_member(alloc, &mut pairs, Key::Uint(4), options)?;
+    let size = Value::Uint(reply.max_msg_size);
     push_member(alloc, &mut pairs, Key::Uint(5), size)?;
+    let count = Value::Uint(reply.max_credential_count_in_list);
     push_member(alloc, &mut pairs, Key::Uint(7), count)?;
+    let length = Value::Uint(reply.max_credential_id_length);
     push_member(alloc, &mut pairs, Key::Uint(8), length)?;
     Ok(Value::Map(pairs))
 }

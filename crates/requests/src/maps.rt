@@ -91,7 +91,7 @@ pub fn creation(alloc: Global, value: &View<'_>) -> Result<MakeCredential, Error
     let rest = members(value)?;
     let (held, rest) = required(&rest, Key::Uint(1))?;
     sized(&held, 32, 32)?;
-    let client_data_hash = Vec::from_slice(alloc, bytes(&held)?)?;
+    let hash = bytes(&held)?;
     let (held, rest) = required(&rest, Key::Uint(2))?;
     let rp = relying_party(alloc, &held)?;
     let (held, rest) = required(&rest, Key::Uint(3))?;
@@ -106,7 +106,7 @@ pub fn creation(alloc: Global, value: &View<'_>) -> Result<MakeCredential, Error
     let options = creation_options_if_there(held)?;
     end(&rest)?;
     Ok(MakeCredential {
-        client_data_hash,
+        client_data_hash: Vec::from_slice(alloc, hash)?,
         rp,
         user,
         pub_key_cred_params,

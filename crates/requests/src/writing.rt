@@ -29,18 +29,18 @@ fn creation_value(alloc: Global, request: &MakeCredential) -> Result<Value, Erro
     ensures { Builds (all_numbers (map parameters_view request.now.pub_key_cred_params.items))
         (creation_item (creation_view request.now) None) result }
 {
-    let parameters = parameter_list_value(alloc, &request.pub_key_cred_params)?;
-    let exclude_list = descriptors_if_there(alloc, &request.exclude_list)?;
-    let options = creation_options_if_there(alloc, &request.options)?;
-    let hash = bytes_value(alloc, &request.client_data_hash)?;
-    let rp = rp_value(alloc, &request.rp)?;
-    let user = user_value(alloc, &request.user)?;
     let mut pairs = Vec::new(alloc);
+    let exclude_list = descriptors_if_there(alloc, &request.exclude_list)?;
+    let hash = bytes_value(alloc, &request.client_data_hash)?;
     push_member(alloc, &mut pairs, Key::Uint(1), hash)?;
+    let rp = rp_value(alloc, &request.rp)?;
     push_member(alloc, &mut pairs, Key::Uint(2), rp)?;
+    let user = user_value(alloc, &request.user)?;
     push_member(alloc, &mut pairs, Key::Uint(3), user)?;
+    let parameters = parameter_list_value(alloc, &request.pub_key_cred_params)?;
     push_member(alloc, &mut pairs, Key::Uint(4), parameters)?;
     push_if_there(alloc, &mut pairs, Key::Uint(5), exclude_list)?;
+    let options = creation_options_if_there(alloc, &request.options)?;
     push_if_there(alloc, &mut pairs, Key::Uint(7), options)?;
     Ok(Value::Map(pairs))
 }
@@ -49,14 +49,14 @@ fn creation_value(alloc: Global, request: &MakeCredential) -> Result<Value, Erro
 fn assertion_value(alloc: Global, request: &GetAssertion) -> Result<Value, AllocError>
     ensures { IfOk result (λ v. view v ≡ assertion_item (assertion_view request.now) None) }
 {
-    let allow_list = descriptors_if_there(alloc, &request.allow_list)?;
-    let options = assertion_options_if_there(alloc, &request.options)?;
-    let rp_id = text_value(alloc, &request.rp_id)?;
-    let hash = bytes_value(alloc, &request.client_data_hash)?;
     let mut pairs = Vec::new(alloc);
+    let rp_id = text_value(alloc, &request.rp_id)?;
     push_member(alloc, &mut pairs, Key::Uint(1), rp_id)?;
+    let hash = bytes_value(alloc, &request.client_data_hash)?;
     push_member(alloc, &mut pairs, Key::Uint(2), hash)?;
+    let allow_list = descriptors_if_there(alloc, &request.allow_list)?;
     push_if_there(alloc, &mut pairs, Key::Uint(3), allow_list)?;
+    let options = assertion_options_if_there(alloc, &request.options)?;
     push_if_there(alloc, &mut pairs, Key::Uint(5), options)?;
     Ok(Value::Map(pairs))
 }

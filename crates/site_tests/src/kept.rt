@@ -1,6 +1,7 @@
 //! What a site keeps from one call to the next, and over a restart; sessions that begin, are abandoned, and are too many.
 
-use crate::rows::{Pattern, Table};
+use crate::rows::Pattern;
+use test_words::Table;
 
 /// Sign-ins, one after the other: a name and a script.
 const KEPT: Table =

@@ -4,37 +4,22 @@ use crate::stored::{policy, rows};
 use hidframe::Packet;
 use site::Site;
 use std::alloc::{AllocError, Global};
+use test_words::{Table, bytes_of};
 
 /// The bytes of each packet up to the last that is not 0: those of a reply of credential 0a with UP, counter 1 and
 /// signature 5a; keepalives; those of a message of 160 bytes in three packets; and others.
-const NAMES: &[(&str, &str)] = &[
-    (
-        "first",
-        "0000000190004400a301a2626964410a64747970656a7075626c69632d6b6579025825ba7816bf8f01cfea414140de5dae2223b00361a396177a9cb410ff61f2",
-    ),
-    ("second", "00000001000015ad010000000103415a"),
-    ("keepalive", "00000001bb000101"),
-    ("first-of-three", "000000019000a0"),
-    ("second-of-three", "0000000100"),
-    ("third-of-three", "0000000101"),
-];
+const NAMES: Table =
+    "first|0000000190004400a301a2626964410a64747970656a7075626c69632d6b6579025825ba7816bf8f01cfea414140de5dae2223b00361a396177a9cb410ff61f2
+second|00000001000015ad010000000103415a
+keepalive|00000001bb000101
+first-of-three|000000019000a0
+second-of-three|0000000100
+third-of-three|0000000101";
 
-/// The packet that begins with these bytes in hexadecimal digits, and goes on with zeros; or that of a name.
-pub(crate) fn packet(alloc: Global, text: &str) -> Result<Packet, AllocError> {
-    for (name, digits) in NAMES {
-        if *name == text {
-            return packet_of(alloc, digits);
-        }
-    }
-    packet_of(alloc, text)
-}
-
-/// The packet that begins with these bytes in hexadecimal digits, and goes on with zeros.
-fn packet_of(alloc: Global, digits: &str) -> Result<Packet, AllocError> {
+/// The packet that begins with the bytes of this word, and goes on with zeros.
+pub(crate) fn packet(alloc: Global, word: &str) -> Result<Packet, AllocError> {
     let mut filled = [0; 64];
-    let Ok(found) = hex::decode(alloc, digits) else {
-        return Err(AllocError);
-    };
+    let found = bytes_of(alloc, &[NAMES], word)?;
     for (to, from) in filled.iter_mut().zip(found.as_slice()) {
         *to = *from;
     }

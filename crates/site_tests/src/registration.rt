@@ -2,8 +2,9 @@
 //! registered.
 
 use crate::acts::is_acted;
-use crate::rows::{Pattern, Table};
+use crate::rows::Pattern;
 use std::test::Fail;
+use test_words::Table;
 
 /// The step refuses the registration, and the good one is then answered so on that session.
 const REFUSED: Pattern =

@@ -5,18 +5,11 @@ use crate::{kept, registration, sign_in};
 use site::Error;
 use std::alloc::{AllocError, Global};
 use std::test::Fail;
+use test_words::part;
 
 /// A script, in which a number between two `$` stands for the part of a line with that number, from 0 on; from 10 on for
 /// the parts of a second line.
 pub(crate) type Pattern = &'static str;
-
-/// Lines, each of parts with `|` between them.
-pub(crate) type Table = &'static str;
-
-/// The part of a line with this number; nothing where the line has fewer.
-pub(crate) fn part(line: &str, number: usize) -> &str {
-    line.split('|').nth(number).unwrap_or("")
-}
 
 /// What a number in a pattern stands for.
 fn meaning<'a>(number: &str, first: &'a str, second: &'a str) -> &'a str {

@@ -1,10 +1,10 @@
 //! Saved tables: which are loaded, and what is saved of them then.
 
-use crate::rows::{Table, part};
 use crate::values::bytes_of;
 use saved_table::{Error, load, save};
 use std::alloc::Global;
 use std::test::Fail;
+use test_words::{Table, part};
 
 /// Tables of each version: what is told, the bytes, and how many credentials are loaded.
 const TABLES: Table = "version 1|a40101026361626303020481a401410a02410103+K+0401|1

@@ -1,7 +1,8 @@
 //! Sign-ins through a site: each step that refuses, alone and two at once, and what is then as it was; what is accepted,
 //! and what is stored.
 
-use crate::rows::{Pattern, Table};
+use crate::rows::Pattern;
+use test_words::Table;
 
 /// The site of five credentials, with session 1 for the sign-in of a verified user by one of some credentials, and
 /// session 2 for a registration. The step refuses the response, and the good one is then accepted once.

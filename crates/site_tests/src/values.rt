@@ -1,6 +1,7 @@
 //! The words of a line: `name=value`, with bytes in hexadecimal digits.
 
 use std::alloc::{AllocError, Global};
+use test_words::{Table, append_words};
 
 /// The value that a line gives a name, the first where it gives several; `default` where it gives none.
 pub(crate) fn value<'a>(line: &'a str, name: &str, default: &'a str) -> &'a str {
@@ -24,33 +25,14 @@ pub(crate) fn number(line: &str, name: &str, default: u64) -> u64 {
     value(line, name, "").parse().unwrap_or(default)
 }
 
-/// The key of all stored credentials.
-const KEY: &[u8] =
-    b"\xa4\x01\x01\x03\x27\x20\x06\x21\x58\x20\x11\x11\x11\x11\x11\x11\x11\x11\x11\x11\x11\x11\x11\x11\x11\x11\x11\x11\x11\x11\x11\x11\x11\x11\x11\x11\x11\x11\x11\x11\x11\x11";
-
-/// Appends what a part stands for: `K` for the key; digits, with `*` and how often they stand where that is not once.
-fn append(alloc: Global, bytes: &mut Vec<u8>, part: &str) -> Result<(), AllocError> {
-    if part == "K" {
-        return bytes.extend_from_slice(KEY);
-    }
-    let (digits, count) = match part.split_once("*") {
-        Some((digits, count)) => (digits, count.parse().unwrap_or(0)),
-        None => (part, 1),
-    };
-    let Ok(found) = hex::decode(alloc, digits) else {
-        return Err(AllocError);
-    };
-    for _ in 0..count {
-        bytes.extend_from_slice(&found)?;
-    }
-    Ok(())
-}
+/// The key of all stored credentials, of 32 bytes 11.
+const NAMES: Table = "K|a4010103272006215820 11*32";
 
 /// The bytes of a value: its parts, with `+` between them.
 pub(crate) fn bytes_of(alloc: Global, value: &str) -> Result<Vec<u8>, AllocError> {
     let mut bytes = Vec::new(alloc);
     for part in value.split('+') {
-        append(alloc, &mut bytes, part)?;
+        append_words(alloc, &[NAMES], &mut bytes, part)?;
     }
     Ok(bytes)
 }
