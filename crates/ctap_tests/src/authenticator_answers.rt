@@ -119,7 +119,8 @@ fn given(words: &str) -> Consent {
     }
 }
 
-/// The authenticator's reply to a request, of which the id and the secret handed in are 32 times this byte.
+/// The authenticator's reply to this request, on the channel of a line, given what the line gives, and handed 32 times the
+/// line's byte as id and secret; the words and the answer of the line are not looked at.
 pub fn reply(
     alloc: Global,
     authenticator: &mut Authenticator,
