@@ -1,10 +1,12 @@
 //! Writing authenticator data.
 
 ghost use Rattle.std.specs.Prelude.{◌≡◌, ◌≤◌, ◌+◌, ◌++◌, IfOk, OnOk, length};
+ghost use Rattle.std.specs.Int.{w32, to_be_bytes};
 ghost use Rattle.cose.specs.Keys.{IsKey, encoded_length};
 ghost use Rattle.authdata.specs.Layout.{AuthOf, IsAttestedCredential, auth_view, credential_bytes, attested_view, key_bytes};
 
 use crate::auth::{Attested, AuthData};
+use byteorder::{BigEndian, ByteOrder};
 use ccbor::encode;
 use cose::CoseKey;
 use std::alloc::{AllocError, Global};
@@ -28,8 +30,10 @@ fn put_credential(alloc: Global, credential: &Attested, out: &mut Vec<u8>) -> Re
         ≡ out.old.items ++ credential_bytes (attested_view credential.now)) }
     ensures is { OnOk result (IsAttestedCredential (attested_view credential.now)) }
 {
+    let mut id_length = [0; 2];
+    BigEndian::write_u16(&mut id_length, credential.id.len() as u16);
     out.extend_from_slice(&credential.aaguid)?;
-    out.extend_from_slice(&(credential.id.len() as u16).to_be_bytes())?;
+    out.extend_from_slice(&id_length)?;
     out.extend_from_slice(credential.id.as_slice())?;
     put_key(alloc, &credential.key, out)
 }
@@ -52,6 +56,15 @@ fn credential_length(credential: &Attested) -> usize
     18 + credential.id.len() + key_length(&credential.key)
 }
 
+/// A signature counter in 4 big-endian bytes.
+fn count_bytes(sign_count: u32) -> [u8; 4]
+    ensures { result ≡ to_be_bytes w32 sign_count }
+{
+    let mut bytes = [0; 4];
+    BigEndian::write_u32(&mut bytes, sign_count);
+    bytes
+}
+
 /// The bytes of authenticator data (WebAuthn section 6.1): 37, and with a credential those of its
 /// id, its key (77 for ES256, 42 for EdDSA) and 18 more.
 pub fn write(alloc: Global, auth: &AuthData) -> Result<Vec<u8>, AllocError>
@@ -64,7 +77,7 @@ pub fn write(alloc: Global, auth: &AuthData) -> Result<Vec<u8>, AllocError>
     let mut out = Vec::with_capacity(alloc, 37 + credential_length)?;
     out.extend_from_slice(&auth.rp_id_hash)?;
     out.push(auth.flags)?;
-    out.extend_from_slice(&auth.sign_count.to_be_bytes())?;
+    out.extend_from_slice(&count_bytes(auth.sign_count))?;
     match &auth.attested {
         Some(credential) => put_credential(alloc, credential, &mut out)?,
         None => {}

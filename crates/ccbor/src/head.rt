@@ -8,6 +8,7 @@ ghost use Rattle.ccbor.specs.Reading.{Yields, at_least, number_at, argument_at, 
 ghost use Rattle.ccbor.specs.Writing.{Grows};
 
 use crate::error::Error;
+use byteorder::{BigEndian, ByteOrder};
 use std::alloc::AllocError;
 
 /// The major types (RFC 8949, section 3.1).
@@ -143,14 +144,17 @@ pub fn put_head(major: u8, argument: u64, out: &mut Vec<u8>) -> Result<(), Alloc
         out.push(high + IN_ONE_BYTE)?;
         out.push(argument as u8)?;
     } else if argument < 0x1_0000 {
-        out.push(high + IN_TWO_BYTES)?;
-        out.extend_from_slice(&(argument as u16).to_be_bytes())?;
+        let mut bytes = [high + IN_TWO_BYTES, 0, 0];
+        BigEndian::write_u16(&mut bytes[1..], argument as u16);
+        out.extend_from_slice(&bytes)?;
     } else if argument < 0x1_0000_0000 {
-        out.push(high + IN_FOUR_BYTES)?;
-        out.extend_from_slice(&(argument as u32).to_be_bytes())?;
+        let mut bytes = [high + IN_FOUR_BYTES, 0, 0, 0, 0];
+        BigEndian::write_u32(&mut bytes[1..], argument as u32);
+        out.extend_from_slice(&bytes)?;
     } else {
-        out.push(high + IN_EIGHT_BYTES)?;
-        out.extend_from_slice(&argument.to_be_bytes())?;
+        let mut bytes = [high + IN_EIGHT_BYTES, 0, 0, 0, 0, 0, 0, 0, 0];
+        BigEndian::write_u64(&mut bytes[1..], argument);
+        out.extend_from_slice(&bytes)?;
     }
     Ok(())
 }

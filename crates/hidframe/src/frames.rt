@@ -8,6 +8,7 @@ ghost use Rattle.hidframe.specs.Pieces.{continuation, frame_list, initial, item,
 
 use crate::Packet;
 use crate::ctaphid::{CONT_DATA_SIZE, INIT_DATA_SIZE, MAX_PAYLOAD_SIZE, PACKET_SIZE};
+use byteorder::{BigEndian, ByteOrder};
 use std::marker::Model;
 use thiserror::Error;
 
@@ -64,9 +65,11 @@ fn initial_packet(cid: u32, cmd: u8, len: u16, bytes: &[u8]) -> Packet
     requires bytes { length bytes.now ≤ 57 }
     ensures { result ≡ initial cid cmd len bytes.now }
 {
-    let [a, b, c, d] = cid.to_be_bytes();
-    let [e, f] = len.to_be_bytes();
-    padded_packet(&[a, b, c, d, 128 + cmd, e, f], bytes)
+    let mut head = [0; 7];
+    BigEndian::write_u32(&mut head, cid);
+    head[4] = 128 + cmd;
+    BigEndian::write_u16(&mut head[5..], len);
+    padded_packet(&head, bytes)
 }
 
 /// The continuation of number `seq`.
@@ -74,8 +77,10 @@ fn continuation_packet(cid: u32, seq: u8, bytes: &[u8]) -> Packet
     requires bytes { length bytes.now ≤ 59 }
     ensures { result ≡ continuation cid seq bytes.now }
 {
-    let [a, b, c, d] = cid.to_be_bytes();
-    padded_packet(&[a, b, c, d, seq], bytes)
+    let mut head = [0; 5];
+    BigEndian::write_u32(&mut head, cid);
+    head[4] = seq;
+    padded_packet(&head, bytes)
 }
 
 /// Packet `i` of a message, if it has so many.

@@ -16,6 +16,7 @@ ghost use Rattle.hidlink.specs.Ranks.{Idle, IsReceiving, IsWorking, State, chose
 
 use crate::arbitration::{Arbitration, arbitrate};
 use crate::room::{Inbox, Outbox};
+use byteorder::{BigEndian, ByteOrder};
 use hidframe::ctaphid::{
     CAPABILITY_CBOR, CAPABILITY_NMSG, CTAPHID_CBOR, CTAPHID_ERROR, CTAPHID_INIT, CTAPHID_KEEPALIVE,
     ERR_INVALID_SEQ, ERR_MSG_TIMEOUT, MAX_PAYLOAD_SIZE, PROTOCOL_VERSION, STATUS_PROCESSING,
@@ -123,28 +124,13 @@ fn init_payload(named: u32, bytes: &[u8]) -> [u8; 17]
     requires { 8 ≤ length bytes.now }
     ensures { result ≡ take 8 bytes.now ++ (to_be_bytes w32 named ++ 2 ∷ 1 ∷ 0 ∷ 0 ∷ 12 ∷ []) }
 {
-    let [a, b, c, d] = named.to_be_bytes();
-    let n = &bytes[..8];
-    let capabilities = CAPABILITY_CBOR + CAPABILITY_NMSG;
-    [
-        n[0],
-        n[1],
-        n[2],
-        n[3],
-        n[4],
-        n[5],
-        n[6],
-        n[7],
-        a,
-        b,
-        c,
-        d,
-        PROTOCOL_VERSION,
-        1,
-        0,
-        0,
-        capabilities,
-    ]
+    let mut payload = [0; 17];
+    payload[..8].copy_from_slice(&bytes[..8]);
+    BigEndian::write_u32(&mut payload[8..], named);
+    payload[12] = PROTOCOL_VERSION;
+    payload[13] = 1;
+    payload[16] = CAPABILITY_CBOR + CAPABILITY_NMSG;
+    payload
 }
 
 /// The authenticator's end of all channels of one device. It takes packets and gives requests, takes

@@ -12,6 +12,7 @@ ghost use Rattle.sessions.specs.declared.error.Error.TheVariants as errors;
 
 use crate::error::Error;
 use crate::session::Session;
+use byteorder::{BigEndian, ByteOrder};
 use cose::Alg;
 use credentials::{MAX_ID, MAX_USER, is_within};
 use std::alloc::{AllocError, Global};
@@ -64,7 +65,7 @@ fn challenge_with(number: u64, words: &[u8; 24]) -> [u8; 32]
     ensures { result ≡ challenge_of number words.now }
 {
     let mut challenge = [0; 32];
-    challenge[..8].copy_from_slice(&number.to_be_bytes());
+    BigEndian::write_u64(&mut challenge, number);
     challenge[8..].copy_from_slice(words);
     challenge
 }

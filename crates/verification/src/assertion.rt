@@ -28,7 +28,8 @@ pub struct SignInAttempt<'a> {
     pub party: &'a RelyingParty,
     /// What the session expects; none where it is not open, or is one for registration.
     pub session: Option<&'a SignInSession>,
-    /// The credential whose id the response has; none where there is none.
+    /// The credential that was found for the response, by its id or otherwise; none where none was. One of another
+    /// id than the response's is refused as unknown.
     pub credential: Option<CredentialView<'a>>,
     /// The client's answer.
     pub response: AssertionParts<'a>,
@@ -142,7 +143,7 @@ impl<'a> SignInAttempt<'a> {
         let Some(credential) = self.credential else {
             return Err(SignInRefusal::UnknownCredential);
         };
-        if credential.retired {
+        if credential.retired || credential.id != self.response.credential {
             return Err(SignInRefusal::UnknownCredential);
         }
         if !are_user(&session.user, self.response.user, credential.user) {

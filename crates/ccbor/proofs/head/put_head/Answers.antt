@@ -1,4 +1,4 @@
-use Rattle.std.proofs.Common.{◌+◌, ◌*◌, [], ◌∷◌, sym, ap, ◌∙◌, arith}
+use Rattle.std.proofs.Common.{◌+◌, ◌*◌, [], ◌∷◌, ◌++◌, sym, ap, ◌∙◌, arith}
 use Rattle.ccbor.proofs.Numbers.{head_tiny, head_8, head_16, head_32, head_64, one_byte_is}
 use Rattle.ccbor.proofs.Appended.{ends_with}
 use Rattle.ccbor.proofs.head.put_head.Goals as goal
@@ -13,15 +13,18 @@ returns-in_ok-push-3-clause-ok c =
 
 pub returns-in_ok-extend_from_slice-clause-ok : goal.returns-in_ok-extend_from_slice-clause-ok
 returns-in_ok-extend_from_slice-clause-ok c =
-    ends_with _ _ _ (32 * c.args.major + 25) c.to_be_bytes.result _ c.in_ok-push-4.ensures.items c.in_ok-extend_from_slice.ensures.items
-    (head_16 c.args.major c.args.argument (omega arith) (omega arith) ∙ ap (λ l. (32 * c.args.major + 25) ∷ l) (sym c.to_be_bytes.ensures))
+    c.in_ok-extend_from_slice.ensures.items
+    ∙ ap (λ l. c.args.out.now.items ++ (32 * c.args.major + 25) ∷ (l ++ [])) c.write_u16.ensures
+    ∙ ap (λ l. c.args.out.now.items ++ l) (sym (head_16 c.args.major c.args.argument (omega arith) (omega arith)))
 
 pub returns-in_ok-extend_from_slice-2-clause-ok : goal.returns-in_ok-extend_from_slice-2-clause-ok
 returns-in_ok-extend_from_slice-2-clause-ok c =
-    ends_with _ _ _ (32 * c.args.major + 26) c.to_be_bytes-then-argument-lt4294967296.result _ c.in_ok-push-5.ensures.items c.in_ok-extend_from_slice-2.ensures.items
-    (head_32 c.args.major c.args.argument (omega arith) (omega arith) ∙ ap (λ l. (32 * c.args.major + 26) ∷ l) (sym c.to_be_bytes-then-argument-lt4294967296.ensures))
+    c.in_ok-extend_from_slice-2.ensures.items
+    ∙ ap (λ l. c.args.out.now.items ++ (32 * c.args.major + 26) ∷ (l ++ [])) c.write_u32.ensures
+    ∙ ap (λ l. c.args.out.now.items ++ l) (sym (head_32 c.args.major c.args.argument (omega arith) (omega arith)))
 
 pub returns-in_ok-extend_from_slice-3-clause-ok : goal.returns-in_ok-extend_from_slice-3-clause-ok
 returns-in_ok-extend_from_slice-3-clause-ok c =
-    ends_with _ _ _ (32 * c.args.major + 27) c.to_be_bytes-else-argument-lt4294967296.result _ c.in_ok-push-6.ensures.items c.in_ok-extend_from_slice-3.ensures.items
-    (head_64 c.args.major c.args.argument (omega arith) ∙ ap (λ l. (32 * c.args.major + 27) ∷ l) (sym c.to_be_bytes-else-argument-lt4294967296.ensures))
+    c.in_ok-extend_from_slice-3.ensures.items
+    ∙ ap (λ l. c.args.out.now.items ++ (32 * c.args.major + 27) ∷ (l ++ [])) c.write_u64.ensures
+    ∙ ap (λ l. c.args.out.now.items ++ l) (sym (head_64 c.args.major c.args.argument (omega arith)))
