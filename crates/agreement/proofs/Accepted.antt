@@ -19,12 +19,13 @@ use Rattle.credentials.specs.Table.{row_of}
 use Rattle.credentials.proofs.RowLemmas.{found_id}
 use Rattle.sessions.specs.Sessions.{ForSignIn, challenge_of, sign_in_at}
 use Rattle.site.specs.State.{State, attempt_in}
-use Rattle.site.specs.Laws.{IsFresh, Takes}
+use Rattle.site.specs.Laws as site
+use Rattle.site.specs.Laws.{Takes}
 use Rattle.site.proofs.Goings.{none_there}
 use Rattle.authenticator.specs.Laws.{IsSound}
 use Rattle.authenticator.specs.Steps.{Entry, Keys, assertion}
 use Rattle.agreement.specs.World.{Abandons, Asks, AtSite, Begins, Done, Effect, End, Event, Happens, Moment, Registers, RegistersBy, Restarts, Retires, SignsIn, SignsInBy, SiteEvent, World}
-use Rattle.agreement.specs.Agreement.{Agrees, Answers, Brings, BringsTo, DifferInSession, IsAccepted, IsIdeal, RestsOnce, ShareNone, message_of, session_in}
+use Rattle.agreement.specs.Agreement.{Agrees, Answers, Brings, BringsTo, DifferInSession, IsAccepted, IsFresh, IsIdeal, RestsOnce, ShareNone, message_of, session_in}
 use Rattle.agreement.specs.Below.{Below}
 use Rattle.agreement.proofs.Sites.{SignedIn, signs_in, takes}
 use Rattle.agreement.proofs.Worlds.{Lived, Since}
@@ -103,6 +104,20 @@ module _ (valid : Validity) (public : Keys) (b : Below valid public) where
       let bad : Some x.attested ≡ None = sym x.full ∙ ap (λ (d : AuthenticatorData). d.attested) s.0 ∙ bare in
       absurd cc
 
+  fresh : (m : Moment) (i n : ℕ) (r : Assertion) → PassesAll valid (attempt_in (m.old.site i) n r) → IsFresh m i n r.client_data
+  fresh m i n r passes =
+      let e = the_one (sign_in_at n (m.old.site i).sessions) passes.0 in
+      let x = the_one (seen_of r.client_data) passes.1.1.1.1.0 in
+      record {
+        seen = x.0;
+        reads = x.1;
+        kind = passes.1.1.1.1.1.0 x.0 x.1;
+        expected = e.0;
+        session = e.1;
+        challenge = passes.1.1.1.1.1.1.0 e.0 e.1 x.0 x.1;
+        origin = passes.1.1.1.1.1.1.1.0 x.0 x.1;
+      }
+
   sound_at : (m : Moment) (k : ℕ) (e : Entry) → Lived valid public b m → Contains (m.old.holder k).signed e → IsSound e
   sound_at m k e l there = All-contains IsSound (m.old.holder k).signed e (l.sound.holders k).signed there
 
@@ -124,6 +139,7 @@ module _ (valid : Validity) (public : Keys) (b : Below valid public) where
                 after = a.after;
                 stored = a.stored;
                 sign_count = a.count;
+                fresh = fresh m i n r a.passes;
               },
               record {
                 present = x.present (a.passes.1.1.1.1.1.1.1.1.1.1.1.0 a.auth a.spelled);
@@ -146,7 +162,7 @@ module _ (valid : Validity) (public : Keys) (b : Below valid public) where
 
   -- ---- sessions
 
-  takes_by : (old new : World) (e : Event) (i n : ℕ) → Effect valid public old e new → Answers e i n → ((j : ℕ) → IsFresh (old.site j)) → Takes (old.site i) (new.site i) n
+  takes_by : (old new : World) (e : Event) (i n : ℕ) → Effect valid public old e new → Answers e i n → ((j : ℕ) → site.IsFresh (old.site j)) → Takes (old.site i) (new.site i) n
   takes_by old new (AtSite j e) i n effect answers fresh =
       subst (λ (l : ℕ). Takes (old.site l) (new.site l) n) answers.0
       (subst (λ (z : State). Takes (old.site j) z n) (sym effect.2.now) (takes valid public b (old.site j) effect.0 e n (fresh j) effect.1 answers.1))

@@ -2,11 +2,12 @@
 use Rattle.std.proofs.lemmas.List.Elements.{All-from_recursion, recursion_from_All}
 use Rattle.cose.specs.Schemes.{Validity}
 use Rattle.authenticator.specs.Steps.{Keys}
-use Rattle.agreement.specs.Agreement.{Agrees, DifferInSession, IsIdeal, OfAllRuns, RestsOnce, ShareNone, StaysRetired}
+use Rattle.authenticator.proofs.Stored.{each_weaker}
+use Rattle.agreement.specs.Agreement.{Agrees, DifferInSession, IsIdeal, OfAllRuns, RestsOnce, Retiring, ShareNone, StaysRetired}
 use Rattle.agreement.specs.Below.{Below}
 use Rattle.agreement.proofs.Worlds.{Since, at_start, each_both, pairs, since, starts}
 use Rattle.agreement.proofs.Accepted.{agrees, differ, rests_once, share_none}
-use Rattle.agreement.proofs.Retired.{stays_retired}
+use Rattle.agreement.proofs.Retired.{retiring, stays_retired}
 
 pub of_all_runs : (valid : Validity) (public : Keys) → Below valid public → OfAllRuns valid public
 of_all_runs valid public b w run start is ideal =
@@ -18,5 +19,7 @@ of_all_runs valid public b w run start is ideal =
       share_none = pairs valid public b ShareNone (share_none valid public b) w run sound is;
       rests_once = pairs valid public b RestsOnce (rests_once valid public b) w run sound is;
       sessions = pairs valid public b DifferInSession (differ valid public b) w run sound is;
+      retiring = All-from_recursion Retiring run
+          (each_weaker (Since valid public b w) Retiring (λ m s. retiring valid public b m s.lived) run (since valid public b w w run sound (at_start valid public b w) is));
       retired = pairs valid public b StaysRetired (stays_retired valid public b) w run sound is;
     }

@@ -12,8 +12,9 @@ use Rattle.hidlink.specs.Ranks as device
 use Rattle.hidlink.specs.Told.{IsOut, told_before, work}
 use Rattle.hidlink.specs.declared.transaction.Step.TheVariants as step
 use Rattle.cose.specs.Schemes.{Validity}
+use Rattle.cose.specs.declared.key.CoseKey.{CoseKey}
 use Rattle.authenticator.specs.State.{State}
-use Rattle.authenticator.specs.Steps.{Keys, Steps}
+use Rattle.authenticator.specs.Steps.{Entry, Keys, Step, Steps}
 use Rattle.authenticator.specs.declared.consent.Consent.{Consent}
 use Rattle.authenticator.specs.declared.consent.Words.{Words}
 use Rattle.ceremony.specs.declared.serving.Act.{Act}
@@ -196,3 +197,13 @@ replied links valid public c m ps waits consent words e f sent idle some frames 
       all = b.all ∙ ap (λ ps. b.waits ++ ps) (k.5 ∙ ap (λ ps. k.1 ++ ps) k.4.0 ∙ append-nil k.1 ∙ now);
       idle = subst (λ (g : End). IsIdleOn c g) (sym end) (record { idle = is_idle.1; reading = k.3.reading; out = subst (λ (n : ℕ). IsOut n c) (sym channels) idle.out });
     }
+
+-- ---- one step, with what is signed and made
+
+abbrev pub IsStep : Validity → Keys → State → ℕ → List ℕ → Consent → Words → List ℕ → State → List Entry → List CoseKey → Type 0
+IsStep valid public old channel bs consent words reply new signed made =
+    Step valid public old channel bs consent words (record { reply = reply; state = new; signed = signed; made = made })
+
+pub record Stepped (valid : Validity) (public : Keys) (old : State) (channel : ℕ) (bs : List ℕ) (consent : Consent) (words : Words) (new : State) (signed : List Entry) (made : List CoseKey) : Type 0 where
+  pub reply : List ℕ
+  pub step : IsStep valid public old channel bs consent words reply new signed made

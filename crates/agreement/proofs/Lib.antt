@@ -10,6 +10,8 @@ pub mod SigningIn
 pub mod Runs
 pub mod Sites
 pub mod Worlds
+pub mod Ledger
 pub mod Accepted
 pub mod Retired
 pub mod AllRuns
+pub mod Lived

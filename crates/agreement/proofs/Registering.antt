@@ -1,6 +1,7 @@
 -- An honest registration is accepted.
 use Rattle.std.proofs.Common.{◌≡◌, ◌≢◌, ◌⊎◌, inl, inr, ℕ, ◌<◌, ◌≤◌, ◌+◌, ◌^◌, List, [], ◌∷◌, ◌++◌, length, Bool, true, false, not, is_some, Option, Some, codes, refl, sym, ◌∙◌, ap, subst, arith, rules, Contains}
 use Rattle.std.specs.Prelude.{nat_lt}
+use Rattle.sha2.specs.Sha256.{sha256}
 use Rattle.clientdata.specs.declared.record.CeremonyType.TheVariants.{Create}
 use Rattle.clientdata.specs.Serialised.{client_data_text, hash_of}
 use Rattle.cose.specs.Keys.{alg_of}
@@ -26,7 +27,7 @@ use Rattle.site.specs.State.{IsAfterRegistration, enrolment_in, registered}
 use Rattle.authenticator.specs.State.{Credential, State}
 use Rattle.authenticator.specs.Credentials.{credential_of, resident_ids}
 use Rattle.authenticator.specs.Orders.{kept}
-use Rattle.authenticator.specs.Steps.{Attests, Creates, Entry, Keys, Outcome, Unless, creation_data, new_credential, uv_bit}
+use Rattle.authenticator.specs.Steps.{Attests, Creates, Entry, Keys, Outcome, Unless, attestation, creation_data, key_of, new_credential, uv_bit}
 use Rattle.authenticator.specs.declared.consent.Consent.{Consent}
 use Rattle.authenticator.proofs.Stored.{last_push}
 use Rattle.client.specs.Asked.{creation_of, registration_data}
@@ -37,8 +38,9 @@ use Rattle.ceremony.proofs.Objects.{has_object}
 use Rattle.ceremony.proofs.OneVerdict.{registration_one}
 use Rattle.agreement.specs.Ends.{IsIdleOn}
 use Rattle.agreement.specs.Honest.{IsHonestRegistration, IsShared, Registering, Registers}
-use Rattle.agreement.specs.Below.{Below}
-use Rattle.agreement.proofs.Exchanges.{Replied, replied}
+use Rattle.agreement.specs.Below.{Below, KeepsAlg}
+use Rattle.agreement.specs.Lived.{attested_by}
+use Rattle.agreement.proofs.Exchanges.{IsStep, Replied, Stepped, replied}
 use Rattle.agreement.proofs.Delivered.{delivers}
 use Rattle.agreement.proofs.Asking.{asks_resident, asks_verified, carried_out, chosen, none_against_creation}
 use Rattle.agreement.proofs.Storing.{few_kept, newest_first, none_kept, row_last}
@@ -76,12 +78,17 @@ stated valid policy types.SelfSigned key hash consent r signed accepts x =
     let self : IsSelfSigned valid (object_of r) key hash = (x.0, (x.1.0, x.1.2, x.1.1.2)) in
     record { known = inr x.0; statement = inr self; accepted = (λ n. absurd (not_packed r.fmt n.0 x.0), λ s. accepts) }
 
+signed_for : (valid : Validity) (key : CoseKey) (hash : List ℕ) (consent : Consent) (attest : AttestationType) (r : Creation) (signed : List Entry) → Attests valid key hash consent attest r signed
+    → signed ≡ attested_by attest (record { key = key; message = r.auth_data ++ hash; purpose = attestation; consent = consent })
+signed_for valid key hash consent types.None r signed x = x.2
+signed_for valid key hash consent types.SelfSigned r signed x = x.2
+
 -- ---- the site afterwards
 
 room_for : (n : ℕ) → n < 65536 → not (nat_lt n 65536) ≡ false
 room_for n lt = let less : nat_lt n 65536 ≡ true = search (rules, lt) in rw less refl
 
-module _ (valid : Validity) (public : Keys) (b : Below valid public) (x : Registering) (idle : IsIdleOn x.channel x.before) (h : IsHonestRegistration valid public x) where
+module _ (valid : Validity) (public : Keys) (b : Below valid public) (keeps : KeepsAlg public) (x : Registering) (idle : IsIdleOn x.channel x.before) (h : IsHonestRegistration valid public x) where
   abbrev a : State
   a = x.before.authenticator
 
@@ -144,7 +151,7 @@ module _ (valid : Validity) (public : Keys) (b : Below valid public) (x : Regist
   offered =
       let c = chosen x.options.algs h.offered in
       let some_alg : Some c.0 ≡ Some creates.alg = sym c.1 ∙ creates.chosen in
-      let same : c.0 ≡ alg_of key = (let is : c.0 ≡ creates.alg = cc in is ∙ sym (b.keeps_alg creates.alg x.words.secret)) in
+      let same : c.0 ≡ alg_of key = (let is : c.0 ≡ creates.alg = cc in is ∙ sym (keeps creates.alg x.words.secret)) in
       subst (λ (offered : List Alg). Contains offered (alg_of key)) h.algorithms (subst (λ (alg : Alg). Contains x.options.algs alg) same c.2)
 
   says_how : Stated valid x.site.policy (object_of r) key (hash_of t)
@@ -225,3 +232,19 @@ module _ (valid : Validity) (public : Keys) (b : Below valid public) (x : Regist
     );
     idle = came.idle;
   }
+
+  -- the one step of the exchange, with what is signed and made
+  pub stepped : Stepped valid public x.before.authenticator x.channel m h.decided.consent x.words x.after.authenticator
+      (attested_by a.attest (record { key = key_of public registers.credential; message = registers.reply.auth_data ++ sha256 t; purpose = attestation; consent = h.decided.consent }))
+      (key_of public registers.credential ∷ [])
+  unfolding registers
+  stepped =
+      let signed : came.steps.0 ≡ attested_by a.attest (record { key = key; message = r.auth_data ++ q.client_data_hash; purpose = attestation; consent = h.decided.consent }) =
+      signed_for valid key q.client_data_hash h.decided.consent a.attest r came.steps.0 creates.attested in
+      let over : q.client_data_hash ≡ sha256 t = ap sha256 (sym text_is) in
+      record {
+        reply = came.reply;
+        step = subst (λ (l : List Entry). IsStep valid public a x.channel m h.decided.consent x.words came.reply x.after.authenticator l (key ∷ []))
+            (signed ∙ ap (λ hash. attested_by a.attest (record { key = key; message = r.auth_data ++ hash; purpose = attestation; consent = h.decided.consent })) over)
+            (subst (λ (l : List CoseKey). IsStep valid public a x.channel m h.decided.consent x.words came.reply x.after.authenticator came.steps.0 l) creates.made came.steps.2);
+      }

@@ -7,8 +7,8 @@ use Rattle.site.specs.State as site
 use Rattle.authenticator.specs.Credentials.{resident_ids}
 use Rattle.authenticator.specs.Steps.{Keys}
 use Rattle.agreement.specs.Ends.{End, IsIdleOn}
-use Rattle.agreement.specs.Honest.{AcceptsBoth, AsksForNew, IsAskedFor, IsHonestRun, IsShared, Registering, Registers, Run}
-use Rattle.agreement.specs.Below.{Below}
+use Rattle.agreement.specs.Honest.{AcceptsBoth, AsksForNew, IsAskedFor, IsHonestRun, IsShared, Registering, Registers, Run, SignsIn}
+use Rattle.agreement.specs.Below.{Below, KeepsAlg}
 use Rattle.agreement.proofs.Registering.{registers}
 use Rattle.agreement.proofs.SigningIn.{signs_in}
 
@@ -27,17 +27,31 @@ asked_new valid public x r e asks = elim asks [
       )
 ]
 
-pub agrees : (valid : Validity) (public : Keys) → Below valid public → (x : Run) → IsHonestRun valid public x → AcceptsBoth valid public x
-agrees valid public b x h =
-    let r = registers valid public b x.registering h.idle h.honest_registration in
-    let before : IsShared public x.registered x.registering.after.authenticator r.credential 0 = r.shared x.registered h.registered in
-    let here : IsShared public x.signing_in.site x.signing_in.before.authenticator r.credential 0 =
-    subst (λ (s : site.State). IsShared public s x.signing_in.before.authenticator r.credential 0) (sym h.begins.1)
-    (subst (λ (e : End). IsShared public (after_begin x.registered h.begins.0) e.authenticator r.credential 0) (sym h.goes_on)
-    (record { stored = before.stored; sign_count = before.sign_count; rp_id = before.rp_id; registered = before.registered })) in
-    let idle : IsIdleOn x.signing_in.channel x.signing_in.before =
-    subst (λ (e : End). IsIdleOn x.signing_in.channel e) (sym h.goes_on) (subst (λ (c : ℕ). IsIdleOn c x.registering.after) (sym h.channel) r.idle) in
-    let asked = subst (λ (e : End). IsAskedFor r.credential e.authenticator x.signing_in.expected) (sym h.goes_on)
-    (asked_new valid public x.registering r x.signing_in.expected h.asks) in
-    let s = signs_in valid public b x.signing_in r.credential 0 idle h.honest_sign_in here (omega arith) asked in
-    record { registers = r; before = before; signs_in = s; after = s.shared }
+module _ (valid : Validity) (public : Keys) (b : Below valid public) (keeps : KeepsAlg public) (x : Run) (h : IsHonestRun valid public x) where
+  abbrev pub registered : Registers valid public x.registering
+  registered = registers valid public b keeps x.registering h.idle h.honest_registration
+
+  pub before : IsShared public x.registered x.registering.after.authenticator registered.credential 0
+  before = registered.shared x.registered h.registered
+
+  pub here : IsShared public x.signing_in.site x.signing_in.before.authenticator registered.credential 0
+  here =
+      subst (λ (s : site.State). IsShared public s x.signing_in.before.authenticator registered.credential 0) (sym h.begins.1)
+      (subst (λ (e : End). IsShared public (after_begin x.registered h.begins.0) e.authenticator registered.credential 0) (sym h.goes_on)
+      (record { stored = before.stored; sign_count = before.sign_count; rp_id = before.rp_id; registered = before.registered }))
+
+  pub idle : IsIdleOn x.signing_in.channel x.signing_in.before
+  idle =
+      subst (λ (e : End). IsIdleOn x.signing_in.channel e) (sym h.goes_on)
+      (subst (λ (c : ℕ). IsIdleOn c x.registering.after) (sym h.channel) registered.idle)
+
+  pub asked : IsAskedFor registered.credential x.signing_in.before.authenticator x.signing_in.expected
+  asked =
+      subst (λ (e : End). IsAskedFor registered.credential e.authenticator x.signing_in.expected) (sym h.goes_on)
+      (asked_new valid public x.registering registered x.signing_in.expected h.asks)
+
+  abbrev pub signed_in : SignsIn valid public registered.credential 0 x.signing_in
+  signed_in = signs_in valid public b x.signing_in registered.credential 0 idle h.honest_sign_in here (omega arith) asked
+
+  abbrev pub agrees : AcceptsBoth valid public x
+  agrees = record { registers = registered; before = before; signs_in = signed_in; after = signed_in.shared }

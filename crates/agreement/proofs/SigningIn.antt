@@ -1,10 +1,12 @@
 -- An honest sign-in is accepted.
 use Rattle.std.proofs.Common.{◌≡◌, ◌≢◌, ◌⊎◌, inl, inr, ℕ, ◌<◌, ◌≤◌, ◌+◌, ◌-◌, ◌^◌, List, [], ◌∷◌, ◌++◌, length, Bool, true, false, not, if◌then◌else◌, Option, Some, None, refl, sym, ◌∙◌, ap, subst, arith, get_or, Contains}
 use Rattle.std.specs.Option.{ForSome}
+use Rattle.sha2.specs.Sha256.{sha256}
 use Rattle.first_line.specs.Lines.{Each}
 use Rattle.clientdata.specs.declared.record.CeremonyType.TheVariants.{Get}
 use Rattle.clientdata.specs.Serialised.{client_data_text, hash_of}
 use Rattle.cose.specs.Schemes.{Validity}
+use Rattle.cose.specs.declared.key.CoseKey.{CoseKey}
 use Rattle.authdata.specs.Flags.{is_set, AT, BE, UP, UV}
 use Rattle.authdata.specs.Layout.{AuthenticatorData, AuthOf}
 use Rattle.ctapmsg.specs.Replies.{Assertion, ReplyOf, assertion_reply}
@@ -24,7 +26,7 @@ use Rattle.site.specs.State.{IsAfterSignIn, attempt_in}
 use Rattle.authenticator.specs.State.{Asked, Credential, State}
 use Rattle.authenticator.specs.Credentials.{credential_of, resident_ids}
 use Rattle.authenticator.specs.Orders.{candidates, is_at_end, is_false}
-use Rattle.authenticator.specs.Steps.{Answers, FirstAnswers, Keys, Outcome, Unless, asked_by, assertion_data, key_of, number_with, shown_user, up_bit, uv_bit}
+use Rattle.authenticator.specs.Steps.{Answers, Entry, FirstAnswers, Keys, Outcome, Unless, asked_by, assertion, assertion_data, key_of, number_with, shown_user, up_bit, uv_bit}
 use Rattle.authenticator.proofs.Refusing.{not_at_end}
 use Rattle.authenticator.proofs.Stored.{with_at}
 use Rattle.client.specs.Asked.{assertion_of, descriptors_of, sign_in_data}
@@ -35,7 +37,7 @@ use Rattle.ceremony.proofs.OneVerdict.{sign_in_one}
 use Rattle.agreement.specs.Ends.{IsIdleOn}
 use Rattle.agreement.specs.Honest.{IsAskedFor, IsHonestSignIn, IsShared, SigningIn, SignsIn}
 use Rattle.agreement.specs.Below.{Below, Readings}
-use Rattle.agreement.proofs.Exchanges.{Replied, replied}
+use Rattle.agreement.proofs.Exchanges.{IsStep, Replied, Stepped, replied}
 use Rattle.agreement.proofs.Delivered.{delivers}
 use Rattle.agreement.proofs.Asking.{asserts_verified, assertion_up, carried_out, none_against_assertion}
 use Rattle.agreement.proofs.Storing.{listed}
@@ -282,3 +284,22 @@ module _ (valid : Validity) (public : Keys) (b : Below valid public) (x : Signin
     shared = still_shared;
     idle = came.idle;
   }
+
+  -- the one step of the exchange, with what is signed
+  pub stepped : Stepped valid public a x.channel m h.decided.consent x.words x.after.authenticator
+      (record { key = key_of public c; message = signs_in.reply.auth_data ++ sha256 t; purpose = assertion; consent = h.decided.consent } ∷ []) []
+  unfolding signs_in
+  stepped =
+      let signed : came.steps.0 ≡ record { key = key_of public c; message = r.auth_data ++ sha256 t; purpose = assertion; consent = h.decided.consent } ∷ [] =
+      answers.signed
+      ∙ ap (λ (d : Credential). record { key = key_of public d; message = r.auth_data ++ sha256 text; purpose = assertion; consent = h.decided.consent } ∷ []) own
+      ∙ ap (λ b. record { key = key_of public c; message = r.auth_data ++ sha256 b; purpose = assertion; consent = h.decided.consent } ∷ []) (sym text_is) in
+      record {
+        reply = came.reply;
+        step = subst (λ (l : List Entry). IsStep valid public a x.channel m h.decided.consent x.words came.reply x.after.authenticator l []) signed
+            (subst (λ (l : List CoseKey). IsStep valid public a x.channel m h.decided.consent x.words came.reply x.after.authenticator came.steps.0 l) answers.made came.steps.2);
+      }
+
+  pub credential_is : signs_in.reply.credential ≡ c.id
+  unfolding signs_in
+  credential_is = id_is

@@ -61,7 +61,7 @@ empty_bytes s none n e h =
 module _ (valid : Validity) (public : Keys) (b : Below valid public) where
   -- ---- one reply
 
-  same_assertion : (s : State) (n c j k : ℕ) (ps : List Packet) (d m l : List ℕ) (x y : Assertion) → Delivers c ps j m → ReplyOf (assertion_reply x) m → Delivers c ps k l → ReplyOf (assertion_reply y) l
+  pub same_assertion : (s : State) (n c j k : ℕ) (ps : List Packet) (d m l : List ℕ) (x y : Assertion) → Delivers c ps j m → ReplyOf (assertion_reply x) m → Delivers c ps k l → ReplyOf (assertion_reply y) l
       → x ≡ y
   same_assertion s n c j k ps d m l x y first reads second also =
       let o = b.links.carried c j k ps 16 16 m l first.0 second.0 first.1 second.1 in
@@ -86,32 +86,35 @@ module _ (valid : Validity) (public : Keys) (b : Below valid public) where
   -- by the packets, with whatever response they carry
   signed_in_by : (s t : State) (n c : ℕ) (ps : List Packet) (d : List ℕ) (r : responses.Assertion) → Acts valid s (SignsInBy n c ps d) t → Carried c ps d r → SignedIn s n r t
   signed_in_by s t n c ps d r acts carried =
-      let accepts = acts.1 in
-      let succeeds = accepts.1 in
-      let after = acts.2 in
-      let one : accepts.0 ≡ carried.2 = same_assertion s n c acts.0.used carried.0 ps d succeeds.0 carried.1 accepts.0 carried.2 succeeds.1 succeeds.2 carried.3 carried.4 in
+      let used = acts.0.0 in
+      let reply = acts.0.1 in
+      let succeeds = acts.0.2 in
+      let after = acts.1 in
+      let one : reply ≡ carried.2 = same_assertion s n c used carried.0 ps d succeeds.0 carried.1 reply carried.2 succeeds.1 succeeds.2 carried.3 carried.4 in
       let two : after.2 ≡ carried.2 = same_assertion s n c after.0 carried.0 ps d after.1 carried.1 after.2 carried.2 after.3 after.4 carried.3 carried.4 in
       let response : (x : Assertion) → x ≡ carried.2 → response_of x d ≡ r = λ x same. ap (λ z. response_of z d) same ∙ sym carried.5 in
       record {
-        passes = subst (λ (z : responses.Assertion). authentication.PassesAll valid (attempt_in s n z)) (response accepts.0 one) succeeds.3;
+        passes = subst (λ (z : responses.Assertion). authentication.PassesAll valid (attempt_in s n z)) (response reply one) succeeds.3;
         after = subst (λ (z : responses.Assertion). IsAfterSignIn s n z t) (response after.2 two) after.5;
       }
 
   registered_by : (s t : State) (n c : ℕ) (ps : List Packet) (d : List ℕ) → Acts valid s (RegistersBy n c ps d) t → (r : responses.Registration) × Registered s n r t
   registered_by s t n c ps d acts =
-      let accepts = acts.1 in
-      let succeeds = accepts.1 in
-      let after = acts.2 in
-      let one : after.2 ≡ accepts.0 = same_creation s n c after.0 acts.0.used ps d after.1 succeeds.0 after.2 accepts.0 after.3 after.4 succeeds.1 succeeds.2 in (
-        registering.response accepts.0 d,
+      let used = acts.0.0 in
+      let reply = acts.0.1 in
+      let succeeds = acts.0.2 in
+      let after = acts.1 in
+      let one : after.2 ≡ reply = same_creation s n c after.0 used ps d after.1 succeeds.0 after.2 reply after.3 after.4 succeeds.1 succeeds.2 in (
+        registering.response reply d,
         record { passes = succeeds.3; after = subst (λ (z : Creation). IsAfterRegistration s n (registering.response z d) t) one after.5 },
       )
 
   carried_there : (s t : State) (n c : ℕ) (ps : List Packet) (d : List ℕ) → Acts valid s (SignsInBy n c ps d) t → (r : responses.Assertion) × Carried c ps d r
   carried_there s t n c ps d acts =
-      let accepts = acts.1 in
-      let succeeds = accepts.1 in
-      (response_of accepts.0 d, (acts.0.used, succeeds.0, accepts.0, succeeds.1, succeeds.2, refl))
+      let used = acts.0.0 in
+      let reply = acts.0.1 in
+      let succeeds = acts.0.2 in
+      (response_of reply d, (used, succeeds.0, reply, succeeds.1, succeeds.2, refl))
 
   -- an accepted sign-in with the response that the event brings
   pub signs_in : (s t : State) (e : SiteEvent) (n : ℕ) (r : responses.Assertion) → Acts valid s e t → BringsTo e n r → SignedIn s n r t

@@ -1,8 +1,11 @@
 -- No sign-in without a fresh assertion: what holds of each run, if signatures can't be forged.
-use Rattle.std.specs.Prelude.{◌≡◌, ◌≢◌, ℕ, List, [], ◌∷◌, ◌++◌, Option, Some, None, true, Contains}
+use Rattle.std.specs.Prelude.{◌≡◌, ◌≢◌, ◌⊎◌, ℕ, List, [], ◌∷◌, ◌++◌, Option, Some, None, true, codes, Contains}
 use Rattle.std.specs.List.{All, AllPairs}
 use Rattle.sha2.specs.Sha256.{sha256}
 use Rattle.hidframe.specs.declared.Packet.{Packet}
+use Rattle.clientdata.specs.Reading.{seen_of}
+use Rattle.clientdata.specs.Serialised.{challenge_text_of}
+use Rattle.clientdata.specs.declared.seen.Seen.{Seen}
 use Rattle.cose.specs.Schemes.{Validity}
 use Rattle.cose.specs.declared.key.CoseKey.{CoseKey}
 use Rattle.authdata.specs.Layout.{AuthenticatorData, AuthOf}
@@ -12,6 +15,7 @@ use Rattle.ctapmsg.specs.Replies.{ReplyOf, assertion_reply}
 use Rattle.verification.specs.Records.{Credential, SignIn}
 use Rattle.credentials.specs.Table.{row_of}
 use Rattle.sessions.specs.Sessions.{sign_in_at}
+use Rattle.site.specs.State.{State}
 use Rattle.authenticator.specs.Steps.{Entry, Keys, assertion}
 use Rattle.client.specs.Responses.{response_of}
 use Rattle.ceremony.specs.Verdict.{Delivers}
@@ -78,9 +82,20 @@ pub record RestsOn (m : Moment) (r : Assertion) (row : Credential) (e : Entry) :
 
 -- ---- what holds
 
+-- the client data were made for this sign-in: their type is get, their challenge is the one that the answered session
+-- gave out, and the page is one of the site's (WebAuthn Level 2, section 7.2, steps 11 to 13)
+pub record IsFresh (m : Moment) (i n : ℕ) (client_data : List ℕ) : Type 0 where
+  pub seen : Seen
+  pub reads : seen_of client_data ≡ Some seen
+  pub kind : seen.kind ≡ codes "webauthn.get"
+  pub expected : SignIn
+  pub session : sign_in_at n (m.old.site i).sessions ≡ Some expected
+  pub challenge : seen.challenge ≡ challenge_text_of expected.challenge
+  pub origin : Contains (m.old.site i).rp.origins seen.origin
+
 -- the entry signed the hash of the site's rp id, the counter that is stored from then on, and the hash of just these
--- client data
-pub record Says (m : Moment) (i : ℕ) (r : Assertion) (e : Entry) : Type 0 where
+-- client data, which are fresh
+pub record Says (m : Moment) (i n : ℕ) (r : Assertion) (e : Entry) : Type 0 where
   pub auth : AuthenticatorData
   pub bytes : List ℕ
   pub spelled : AuthOf auth bytes
@@ -90,6 +105,7 @@ pub record Says (m : Moment) (i : ℕ) (r : Assertion) (e : Entry) : Type 0 wher
   pub after : Credential
   pub stored : row_of r.credential (m.new.site i).rows ≡ Some after
   pub sign_count : after.sign_count ≡ auth.sign_count
+  pub fresh : IsFresh m i n r.client_data
 
 -- the user was present at the getAssertion that the entry answers, and verified if the session required it
 pub record Consented (m : Moment) (i n : ℕ) (e : Entry) : Type 0 where
@@ -100,7 +116,7 @@ pub record Consented (m : Moment) (i n : ℕ) (e : Entry) : Type 0 where
 abbrev pub Agrees : Moment → Type 0
 Agrees m =
     (i n : ℕ) (r : Assertion) (row : Credential) → IsAccepted m i n r row → WasMade m.old row.key
-    → ((e : Entry) × RestsOn m r row e) × ((e : Entry) → RestsOn m r row e → Says m i r e × Consented m i n e)
+    → ((e : Entry) × RestsOn m r row e) × ((e : Entry) → RestsOn m r row e → Says m i n r e × Consented m i n e)
 
 -- two accepted sign-ins for one credential of a site rest on no common entry
 abbrev pub ShareNone : Moment → Moment → Type 0
@@ -144,19 +160,36 @@ pub record Adds (l : Moment) (i : ℕ) (c : Credential) : Type 0 where
   pub done : l.end ≡ Done
   pub rows : (l.new.site i).rows ≡ (l.old.site i).rows ++ c ∷ []
 
--- a credential that was retired at a site signs in no more there, and its id is not registered there again
+-- a credential of this id is registered at the site, and it is retired
+pub record IsRetired (s : State) (id : List ℕ) : Type 0 where
+  pub row : Credential
+  pub found : row_of id s.rows ≡ Some row
+  pub retired : row.retired ≡ true
+
+-- with it no sign-in is accepted, and its id is not registered
+pub record IsRefused (m : Moment) (i : ℕ) (id : List ℕ) : Type 0 where
+  pub signs_in : (n : ℕ) (r : Assertion) (row : Credential) → IsAccepted m i n r row → r.credential ≢ id
+  pub registers : (c : Credential) → Adds m i c → c.id ≢ id
+
+-- to retire a credential has that effect; and one that is retired is refused, and retired afterwards
+pub record Retiring (m : Moment) : Type 0 where
+  pub retires : (i : ℕ) (id : List ℕ) (row : Credential) → m.event ≡ AtSite i (Retires id) → m.end ≡ Done → row_of id (m.old.site i).rows ≡ Some row
+      → IsRetired (m.new.site i) id
+  pub refuses : (i : ℕ) (id : List ℕ) → IsRetired (m.old.site i) id → IsRefused m i id × IsRetired (m.new.site i) id
+
+-- a credential that is retired at a site, before a moment or after it, is so at each later one, and is refused there
 abbrev pub StaysRetired : Moment → Moment → Type 0
 StaysRetired m l =
-    (i : ℕ) (id : List ℕ) (row : Credential) → m.event ≡ AtSite i (Retires id) → m.end ≡ Done → row_of id (m.old.site i).rows ≡ Some row
-    → ((n : ℕ) (r : Assertion) (low : Credential) → IsAccepted l i n r low → r.credential ≢ id)
-    × ((c : Credential) → Adds l i c → c.id ≢ id)
+    (i : ℕ) (id : List ℕ) → IsRetired (m.old.site i) id ⊎ IsRetired (m.new.site i) id → IsRetired (l.old.site i) id × IsRefused l i id
 
 pub record Agreement (run : List Moment) : Type 0 where
   pub agrees : All Agrees run
   pub share_none : AllPairs ShareNone run
   pub rests_once : AllPairs RestsOnce run
   pub sessions : AllPairs DifferInSession run
+  pub retiring : All Retiring run
   pub retired : AllPairs StaysRetired run
 
+-- It is so whatever the scheme calls valid, and whichever key is a secret's.
 abbrev pub OfAllRuns : Validity → Keys → Type 0
 OfAllRuns valid public = (w : World) (run : List Moment) → IsStart w → IsRun valid public w run → All (IsIdeal valid) run → Agreement run

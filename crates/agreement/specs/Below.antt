@@ -18,10 +18,13 @@ pub record Readings : Type 0 where
   pub one_value : (a b : AuthenticatorData) (bs : List ℕ) → AuthOf a bs → AuthOf b bs → a ≡ b
   pub one_front : (a b : AuthenticatorData) (x y u v : List ℕ) → AuthOf a x → AuthOf b y → x ++ u ≡ y ++ v → (a ≡ b) × (x ≡ y) × (u ≡ v)
 
+-- a secret's public key has the algorithm that it was made for
+abbrev pub KeepsAlg : Keys → Type 0
+KeepsAlg public = (alg : Alg) (secret : List ℕ) → alg_of (public alg secret) ≡ alg
+
 pub record Below (valid : Validity) (public : Keys) : Type 0 where
   pub links : Links
   pub readings : Readings
   pub challenge_texts : (a b : List ℕ) → IsBytes a → IsBytes b → challenge_text_of a ≡ challenge_text_of b → a ≡ b
-  pub keeps_alg : (alg : Alg) (secret : List ℕ) → alg_of (public alg secret) ≡ alg
   pub sites : SiteLaws valid
   pub steps : StepLaws valid public

@@ -7,6 +7,7 @@ use Rattle.hidframe.specs.declared.Packet.{Packet}
 use Rattle.cose.specs.Schemes.{Validity}
 use Rattle.cose.specs.declared.key.CoseKey.{CoseKey}
 use Rattle.authdata.specs.Responses as responses
+use Rattle.ctapmsg.specs.Replies as replies
 use Rattle.verification.specs.Authentication as authentication
 use Rattle.verification.specs.Registration as registration
 use Rattle.saved_table.specs.Saved.{TableOf}
@@ -20,10 +21,9 @@ use Rattle.authenticator.specs.Steps.{Entry, Keys, Outcome, Step}
 use Rattle.authenticator.specs.declared.consent.Consent.{Consent}
 use Rattle.authenticator.specs.declared.consent.Words.{Words}
 use Rattle.authdata.specs.declared.statement.AttestationType.{AttestationType}
+use Rattle.ceremony.specs.Verdict.{Succeeds}
 use Rattle.ceremony.specs.SignIn as by_packets
 use Rattle.ceremony.specs.Registration as registering
-use Rattle.ceremony.specs.declared.authentication.Accepted.{Accepted}
-use Rattle.ceremony.specs.declared.registration.Enrolled.{Enrolled}
 
 -- an authenticator, what it has signed, and the keys that it has made
 pub record Holder : Type 0 where
@@ -75,9 +75,11 @@ Acts valid s (Begins o) t = IsBytes (words_of o) × (s.sessions.next < 2 ^ 64 - 
 Acts valid s (Abandons n) t = t ≡ after_abandon s n
 Acts valid s (Retires id) t = t ≡ after_retire s id
 Acts valid s (SignsIn n r) t = authentication.PassesAll valid (attempt_in s n r) × IsAfterSignIn s n r t
-Acts valid s (SignsInBy n c ps d) t = (x : Accepted) × by_packets.Accepts valid s n d c ps x × by_packets.IsAfter s n d c ps t
+Acts valid s (SignsInBy n c ps d) t =
+    ((used : ℕ) × (r : replies.Assertion) × Succeeds (by_packets.sign_in valid s n d) c ps used r) × by_packets.IsAfter s n d c ps t
 Acts valid s (Registers n r) t = registration.PassesAll valid (enrolment_in s n r) × IsAfterRegistration s n r t
-Acts valid s (RegistersBy n c ps d) t = (x : Enrolled) × registering.Accepts valid s n d c ps x × registering.IsAfter s n d c ps t
+Acts valid s (RegistersBy n c ps d) t =
+    ((used : ℕ) × (r : replies.Creation) × Succeeds (registering.registration valid s n d) c ps used r) × registering.IsAfter s n d c ps t
 Acts valid s Restarts t = Loads s t
 
 -- one site, or one authenticator, has changed and no other

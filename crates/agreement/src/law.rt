@@ -1,17 +1,20 @@
-//! The law of an honest run.
+//! The laws of an honest run and of all runs.
 
 ghost use Rattle.std.specs.Prelude.{◌<◌, ◌-◌, ◌^◌, ℕ};
 ghost use Rattle.authenticator.specs.State.{Credential};
+ghost use Rattle.authenticator.specs.Steps.{Keys};
 ghost use Rattle.agreement.specs.Agreement.{OfAllRuns};
 ghost use Rattle.agreement.specs.Below.{Below};
 ghost use Rattle.agreement.specs.Ends.{IsIdleOn};
 ghost use Rattle.agreement.specs.Honest.{AcceptsBoth, IsAskedFor, IsHonestRegistration, IsHonestRun, IsHonestSignIn, IsShared, Registering, Registers, Run, SigningIn, SignsIn};
+ghost use Rattle.agreement.specs.Ledger.{LedgerOfAllRuns};
+ghost use Rattle.agreement.specs.Lived.{Lives, Place, TakesPlace};
 
-use cose::Signer;
+use cose::{Signer, Verifier};
 
 /// What is used of the laws of the crates below.
-fn below<S: Signer>()
-    ensures { (scheme : S) → Below (S.valid scheme) (S.public_of scheme) }
+fn below<V: Verifier>()
+    ensures { (verifier : V) (public : Keys) → Below (V.valid verifier) public }
 {
     hidframe::one_frame_list();
     hidlink::whole_request();
@@ -20,8 +23,18 @@ fn below<S: Signer>()
     clientdata::challenge_texts();
     authdata::one_reading();
     authdata::one_object();
-    authenticator::step_laws::<S>();
-    site::site_laws::<S>();
+    authenticator::step_laws::<V>();
+    site::site_laws::<V>();
+}
+
+/// No sign-in is accepted without a fresh assertion by an authenticator, in each run in which signatures can't be forged:
+/// whatever packets, client data, requests and tables an adversary makes, of any number of sites and authenticators. It is so
+/// for each verifier, and for each function from secrets to keys.
+pub fn of_all_runs<V: Verifier>()
+    ensures agreement { (verifier : V) (public : Keys) → OfAllRuns (V.valid verifier) public }
+    ensures ledger { (verifier : V) (public : Keys) → LedgerOfAllRuns (V.valid verifier) public }
+{
+    below::<V>();
 }
 
 /// Where site, client, device and authenticator do what they are asked, and the user consents, the packets are accepted:
@@ -35,7 +48,10 @@ pub fn agreement<S: Signer>()
         → IsHonestSignIn (S.valid scheme) (S.public_of scheme) x → IsShared (S.public_of scheme) x.site x.before.authenticator c n
         → n < 2 ^ 32 - 1 → IsAskedFor c x.before.authenticator x.expected → SignsIn (S.valid scheme) (S.public_of scheme) c n x }
     ensures agrees { (scheme : S) (x : Run) → IsHonestRun (S.valid scheme) (S.public_of scheme) x → AcceptsBoth (S.valid scheme) (S.public_of scheme) x }
+    ensures lives { (scheme : S) (x : Run) (h : IsHonestRun (S.valid scheme) (S.public_of scheme) x) (p : Place)
+        → TakesPlace (S.valid scheme) (S.public_of scheme) x h p → Lives (S.valid scheme) (S.public_of scheme) x h p }
     ensures of_all_runs { (scheme : S) → OfAllRuns (S.valid scheme) (S.public_of scheme) }
 {
     below::<S>();
+    of_all_runs::<S>();
 }

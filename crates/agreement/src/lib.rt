@@ -3,4 +3,4 @@
 
 mod law;
 
-pub use law::agreement;
+pub use law::{agreement, of_all_runs};

@@ -1,8 +1,9 @@
 //! The laws of an authenticator's steps.
 
 ghost use Rattle.authenticator.specs.Laws.{StepLaws};
+ghost use Rattle.authenticator.specs.Steps.{Keys};
 
-use cose::Signer;
+use cose::Verifier;
 
 /// A new authenticator stores and remembers nothing, and of each step from a sound state:
 ///
@@ -13,6 +14,8 @@ use cose::Signer;
 /// - each id stands once;
 /// - what is remembered has flags that follow its consent, and names resident credentials;
 /// - a key that is made is that of a stored credential.
-pub fn step_laws<S: Signer>()
-    ensures { (scheme : S) → StepLaws (S.valid scheme) (S.public_of scheme) }
+///
+/// It is so whatever the scheme calls valid, and whichever key is a secret's.
+pub fn step_laws<V: Verifier>()
+    ensures { (verifier : V) (public : Keys) → StepLaws (V.valid verifier) public }
 {}

@@ -1,7 +1,7 @@
 use Rattle.agreement.proofs.law.below.Goals as goal
 
 pub returns : goal.returns
-returns g c = λ scheme. record {
+returns g c = λ verifier public. record {
   links = record {
     frames = c.one_frame_list.ensures;
     comes = c.whole_request.ensures.comes;
@@ -18,7 +18,6 @@ returns g c = λ scheme. record {
     one_front = c.one_reading.ensures.one_front;
   };
   challenge_texts = c.challenge_texts.ensures;
-  keeps_alg = g.met.S.Signer.keeps_alg scheme;
-  sites = c.site_laws.ensures scheme;
-  steps = c.step_laws.ensures scheme;
+  sites = c.site_laws.ensures verifier;
+  steps = c.step_laws.ensures verifier public;
 }
