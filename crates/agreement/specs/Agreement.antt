@@ -93,6 +93,21 @@ pub record IsFresh (m : Moment) (i n : ℕ) (client_data : List ℕ) : Type 0 wh
   pub challenge : seen.challenge ≡ challenge_text_of expected.challenge
   pub origin : Contains (m.old.site i).rp.origins seen.origin
 
+-- the response answers its session: the client data are fresh; the credential is one that the session lists, where it lists
+-- any; whoever the session or the response names is the credential's user, and one of them names him (steps 5 to 7)
+pub record FitsSession (m : Moment) (i n : ℕ) (r : Assertion) (row : Credential) : Type 0 where
+  pub fresh : IsFresh m i n r.client_data
+  pub expected : SignIn
+  pub session : sign_in_at n (m.old.site i).sessions ≡ Some expected
+  pub listed : (expected.allow ≡ []) ⊎ Contains expected.allow r.credential
+  pub named : (user : List ℕ) → expected.user ≡ Some user → user ≡ row.user
+  pub shown : (user : List ℕ) → r.user ≡ Some user → user ≡ row.user
+  pub someone : expected.user ≡ None → r.user ≢ None
+
+-- each sign-in that is accepted does, whether or not its key was made
+abbrev pub Fits : Moment → Type 0
+Fits m = (i n : ℕ) (r : Assertion) (row : Credential) → IsAccepted m i n r row → FitsSession m i n r row
+
 -- the entry signed the hash of the site's rp id, the counter that is stored from then on, and the hash of just these
 -- client data, which are fresh
 pub record Says (m : Moment) (i n : ℕ) (r : Assertion) (e : Entry) : Type 0 where
@@ -183,6 +198,7 @@ StaysRetired m l =
     (i : ℕ) (id : List ℕ) → IsRetired (m.old.site i) id ⊎ IsRetired (m.new.site i) id → IsRetired (l.old.site i) id × IsRefused l i id
 
 pub record Agreement (run : List Moment) : Type 0 where
+  pub fits : All Fits run
   pub agrees : All Agrees run
   pub share_none : AllPairs ShareNone run
   pub rests_once : AllPairs RestsOnce run
