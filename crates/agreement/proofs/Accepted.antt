@@ -34,7 +34,7 @@ none_if : (o : Option AttestedCredential) → is_some o ≡ false → o ≡ None
 none_if None e = refl
 none_if (Some c) e = let bad : true ≡ false = e in absurd cc
 
-the_one : {X : Type 0} (o : Option X) → IsSome o → (x : X) × (o ≡ Some x)
+pub the_one : {X : Type 0} (o : Option X) → IsSome o → (x : X) × (o ≡ Some x)
 the_one None h = let bad : false ≡ true = h in absurd cc
 the_one (Some x) h = (x, refl)
 
@@ -125,13 +125,15 @@ module _ (valid : Validity) (public : Keys) (b : Below valid public) where
       let e = the_one (sign_in_at n (m.old.site i).sessions) passes.0 in
       let x = the_one (seen_of r.client_data) passes.1.1.1.1.0 in
       record {
-        seen = x.0;
-        reads = x.1;
-        kind = passes.1.1.1.1.1.0 x.0 x.1;
         expected = e.0;
         session = e.1;
-        challenge = passes.1.1.1.1.1.1.0 e.0 e.1 x.0 x.1;
-        origin = passes.1.1.1.1.1.1.1.0 x.0 x.1;
+        says = record {
+          seen = x.0;
+          reads = x.1;
+          kind_is = passes.1.1.1.1.1.0 x.0 x.1;
+          challenge_is = passes.1.1.1.1.1.1.0 e.0 e.1 x.0 x.1;
+          origin = passes.1.1.1.1.1.1.1.0 x.0 x.1;
+        };
       }
 
   pub fits : (m : Moment) → Lived valid public b m → Fits m
