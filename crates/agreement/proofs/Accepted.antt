@@ -1,5 +1,5 @@
 -- An accepted sign-in of a run, and the entries on which it rests.
-use Rattle.std.proofs.Common.{◌≡◌, ◌<◌, ◌≤◌, ◌⊎◌, ◌^◌, ℕ, List, true, false, Option, Some, None, is_some, IsSome, refl, sym, ◌∙◌, ap, subst, arith, inl, inr}
+use Rattle.std.proofs.Common.{◌≡◌, ◌≢◌, ◌<◌, ◌≤◌, ◌⊎◌, ◌^◌, ℕ, List, true, false, Option, Some, None, is_some, IsSome, refl, sym, ◌∙◌, ap, subst, arith, inl, inr}
 use Rattle.std.specs.Prelude.{Contains}
 use Rattle.std.proofs.lemmas.List.Elements.{All-contains}
 use Rattle.std.proofs.lemmas.Option.{same_Some}
@@ -13,7 +13,7 @@ use Rattle.cose.specs.Schemes.{Validity}
 use Rattle.authdata.specs.Flags.{is_set, UP, UV}
 use Rattle.authdata.specs.Layout.{AttestedCredential, AuthenticatorData, AuthOf}
 use Rattle.authdata.specs.Responses.{Assertion}
-use Rattle.verification.specs.Authentication.{PassesAll}
+use Rattle.verification.specs.Authentication.{AreUser, PassesAll}
 use Rattle.verification.specs.Records.{Credential}
 use Rattle.credentials.specs.Table.{row_of}
 use Rattle.credentials.proofs.RowLemmas.{found_id}
@@ -25,7 +25,7 @@ use Rattle.site.proofs.Goings.{none_there}
 use Rattle.authenticator.specs.Laws.{IsSound}
 use Rattle.authenticator.specs.Steps.{Entry, Keys, assertion}
 use Rattle.agreement.specs.World.{Abandons, Asks, AtSite, Begins, Done, Effect, End, Event, Happens, Moment, Registers, RegistersBy, Restarts, Retires, SignsIn, SignsInBy, SiteEvent, World}
-use Rattle.agreement.specs.Agreement.{Agrees, Answers, Brings, BringsTo, DifferInSession, IsAccepted, IsFresh, IsIdeal, RestsOnce, ShareNone, message_of, session_in}
+use Rattle.agreement.specs.Agreement.{Agrees, Answers, Brings, BringsTo, DifferInSession, Fits, IsAccepted, IsFresh, IsIdeal, RestsOnce, ShareNone, message_of, session_in}
 use Rattle.agreement.specs.Below.{Below}
 use Rattle.agreement.proofs.Sites.{SignedIn, signs_in, takes}
 use Rattle.agreement.proofs.Worlds.{Lived, Since}
@@ -34,12 +34,28 @@ none_if : (o : Option AttestedCredential) → is_some o ≡ false → o ≡ None
 none_if None e = refl
 none_if (Some c) e = let bad : true ≡ false = e in absurd cc
 
-the_one : {X : Type 0} (o : Option X) → IsSome o → (x : X) × (o ≡ Some x)
+pub the_one : {X : Type 0} (o : Option X) → IsSome o → (x : X) × (o ≡ Some x)
 the_one None h = let bad : false ≡ true = h in absurd cc
 the_one (Some x) h = (x, refl)
 
 clash : (a b after now low : ℕ) → 1 ≤ a → a ≡ b → after ≡ a → after ≤ now → now ≡ low → ((low ≡ 0) × (b ≡ 0)) ⊎ (low < b) → ⊥
 clash a b after now low one ab fa le nl = elim [ inl (x, y) ↦ omega arith | inr lt ↦ omega arith ]
+
+-- who is named, by the session or by the response
+record Users (by_session by_response : Option (List ℕ)) (user : List ℕ) : Type 0 where
+  pub named : (u : List ℕ) → by_session ≡ Some u → u ≡ user
+  pub shown : (u : List ℕ) → by_response ≡ Some u → u ≡ user
+  pub someone : by_session ≡ None → by_response ≢ None
+
+not_named : (u : List ℕ) → None ≡ Some u → ⊥
+not_named u e = absurd cc
+
+users : (a b : Option (List ℕ)) (user : List ℕ) → AreUser a b user → Users a b user
+users None None user h = absurd h
+users (Some x) None user h = record { named = λ u e. sym (same_Some x u e) ∙ h; shown = λ u e. absurd (not_named u e); someone = λ e. absurd (not_named x (sym e)) }
+users None (Some y) user h = record { named = λ u e. absurd (not_named u e); shown = λ u e. sym (same_Some y u e) ∙ h; someone = λ e f. not_named y (sym f) }
+users (Some x) (Some y) user h =
+    record { named = λ u e. sym (same_Some x u e) ∙ h.0; shown = λ u e. sym (same_Some y u e) ∙ h.1; someone = λ e. absurd (not_named x (sym e)) }
 
 module _ (valid : Validity) (public : Keys) (b : Below valid public) where
   -- what happened at it
@@ -109,13 +125,30 @@ module _ (valid : Validity) (public : Keys) (b : Below valid public) where
       let e = the_one (sign_in_at n (m.old.site i).sessions) passes.0 in
       let x = the_one (seen_of r.client_data) passes.1.1.1.1.0 in
       record {
-        seen = x.0;
-        reads = x.1;
-        kind = passes.1.1.1.1.1.0 x.0 x.1;
         expected = e.0;
         session = e.1;
-        challenge = passes.1.1.1.1.1.1.0 e.0 e.1 x.0 x.1;
-        origin = passes.1.1.1.1.1.1.1.0 x.0 x.1;
+        says = record {
+          seen = x.0;
+          reads = x.1;
+          kind_is = passes.1.1.1.1.1.0 x.0 x.1;
+          challenge_is = passes.1.1.1.1.1.1.0 e.0 e.1 x.0 x.1;
+          origin = passes.1.1.1.1.1.1.1.0 x.0 x.1;
+        };
+      }
+
+  pub fits : (m : Moment) → Lived valid public b m → Fits m
+  fits m l i n r row acc =
+      let a = accepted m i n r row l acc in
+      let e = the_one (sign_in_at n (m.old.site i).sessions) a.passes.0 in
+      let u = users e.0.user r.user row.user (a.passes.1.1.1.0 e.0 e.1 row acc.tries.found) in
+      record {
+        fresh = fresh m i n r a.passes;
+        expected = e.0;
+        session = e.1;
+        listed = a.passes.1.0 e.0 e.1;
+        named = u.named;
+        shown = u.shown;
+        someone = u.someone;
       }
 
   sound_at : (m : Moment) (k : ℕ) (e : Entry) → Lived valid public b m → Contains (m.old.holder k).signed e → IsSound e

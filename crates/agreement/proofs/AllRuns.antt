@@ -3,16 +3,22 @@ use Rattle.std.proofs.lemmas.List.Elements.{All-from_recursion, recursion_from_A
 use Rattle.cose.specs.Schemes.{Validity}
 use Rattle.authenticator.specs.Steps.{Keys}
 use Rattle.authenticator.proofs.Stored.{each_weaker}
-use Rattle.agreement.specs.Agreement.{Agrees, DifferInSession, IsIdeal, OfAllRuns, RestsOnce, Retiring, ShareNone, StaysRetired}
+use Rattle.agreement.specs.Agreement.{Agrees, DifferInSession, Fits, IsIdeal, OfAllRuns, Registered, RestsOnce, Retiring, ShareNone, StaysRetired}
 use Rattle.agreement.specs.Below.{Below}
 use Rattle.agreement.proofs.Worlds.{Since, at_start, each_both, pairs, since, starts}
-use Rattle.agreement.proofs.Accepted.{agrees, differ, rests_once, share_none}
+use Rattle.agreement.proofs.Accepted.{agrees, differ, fits, rests_once, share_none}
+use Rattle.agreement.proofs.Registered.{fits_registration}
 use Rattle.agreement.proofs.Retired.{retiring, stays_retired}
 
 pub of_all_runs : (valid : Validity) (public : Keys) → Below valid public → OfAllRuns valid public
 of_all_runs valid public b w run start is ideal =
     let sound = starts valid public b w start in
     record {
+      registered = All-from_recursion (Registered valid) run
+          (each_weaker (Since valid public b w) (Registered valid) (λ m s. fits_registration valid public b m s.lived) run
+          (since valid public b w w run sound (at_start valid public b w) is));
+      fits = All-from_recursion Fits run
+          (each_weaker (Since valid public b w) Fits (λ m s. fits valid public b m s.lived) run (since valid public b w w run sound (at_start valid public b w) is));
       agrees = All-from_recursion Agrees run
           (each_both valid public b (Since valid public b w) (IsIdeal valid) Agrees (λ m s k. agrees valid public b m s.lived k) run
           (since valid public b w w run sound (at_start valid public b w) is) (recursion_from_All (IsIdeal valid) run ideal));

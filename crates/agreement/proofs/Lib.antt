@@ -13,5 +13,6 @@ pub mod Worlds
 pub mod Ledger
 pub mod Accepted
 pub mod Retired
+pub mod Registered
 pub mod AllRuns
 pub mod Lived

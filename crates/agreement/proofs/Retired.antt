@@ -20,7 +20,7 @@ one_last : (xs : List Credential) (a c : Credential) → xs ++ a ∷ [] ≡ xs +
 one_last xs a c e = let same : a ∷ [] ≡ c ∷ [] = append_cancel_left xs (a ∷ []) (c ∷ []) e in cc
 
 module _ (valid : Validity) (public : Keys) (b : Below valid public) where
-  effect_at : (m : Moment) (e : Event) → Lived valid public b m → m.event ≡ e → m.end ≡ Done → Effect valid public m.old e m.new
+  pub effect_at : (m : Moment) (e : Event) → Lived valid public b m → m.event ≡ e → m.end ≡ Done → Effect valid public m.old e m.new
   effect_at m e l is done =
       subst (λ (x : Event). Effect valid public m.old x m.new) is (subst (λ (x : End). Happens valid public m.old m.event x m.new) done l.happens)
 

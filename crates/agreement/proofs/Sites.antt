@@ -23,7 +23,7 @@ use Rattle.ceremony.specs.Verdict.{Delivers}
 use Rattle.ceremony.proofs.OneVerdict.{registration_one, sign_in_one}
 use Rattle.authenticator.specs.Steps.{Keys}
 use Rattle.agreement.specs.World.{Abandons, Acts, Begins, Loads, Registers, RegistersBy, Restarts, Retires, SignsIn, SignsInBy, SiteEvent, words_of}
-use Rattle.agreement.specs.Agreement.{BringsTo, Carried, IsRegistration, session_in}
+use Rattle.agreement.specs.Agreement.{BringsNewTo, BringsTo, Carried, CarriedNew, IsRegistration, session_in}
 use Rattle.agreement.specs.Below.{Below}
 
 -- ---- challenges are bytes
@@ -108,6 +108,33 @@ module _ (valid : Validity) (public : Keys) (b : Below valid public) where
         registering.response reply d,
         record { passes = succeeds.3; after = subst (λ (z : Creation). IsAfterRegistration s n (registering.response z d) t) one after.5 },
       )
+
+  -- with whatever response they carry
+  registered_with : (s t : State) (n c : ℕ) (ps : List Packet) (d : List ℕ) (r : responses.Registration) → Acts valid s (RegistersBy n c ps d) t → CarriedNew c ps d r → Registered s n r t
+  registered_with s t n c ps d r acts carried =
+      let used = acts.0.0 in
+      let reply = acts.0.1 in
+      let succeeds = acts.0.2 in
+      let after = acts.1 in
+      let one : reply ≡ carried.2 = same_creation s n c used carried.0 ps d succeeds.0 carried.1 reply carried.2 succeeds.1 succeeds.2 carried.3 carried.4 in
+      let two : after.2 ≡ carried.2 = same_creation s n c after.0 carried.0 ps d after.1 carried.1 after.2 carried.2 after.3 after.4 carried.3 carried.4 in
+      let response : (x : Creation) → x ≡ carried.2 → registering.response x d ≡ r = λ x same. ap (λ z. registering.response z d) same ∙ sym carried.5 in
+      record {
+        passes = subst (λ (z : responses.Registration). registration.PassesAll valid (enrolment_in s n z)) (response reply one) succeeds.3;
+        after = subst (λ (z : responses.Registration). IsAfterRegistration s n z t) (response after.2 two) after.5;
+      }
+
+  -- an accepted registration with the response that the event brings
+  pub enrols : (s t : State) (e : SiteEvent) (n : ℕ) (r : responses.Registration) → Acts valid s e t → BringsNewTo e n r → Registered s n r t
+  enrols s t (Registers k q) n r acts brings =
+      subst (λ (j : ℕ). Registered s j r t) brings.0 (subst (λ (z : responses.Registration). Registered s k z t) brings.1 (record { passes = acts.0; after = acts.1 }))
+  enrols s t (RegistersBy k c ps d) n r acts brings = subst (λ (j : ℕ). Registered s j r t) brings.0 (registered_with s t k c ps d r acts brings.1)
+  enrols s t (Begins o) n r acts brings = absurd brings
+  enrols s t (Abandons k) n r acts brings = absurd brings
+  enrols s t (Retires id) n r acts brings = absurd brings
+  enrols s t (SignsIn k q) n r acts brings = absurd brings
+  enrols s t (SignsInBy k c ps d) n r acts brings = absurd brings
+  enrols s t Restarts n r acts brings = absurd brings
 
   carried_there : (s t : State) (n c : ℕ) (ps : List Packet) (d : List ℕ) → Acts valid s (SignsInBy n c ps d) t → (r : responses.Assertion) × Carried c ps d r
   carried_there s t n c ps d acts =

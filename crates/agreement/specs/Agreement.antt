@@ -1,23 +1,30 @@
 -- No sign-in without a fresh assertion: what holds of each run, if signatures can't be forged.
-use Rattle.std.specs.Prelude.{◌≡◌, ◌≢◌, ◌⊎◌, ℕ, List, [], ◌∷◌, ◌++◌, Option, Some, None, true, codes, Contains}
+use Rattle.std.specs.Prelude.{◌≡◌, ◌≢◌, ◌⊎◌, ℕ, List, [], ◌∷◌, ◌++◌, Option, Some, None, true, false, codes, Contains}
 use Rattle.std.specs.List.{All, AllPairs}
 use Rattle.sha2.specs.Sha256.{sha256}
 use Rattle.hidframe.specs.declared.Packet.{Packet}
 use Rattle.clientdata.specs.Reading.{seen_of}
 use Rattle.clientdata.specs.Serialised.{challenge_text_of}
 use Rattle.clientdata.specs.declared.seen.Seen.{Seen}
+use Rattle.cose.specs.Keys.{alg_of}
 use Rattle.cose.specs.Schemes.{Validity}
 use Rattle.cose.specs.declared.key.CoseKey.{CoseKey}
-use Rattle.authdata.specs.Layout.{AuthenticatorData, AuthOf}
+use Rattle.authdata.specs.Flags.{is_set, UP, UV}
+use Rattle.authdata.specs.Layout.{AttestedCredential, AuthenticatorData, AuthOf}
+use Rattle.authdata.specs.Objects.{Attestation}
+use Rattle.authdata.specs.Responses as responses
 use Rattle.authdata.specs.Responses.{Assertion}
+use Rattle.authdata.specs.Statements.{IsNone, IsSelfSigned}
 use Rattle.ctapmsg.specs.Replies as replies
-use Rattle.ctapmsg.specs.Replies.{ReplyOf, assertion_reply}
-use Rattle.verification.specs.Records.{Credential, SignIn}
+use Rattle.ctapmsg.specs.Replies.{ReplyOf, assertion_reply, creation_reply}
+use Rattle.verification.specs.Records.{Credential, Registration, SignIn}
+use Rattle.verification.specs.Registration.{Attests}
 use Rattle.credentials.specs.Table.{row_of}
-use Rattle.sessions.specs.Sessions.{sign_in_at}
+use Rattle.sessions.specs.Sessions.{registration_at, sign_in_at}
 use Rattle.site.specs.State.{State}
 use Rattle.authenticator.specs.Steps.{Entry, Keys, assertion}
 use Rattle.client.specs.Responses.{response_of}
+use Rattle.ceremony.specs.Registration as registering
 use Rattle.ceremony.specs.Verdict.{Delivers}
 use Rattle.agreement.specs.World.{AtSite, Asks, Done, Event, IsRun, IsStart, Moment, Registers, RegistersBy, Retires, SignsIn, SignsInBy, SiteEvent, World}
 
@@ -46,6 +53,26 @@ pub record Tries (m : Moment) (i n : ℕ) (r : Assertion) (row : Credential) : T
 -- it is accepted
 pub record IsAccepted (m : Moment) (i n : ℕ) (r : Assertion) (row : Credential) : Type 0 where
   pub tries : Tries m i n r row
+  pub done : m.end ≡ Done
+
+-- ---- registrations
+
+-- the packets carry a reply that makes this response with the client data
+abbrev pub CarriedNew : ℕ → List Packet → List ℕ → responses.Registration → Type 0
+CarriedNew c ps t r =
+    (n : ℕ) × (m : List ℕ) × (a : replies.Creation) × Delivers c ps n m × ReplyOf (creation_reply a) m × (r ≡ registering.response a t)
+
+-- the event brings this response to the session
+abbrev pub BringsNewTo : SiteEvent → ℕ → responses.Registration → Type 0
+BringsNewTo (Registers k s) n r = (k ≡ n) × (s ≡ r)
+BringsNewTo (RegistersBy k c ps t) n r = (k ≡ n) × CarriedNew c ps t r
+BringsNewTo e n r = ⊥
+
+-- to that of site i, where it is accepted
+pub record IsRegistered (m : Moment) (i n : ℕ) (r : responses.Registration) : Type 0 where
+  pub event : SiteEvent
+  pub here : m.event ≡ AtSite i event
+  pub brings : BringsNewTo event n r
   pub done : m.end ≡ Done
 
 -- ---- signings
@@ -82,16 +109,64 @@ pub record RestsOn (m : Moment) (r : Assertion) (row : Credential) (e : Entry) :
 
 -- ---- what holds
 
+-- client data of this type and challenge, from a page that is one of the site's
+pub record SaysFor (s : State) (kind challenge client_data : List ℕ) : Type 0 where
+  pub seen : Seen
+  pub reads : seen_of client_data ≡ Some seen
+  pub kind_is : seen.kind ≡ kind
+  pub challenge_is : seen.challenge ≡ challenge_text_of challenge
+  pub origin : Contains s.rp.origins seen.origin
+
 -- the client data were made for this sign-in: their type is get, their challenge is the one that the answered session
 -- gave out, and the page is one of the site's (WebAuthn Level 2, section 7.2, steps 11 to 13)
 pub record IsFresh (m : Moment) (i n : ℕ) (client_data : List ℕ) : Type 0 where
-  pub seen : Seen
-  pub reads : seen_of client_data ≡ Some seen
-  pub kind : seen.kind ≡ codes "webauthn.get"
   pub expected : SignIn
   pub session : sign_in_at n (m.old.site i).sessions ≡ Some expected
-  pub challenge : seen.challenge ≡ challenge_text_of expected.challenge
-  pub origin : Contains (m.old.site i).rp.origins seen.origin
+  pub says : SaysFor (m.old.site i) (codes "webauthn.get") expected.challenge client_data
+
+-- a sign-in that is accepted answers its session: the client data are fresh; the credential is one that the session lists, where it lists
+-- any; whoever the session or the response names is the credential's user, and one of them names him (steps 5 to 7)
+pub record FitsSession (m : Moment) (i n : ℕ) (r : Assertion) (row : Credential) : Type 0 where
+  pub fresh : IsFresh m i n r.client_data
+  pub expected : SignIn
+  pub session : sign_in_at n (m.old.site i).sessions ≡ Some expected
+  pub listed : (expected.allow ≡ []) ⊎ Contains expected.allow r.credential
+  pub named : (user : List ℕ) → expected.user ≡ Some user → user ≡ row.user
+  pub shown : (user : List ℕ) → r.user ≡ Some user → user ≡ row.user
+  pub someone : expected.user ≡ None → r.user ≢ None
+
+-- so it is whether or not the credential's key was made
+abbrev pub Fits : Moment → Type 0
+Fits m = (i n : ℕ) (r : Assertion) (row : Credential) → IsAccepted m i n r row → FitsSession m i n r row
+
+-- a registration that is accepted answers its session (section 7.1): its client data are of type create, with the session's
+-- challenge, from a page that is one of the site's; the authenticator data are for the site's rp id, with the user present, and
+-- verified if the session requires it; the key is of an algorithm that was offered, and its statement shows no attestation, or
+-- is signed with it over these client data; the id was not registered, and is from then on, with the session's user, the key
+-- and the counter that came
+pub record FitsRegistration (valid : Validity) (m : Moment) (i n : ℕ) (r : responses.Registration) : Type 0 where
+  pub expected : Registration
+  pub session : registration_at n (m.old.site i).sessions ≡ Some expected
+  pub says : SaysFor (m.old.site i) (codes "webauthn.create") expected.challenge r.client_data
+  pub object : Attestation
+  pub auth : AuthenticatorData
+  pub credential : AttestedCredential
+  pub attests : Attests r object auth credential
+  pub rp_id : auth.rp_id_hash ≡ sha256 (m.old.site i).rp.rp_id
+  pub present : is_set auth.flags UP ≡ true
+  pub verified : expected.verified ≡ true → is_set auth.flags UV ≡ true
+  pub offered : Contains expected.algorithms (alg_of credential.key)
+  pub statement : IsNone object ⊎ IsSelfSigned valid object credential.key (sha256 r.client_data)
+  pub new : row_of credential.id (m.old.site i).rows ≡ None
+  pub row : Credential
+  pub stored : row_of credential.id (m.new.site i).rows ≡ Some row
+  pub user : row.user ≡ expected.user
+  pub key : row.key ≡ credential.key
+  pub sign_count : row.sign_count ≡ auth.sign_count
+  pub not_retired : row.retired ≡ false
+
+abbrev pub Registered : Validity → Moment → Type 0
+Registered valid m = (i n : ℕ) (r : responses.Registration) → IsRegistered m i n r → FitsRegistration valid m i n r
 
 -- the entry signed the hash of the site's rp id, the counter that is stored from then on, and the hash of just these
 -- client data, which are fresh
@@ -182,7 +257,9 @@ abbrev pub StaysRetired : Moment → Moment → Type 0
 StaysRetired m l =
     (i : ℕ) (id : List ℕ) → IsRetired (m.old.site i) id ⊎ IsRetired (m.new.site i) id → IsRetired (l.old.site i) id × IsRefused l i id
 
-pub record Agreement (run : List Moment) : Type 0 where
+pub record Agreement (valid : Validity) (run : List Moment) : Type 0 where
+  pub registered : All (Registered valid) run
+  pub fits : All Fits run
   pub agrees : All Agrees run
   pub share_none : AllPairs ShareNone run
   pub rests_once : AllPairs RestsOnce run
@@ -192,4 +269,4 @@ pub record Agreement (run : List Moment) : Type 0 where
 
 -- It is so whatever the scheme calls valid, and whichever key is a secret's.
 abbrev pub OfAllRuns : Validity → Keys → Type 0
-OfAllRuns valid public = (w : World) (run : List Moment) → IsStart w → IsRun valid public w run → All (IsIdeal valid) run → Agreement run
+OfAllRuns valid public = (w : World) (run : List Moment) → IsStart w → IsRun valid public w run → All (IsIdeal valid) run → Agreement valid run

@@ -1,5 +1,5 @@
--- Sites and authenticators, any number of each, and all that may happen to them: the packets, the client data, the
--- requests and the saved tables are whatever an adversary makes of them.
+-- Sites and authenticators, any number of each, and all that may happen to them: the packets, the client data and the
+-- requests are whatever an adversary makes of them. A site that begins again loads what it has saved.
 use Rattle.std.specs.Prelude.{◌≡◌, ◌≢◌, ◌<◌, ◌-◌, ◌^◌, ℕ, Bool, List, [], ◌∷◌, ◌++◌, length}
 use Rattle.std.specs.FinMap as finite
 use Rattle.base64.specs.GeneralPurpose.{IsBytes}

@@ -28,8 +28,9 @@ fn below<V: Verifier>()
 }
 
 /// No sign-in is accepted without a fresh assertion by an authenticator, in each run in which signatures can't be forged:
-/// whatever packets, client data, requests and tables an adversary makes, of any number of sites and authenticators. It is so
-/// for each verifier, and for each function from secrets to keys.
+/// whatever packets, client data and requests an adversary makes, of any number of sites and authenticators. And in each run,
+/// whether or not signatures can be forged, what an authenticator has signed and which keys it has made is accounted for by
+/// the requests to it. It is so for each verifier, and for each function from secrets to keys.
 pub fn of_all_runs<V: Verifier>()
     ensures agreement { (verifier : V) (public : Keys) → OfAllRuns (V.valid verifier) public }
     ensures ledger { (verifier : V) (public : Keys) → LedgerOfAllRuns (V.valid verifier) public }
@@ -40,7 +41,8 @@ pub fn of_all_runs<V: Verifier>()
 /// Where site, client, device and authenticator do what they are asked, and the user consents, the packets are accepted:
 /// of a registration, after which the credential is stored and registered with counter 0; of each sign-in with a
 /// credential that is at both ends, after which its counter is one higher at both; and so of a registration and then a
-/// sign-in, whose counters are 0 and 1. It is so for each scheme that keeps the law of its signer.
+/// sign-in, whose counters are 0 and 1. Such a run is a run of a world in which signatures are not forged, so that the law
+/// over all runs speaks of it. It is so for each scheme that keeps the law of its signer.
 pub fn agreement<S: Signer>()
     ensures registers { (scheme : S) (x : Registering) → IsIdleOn x.channel x.before
         → IsHonestRegistration (S.valid scheme) (S.public_of scheme) x → Registers (S.valid scheme) (S.public_of scheme) x }

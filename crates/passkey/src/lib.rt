@@ -7,7 +7,7 @@ mod program;
 mod replay;
 mod script;
 
-pub use agreement::agreement;
+pub use agreement::{agreement, of_all_runs};
 pub use ceremony::{
     Accepted, Act, Enrolled, Error, Fed, Live, ServeError, one_verdict, register, serve, sign_in,
 };

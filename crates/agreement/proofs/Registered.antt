@@ -1,0 +1,57 @@
+-- An accepted registration of a run answers its session.
+use Rattle.std.proofs.Common.{◌≡◌, ℕ, List, [], ◌∷◌, ◌++◌, Some, None, refl, ◌∙◌, ap}
+use Rattle.clientdata.specs.Reading.{seen_of}
+use Rattle.cose.specs.Schemes.{Validity}
+use Rattle.authdata.specs.Responses as responses
+use Rattle.credentials.specs.Table.{row_of}
+use Rattle.site.specs.State.{State, registered}
+use Rattle.authenticator.specs.Steps.{Keys}
+use Rattle.agreement.specs.World.{AtSite, Moment}
+use Rattle.agreement.specs.Agreement.{FitsRegistration, IsRegistered, Registered}
+use Rattle.agreement.specs.Below.{Below}
+use Rattle.agreement.proofs.Sites.{enrols}
+use Rattle.agreement.proofs.Storing.{row_last}
+use Rattle.agreement.proofs.Worlds.{Lived}
+use Rattle.agreement.proofs.Accepted.{the_one}
+use Rattle.agreement.proofs.Retired.{effect_at}
+
+module _ (valid : Validity) (public : Keys) (b : Below valid public) where
+  pub fits_registration : (m : Moment) → Lived valid public b m → Registered valid m
+  fits_registration m l i n r is =
+      let effect = effect_at valid public b m (AtSite i is.event) l is.here is.done in
+      let old = m.old.site i in
+      let x = enrols valid public b old effect.0 is.event n r effect.1 is.brings in
+      let after = x.after in
+      let e = after.0 in
+      let a = after.2 in
+      let c = after.3 in
+      let seen = the_one (seen_of r.client_data) x.passes.1.0 in
+      let absent = b.sites.registered_refused old n r x.passes after.1 a c after.5 in
+      let rows : (m.new.site i).rows ≡ old.rows ++ registered e a c ∷ [] = ap (λ (s : State). s.rows) (effect.2.now ∙ after.6) in
+      record {
+        expected = e;
+        session = after.4;
+        says = record {
+          seen = seen.0;
+          reads = seen.1;
+          kind_is = x.passes.1.1.0 seen.0 seen.1;
+          challenge_is = x.passes.1.1.1.0 e after.4 seen.0 seen.1;
+          origin = x.passes.1.1.1.1.0 seen.0 seen.1;
+        };
+        object = after.1;
+        auth = a;
+        credential = c;
+        attests = after.5;
+        rp_id = x.passes.1.1.1.1.1.1.1.0 after.1 a c after.5;
+        present = x.passes.1.1.1.1.1.1.1.1.0 after.1 a c after.5;
+        verified = x.passes.1.1.1.1.1.1.1.1.1.0 e after.4 after.1 a c after.5;
+        offered = x.passes.1.1.1.1.1.1.1.1.1.1.0 e after.4 after.1 a c after.5;
+        statement = x.passes.1.1.1.1.1.1.1.1.1.1.1.1.0 after.1 a c after.5;
+        new = absent;
+        row = registered e a c;
+        stored = ap (row_of c.id) rows ∙ row_last old.rows (registered e a c) absent;
+        user = refl;
+        key = refl;
+        sign_count = refl;
+        not_retired = refl;
+      }
