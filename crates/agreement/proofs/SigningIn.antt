@@ -62,6 +62,7 @@ module _ (readings : Readings) (valid : Relation) (x : Attempt) (e : expects.Sig
     pub is_open : x.session ≡ Some e
     pub registered : x.credential ≡ Some c
     pub allowed : (e.allow ≡ []) ⊎ Contains e.allow x.response.credential
+    pub same_id : c.id ≡ x.response.credential
     pub not_retired : c.retired ≡ false
     pub user : AreUser e.user x.response.user c.user
     pub says : Each (Says Get e.challenge x.rp x.response.client_data) lines
@@ -77,7 +78,7 @@ module _ (readings : Readings) (valid : Relation) (x : Attempt) (e : expects.Sig
   passed : Signs → (w : SignInRefusal) → Passes valid x w
   passed h step.SessionNotOpen = rw h.is_open refl
   passed h step.CredentialNotAllowed = of_some _ x.session e h.is_open h.allowed
-  passed h step.UnknownCredential = (rw h.registered refl, of_some _ x.credential c h.registered h.not_retired)
+  passed h step.UnknownCredential = (rw h.registered refl, of_some _ x.credential c h.registered (h.same_id, h.not_retired))
   passed h step.OtherUser = of_some _ x.session e h.is_open (of_some _ x.credential c h.registered h.user)
   passed h step.UnreadableClientData = h.says.0
   passed h step.WrongType = h.says.1.0
@@ -224,6 +225,7 @@ module _ (valid : Validity) (public : Keys) (b : Below valid public) (x : Signin
     is_open = h.is_open;
     registered = found;
     allowed = is_allowed c a x.expected r.credential id_is asked_for;
+    same_id = sym id_is;
     not_retired = refl;
     user = subst (λ (o : Option (List ℕ)). AreUser x.expected.user o c.user) (sym user_is) (user_named c a x.expected asked_for);
     says =

@@ -15,7 +15,7 @@ use Rattle.verification.specs.declared.refusal.SignInRefusal.{SignInRefusal}
 use Rattle.verification.specs.declared.refusal.SignInRefusal.TheVariants as step
 
 -- a sign-in as it is judged: the relying party; what the session expects, where one is open for sign-in; the
--- credential of the response's id, where one is registered; and the response
+-- credential that was found for it, where one was; and the response
 pub record Attempt : Type 0 where
   pub rp : RelyingParty
   pub session : Option SignIn
@@ -39,8 +39,8 @@ abbrev pub Passes : Relation → Attempt → SignInRefusal → Type 0
 Passes valid x step.SessionNotOpen = IsSome x.session
 -- the credential is listed, where there is a list
 Passes valid x step.CredentialNotAllowed = ForSome x.session (λ e. (e.allow ≡ []) ⊎ Contains e.allow x.response.credential)
--- the credential is registered and not retired
-Passes valid x step.UnknownCredential = IsSome x.credential × ForSome x.credential (λ c. c.retired ≡ false)
+-- the credential is registered, under the response's id, and not retired
+Passes valid x step.UnknownCredential = IsSome x.credential × ForSome x.credential (λ c. (c.id ≡ x.response.credential) × (c.retired ≡ false))
 -- each user that is named is the credential's
 Passes valid x step.OtherUser = ForSome x.session (λ e. ForSome x.credential (λ c. AreUser e.user x.response.user c.user))
 -- the client data can be read
