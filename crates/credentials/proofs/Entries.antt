@@ -82,3 +82,9 @@ pub beyond : (es : List Entry) (i : ℕ) (row : Credential) → slice_get (value
 beyond [] i row none is = absurd cc
 beyond (x ∷ es) zero row none is = absurd cc
 beyond (x ∷ es) (suc i) row none is = beyond es i row none is
+
+-- where there is a value there is a credential
+pub within : (es : List Entry) (i : ℕ) (v : Kept) → slice_get (values_of es) i ≡ Some v → slice_get (map entry_view es) i ≡ None → ⊥
+within [] i v is none = absurd cc
+within (x ∷ es) zero v is none = absurd cc
+within (x ∷ es) (suc i) v is none = within es i v is none

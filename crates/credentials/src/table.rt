@@ -141,10 +141,12 @@ impl Table {
         self.rows.contains_key(id)
     }
 
-    /// Stores what a sign-in brought, in the credential at a place, which `find` found.
+    /// Stores what a sign-in brought, in the credential at a place, which `find` found. Where no credential is there
+    /// nothing changes.
     pub fn store(&mut self, place: usize, sign_count: u32, eligible: bool)
-        ensures { (row : Credential) → slice_get self.old place ≡ Some row
+        ensures stored { (row : Credential) → slice_get self.old place ≡ Some row
             → self.new ≡ with_row row.id (signed_in sign_count eligible) self.old }
+        ensures unchanged { slice_get self.old place ≡ None → self.new ≡ self.old }
     {
         if let Some(kept) = self.rows.get_index_mut(place) {
             kept.sign_count = sign_count;

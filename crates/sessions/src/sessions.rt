@@ -123,8 +123,9 @@ fn copy_of(alloc: Global, user: Option<&[u8]>) -> Result<Option<Vec<u8>>, AllocE
 }
 
 impl Sessions {
-    /// No open session, and `next` as the number of the next. It takes no memory.
+    /// No open session, and `next` as the number of the next: 1 at first. It takes no memory.
     pub fn new(alloc: Global, next: u64) -> Sessions
+        requires { 1 ≤ next }
         ensures { result ≡ record { expected = finite.empty; next = next } }
     {
         Sessions {

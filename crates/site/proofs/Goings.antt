@@ -199,7 +199,7 @@ judged s t n r parties sessions rows =
 
 retired_refused : (valid : Relation) (s : State) (n : ℕ) (r : Assertion) (row : Credential) → row_of r.credential s.rows ≡ Some row → row.retired ≡ true
     → authentication.PassesAll valid (attempt_in s n r) → ⊥
-retired_refused valid s n r row there is passes = let no : row.retired ≡ false = passes.1.1.0.1 row there in absurd cc
+retired_refused valid s n r row there is passes = let no : row.retired ≡ false = (passes.1.1.0.1 row there).1 in absurd cc
 
 registered_refused : (valid : Relation) (s : State) (n : ℕ) (r : responses.Registration) → registration.PassesAll valid (enrolment_in s n r)
     → registration.Attested r (λ o a c. row_of c.id s.rows ≡ None)

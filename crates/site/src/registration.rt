@@ -65,15 +65,16 @@ impl Site {
                 response: *response,
             },
         )?;
-        verified.admit(self.table.has(&verified.id), self.table.is_full())?;
+        let is_registered = self.table.has(verified.id());
+        let admitted = verified.admit(is_registered, self.table.is_full())?;
         let user = Vec::from_slice(alloc, &expected.unwrap().user)?;
-        let credential = Vec::from_slice(alloc, &verified.id)?;
+        let credential = Vec::from_slice(alloc, &admitted.id)?;
         self.table.push(Row {
-            id: verified.id,
+            id: admitted.id,
             user,
-            key: verified.key,
-            sign_count: verified.sign_count,
-            eligible: Some(verified.eligible),
+            key: admitted.key,
+            sign_count: admitted.sign_count,
+            eligible: Some(admitted.eligible),
             retired: false,
         })?;
         self.sessions.close(session);

@@ -23,7 +23,7 @@ use Rattle.verification.specs.declared.refusal.RegistrationError.{RegistrationEr
 use Rattle.verification.specs.declared.refusal.RegistrationError.TheVariants as errors
 use Rattle.verification.specs.declared.refusal.RegistrationRefusal.{RegistrationRefusal}
 use Rattle.verification.specs.declared.refusal.RegistrationRefusal.TheVariants as step
-use Rattle.verification.specs.declared.registration.VerifiedRegistration.{VerifiedRegistration}
+use Rattle.verification.specs.Records.{NewCredential}
 use Rattle.verification.proofs.Steps.{of_some}
 
 -- ---- what bytes attest
@@ -218,21 +218,21 @@ module _ (valid : Relation) (x : Enrolment) (is_registered : List ℕ → Bool) 
 
 -- ---- the table
 
-module _ (x : Enrolment) (v : VerifiedRegistration) (tells : Tells x v) where
+module _ (x : Enrolment) (v : NewCredential) (tells : Tells x v) where
   -- the table says this of the credential
   abbrev IsSaid : Bool → Attestation → AuthenticatorData → AttestedCredential → Type 0
   IsSaid said q b d = x.is_registered d.id ≡ said
 
-  of_id : (said : Bool) → x.is_registered v.id.items ≡ said → Attested x.response (IsSaid said)
+  of_id : (said : Bool) → x.is_registered v.id ≡ said → Attested x.response (IsSaid said)
   of_id said e =
       let here : x.is_registered tells.2.id ≡ said = subst (λ (id : List ℕ). x.is_registered id ≡ said) tells.4 e in
       of_attested x tells.0 tells.1 tells.2 tells.3 (IsSaid said) here
 
-  pub registered : x.is_registered v.id.items ≡ true → FirstFailing (Passes never x) table_steps step.CredentialRegistered
+  pub registered : x.is_registered v.id ≡ true → FirstFailing (Passes never x) table_steps step.CredentialRegistered
   registered e = first_at 0 refl tt (λ passes. let yes = of_id true e tells.0 tells.1 tells.2 tells.3 in let no_one = passes tells.0 tells.1 tells.2 tells.3 in absurd cc)
 
-  pub full : x.is_registered v.id.items ≡ false → x.is_full ≡ true → FirstFailing (Passes never x) table_steps step.TableFull
+  pub full : x.is_registered v.id ≡ false → x.is_full ≡ true → FirstFailing (Passes never x) table_steps step.TableFull
   full e f = first_at 1 refl (of_id false e, tt) (λ passes. absurd cc)
 
-  pub admitted : x.is_registered v.id.items ≡ false → x.is_full ≡ false → Each (Passes never x) table_steps
+  pub admitted : x.is_registered v.id ≡ false → x.is_full ≡ false → Each (Passes never x) table_steps
   admitted e f = (of_id false e, (f, tt))

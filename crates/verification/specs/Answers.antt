@@ -1,8 +1,11 @@
 -- What a judgement answers.
 use Rattle.std.specs.Prelude.{◌≡◌, List}
+use Rattle.std.specs.Option.{ForSome}
 use Rattle.first_line.specs.Lines.{Each, FirstFailing}
 use Rattle.authdata.specs.Flags.{is_set, BE, BS}
 use Rattle.authdata.specs.Layout.{AuthenticatorData, AuthOf}
+use Rattle.clientdata.specs.declared.record.CeremonyType.TheVariants.{Get}
+use Rattle.verification.specs.ClientData.{IsSerialised}
 use Rattle.verification.specs.Shared.{Relation}
 use Rattle.verification.specs.Authentication.{Attempt, Passes, IsFirstFailing, credential_steps}
 use Rattle.verification.specs.declared.assertion.VerifiedAssertion.{VerifiedAssertion}
@@ -24,6 +27,10 @@ Tells x v =
 abbrev pub IsRefused : Relation → Attempt → SignInError → Type 0
 IsRefused valid x (errors.Refused w) = IsFirstFailing valid x w
 IsRefused valid x errors.Memory = Each (Passes valid x) credential_steps
+
+-- the client data are the serialised text (section 5.8.1.1) of the session's challenge for one of the origins
+abbrev pub IsExpected : Attempt → Type 0
+IsExpected x = ForSome x.session (λ e. IsSerialised Get e.challenge x.rp x.response.client_data)
 
 -- of these steps the first that fails is named; want of memory says nothing
 abbrev pub FailsIn : Relation → Attempt → List SignInRefusal → SignInError → Type 0

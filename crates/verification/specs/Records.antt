@@ -18,6 +18,14 @@ pub record Credential : Type 0 where
   pub eligible : Option Bool
   pub retired : Bool
 
+-- the credential that a registration brings: its id, the public key, the signature counter that came, and whether
+-- it is eligible for backup
+pub record NewCredential : Type 0 where
+  pub id : List ℕ
+  pub key : CoseKey
+  pub sign_count : ℕ
+  pub eligible : Bool
+
 -- what a sign-in expects: a user, where one is named; the credentials that may answer, where there are any
 -- listed; whether the user is to be verified; and the challenge
 pub record SignIn : Type 0 where

@@ -9,6 +9,7 @@ use Rattle.authdata.specs.declared.statement.AttestationType.{AttestationType}
 use Rattle.authdata.specs.declared.statement.AttestationType.TheVariants as types
 use Rattle.cose.specs.declared.key.CoseKey.{CoseKey}
 use Rattle.verification.specs.declared.party.Policy.{Policy}
+use Rattle.verification.specs.Records.{NewCredential}
 use Rattle.verification.specs.Shared.{Relation}
 use Rattle.verification.specs.Registration.{Attests, Enrolment, IsFirstFailing, Passes}
 use Rattle.verification.specs.declared.client_data.ClientDataLine.{ClientDataLine}
@@ -17,13 +18,12 @@ use Rattle.verification.specs.declared.refusal.RegistrationError.{RegistrationEr
 use Rattle.verification.specs.declared.refusal.RegistrationError.TheVariants as errors
 use Rattle.verification.specs.declared.refusal.RegistrationRefusal.{RegistrationRefusal}
 use Rattle.verification.specs.declared.refusal.RegistrationRefusal.TheVariants as step
-use Rattle.verification.specs.declared.registration.VerifiedRegistration.{VerifiedRegistration}
 
 -- the credential that the response attests, with its counter and the mark of eligibility
-abbrev pub Tells : Enrolment → VerifiedRegistration → Type 0
+abbrev pub Tells : Enrolment → NewCredential → Type 0
 Tells x v =
     (o : Attestation) × (a : AuthenticatorData) × (c : AttestedCredential) × Attests x.response o a c
-    × (v.id.items ≡ c.id) × (v.key ≡ c.key) × (v.sign_count ≡ a.sign_count) × (v.eligible ≡ is_set a.flags BE)
+    × (v.id ≡ c.id) × (v.key ≡ c.key) × (v.sign_count ≡ a.sign_count) × (v.eligible ≡ is_set a.flags BE)
 
 -- the first step that fails is named; want of memory says nothing
 abbrev pub IsRefused : Relation → Enrolment → RegistrationError → Type 0

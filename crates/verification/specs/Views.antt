@@ -3,7 +3,7 @@ use Rattle.std.specs.Prelude.{ℕ, Bool, false, List, map, option_map}
 use Rattle.std.specs.Borrow.{Bor}
 use Rattle.authdata.specs.Responses.{Assertion}
 use Rattle.authdata.specs.Responses as responses
-use Rattle.verification.specs.Records.{Credential, SignIn, Registration}
+use Rattle.verification.specs.Records.{Credential, NewCredential, SignIn, Registration}
 use Rattle.verification.specs.declared.record.CredentialView.{CredentialView}
 use Rattle.verification.specs.declared.record.SignInSession.{SignInSession}
 use Rattle.verification.specs.declared.record.RegistrationSession.{RegistrationSession}
@@ -11,6 +11,7 @@ use Rattle.verification.specs.declared.record.AssertionParts.{AssertionParts}
 use Rattle.verification.specs.declared.record.RegistrationParts.{RegistrationParts}
 use Rattle.verification.specs.declared.assertion.SignInAttempt.{SignInAttempt}
 use Rattle.verification.specs.declared.registration.RegistrationAttempt.{RegistrationAttempt}
+use Rattle.verification.specs.declared.registration.AdmittedCredential.{AdmittedCredential}
 use Rattle.verification.specs.Authentication.{Attempt}
 use Rattle.verification.specs.Registration.{Enrolment}
 
@@ -20,6 +21,9 @@ texts_of texts = map (λ text. text.now) texts
 
 abbrev pub credential_view : CredentialView → Credential
 credential_view c = record { id = c.id.now; user = c.user.now; key = c.key.now; sign_count = c.sign_count; eligible = c.eligible; retired = c.retired }
+
+abbrev pub admitted_view : AdmittedCredential → NewCredential
+admitted_view c = record { id = c.id.items; key = c.key; sign_count = c.sign_count; eligible = c.eligible }
 
 abbrev pub sign_in_view : SignInSession → SignIn
 sign_in_view s = record {

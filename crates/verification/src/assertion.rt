@@ -1,6 +1,6 @@
 //! Judging an authentication assertion (WebAuthn Level 2, section 7.2).
 
-ghost use Rattle.std.specs.Prelude.{◌≡◌, ◌↔◌, ◌⊎◌, ◌++◌, [], Contains, IfErr, IfOk, IfSome, IsTrue, None, OnOk, Some, false, map, option_map, true};
+ghost use Rattle.std.specs.Prelude.{◌≡◌, ◌↔◌, ◌⊎◌, ◌++◌, [], Contains, IfErr, IfOk, IfSome, IsErrOf, IsTrue, None, OnOk, Some, false, map, option_map, true};
 ghost use Rattle.std.specs.Option.{ForSome};
 ghost use Rattle.sha2.specs.Sha256.{sha256};
 ghost use Rattle.first_line.specs.Lines.{Each, FirstFailing};
@@ -8,7 +8,7 @@ ghost use Rattle.authdata.specs.Flags.{is_set, AT, BE};
 ghost use Rattle.authdata.specs.Layout.{AuthOf, AuthenticatorData, lent_auth_view};
 ghost use Rattle.verification.specs.Authentication.{AreUser, IsCounted, Passes, PassesAll};
 ghost use Rattle.verification.specs.Authentication.{credential_steps, client_data_steps, auth_data_steps, signature_steps};
-ghost use Rattle.verification.specs.Answers.{FailsIn, IsRefused, Tells, never, step_of};
+ghost use Rattle.verification.specs.Answers.{FailsIn, IsExpected, IsRefused, Tells, never, step_of};
 ghost use Rattle.verification.specs.Views.{attempt_view, credential_view, sign_in_view};
 
 use crate::client_data::{ClientDataError, ClientDataLine, check_client_data};
@@ -157,6 +157,7 @@ impl<'a> SignInAttempt<'a> {
         requires { (attempt_view self.now).session ≡ Some (sign_in_view session.now) }
         ensures passes { OnOk result (Each (Passes never (attempt_view self.now)) client_data_steps) }
         ensures refused { IfErr result (FailsIn never (attempt_view self.now) client_data_steps) }
+        ensures memory { IsErrOf result SignInError.Memory → IsExpected (attempt_view self.now) → ⊥ }
     {
         match check_client_data(
             alloc,
@@ -222,7 +223,7 @@ impl<'a> SignInAttempt<'a> {
 /// not pass.
 ///
 /// Memory is taken by the reader of the client data alone; want of it is answered only where the first four
-/// steps, on the session and the credential, are passed.
+/// steps, on the session and the credential, are passed, and the client data are not the text that is expected.
 pub fn verify_assertion<V: Verifier>(
     alloc: Global,
     verifier: &V,
@@ -230,6 +231,7 @@ pub fn verify_assertion<V: Verifier>(
 ) -> Result<VerifiedAssertion, SignInError>
     ensures accepted { IfOk result (λ x. PassesAll (V.valid verifier.now) (attempt_view attempt.now) × Tells (attempt_view attempt.now) x) }
     ensures refused { IfErr result (IsRefused (V.valid verifier.now) (attempt_view attempt.now)) }
+    ensures memory { IsErrOf result SignInError.Memory → IsExpected (attempt_view attempt.now) → ⊥ }
 {
     let (session, credential) = attempt.expected()?;
     attempt.check_client_data(alloc, session)?;

@@ -1,8 +1,8 @@
 //! The lines on client data that both ceremonies have (WebAuthn Level 2, section 5.8.1).
 
-ghost use Rattle.std.specs.Prelude.{◌≡◌, IfErr, OnOk};
+ghost use Rattle.std.specs.Prelude.{◌≡◌, IfErr, IsErrOf, OnOk};
 ghost use Rattle.first_line.specs.Lines.{Each};
-ghost use Rattle.verification.specs.ClientData.{Fails, Says, lines};
+ghost use Rattle.verification.specs.ClientData.{Fails, IsSerialised, Says, lines};
 ghost use Rattle.verification.specs.declared.client_data.ClientDataError.TheVariants as errors;
 
 use crate::party::RelyingParty;
@@ -45,6 +45,7 @@ pub(crate) fn check_client_data(
 ) -> Result<(), ClientDataError>
     ensures passes { OnOk result (Each (Says kind challenge.now party.now bytes.now) lines) }
     ensures refused { IfErr result (Fails kind challenge.now party.now bytes.now) }
+    ensures memory { IsErrOf result ClientDataError.Memory → IsSerialised kind challenge.now party.now bytes.now → ⊥ }
 {
     if party.expects(bytes, kind, challenge) {
         return Ok(());

@@ -17,4 +17,6 @@ pub use record::{
     AssertionParts, CredentialView, RegistrationParts, RegistrationSession, SignInSession,
 };
 pub use refusal::{RegistrationError, RegistrationRefusal, SignInError, SignInRefusal};
-pub use registration::{RegistrationAttempt, VerifiedRegistration, verify_registration};
+pub use registration::{
+    AdmittedCredential, RegistrationAttempt, VerifiedRegistration, verify_registration,
+};

@@ -83,7 +83,7 @@ impl RelyingParty {
     /// Whether the bytes are the serialised client data of this ceremony and challenge for one of the origins, which
     /// then need not be read. It takes no memory.
     pub(crate) fn expects(&self, bytes: &[u8], kind: CeremonyType, challenge: &[u8; 32]) -> bool
-        ensures { IsTrue result → IsSerialised kind challenge.now self.now bytes.now }
+        ensures { IsTrue result ↔ IsSerialised kind challenge.now self.now bytes.now }
     {
         for origin in &self.origins {
             if is_serialised(bytes, kind, challenge, origin) {

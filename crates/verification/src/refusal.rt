@@ -18,7 +18,7 @@ pub enum SignInRefusal {
     /// 2: the session lists the credentials that may answer, and this is none of them.
     #[error("the credential is not one that the session allows")]
     CredentialNotAllowed,
-    /// 3: no credential with this id is registered, or it is retired.
+    /// 3: no credential with this id is registered, or it is retired, or the one handed in has another id.
     #[error("no credential with this id is registered")]
     UnknownCredential,
     /// 4: the session or the response names another user than the credential's, or neither names one.

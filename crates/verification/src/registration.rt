@@ -9,7 +9,7 @@ ghost use Rattle.verification.specs.Registration.{Attests, Enrolment, Passes, at
 ghost use Rattle.verification.specs.RegistrationAnswers.{Accepts, AttestsNothing, FailsIn, IsNoData, IsRefused, Shows, ShowsNothing, Tells, step_of};
 ghost use Rattle.verification.specs.Answers.{never};
 ghost use Rattle.verification.specs.Attested.{IsOf, data_of};
-ghost use Rattle.verification.specs.Views.{enrolment_view, judged, registration_view, registration_parts_view};
+ghost use Rattle.verification.specs.Views.{admitted_view, enrolment_view, judged, registration_view, registration_parts_view};
 
 use crate::client_data::{ClientDataError, ClientDataLine, check_client_data};
 use crate::flag::is_verified_as;
@@ -22,6 +22,7 @@ use authdata::{
 use clientdata::{CeremonyType, hash};
 use cose::{Alg, CoseKey, Verifier};
 use std::alloc::Global;
+use std::marker::Model;
 
 /// A registration to be judged.
 #[derive(Clone, Copy, Drop)]
@@ -36,9 +37,9 @@ pub struct RegistrationAttempt<'a> {
     pub response: RegistrationParts<'a>,
 }
 
-/// The credential of a registration that passes each step on the response.
+/// A credential that may be stored: its registration passes each step.
 #[derive(Debug, Drop)]
-pub struct VerifiedRegistration {
+pub struct AdmittedCredential {
     /// The credential id: 1 to 64 bytes.
     pub id: Vec<u8>,
     /// The public key.
@@ -47,6 +48,23 @@ pub struct VerifiedRegistration {
     pub sign_count: u32,
     /// Whether the credential is eligible for backup (BE).
     pub eligible: bool,
+}
+
+/// A registration that passes each step on the response. Its credential is given by `admit` alone, since the steps
+/// on the table are left.
+#[must_use]
+#[derive(Debug, Drop)]
+pub struct VerifiedRegistration {
+    credential: AdmittedCredential,
+}
+
+impl Model for VerifiedRegistration {
+    ghost use Rattle.verification.specs.Records.{NewCredential};
+    ghost use Rattle.verification.specs.Views.{admitted_view};
+
+    ghost Value = { NewCredential };
+
+    ghost view = { λ v. admitted_view v.credential };
 }
 
 /// What a response attests: the object, its authenticator data, and the credential in them.
@@ -259,16 +277,18 @@ fn verified(found: Attestation) -> VerifiedRegistration
     } = found;
     let Attested { aaguid: _, id, key } = credential;
     VerifiedRegistration {
-        id,
-        key,
-        sign_count,
-        eligible: flags::is_set(flags, flags::BE),
+        credential: AdmittedCredential {
+            id,
+            key,
+            sign_count,
+            eligible: flags::is_set(flags, flags::BE),
+        },
     }
 }
 
-/// Judges a registration by its response: the credential that it brings where it passes each step of section
-/// 7.1 on the response, or the first step that it does not pass. Whether there is a place for the credential is
-/// left to `VerifiedRegistration::admit`.
+/// Judges a registration by its response: it is verified where it passes each step of section 7.1 on the response;
+/// else the first step that it does not pass is told. Whether there is a place for the credential is left to
+/// `VerifiedRegistration::admit`, which then gives it.
 ///
 /// Memory is taken by the readers of the client data and of the attestation object, and for the id.
 pub fn verify_registration<V: Verifier>(
@@ -289,12 +309,24 @@ pub fn verify_registration<V: Verifier>(
 }
 
 impl VerifiedRegistration {
-    /// Whether there is a place for the credential: the last two steps, by whether a credential with its id is
+    /// The credential id, by which the site looks whether the credential is registered.
+    pub fn id(&self) -> &[u8]
+        ensures { result.now ≡ self.now.id }
+    {
+        &self.credential.id
+    }
+
+    /// The credential, where there is a place for it: the last two steps, by whether a credential with its id is
     /// registered, to anyone, retired or not, and whether there is no room for another one.
-    pub fn admit(&self, is_registered: bool, is_full: bool) -> Result<(), RegistrationRefusal>
-        ensures passes { OnOk result ((x : Enrolment) → Tells x self.now → x.is_registered self.now.id.items ≡ is_registered → x.is_full ≡ is_full
+    pub fn admit(
+        self,
+        is_registered: bool,
+        is_full: bool,
+    ) -> Result<AdmittedCredential, RegistrationRefusal>
+        ensures admitted { IfOk result (λ c. admitted_view c ≡ self) }
+        ensures passes { OnOk result ((x : Enrolment) → Tells x self → x.is_registered self.id ≡ is_registered → x.is_full ≡ is_full
             → Each (Passes never x) table_steps) }
-        ensures refused { IfErr result (λ w. (x : Enrolment) → Tells x self.now → x.is_registered self.now.id.items ≡ is_registered → x.is_full ≡ is_full
+        ensures refused { IfErr result (λ w. (x : Enrolment) → Tells x self → x.is_registered self.id ≡ is_registered → x.is_full ≡ is_full
             → FirstFailing (Passes never x) table_steps w) }
     {
         if is_registered {
@@ -303,6 +335,6 @@ impl VerifiedRegistration {
         if is_full {
             return Err(RegistrationRefusal::TableFull);
         }
-        Ok(())
+        Ok(self.credential)
     }
 }

@@ -19,4 +19,4 @@ pub returns-in-Other-clause-refused : goal.returns-in-Other-clause-refused
 returns-in-Other-clause-refused c = first_at 4 refl (search rules) (search rules)
 
 pub returns-then-expects-clause-passes : goal.returns-then-expects-clause-passes
-returns-then-expects-clause-passes c = expected_says c.args.kind c.args.challenge.now c.args.bytes.now c.args.party.now (c.expects.ensures c.if-expects.true)
+returns-then-expects-clause-passes c = expected_says c.args.kind c.args.challenge.now c.args.bytes.now c.args.party.now (c.expects.ensures.0 c.if-expects.true)

@@ -40,6 +40,6 @@ returns-clause-after g c =
       tells.0,
       tells.1,
       same_state c.self.inside.party c.self.inside.policy c.store.new.self _ c.close.new.self _
-          (c.store.ensures row place ∙ same_change c.self.inside.table row.id c.args.response.now.credential.now c.in_ok-verified.verified.sign_count tells.0.sign_count c.in_ok-verified.verified.eligible _ id tells.2 tells.3)
+          (c.store.ensures.stored row place ∙ same_change c.self.inside.table row.id c.args.response.now.credential.now c.in_ok-verified.verified.sign_count tells.0.sign_count c.in_ok-verified.verified.eligible _ id tells.2 tells.3)
           c.close.ensures.closed,
     )

@@ -16,16 +16,16 @@ returns-in_err-verified-clause-refused g c =
     rw (p.1, p.2, ← c.self.view_is) (subst (λ x. IsRefused (g.V.Verifier.valid c.args.verifier.now) x c.in_err-verified.field-0.0) same
     (c.in_err-verified.ensures.refused (λ id. is_some (row_of id table)) (is_full table)))
 
-pub returns-in_err-admit-clause-refused : goal.returns-in_err-admit-clause-refused
-returns-in_err-admit-clause-refused g c =
-    let p = err_from_is_err_and c.from_residual-in_err-admit.result c.from_residual-in_err-admit.ensures.1 in
+pub returns-in_err-admitted-clause-refused : goal.returns-in_err-admitted-clause-refused
+returns-in_err-admitted-clause-refused g c =
+    let p = err_from_is_err_and c.from_residual-in_err-admitted.result c.from_residual-in_err-admitted.ensures.1 in
     let table = c.self.inside.table in
     let accepted = c.in_ok-verified.ensures.accepted in
     let same = same_enrolment c.self.inside.party c.self.inside.policy (registration_parts_view c.args.response.now) (λ id. is_some (row_of id table)) (is_full table) _ _ c.registration-expected.ensures.expected in
-    let taken = ap (λ id. is_some (row_of id table)) (sym c.deref.ensures.value) ∙ said_row c.has.result (row_of c.deref.result.now table) c.has.ensures in
-    rw (p.1, p.2, ← c.self.view_is) (subst (λ x. IsFirstFailing (g.V.Verifier.valid c.args.verifier.now) x c.in_err-admit.field-0.0) same
-    (table_fails (g.V.Verifier.valid c.args.verifier.now) _ c.in_err-admit.field-0.0 (accepted.1 (λ id. is_some (row_of id table)) (is_full table))
-    (c.in_err-admit.ensures.refused _ accepted.0 taken (said_full c.is_full.result table c.is_full.ensures))))
+    let taken = ap (λ id. is_some (row_of id table)) (sym c.id.ensures) ∙ said_row c.has-is_registered.result (row_of c.id.result.now table) c.has-is_registered.ensures in
+    rw (p.1, p.2, ← c.self.view_is) (subst (λ x. IsFirstFailing (g.V.Verifier.valid c.args.verifier.now) x c.in_err-admitted.field-0.0) same
+    (table_fails (g.V.Verifier.valid c.args.verifier.now) _ c.in_err-admitted.field-0.0 (accepted.1 (λ id. is_some (row_of id table)) (is_full table))
+    (c.in_err-admitted.ensures.refused _ accepted.0 taken (said_full c.is_full.result table c.is_full.ensures))))
 
 pub unwrap-requires : goal.unwrap-requires
 unwrap-requires g c =
@@ -36,27 +36,28 @@ unwrap-requires g c =
 pub push-requires-clause-limits : goal.push-requires-clause-limits
 push-requires-clause-limits g c =
     let tells = c.in_ok-verified.ensures.accepted.0 in
-    let id = subst (IsWithin 64) (sym tells.4) (attested_limits tells.1 tells.2 tells.3.auth_data.0 tells.3.attested) in
+    let brought = ap (λ v. v.id) c.in_ok-admitted.ensures.admitted ∙ tells.4 in
+    let id = subst (IsWithin 64) (sym brought) (attested_limits tells.1 tells.2 tells.3.auth_data.0 tells.3.attested) in
     let open_for = sym c.registration-expected.ensures.expected ∙ ap (option_map (λ s. registration_view s.now)) c.unwrap.ensures in
     let user = c.registration-expected.ensures.limits (registration_view c.unwrap.result.now) open_for in
-    (id, subst (IsWithin 64) (sym (c.in_ok-user.ensures.items ∙ c.deref-2.ensures.value)) user)
+    (id, subst (IsWithin 64) (sym (c.in_ok-user.ensures.items ∙ c.deref.ensures.value)) user)
 
 pub push-requires-clause-absent : goal.push-requires-clause-absent
 push-requires-clause-absent g c =
     let table = c.self.inside.table in
     let accepted = c.in_ok-verified.ensures.accepted in
     let tells = accepted.0 in
-    let taken = ap (λ id. is_some (row_of id table)) (sym c.deref.ensures.value) ∙ said_row c.has.result (row_of c.deref.result.now table) c.has.ensures in
-    let steps = c.in_ok-admit.ensures.passes (admitted_as c.self.inside.party c.self.inside.policy (registration_parts_view c.args.response.now) table (option_map (λ s. registration_view s.now) c.registration-expected.result))
+    let taken = ap (λ id. is_some (row_of id table)) (sym c.id.ensures) ∙ said_row c.has-is_registered.result (row_of c.id.result.now table) c.has-is_registered.ensures in
+    let steps = c.in_ok-admitted.ensures.passes (admitted_as c.self.inside.party c.self.inside.policy (registration_parts_view c.args.response.now) table (option_map (λ s. registration_view s.now) c.registration-expected.result))
     tells taken (said_full c.is_full.result table c.is_full.ensures) in
-    subst (λ id. row_of id table ≡ None) (sym tells.4) (no_row (row_of tells.2.id table) (steps.0 tells.0 tells.1 tells.2 tells.3))
+    subst (λ id. row_of id table ≡ None) (sym (ap (λ v. v.id) c.in_ok-admitted.ensures.admitted ∙ tells.4)) (no_row (row_of tells.2.id table) (steps.0 tells.0 tells.1 tells.2 tells.3))
 
 pub push-requires-clause-room : goal.push-requires-clause-room
 push-requires-clause-room g c =
     let table = c.self.inside.table in
     let accepted = c.in_ok-verified.ensures.accepted in
-    let taken = ap (λ id. is_some (row_of id table)) (sym c.deref.ensures.value) ∙ said_row c.has.result (row_of c.deref.result.now table) c.has.ensures in
-    let steps = c.in_ok-admit.ensures.passes (admitted_as c.self.inside.party c.self.inside.policy (registration_parts_view c.args.response.now) table (option_map (λ s. registration_view s.now) c.registration-expected.result))
+    let taken = ap (λ id. is_some (row_of id table)) (sym c.id.ensures) ∙ said_row c.has-is_registered.result (row_of c.id.result.now table) c.has-is_registered.ensures in
+    let steps = c.in_ok-admitted.ensures.passes (admitted_as c.self.inside.party c.self.inside.policy (registration_parts_view c.args.response.now) table (option_map (λ s. registration_view s.now) c.registration-expected.result))
     accepted.0 taken (said_full c.is_full.result table c.is_full.ensures) in
     has_room table steps.1.0
 
@@ -66,12 +67,12 @@ returns-clause-accepted g c =
     let accepted = c.in_ok-verified.ensures.accepted in
     let tells = accepted.0 in
     let same = same_enrolment c.self.inside.party c.self.inside.policy (registration_parts_view c.args.response.now) (λ id. is_some (row_of id table)) (is_full table) _ _ c.registration-expected.ensures.expected in
-    let taken = ap (λ id. is_some (row_of id table)) (sym c.deref.ensures.value) ∙ said_row c.has.result (row_of c.deref.result.now table) c.has.ensures in
+    let taken = ap (λ id. is_some (row_of id table)) (sym c.id.ensures) ∙ said_row c.has-is_registered.result (row_of c.id.result.now table) c.has-is_registered.ensures in
     let x = admitted_as c.self.inside.party c.self.inside.policy (registration_parts_view c.args.response.now) table (option_map (λ s. registration_view s.now) c.registration-expected.result) in
-    let steps = c.in_ok-admit.ensures.passes x accepted.0 taken (said_full c.is_full.result table c.is_full.ensures) in
+    let steps = c.in_ok-admitted.ensures.passes x accepted.0 taken (said_full c.is_full.result table c.is_full.ensures) in
     rw (← c.self.view_is) (
       subst (PassesAll (g.V.Verifier.valid c.args.verifier.now)) same (all_pass (g.V.Verifier.valid c.args.verifier.now) x (accepted.1 (λ id. is_some (row_of id table)) (is_full table)) steps),
-      (tells.0, tells.1, tells.2, tells.3, c.in_ok-credential.ensures.items ∙ c.deref-3.ensures.value ∙ tells.4),
+      (tells.0, tells.1, tells.2, tells.3, c.in_ok-credential.ensures.items ∙ c.deref-2.ensures.value ∙ ap (λ v. v.id) c.in_ok-admitted.ensures.admitted ∙ tells.4),
     )
 
 pub returns-clause-after : goal.returns-clause-after
@@ -79,6 +80,7 @@ returns-clause-after g c =
     let tells = c.in_ok-verified.ensures.accepted.0 in
     let open_for = sym c.registration-expected.ensures.expected ∙ ap (option_map (λ s. registration_view s.now)) c.unwrap.ensures in
     let e = registration_view c.unwrap.result.now in
+    let given = c.in_ok-admitted.ensures.admitted in
     rw (← c.self.view_is) (
       e,
       tells.0,
@@ -87,6 +89,7 @@ returns-clause-after g c =
       open_for,
       tells.3,
       same_state c.self.inside.party c.self.inside.policy c.push.new.self _ c.close.new.self _
-          (c.in_ok-push.ensures.pushed ∙ ap (λ row. c.self.inside.table ++ row ∷ []) (same_row tells.4 (c.in_ok-user.ensures.items ∙ c.deref-2.ensures.value) tells.5 tells.6 tells.7))
+          (c.in_ok-push.ensures.pushed ∙ ap (λ row. c.self.inside.table ++ row ∷ []) (same_row (ap (λ v. v.id) given ∙ tells.4) (c.in_ok-user.ensures.items ∙ c.deref.ensures.value)
+          (ap (λ v. v.key) given ∙ tells.5) (ap (λ v. v.sign_count) given ∙ tells.6) (ap (λ v. v.eligible) given ∙ tells.7)))
           c.close.ensures.closed,
     )
