@@ -1,6 +1,6 @@
 -- Each entry was signed, and each key made, at a request of the run.
-use Rattle.std.proofs.Common.{◌≡◌, ◌⊎◌, ◌+◌, inl, inr, ℕ, List, [], ◌∷◌, ◌++◌, length, Bool, true, false, Option, Some, None, refl, sym, ◌∙◌, ap, subst, append_assoc, append-nil, arith, cond, Contains}
-use Rattle.std.specs.Prelude.{IfSome, if◌then◌else◌, ◌==◌}
+use Rattle.std.proofs.Common.{◌≡◌, ◌⊎◌, ◌+◌, inl, inr, ℕ, List, [], ◌∷◌, ◌++◌, Bool, true, false, Option, Some, None, refl, sym, ◌∙◌, ap, subst, append_assoc, append-nil, arith, cond, Contains}
+use Rattle.std.specs.Prelude.{IfSome, if◌then◌else◌}
 use Rattle.std.specs.List.{All}
 use Rattle.std.specs.List.{AllByRecursion as Each}
 use Rattle.std.specs.Str.{bytes_eq}
@@ -19,12 +19,12 @@ use Rattle.ctapmsg.specs.Status.{IsRequest, status_of}
 use Rattle.authenticator.specs.State.{Asked, Credential, Remembered, State}
 use Rattle.authenticator.specs.Credentials.{credential_of, is_resident_of, with_sign_count, without_first}
 use Rattle.authenticator.specs.Orders.{assertion_order, candidates, creation_flags, creation_order, is_true, kept, next_order, remembered_on, reset_order}
-use Rattle.authenticator.specs.Steps.{Answers, Attests, Carries, Creates, Entry, FirstAnswers, Informs, Keys, NextAnswers, Outcome, Purpose, Resets, Step, Unless, asked_by, assertion, assertion_data, attestation, creation_data, key_of, new_credential, refusal, remembering}
+use Rattle.authenticator.specs.Steps.{Answers, Attests, Carries, Creates, Entry, FirstAnswers, Keys, NextAnswers, Outcome, Resets, Step, Unless, asked_by, assertion, assertion_data, attestation, creation_data, key_of, new_credential, refusal, remembering}
 use Rattle.authenticator.specs.declared.consent.Consent.{Consent}
 use Rattle.authenticator.specs.declared.consent.Words.{Words}
 use Rattle.authenticator.proofs.Stored.{each_weaker}
-use Rattle.agreement.specs.World.{Asks, AtSite, Done, Effect, End, Event, Happens, Holder, IsNew, IsRun, IsStart, Moment, Nothing, World, after_call}
-use Rattle.agreement.specs.Ledger.{IsAsked, IsAsserted, IsAttested, IsBetween, IsElsewhere, IsLedger, IsMadeIn, IsNextAsserted, IsSignedIn, LedgerOfAllRuns, Signs, world_after}
+use Rattle.agreement.specs.World.{Asks, AtSite, Done, Effect, End, Event, Happens, Holder, IsNew, IsRun, Moment, Nothing, World, after_call}
+use Rattle.agreement.specs.Ledger.{IsAsked, IsAsserted, IsAttested, IsBetween, IsElsewhere, IsMadeIn, IsNextAsserted, IsSignedIn, LedgerOfAllRuns, Signs, world_after}
 
 -- ---- one more moment
 

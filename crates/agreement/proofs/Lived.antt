@@ -1,5 +1,5 @@
 -- An honest run is a run of a world.
-use Rattle.std.proofs.Common.{◌≡◌, ◌≢◌, inl, inr, ℕ, List, [], ◌∷◌, ◌++◌, length, Bool, true, false, Some, refl, sym, ◌∙◌, ap, subst, arith, Contains}
+use Rattle.std.proofs.Common.{◌≡◌, ◌≢◌, inl, inr, ℕ, List, [], ◌∷◌, ◌++◌, length, Some, refl, sym, ◌∙◌, ap, subst, arith, Contains}
 use Rattle.std.specs.Prelude.{if◌then◌else◌}
 use Rattle.std.proofs.lemmas.Bool.{eq-eqb}
 use Rattle.std.proofs.lemmas.Bool.Decides.{eqb_tells}
@@ -13,12 +13,12 @@ use Rattle.verification.specs.Records as registered_row
 use Rattle.credentials.specs.Table.{row_of}
 use Rattle.site.specs.State as site
 use Rattle.authenticator.specs.State.{State}
-use Rattle.authenticator.specs.Steps.{Entry, Keys, key_of}
+use Rattle.authenticator.specs.Steps.{Entry, Keys}
 use Rattle.client.specs.Responses.{response_of}
 use Rattle.agreement.specs.Ends.{End}
 use Rattle.agreement.specs.Honest.{AcceptsBoth, IsHonestRun, Run}
-use Rattle.agreement.specs.World.{Acts, Asks, AtSite, Begins, ChangesHolder, ChangesSite, Effect, Holder, Moment, RegistersBy, SignsInBy, World, after_call}
-use Rattle.agreement.specs.Agreement.{Carried, IsAccepted, IsIdeal, RestsOn, Tries, WasMade, WasSigned, message_of}
+use Rattle.agreement.specs.World.{Acts, Begins, ChangesHolder, ChangesSite, Effect, Holder, Moment, RegistersBy, SignsInBy, World, after_call}
+use Rattle.agreement.specs.Agreement.{IsIdeal, Tries, WasSigned, message_of}
 use Rattle.agreement.specs.Lived as live
 use Rattle.agreement.specs.Lived.{Lives, Place, TakesPlace, with_holder, with_site}
 use Rattle.agreement.specs.Below.{Below, KeepsAlg}

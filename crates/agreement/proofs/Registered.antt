@@ -1,13 +1,12 @@
 -- An accepted registration of a run answers its session.
-use Rattle.std.proofs.Common.{◌≡◌, ℕ, List, [], ◌∷◌, ◌++◌, Some, None, refl, ◌∙◌, ap}
+use Rattle.std.proofs.Common.{◌≡◌, [], ◌∷◌, ◌++◌, refl, ◌∙◌, ap}
 use Rattle.clientdata.specs.Reading.{seen_of}
 use Rattle.cose.specs.Schemes.{Validity}
-use Rattle.authdata.specs.Responses as responses
 use Rattle.credentials.specs.Table.{row_of}
 use Rattle.site.specs.State.{State, registered}
 use Rattle.authenticator.specs.Steps.{Keys}
 use Rattle.agreement.specs.World.{AtSite, Moment}
-use Rattle.agreement.specs.Agreement.{FitsRegistration, IsRegistered, Registered}
+use Rattle.agreement.specs.Agreement.{Registered}
 use Rattle.agreement.specs.Below.{Below}
 use Rattle.agreement.proofs.Sites.{enrols}
 use Rattle.agreement.proofs.Storing.{row_last}
