@@ -7,6 +7,7 @@ ghost use Rattle.clientdata.specs.declared.record.CeremonyType.{CeremonyType};
 ghost use Rattle.command_line.specs.declared.words.Inspection.{Inspection};
 ghost use Rattle.command_line.specs.CommandLine.{check_app, check_options_app, check_type_app, inspect_app, passkey_app, replay_app, HasApp, HasAppOf, HasAppOfBoth, IsAsked, IsAskedBy, ceremony_word, inspection_word, required, required_option};
 
+use crate::script_lines::replay_help;
 use clap::error::ErrorKind;
 use clap::{Arg, ArgAction, ArgMatches, Command as Parser, Error};
 use clientdata::CeremonyType;
@@ -61,19 +62,6 @@ const CHECK_HELP: &str =
     "Prints match, or differ with status 1. This is the limited verification of WebAuthn, section 5.8.1.2.
 
 Example: passkey check --type get --challenge 000102 --origin https://a.example < client-data.json";
-
-const REPLAY_HELP: &str = "Lines of a script:
-  site <rp id> <origin>              the site; the first line
-  row <id> <user> <key> <count>      a registered credential, behind site or row
-  hash <64 hex digits>               the hash of the client data from here on
-  valid <key> <auth data> <sig>      the signature is valid for the data, then the hash
-  packet <hex>                       one more packet, filled up with zeros
-  clear                              no packets any more
-  signin 0 <channel>                 the site's verdict on the packets
-  table                              the registered credentials
-Bytes are in hex, a channel has 8 hex digits. Empty lines and lines that begin with # are passed over.
-
-Example: passkey replay < examples/sign-in.txt";
 
 /// The subcommand that shows bytes.
 fn inspect<'a>(alloc: Global) -> Result<Parser<'a>, AllocError>
@@ -157,24 +145,24 @@ fn with_sub<'a>(parser: Parser<'a>, sub: Parser<'a>) -> Result<Parser<'a>, Alloc
     parser.subcommand(sub)
 }
 
-/// The subcommand that runs a script.
-fn replay<'a>(alloc: Global) -> Parser<'a>
+/// The subcommand that runs a script, with this text behind its help.
+fn replay<'a>(alloc: Global, help: &'a str) -> Parser<'a>
     ensures { HasApp replay_app result }
 {
     Parser::new(alloc, "replay")
         .about("Run a script from standard input: packets in, the site's verdict out")
-        .after_help(REPLAY_HELP)
+        .after_help(help)
 }
 
-/// The program's parser.
-fn passkey<'a>(alloc: Global) -> Result<Parser<'a>, AllocError>
+/// The program's parser, with this text behind the help of `replay`.
+fn passkey<'a>(alloc: Global, help: &'a str) -> Result<Parser<'a>, AllocError>
     ensures { IfOk result (λ c. HasAppOfBoth passkey_app c) }
 {
     let inspect = inspect(alloc)?;
     let check = check(alloc)?;
     let parser = with_sub(top(alloc), inspect)?;
     let parser = with_sub(parser, check)?;
-    with_sub(parser, replay(alloc))
+    with_sub(parser, replay(alloc, help))
 }
 
 /// The kind of bytes that a word names.
@@ -282,7 +270,8 @@ fn asked<'a>(
 pub fn command<'a>(alloc: Global, words: &'a [&'a str]) -> Result<Subcommand, Error>
     ensures { IfOk result (λ a. IsAskedBy (map (λ w. w.now) words.now) a) }
 {
-    let mut parser = passkey(alloc)?;
+    let help = replay_help(alloc)?;
+    let mut parser = passkey(alloc, help.as_str())?;
     match asked(alloc, &mut parser, words)? {
         Some(asked) => Ok(asked),
         None => Err(parser.error(ErrorKind::MissingRequiredArgument, "a value is missing")?),

@@ -4,7 +4,7 @@ ghost use Rattle.std.specs.Prelude.{◌≡◌};
 ghost use Rattle.passkey.specs.declared.script.Fault.TheVariants as faults;
 
 use ccbor::View;
-use command_line::unhex;
+use command_line::{LineKind, line_kind, unhex};
 use cose::CoseKey;
 use hidframe::Packet;
 use site::Row;
@@ -191,33 +191,40 @@ fn valid_line<'a>(
     })
 }
 
-/// The line that these fields are.
-fn line_of<'a>(alloc: Global, fields: &[&'a str]) -> Result<Line<'a>, Fault> {
-    match fields {
-        ["site", rp_id, origin] => Ok(Line::Site { rp_id, origin }),
-        ["row", id, user, found, count] => Ok(Line::Row(row(alloc, id, user, found, count)?)),
-        ["session", named, verified, words, listed @ ..] => {
+/// The line of this kind that these fields are; `Client` has none of them.
+fn line_of<'a>(alloc: Global, kind: LineKind, fields: &[&'a str]) -> Result<Line<'a>, Fault> {
+    match (kind, fields) {
+        (LineKind::Site, [rp_id, origin]) => Ok(Line::Site { rp_id, origin }),
+        (LineKind::Row, [id, user, found, count]) => {
+            Ok(Line::Row(row(alloc, id, user, found, count)?))
+        }
+        (LineKind::Session, [named, verified, words, listed @ ..]) => {
             session_line(alloc, named, verified, words, listed)
         }
-        ["valid", found, auth_data, sig] => valid_line(alloc, found, auth_data, sig),
-        ["packet", found] => Ok(Line::Packet(packet(&bytes(alloc, found)?)?)),
-        ["clear"] => Ok(Line::Clear),
-        ["signin", number, channel] => Ok(Line::SignIn {
+        (LineKind::Valid, [found, auth_data, sig]) => valid_line(alloc, found, auth_data, sig),
+        (LineKind::Packet, [found]) => Ok(Line::Packet(packet(&bytes(alloc, found)?)?)),
+        (LineKind::Clear, []) => Ok(Line::Clear),
+        (LineKind::SignIn, [number, channel]) => Ok(Line::SignIn {
             session: session(number)?,
             cid: u32::from_be_bytes(array(alloc, channel)?),
         }),
-        ["table"] => Ok(Line::Table),
-        ["backup"] => Ok(Line::Backup),
-        ["retire", id] => Ok(Line::Retire(bytes(alloc, id)?)),
+        (LineKind::Table, []) => Ok(Line::Table),
+        (LineKind::Backup, []) => Ok(Line::Backup),
+        (LineKind::Retire, [id]) => Ok(Line::Retire(bytes(alloc, id)?)),
         _ => Err(Fault::BadScript),
     }
 }
 
 /// The line that a text is.
 pub fn parse_line<'a>(alloc: Global, text: &'a str) -> Result<Line<'a>, Fault> {
-    if let Some(client_data) = text.strip_prefix("client ") {
+    let mut fields = text.split(' ');
+    let Some(kind) = fields.next().and_then(line_kind) else {
+        return Err(Fault::BadScript);
+    };
+    if kind == LineKind::Client {
+        let (_, client_data) = text.split_once(' ').ok_or(Fault::BadScript)?;
         return Ok(Line::Client(client_data));
     }
-    let fields: Vec<&str> = text.split(' ').collect(alloc)?;
-    line_of(alloc, &fields)
+    let fields: Vec<&str> = fields.collect(alloc)?;
+    line_of(alloc, kind, &fields)
 }

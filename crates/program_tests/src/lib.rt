@@ -4,6 +4,8 @@
 #[cfg(test)]
 mod check;
 #[cfg(test)]
+mod help;
+#[cfg(test)]
 mod inspect;
 #[cfg(test)]
 mod line_rows;

@@ -91,4 +91,18 @@ retire without an id|SITE;ROW;retire|
 backup with a field|SITE;backup 0a|";
 
 /// A script that ends at its last line, and what the others print.
-pub const BAD_LINES_4: Table = "what was printed stands|SITE;ROW;table;table x|0a 01 0";
+pub const BAD_LINES_4: Table = "what was printed stands|SITE;ROW;table;table x|0a 01 0
+two dashes for no user|SITE;session -- 0 000000000000000000000000000000000000000000000000|
+verification of 01|SITE;session 01 01 000000000000000000000000000000000000000000000000|
+verification of 00|SITE;session 01 00 000000000000000000000000000000000000000000000000|
+a row behind client data|SITE;ROW;CLIENT;OTHER_ROW|
+a row behind a packet|SITE;ROW;packet 00;OTHER_ROW|
+a row behind a signature|SITE;VALID;ROW|
+a row behind a session|SITE;ROW;SESSION;OTHER_ROW|OPENED
+a row behind a verdict|SITE;SIGNIN;ROW|refused Incomplete
+a row behind the table|SITE;ROW;table;OTHER_ROW|0a 01 0
+a row behind the marks of backup|SITE;ROW;backup;OTHER_ROW|0a unknown
+a row behind a retired one|SITE;ROW;retire 0a;OTHER_ROW|
+clear with a space behind|SITE;clear |
+a word in upper case|SITE;Table|
+two spaces|SITE;packet  00|";

@@ -1,8 +1,8 @@
 //! Lines of scripts by their names.
 
-pub const SITE: &str = "site abc https://abc";
+const SITE: &str = "site abc https://abc";
 
-pub const ROW: &str =
+const ROW: &str =
     "row 0a 01 a40101032720062158201111111111111111111111111111111111111111111111111111111111111111 0";
 
 /// The names, each with its line, or its lines.

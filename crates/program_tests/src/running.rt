@@ -1,7 +1,7 @@
 //! Runs of the program, over bytes in memory.
 
 use passkey::run;
-use std::alloc::{AllocError, Global};
+use std::alloc::Global;
 use std::io::Read;
 
 /// What a run is to end with: its status, and all of standard output and of standard error.
@@ -10,16 +10,6 @@ pub struct Wanted<'a> {
     pub status: u8,
     pub out: &'a str,
     pub err: &'a str,
-}
-
-/// The lines, each ended by a line feed.
-pub fn script(alloc: Global, lines: &[&str]) -> Result<String, AllocError> {
-    let mut text = String::new(alloc);
-    for line in lines {
-        text.push_str(line)?;
-        text.push('\n')?;
-    }
-    Ok(text)
 }
 
 /// Whether the program ends so on these words, its name first, and what the reader has.

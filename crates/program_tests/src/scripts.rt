@@ -9,7 +9,7 @@ use std::test::Fail;
 use test_words::part;
 
 /// The lines that a text names, parted by semicolons, each ended by a line feed.
-fn lines_of(alloc: Global, text: &str) -> Result<String, AllocError> {
+pub fn lines_of(alloc: Global, text: &str) -> Result<String, AllocError> {
     let mut lines = String::new(alloc);
     if text.is_empty() {
         return Ok(lines);
@@ -22,7 +22,13 @@ fn lines_of(alloc: Global, text: &str) -> Result<String, AllocError> {
 }
 
 /// Whether the script ends with this status, prints this, and says this on standard error.
-fn replays(alloc: Global, script: &str, status: u8, out: &str, err: &str) -> Result<bool, Fail> {
+pub fn replays(
+    alloc: Global,
+    script: &str,
+    status: u8,
+    out: &str,
+    err: &str,
+) -> Result<bool, Fail> {
     let out = lines_of(alloc, out)?;
     let wanted = Wanted {
         status,

@@ -1,7 +1,6 @@
-//! Readers and writers that fail: the texts, the statuses, and what went out before.
+//! Readers and writers that fail: each call of a run in turn.
 
-use crate::lines::{ROW, SITE};
-use crate::running::script;
+use crate::scripts::lines_of;
 use passkey::run;
 use std::alloc::Global;
 use std::io;
@@ -81,47 +80,113 @@ impl Write for FailingWriter {
     }
 }
 
-const LINES: &[&str] = &[SITE, ROW, "table", "table x"];
-
-/// The numbers of the reads that fail, and of the writes of a script's text.
-const READS: &[u32] = &[1, 60, 131];
-
-const WRITES: &[u32] = &[1, 2, 8];
-
-const TABLE: &[u8] = b"0a 01 0\n";
-
-/// Whether the program ends with `read failed` and status 4 where the read of this number fails.
-fn read_fails(alloc: Global, input: &[u8], fails_at: u32) -> bool {
-    let mut reader = FailingReader::new(input, fails_at);
-    let mut out = Vec::new(alloc);
-    let mut err = Vec::new(alloc);
-    let status = run(
-        alloc,
-        &["passkey", "replay"],
-        &mut reader,
-        &mut out,
-        &mut err,
-    );
-    status == 4 && out.is_empty() && err.as_slice() == b"read failed\n".as_slice()
+/// The numbers of the calls that fail, from 1; 0 where none does.
+#[derive(Clone, Copy, Drop)]
+struct Failing {
+    read: u32,
+    write: u32,
+    error: u32,
 }
 
-/// Whether the program ends with `write failed` and status 5 where the write of this number fails, after the
-/// bytes of the whole text that stand before it.
-fn write_fails<'a>(
-    alloc: Global,
-    words: &'a [&'a str],
-    input: &[u8],
-    whole: &[u8],
-    fails_at: u32,
-) -> bool {
-    let mut reader = input;
-    let mut out = FailingWriter::new(alloc, fails_at);
-    let mut err = Vec::new(alloc);
+/// A run that ended: its status, how often it read, and what both writers got.
+#[derive(Drop)]
+struct Ended {
+    status: u8,
+    reads: u32,
+    out: FailingWriter,
+    err: FailingWriter,
+}
+
+impl Ended {
+    /// Whether it ended so, with all of this on both writers.
+    fn is(&self, status: u8, out: &[u8], err: &[u8]) -> bool {
+        self.status == status && self.out.got.as_slice() == out && self.err.got.as_slice() == err
+    }
+}
+
+/// Runs the program on this input, of which it gets a byte a read.
+fn run_failing(alloc: Global, words: &[&str], input: &[u8], failing: Failing) -> Ended {
+    let mut reader = FailingReader::new(input, failing.read);
+    let mut out = FailingWriter::new(alloc, failing.write);
+    let mut err = FailingWriter::new(alloc, failing.error);
     let status = run(alloc, words, &mut reader, &mut out, &mut err);
-    status == 5
-        && err.as_slice() == b"write failed\n".as_slice()
-        && out.got.len() == fails_at.saturating_sub(1) as usize
-        && whole.starts_with(out.got.as_slice())
+    Ended {
+        status,
+        reads: reader.calls,
+        out,
+        err,
+    }
+}
+
+const NONE: Failing = Failing {
+    read: 0,
+    write: 0,
+    error: 0,
+};
+
+/// More calls than any run has.
+const MOST: u32 = 10_000;
+
+const REPLAY: &[&str] = &["passkey", "replay"];
+
+/// How many reads there are, each of which ends the run with `read failed` and status 4 where it fails.
+fn reads(alloc: Global, input: &[u8]) -> Option<u32> {
+    for read in 1..MOST {
+        let ended = run_failing(alloc, REPLAY, input, Failing { read, ..NONE });
+        if ended.reads < read {
+            return Some(ended.reads);
+        }
+        if !ended.is(4, b"", b"read failed\n") {
+            return None;
+        }
+    }
+    None
+}
+
+/// How many writes of this text there are, each of which ends the run with `write failed` and status 5 where it fails,
+/// behind the bytes that were written before.
+fn writes(alloc: Global, words: &[&str], input: &[u8], text: &[u8]) -> Option<u32> {
+    for write in 1..MOST {
+        let ended = run_failing(alloc, words, input, Failing { write, ..NONE });
+        if ended.out.calls < write {
+            return Some(ended.out.calls);
+        }
+        let before = text.get(..usize::try_from(write).ok()?.checked_sub(1)?)?;
+        if !ended.is(5, before, b"write failed\n") {
+            return None;
+        }
+    }
+    None
+}
+
+/// How many writes to standard error there are in a run whose other calls fail so, and which has this status and writes
+/// this to standard output, whichever of them fails.
+fn errors(
+    alloc: Global,
+    words: &[&str],
+    input: &[u8],
+    failing: Failing,
+    (status, out): (u8, &[u8]),
+) -> Option<u32> {
+    for error in 1..MOST {
+        let ended = run_failing(alloc, words, input, Failing { error, ..failing });
+        if ended.status != status || ended.out.got.as_slice() != out {
+            return None;
+        }
+        if ended.err.calls < error {
+            return Some(ended.err.calls);
+        }
+    }
+    None
+}
+
+/// The example of a sign-in, with a byte a read: as many reads as it has bytes, and one at its end.
+#[test]
+fn each_read(rt: HostRuntime) -> Result<(), Fail> {
+    let script = lines_of(rt.alloc(), "LISTED;PACKETS;SIGNIN;table")?;
+    let reads = reads(rt.alloc(), script.as_bytes());
+    assert!(rt; reads == Some(682), "{reads:?}");
+    Ok(())
 }
 
 const CHECK: &[&str] = &[
@@ -134,59 +199,49 @@ const CHECK: &[&str] = &[
 
 const INSPECT: &[&str] = &["passkey", "inspect", "cbor"];
 
-/// Other words, input, the whole text, and the number of the write that fails.
-const OTHER_WRITES: &[(&[&str], &[u8], &[u8], u32)] = &[
-    (INSPECT, b"80", b"[]\n", 1),
-    (INSPECT, b"80", b"[]\n", 3),
-    (CHECK, b"", b"differ\n", 1),
-    (CHECK, b"", b"differ\n", 3),
-];
-
-/// Whether the status and standard output are those of a bad script where nothing can be written to standard
-/// error.
-fn error_fails(alloc: Global, input: &[u8]) -> bool {
-    let mut reader = input;
-    let mut out = Vec::new(alloc);
-    let mut err = FailingWriter::new(alloc, 1);
-    let status = run(
-        alloc,
-        &["passkey", "replay"],
-        &mut reader,
-        &mut out,
-        &mut err,
-    );
-    status == 2 && out.as_slice() == TABLE
-}
-
-/// The first read, write or write to standard error whose failing the program does not answer as it has to, with the
-/// number of the call, if any.
-fn first_unanswered(alloc: Global, text: &[u8]) -> Option<(&'static str, u32)> {
-    for &fails_at in READS {
-        if !read_fails(alloc, text, fails_at) {
-            return Some(("read", fails_at));
-        }
-    }
-    for &fails_at in WRITES {
-        if !write_fails(alloc, &["passkey", "replay"], text, TABLE, fails_at) {
-            return Some(("write of a script", fails_at));
-        }
-    }
-    for &(words, input, whole, fails_at) in OTHER_WRITES {
-        if !write_fails(alloc, words, input, whole, fails_at) {
-            return Some(("write of another command", fails_at));
-        }
-    }
-    if error_fails(alloc, text) {
-        None
-    } else {
-        Some(("write to standard error", 1))
-    }
+/// How many writes there are of the example of a sign-in, of an inspection and of a check.
+fn all_writes(alloc: Global) -> Result<[Option<u32>; 3], Fail> {
+    let script = lines_of(alloc, "LISTED;PACKETS;SIGNIN;table")?;
+    let text = lines_of(alloc, "OPENED;ACCEPTED;0a 01 1")?;
+    Ok([
+        writes(alloc, REPLAY, script.as_bytes(), text.as_bytes()),
+        writes(alloc, INSPECT, b"80", b"[]\n"),
+        writes(alloc, CHECK, b"", b"differ\n"),
+    ])
 }
 
 #[test]
-fn failing(rt: HostRuntime) -> Result<(), Fail> {
-    let text = script(rt.alloc(), LINES)?;
-    let unanswered = first_unanswered(rt.alloc(), text.as_bytes());
-    assert!(rt; unanswered.is_none(), "{unanswered:?}");
+fn each_write(rt: HostRuntime) -> Result<(), Fail> {
+    let writes = all_writes(rt.alloc())?;
+    assert!(rt; writes == [Some(84), Some(3), Some(7)], "{writes:?}");
+    Ok(())
+}
+
+/// How many writes to standard error there are of a bad line, of a read that fails, of a write that fails, and of a text
+/// that is not hex.
+fn all_errors(alloc: Global) -> Result<[Option<u32>; 4], Fail> {
+    let script = lines_of(alloc, "SITE;ROW;table;table x")?;
+    let script = script.as_bytes();
+    let read = Failing { read: 60, ..NONE };
+    let write = Failing { write: 3, ..NONE };
+    Ok([
+        errors(alloc, REPLAY, script, NONE, (2, b"0a 01 0\n")),
+        errors(alloc, REPLAY, script, read, (4, b"")),
+        errors(alloc, REPLAY, script, write, (5, b"0a")),
+        errors(alloc, INSPECT, b"0", NONE, (2, b"")),
+    ])
+}
+
+/// The texts are `line 4: bad script`, `read failed`, `write failed` and `bad hex`, each with its line feed; that of refused
+/// words is clap's.
+#[test]
+fn each_write_to_standard_error(rt: HostRuntime) -> Result<(), Fail> {
+    let errors_of_runs = all_errors(rt.alloc())?;
+    assert!(rt;
+        errors_of_runs == [Some(19), Some(12), Some(13), Some(8)],
+        "{errors_of_runs:?}"
+    );
+    let words = errors(rt.alloc(), &["passkey", "--colour"], b"", NONE, (2, b""));
+    assert!(rt; words > Some(20));
     Ok(())
 }
