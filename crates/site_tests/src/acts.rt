@@ -219,10 +219,19 @@ fn count(site: &Site) -> u64 {
     count
 }
 
+/// The rp id that a line gives, with so many letters more.
+fn rp_id(alloc: Global, line: &str) -> Result<String, AllocError> {
+    let mut rp_id = String::from_str(alloc, value(line, "site", "abc"))?;
+    for _ in 0..number(line, "longer", 0) {
+        rp_id.push_str("a")?;
+    }
+    Ok(rp_id)
+}
+
 /// Puts what is loaded of these bytes in the site's place: 0, or the number of the refusal.
 fn load(alloc: Global, site: &mut Site, act: &str, bytes: &[u8]) -> Result<u64, AllocError> {
-    let rp_id = value(act, "site", "abc");
-    match Site::load(alloc, bytes, rp_id, &["https://abc"], policy(act)) {
+    let rp_id = rp_id(alloc, act)?;
+    match Site::load(alloc, bytes, rp_id.as_str(), &["https://abc"], policy(act)) {
         Ok(loaded) => {
             *site = loaded;
             Ok(0)

@@ -9,17 +9,23 @@ mod credentials_table;
 #[cfg(test)]
 mod example;
 #[cfg(test)]
+mod handed_in;
+#[cfg(test)]
 mod honest;
 #[cfg(test)]
 mod kept;
 #[cfg(test)]
 mod key;
 #[cfg(test)]
+mod limits;
+#[cfg(test)]
 mod lists;
 #[cfg(test)]
 mod packets;
 #[cfg(test)]
 mod random;
+#[cfg(test)]
+mod refusals;
 #[cfg(test)]
 mod registration;
 #[cfg(test)]

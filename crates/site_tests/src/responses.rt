@@ -79,7 +79,8 @@ pub(crate) fn auth_data(alloc: Global, line: &str, unsigned: u8) -> Result<Vec<u
     headed(alloc, line, (flags(line, 5) ^ unsigned, 6), &behind)
 }
 
-/// The scheme that lists 5a as the signature of the sign-in, under the key of all stored credentials.
+/// The scheme that lists a signature of the sign-in, 5a where the line gives none, under the key of all stored
+/// credentials, or under that of one that is registered.
 pub(crate) fn scheme(
     alloc: Global,
     line: &str,
@@ -88,7 +89,13 @@ pub(crate) fn scheme(
     let mut message = auth_data(alloc, line, 0)?;
     message.extend_from_slice(&hash(client_data))?;
     let mut scheme = ListScheme::new(alloc);
-    scheme.add(KEY, &message, &[0x5a])?;
+    let signature = bytes_of(alloc, value(line, "listed", "5a"))?;
+    let key = if is_set(line, "registered") {
+        BenchScheme.public(Alg::EdDsa, &SECRET)
+    } else {
+        KEY
+    };
+    scheme.add(key, &message, &signature)?;
     Ok(scheme)
 }
 

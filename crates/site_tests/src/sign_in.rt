@@ -59,7 +59,9 @@ no counters|id=0b user=02 told=02 count=0|id=0b user=02 count=0
 a first counter|id=0b user=02 told=02 count=1|id=0b user=02 count=1
 members in another order, the second origin, binding supported|client={"origin":"https://def","tokenBinding":{"status":"supported"},"challenge":"AAAAAAAAAAEAAAAAAAAAAAAAAAAAAAAAAAAAAAAAAAA","type":"webauthn.get"}|
 cross-origin, at the second origin|origin=https://def rest=,"crossOrigin":true|
-a space behind the client data|space=1|"#;
+a space behind the client data|space=1|
+a signature of 72 bytes|signature=5a*72 listed=5a*72|
+a signature of 128 bytes|signature=5a*128 listed=5a*128|"#;
 
 /// The session stays open where the response is refused.
 const EXPECTED: Pattern = "rows=five;1 sign-in $0$;$2$ answer $1$;$3$ abandon";
