@@ -54,6 +54,11 @@ fn is_key_of(key: &CoseKey, secret: u8) -> bool {
     *key == BenchScheme.public(key.alg(), &[secret; 32])
 }
 
+/// The aaguid of each authenticator.
+pub const AAGUID: [u8; 16] = [
+    0xa0, 0xa1, 0xa2, 0xa3, 0xa4, 0xa5, 0xa6, 0xa7, 0xa8, 0xa9, 0xaa, 0xab, 0xac, 0xad, 0xae, 0xaf,
+];
+
 /// What no line says.
 fn wrong(alloc: Global) -> Result<String, AllocError> {
     String::from_str(alloc, "wrong")
@@ -68,7 +73,11 @@ fn made(alloc: Global, reply: &CreationReply) -> Result<String, AllocError> {
         return wrong(alloc);
     };
     let id = byte_of(&attested.id);
-    if !is_for_known(&data) || data.sign_count != 0 || !is_key_of(&attested.key, id) {
+    if !is_for_known(&data)
+        || data.sign_count != 0
+        || attested.aaguid != AAGUID
+        || !is_key_of(&attested.key, id)
+    {
         return wrong(alloc);
     }
     let number = attested.key.alg().number();
@@ -169,6 +178,6 @@ pub fn first_wrong(
     attest: AttestationType,
     table: Table,
 ) -> Result<Option<&'static str>, AllocError> {
-    let mut authenticator = Authenticator::new(alloc, [0; 16], uv, attest);
+    let mut authenticator = Authenticator::new(alloc, AAGUID, uv, attest);
     first_other(alloc, &mut authenticator, table)
 }

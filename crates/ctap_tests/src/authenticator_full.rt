@@ -1,6 +1,6 @@
 //! New authenticators, and one that stores 256 credentials (CTAP 2.1, section 6.1).
 
-use crate::authenticator_answers::{first_other, first_wrong, is_answered, reply};
+use crate::authenticator_answers::{AAGUID, first_other, first_wrong, is_answered, reply};
 use crate::authenticator_calls::{AGAIN, BETWEEN, NEW, SAME, THREE};
 use crate::authenticator_candidates::{EXCLUSIONS, LISTS, WITHOUT_PRESENCE};
 use crate::authenticator_names::bytes_of;
@@ -67,7 +67,7 @@ fn make(alloc: Global, authenticator: &mut Authenticator, number: u8) -> Result<
 
 /// An authenticator with the resident credential 01 and 255 others, if each was made.
 fn filled(alloc: Global) -> Result<Option<Authenticator>, AllocError> {
-    let mut authenticator = Authenticator::new(alloc, [0; 16], false, AttestationType::None);
+    let mut authenticator = Authenticator::new(alloc, AAGUID, false, AttestationType::None);
     let first = "1|create5 rp user1 eddsa rk|up|1|made 1 41 -8";
     if !is_answered(alloc, &mut authenticator, first)? {
         return Ok(None);
@@ -90,14 +90,25 @@ fn is_full(alloc: Global) -> Result<bool, AllocError> {
     Ok(other.is_none() && before == 256 && authenticator.len() == 256)
 }
 
-/// Whether getInfo of an authenticator whose aaguid is 16 zero bytes, without verification, answers these 60 bytes.
-fn is_information(alloc: Global) -> Result<bool, AllocError> {
-    let mut authenticator = Authenticator::new(alloc, [0; 16], false, AttestationType::None);
-    let reply = reply(alloc, &mut authenticator, "1|||1", &[4])?;
-    let wanted = bytes_of(
-        alloc,
+/// Verification as it is configured, an aaguid's byte, and the 60 bytes of getInfo.
+const INFORMATION: &[(bool, u8, &str)] = &[
+    (
+        false,
+        0,
         "00a6018168 'FIDO_2_0 0350 00*16 04a462 'rk f562 'up f562 'uv f464 'plat f405191db9070808 1840",
-    )?;
+    ),
+    (
+        true,
+        7,
+        "00a6018168 'FIDO_2_0 0350 07*16 04a462 'rk f562 'up f562 'uv f564 'plat f405191db9070808 1840",
+    ),
+];
+
+/// Whether getInfo answers these bytes.
+fn is_information(alloc: Global, uv: bool, byte: u8, words: &str) -> Result<bool, AllocError> {
+    let mut authenticator = Authenticator::new(alloc, [byte; 16], uv, AttestationType::None);
+    let reply = reply(alloc, &mut authenticator, "1|||1", &[4])?;
+    let wanted = bytes_of(alloc, words)?;
     Ok(reply.len() == 60 && reply.as_slice() == wanted.as_slice())
 }
 
@@ -107,6 +118,9 @@ fn calls(rt: HostRuntime) -> Result<(), Fail> {
         let other = first_wrong(rt.alloc(), *uv, *attest, table)?;
         assert!(rt; other.is_none(), "{other:?}");
     }
-    assert!(rt; is_information(rt.alloc())? && is_full(rt.alloc())?);
+    for (uv, byte, words) in INFORMATION {
+        assert!(rt; is_information(rt.alloc(), *uv, *byte, words)?, "{words}");
+    }
+    assert!(rt; is_full(rt.alloc())?);
     Ok(())
 }

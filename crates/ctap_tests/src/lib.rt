@@ -13,6 +13,8 @@ mod authenticator_full;
 #[cfg(test)]
 mod authenticator_making;
 #[cfg(test)]
+mod authenticator_many;
+#[cfg(test)]
 mod authenticator_names;
 #[cfg(test)]
 mod authenticator_orders;

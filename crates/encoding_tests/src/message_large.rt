@@ -25,7 +25,10 @@ bytes behind getInfo|04 00*7608|02
 bytes behind reset|07 00*7608|02
 bytes behind getNextAssertion|08 00*7608|02
 no value|02 ff*7608|12
-an array|02991db5 00*7605|11";
+an array|02991db5 00*7605|11
+a name of 9,000 bytes|create4 create-hash 02a262 'id 61 'a 64 'name 792328 61*9000 user parameters|00
+a type of 9,000 bytes|get3 rp-id get-hash 0381a262 'id 41 'a 64 'type 792328 61*9000|00
+9,000 bytes of no value|02 ff*9000|12";
 
 pub const REPLIES: Table = "status 2e|2e 00*7608|get|18
 no value|00 ff*7608|get|2
@@ -40,4 +43,8 @@ another key|00a4 credential auth-data signature 06591d4c 00*7500|get|13
 a byte behind|00a3 credential auth-data 03591d4c 00*7500 00|get|2
 a next assertion|00a3 credential auth-data 03591d4c 00*7500|next|0
 a statement|00a30160024003a161 'a 591d4c 00*7500|create|0
-versions|00a601991d4c 60*7500 0350 00*16 info-options info-end|info|0";
+versions|00a601991d4c 60*7500 0350 00*16 info-options info-end|info|0
+a next assertion of 9,000 bytes|00a3 credential auth-data 03592328 00*9000|next|0
+a statement of 9,000 bytes|00a30160024003a161 'a 592328 00*9000|create|0
+9,000 versions|00a601992328 60*9000 0350 00*16 info-options info-end|info|0
+9,000 bytes of no value|00 ff*9000|get|2";
