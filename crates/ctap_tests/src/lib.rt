@@ -19,6 +19,8 @@ mod authenticator_names;
 #[cfg(test)]
 mod authenticator_orders;
 #[cfg(test)]
+mod authenticator_signings;
+#[cfg(test)]
 mod client_limits;
 #[cfg(test)]
 mod client_messages;
@@ -42,3 +44,5 @@ mod device_runs;
 mod framing;
 #[cfg(test)]
 mod opening;
+#[cfg(test)]
+mod texts;

@@ -13,4 +13,6 @@ mod key;
 #[cfg(test)]
 mod random;
 #[cfg(test)]
+mod refused;
+#[cfg(test)]
 mod wire;

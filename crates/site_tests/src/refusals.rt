@@ -1,5 +1,6 @@
 //! The number, the name and the text of each refusal of a site and of a ceremony; `docs/REFUSALS.md` shows the same.
 
+use ceremony::ServeError;
 use hidlink::DeadKind;
 use site::{BeginError, Error, RegistrationRefusal, SignInRefusal};
 use std::alloc::{AllocError, Global};
@@ -58,6 +59,13 @@ const CEREMONY: Table = "24|Incomplete|the packets carry no message yet
 2|Reply(NotCanonical)|the reply is not canonical CBOR
 13|Reply(Shape)|the reply has another shape
 0|Refused(UserNotPresent)|refused: the user was not present
+0|Memory|out of memory";
+
+const STORED: Table = "0|BadTable|the credentials are not a table that a site can have
+0|Memory|out of memory
+0|BadTable|the bytes are no saved table of this relying party
+0|Memory|out of memory
+6|NotWorking|no request waits for a decision
 0|Memory|out of memory";
 
 const STEPS: &[SignInRefusal] = &[
@@ -176,5 +184,21 @@ fn of_a_ceremony(rt: HostRuntime) -> Result<(), Fail> {
         put(rt.alloc(), error.number(), error, &mut lines)?;
     }
     assert!(rt; lines.as_str() == CEREMONY);
+    Ok(())
+}
+
+#[test]
+fn of_what_is_stored_and_of_an_act(rt: HostRuntime) -> Result<(), Fail> {
+    let mut lines = String::new(rt.alloc());
+    for error in [credentials::Error::BadTable, credentials::Error::Memory] {
+        put(rt.alloc(), None, &error, &mut lines)?;
+    }
+    for error in [saved_table::Error::BadTable, saved_table::Error::Memory] {
+        put(rt.alloc(), None, &error, &mut lines)?;
+    }
+    for error in [ServeError::NotWorking, ServeError::Memory] {
+        put(rt.alloc(), error.number(), &error, &mut lines)?;
+    }
+    assert!(rt; lines.as_str() == STORED);
     Ok(())
 }
