@@ -23,24 +23,6 @@ enum Answer {
     Wrong,
 }
 
-/// The calls, one after the other.
-const CALLS: [&str; 14] = [
-    "begin registration",
-    "create",
-    "take",
-    "decide",
-    "register",
-    "save",
-    "load",
-    "begin sign-in",
-    "assert",
-    "take",
-    "decide",
-    "sign in",
-    "save",
-    "load",
-];
-
 /// A site, an authenticator's end with channel 1, and how far they are.
 #[derive(Drop)]
 struct Ceremony {
@@ -53,6 +35,8 @@ struct Ceremony {
     taken: usize,
     sent: Vec<Packet>,
     saved: Vec<u8>,
+    /// The call that had no memory.
+    refused: &'static str,
 }
 
 impl Ceremony {
@@ -70,6 +54,7 @@ impl Ceremony {
             taken: 0,
             sent: Vec::new(alloc),
             saved: Vec::new(alloc),
+            refused: "nowhere",
         })
     }
 
@@ -260,34 +245,53 @@ fn is_same(one: Option<Vec<u8>>, other: Option<Vec<u8>>) -> bool {
     }
 }
 
-/// Makes a call at both. Memory is answered where the first had none, nothing had changed, and again it was done.
-fn make(alloc: Global, first: &mut Ceremony, second: &mut Ceremony, name: &str) -> Answer {
-    let answer = first.call(alloc, name);
-    if answer == Answer::Memory
-        && !(first.is_like(alloc, second) && first.call(alloc, name) == Answer::Done)
-    {
-        return Answer::Wrong;
+/// Makes a call at both. Where the first had no memory, that is noted: nothing had changed, and again it was done.
+fn make(alloc: Global, first: &mut Ceremony, second: &mut Ceremony, name: &'static str) -> bool {
+    match first.call(alloc, name) {
+        Answer::Done => {}
+        Answer::Memory => {
+            first.refused = name;
+            if !(first.is_like(alloc, second) && first.call(alloc, name) == Answer::Done) {
+                return false;
+            }
+        }
+        Answer::Wrong => return false,
     }
-    let is_made = match second.call(alloc, name) {
+    match second.call(alloc, name) {
         Answer::Done => true,
         Answer::Memory => second.call(alloc, name) == Answer::Done,
         Answer::Wrong => false,
-    };
-    if is_made { answer } else { Answer::Wrong }
+    }
 }
 
-/// The call that had no memory, if one had none; else why none is told.
+fn make_registration(alloc: Global, first: &mut Ceremony, second: &mut Ceremony) -> bool {
+    make(alloc, first, second, "begin registration")
+        && make(alloc, first, second, "create")
+        && make(alloc, first, second, "take")
+        && make(alloc, first, second, "decide")
+        && make(alloc, first, second, "register")
+}
+
+fn make_sign_in(alloc: Global, first: &mut Ceremony, second: &mut Ceremony) -> bool {
+    make(alloc, first, second, "begin sign-in")
+        && make(alloc, first, second, "assert")
+        && make(alloc, first, second, "take")
+        && make(alloc, first, second, "decide")
+        && make(alloc, first, second, "sign in")
+}
+
+fn make_restart(alloc: Global, first: &mut Ceremony, second: &mut Ceremony) -> bool {
+    make(alloc, first, second, "save") && make(alloc, first, second, "load")
+}
+
+/// The call that had no memory, if one had none, where all came out as it is to be.
 fn refused(alloc: Global, first: &mut Ceremony, second: &mut Ceremony) -> &'static str {
-    let mut refused = "nowhere";
-    for name in CALLS {
-        match make(alloc, first, second, name) {
-            Answer::Done => {}
-            Answer::Memory => refused = name,
-            Answer::Wrong => return "wrong",
-        }
-    }
-    if first.is_like(alloc, second) || first.is_like(alloc, second) {
-        refused
+    let is_made = make_registration(alloc, first, second)
+        && make_restart(alloc, first, second)
+        && make_sign_in(alloc, first, second)
+        && make_restart(alloc, first, second);
+    if is_made && (first.is_like(alloc, second) || first.is_like(alloc, second)) {
+        first.refused
     } else {
         "wrong"
     }
