@@ -1,5 +1,6 @@
 -- An accepted sign-in of a run, and the entries on which it rests.
-use Rattle.std.proofs.Common.{◌≡◌, ◌≢◌, ◌<◌, ◌≤◌, ◌⊎◌, ◌^◌, ℕ, List, true, false, Option, Some, None, is_some, IsSome, refl, sym, ◌∙◌, ap, subst, arith, inl, inr}
+use Rattle.std.proofs.Common.{◌≡◌, ◌≢◌, ◌<◌, ◌≤◌, ◌⊎◌, ◌^◌, ℕ, List, true, false, Option, Some, None, is_some, IsSome, refl, sym, ◌∙◌, ap, subst}
+use Rattle.std.proofs.Common.{arith, inl, inr}
 use Rattle.std.specs.Prelude.{Contains}
 use Rattle.std.proofs.lemmas.List.Elements.{All-contains}
 use Rattle.std.proofs.lemmas.Option.{same_Some}
@@ -12,20 +13,22 @@ use Rattle.base64.specs.GeneralPurpose.{IsBytes}
 use Rattle.cose.specs.Schemes.{Validity}
 use Rattle.authdata.specs.Flags.{is_set, UP, UV}
 use Rattle.authdata.specs.Layout.{AttestedCredential, AuthenticatorData, AuthOf}
-use Rattle.authdata.specs.Responses.{Assertion}
-use Rattle.verification.specs.Authentication.{AreUser, PassesAll}
+use Rattle.authdata.specs.Responses.{AuthenticatorAssertionResponse}
+use Rattle.verification.specs.SignIn.{AreUser, PassesSignIn}
 use Rattle.verification.specs.Records.{Credential}
-use Rattle.credentials.specs.Table.{row_of}
-use Rattle.credentials.proofs.RowLemmas.{found_id}
-use Rattle.sessions.specs.Sessions.{ForSignIn, challenge_of, sign_in_at}
-use Rattle.site.specs.State.{State, attempt_in}
+use Rattle.credential_table.specs.Table.{row_of}
+use Rattle.credential_table.proofs.RowLemmas.{found_id}
+use Rattle.ceremony_sessions.specs.Sessions.{ForSignIn, challenge_of, sign_in_at}
+use Rattle.site.specs.State.{SiteState, judged_sign_in}
 use Rattle.site.specs.Laws as site
 use Rattle.site.specs.Laws.{Takes}
 use Rattle.site.proofs.Goings.{none_there}
 use Rattle.authenticator.specs.Laws.{IsSound}
 use Rattle.authenticator.specs.Steps.{Entry, Keys, assertion}
-use Rattle.agreement.specs.World.{Abandons, Asks, AtSite, Begins, Done, Effect, End, Event, Happens, Moment, Registers, RegistersBy, Restarts, Retires, SignsIn, SignsInBy, SiteEvent, World}
-use Rattle.agreement.specs.Agreement.{Agrees, Answers, Brings, BringsTo, DifferInSession, Fits, IsAccepted, IsFresh, IsIdeal, RestsOnce, ShareNone, message_of, session_in}
+use Rattle.agreement.specs.World.{Abandons, Asks, AtSite, Begins, Done, EventEffect, EventEnd, Event, Happens, Moment, Registers, RegistersBy}
+use Rattle.agreement.specs.World.{Restarts, Retires, SignsIn, SignsInBy, SiteEvent, World}
+use Rattle.agreement.specs.Agreement.{Agrees, AnswersSession, Brings, BringsTo, DifferInSession, Fits, IsAccepted, IsFresh, IsIdeal, RestsOnce}
+use Rattle.agreement.specs.Agreement.{ShareNone, message_of, session_in}
 use Rattle.agreement.specs.Below.{Below}
 use Rattle.agreement.proofs.Sites.{SignedIn, signs_in, takes}
 use Rattle.agreement.proofs.Worlds.{Lived, Since}
@@ -52,15 +55,19 @@ not_named u e = absurd cc
 
 users : (a b : Option (List ℕ)) (user : List ℕ) → AreUser a b user → Users a b user
 users None None user h = absurd h
-users (Some x) None user h = record { named = λ u e. sym (same_Some x u e) ∙ h; shown = λ u e. absurd (not_named u e); someone = λ e. absurd (not_named x (sym e)) }
+users (Some x) None user h = record {
+  named = λ u e. sym (same_Some x u e) ∙ h;
+  shown = λ u e. absurd (not_named u e);
+  someone = λ e. absurd (not_named x (sym e));
+}
 users None (Some y) user h = record { named = λ u e. absurd (not_named u e); shown = λ u e. sym (same_Some y u e) ∙ h; someone = λ e f. not_named y (sym f) }
 users (Some x) (Some y) user h =
     record { named = λ u e. sym (same_Some x u e) ∙ h.0; shown = λ u e. sym (same_Some y u e) ∙ h.1; someone = λ e. absurd (not_named x (sym e)) }
 
 module _ (valid : Validity) (public : Keys) (b : Below valid public) where
   -- what happened at it
-  pub record Accepted (m : Moment) (i n : ℕ) (r : Assertion) (row : Credential) : Type 0 where
-    pub passes : PassesAll valid (attempt_in (m.old.site i) n r)
+  pub record Accepted (m : Moment) (i n : ℕ) (r : AuthenticatorAssertionResponse) (row : Credential) : Type 0 where
+    pub passes : PassesSignIn valid (judged_sign_in (m.old.site i) n r)
     pub auth : AuthenticatorData
     pub spelled : AuthOf auth r.auth_data
     pub bare : auth.attested ≡ None
@@ -69,21 +76,22 @@ module _ (valid : Validity) (public : Keys) (b : Below valid public) where
     pub stored : row_of r.credential (m.new.site i).rows ≡ Some after
     pub count : after.sign_count ≡ auth.sign_count
 
-  record At (m : Moment) (i n : ℕ) (r : Assertion) : Type 0 where
-    pub site : State
+  record At (m : Moment) (i n : ℕ) (r : AuthenticatorAssertionResponse) : Type 0 where
+    pub site : SiteState
     pub signed_in : SignedIn valid public b (m.old.site i) n r site
     pub now : m.new.site i ≡ site
 
-  done_by : (old new : World) (e : Event) (i n : ℕ) (r : Assertion) → Effect valid public old e new → Brings e i n r
-      → (s : State) × SignedIn valid public b (old.site i) n r s × (new.site i ≡ s)
+  done_by : (old new : World) (e : Event) (i n : ℕ) (r : AuthenticatorAssertionResponse) → EventEffect valid public old e new → Brings e i n r
+      → (s : SiteState) × SignedIn valid public b (old.site i) n r s × (new.site i ≡ s)
   done_by old new (AtSite j e) i n r effect brings =
-      subst (λ (l : ℕ). (s : State) × SignedIn valid public b (old.site l) n r s × (new.site l ≡ s)) brings.0
+      subst (λ (l : ℕ). (s : SiteState) × SignedIn valid public b (old.site l) n r s × (new.site l ≡ s)) brings.0
       (effect.0, signs_in valid public b (old.site j) effect.0 e n r effect.1 brings.1, effect.2.now)
   done_by old new (Asks k channel bs consent words) i n r effect brings = absurd brings
 
-  pub accepted : (m : Moment) (i n : ℕ) (r : Assertion) (row : Credential) → Lived valid public b m → IsAccepted m i n r row → Accepted m i n r row
+  pub accepted : (m : Moment) (i n : ℕ) (r : AuthenticatorAssertionResponse) (row : Credential) → Lived valid public b m → IsAccepted m i n r row
+      → Accepted m i n r row
   accepted m i n r row l acc =
-      let x = done_by m.old m.new m.event i n r (subst (λ (e : End). Happens valid public m.old m.event e m.new) acc.done l.happens) acc.tries.brings in
+      let x = done_by m.old m.new m.event i n r (subst (λ (e : EventEnd). Happens valid public m.old m.event e m.new) acc.done l.happens) acc.tries.brings in
       let passes = x.1.passes in
       let a = passes.1.1.1.1.1.1.1.1.1.0 in
       let stores = b.sites.stores (m.old.site i) n r x.0 row x.1.after acc.tries.found in
@@ -100,13 +108,14 @@ module _ (valid : Validity) (public : Keys) (b : Below valid public) where
       }
 
   -- what an entry of its message is
-  pub record Matches (a : AuthenticatorData) (r : Assertion) (e : Entry) : Type 0 where
+  pub record Matches (a : AuthenticatorData) (r : AuthenticatorAssertionResponse) (e : Entry) : Type 0 where
     pub purpose : e.purpose ≡ assertion
     pub counts : 1 ≤ a.sign_count
     pub present : is_set a.flags UP ≡ true → e.consent.present ≡ true
     pub verified : is_set a.flags UV ≡ true → e.consent.verified ≡ true
 
-  matches : (a : AuthenticatorData) (r : Assertion) (e : Entry) → AuthOf a r.auth_data → a.attested ≡ None → e.message ≡ message_of r → IsSound e → Matches a r e
+  matches : (a : AuthenticatorData) (r : AuthenticatorAssertionResponse) (e : Entry) → AuthOf a r.auth_data → a.attested ≡ None → e.message ≡ message_of r
+      → IsSound e → Matches a r e
   matches a r e is bare message (inl x) =
       let s = b.readings.one_front x.auth a x.bytes r.auth_data x.client_data_hash (sha256 r.client_data) x.spelled is (sym x.message ∙ message) in
       record {
@@ -120,7 +129,7 @@ module _ (valid : Validity) (public : Keys) (b : Below valid public) where
       let bad : Some x.attested ≡ None = sym x.full ∙ ap (λ (d : AuthenticatorData). d.attested) s.0 ∙ bare in
       absurd cc
 
-  fresh : (m : Moment) (i n : ℕ) (r : Assertion) → PassesAll valid (attempt_in (m.old.site i) n r) → IsFresh m i n r.client_data
+  fresh : (m : Moment) (i n : ℕ) (r : AuthenticatorAssertionResponse) → PassesSignIn valid (judged_sign_in (m.old.site i) n r) → IsFresh m i n r.client_data
   fresh m i n r passes =
       let e = the_one (sign_in_at n (m.old.site i).sessions) passes.0 in
       let x = the_one (seen_of r.client_data) passes.1.1.1.1.0 in
@@ -186,24 +195,28 @@ module _ (valid : Validity) (public : Keys) (b : Below valid public) where
       let a = accepted m i n r row lm am in
       let c = accepted l i k t low s.lived al in
       let x = matches a.auth r e a.spelled a.bare rm.message (sound_at m rm.there.0 e lm rm.there.1) in
-      let one = b.readings.one_front a.auth c.auth r.auth_data t.auth_data (sha256 r.client_data) (sha256 t.client_data) a.spelled c.spelled (sym rm.message ∙ rl.message) in
+      let one = b.readings.one_front a.auth c.auth r.auth_data t.auth_data (sha256 r.client_data) (sha256 t.client_data) a.spelled c.spelled (sym rm.message
+      ∙ rl.message) in
       let later = (s.goes_on i).rows r.credential a.after a.stored in
       let is : Some later.now ≡ Some low = sym later.found ∙ ap (λ id. row_of id (l.old.site i).rows) (a.id ∙ same) ∙ al.tries.found in
       let now : later.now.sign_count ≡ low.sign_count = ap (λ (z : Credential). z.sign_count) (same_Some later.now low is) in
-      clash a.auth.sign_count c.auth.sign_count a.after.sign_count later.now.sign_count low.sign_count x.counts (ap (λ (d : AuthenticatorData). d.sign_count) one.0) a.count later.sign_count now
+      clash a.auth.sign_count c.auth.sign_count a.after.sign_count later.now.sign_count low.sign_count x.counts
+      (ap (λ (d : AuthenticatorData). d.sign_count) one.0) a.count later.sign_count now
       (c.passes.1.1.1.1.1.1.1.1.1.1.1.1.1.1.0 low al.tries.found c.auth c.spelled)
 
   -- ---- sessions
 
-  takes_by : (old new : World) (e : Event) (i n : ℕ) → Effect valid public old e new → Answers e i n → ((j : ℕ) → site.IsFresh (old.site j)) → Takes (old.site i) (new.site i) n
+  takes_by : (old new : World) (e : Event) (i n : ℕ) → EventEffect valid public old e new → AnswersSession e i n → ((j : ℕ) → site.IsFresh (old.site j))
+      → Takes (old.site i) (new.site i) n
   takes_by old new (AtSite j e) i n effect answers fresh =
       subst (λ (l : ℕ). Takes (old.site l) (new.site l) n) answers.0
-      (subst (λ (z : State). Takes (old.site j) z n) (sym effect.2.now) (takes valid public b (old.site j) effect.0 e n (fresh j) effect.1 answers.1))
+      (subst (λ (z : SiteState). Takes (old.site j) z n) (sym effect.2.now) (takes valid public b (old.site j) effect.0 e n (fresh j) effect.1 answers.1))
   takes_by old new (Asks k channel bs consent words) i n effect answers fresh = absurd answers
 
-  takes_at : (m : Moment) (i n : ℕ) → Lived valid public b m → Answers m.event i n → m.end ≡ Done → Takes (m.old.site i) (m.new.site i) n
+  takes_at : (m : Moment) (i n : ℕ) → Lived valid public b m → AnswersSession m.event i n → m.end ≡ Done → Takes (m.old.site i) (m.new.site i) n
   takes_at m i n l answers done =
-      takes_by m.old m.new m.event i n (subst (λ (e : End). Happens valid public m.old m.event e m.new) done l.happens) answers (λ j. (l.sound.sites j).fresh)
+      takes_by m.old m.new m.event i n (subst (λ (e : EventEnd). Happens valid public m.old m.event e m.new) done l.happens) answers
+      (λ j. (l.sound.sites j).fresh)
 
   pub differ : (m l : Moment) → Lived valid public b m → Since valid public b m.new l → DifferInSession m l
   differ m l lm s i n em el am al =
@@ -211,7 +224,7 @@ module _ (valid : Validity) (public : Keys) (b : Below valid public) where
       let open_now = (takes_at l i n s.lived el al).was_open in
       none_there (finite.get (l.old.site i).sessions.expected n) open_now gone.1
 
-  session_to : (e : SiteEvent) (n : ℕ) (r : Assertion) → BringsTo e n r → session_in e ≡ Some n
+  session_to : (e : SiteEvent) (n : ℕ) (r : AuthenticatorAssertionResponse) → BringsTo e n r → session_in e ≡ Some n
   session_to (SignsIn k q) n r brings = ap Some brings.0
   session_to (SignsInBy k c ps t) n r brings = ap Some brings.0
   session_to (Begins o) n r brings = absurd brings
@@ -221,12 +234,12 @@ module _ (valid : Validity) (public : Keys) (b : Below valid public) where
   session_to (RegistersBy k c ps t) n r brings = absurd brings
   session_to Restarts n r brings = absurd brings
 
-  answers_at : (e : Event) (i n : ℕ) (r : Assertion) → Brings e i n r → Answers e i n
+  answers_at : (e : Event) (i n : ℕ) (r : AuthenticatorAssertionResponse) → Brings e i n r → AnswersSession e i n
   answers_at (AtSite j e) i n r brings = (brings.0, session_to e n r brings.1)
   answers_at (Asks k channel bs consent words) i n r brings = absurd brings
 
   -- the session whose challenge the client data have
-  pub record Challenged (s : State) (n : ℕ) (r : Assertion) : Type 0 where
+  pub record Challenged (s : SiteState) (n : ℕ) (r : AuthenticatorAssertionResponse) : Type 0 where
     pub seen : Seen
     pub reads : seen_of r.client_data ≡ Some seen
     pub challenge : List ℕ
@@ -236,7 +249,8 @@ module _ (valid : Validity) (public : Keys) (b : Below valid public) where
     pub begins : challenge ≡ challenge_of n words
     pub fits : n < 2 ^ 64
 
-  challenged : (m : Moment) (i n : ℕ) (r : Assertion) → Lived valid public b m → PassesAll valid (attempt_in (m.old.site i) n r) → Challenged (m.old.site i) n r
+  challenged : (m : Moment) (i n : ℕ) (r : AuthenticatorAssertionResponse) → Lived valid public b m → PassesSignIn valid (judged_sign_in (m.old.site i) n r)
+      → Challenged (m.old.site i) n r
   challenged m i n r l passes =
       let s = l.sound.sites i in
       let e = the_one (sign_in_at n (m.old.site i).sessions) passes.0 in
@@ -258,16 +272,20 @@ module _ (valid : Validity) (public : Keys) (b : Below valid public) where
   rests_once m l lm s i j n k r t row low am al apart clear e rm rl =
       let a = accepted m i n r row lm am in
       let c = accepted l j k t low s.lived al in
-      let one = b.readings.one_front a.auth c.auth r.auth_data t.auth_data (sha256 r.client_data) (sha256 t.client_data) a.spelled c.spelled (sym rm.message ∙ rl.message) in
-      let parties = sym (a.passes.1.1.1.1.1.1.1.1.1.1.0 a.auth a.spelled) ∙ ap (λ (d : AuthenticatorData). d.rp_id_hash) one.0 ∙ c.passes.1.1.1.1.1.1.1.1.1.1.0 c.auth c.spelled in
+      let one = b.readings.one_front a.auth c.auth r.auth_data t.auth_data (sha256 r.client_data) (sha256 t.client_data) a.spelled c.spelled (sym rm.message
+      ∙ rl.message) in
+      let parties = sym (a.passes.1.1.1.1.1.1.1.1.1.1.0 a.auth a.spelled) ∙ ap (λ (d : AuthenticatorData). d.rp_id_hash) one.0
+      ∙ c.passes.1.1.1.1.1.1.1.1.1.1.0 c.auth c.spelled in
       let site : i ≡ j = apart parties in
       let same : r.client_data ≡ t.client_data = clear one.2 in
       let x = challenged m i n r lm a.passes in
       let y = challenged l j k t s.lived c.passes in
       let seen : x.seen ≡ y.seen = same_Some x.seen y.seen (sym x.reads ∙ ap seen_of same ∙ y.reads) in
-      let challenges : x.challenge ≡ y.challenge = b.challenge_texts x.challenge y.challenge x.bytes y.bytes (sym x.is ∙ ap (λ (z : Seen). z.challenge) seen ∙ y.is) in
+      let challenges : x.challenge ≡ y.challenge =
+      b.challenge_texts x.challenge y.challenge x.bytes y.bytes (sym x.is ∙ ap (λ (z : Seen). z.challenge) seen ∙ y.is) in
       let number : n ≡ k = (b.sites.one_number n k x.words y.words x.fits y.fits (sym x.begins ∙ challenges ∙ y.begins)).0 in
       let em = answers_at m.event i n r am.tries.brings in
       let el = answers_at l.event j k t al.tries.brings in
-      let el_here : Answers l.event i n = subst (λ (z : ℕ). Answers l.event z n) (sym site) (subst (λ (z : ℕ). Answers l.event j z) (sym number) el) in
+      let el_here : AnswersSession l.event i n =
+      subst (λ (z : ℕ). AnswersSession l.event z n) (sym site) (subst (λ (z : ℕ). AnswersSession l.event j z) (sym number) el) in
       differ m l lm s i n em el_here am.done al.done

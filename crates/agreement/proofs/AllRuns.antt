@@ -18,7 +18,8 @@ of_all_runs valid public b w run start is ideal =
           (each_weaker (Since valid public b w) (Registered valid) (λ m s. fits_registration valid public b m s.lived) run
           (since valid public b w w run sound (at_start valid public b w) is));
       fits = All-from_recursion Fits run
-          (each_weaker (Since valid public b w) Fits (λ m s. fits valid public b m s.lived) run (since valid public b w w run sound (at_start valid public b w) is));
+          (each_weaker (Since valid public b w) Fits (λ m s. fits valid public b m s.lived) run
+          (since valid public b w w run sound (at_start valid public b w) is));
       agrees = All-from_recursion Agrees run
           (each_both valid public b (Since valid public b w) (IsIdeal valid) Agrees (λ m s k. agrees valid public b m s.lived k) run
           (since valid public b w w run sound (at_start valid public b w) is) (recursion_from_All (IsIdeal valid) run ideal));
@@ -26,6 +27,7 @@ of_all_runs valid public b w run start is ideal =
       rests_once = pairs valid public b RestsOnce (rests_once valid public b) w run sound is;
       sessions = pairs valid public b DifferInSession (differ valid public b) w run sound is;
       retiring = All-from_recursion Retiring run
-          (each_weaker (Since valid public b w) Retiring (λ m s. retiring valid public b m s.lived) run (since valid public b w w run sound (at_start valid public b w) is));
+          (each_weaker (Since valid public b w) Retiring (λ m s. retiring valid public b m s.lived) run
+          (since valid public b w w run sound (at_start valid public b w) is));
       retired = pairs valid public b StaysRetired (stays_retired valid public b) w run sound is;
     }

@@ -1,32 +1,35 @@
 -- A request that a client asks with is carried out, where consent is given and nothing stands against it.
-use Rattle.std.proofs.Common.{◌≡◌, ℕ, ◌<◌, ◌≤◌, List, [], ◌∷◌, length, map, Bool, true, false, not, ◌&&◌, ◌||◌, Some, None, is_none, is_some, cond, find, refl, sym, ◌∙◌, ap, subst, arith, rules, inl, inr, Contains}
+use Rattle.std.proofs.Common.{◌≡◌, ℕ, ◌<◌, ◌≤◌, List, [], ◌∷◌, length, map, Bool, true, false, not, ◌&&◌, ◌||◌, Some, None, is_none, is_some, cond}
+use Rattle.std.proofs.Common.{find, refl, sym, ◌∙◌, ap, subst, arith, rules, inl, inr, Contains}
 use Rattle.std.specs.Prelude.{nat_le, option_map}
 use Rattle.std.specs.List.{AllByRecursion}
-use Rattle.first_line.specs.Lines.{first_true}
-use Rattle.first_line.proofs.Laws.{none_first}
+use Rattle.refusal_order.specs.Lines.{first_true}
+use Rattle.refusal_order.proofs.Laws.{none_first}
 use Rattle.cose.specs.Schemes.{Validity}
 use Rattle.cose.specs.declared.key.Alg.{Alg}
 use Rattle.cose.specs.declared.key.Alg.TheVariants as algs
-use Rattle.ctapmsg.specs.Entities.{AssertionFlags, CreationFlags}
-use Rattle.ctapmsg.specs.Requests.{RequestMessage}
-use Rattle.ctapmsg.specs.Status.{ranks}
-use Rattle.authenticator.specs.State.{State}
+use Rattle.ctap_requests.specs.Entities.{AssertionFlags, CreationFlags}
+use Rattle.ctap_requests.specs.Requests.{RequestMessage}
+use Rattle.ctap_requests.specs.Status.{ranks}
+use Rattle.authenticator.specs.State.{AuthenticatorState}
 use Rattle.authenticator.specs.Credentials.{credential_of}
 use Rattle.authenticator.specs.Orders as order
-use Rattle.authenticator.specs.Orders.{assertion_order, candidates, creation_order, first_is_at_end, first_supported, is_empty, is_excluded, is_false, is_true, kept, supported_by}
-use Rattle.authenticator.specs.Steps.{Carries, Keys, Outcome, Step}
+use Rattle.authenticator.specs.Orders.{assertion_order, candidates, creation_order, first_is_at_end, first_supported, is_empty, is_excluded}
+use Rattle.authenticator.specs.Orders.{is_false, is_true, kept, supported_by}
+use Rattle.authenticator.specs.Steps.{CarriesOut, Keys, Outcome, Step}
 use Rattle.authenticator.specs.declared.consent.Consent.{Consent}
 use Rattle.authenticator.specs.declared.consent.Words.{Words}
-use Rattle.client.specs.Options.{Registration, SignIn}
+use Rattle.client.specs.Options.{RegistrationOptions, SignInOptions}
 use Rattle.client.specs.Asked as client
 use Rattle.client.specs.Asked.{IsWritten, assertion_of, creation_of, descriptors_of, parameters_of, wanted}
 
 -- the request that was written is the one that is read
-pub carried_out : (valid : Validity) (public : Keys) (old : State) (channel : ℕ) (bs : List ℕ) (consent : Consent) (words : Words) (out : Outcome) (q : RequestMessage) → IsWritten q bs
-    → Step valid public old channel bs consent words out → Carries valid public old channel consent words q out
+pub carried_out : (valid : Validity) (public : Keys) (old : AuthenticatorState) (channel : ℕ) (bs : List ℕ) (consent : Consent) (words : Words) (out : Outcome)
+    (q : RequestMessage) → IsWritten q bs
+    → Step valid public old channel bs consent words out → CarriesOut valid public old channel consent words q out
 carried_out valid public old channel bs consent words out q w s = elim s [
   | inl r ↦ absurd (none_first (λ x no yes. no yes) ranks r.0 w.1 r.1)
-  | inr k ↦ subst (λ (p : RequestMessage). Carries valid public old channel consent words p out) (sym (k.1.only q None w.0)) k.2
+  | inr k ↦ subst (λ (p : RequestMessage). CarriesOut valid public old channel consent words p out) (sym (k.1.only q None w.0)) k.2
 ]
 
 -- ---- options
@@ -90,8 +93,10 @@ none_true (l ∷ lines) h = ap (λ b. option_map (λ x. x.1) (cond b (Some l) (f
 below_room : (n : ℕ) → n < 256 → nat_le 256 n ≡ false
 below_room n lt = search (rules, lt)
 
-pub none_against_creation : (a : State) (o : Registration) (t : List ℕ) (consent : Consent) (words : Words) → 1 ≤ length o.algs → (o.uv ≡ true → a.uv ≡ true) → consent.present ≡ true
-    → (o.uv ≡ true → consent.verified ≡ true) → is_excluded o.rp_id a.credentials (descriptors_of o.exclude) ≡ false → credential_of words.id a.credentials ≡ None
+pub none_against_creation : (a : AuthenticatorState) (o : RegistrationOptions) (t : List ℕ) (consent : Consent) (words : Words) → 1 ≤ length o.algs
+    → (o.uv ≡ true → a.uv ≡ true) → consent.present ≡ true
+    → (o.uv ≡ true → consent.verified ≡ true) → is_excluded o.rp_id a.credentials (descriptors_of o.exclude) ≡ false
+    → credential_of words.id a.credentials ≡ None
     → length (kept a.credentials (creation_of o t)) < 256 → first_true (creation_order a (creation_of o t) consent words) ≡ None
 none_against_creation a o t consent words offered configured present verified excluded new room =
     let alg = chosen o.algs offered in
@@ -104,8 +109,10 @@ none_against_creation a o t consent words offered configured present verified ex
     none_true (creation_order a (creation_of o t) consent words)
     (ap is_none alg.1, (met, (given, (excluded, (ap is_some new, (below_room (length (kept a.credentials (creation_of o t))) room, tt))))))
 
-pub none_against_assertion : (a : State) (o : SignIn) (t : List ℕ) (consent : Consent) (id : List ℕ) (ids : List (List ℕ)) → (o.uv ≡ true → a.uv ≡ true) → consent.present ≡ true
-    → (o.uv ≡ true → consent.verified ≡ true) → candidates a.credentials o.rp_id (descriptors_of o.allow) ≡ id ∷ ids → order.is_at_end (credential_of id a.credentials) ≡ false
+pub none_against_assertion : (a : AuthenticatorState) (o : SignInOptions) (t : List ℕ) (consent : Consent) (id : List ℕ) (ids : List (List ℕ))
+    → (o.uv ≡ true → a.uv ≡ true) → consent.present ≡ true
+    → (o.uv ≡ true → consent.verified ≡ true) → candidates a.credentials o.rp_id (descriptors_of o.allow) ≡ id ∷ ids
+    → order.is_at_end (credential_of id a.credentials) ≡ false
     → first_true (assertion_order a (assertion_of o t) consent) ≡ None
 none_against_assertion a o t consent id ids configured present verified first below =
     let asks = asserts_verified o.uv in

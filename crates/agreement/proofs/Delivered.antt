@@ -2,7 +2,7 @@
 use Rattle.std.proofs.Common.{◌≡◌, ℕ, ◌+◌, ◌<◌, ◌^◌, ◌==◌, inl, List, [], ◌∷◌, ◌++◌, length, map, refl, sym, ◌∙◌, ap, subst, arith, append_assoc}
 use Rattle.std.specs.List.{AllByRecursion}
 use Rattle.std.proofs.lemmas.Bool.{eq-eqb}
-use Rattle.first_line.proofs.Laws.{each_joined}
+use Rattle.refusal_order.proofs.Laws.{each_joined}
 use Rattle.hidframe.specs.declared.Packet.{Packet}
 use Rattle.hidframe.specs.Packets.{Fields, fields}
 use Rattle.hidframe.specs.Frames.{Frames, continuations}
@@ -32,7 +32,8 @@ last_frame : (c cmd : ℕ) (m : List ℕ) (ps : List Packet) → Frames c cmd m 
 last_frame c cmd m [] x = let bad = x.packets in absurd cc
 last_frame c cmd m (p ∷ ps) x = last_of _ p ps (frames_on c cmd m (p ∷ ps) x)
 
-pub carries : Links → (c : ℕ) (reply : List ℕ) (waits sent : List Packet) → c < 2 ^ 32 → IsPayload reply → AreWaits c waits → sent ≡ waits ++ frame_list c 16 reply → Carries c sent 16 reply
+pub carries : Links → (c : ℕ) (reply : List ℕ) (waits sent : List Packet) → c < 2 ^ 32 → IsPayload reply → AreWaits c waits
+    → sent ≡ waits ++ frame_list c 16 reply → Carries c sent 16 reply
 carries links c reply waits sent low payload are all =
     let z = links.frames c 16 reply low (omega arith) payload.0 payload.1 in
     let x = z.frames.frames in
@@ -53,7 +54,8 @@ carries links c reply waits sent low payload are all =
       kind = inl refl;
     }
 
-pub delivers : Links → (c : ℕ) (reply : List ℕ) (waits sent : List Packet) → c < 2 ^ 32 → IsPayload reply → AreWaits c waits → sent ≡ waits ++ frame_list c 16 reply
+pub delivers : Links → (c : ℕ) (reply : List ℕ) (waits sent : List Packet) → c < 2 ^ 32 → IsPayload reply → AreWaits c waits
+    → sent ≡ waits ++ frame_list c 16 reply
     → Delivers c sent (length sent) reply
 delivers links c reply waits sent low payload are all =
     (omega arith, subst (λ (ps : List Packet). Carries c ps 16 reply) (sym (all_taken sent)) (carries links c reply waits sent low payload are all))

@@ -16,7 +16,8 @@ nothing : (ps : List Packet) → map fields ps ≡ [] → ps ≡ []
 nothing [] e = refl
 nothing (p ∷ ps) e = absurd cc
 
-is_wait : (c : ℕ) (ps : List Packet) (first rest : List ℕ) (later : List (List ℕ)) → map fields ps ≡ Initial c 59 1 first ∷ continuations c 0 later → length later ≡ 0
+is_wait : (c : ℕ) (ps : List Packet) (first rest : List ℕ) (later : List (List ℕ)) → map fields ps ≡ Initial c 59 1 first ∷ continuations c 0 later
+    → length later ≡ 0
     → first ++ joined later ≡ 2 ∷ rest → AreWaits c ps
 is_wait c [] first rest [] e none begins = absurd cc
 is_wait c (p ∷ ps) first rest [] e none begins =

@@ -1,34 +1,40 @@
 -- Each entry was signed, and each key made, at a request of the run.
-use Rattle.std.proofs.Common.{◌≡◌, ◌⊎◌, ◌+◌, inl, inr, ℕ, List, [], ◌∷◌, ◌++◌, Bool, true, false, Option, Some, None, refl, sym, ◌∙◌, ap, subst, append_assoc, append-nil, arith, cond, Contains}
+use Rattle.std.proofs.Common.{◌≡◌, ◌⊎◌, ◌+◌, inl, inr, ℕ, List, [], ◌∷◌, ◌++◌, Bool, true, false, Option, Some, None, refl, sym, ◌∙◌, ap, subst}
+use Rattle.std.proofs.Common.{append_assoc, append-nil, arith, cond, Contains}
 use Rattle.std.specs.Prelude.{IfSome, if◌then◌else◌}
 use Rattle.std.specs.List.{All}
 use Rattle.std.specs.List.{AllByRecursion as Each}
 use Rattle.std.specs.Str.{bytes_eq}
 use Rattle.std.proofs.lemmas.Bool.{cases_Bool}
 use Rattle.std.proofs.lemmas.Bool.Decides.{eqb_tells}
-use Rattle.std.proofs.lemmas.List.Elements.{All-append, All-cons, All-from_recursion, All-nil, All-same, All-weaker, Contains-append_left, Contains-append_right}
-use Rattle.first_line.specs.Lines.{first_true}
-use Rattle.first_line.proofs.Laws.{each_joined}
+use Rattle.std.proofs.lemmas.List.Elements.{All-append, All-cons, All-from_recursion, All-nil, All-same, All-weaker, Contains-append_left}
+use Rattle.std.proofs.lemmas.List.Elements.{Contains-append_right}
+use Rattle.refusal_order.specs.Lines.{first_true}
+use Rattle.refusal_order.proofs.Laws.{each_joined}
 use Rattle.cose.specs.Schemes.{Validity}
 use Rattle.cose.specs.declared.key.CoseKey.{CoseKey}
 use Rattle.authdata.specs.declared.statement.AttestationType.{AttestationType}
 use Rattle.authdata.specs.declared.statement.AttestationType.TheVariants as types
-use Rattle.ctapmsg.specs.Replies.{Assertion, ReplyMessage, next_reply}
-use Rattle.ctapmsg.specs.Requests.{AssertionRequest, CreationRequest, RequestMessage, get_assertion, get_info, get_next_assertion, make_credential, reset}
-use Rattle.ctapmsg.specs.Status.{IsRequest, status_of}
-use Rattle.authenticator.specs.State.{Asked, Credential, Remembered, State}
+use Rattle.ctap_replies.specs.Replies.{Assertion, ReplyMessage, next_reply}
+use Rattle.ctap_requests.specs.Requests.{AssertionRequest, CreationRequest, RequestMessage, get_assertion, get_info, get_next_assertion, make_credential, reset}
+use Rattle.ctap_requests.specs.Status.{IsRequest, status_of}
+use Rattle.authenticator.specs.State.{Asked, CredentialSource, Remembered, AuthenticatorState}
 use Rattle.authenticator.specs.Credentials.{credential_of, is_resident_of, with_sign_count, without_first}
 use Rattle.authenticator.specs.Orders.{assertion_order, candidates, creation_flags, creation_order, is_true, kept, next_order, remembered_on, reset_order}
-use Rattle.authenticator.specs.Steps.{Answers, Attests, Carries, Creates, Entry, FirstAnswers, Keys, NextAnswers, Outcome, Resets, Step, Unless, asked_by, assertion, assertion_data, attestation, creation_data, key_of, new_credential, refusal, remembering}
+use Rattle.authenticator.specs.Steps.{AnswersWith, MakesStatement, CarriesOut, Creates, Entry, FirstAnswers, Keys, NextAnswers, Outcome, Resets}
+use Rattle.authenticator.specs.Steps.{Step, Unless, asked_by, assertion, assertion_data, attestation, creation_data, key_of, new_credential, refusal}
+use Rattle.authenticator.specs.Steps.{remembering}
 use Rattle.authenticator.specs.declared.consent.Consent.{Consent}
 use Rattle.authenticator.specs.declared.consent.Words.{Words}
 use Rattle.authenticator.proofs.Stored.{each_weaker}
-use Rattle.agreement.specs.World.{Asks, AtSite, Done, Effect, End, Event, Happens, Holder, IsNew, IsRun, Moment, Nothing, World, after_call}
-use Rattle.agreement.specs.Ledger.{IsAsked, IsAsserted, IsAttested, IsBetween, IsElsewhere, IsMadeIn, IsNextAsserted, IsSignedIn, LedgerOfAllRuns, Signs, world_after}
+use Rattle.agreement.specs.World.{Asks, AtSite, Done, EventEffect, EventEnd, Event, Happens, Holder, IsNew, IsRun, Moment, Nothing, World, after_call}
+use Rattle.agreement.specs.Ledger.{IsAsked, IsAsserted, IsAttested, IsBetween, IsElsewhere, IsMadeIn, IsNextAsserted, IsSignedInRun, LedgerOfAllRuns}
+use Rattle.agreement.specs.Ledger.{Signs, world_after}
 
 -- ---- one more moment
 
-longer : (before later : List Moment) (moment m : Moment) (past : List Moment) → past ≡ before ++ moment ∷ later → past ++ m ∷ [] ≡ before ++ moment ∷ (later ++ m ∷ [])
+longer : (before later : List Moment) (moment m : Moment) (past : List Moment) → past ≡ before ++ moment ∷ later
+    → past ++ m ∷ [] ≡ before ++ moment ∷ (later ++ m ∷ [])
 longer before later moment m past here = ap (λ ms. ms ++ m ∷ []) here ∙ append_assoc before (moment ∷ later) (m ∷ [])
 
 still_attested : (k : ℕ) (past : List Moment) (m : Moment) (e : Entry) → IsAttested k past e → IsAttested k (past ++ m ∷ []) e
@@ -78,7 +84,7 @@ still_next k past m e x = record {
   signs = x.signs;
 }
 
-still_signed : (k : ℕ) (past : List Moment) (m : Moment) (e : Entry) → IsSignedIn k past e → IsSignedIn k (past ++ m ∷ []) e
+still_signed : (k : ℕ) (past : List Moment) (m : Moment) (e : Entry) → IsSignedInRun k past e → IsSignedInRun k (past ++ m ∷ []) e
 still_signed k past m e (inl x) = inl (still_attested k past m e x)
 still_signed k past m e (inr (inl x)) = inr (inl (still_asserted k past m e x))
 still_signed k past m e (inr (inr x)) = inr (inr (still_next k past m e x))
@@ -103,7 +109,7 @@ still_made public k past m key x = record {
 -- ---- credentials
 
 -- what holds of each credential holds of that of an id
-of_found : (P : Credential → Type 0) (id : List ℕ) (cs : List Credential) (c : Credential) → Each P cs → credential_of id cs ≡ Some c → P c
+of_found : (P : CredentialSource → Type 0) (id : List ℕ) (cs : List CredentialSource) (c : CredentialSource) → Each P cs → credential_of id cs ≡ Some c → P c
 of_found P id [] c h e = absurd cc
 of_found P id (x ∷ cs) c h e = elim (cases_Bool (bytes_eq x.id id)) [
   | inl first ↦
@@ -113,21 +119,22 @@ of_found P id (x ∷ cs) c h e = elim (cases_Bool (bytes_eq x.id id)) [
 ]
 
 -- and of each with a counter that has grown, if it does not speak of counters
-counted : (P : Credential → Type 0) (id : List ℕ) (n : ℕ) (cs : List Credential) → ((c : Credential) → P c → P (record c { sign_count = n })) → Each P cs → Each P (with_sign_count id n cs)
+counted : (P : CredentialSource → Type 0) (id : List ℕ) (n : ℕ) (cs : List CredentialSource) → ((c : CredentialSource) → P c → P (record c { sign_count = n }))
+    → Each P cs → Each P (with_sign_count id n cs)
 counted P id n [] f h = tt
 counted P id n (c ∷ cs) f h = either (counted P id n cs f h.1) (bytes_eq c.id id) where
   either : Each P (with_sign_count id n cs) → (b : Bool) → Each P (if b then (record c { sign_count = n }) ∷ cs else c ∷ with_sign_count id n cs)
   either rest true = (f c h.0, h.1)
   either rest false = (h.0, rest)
 
-fewer : (P : Credential → Type 0) (test : Credential → Bool) (cs : List Credential) → Each P cs → Each P (without_first test cs)
+fewer : (P : CredentialSource → Type 0) (test : CredentialSource → Bool) (cs : List CredentialSource) → Each P cs → Each P (without_first test cs)
 fewer P test [] h = tt
 fewer P test (c ∷ cs) h = either (fewer P test cs h.1) (test c) where
   either : Each P (without_first test cs) → (b : Bool) → Each P (if b then cs else c ∷ without_first test cs)
   either rest true = h.1
   either rest false = (h.0, rest)
 
-those_kept : (P : Credential → Type 0) (cs : List Credential) (q : CreationRequest) → Each P cs → Each P (kept cs q)
+those_kept : (P : CredentialSource → Type 0) (cs : List CredentialSource) (q : CreationRequest) → Each P cs → Each P (kept cs q)
 those_kept P cs q h = either (is_true (creation_flags q.options).rk) where
   either : (b : Bool) → Each P (if b then without_first (is_resident_of q.rp.id q.user.id) cs else cs)
   either true = fewer P (is_resident_of q.rp.id q.user.id) cs h
@@ -150,7 +157,8 @@ record Remembers (k : ℕ) (past : List Moment) (asked : Asked) : Type 0 where
 abbrev Remembering : ℕ → List Moment → Option Remembered → Type 0
 Remembering k past o = IfSome o (λ r. Remembers k past r.asked)
 
-still_remembers : (k : ℕ) (past : List Moment) (m : Moment) (asked : Asked) → IsBetween k asked.channel m → Remembers k past asked → Remembers k (past ++ m ∷ []) asked
+still_remembers : (k : ℕ) (past : List Moment) (m : Moment) (asked : Asked) → IsBetween k asked.channel m → Remembers k past asked
+    → Remembers k (past ++ m ∷ []) asked
 still_remembers k past m asked is x = record {
   before = x.before;
   first = x.first;
@@ -164,23 +172,25 @@ still_remembers k past m asked is x = record {
       (All-cons (IsBetween k asked.channel) m [] is (All-nil (IsBetween k asked.channel)));
 }
 
-still_remembering : (k : ℕ) (past : List Moment) (m : Moment) (o : Option Remembered) → ((channel : ℕ) → IsBetween k channel m) → Remembering k past o → Remembering k (past ++ m ∷ []) o
+still_remembering : (k : ℕ) (past : List Moment) (m : Moment) (o : Option Remembered) → ((channel : ℕ) → IsBetween k channel m) → Remembering k past o
+    → Remembering k (past ++ m ∷ []) o
 still_remembering k past m None is x = tt
 still_remembering k past m (Some r) is x = still_remembers k past m r.asked (is r.asked.channel) x
 
 module _ (valid : Validity) (public : Keys) where
-  abbrev IsOf : List CoseKey → Credential → Type 0
+  abbrev IsOf : List CoseKey → CredentialSource → Type 0
   IsOf made c = Contains made (key_of public c)
 
   record Account (k : ℕ) (past : List Moment) (h : Holder) : Type 0 where
-    pub signed : All (IsSignedIn k past) h.signed
+    pub signed : All (IsSignedInRun k past) h.signed
     pub made : All (IsMadeIn public k past) h.made
     pub stored : Each (IsOf h.made) h.state.credentials
     pub remembered : Remembering k past h.state.remembered
 
-  untouched : (k : ℕ) (past : List Moment) (m : Moment) (h : Holder) → (m.end ≡ Nothing) ⊎ IsElsewhere k m.event → Account k past h → Account k (past ++ m ∷ []) h
+  untouched : (k : ℕ) (past : List Moment) (m : Moment) (h : Holder) → (m.end ≡ Nothing) ⊎ IsElsewhere k m.event → Account k past h
+      → Account k (past ++ m ∷ []) h
   untouched k past m h apart x = record {
-    signed = All-weaker (IsSignedIn k past) (IsSignedIn k (past ++ m ∷ [])) (λ e. still_signed k past m e) h.signed x.signed;
+    signed = All-weaker (IsSignedInRun k past) (IsSignedInRun k (past ++ m ∷ [])) (λ e. still_signed k past m e) h.signed x.signed;
     made = All-weaker (IsMadeIn public k past) (IsMadeIn public k (past ++ m ∷ [])) (λ key. still_made public k past m key) h.made x.made;
     stored = x.stored;
     remembered = still_remembering k past m h.state.remembered (λ channel. inl apart) x.remembered;
@@ -188,9 +198,10 @@ module _ (valid : Validity) (public : Keys) where
 
   -- ---- a request
 
-  module _ (k channel : ℕ) (bs : List ℕ) (consent : Consent) (words : Words) (past : List Moment) (m : Moment) (out : Outcome) (event : m.event ≡ Asks k channel bs consent words)
+  module _ (k channel : ℕ) (bs : List ℕ) (consent : Consent) (words : Words) (past : List Moment) (m : Moment) (out : Outcome)
+      (event : m.event ≡ Asks k channel bs consent words)
       (done : m.end ≡ Done) (now : m.new.holder k ≡ after_call (m.old.holder k) out) (x : Account k past (m.old.holder k)) where
-    abbrev old : State
+    abbrev old : AuthenticatorState
     old = (m.old.holder k).state
 
     abbrev all : List Moment
@@ -201,20 +212,20 @@ module _ (valid : Validity) (public : Keys) where
 
     -- what the call adds
     record Adds : Type 0 where
-      pub signed : All (IsSignedIn k all) out.signed
+      pub signed : All (IsSignedInRun k all) out.signed
       pub made : All (IsMadeIn public k all) out.made
       pub stored : Each (IsOf ((m.old.holder k).made ++ out.made)) out.state.credentials
       pub remembered : Remembering k all out.state.remembered
 
     nothing_more : out.signed ≡ [] → out.made ≡ [] → Each (IsOf ((m.old.holder k).made ++ out.made)) out.state.credentials → out.state.remembered ≡ None → Adds
     nothing_more signed made stored none = record {
-      signed = All-same (IsSignedIn k all) out.signed [] signed (All-nil (IsSignedIn k all));
+      signed = All-same (IsSignedInRun k all) out.signed [] signed (All-nil (IsSignedInRun k all));
       made = All-same (IsMadeIn public k all) out.made [] made (All-nil (IsMadeIn public k all));
       stored = stored;
       remembered = subst (Remembering k all) (sym none) tt;
     }
 
-    more : (c : Credential) → IsOf (m.old.holder k).made c → IsOf ((m.old.holder k).made ++ out.made) c
+    more : (c : CredentialSource) → IsOf (m.old.holder k).made c → IsOf ((m.old.holder k).made ++ out.made) c
     more c h = Contains-append_left (m.old.holder k).made out.made (key_of public c) h
 
     still : Each (IsOf ((m.old.holder k).made ++ out.made)) old.credentials
@@ -223,7 +234,7 @@ module _ (valid : Validity) (public : Keys) where
     refused : (status : ℕ) → out ≡ refusal old status → Adds
     refused status is =
         nothing_more (ap (λ (o : Outcome). o.signed) is) (ap (λ (o : Outcome). o.made) is)
-        (subst (λ (s : State). Each (IsOf ((m.old.holder k).made ++ out.made)) s.credentials) (sym (ap (λ (o : Outcome). o.state) is)) still)
+        (subst (λ (s : AuthenticatorState). Each (IsOf ((m.old.holder k).made ++ out.made)) s.credentials) (sym (ap (λ (o : Outcome). o.state) is)) still)
         (ap (λ (o : Outcome). o.state.remembered) is)
 
     unless : (o : Option ℕ) (P : Type 0) → (P → Adds) → Unless o old out P → Adds
@@ -257,18 +268,24 @@ module _ (valid : Validity) (public : Keys) where
             is = refl;
             made = made_now;
           }) (All-nil (IsMadeIn public k all)));
-          stored = subst (λ (s : State). Each (IsOf ((m.old.holder k).made ++ out.made)) s.credentials) (sym c.state)
+          stored = subst (λ (s : AuthenticatorState). Each (IsOf ((m.old.holder k).made ++ out.made)) s.credentials) (sym c.state)
               (each_joined (IsOf ((m.old.holder k).made ++ out.made)) (kept old.credentials q) (new ∷ [])
               (those_kept (IsOf ((m.old.holder k).made ++ out.made)) old.credentials q still) (has_new, tt));
-          remembered = subst (Remembering k all) (sym (ap (λ (s : State). s.remembered) c.state)) tt;
+          remembered = subst (Remembering k all) (sym (ap (λ (s : AuthenticatorState). s.remembered) c.state)) tt;
         }
       where
         attested : (q : CreationRequest) → IsRequest (make_credential q) bs → (c : Creates valid public old q consent words out) (attest : AttestationType)
-            → Attests valid (public c.alg words.secret) q.client_data_hash consent attest c.shown out.signed → Contains (m.new.holder k).made (public c.alg words.secret)
-            → All (IsSignedIn k all) out.signed
-        attested q is c types.None h made = All-same (IsSignedIn k all) out.signed [] h.2 (All-nil (IsSignedIn k all))
+            → MakesStatement valid (public c.alg words.secret) q.client_data_hash consent attest c.shown out.signed
+            → Contains (m.new.holder k).made (public c.alg words.secret)
+            → All (IsSignedInRun k all) out.signed
+        attested q is c types.None h made = All-same (IsSignedInRun k all) out.signed [] h.2 (All-nil (IsSignedInRun k all))
         attested q is c types.SelfSigned h made =
-            let e : Entry = record { key = public c.alg words.secret; message = c.shown.auth_data ++ q.client_data_hash; purpose = attestation; consent = consent } in
+            let e : Entry = record {
+              key = public c.alg words.secret;
+              message = c.shown.auth_data ++ q.client_data_hash;
+              purpose = attestation;
+              consent = consent;
+            } in
             let entry : IsAttested k all e = record {
               before = past;
               moment = m;
@@ -288,12 +305,14 @@ module _ (valid : Validity) (public : Keys) where
                 message = refl;
               };
             } in
-            All-same (IsSignedIn k all) out.signed (e ∷ []) h.2 (All-cons (IsSignedIn k all) e [] (inl entry) (All-nil (IsSignedIn k all)))
+            All-same (IsSignedInRun k all) out.signed (e ∷ []) h.2 (All-cons (IsSignedInRun k all) e [] (inl entry) (All-nil (IsSignedInRun k all)))
 
     -- ---- a credential answers
 
-    answered : (id : List ℕ) (a : Asked) (later : List (List ℕ)) (message : Assertion → ReplyMessage) (count : Option ℕ) (hash : List ℕ) → a.client_data_hash ≡ hash
-        → ((e : Entry) → e.consent ≡ a.consent → Signs k assertion hash e m → IsSignedIn k all e) → Remembers k all a → Answers valid public old id a later message count out → Adds
+    answered : (id : List ℕ) (a : Asked) (later : List (List ℕ)) (message : Assertion → ReplyMessage) (count : Option ℕ) (hash : List ℕ)
+        → a.client_data_hash ≡ hash
+        → ((e : Entry) → e.consent ≡ a.consent → Signs k assertion hash e m → IsSignedInRun k all e) → Remembers k all a
+        → AnswersWith valid public old id a later message count out → Adds
     answered id a later message count hash same enter remembers is =
         let c = is.credential in
         let e : Entry = record { key = key_of public c; message = is.shown.auth_data ++ a.client_data_hash; purpose = assertion; consent = a.consent } in
@@ -309,18 +328,20 @@ module _ (valid : Validity) (public : Keys) where
           message = ap (λ l. is.shown.auth_data ++ l) same;
         } in
         record {
-          signed = All-same (IsSignedIn k all) out.signed (e ∷ []) is.signed (All-cons (IsSignedIn k all) e [] (enter e refl signs) (All-nil (IsSignedIn k all)));
+          signed = All-same (IsSignedInRun k all) out.signed (e ∷ []) is.signed
+              (All-cons (IsSignedInRun k all) e [] (enter e refl signs) (All-nil (IsSignedInRun k all)));
           made = All-same (IsMadeIn public k all) out.made [] is.made (All-nil (IsMadeIn public k all));
-          stored = subst (λ (s : State). Each (IsOf ((m.old.holder k).made ++ out.made)) s.credentials) (sym is.state)
+          stored = subst (λ (s : AuthenticatorState). Each (IsOf ((m.old.holder k).made ++ out.made)) s.credentials) (sym is.state)
               (counted (IsOf ((m.old.holder k).made ++ out.made)) id (c.sign_count + 1) old.credentials (λ y h. h) still);
-          remembered = subst (Remembering k all) (sym (ap (λ (s : State). s.remembered) is.state)) (others later);
+          remembered = subst (Remembering k all) (sym (ap (λ (s : AuthenticatorState). s.remembered) is.state)) (others later);
         }
       where
         others : (ids : List (List ℕ)) → Remembering k all (remembering a ids)
         others [] = tt
         others (i ∷ ids) = remembers
 
-    first_answered : (q : AssertionRequest) (ids : List (List ℕ)) → IsRequest (get_assertion q) bs → FirstAnswers valid public old ids (asked_by channel q consent) out → Adds
+    first_answered : (q : AssertionRequest) (ids : List (List ℕ)) → IsRequest (get_assertion q) bs
+        → FirstAnswers valid public old ids (asked_by channel q consent) out → Adds
     first_answered q [] is h = absurd h
     first_answered q (id ∷ ids) is h =
         answered id (asked_by channel q consent) ids _ _ q.client_data_hash refl
@@ -349,9 +370,10 @@ module _ (valid : Validity) (public : Keys) where
         h
 
     next_answered : (r : Remembered) → r.asked.channel ≡ channel → Remembers k past r.asked → IsRequest get_next_assertion bs
-        → Answers valid public old r.next r.asked r.later next_reply None out → Adds
+        → AnswersWith valid public old r.next r.asked r.later next_reply None out → Adds
     next_answered r on y is h =
-        let between : IsBetween k r.asked.channel m = inr (consent, words, subst (λ (c : ℕ). IsAsked k c consent words get_next_assertion m) (sym on) (asked get_next_assertion is)) in
+        let between : IsBetween k r.asked.channel m =
+        inr (consent, words, subst (λ (c : ℕ). IsAsked k c consent words get_next_assertion m) (sym on) (asked get_next_assertion is)) in
         answered r.next r.asked r.later next_reply None y.request.client_data_hash y.hash
         (λ e given signs. inr (inr (record {
           before = y.before;
@@ -372,7 +394,8 @@ module _ (valid : Validity) (public : Keys) where
         })))
         (still_remembers k past m r.asked between y) h
 
-    next_of : (o : Option Remembered) → Remembering k past o → IsRequest get_next_assertion bs → NextAnswers valid public old (remembered_on channel o) out → Adds
+    next_of : (o : Option Remembered) → Remembering k past o → IsRequest get_next_assertion bs → NextAnswers valid public old (remembered_on channel o) out
+        → Adds
     next_of None y is h = absurd h
     next_of (Some r) y is h = elim (eqb_tells r.asked.channel channel) [
       | inl on ↦ next_answered r on.1 y is (subst (λ (b : Bool). NextAnswers valid public old (if b then Some r else None) out) on.0 h)
@@ -381,18 +404,21 @@ module _ (valid : Validity) (public : Keys) where
 
     -- ---- each request
 
-    carried : (q : RequestMessage) → IsRequest q bs → Carries valid public old channel consent words q out → Adds
+    carried : (q : RequestMessage) → IsRequest q bs → CarriesOut valid public old channel consent words q out → Adds
     carried (make_credential q) is h = unless (first_true (creation_order old q consent words)) (Creates valid public old q consent words out) (created q is) h
     carried (get_assertion q) is h =
         let ids = candidates old.credentials q.rp_id q.allow_list in
         unless (first_true (assertion_order old q consent)) (FirstAnswers valid public old ids (asked_by channel q consent) out) (first_answered q ids is) h
     carried get_next_assertion is h =
-        unless (first_true (next_order old channel)) (NextAnswers valid public old (remembered_on channel old.remembered) out) (next_of old.remembered x.remembered is) h
+        unless (first_true (next_order old channel)) (NextAnswers valid public old (remembered_on channel old.remembered) out)
+        (next_of old.remembered x.remembered is) h
     carried get_info is h =
-        nothing_more h.signed h.made (subst (λ (s : State). Each (IsOf ((m.old.holder k).made ++ out.made)) s.credentials) (sym h.state) still) (ap (λ (s : State). s.remembered) h.state)
+        nothing_more h.signed h.made (subst (λ (s : AuthenticatorState). Each (IsOf ((m.old.holder k).made ++ out.made)) s.credentials) (sym h.state) still)
+        (ap (λ (s : AuthenticatorState). s.remembered) h.state)
     carried reset is h =
         unless (first_true (reset_order consent)) (Resets old out)
-        (λ r. nothing_more r.signed r.made (subst (λ (s : State). Each (IsOf ((m.old.holder k).made ++ out.made)) s.credentials) (sym r.state) tt) (ap (λ (s : State). s.remembered) r.state)) h
+        (λ r. nothing_more r.signed r.made (subst (λ (s : AuthenticatorState). Each (IsOf ((m.old.holder k).made ++ out.made)) s.credentials) (sym r.state) tt)
+        (ap (λ (s : AuthenticatorState). s.remembered) r.state)) h
 
     stepped : Step valid public old channel bs consent words out → Adds
     stepped (inl unread) = refused (status_of unread.0) unread.2
@@ -402,8 +428,8 @@ module _ (valid : Validity) (public : Keys) where
     called s =
         let a = stepped s in
         subst (Account k all) (sym now) (record {
-          signed = All-append (IsSignedIn k all) (m.old.holder k).signed out.signed
-              (All-weaker (IsSignedIn k past) (IsSignedIn k all) (λ e. still_signed k past m e) (m.old.holder k).signed x.signed) a.signed;
+          signed = All-append (IsSignedInRun k all) (m.old.holder k).signed out.signed
+              (All-weaker (IsSignedInRun k past) (IsSignedInRun k all) (λ e. still_signed k past m e) (m.old.holder k).signed x.signed) a.signed;
           made = All-append (IsMadeIn public k all) (m.old.holder k).made out.made
               (All-weaker (IsMadeIn public k past) (IsMadeIn public k all) (λ key. still_made public k past m key) (m.old.holder k).made x.made) a.made;
           stored = a.stored;
@@ -412,7 +438,8 @@ module _ (valid : Validity) (public : Keys) where
 
   -- ---- a moment, and a run
 
-  accounted : (k : ℕ) (past : List Moment) (m : Moment) (event : Event) (end : End) → m.event ≡ event → m.end ≡ end → Happens valid public m.old event end m.new
+  accounted : (k : ℕ) (past : List Moment) (m : Moment) (event : Event) (end : EventEnd) → m.event ≡ event → m.end ≡ end
+      → Happens valid public m.old event end m.new
       → Account k past (m.old.holder k) → Account k (past ++ m ∷ []) (m.new.holder k)
   accounted k past m event Nothing is ends h x =
       subst (λ (w : World). Account k (past ++ m ∷ []) (w.holder k)) (sym h) (untouched k past m (m.old.holder k) (inl ends) x)
@@ -420,14 +447,16 @@ module _ (valid : Validity) (public : Keys) where
       subst (Account k (past ++ m ∷ [])) (sym (h.2.holders k)) (untouched k past m (m.old.holder k) (inr (subst (IsElsewhere k) (sym is) tt)) x)
   accounted k past m (Asks j channel bs consent words) Done is ends h x = elim (eqb_tells j k) [
     | inl same ↦
-        let here : Effect valid public m.old (Asks k channel bs consent words) m.new = subst (λ (l : ℕ). Effect valid public m.old (Asks l channel bs consent words) m.new) same.1 h in
+        let here : EventEffect valid public m.old (Asks k channel bs consent words) m.new =
+        subst (λ (l : ℕ). EventEffect valid public m.old (Asks l channel bs consent words) m.new) same.1 h in
         called k channel bs consent words past m here.0 (is ∙ ap (λ l. Asks l channel bs consent words) same.1) ends here.3.now x here.2
     | inr other ↦
         subst (Account k (past ++ m ∷ [])) (sym (h.3.others k (λ e. other.1 (sym e))))
         (untouched k past m (m.old.holder k) (inr (subst (IsElsewhere k) (sym is) other.1)) x)
   ]
 
-  over : (k : ℕ) (past : List Moment) (w : World) (run : List Moment) → IsRun valid public w run → Account k past (w.holder k) → Account k (past ++ run) ((world_after w run).holder k)
+  over : (k : ℕ) (past : List Moment) (w : World) (run : List Moment) → IsRun valid public w run → Account k past (w.holder k)
+      → Account k (past ++ run) ((world_after w run).holder k)
   over k past w [] run x = subst (λ (ms : List Moment). Account k ms (w.holder k)) (sym (append-nil past)) x
   over k past w (m ∷ ms) run x =
       let here : Account k past (m.old.holder k) = subst (λ (v : World). Account k past (v.holder k)) (sym run.0) x in
@@ -436,10 +465,10 @@ module _ (valid : Validity) (public : Keys) where
 
   begins : (k : ℕ) (h : Holder) → IsNew h → Account k [] h
   begins k h new = record {
-    signed = All-same (IsSignedIn k []) h.signed [] new.signed (All-nil (IsSignedIn k []));
+    signed = All-same (IsSignedInRun k []) h.signed [] new.signed (All-nil (IsSignedInRun k []));
     made = All-same (IsMadeIn public k []) h.made [] new.made (All-nil (IsMadeIn public k []));
-    stored = subst (λ (s : State). Each (IsOf h.made) s.credentials) (sym new.state) tt;
-    remembered = subst (λ (s : State). Remembering k [] s.remembered) (sym new.state) tt;
+    stored = subst (λ (s : AuthenticatorState). Each (IsOf h.made) s.credentials) (sym new.state) tt;
+    remembered = subst (λ (s : AuthenticatorState). Remembering k [] s.remembered) (sym new.state) tt;
   }
 
   pub front : (w : World) (past later : List Moment) → IsRun valid public w (past ++ later) → IsRun valid public w past
@@ -448,7 +477,8 @@ module _ (valid : Validity) (public : Keys) where
 
   pub ledger : LedgerOfAllRuns valid public
   ledger w past later start run =
-      let account : (k : ℕ) → Account k past ((world_after w past).holder k) = λ k. over k [] w past (front w past later run) (begins k (w.holder k) (start.holders k)) in
+      let account : (k : ℕ) → Account k past ((world_after w past).holder k) =
+      λ k. over k [] w past (front w past later run) (begins k (w.holder k) (start.holders k)) in
       record {
         signed = λ k. (account k).signed;
         made = λ k. (account k).made;

@@ -4,7 +4,7 @@ pub mod Exchanges
 pub mod Delivered
 pub mod Asking
 pub mod Storing
-pub mod Enrolling
+pub mod RegistrationSteps
 pub mod Registering
 pub mod SigningIn
 pub mod Runs

@@ -8,16 +8,16 @@ use Rattle.std.proofs.lemmas.List.Elements.{All-from_recursion, Contains-push}
 use Rattle.cose.specs.Schemes.{Validity}
 use Rattle.cose.specs.declared.key.CoseKey.{CoseKey}
 use Rattle.authdata.specs.Responses as responses
-use Rattle.ctapmsg.specs.Replies.{Assertion}
+use Rattle.ctap_replies.specs.Replies.{Assertion}
 use Rattle.verification.specs.Records as registered_row
-use Rattle.credentials.specs.Table.{row_of}
+use Rattle.credential_table.specs.Table.{row_of}
 use Rattle.site.specs.State as site
-use Rattle.authenticator.specs.State.{State}
+use Rattle.authenticator.specs.State.{AuthenticatorState}
 use Rattle.authenticator.specs.Steps.{Entry, Keys}
 use Rattle.client.specs.Responses.{response_of}
-use Rattle.agreement.specs.Ends.{End}
+use Rattle.agreement.specs.Ends.{AuthenticatorEnd}
 use Rattle.agreement.specs.Honest.{AcceptsBoth, IsHonestRun, Run}
-use Rattle.agreement.specs.World.{Acts, Begins, ChangesHolder, ChangesSite, Effect, Holder, Moment, RegistersBy, SignsInBy, World, after_call}
+use Rattle.agreement.specs.World.{SiteActs, Begins, ChangesHolder, ChangesSite, EventEffect, Holder, Moment, RegistersBy, SignsInBy, World, after_call}
 use Rattle.agreement.specs.Agreement.{IsIdeal, Tries, WasSigned, message_of}
 use Rattle.agreement.specs.Lived as live
 use Rattle.agreement.specs.Lived.{Lives, Place, TakesPlace, with_holder, with_site}
@@ -30,10 +30,10 @@ use Rattle.agreement.proofs.Sites.{same_assertion}
 
 -- ---- a world in which one is changed
 
-site_there : (i : ℕ) (s : site.State) (w : World) → (with_site i s w).site i ≡ s
+site_there : (i : ℕ) (s : site.SiteState) (w : World) → (with_site i s w).site i ≡ s
 site_there i s w = ap (λ b. if b then s else w.site i) (eq-eqb i i refl)
 
-changes_site : (i : ℕ) (s : site.State) (w : World) → ChangesSite w (with_site i s w) i s
+changes_site : (i : ℕ) (s : site.SiteState) (w : World) → ChangesSite w (with_site i s w) i s
 changes_site i s w = record { now = site_there i s w; others = λ j apart. other j apart; holders = λ k. refl } where
   other : (j : ℕ) → j ≢ i → (with_site i s w).site j ≡ w.site j
   other j apart = elim (eqb_tells j i) [
@@ -53,11 +53,14 @@ changes_holder k h g w same = record { now = holder_there k h w ∙ same; others
   ]
 
 -- a call adds to what an authenticator has signed and made
-after_added : (h : Holder) (new : State) (before signed : List Entry) (made more : List CoseKey) (reply : List ℕ) → h.signed ≡ before → h.made ≡ made
-    → record { state = new; signed = before ++ signed; made = made ++ more } ≡ after_call h (record { reply = reply; state = new; signed = signed; made = more })
+after_added : (h : Holder) (new : AuthenticatorState) (before signed : List Entry) (made more : List CoseKey) (reply : List ℕ) → h.signed ≡ before
+    → h.made ≡ made
+    → record { state = new; signed = before ++ signed; made = made ++ more } ≡ after_call h
+    (record { reply = reply; state = new; signed = signed; made = more })
 after_added h new before signed made more reply s m = λ i. record { state = new; signed = sym s i ++ signed; made = sym m i ++ more }
 
-module _ (valid : Validity) (public : Keys) (b : Below valid public) (keeps : KeepsAlg public) (x : Run) (h : IsHonestRun valid public x) (p : Place) (t : TakesPlace valid public x h p) where
+module _ (valid : Validity) (public : Keys) (b : Below valid public) (keeps : KeepsAlg public) (x : Run) (h : IsHonestRun valid public x) (p : Place)
+    (t : TakesPlace valid public x h p) where
   abbrev a : AcceptsBoth valid public x
   a = agrees valid public b keeps x h
 
@@ -93,67 +96,73 @@ module _ (valid : Validity) (public : Keys) (b : Below valid public) (keeps : Ke
 
   -- ---- the effects
 
-  begun : Effect valid public first.old first.event first.new
+  begun : EventEffect valid public first.old first.event first.new
   begun = (x.registering.site, (t.words.0, t.numbers.0, t.begins), changes_site i x.registering.site p.world)
 
-  made : Effect valid public second.old second.event second.new
+  made : EventEffect valid public second.old second.event second.new
   made =
       let s = registering.stepped valid public b keeps x.registering h.idle h.honest_registration in
       let new = t.start.holders k in (
         record { reply = s.reply; state = x.registering.after.authenticator; signed = made_holder.signed; made = made_holder.made },
         t.ids.0,
-        subst (λ (e : State). IsStep valid public e x.registering.channel h.honest_registration.decided.asks.message h.honest_registration.decided.consent x.registering.words s.reply
+        subst (λ (e : AuthenticatorState). IsStep valid public e x.registering.channel h.honest_registration.decided.asks.message
+            h.honest_registration.decided.consent x.registering.words s.reply
             x.registering.after.authenticator made_holder.signed made_holder.made) t.authenticator s.step,
         changes_holder k made_holder _ first.new
             (after_added (p.world.holder k) x.registering.after.authenticator [] made_holder.signed [] made_holder.made s.reply new.signed new.made),
       )
 
-  enrolled : Effect valid public third.old third.event third.new
-  enrolled =
+  registration_taken : EventEffect valid public third.old third.event third.new
+  registration_taken =
       let there : third.old.site i ≡ x.registering.site = site_there i x.registering.site p.world in (
         x.registered,
-        subst (λ (s : site.State). Acts valid s (RegistersBy x.registering.session x.registering.channel x.registering.packets x.registering.out.client_data) x.registered) (sym there)
+        subst (λ (s : site.SiteState). SiteActs valid s
+            (RegistersBy x.registering.session x.registering.channel x.registering.packets x.registering.out.client_data) x.registered) (sym there)
             ((length x.registering.packets, a.registers.reply, a.registers.accepted), h.registered),
         changes_site i x.registered third.old,
       )
 
-  begun_again : Effect valid public fourth.old fourth.event fourth.new
+  begun_again : EventEffect valid public fourth.old fourth.event fourth.new
   begun_again =
       let there : fourth.old.site i ≡ x.registered = site_there i x.registered third.old in (
         x.signing_in.site,
-        subst (λ (s : site.State). Acts valid s (Begins h.begins.0) x.signing_in.site) (sym there) (t.words.1, t.numbers.1, h.begins.1),
+        subst (λ (s : site.SiteState). SiteActs valid s (Begins h.begins.0) x.signing_in.site) (sym there) (t.words.1, t.numbers.1, h.begins.1),
         changes_site i x.signing_in.site fourth.old,
       )
 
-  asserted : Effect valid public fifth.old fifth.event fifth.new
+  asserted : EventEffect valid public fifth.old fifth.event fifth.new
   asserted =
       let s = signing_in.stepped valid public b x.signing_in (registered valid public b keeps x h).credential 0 (idle valid public b keeps x h) h.honest_sign_in
       (here valid public b keeps x h) (omega arith) (asked valid public b keeps x h) in
       let there : fifth.old.holder k ≡ made_holder = holder_there k made_holder first.new in
-      let from : x.signing_in.before.authenticator ≡ (fifth.old.holder k).state = ap (λ (e : End). e.authenticator) h.goes_on ∙ sym (ap (λ (g : Holder). g.state) there) in (
+      let from : x.signing_in.before.authenticator ≡ (fifth.old.holder k).state = ap (λ (e : AuthenticatorEnd). e.authenticator) h.goes_on
+      ∙ sym (ap (λ (g : Holder). g.state) there) in (
         record { reply = s.reply; state = x.signing_in.after.authenticator; signed = live.asserted valid public x h p a ∷ []; made = [] },
         t.ids.1,
-        subst (λ (e : State). IsStep valid public e x.signing_in.channel h.honest_sign_in.decided.asks.message h.honest_sign_in.decided.consent x.signing_in.words s.reply
+        subst (λ (e : AuthenticatorState). IsStep valid public e x.signing_in.channel h.honest_sign_in.decided.asks.message h.honest_sign_in.decided.consent
+            x.signing_in.words s.reply
             x.signing_in.after.authenticator (live.asserted valid public x h p a ∷ []) []) from s.step,
         changes_holder k signed_holder _ fifth.old
-            (after_added (fifth.old.holder k) x.signing_in.after.authenticator made_holder.signed (live.asserted valid public x h p a ∷ []) made_holder.made [] s.reply
+            (after_added (fifth.old.holder k) x.signing_in.after.authenticator made_holder.signed (live.asserted valid public x h p a ∷ []) made_holder.made
+            [] s.reply
             (ap (λ (g : Holder). g.signed) there) (ap (λ (g : Holder). g.made) there)),
       )
 
   at_site : sixth.old.site i ≡ x.signing_in.site
   at_site = site_there i x.signing_in.site fourth.old
 
-  signed : Effect valid public sixth.old sixth.event sixth.new
+  signed : EventEffect valid public sixth.old sixth.event sixth.new
   signed = (
     p.signed_in,
-    subst (λ (s : site.State). Acts valid s (SignsInBy x.signing_in.session x.signing_in.channel x.signing_in.packets x.signing_in.out.client_data) p.signed_in) (sym at_site)
+    subst (λ (s : site.SiteState). SiteActs valid s
+        (SignsInBy x.signing_in.session x.signing_in.channel x.signing_in.packets x.signing_in.out.client_data) p.signed_in) (sym at_site)
         ((length x.signing_in.packets, a.signs_in.reply, a.signs_in.accepted), t.after),
     changes_site i p.signed_in sixth.old,
   )
 
   -- ---- the sign-in
 
-  abbrev response : responses.Assertion
+  abbrev response : responses.AuthenticatorAssertionResponse
   response = live.response valid public x h p a
 
   abbrev row : registered_row.Credential
@@ -167,7 +176,8 @@ module _ (valid : Validity) (public : Keys) (b : Below valid public) (keeps : Ke
       let id : response.credential ≡ a.registers.credential.id =
       signing_in.credential_is valid public b x.signing_in (registered valid public b keeps x h).credential 0 (idle valid public b keeps x h) h.honest_sign_in
       (here valid public b keeps x h) (omega arith) (asked valid public b keeps x h) in
-      ap (λ c. row_of c (sixth.old.site i).rows) id ∙ ap (λ (s : site.State). row_of a.registers.credential.id s.rows) at_site ∙ (here valid public b keeps x h).registered
+      ap (λ c. row_of c (sixth.old.site i).rows) id ∙ ap (λ (s : site.SiteState). row_of a.registers.credential.id s.rows) at_site
+      ∙ (here valid public b keeps x h).registered
 
   tries : Tries sixth i x.signing_in.session response row
   tries = record {
@@ -190,14 +200,15 @@ module _ (valid : Validity) (public : Keys) (b : Below valid public) (keeps : Ke
   ideal : IsIdeal valid sixth
   ideal j n r low tried is_valid was_made =
       let c = tried.brings.1.1 in
-      let one : c.2 ≡ a.signs_in.reply = same_assertion valid public b x.signing_in.site x.signing_in.session x.signing_in.channel c.0 (length x.signing_in.packets) x.signing_in.packets
+      let one : c.2 ≡ a.signs_in.reply =
+      same_assertion valid public b x.signing_in.site x.signing_in.session x.signing_in.channel c.0 (length x.signing_in.packets) x.signing_in.packets
       x.signing_in.out.client_data c.1 a.signs_in.accepted.0 c.2 a.signs_in.reply c.3 c.4 a.signs_in.accepted.1 a.signs_in.accepted.2 in
       let response_is : r ≡ response = c.5 ∙ ap (λ (z : Assertion). response_of z x.signing_in.out.client_data) one in
       let found_here : row_of response.credential (sixth.old.site i).rows ≡ Some low =
-      ap (λ (z : responses.Assertion). row_of z.credential (sixth.old.site i).rows) (sym response_is)
+      ap (λ (z : responses.AuthenticatorAssertionResponse). row_of z.credential (sixth.old.site i).rows) (sym response_is)
       ∙ subst (λ (l : ℕ). row_of r.credential (sixth.old.site l).rows ≡ Some low) (sym tried.brings.0) tried.found in
       let row_is : row ≡ low = same_Some row low (sym found ∙ found_here) in
-      subst (λ (z : responses.Assertion). WasSigned sixth.old low.key (message_of z)) (sym response_is)
+      subst (λ (z : responses.AuthenticatorAssertionResponse). WasSigned sixth.old low.key (message_of z)) (sym response_is)
       (subst (λ (z : registered_row.Credential). WasSigned sixth.old z.key (message_of response)) row_is was_signed)
 
   -- the others bring no response to a sign-in
@@ -221,7 +232,7 @@ module _ (valid : Validity) (public : Keys) (b : Below valid public) (keeps : Ke
   pub lives : Lives valid public x h p
   lives = record {
     accepts = a;
-    run = (refl, begun, (refl, made, (refl, enrolled, (refl, begun_again, (refl, asserted, (refl, signed, tt))))));
+    run = (refl, begun, (refl, made, (refl, registration_taken, (refl, begun_again, (refl, asserted, (refl, signed, tt))))));
     ideal =
         All-from_recursion (IsIdeal valid) (live.moments valid public x h p a)
         (begins_ideal, (makes_ideal, (registers_ideal, (begins_again_ideal, (asserts_ideal, (ideal, tt))))));

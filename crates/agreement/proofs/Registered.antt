@@ -2,13 +2,13 @@
 use Rattle.std.proofs.Common.{◌≡◌, [], ◌∷◌, ◌++◌, refl, ◌∙◌, ap}
 use Rattle.clientdata.specs.Reading.{seen_of}
 use Rattle.cose.specs.Schemes.{Validity}
-use Rattle.credentials.specs.Table.{row_of}
-use Rattle.site.specs.State.{State, registered}
+use Rattle.credential_table.specs.Table.{row_of}
+use Rattle.site.specs.State.{SiteState, registered}
 use Rattle.authenticator.specs.Steps.{Keys}
 use Rattle.agreement.specs.World.{AtSite, Moment}
 use Rattle.agreement.specs.Agreement.{Registered}
 use Rattle.agreement.specs.Below.{Below}
-use Rattle.agreement.proofs.Sites.{enrols}
+use Rattle.agreement.proofs.Sites.{registered_in}
 use Rattle.agreement.proofs.Storing.{row_last}
 use Rattle.agreement.proofs.Worlds.{Lived}
 use Rattle.agreement.proofs.Accepted.{the_one}
@@ -19,14 +19,14 @@ module _ (valid : Validity) (public : Keys) (b : Below valid public) where
   fits_registration m l i n r is =
       let effect = effect_at valid public b m (AtSite i is.event) l is.here is.done in
       let old = m.old.site i in
-      let x = enrols valid public b old effect.0 is.event n r effect.1 is.brings in
+      let x = registered_in valid public b old effect.0 is.event n r effect.1 is.brings in
       let after = x.after in
       let e = after.0 in
       let a = after.2 in
       let c = after.3 in
       let seen = the_one (seen_of r.client_data) x.passes.1.0 in
       let absent = b.sites.registered_refused old n r x.passes after.1 a c after.5 in
-      let rows : (m.new.site i).rows ≡ old.rows ++ registered e a c ∷ [] = ap (λ (s : State). s.rows) (effect.2.now ∙ after.6) in
+      let rows : (m.new.site i).rows ≡ old.rows ++ registered e a c ∷ [] = ap (λ (s : SiteState). s.rows) (effect.2.now ∙ after.6) in
       record {
         expected = e;
         session = after.4;

@@ -1,5 +1,6 @@
 -- An honest registration is accepted.
-use Rattle.std.proofs.Common.{◌≡◌, ◌≢◌, ◌⊎◌, inl, inr, ℕ, ◌<◌, ◌≤◌, ◌+◌, ◌^◌, List, [], ◌∷◌, ◌++◌, length, Bool, true, false, not, is_some, Option, Some, codes, refl, sym, ◌∙◌, ap, subst, arith, rules, Contains}
+use Rattle.std.proofs.Common.{◌≡◌, ◌≢◌, ◌⊎◌, inl, inr, ℕ, ◌<◌, ◌≤◌, ◌+◌, ◌^◌, List, [], ◌∷◌, ◌++◌, length, Bool, true, false, not, is_some, Option}
+use Rattle.std.proofs.Common.{Some, codes, refl, sym, ◌∙◌, ap, subst, arith, rules, Contains}
 use Rattle.std.specs.Prelude.{nat_lt}
 use Rattle.sha2.specs.Sha256.{sha256}
 use Rattle.clientdata.specs.declared.record.CeremonyType.TheVariants.{Create}
@@ -14,20 +15,20 @@ use Rattle.authdata.specs.Objects.{Attestation}
 use Rattle.authdata.specs.Statements.{IsKnownFormat, IsNone, IsSelfSigned}
 use Rattle.authdata.specs.declared.statement.AttestationType.{AttestationType}
 use Rattle.authdata.specs.declared.statement.AttestationType.TheVariants as types
-use Rattle.ctapmsg.specs.Replies.{Creation, ReplyOf, creation_reply}
-use Rattle.ctapmsg.specs.Requests.{CreationRequest, make_credential}
+use Rattle.ctap_replies.specs.Replies.{Creation, ReplyOf, creation_reply}
+use Rattle.ctap_requests.specs.Requests.{CreationRequest, make_credential}
 use Rattle.verification.specs.Records as expects
 use Rattle.verification.specs.Registration as steps
-use Rattle.verification.specs.RegistrationAnswers.{Accepts}
+use Rattle.verification.specs.RegistrationAnswers.{AcceptsAttestation}
 use Rattle.verification.specs.declared.party.Policy.{Policy}
 use Rattle.verification.proofs.Expected.{expected_says}
-use Rattle.credentials.specs.Table.{row_of}
+use Rattle.credential_table.specs.Table.{row_of}
 use Rattle.site.specs.State as site
-use Rattle.site.specs.State.{IsAfterRegistration, enrolment_in, registered}
-use Rattle.authenticator.specs.State.{Credential, State}
+use Rattle.site.specs.State.{IsAfterRegistration, judged_registration, registered}
+use Rattle.authenticator.specs.State.{CredentialSource, AuthenticatorState}
 use Rattle.authenticator.specs.Credentials.{credential_of, resident_ids}
 use Rattle.authenticator.specs.Orders.{kept}
-use Rattle.authenticator.specs.Steps.{Attests, Creates, Entry, Keys, Outcome, Unless, attestation, creation_data, key_of, new_credential, uv_bit}
+use Rattle.authenticator.specs.Steps.{MakesStatement, Creates, Entry, Keys, Outcome, Unless, attestation, creation_data, key_of, new_credential, uv_bit}
 use Rattle.authenticator.specs.declared.consent.Consent.{Consent}
 use Rattle.authenticator.proofs.Stored.{last_push}
 use Rattle.client.specs.Asked.{creation_of, registration_data}
@@ -44,7 +45,7 @@ use Rattle.agreement.proofs.Exchanges.{IsStep, Replied, Stepped, replied}
 use Rattle.agreement.proofs.Delivered.{delivers}
 use Rattle.agreement.proofs.Asking.{asks_resident, asks_verified, carried_out, chosen, none_against_creation}
 use Rattle.agreement.proofs.Storing.{few_kept, newest_first, none_kept, row_last}
-use Rattle.agreement.proofs.Enrolling.{Enrols, enrols, one_attested}
+use Rattle.agreement.proofs.RegistrationSteps.{MeetsSteps, meets_steps, one_attested}
 
 -- ---- flags
 
@@ -67,8 +68,9 @@ record Stated (valid : Validity) (policy : Policy) (o : Attestation) (key : Cose
   pub statement : IsNone o ⊎ IsSelfSigned valid o key hash
   pub accepted : (IsNone o → policy.accept_none ≡ true) × (IsSelfSigned valid o key hash → policy.accept_self ≡ true)
 
-stated : (valid : Validity) (policy : Policy) (attest : AttestationType) (key : CoseKey) (hash : List ℕ) (consent : Consent) (r : Creation) (signed : List Entry)
-    → Accepts policy attest → Attests valid key hash consent attest r signed → Stated valid policy (object_of r) key hash
+stated : (valid : Validity) (policy : Policy) (attest : AttestationType) (key : CoseKey) (hash : List ℕ) (consent : Consent) (r : Creation)
+    (signed : List Entry)
+    → AcceptsAttestation policy attest → MakesStatement valid key hash consent attest r signed → Stated valid policy (object_of r) key hash
 stated valid policy types.None key hash consent r signed accepts x = record {
   known = inl x.0;
   statement = inl (x.0, x.1);
@@ -78,7 +80,8 @@ stated valid policy types.SelfSigned key hash consent r signed accepts x =
     let self : IsSelfSigned valid (object_of r) key hash = (x.0, (x.1.0, x.1.2, x.1.1.2)) in
     record { known = inr x.0; statement = inr self; accepted = (λ n. absurd (not_packed r.fmt n.0 x.0), λ s. accepts) }
 
-signed_for : (valid : Validity) (key : CoseKey) (hash : List ℕ) (consent : Consent) (attest : AttestationType) (r : Creation) (signed : List Entry) → Attests valid key hash consent attest r signed
+signed_for : (valid : Validity) (key : CoseKey) (hash : List ℕ) (consent : Consent) (attest : AttestationType) (r : Creation) (signed : List Entry)
+    → MakesStatement valid key hash consent attest r signed
     → signed ≡ attested_by attest (record { key = key; message = r.auth_data ++ hash; purpose = attestation; consent = consent })
 signed_for valid key hash consent types.None r signed x = x.2
 signed_for valid key hash consent types.SelfSigned r signed x = x.2
@@ -88,8 +91,9 @@ signed_for valid key hash consent types.SelfSigned r signed x = x.2
 room_for : (n : ℕ) → n < 65536 → not (nat_lt n 65536) ≡ false
 room_for n lt = let less : nat_lt n 65536 ≡ true = search (rules, lt) in rw less refl
 
-module _ (valid : Validity) (public : Keys) (b : Below valid public) (keeps : KeepsAlg public) (x : Registering) (idle : IsIdleOn x.channel x.before) (h : IsHonestRegistration valid public x) where
-  abbrev a : State
+module _ (valid : Validity) (public : Keys) (b : Below valid public) (keeps : KeepsAlg public) (x : Registering) (idle : IsIdleOn x.channel x.before)
+    (h : IsHonestRegistration valid public x) where
+  abbrev a : AuthenticatorState
   a = x.before.authenticator
 
   abbrev text : List ℕ
@@ -105,7 +109,8 @@ module _ (valid : Validity) (public : Keys) (b : Below valid public) (keeps : Ke
   some e = let is = h.decided.asks.written.0.1 in let bad : [] ≡ 1 ∷ h.decided.asks.written.0.0 = sym e ∙ is in absurd cc
 
   came : Replied valid public x.channel m h.decided.consent x.words x.before x.packets x.after
-  came = replied b.links valid public x.channel m x.out.packets h.decided.waits h.decided.consent x.words x.before x.after x.packets idle some h.decided.asks.packets.frames h.decided.exchange
+  came = replied b.links valid public x.channel m x.out.packets h.decided.waits h.decided.consent x.words x.before x.after x.packets idle some
+      h.decided.asks.packets.frames h.decided.exchange
 
   abbrev outcome : Outcome
   outcome = record { reply = came.reply; state = x.after.authenticator; signed = came.steps.0; made = came.steps.1 }
@@ -118,7 +123,8 @@ module _ (valid : Validity) (public : Keys) (b : Below valid public) (keeps : Ke
 
   creates : Creates valid public a q h.decided.consent x.words outcome
   creates =
-      let none = none_against_creation a x.options text h.decided.consent x.words h.offered h.decided.configured h.decided.present h.decided.verified h.not_excluded h.not_stored
+      let none = none_against_creation a x.options text h.decided.consent x.words h.offered h.decided.configured h.decided.present h.decided.verified
+      h.not_excluded h.not_stored
       (few_kept a.credentials q h.room) in
       subst (λ (o : Option ℕ). Unless o a outcome (Creates valid public a q h.decided.consent x.words outcome)) none
       (carried_out valid public a x.channel m h.decided.consent x.words outcome (make_credential q) h.decided.asks.written came.steps.2)
@@ -132,14 +138,14 @@ module _ (valid : Validity) (public : Keys) (b : Below valid public) (keeps : Ke
   abbrev attested : AttestedCredential
   attested = record { aaguid = a.aaguid; id = x.words.id; key = key }
 
-  abbrev new : Credential
+  abbrev new : CredentialSource
   new = new_credential q creates.alg x.words
 
   abbrev r : Creation
   r = creates.shown
 
-  abbrev enrolment : steps.Enrolment
-  enrolment = enrolment_in x.site x.session (response r t)
+  abbrev judged : steps.JudgedRegistration
+  judged = judged_registration x.site x.session (response r t)
 
   flags_are : auth.flags ≡ 0x41 + uv_bit x.options.uv
   flags_are = ap (λ b. 0x41 + uv_bit b) (asks_verified x.options.rk x.options.uv)
@@ -159,8 +165,8 @@ module _ (valid : Validity) (public : Keys) (b : Below valid public) (keeps : Ke
       subst (λ (b : List ℕ). Stated valid x.site.policy (object_of r) key (hash_of b)) (sym text_is)
       (stated valid x.site.policy a.attest key q.client_data_hash h.decided.consent r came.steps.0 h.accepted creates.attested)
 
-  enrolled : Enrols b.readings valid enrolment x.expected (object_of r) auth attested
-  enrolled = record {
+  meets : MeetsSteps b.readings valid judged x.expected (object_of r) auth attested
+  meets = record {
     is_open = h.is_open;
     says =
         expected_says Create x.expected.challenge t x.site.rp
@@ -193,33 +199,37 @@ module _ (valid : Validity) (public : Keys) (b : Below valid public) (keeps : Ke
   row_is : Some row ≡ Some (record { id = x.words.id; user = x.options.user_id; key = key; sign_count = 0; eligible = Some false; retired = false })
   row_is =
       ap (λ (u : List ℕ). Some (record row { user = u })) (sym h.user)
-      ∙ ap (λ (b : Bool). Some (record row { user = x.options.user_id; eligible = Some b })) (ap (λ f. is_set f BE) flags_are ∙ (creation_bits x.options.uv).eligible)
+      ∙ ap (λ (b : Bool). Some (record row { user = x.options.user_id; eligible = Some b })) (ap (λ f. is_set f BE) flags_are
+      ∙ (creation_bits x.options.uv).eligible)
 
   stored : x.after.authenticator.credentials ≡ kept a.credentials q ++ new ∷ []
-  stored = ap (λ (s : State). s.credentials) creates.state
+  stored = ap (λ (s : AuthenticatorState). s.credentials) creates.state
 
-  shared : (s : site.State) → IsAfter x.site x.session t x.channel x.packets s → IsShared public s x.after.authenticator new 0
+  shared : (s : site.SiteState) → IsAfter x.site x.session t x.channel x.packets s → IsShared public s x.after.authenticator new 0
   shared s k =
       let o = b.links.carried x.channel k.0 (length x.packets) x.packets 16 16 k.1 came.reply k.3.0 (omega arith) k.3.1 delivered.1 in
-      let one : k.2 ≡ r = (registration_one valid x.site x.session t).one_reply k.2 r came.reply (subst (λ (l : List ℕ). ReplyOf (creation_reply k.2) l) o.2 k.4) creates.reply in
-      let after : IsAfterRegistration x.site x.session (response r t) s = subst (λ (z : Creation). IsAfterRegistration x.site x.session (response z t) s) one k.5 in
+      let one : k.2 ≡ r = (registration_one valid x.site x.session t).one_reply k.2 r came.reply
+      (subst (λ (l : List ℕ). ReplyOf (creation_reply k.2) l) o.2 k.4) creates.reply in
+      let after : IsAfterRegistration x.site x.session (response r t) s =
+      subst (λ (z : Creation). IsAfterRegistration x.site x.session (response z t) s) one k.5 in
       let same = one_attested b.readings (response r t) after.1 (object_of r) after.2 auth after.3 attested after.5 attests in
       let some_expected : Some after.0 ≡ Some x.expected = sym after.4 ∙ h.is_open in
       let expected : after.0 ≡ x.expected = cc in
       let rows : s.rows ≡ x.site.rows ++ row ∷ [] =
-      ap (λ (z : site.State). z.rows) after.6 ∙ ap (λ e. x.site.rows ++ registered e after.2 after.3 ∷ []) expected
-      ∙ ap (λ d. x.site.rows ++ registered x.expected d after.3 ∷ []) same.auth_data ∙ ap (λ c. x.site.rows ++ registered x.expected auth c ∷ []) same.credential in
+      ap (λ (z : site.SiteState). z.rows) after.6 ∙ ap (λ e. x.site.rows ++ registered e after.2 after.3 ∷ []) expected
+      ∙ ap (λ d. x.site.rows ++ registered x.expected d after.3 ∷ []) same.auth_data
+      ∙ ap (λ c. x.site.rows ++ registered x.expected auth c ∷ []) same.credential in
       record {
         stored = ap (credential_of x.words.id) stored ∙ last_push (kept a.credentials q) new (none_kept a.credentials q x.words.id h.not_stored);
         sign_count = refl;
-        rp_id = h.rp_id ∙ sym (ap (λ (z : site.State). z.rp.rp_id) after.6);
+        rp_id = h.rp_id ∙ sym (ap (λ (z : site.SiteState). z.rp.rp_id) after.6);
         registered = ap (row_of x.words.id) rows ∙ row_last x.site.rows row h.not_registered ∙ row_is;
       }
 
   pub registers : Registers valid public x
   registers = record {
     reply = r;
-    accepted = (came.reply, delivered, creates.reply, enrols b.readings valid enrolment x.expected (object_of r) auth attested enrolled);
+    accepted = (came.reply, delivered, creates.reply, meets_steps b.readings valid judged x.expected (object_of r) auth attested meets);
     credential = new;
     id = refl;
     rp_id = refl;
@@ -228,23 +238,32 @@ module _ (valid : Validity) (public : Keys) (b : Below valid public) (keeps : Ke
     shared = shared;
     newest = λ is. (
       _,
-      ap (λ cs. resident_ids x.options.rp_id cs) stored ∙ newest_first x.options.rp_id (kept a.credentials q) new (asks_resident x.options.rk x.options.uv ∙ is) refl,
+      ap (λ cs. resident_ids x.options.rp_id cs) stored
+          ∙ newest_first x.options.rp_id (kept a.credentials q) new (asks_resident x.options.rk x.options.uv ∙ is) refl,
     );
     idle = came.idle;
   }
 
   -- the one step of the exchange, with what is signed and made
   pub stepped : Stepped valid public x.before.authenticator x.channel m h.decided.consent x.words x.after.authenticator
-      (attested_by a.attest (record { key = key_of public registers.credential; message = registers.reply.auth_data ++ sha256 t; purpose = attestation; consent = h.decided.consent }))
+      (attested_by a.attest (record {
+        key = key_of public registers.credential;
+        message = registers.reply.auth_data ++ sha256 t;
+        purpose = attestation;
+        consent = h.decided.consent;
+      }))
       (key_of public registers.credential ∷ [])
   unfolding registers
   stepped =
-      let signed : came.steps.0 ≡ attested_by a.attest (record { key = key; message = r.auth_data ++ q.client_data_hash; purpose = attestation; consent = h.decided.consent }) =
+      let signed : came.steps.0 ≡ attested_by a.attest
+      (record { key = key; message = r.auth_data ++ q.client_data_hash; purpose = attestation; consent = h.decided.consent }) =
       signed_for valid key q.client_data_hash h.decided.consent a.attest r came.steps.0 creates.attested in
       let over : q.client_data_hash ≡ sha256 t = ap sha256 (sym text_is) in
       record {
         reply = came.reply;
         step = subst (λ (l : List Entry). IsStep valid public a x.channel m h.decided.consent x.words came.reply x.after.authenticator l (key ∷ []))
-            (signed ∙ ap (λ hash. attested_by a.attest (record { key = key; message = r.auth_data ++ hash; purpose = attestation; consent = h.decided.consent })) over)
-            (subst (λ (l : List CoseKey). IsStep valid public a x.channel m h.decided.consent x.words came.reply x.after.authenticator came.steps.0 l) creates.made came.steps.2);
+            (signed ∙ ap (λ hash. attested_by a.attest
+            (record { key = key; message = r.auth_data ++ hash; purpose = attestation; consent = h.decided.consent })) over)
+            (subst (λ (l : List CoseKey). IsStep valid public a x.channel m h.decided.consent x.words came.reply x.after.authenticator came.steps.0 l)
+            creates.made came.steps.2);
       }

@@ -3,14 +3,14 @@ use Rattle.std.proofs.Common.{◌≡◌, inl, inr, ℕ, List, [], ◌∷◌, ◌
 use Rattle.std.proofs.lemmas.List.{append_cancel_left}
 use Rattle.cose.specs.Schemes.{Validity}
 use Rattle.verification.specs.Records.{Credential}
-use Rattle.credentials.specs.Table.{retired, row_of}
-use Rattle.credentials.proofs.RowLemmas.{found_id}
-use Rattle.site.specs.State.{State, registered}
+use Rattle.credential_table.specs.Table.{retired, row_of}
+use Rattle.credential_table.proofs.RowLemmas.{found_id}
+use Rattle.site.specs.State.{SiteState, registered}
 use Rattle.site.specs.Laws.{GoesOn, after_retire}
 use Rattle.site.proofs.Kept.{row_changed}
 use Rattle.authenticator.specs.Steps.{Keys}
-use Rattle.agreement.specs.World.{AtSite, Done, Effect, End, Event, Happens, Moment, Retires}
-use Rattle.agreement.specs.Agreement.{IsRefused, IsRetired, Retiring, StaysRetired}
+use Rattle.agreement.specs.World.{AtSite, Done, EventEffect, EventEnd, Event, Happens, Moment, Retires}
+use Rattle.agreement.specs.Agreement.{IsRefusedThere, IsRetired, Retiring, StaysRetired}
 use Rattle.agreement.specs.Below.{Below}
 use Rattle.agreement.proofs.Sites.{registers}
 use Rattle.agreement.proofs.Worlds.{Lived, Since}
@@ -20,12 +20,12 @@ one_last : (xs : List Credential) (a c : Credential) → xs ++ a ∷ [] ≡ xs +
 one_last xs a c e = let same : a ∷ [] ≡ c ∷ [] = append_cancel_left xs (a ∷ []) (c ∷ []) e in cc
 
 module _ (valid : Validity) (public : Keys) (b : Below valid public) where
-  pub effect_at : (m : Moment) (e : Event) → Lived valid public b m → m.event ≡ e → m.end ≡ Done → Effect valid public m.old e m.new
+  pub effect_at : (m : Moment) (e : Event) → Lived valid public b m → m.event ≡ e → m.end ≡ Done → EventEffect valid public m.old e m.new
   effect_at m e l is done =
-      subst (λ (x : Event). Effect valid public m.old x m.new) is (subst (λ (x : End). Happens valid public m.old m.event x m.new) done l.happens)
+      subst (λ (x : Event). EventEffect valid public m.old x m.new) is (subst (λ (x : EventEnd). Happens valid public m.old m.event x m.new) done l.happens)
 
   -- it is still there, and retired
-  kept : (s t : State) (id : List ℕ) → GoesOn s t → IsRetired s id → IsRetired t id
+  kept : (s t : SiteState) (id : List ℕ) → GoesOn s t → IsRetired s id → IsRetired t id
   kept s t id goes x =
       let k = goes.rows id x.row x.found in
       record {
@@ -34,7 +34,7 @@ module _ (valid : Validity) (public : Keys) (b : Below valid public) where
         retired = k.retired x.retired;
       }
 
-  refused : (m : Moment) (i : ℕ) (id : List ℕ) → Lived valid public b m → IsRetired (m.old.site i) id → IsRefused m i id
+  refused : (m : Moment) (i : ℕ) (id : List ℕ) → Lived valid public b m → IsRetired (m.old.site i) id → IsRefusedThere m i id
   refused m i id l x = record {
     signs_in = λ n r low acc same.
         let a = accepted valid public b m i n r low l acc in

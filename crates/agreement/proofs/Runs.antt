@@ -6,14 +6,14 @@ use Rattle.site.specs.Laws.{after_begin}
 use Rattle.site.specs.State as site
 use Rattle.authenticator.specs.Credentials.{resident_ids}
 use Rattle.authenticator.specs.Steps.{Keys}
-use Rattle.agreement.specs.Ends.{End, IsIdleOn}
+use Rattle.agreement.specs.Ends.{AuthenticatorEnd, IsIdleOn}
 use Rattle.agreement.specs.Honest.{AcceptsBoth, AsksForNew, IsAskedFor, IsHonestRun, IsShared, Registering, Registers, Run, SignsIn}
 use Rattle.agreement.specs.Below.{Below, KeepsAlg}
 use Rattle.agreement.proofs.Registering.{registers}
 use Rattle.agreement.proofs.SigningIn.{signs_in}
 
 -- what is asked for is the new credential
-asked_new : (valid : Validity) (public : Keys) (x : Registering) (r : Registers valid public x) (e : expects.SignIn) → AsksForNew x e
+asked_new : (valid : Validity) (public : Keys) (x : Registering) (r : Registers valid public x) (e : expects.ExpectedSignIn) → AsksForNew x e
     → IsAskedFor r.credential x.after.authenticator e
 asked_new valid public x r e asks = elim asks [
   | inl k ↦ inl (k.0 ∙ ap (λ id. id ∷ []) (sym r.id), k.1 ∙ ap Some (sym r.user))
@@ -36,18 +36,18 @@ module _ (valid : Validity) (public : Keys) (b : Below valid public) (keeps : Ke
 
   pub here : IsShared public x.signing_in.site x.signing_in.before.authenticator registered.credential 0
   here =
-      subst (λ (s : site.State). IsShared public s x.signing_in.before.authenticator registered.credential 0) (sym h.begins.1)
-      (subst (λ (e : End). IsShared public (after_begin x.registered h.begins.0) e.authenticator registered.credential 0) (sym h.goes_on)
+      subst (λ (s : site.SiteState). IsShared public s x.signing_in.before.authenticator registered.credential 0) (sym h.begins.1)
+      (subst (λ (e : AuthenticatorEnd). IsShared public (after_begin x.registered h.begins.0) e.authenticator registered.credential 0) (sym h.goes_on)
       (record { stored = before.stored; sign_count = before.sign_count; rp_id = before.rp_id; registered = before.registered }))
 
   pub idle : IsIdleOn x.signing_in.channel x.signing_in.before
   idle =
-      subst (λ (e : End). IsIdleOn x.signing_in.channel e) (sym h.goes_on)
+      subst (λ (e : AuthenticatorEnd). IsIdleOn x.signing_in.channel e) (sym h.goes_on)
       (subst (λ (c : ℕ). IsIdleOn c x.registering.after) (sym h.channel) registered.idle)
 
   pub asked : IsAskedFor registered.credential x.signing_in.before.authenticator x.signing_in.expected
   asked =
-      subst (λ (e : End). IsAskedFor registered.credential e.authenticator x.signing_in.expected) (sym h.goes_on)
+      subst (λ (e : AuthenticatorEnd). IsAskedFor registered.credential e.authenticator x.signing_in.expected) (sym h.goes_on)
       (asked_new valid public x.registering registered x.signing_in.expected h.asks)
 
   abbrev pub signed_in : SignsIn valid public registered.credential 0 x.signing_in

@@ -10,11 +10,11 @@ use Rattle.hidframe.specs.declared.Packet.{Packet}
 use Rattle.hidframe.proofs.Bytes.{bytes-append}
 use Rattle.cose.specs.Schemes.{Validity}
 use Rattle.authdata.specs.Responses as responses
-use Rattle.ctapmsg.specs.Replies.{Assertion, Creation, ReplyOf, assertion_reply, creation_reply}
-use Rattle.verification.specs.Authentication as authentication
+use Rattle.ctap_replies.specs.Replies.{Assertion, Creation, ReplyOf, assertion_reply, creation_reply}
+use Rattle.verification.specs.SignIn as authentication
 use Rattle.verification.specs.Registration as registration
-use Rattle.sessions.specs.Sessions.{Expected, Opening, OpensRegistration, OpensSignIn, expected_of}
-use Rattle.site.specs.State.{IsAfterRegistration, IsAfterSignIn, State, attempt_in, enrolment_in, none_open}
+use Rattle.ceremony_sessions.specs.Sessions.{Expected, Opening, OpensRegistration, OpensSignIn, expected_of}
+use Rattle.site.specs.State.{IsAfterRegistration, IsAfterSignIn, SiteState, judged_sign_in, judged_registration, none_open}
 use Rattle.site.specs.Laws.{IsFresh, Keeps, Takes, after_begin, after_restart, challenge_in}
 use Rattle.site.proofs.Goings.{begun_or, still}
 use Rattle.client.specs.Responses.{response_of}
@@ -22,7 +22,7 @@ use Rattle.ceremony.specs.Registration as registering
 use Rattle.ceremony.specs.Verdict.{Delivers}
 use Rattle.ceremony.proofs.OneVerdict.{registration_one, sign_in_one}
 use Rattle.authenticator.specs.Steps.{Keys}
-use Rattle.agreement.specs.World.{Abandons, Acts, Begins, Loads, Registers, RegistersBy, Restarts, Retires, SignsIn, SignsInBy, SiteEvent, words_of}
+use Rattle.agreement.specs.World.{Abandons, SiteActs, Begins, Loads, Registers, RegistersBy, Restarts, Retires, SignsIn, SignsInBy, SiteEvent, words_of}
 use Rattle.agreement.specs.Agreement.{BringsNewTo, BringsTo, Carried, CarriedNew, IsRegistration, session_in}
 use Rattle.agreement.specs.Below.{Below}
 
@@ -39,21 +39,21 @@ bytes_of_64 n h (suc (suc (suc (suc (suc (suc zero)))))) = omega arith
 bytes_of_64 n h (suc (suc (suc (suc (suc (suc (suc zero))))))) = omega arith
 bytes_of_64 n h (suc (suc (suc (suc (suc (suc (suc (suc k)))))))) = omega arith
 
-abbrev pub AreBytes : State → Type 0
+abbrev pub AreBytes : SiteState → Type 0
 AreBytes s = (n : ℕ) (e : Expected) → finite.get s.sessions.expected n ≡ Some e → IsBytes (challenge_in e)
 
 new_bytes : (n : ℕ) (o : Opening) → n < 2 ^ 64 → IsBytes (words_of o) → IsBytes (challenge_in (expected_of n o))
-new_bytes n (OpensSignIn user allow verified words) lt is = bytes-append (to_be_bytes w64 n) words (bytes_of_64 n lt) is
-new_bytes n (OpensRegistration user algorithms verified words) lt is = bytes-append (to_be_bytes w64 n) words (bytes_of_64 n lt) is
+new_bytes n (OpensSignIn user allow uv words) lt is = bytes-append (to_be_bytes w64 n) words (bytes_of_64 n lt) is
+new_bytes n (OpensRegistration user algorithms uv words) lt is = bytes-append (to_be_bytes w64 n) words (bytes_of_64 n lt) is
 
-bytes_begun : (s : State) (o : Opening) → s.sessions.next < 2 ^ 64 - 1 → IsBytes (words_of o) → AreBytes s → AreBytes (after_begin s o)
+bytes_begun : (s : SiteState) (o : Opening) → s.sessions.next < 2 ^ 64 - 1 → IsBytes (words_of o) → AreBytes s → AreBytes (after_begin s o)
 bytes_begun s o lt is old n e h = elim (begun_or s o n e h) [
   | inl new ↦ subst (λ (x : Expected). IsBytes (challenge_in x)) (sym new.1) (new_bytes s.sessions.next o (omega arith) is)
   | inr there ↦ old n e there
 ]
 
 -- no session is open
-pub empty_bytes : (s : State) → s.sessions.expected ≡ finite.empty → AreBytes s
+pub empty_bytes : (s : SiteState) → s.sessions.expected ≡ finite.empty → AreBytes s
 empty_bytes s none n e h =
     let empty : finite.get s.sessions.expected n ≡ None = rw none (grind (arith, gets, common_steps)) in
     let bad : None ≡ Some e = sym empty ∙ h in absurd cc
@@ -61,13 +61,15 @@ empty_bytes s none n e h =
 module _ (valid : Validity) (public : Keys) (b : Below valid public) where
   -- ---- one reply
 
-  pub same_assertion : (s : State) (n c j k : ℕ) (ps : List Packet) (d m l : List ℕ) (x y : Assertion) → Delivers c ps j m → ReplyOf (assertion_reply x) m → Delivers c ps k l → ReplyOf (assertion_reply y) l
+  pub same_assertion : (s : SiteState) (n c j k : ℕ) (ps : List Packet) (d m l : List ℕ) (x y : Assertion) → Delivers c ps j m → ReplyOf (assertion_reply x) m
+      → Delivers c ps k l → ReplyOf (assertion_reply y) l
       → x ≡ y
   same_assertion s n c j k ps d m l x y first reads second also =
       let o = b.links.carried c j k ps 16 16 m l first.0 second.0 first.1 second.1 in
       (sign_in_one valid s n d).one_reply x y l (subst (λ (z : List ℕ). ReplyOf (assertion_reply x) z) o.2 reads) also
 
-  same_creation : (s : State) (n c j k : ℕ) (ps : List Packet) (d m l : List ℕ) (x y : Creation) → Delivers c ps j m → ReplyOf (creation_reply x) m → Delivers c ps k l → ReplyOf (creation_reply y) l
+  same_creation : (s : SiteState) (n c j k : ℕ) (ps : List Packet) (d m l : List ℕ) (x y : Creation) → Delivers c ps j m → ReplyOf (creation_reply x) m
+      → Delivers c ps k l → ReplyOf (creation_reply y) l
       → x ≡ y
   same_creation s n c j k ps d m l x y first reads second also =
       let o = b.links.carried c j k ps 16 16 m l first.0 second.0 first.1 second.1 in
@@ -75,16 +77,17 @@ module _ (valid : Validity) (public : Keys) (b : Below valid public) where
 
   -- ---- what is accepted
 
-  pub record SignedIn (s : State) (n : ℕ) (r : responses.Assertion) (t : State) : Type 0 where
-    pub passes : authentication.PassesAll valid (attempt_in s n r)
+  pub record SignedIn (s : SiteState) (n : ℕ) (r : responses.AuthenticatorAssertionResponse) (t : SiteState) : Type 0 where
+    pub passes : authentication.PassesSignIn valid (judged_sign_in s n r)
     pub after : IsAfterSignIn s n r t
 
-  pub record Registered (s : State) (n : ℕ) (r : responses.Registration) (t : State) : Type 0 where
-    pub passes : registration.PassesAll valid (enrolment_in s n r)
+  pub record Registered (s : SiteState) (n : ℕ) (r : responses.AuthenticatorAttestationResponse) (t : SiteState) : Type 0 where
+    pub passes : registration.PassesRegistration valid (judged_registration s n r)
     pub after : IsAfterRegistration s n r t
 
   -- by the packets, with whatever response they carry
-  signed_in_by : (s t : State) (n c : ℕ) (ps : List Packet) (d : List ℕ) (r : responses.Assertion) → Acts valid s (SignsInBy n c ps d) t → Carried c ps d r → SignedIn s n r t
+  signed_in_by : (s t : SiteState) (n c : ℕ) (ps : List Packet) (d : List ℕ) (r : responses.AuthenticatorAssertionResponse)
+      → SiteActs valid s (SignsInBy n c ps d) t → Carried c ps d r → SignedIn s n r t
   signed_in_by s t n c ps d r acts carried =
       let used = acts.0.0 in
       let reply = acts.0.1 in
@@ -94,11 +97,13 @@ module _ (valid : Validity) (public : Keys) (b : Below valid public) where
       let two : after.2 ≡ carried.2 = same_assertion s n c after.0 carried.0 ps d after.1 carried.1 after.2 carried.2 after.3 after.4 carried.3 carried.4 in
       let response : (x : Assertion) → x ≡ carried.2 → response_of x d ≡ r = λ x same. ap (λ z. response_of z d) same ∙ sym carried.5 in
       record {
-        passes = subst (λ (z : responses.Assertion). authentication.PassesAll valid (attempt_in s n z)) (response reply one) succeeds.3;
-        after = subst (λ (z : responses.Assertion). IsAfterSignIn s n z t) (response after.2 two) after.5;
+        passes = subst (λ (z : responses.AuthenticatorAssertionResponse). authentication.PassesSignIn valid (judged_sign_in s n z))
+            (response reply one) succeeds.3;
+        after = subst (λ (z : responses.AuthenticatorAssertionResponse). IsAfterSignIn s n z t) (response after.2 two) after.5;
       }
 
-  registered_by : (s t : State) (n c : ℕ) (ps : List Packet) (d : List ℕ) → Acts valid s (RegistersBy n c ps d) t → (r : responses.Registration) × Registered s n r t
+  registered_by : (s t : SiteState) (n c : ℕ) (ps : List Packet) (d : List ℕ) → SiteActs valid s (RegistersBy n c ps d) t
+      → (r : responses.AuthenticatorAttestationResponse) × Registered s n r t
   registered_by s t n c ps d acts =
       let used = acts.0.0 in
       let reply = acts.0.1 in
@@ -110,7 +115,8 @@ module _ (valid : Validity) (public : Keys) (b : Below valid public) where
       )
 
   -- with whatever response they carry
-  registered_with : (s t : State) (n c : ℕ) (ps : List Packet) (d : List ℕ) (r : responses.Registration) → Acts valid s (RegistersBy n c ps d) t → CarriedNew c ps d r → Registered s n r t
+  registered_with : (s t : SiteState) (n c : ℕ) (ps : List Packet) (d : List ℕ) (r : responses.AuthenticatorAttestationResponse)
+      → SiteActs valid s (RegistersBy n c ps d) t → CarriedNew c ps d r → Registered s n r t
   registered_with s t n c ps d r acts carried =
       let used = acts.0.0 in
       let reply = acts.0.1 in
@@ -120,23 +126,27 @@ module _ (valid : Validity) (public : Keys) (b : Below valid public) where
       let two : after.2 ≡ carried.2 = same_creation s n c after.0 carried.0 ps d after.1 carried.1 after.2 carried.2 after.3 after.4 carried.3 carried.4 in
       let response : (x : Creation) → x ≡ carried.2 → registering.response x d ≡ r = λ x same. ap (λ z. registering.response z d) same ∙ sym carried.5 in
       record {
-        passes = subst (λ (z : responses.Registration). registration.PassesAll valid (enrolment_in s n z)) (response reply one) succeeds.3;
-        after = subst (λ (z : responses.Registration). IsAfterRegistration s n z t) (response after.2 two) after.5;
+        passes = subst (λ (z : responses.AuthenticatorAttestationResponse). registration.PassesRegistration valid (judged_registration s n z))
+            (response reply one) succeeds.3;
+        after = subst (λ (z : responses.AuthenticatorAttestationResponse). IsAfterRegistration s n z t) (response after.2 two) after.5;
       }
 
   -- an accepted registration with the response that the event brings
-  pub enrols : (s t : State) (e : SiteEvent) (n : ℕ) (r : responses.Registration) → Acts valid s e t → BringsNewTo e n r → Registered s n r t
-  enrols s t (Registers k q) n r acts brings =
-      subst (λ (j : ℕ). Registered s j r t) brings.0 (subst (λ (z : responses.Registration). Registered s k z t) brings.1 (record { passes = acts.0; after = acts.1 }))
-  enrols s t (RegistersBy k c ps d) n r acts brings = subst (λ (j : ℕ). Registered s j r t) brings.0 (registered_with s t k c ps d r acts brings.1)
-  enrols s t (Begins o) n r acts brings = absurd brings
-  enrols s t (Abandons k) n r acts brings = absurd brings
-  enrols s t (Retires id) n r acts brings = absurd brings
-  enrols s t (SignsIn k q) n r acts brings = absurd brings
-  enrols s t (SignsInBy k c ps d) n r acts brings = absurd brings
-  enrols s t Restarts n r acts brings = absurd brings
+  pub registered_in : (s t : SiteState) (e : SiteEvent) (n : ℕ) (r : responses.AuthenticatorAttestationResponse) → SiteActs valid s e t → BringsNewTo e n r
+      → Registered s n r t
+  registered_in s t (Registers k q) n r acts brings =
+      subst (λ (j : ℕ). Registered s j r t) brings.0
+      (subst (λ (z : responses.AuthenticatorAttestationResponse). Registered s k z t) brings.1 (record { passes = acts.0; after = acts.1 }))
+  registered_in s t (RegistersBy k c ps d) n r acts brings = subst (λ (j : ℕ). Registered s j r t) brings.0 (registered_with s t k c ps d r acts brings.1)
+  registered_in s t (Begins o) n r acts brings = absurd brings
+  registered_in s t (Abandons k) n r acts brings = absurd brings
+  registered_in s t (Retires id) n r acts brings = absurd brings
+  registered_in s t (SignsIn k q) n r acts brings = absurd brings
+  registered_in s t (SignsInBy k c ps d) n r acts brings = absurd brings
+  registered_in s t Restarts n r acts brings = absurd brings
 
-  carried_there : (s t : State) (n c : ℕ) (ps : List Packet) (d : List ℕ) → Acts valid s (SignsInBy n c ps d) t → (r : responses.Assertion) × Carried c ps d r
+  carried_there : (s t : SiteState) (n c : ℕ) (ps : List Packet) (d : List ℕ) → SiteActs valid s (SignsInBy n c ps d) t
+      → (r : responses.AuthenticatorAssertionResponse) × Carried c ps d r
   carried_there s t n c ps d acts =
       let used = acts.0.0 in
       let reply = acts.0.1 in
@@ -144,9 +154,11 @@ module _ (valid : Validity) (public : Keys) (b : Below valid public) where
       (response_of reply d, (used, succeeds.0, reply, succeeds.1, succeeds.2, refl))
 
   -- an accepted sign-in with the response that the event brings
-  pub signs_in : (s t : State) (e : SiteEvent) (n : ℕ) (r : responses.Assertion) → Acts valid s e t → BringsTo e n r → SignedIn s n r t
+  pub signs_in : (s t : SiteState) (e : SiteEvent) (n : ℕ) (r : responses.AuthenticatorAssertionResponse) → SiteActs valid s e t → BringsTo e n r
+      → SignedIn s n r t
   signs_in s t (SignsIn k q) n r acts brings =
-      subst (λ (j : ℕ). SignedIn s j r t) brings.0 (subst (λ (z : responses.Assertion). SignedIn s k z t) brings.1 (record { passes = acts.0; after = acts.1 }))
+      subst (λ (j : ℕ). SignedIn s j r t) brings.0
+      (subst (λ (z : responses.AuthenticatorAssertionResponse). SignedIn s k z t) brings.1 (record { passes = acts.0; after = acts.1 }))
   signs_in s t (SignsInBy k c ps d) n r acts brings = subst (λ (j : ℕ). SignedIn s j r t) brings.0 (signed_in_by s t k c ps d r acts brings.1)
   signs_in s t (Begins o) n r acts brings = absurd brings
   signs_in s t (Abandons k) n r acts brings = absurd brings
@@ -157,7 +169,7 @@ module _ (valid : Validity) (public : Keys) (b : Below valid public) where
 
   -- ---- what is kept
 
-  loaded : (s t : State) → Loads s t → t ≡ after_restart s
+  loaded : (s t : SiteState) → Loads s t → t ≡ after_restart s
   loaded s t l =
       let same = b.sites.one_saved s t 3 l.version l.bytes l.saved l.loaded in
       let rp = l.rp in
@@ -166,23 +178,23 @@ module _ (valid : Validity) (public : Keys) (b : Below valid public) where
       let sessions : t.sessions ≡ none_open s.sessions.next = l.none_open ∙ ap none_open same.1 in
       λ i. record { rp = rp i; policy = policy i; rows = rows i; sessions = sessions i }
 
-  pub record Stays (s t : State) : Type 0 where
+  pub record Stays (s t : SiteState) : Type 0 where
     pub keeps : Keeps s t
     pub bytes : AreBytes s → AreBytes t
 
-  stays_signed_in : (s t : State) (n : ℕ) (r : responses.Assertion) → IsFresh s → SignedIn s n r t → Stays s t
+  stays_signed_in : (s t : SiteState) (n : ℕ) (r : responses.AuthenticatorAssertionResponse) → IsFresh s → SignedIn s n r t → Stays s t
   stays_signed_in s t n r fresh x = record {
     keeps = (b.sites.signs_in s n r t fresh x.passes x.after).0;
-    bytes = λ old k e h. old k e (still s n k e (subst (λ (z : State). finite.get z.sessions.expected k ≡ Some e) x.after.2 h));
+    bytes = λ old k e h. old k e (still s n k e (subst (λ (z : SiteState). finite.get z.sessions.expected k ≡ Some e) x.after.2 h));
   }
 
-  stays_registered : (s t : State) (n : ℕ) (r : responses.Registration) → IsFresh s → Registered s n r t → Stays s t
+  stays_registered : (s t : SiteState) (n : ℕ) (r : responses.AuthenticatorAttestationResponse) → IsFresh s → Registered s n r t → Stays s t
   stays_registered s t n r fresh x = record {
     keeps = (b.sites.registers s n r t fresh x.passes x.after).0;
-    bytes = λ old k e h. old k e (still s n k e (subst (λ (z : State). finite.get z.sessions.expected k ≡ Some e) x.after.6 h));
+    bytes = λ old k e h. old k e (still s n k e (subst (λ (z : SiteState). finite.get z.sessions.expected k ≡ Some e) x.after.6 h));
   }
 
-  pub stays : (s t : State) (e : SiteEvent) → IsFresh s → Acts valid s e t → Stays s t
+  pub stays : (s t : SiteState) (e : SiteEvent) → IsFresh s → SiteActs valid s e t → Stays s t
   stays s t (Begins o) fresh acts =
       subst (Stays s) (sym acts.2) (record { keeps = b.sites.begins s o acts.1 fresh; bytes = bytes_begun s o acts.1 acts.0 })
   stays s t (Abandons n) fresh acts = subst (Stays s) (sym acts) (record { keeps = b.sites.abandons s n fresh; bytes = λ old k e h. old k e (still s n k e h) })
@@ -198,7 +210,7 @@ module _ (valid : Validity) (public : Keys) (b : Below valid public) where
 
   -- ---- which session is taken
 
-  pub takes : (s t : State) (e : SiteEvent) (n : ℕ) → IsFresh s → Acts valid s e t → session_in e ≡ Some n → Takes s t n
+  pub takes : (s t : SiteState) (e : SiteEvent) (n : ℕ) → IsFresh s → SiteActs valid s e t → session_in e ≡ Some n → Takes s t n
   takes s t (SignsIn k r) n fresh acts is = subst (Takes s t) (same_Some k n is) (b.sites.signs_in s k r t fresh acts.0 acts.1).1
   takes s t (SignsInBy k c ps d) n fresh acts is =
       let x = carried_there s t k c ps d acts in
@@ -214,7 +226,8 @@ module _ (valid : Validity) (public : Keys) (b : Below valid public) where
   takes s t Restarts n fresh acts is = let bad : None ≡ Some n = is in absurd cc
 
   -- what a registration adds
-  pub registers : (s t : State) (e : SiteEvent) → Acts valid s e t → IsRegistration e → (n : ℕ) × (r : responses.Registration) × Registered s n r t
+  pub registers : (s t : SiteState) (e : SiteEvent) → SiteActs valid s e t → IsRegistration e → (n : ℕ) × (r : responses.AuthenticatorAttestationResponse)
+      × Registered s n r t
   registers s t (Registers n r) acts is = (n, r, record { passes = acts.0; after = acts.1 })
   registers s t (RegistersBy n c ps d) acts is = let x = registered_by s t n c ps d acts in (n, x.0, x.1)
   registers s t (Begins o) acts is = absurd is

@@ -10,12 +10,13 @@ use Rattle.site.specs.Laws.{GoesOn, IsFresh, IsNumbered}
 use Rattle.authenticator.specs.Laws.{IsSound, SoundState}
 use Rattle.authenticator.specs.Steps.{Keys}
 use Rattle.authenticator.proofs.Stored.{each_weaker}
-use Rattle.agreement.specs.World.{Acts, Asks, AtSite, ChangesHolder, ChangesSite, Done, End, Event, Happens, Holder, IsRun, IsStart, Moment, Nothing, SiteEvent, World, after_call}
+use Rattle.agreement.specs.World.{SiteActs, Asks, AtSite, ChangesHolder, ChangesSite, Done, EventEnd, Event, Happens, Holder, IsRun, IsStart, Moment}
+use Rattle.agreement.specs.World.{Nothing, SiteEvent, World, after_call}
 use Rattle.agreement.specs.Below.{Below}
 use Rattle.agreement.proofs.Sites.{AreBytes, empty_bytes, stays}
 
 -- each site's sessions have their numbers, and each authenticator has signed soundly
-pub record SoundSite (s : site.State) : Type 0 where
+pub record SoundSite (s : site.SiteState) : Type 0 where
   pub fresh : IsFresh s
   pub numbered : IsNumbered s
   pub bytes : AreBytes s
@@ -33,14 +34,15 @@ abbrev pub GoOn : World → World → Type 0
 GoOn v w = (i : ℕ) → GoesOn (v.site i) (w.site i)
 
 -- of a site that changed, and of the others
-at_sites : (R : site.State → site.State → Type 0) (old new : World) (i : ℕ) (s : site.State) → ChangesSite old new i s → R (old.site i) s
+at_sites : (R : site.SiteState → site.SiteState → Type 0) (old new : World) (i : ℕ) (s : site.SiteState) → ChangesSite old new i s → R (old.site i) s
     → ((j : ℕ) → R (old.site j) (old.site j)) → (j : ℕ) → R (old.site j) (new.site j)
 at_sites R old new i s change here same j = elim (eqb_tells j i) [
   | inl x ↦ subst (λ (l : ℕ). R (old.site l) (new.site l)) (sym x.1) (subst (R (old.site i)) (sym change.now) here)
   | inr x ↦ subst (R (old.site j)) (sym (change.others j x.1)) (same j)
 ]
 
-at_holders : (P : Holder → Type 0) (old new : World) (k : ℕ) (h : Holder) → ChangesHolder old new k h → P h → ((j : ℕ) → P (old.holder j)) → (j : ℕ) → P (new.holder j)
+at_holders : (P : Holder → Type 0) (old new : World) (k : ℕ) (h : Holder) → ChangesHolder old new k h → P h → ((j : ℕ) → P (old.holder j)) → (j : ℕ)
+    → P (new.holder j)
 at_holders P old new k h change here same j = elim (eqb_tells j k) [
   | inl x ↦ subst (λ (l : ℕ). P (new.holder l)) (sym x.1) (subst P (sym change.now) here)
   | inr x ↦ subst P (sym (change.others j x.1)) (same j)
@@ -51,7 +53,8 @@ module _ (valid : Validity) (public : Keys) (b : Below valid public) where
     pub sound : Sound new
     pub goes_on : GoOn old new
 
-  at_site : (old new : World) (i : ℕ) (e : SiteEvent) (s : site.State) → Sound old → Acts valid (old.site i) e s → ChangesSite old new i s → Kept old new
+  at_site : (old new : World) (i : ℕ) (e : SiteEvent) (s : site.SiteState) → Sound old → SiteActs valid (old.site i) e s → ChangesSite old new i s
+      → Kept old new
   at_site old new i e s sound acts change =
       let x = stays valid public b (old.site i) s e (sound.sites i).fresh acts in
       let here : SoundSite s = record { fresh = x.keeps.fresh; numbered = x.keeps.numbered (sound.sites i).numbered; bytes = x.bytes (sound.sites i).bytes } in
@@ -66,7 +69,7 @@ module _ (valid : Validity) (public : Keys) (b : Below valid public) where
   same_sites : (old new : World) → ((i : ℕ) → new.site i ≡ old.site i) → GoOn old new
   same_sites old new same i = subst (GoesOn (old.site i)) (sym (same i)) (b.sites.stays (old.site i))
 
-  happened : (old new : World) (e : Event) (end : End) → Sound old → Happens valid public old e end new → Kept old new
+  happened : (old new : World) (e : Event) (end : EventEnd) → Sound old → Happens valid public old e end new → Kept old new
   happened old new (AtSite i e) Done sound h = at_site old new i e h.0 sound h.1 h.2
   happened old new (Asks k channel bs consent words) Done sound h =
       let o = b.steps.sound (old.holder k).state channel bs consent words h.0 (sound.holders k).state h.1 h.2 in
@@ -123,7 +126,8 @@ module _ (valid : Validity) (public : Keys) (b : Below valid public) where
   each_both P Q R f [] h k = tt
   each_both P Q R f (m ∷ ms) h k = (f m h.0 k.0, each_both P Q R f ms h.1 k.1)
 
-  each_pair : (R : Moment → Moment → Type 0) → ((m l : Moment) → Lived m → Since m.new l → R m l) → (w : World) (ms : List Moment) → Sound w → IsRun valid public w ms → EachPair R ms
+  each_pair : (R : Moment → Moment → Type 0) → ((m l : Moment) → Lived m → Since m.new l → R m l) → (w : World) (ms : List Moment) → Sound w
+      → IsRun valid public w ms → EachPair R ms
   each_pair R f w [] sound run = tt
   each_pair R f w (m ∷ ms) sound run =
       let l = lived w m sound run.0 run.1 in (
@@ -137,7 +141,8 @@ module _ (valid : Validity) (public : Keys) (b : Below valid public) where
   pairs_at R (m ∷ ms) h zero (suc j) d lt within = All-from_recursion (R m) ms h.0 j d (omega arith)
   pairs_at R (m ∷ ms) h (suc i) (suc j) d lt within = pairs_at R ms h.1 i j d (omega arith) (omega arith)
 
-  pub pairs : (R : Moment → Moment → Type 0) → ((m l : Moment) → Lived m → Since m.new l → R m l) → (w : World) (ms : List Moment) → Sound w → IsRun valid public w ms → AllPairs R ms
+  pub pairs : (R : Moment → Moment → Type 0) → ((m l : Moment) → Lived m → Since m.new l → R m l) → (w : World) (ms : List Moment) → Sound w
+      → IsRun valid public w ms → AllPairs R ms
   pairs R f w ms sound run = pairs_at R ms (each_pair R f w ms sound run)
 
   pub starts : (w : World) → IsStart w → Sound w

@@ -13,15 +13,15 @@ use Rattle.authdata.specs.Flags.{is_set, UP, UV}
 use Rattle.authdata.specs.Layout.{AttestedCredential, AuthenticatorData, AuthOf}
 use Rattle.authdata.specs.Objects.{Attestation}
 use Rattle.authdata.specs.Responses as responses
-use Rattle.authdata.specs.Responses.{Assertion}
+use Rattle.authdata.specs.Responses.{AuthenticatorAssertionResponse}
 use Rattle.authdata.specs.Statements.{IsNone, IsSelfSigned}
-use Rattle.ctapmsg.specs.Replies as replies
-use Rattle.ctapmsg.specs.Replies.{ReplyOf, assertion_reply, creation_reply}
-use Rattle.verification.specs.Records.{Credential, Registration, SignIn}
+use Rattle.ctap_replies.specs.Replies as replies
+use Rattle.ctap_replies.specs.Replies.{ReplyOf, assertion_reply, creation_reply}
+use Rattle.verification.specs.Records.{Credential, ExpectedRegistration, ExpectedSignIn}
 use Rattle.verification.specs.Registration.{Attests}
-use Rattle.credentials.specs.Table.{row_of}
-use Rattle.sessions.specs.Sessions.{registration_at, sign_in_at}
-use Rattle.site.specs.State.{State}
+use Rattle.credential_table.specs.Table.{row_of}
+use Rattle.ceremony_sessions.specs.Sessions.{registration_at, sign_in_at}
+use Rattle.site.specs.State.{SiteState}
 use Rattle.authenticator.specs.Steps.{Entry, Keys, assertion}
 use Rattle.client.specs.Responses.{response_of}
 use Rattle.ceremony.specs.Registration as registering
@@ -31,45 +31,45 @@ use Rattle.agreement.specs.World.{AtSite, Asks, Done, Event, IsRun, IsStart, Mom
 -- ---- sign-ins
 
 -- the packets carry a reply that makes this response with the client data
-abbrev pub Carried : ℕ → List Packet → List ℕ → Assertion → Type 0
+abbrev pub Carried : ℕ → List Packet → List ℕ → AuthenticatorAssertionResponse → Type 0
 Carried c ps t r = (n : ℕ) × (m : List ℕ) × (a : replies.Assertion) × Delivers c ps n m × ReplyOf (assertion_reply a) m × (r ≡ response_of a t)
 
 -- the event brings this response to the session
-abbrev pub BringsTo : SiteEvent → ℕ → Assertion → Type 0
+abbrev pub BringsTo : SiteEvent → ℕ → AuthenticatorAssertionResponse → Type 0
 BringsTo (SignsIn k s) n r = (k ≡ n) × (s ≡ r)
 BringsTo (SignsInBy k c ps t) n r = (k ≡ n) × Carried c ps t r
 BringsTo e n r = ⊥
 
 -- to that of site i
-abbrev pub Brings : Event → ℕ → ℕ → Assertion → Type 0
+abbrev pub Brings : Event → ℕ → ℕ → AuthenticatorAssertionResponse → Type 0
 Brings (AtSite j e) i n r = (j ≡ i) × BringsTo e n r
 Brings (Asks k channel bs consent words) i n r = ⊥
 
 -- a sign-in with this response for a credential that is registered at the site, whether it is accepted or not
-pub record Tries (m : Moment) (i n : ℕ) (r : Assertion) (row : Credential) : Type 0 where
+pub record Tries (m : Moment) (i n : ℕ) (r : AuthenticatorAssertionResponse) (row : Credential) : Type 0 where
   pub brings : Brings m.event i n r
   pub found : row_of r.credential (m.old.site i).rows ≡ Some row
 
 -- it is accepted
-pub record IsAccepted (m : Moment) (i n : ℕ) (r : Assertion) (row : Credential) : Type 0 where
+pub record IsAccepted (m : Moment) (i n : ℕ) (r : AuthenticatorAssertionResponse) (row : Credential) : Type 0 where
   pub tries : Tries m i n r row
   pub done : m.end ≡ Done
 
 -- ---- registrations
 
 -- the packets carry a reply that makes this response with the client data
-abbrev pub CarriedNew : ℕ → List Packet → List ℕ → responses.Registration → Type 0
+abbrev pub CarriedNew : ℕ → List Packet → List ℕ → responses.AuthenticatorAttestationResponse → Type 0
 CarriedNew c ps t r =
     (n : ℕ) × (m : List ℕ) × (a : replies.Creation) × Delivers c ps n m × ReplyOf (creation_reply a) m × (r ≡ registering.response a t)
 
 -- the event brings this response to the session
-abbrev pub BringsNewTo : SiteEvent → ℕ → responses.Registration → Type 0
+abbrev pub BringsNewTo : SiteEvent → ℕ → responses.AuthenticatorAttestationResponse → Type 0
 BringsNewTo (Registers k s) n r = (k ≡ n) × (s ≡ r)
 BringsNewTo (RegistersBy k c ps t) n r = (k ≡ n) × CarriedNew c ps t r
 BringsNewTo e n r = ⊥
 
 -- to that of site i, where it is accepted
-pub record IsRegistered (m : Moment) (i n : ℕ) (r : responses.Registration) : Type 0 where
+pub record IsAcceptedRegistration (m : Moment) (i n : ℕ) (r : responses.AuthenticatorAttestationResponse) : Type 0 where
   pub event : SiteEvent
   pub here : m.event ≡ AtSite i event
   pub brings : BringsNewTo event n r
@@ -78,7 +78,7 @@ pub record IsRegistered (m : Moment) (i n : ℕ) (r : responses.Registration) : 
 -- ---- signings
 
 -- what is signed for the response: the authenticator data, and then the hash of the client data
-abbrev pub message_of : Assertion → List ℕ
+abbrev pub message_of : AuthenticatorAssertionResponse → List ℕ
 message_of r = r.auth_data ++ sha256 r.client_data
 
 -- an authenticator has made the key
@@ -97,11 +97,11 @@ pub record WasSigned (w : World) (key : CoseKey) (message : List ℕ) : Type 0 w
 -- Signatures can't be forged: where a sign-in brings a valid signature under a key that was made, it was signed before.
 abbrev pub IsIdeal : Validity → Moment → Type 0
 IsIdeal valid m =
-    (i n : ℕ) (r : Assertion) (row : Credential) → Tries m i n r row → valid row.key (message_of r) r.signature
+    (i n : ℕ) (r : AuthenticatorAssertionResponse) (row : Credential) → Tries m i n r row → valid row.key (message_of r) r.signature
     → WasMade m.old row.key → WasSigned m.old row.key (message_of r)
 
 -- the entry is an assertion by some authenticator, under the credential's key, for this response
-pub record RestsOn (m : Moment) (r : Assertion) (row : Credential) (e : Entry) : Type 0 where
+pub record RestsOn (m : Moment) (r : AuthenticatorAssertionResponse) (row : Credential) (e : Entry) : Type 0 where
   pub there : (k : ℕ) × Contains (m.old.holder k).signed e
   pub purpose : e.purpose ≡ assertion
   pub key : e.key ≡ row.key
@@ -110,7 +110,7 @@ pub record RestsOn (m : Moment) (r : Assertion) (row : Credential) (e : Entry) :
 -- ---- what holds
 
 -- client data of this type and challenge, from a page that is one of the site's
-pub record SaysFor (s : State) (kind challenge client_data : List ℕ) : Type 0 where
+pub record SaysFor (s : SiteState) (kind challenge client_data : List ℕ) : Type 0 where
   pub seen : Seen
   pub reads : seen_of client_data ≡ Some seen
   pub kind_is : seen.kind ≡ kind
@@ -120,15 +120,15 @@ pub record SaysFor (s : State) (kind challenge client_data : List ℕ) : Type 0 
 -- the client data were made for this sign-in: their type is get, their challenge is the one that the answered session
 -- gave out, and the page is one of the site's (WebAuthn Level 2, section 7.2, steps 11 to 13)
 pub record IsFresh (m : Moment) (i n : ℕ) (client_data : List ℕ) : Type 0 where
-  pub expected : SignIn
+  pub expected : ExpectedSignIn
   pub session : sign_in_at n (m.old.site i).sessions ≡ Some expected
   pub says : SaysFor (m.old.site i) (codes "webauthn.get") expected.challenge client_data
 
 -- a sign-in that is accepted answers its session: the client data are fresh; the credential is one that the session lists, where it lists
 -- any; whoever the session or the response names is the credential's user, and one of them names him (steps 5 to 7)
-pub record FitsSession (m : Moment) (i n : ℕ) (r : Assertion) (row : Credential) : Type 0 where
+pub record FitsSession (m : Moment) (i n : ℕ) (r : AuthenticatorAssertionResponse) (row : Credential) : Type 0 where
   pub fresh : IsFresh m i n r.client_data
-  pub expected : SignIn
+  pub expected : ExpectedSignIn
   pub session : sign_in_at n (m.old.site i).sessions ≡ Some expected
   pub listed : (expected.allow ≡ []) ⊎ Contains expected.allow r.credential
   pub named : (user : List ℕ) → expected.user ≡ Some user → user ≡ row.user
@@ -137,15 +137,15 @@ pub record FitsSession (m : Moment) (i n : ℕ) (r : Assertion) (row : Credentia
 
 -- so it is whether or not the credential's key was made
 abbrev pub Fits : Moment → Type 0
-Fits m = (i n : ℕ) (r : Assertion) (row : Credential) → IsAccepted m i n r row → FitsSession m i n r row
+Fits m = (i n : ℕ) (r : AuthenticatorAssertionResponse) (row : Credential) → IsAccepted m i n r row → FitsSession m i n r row
 
 -- a registration that is accepted answers its session (section 7.1): its client data are of type create, with the session's
 -- challenge, from a page that is one of the site's; the authenticator data are for the site's rp id, with the user present, and
 -- verified if the session requires it; the key is of an algorithm that was offered, and its statement shows no attestation, or
 -- is signed with it over these client data; the id was not registered, and is from then on, with the session's user, the key
 -- and the counter that came
-pub record FitsRegistration (valid : Validity) (m : Moment) (i n : ℕ) (r : responses.Registration) : Type 0 where
-  pub expected : Registration
+pub record FitsRegistration (valid : Validity) (m : Moment) (i n : ℕ) (r : responses.AuthenticatorAttestationResponse) : Type 0 where
+  pub expected : ExpectedRegistration
   pub session : registration_at n (m.old.site i).sessions ≡ Some expected
   pub says : SaysFor (m.old.site i) (codes "webauthn.create") expected.challenge r.client_data
   pub object : Attestation
@@ -154,7 +154,7 @@ pub record FitsRegistration (valid : Validity) (m : Moment) (i n : ℕ) (r : res
   pub attests : Attests r object auth credential
   pub rp_id : auth.rp_id_hash ≡ sha256 (m.old.site i).rp.rp_id
   pub present : is_set auth.flags UP ≡ true
-  pub verified : expected.verified ≡ true → is_set auth.flags UV ≡ true
+  pub verified : expected.uv ≡ true → is_set auth.flags UV ≡ true
   pub offered : Contains expected.algorithms (alg_of credential.key)
   pub statement : IsNone object ⊎ IsSelfSigned valid object credential.key (sha256 r.client_data)
   pub new : row_of credential.id (m.old.site i).rows ≡ None
@@ -166,11 +166,11 @@ pub record FitsRegistration (valid : Validity) (m : Moment) (i n : ℕ) (r : res
   pub not_retired : row.retired ≡ false
 
 abbrev pub Registered : Validity → Moment → Type 0
-Registered valid m = (i n : ℕ) (r : responses.Registration) → IsRegistered m i n r → FitsRegistration valid m i n r
+Registered valid m = (i n : ℕ) (r : responses.AuthenticatorAttestationResponse) → IsAcceptedRegistration m i n r → FitsRegistration valid m i n r
 
 -- the entry signed the hash of the site's rp id, the counter that is stored from then on, and the hash of just these
 -- client data, which are fresh
-pub record Says (m : Moment) (i n : ℕ) (r : Assertion) (e : Entry) : Type 0 where
+pub record Says (m : Moment) (i n : ℕ) (r : AuthenticatorAssertionResponse) (e : Entry) : Type 0 where
   pub auth : AuthenticatorData
   pub bytes : List ℕ
   pub spelled : AuthOf auth bytes
@@ -185,24 +185,24 @@ pub record Says (m : Moment) (i n : ℕ) (r : Assertion) (e : Entry) : Type 0 wh
 -- the user was present at the getAssertion that the entry answers, and verified if the session required it
 pub record Consented (m : Moment) (i n : ℕ) (e : Entry) : Type 0 where
   pub present : e.consent.present ≡ true
-  pub verified : (x : SignIn) → sign_in_at n (m.old.site i).sessions ≡ Some x → x.verified ≡ true → e.consent.verified ≡ true
+  pub verified : (x : ExpectedSignIn) → sign_in_at n (m.old.site i).sessions ≡ Some x → x.uv ≡ true → e.consent.verified ≡ true
 
 -- an accepted sign-in for a credential whose key was made rests on an entry, and each on which it rests says so
 abbrev pub Agrees : Moment → Type 0
 Agrees m =
-    (i n : ℕ) (r : Assertion) (row : Credential) → IsAccepted m i n r row → WasMade m.old row.key
+    (i n : ℕ) (r : AuthenticatorAssertionResponse) (row : Credential) → IsAccepted m i n r row → WasMade m.old row.key
     → ((e : Entry) × RestsOn m r row e) × ((e : Entry) → RestsOn m r row e → Says m i n r e × Consented m i n e)
 
 -- two accepted sign-ins for one credential of a site rest on no common entry
 abbrev pub ShareNone : Moment → Moment → Type 0
 ShareNone m l =
-    (i n k : ℕ) (r t : Assertion) (row low : Credential) → IsAccepted m i n r row → IsAccepted l i k t low → r.credential ≡ t.credential
+    (i n k : ℕ) (r t : AuthenticatorAssertionResponse) (row low : Credential) → IsAccepted m i n r row → IsAccepted l i k t low → r.credential ≡ t.credential
     → (e : Entry) → RestsOn m r row e → RestsOn l t low e → ⊥
 
 -- nor do any two at all sites, where no two sites have rp ids of one hash and no two client data are of one
 abbrev pub RestsOnce : Moment → Moment → Type 0
 RestsOnce m l =
-    (i j n k : ℕ) (r t : Assertion) (row low : Credential) → IsAccepted m i n r row → IsAccepted l j k t low
+    (i j n k : ℕ) (r t : AuthenticatorAssertionResponse) (row low : Credential) → IsAccepted m i n r row → IsAccepted l j k t low
     → (sha256 (m.old.site i).rp.rp_id ≡ sha256 (l.old.site j).rp.rp_id → i ≡ j) → (sha256 r.client_data ≡ sha256 t.client_data → r.client_data ≡ t.client_data)
     → (e : Entry) → RestsOn m r row e → RestsOn l t low e → ⊥
 
@@ -214,13 +214,13 @@ session_in (Registers n r) = Some n
 session_in (RegistersBy n c ps t) = Some n
 session_in e = None
 
-abbrev pub Answers : Event → ℕ → ℕ → Type 0
-Answers (AtSite j e) i n = (j ≡ i) × (session_in e ≡ Some n)
-Answers (Asks k channel bs consent words) i n = ⊥
+abbrev pub AnswersSession : Event → ℕ → ℕ → Type 0
+AnswersSession (AtSite j e) i n = (j ≡ i) × (session_in e ≡ Some n)
+AnswersSession (Asks k channel bs consent words) i n = ⊥
 
 -- no session of a site is accepted twice
 abbrev pub DifferInSession : Moment → Moment → Type 0
-DifferInSession m l = (i n : ℕ) → Answers m.event i n → Answers l.event i n → m.end ≡ Done → l.end ≡ Done → ⊥
+DifferInSession m l = (i n : ℕ) → AnswersSession m.event i n → AnswersSession l.event i n → m.end ≡ Done → l.end ≡ Done → ⊥
 
 abbrev pub IsRegistration : SiteEvent → Type 0
 IsRegistration (Registers n r) = Unit {0}
@@ -236,26 +236,26 @@ pub record Adds (l : Moment) (i : ℕ) (c : Credential) : Type 0 where
   pub rows : (l.new.site i).rows ≡ (l.old.site i).rows ++ c ∷ []
 
 -- a credential of this id is registered at the site, and it is retired
-pub record IsRetired (s : State) (id : List ℕ) : Type 0 where
+pub record IsRetired (s : SiteState) (id : List ℕ) : Type 0 where
   pub row : Credential
   pub found : row_of id s.rows ≡ Some row
   pub retired : row.retired ≡ true
 
 -- with it no sign-in is accepted, and its id is not registered
-pub record IsRefused (m : Moment) (i : ℕ) (id : List ℕ) : Type 0 where
-  pub signs_in : (n : ℕ) (r : Assertion) (row : Credential) → IsAccepted m i n r row → r.credential ≢ id
+pub record IsRefusedThere (m : Moment) (i : ℕ) (id : List ℕ) : Type 0 where
+  pub signs_in : (n : ℕ) (r : AuthenticatorAssertionResponse) (row : Credential) → IsAccepted m i n r row → r.credential ≢ id
   pub registers : (c : Credential) → Adds m i c → c.id ≢ id
 
 -- to retire a credential has that effect; and one that is retired is refused, and retired afterwards
 pub record Retiring (m : Moment) : Type 0 where
   pub retires : (i : ℕ) (id : List ℕ) (row : Credential) → m.event ≡ AtSite i (Retires id) → m.end ≡ Done → row_of id (m.old.site i).rows ≡ Some row
       → IsRetired (m.new.site i) id
-  pub refuses : (i : ℕ) (id : List ℕ) → IsRetired (m.old.site i) id → IsRefused m i id × IsRetired (m.new.site i) id
+  pub refuses : (i : ℕ) (id : List ℕ) → IsRetired (m.old.site i) id → IsRefusedThere m i id × IsRetired (m.new.site i) id
 
 -- a credential that is retired at a site, before a moment or after it, is so at each later one, and is refused there
 abbrev pub StaysRetired : Moment → Moment → Type 0
 StaysRetired m l =
-    (i : ℕ) (id : List ℕ) → IsRetired (m.old.site i) id ⊎ IsRetired (m.new.site i) id → IsRetired (l.old.site i) id × IsRefused l i id
+    (i : ℕ) (id : List ℕ) → IsRetired (m.old.site i) id ⊎ IsRetired (m.new.site i) id → IsRetired (l.old.site i) id × IsRefusedThere l i id
 
 pub record Agreement (valid : Validity) (run : List Moment) : Type 0 where
   pub registered : All (Registered valid) run

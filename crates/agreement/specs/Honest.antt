@@ -4,32 +4,33 @@ use Rattle.std.specs.Prelude.{◌≡◌, ◌<◌, ◌≤◌, ◌⊎◌, ◌+◌,
 use Rattle.std.specs.Option.{ForSome}
 use Rattle.hidframe.specs.declared.Packet.{Packet}
 use Rattle.cose.specs.Schemes.{Validity}
-use Rattle.ctapmsg.specs.Replies as replies
+use Rattle.ctap_replies.specs.Replies as replies
 use Rattle.verification.specs.Records as expects
-use Rattle.verification.specs.RegistrationAnswers.{Accepts}
-use Rattle.credentials.specs.Table.{row_of}
-use Rattle.sessions.specs.Sessions.{Opening, registration_at, sign_in_at}
+use Rattle.verification.specs.RegistrationAnswers.{AcceptsAttestation}
+use Rattle.credential_table.specs.Table.{row_of}
+use Rattle.ceremony_sessions.specs.Sessions.{Opening, registration_at, sign_in_at}
 use Rattle.site.specs.State as site
 use Rattle.site.specs.Laws.{after_begin}
-use Rattle.authenticator.specs.State.{Credential, State}
+use Rattle.authenticator.specs.State.{CredentialSource, AuthenticatorState}
 use Rattle.authenticator.specs.Credentials.{credential_of, resident_ids}
 use Rattle.authenticator.specs.Orders.{is_excluded}
 use Rattle.authenticator.specs.Steps.{Keys, key_of}
 use Rattle.authenticator.specs.declared.consent.Consent.{Consent}
 use Rattle.authenticator.specs.declared.consent.Words.{Words}
 use Rattle.client.specs.Options as options
-use Rattle.client.specs.Asked.{Asks, Call, Sent, descriptors_of, registration_call, sign_in_call}
+use Rattle.client.specs.Asked.{Asks, ClientCall, Sent, descriptors_of, registration_call, sign_in_call}
 use Rattle.ceremony.specs.declared.serving.Act.TheVariants as act
 use Rattle.ceremony.specs.Verdict.{Succeeds}
 use Rattle.ceremony.specs.Registration as registration
 use Rattle.ceremony.specs.SignIn as sign_in
-use Rattle.agreement.specs.Ends.{End, Exchange, IsIdleOn}
+use Rattle.agreement.specs.Ends.{AuthenticatorEnd, Exchange, IsIdleOn}
 
 -- ---- one request
 
 -- the client asks this on a channel; its packets come to the authenticator's end in their order; the user, being waited
 -- for, gives the consent that is asked for, with verification or without; and nothing else happens there
-pub record Decided (valid : Validity) (public : Keys) (call : Call) (uv : Bool) (c : ℕ) (e : End) (words : Words) (out : Sent) (packets : List Packet) (f : End) : Type 0 where
+pub record Decided (valid : Validity) (public : Keys) (call : ClientCall) (uv : Bool) (c : ℕ) (e : AuthenticatorEnd) (words : Words) (out : Sent)
+    (packets : List Packet) (f : AuthenticatorEnd) : Type 0 where
   pub asks : Asks call c out
   pub consent : Consent
   pub waits : ℕ
@@ -41,11 +42,12 @@ pub record Decided (valid : Validity) (public : Keys) (call : Call) (uv : Bool) 
 -- ---- a credential at both ends
 
 -- the authenticator stores it and the site has it registered, with one counter
-pub record IsShared (public : Keys) (s : site.State) (a : State) (c : Credential) (n : ℕ) : Type 0 where
+pub record IsShared (public : Keys) (s : site.SiteState) (a : AuthenticatorState) (c : CredentialSource) (n : ℕ) : Type 0 where
   pub stored : credential_of c.id a.credentials ≡ Some c
   pub sign_count : c.sign_count ≡ n
   pub rp_id : c.rp_id ≡ s.rp.rp_id
-  pub registered : row_of c.id s.rows ≡ Some (record { id = c.id; user = c.user; key = key_of public c; sign_count = n; eligible = Some false; retired = false })
+  pub registered : row_of c.id s.rows ≡ Some
+      (record { id = c.id; user = c.user; key = key_of public c; sign_count = n; eligible = Some false; retired = false })
 
 -- ---- a registration
 
@@ -53,17 +55,17 @@ pub record IsShared (public : Keys) (s : site.State) (a : State) (c : Credential
 -- for the new credential; the client data and the packets of the client; the packets that come back, and the
 -- authenticator's end then
 pub record Registering : Type 0 where
-  pub site : site.State
+  pub site : site.SiteState
   pub session : ℕ
-  pub expected : expects.Registration
+  pub expected : expects.ExpectedRegistration
   pub origin : List ℕ
-  pub options : options.Registration
+  pub options : options.RegistrationOptions
   pub channel : ℕ
-  pub before : End
+  pub before : AuthenticatorEnd
   pub words : Words
   pub out : Sent
   pub packets : List Packet
-  pub after : End
+  pub after : AuthenticatorEnd
 
 pub record IsHonestRegistration (valid : Validity) (public : Keys) (x : Registering) : Type 0 where
   -- the session is open, and the options are its own
@@ -72,13 +74,13 @@ pub record IsHonestRegistration (valid : Validity) (public : Keys) (x : Register
   pub challenge : x.options.challenge ≡ x.expected.challenge
   pub user : x.options.user_id ≡ x.expected.user
   pub algorithms : x.options.algs ≡ x.expected.algorithms
-  pub verified : x.options.uv ≡ x.expected.verified
+  pub verified : x.options.uv ≡ x.expected.uv
   pub offered : 1 ≤ length x.options.algs
   -- the page is one of the site's
   pub origin : Contains x.site.rp.origins x.origin
   pub origin_text : IsUtf8 x.origin
   -- the site accepts what the authenticator attests
-  pub accepted : Accepts x.site.policy x.before.authenticator.attest
+  pub accepted : AcceptsAttestation x.site.policy x.before.authenticator.attest
   -- the credential is new at both ends, and there is room for it; none that is excluded is stored
   pub not_stored : credential_of x.words.id x.before.authenticator.credentials ≡ None
   pub not_registered : row_of x.words.id x.site.rows ≡ None
@@ -92,12 +94,12 @@ pub record IsHonestRegistration (valid : Validity) (public : Keys) (x : Register
 pub record Registers (valid : Validity) (public : Keys) (x : Registering) : Type 0 where
   pub reply : replies.Creation
   pub accepted : Succeeds (registration.registration valid x.site x.session x.out.client_data) x.channel x.packets (length x.packets) reply
-  pub credential : Credential
+  pub credential : CredentialSource
   pub id : credential.id ≡ x.words.id
   pub rp_id : credential.rp_id ≡ x.options.rp_id
   pub user : credential.user ≡ x.options.user_id
   pub resident : credential.resident ≡ x.options.rk
-  pub shared : (s : site.State) → registration.IsAfter x.site x.session x.out.client_data x.channel x.packets s
+  pub shared : (s : site.SiteState) → registration.IsAfter x.site x.session x.out.client_data x.channel x.packets s
       → IsShared public s x.after.authenticator credential 0
   pub newest : x.options.rk ≡ true → (later : List (List ℕ)) × (resident_ids x.options.rp_id x.after.authenticator.credentials ≡ credential.id ∷ later)
   pub idle : IsIdleOn x.channel x.after
@@ -105,21 +107,21 @@ pub record Registers (valid : Validity) (public : Keys) (x : Registering) : Type
 -- ---- a sign-in
 
 pub record SigningIn : Type 0 where
-  pub site : site.State
+  pub site : site.SiteState
   pub session : ℕ
-  pub expected : expects.SignIn
+  pub expected : expects.ExpectedSignIn
   pub origin : List ℕ
-  pub options : options.SignIn
+  pub options : options.SignInOptions
   pub channel : ℕ
-  pub before : End
+  pub before : AuthenticatorEnd
   pub words : Words
   pub out : Sent
   pub packets : List Packet
-  pub after : End
+  pub after : AuthenticatorEnd
 
 -- the credential is asked for by its id, for a user that the session names; or none is asked for, it is the most recent
 -- resident one, and the session names its user or none
-abbrev pub IsAskedFor : Credential → State → expects.SignIn → Type 0
+abbrev pub IsAskedFor : CredentialSource → AuthenticatorState → expects.ExpectedSignIn → Type 0
 IsAskedFor c a e =
     ((e.allow ≡ c.id ∷ []) × (e.user ≡ Some c.user))
     ⊎ ((e.allow ≡ []) × (c.resident ≡ true) × ((later : List (List ℕ)) × (resident_ids c.rp_id a.credentials ≡ c.id ∷ later))
@@ -131,7 +133,7 @@ pub record IsHonestSignIn (valid : Validity) (public : Keys) (x : SigningIn) : T
   pub rp_id : x.options.rp_id ≡ x.site.rp.rp_id
   pub challenge : x.options.challenge ≡ x.expected.challenge
   pub allow : x.options.allow ≡ x.expected.allow
-  pub verified : x.options.uv ≡ x.expected.verified
+  pub verified : x.options.uv ≡ x.expected.uv
   -- the page is one of the site's
   pub origin : Contains x.site.rp.origins x.origin
   pub origin_text : IsUtf8 x.origin
@@ -139,10 +141,10 @@ pub record IsHonestSignIn (valid : Validity) (public : Keys) (x : SigningIn) : T
   pub decided : Decided valid public (sign_in_call x.origin x.options) x.options.uv x.channel x.before x.words x.out x.packets x.after
 
 -- the packets are accepted, all of them and with the last; and then the credential's counter is one higher at both ends
-pub record SignsIn (valid : Validity) (public : Keys) (c : Credential) (n : ℕ) (x : SigningIn) : Type 0 where
+pub record SignsIn (valid : Validity) (public : Keys) (c : CredentialSource) (n : ℕ) (x : SigningIn) : Type 0 where
   pub reply : replies.Assertion
   pub accepted : Succeeds (sign_in.sign_in valid x.site x.session x.out.client_data) x.channel x.packets (length x.packets) reply
-  pub shared : (s : site.State) → sign_in.IsAfter x.site x.session x.out.client_data x.channel x.packets s
+  pub shared : (s : site.SiteState) → sign_in.IsAfter x.site x.session x.out.client_data x.channel x.packets s
       → IsShared public s x.after.authenticator (record c { sign_count = n + 1 }) (n + 1)
   pub idle : IsIdleOn x.channel x.after
 
@@ -151,12 +153,12 @@ pub record SignsIn (valid : Validity) (public : Keys) (c : Credential) (n : ℕ)
 -- the site once the registration is accepted; and the sign-in
 pub record Run : Type 0 where
   pub registering : Registering
-  pub registered : site.State
+  pub registered : site.SiteState
   pub signing_in : SigningIn
 
 -- the session names the new credential and its user; or it lists none, the credential is resident, and it names its user
 -- or none
-abbrev pub AsksForNew : Registering → expects.SignIn → Type 0
+abbrev pub AsksForNew : Registering → expects.ExpectedSignIn → Type 0
 AsksForNew x e =
     ((e.allow ≡ x.words.id ∷ []) × (e.user ≡ Some x.options.user_id))
     ⊎ ((e.allow ≡ []) × (x.options.rk ≡ true) × ForSome e.user (λ user. user ≡ x.options.user_id))
@@ -164,7 +166,8 @@ AsksForNew x e =
 pub record IsHonestRun (valid : Validity) (public : Keys) (x : Run) : Type 0 where
   pub idle : IsIdleOn x.registering.channel x.registering.before
   pub honest_registration : IsHonestRegistration valid public x.registering
-  pub registered : registration.IsAfter x.registering.site x.registering.session x.registering.out.client_data x.registering.channel x.registering.packets x.registered
+  pub registered : registration.IsAfter x.registering.site x.registering.session x.registering.out.client_data x.registering.channel x.registering.packets
+      x.registered
   -- a session begins for the sign-in, on the same channel
   pub begins : (opening : Opening) × (x.signing_in.site ≡ after_begin x.registered opening)
   pub goes_on : x.signing_in.before ≡ x.registering.after
@@ -177,5 +180,6 @@ pub record AcceptsBoth (valid : Validity) (public : Keys) (x : Run) : Type 0 whe
   pub registers : Registers valid public x.registering
   pub before : IsShared public x.registered x.registering.after.authenticator registers.credential 0
   pub signs_in : SignsIn valid public registers.credential 0 x.signing_in
-  pub after : (s : site.State) → sign_in.IsAfter x.signing_in.site x.signing_in.session x.signing_in.out.client_data x.signing_in.channel x.signing_in.packets s
+  pub after : (s : site.SiteState)
+      → sign_in.IsAfter x.signing_in.site x.signing_in.session x.signing_in.out.client_data x.signing_in.channel x.signing_in.packets s
       → IsShared public s x.signing_in.after.authenticator (record registers.credential { sign_count = 1 }) 1

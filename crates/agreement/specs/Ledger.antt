@@ -6,8 +6,8 @@ use Rattle.cose.specs.Schemes.{Validity}
 use Rattle.cose.specs.declared.key.Alg.{Alg}
 use Rattle.cose.specs.declared.key.CoseKey.{CoseKey}
 use Rattle.authdata.specs.Layout.{AuthenticatorData, AuthOf}
-use Rattle.ctapmsg.specs.Requests.{AssertionRequest, CreationRequest, RequestMessage, get_assertion, get_next_assertion, make_credential}
-use Rattle.ctapmsg.specs.Status.{IsRequest}
+use Rattle.ctap_requests.specs.Requests.{AssertionRequest, CreationRequest, RequestMessage, get_assertion, get_next_assertion, make_credential}
+use Rattle.ctap_requests.specs.Status.{IsRequest}
 use Rattle.authenticator.specs.Orders.{first_supported}
 use Rattle.authenticator.specs.Steps.{Entry, Keys, Purpose, assertion, attestation, key_of}
 use Rattle.authenticator.specs.declared.consent.Consent.{Consent}
@@ -95,8 +95,8 @@ pub record IsNextAsserted (k : ℕ) (past : List Moment) (e : Entry) : Type 0 wh
   pub signs : Signs k assertion request.client_data_hash e moment
 
 -- authenticator k signed the entry at one of these moments
-abbrev pub IsSignedIn : ℕ → List Moment → Entry → Type 0
-IsSignedIn k past e = IsAttested k past e ⊎ (IsAsserted k past e ⊎ IsNextAsserted k past e)
+abbrev pub IsSignedInRun : ℕ → List Moment → Entry → Type 0
+IsSignedInRun k past e = IsAttested k past e ⊎ (IsAsserted k past e ⊎ IsNextAsserted k past e)
 
 -- ---- keys
 
@@ -122,7 +122,7 @@ pub record IsMadeIn (public : Keys) (k : ℕ) (past : List Moment) (key : CoseKe
 -- in this world, to which these moments lead, each entry was signed at one of them, each key was made at one of them, and
 -- the key of each credential that is stored is among those made
 pub record IsLedger (public : Keys) (past : List Moment) (w : World) : Type 0 where
-  pub signed : (k : ℕ) → All (IsSignedIn k past) (w.holder k).signed
+  pub signed : (k : ℕ) → All (IsSignedInRun k past) (w.holder k).signed
   pub made : (k : ℕ) → All (IsMadeIn public k past) (w.holder k).made
   pub stored : (k : ℕ) → All (λ c. Contains (w.holder k).made (key_of public c)) (w.holder k).state.credentials
 

@@ -9,10 +9,10 @@ use Rattle.authdata.specs.Responses as responses
 use Rattle.authdata.specs.declared.statement.AttestationType.{AttestationType}
 use Rattle.authdata.specs.declared.statement.AttestationType.TheVariants as types
 use Rattle.verification.specs.Records as registered
-use Rattle.sessions.specs.Sessions.{Opening}
+use Rattle.ceremony_sessions.specs.Sessions.{Opening}
 use Rattle.site.specs.State as site
 use Rattle.site.specs.Laws.{after_begin}
-use Rattle.authenticator.specs.State.{Credential}
+use Rattle.authenticator.specs.State.{CredentialSource}
 use Rattle.authenticator.specs.Steps.{Entry, Keys, assertion, attestation, key_of}
 use Rattle.client.specs.Responses.{response_of}
 use Rattle.ceremony.specs.SignIn as sign_in
@@ -21,7 +21,7 @@ use Rattle.agreement.specs.World.{Asks, AtSite, Begins, Done, Holder, IsRun, IsS
 use Rattle.agreement.specs.Agreement.{IsAccepted, IsIdeal, RestsOn, WasMade}
 
 -- a world in which site i, or authenticator k, is this one
-abbrev pub with_site : ℕ → site.State → World → World
+abbrev pub with_site : ℕ → site.SiteState → World → World
 with_site i s w = record w { site = λ j. if j == i then s else w.site j }
 
 abbrev pub with_holder : ℕ → Holder → World → World
@@ -34,7 +34,7 @@ with_holder k h w = record w { holder = λ j. if j == k then h else w.holder j }
 pub record Place : Type 0 where
   pub world : World
   pub opening : Opening
-  pub signed_in : site.State
+  pub signed_in : site.SiteState
   pub site : ℕ
   pub holder : ℕ
 
@@ -110,8 +110,7 @@ module _ (valid : Validity) (public : Keys) (x : Run) (h : IsHonestRun valid pub
   abbrev pub moment_makes : Moment
   moment_makes = record {
     old = moment_begins.new;
-    event =
-        Asks p.holder x.registering.channel h.honest_registration.decided.asks.message h.honest_registration.decided.consent x.registering.words;
+    event = Asks p.holder x.registering.channel h.honest_registration.decided.asks.message h.honest_registration.decided.consent x.registering.words;
     end = Done;
     new = with_holder p.holder holder_made moment_begins.new;
   }
@@ -156,7 +155,7 @@ module _ (valid : Validity) (public : Keys) (x : Run) (h : IsHonestRun valid pub
   moments = moment_begins ∷ moment_makes ∷ moment_registers ∷ moment_begins_again ∷ moment_asserts ∷ moment_signs_in ∷ []
 
   -- the response that the packets of the sign-in carry, and the credential that is registered for it
-  abbrev pub response : responses.Assertion
+  abbrev pub response : responses.AuthenticatorAssertionResponse
   response = response_of a.signs_in.reply x.signing_in.out.client_data
 
   abbrev pub row : registered.Credential
@@ -177,6 +176,8 @@ pub record Lives (valid : Validity) (public : Keys) (x : Run) (h : IsHonestRun v
   pub accepts : AcceptsBoth valid public x
   pub run : IsRun valid public p.world (moments valid public x h p accepts)
   pub ideal : All (IsIdeal valid) (moments valid public x h p accepts)
-  pub accepted : IsAccepted (moment_signs_in valid public x h p accepts) p.site x.signing_in.session (response valid public x h p accepts) (row valid public x h p accepts)
+  pub accepted : IsAccepted (moment_signs_in valid public x h p accepts) p.site x.signing_in.session (response valid public x h p accepts)
+      (row valid public x h p accepts)
   pub was_made : WasMade (moment_signs_in valid public x h p accepts).old (key valid public x h p accepts)
-  pub rests : RestsOn (moment_signs_in valid public x h p accepts) (response valid public x h p accepts) (row valid public x h p accepts) (asserted valid public x h p accepts)
+  pub rests : RestsOn (moment_signs_in valid public x h p accepts) (response valid public x h p accepts) (row valid public x h p accepts)
+      (asserted valid public x h p accepts)

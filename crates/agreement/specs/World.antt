@@ -7,13 +7,13 @@ use Rattle.hidframe.specs.declared.Packet.{Packet}
 use Rattle.cose.specs.Schemes.{Validity}
 use Rattle.cose.specs.declared.key.CoseKey.{CoseKey}
 use Rattle.authdata.specs.Responses as responses
-use Rattle.ctapmsg.specs.Replies as replies
-use Rattle.verification.specs.Authentication as authentication
+use Rattle.ctap_replies.specs.Replies as replies
+use Rattle.verification.specs.SignIn as authentication
 use Rattle.verification.specs.Registration as registration
 use Rattle.saved_table.specs.Saved.{TableOf}
-use Rattle.sessions.specs.Sessions.{Opening, OpensRegistration, OpensSignIn}
+use Rattle.ceremony_sessions.specs.Sessions.{Opening, OpensRegistration, OpensSignIn}
 use Rattle.site.specs.State as site
-use Rattle.site.specs.State.{IsAfterRegistration, IsAfterSignIn, attempt_in, enrolment_in, none_open, saved_of}
+use Rattle.site.specs.State.{IsAfterRegistration, IsAfterSignIn, judged_sign_in, judged_registration, none_open, saved_of}
 use Rattle.site.specs.Laws.{after_abandon, after_begin, after_retire}
 use Rattle.authenticator.specs.State as authenticator
 use Rattle.authenticator.specs.State.{new_state}
@@ -27,13 +27,13 @@ use Rattle.ceremony.specs.Registration as registering
 
 -- an authenticator, what it has signed, and the keys that it has made
 pub record Holder : Type 0 where
-  pub state : authenticator.State
+  pub state : authenticator.AuthenticatorState
   pub signed : List Entry
   pub made : List CoseKey
 
 -- sites and authenticators by their numbers
 pub record World : Type 0 where
-  pub site : ℕ → site.State
+  pub site : ℕ → site.SiteState
   pub holder : ℕ → Holder
 
 -- ---- events
@@ -43,9 +43,9 @@ pub data SiteEvent : Type 0 where
   Begins : (opening : Opening) → SiteEvent
   Abandons : (session : ℕ) → SiteEvent
   Retires : (id : List ℕ) → SiteEvent
-  SignsIn : (session : ℕ) (r : responses.Assertion) → SiteEvent
+  SignsIn : (session : ℕ) (r : responses.AuthenticatorAssertionResponse) → SiteEvent
   SignsInBy : (session c : ℕ) (ps : List Packet) (t : List ℕ) → SiteEvent
-  Registers : (session : ℕ) (r : responses.Registration) → SiteEvent
+  Registers : (session : ℕ) (r : responses.AuthenticatorAttestationResponse) → SiteEvent
   RegistersBy : (session c : ℕ) (ps : List Packet) (t : List ℕ) → SiteEvent
   Restarts : SiteEvent
 
@@ -56,11 +56,11 @@ pub data Event : Type 0 where
 
 -- the words of a session's challenge
 abbrev pub words_of : Opening → List ℕ
-words_of (OpensSignIn user allow verified words) = words
-words_of (OpensRegistration user algorithms verified words) = words
+words_of (OpensSignIn user allow uv words) = words
+words_of (OpensRegistration user algorithms uv words) = words
 
 -- what is loaded of what was saved, for the same relying party
-pub record Loads (s t : site.State) : Type 0 where
+pub record Loads (s t : site.SiteState) : Type 0 where
   pub bytes : List ℕ
   pub saved : TableOf 3 (saved_of s) bytes
   pub version : ℕ
@@ -70,20 +70,20 @@ pub record Loads (s t : site.State) : Type 0 where
   pub none_open : t.sessions ≡ none_open t.sessions.next
 
 -- the effect of an event at a site, as the contracts of its calls have it
-abbrev pub Acts : Validity → site.State → SiteEvent → site.State → Type 0
-Acts valid s (Begins o) t = IsBytes (words_of o) × (s.sessions.next < 2 ^ 64 - 1) × (t ≡ after_begin s o)
-Acts valid s (Abandons n) t = t ≡ after_abandon s n
-Acts valid s (Retires id) t = t ≡ after_retire s id
-Acts valid s (SignsIn n r) t = authentication.PassesAll valid (attempt_in s n r) × IsAfterSignIn s n r t
-Acts valid s (SignsInBy n c ps d) t =
+abbrev pub SiteActs : Validity → site.SiteState → SiteEvent → site.SiteState → Type 0
+SiteActs valid s (Begins o) t = IsBytes (words_of o) × (s.sessions.next < 2 ^ 64 - 1) × (t ≡ after_begin s o)
+SiteActs valid s (Abandons n) t = t ≡ after_abandon s n
+SiteActs valid s (Retires id) t = t ≡ after_retire s id
+SiteActs valid s (SignsIn n r) t = authentication.PassesSignIn valid (judged_sign_in s n r) × IsAfterSignIn s n r t
+SiteActs valid s (SignsInBy n c ps d) t =
     ((used : ℕ) × (r : replies.Assertion) × Succeeds (by_packets.sign_in valid s n d) c ps used r) × by_packets.IsAfter s n d c ps t
-Acts valid s (Registers n r) t = registration.PassesAll valid (enrolment_in s n r) × IsAfterRegistration s n r t
-Acts valid s (RegistersBy n c ps d) t =
+SiteActs valid s (Registers n r) t = registration.PassesRegistration valid (judged_registration s n r) × IsAfterRegistration s n r t
+SiteActs valid s (RegistersBy n c ps d) t =
     ((used : ℕ) × (r : replies.Creation) × Succeeds (registering.registration valid s n d) c ps used r) × registering.IsAfter s n d c ps t
-Acts valid s Restarts t = Loads s t
+SiteActs valid s Restarts t = Loads s t
 
 -- one site, or one authenticator, has changed and no other
-pub record ChangesSite (old new : World) (i : ℕ) (s : site.State) : Type 0 where
+pub record ChangesSite (old new : World) (i : ℕ) (s : site.SiteState) : Type 0 where
   pub now : new.site i ≡ s
   pub others : (j : ℕ) → j ≢ i → new.site j ≡ old.site j
   pub holders : (k : ℕ) → new.holder k ≡ old.holder k
@@ -96,27 +96,27 @@ pub record ChangesHolder (old new : World) (k : ℕ) (h : Holder) : Type 0 where
 abbrev pub after_call : Holder → Outcome → Holder
 after_call h out = record { state = out.state; signed = h.signed ++ out.signed; made = h.made ++ out.made }
 
-abbrev pub Effect : Validity → Keys → World → Event → World → Type 0
-Effect valid public old (AtSite i e) new = (s : site.State) × Acts valid (old.site i) e s × ChangesSite old new i s
-Effect valid public old (Asks k channel bs consent words) new =
+abbrev pub EventEffect : Validity → Keys → World → Event → World → Type 0
+EventEffect valid public old (AtSite i e) new = (s : site.SiteState) × SiteActs valid (old.site i) e s × ChangesSite old new i s
+EventEffect valid public old (Asks k channel bs consent words) new =
     (out : Outcome) × (length words.id ≡ 32) × Step valid public (old.holder k).state channel bs consent words out
     × ChangesHolder old new k (after_call (old.holder k) out)
 
 -- ---- runs
 
 -- an event has its effect, or none: it is refused, or memory is wanting
-pub data End : Type 0 where
-  Done : End
-  Nothing : End
+pub data EventEnd : Type 0 where
+  Done : EventEnd
+  Nothing : EventEnd
 
-abbrev pub Happens : Validity → Keys → World → Event → End → World → Type 0
-Happens valid public old e Done new = Effect valid public old e new
+abbrev pub Happens : Validity → Keys → World → Event → EventEnd → World → Type 0
+Happens valid public old e Done new = EventEffect valid public old e new
 Happens valid public old e Nothing new = new ≡ old
 
 pub record Moment : Type 0 where
   pub old : World
   pub event : Event
-  pub end : End
+  pub end : EventEnd
   pub new : World
 
 -- one moment after another

@@ -1,12 +1,13 @@
 //! The laws of an honest run and of all runs.
 
 ghost use Rattle.std.specs.Prelude.{◌<◌, ◌-◌, ◌^◌, ℕ};
-ghost use Rattle.authenticator.specs.State.{Credential};
+ghost use Rattle.authenticator.specs.State.{CredentialSource};
 ghost use Rattle.authenticator.specs.Steps.{Keys};
 ghost use Rattle.agreement.specs.Agreement.{OfAllRuns};
 ghost use Rattle.agreement.specs.Below.{Below};
 ghost use Rattle.agreement.specs.Ends.{IsIdleOn};
-ghost use Rattle.agreement.specs.Honest.{AcceptsBoth, IsAskedFor, IsHonestRegistration, IsHonestRun, IsHonestSignIn, IsShared, Registering, Registers, Run, SigningIn, SignsIn};
+ghost use Rattle.agreement.specs.Honest.{AcceptsBoth, IsAskedFor, IsHonestRegistration, IsHonestRun, IsHonestSignIn, IsShared, Registering};
+ghost use Rattle.agreement.specs.Honest.{Registers, Run, SigningIn, SignsIn};
 ghost use Rattle.agreement.specs.Ledger.{LedgerOfAllRuns};
 ghost use Rattle.agreement.specs.Lived.{Lives, Place, TakesPlace};
 
@@ -46,7 +47,7 @@ pub fn of_all_runs<V: Verifier>()
 pub fn agreement<S: Signer>()
     ensures registers { (scheme : S) (x : Registering) → IsIdleOn x.channel x.before
         → IsHonestRegistration (S.valid scheme) (S.public_of scheme) x → Registers (S.valid scheme) (S.public_of scheme) x }
-    ensures signs_in { (scheme : S) (x : SigningIn) (c : Credential) (n : ℕ) → IsIdleOn x.channel x.before
+    ensures signs_in { (scheme : S) (x : SigningIn) (c : CredentialSource) (n : ℕ) → IsIdleOn x.channel x.before
         → IsHonestSignIn (S.valid scheme) (S.public_of scheme) x → IsShared (S.public_of scheme) x.site x.before.authenticator c n
         → n < 2 ^ 32 - 1 → IsAskedFor c x.before.authenticator x.expected → SignsIn (S.valid scheme) (S.public_of scheme) c n x }
     ensures agrees { (scheme : S) (x : Run) → IsHonestRun (S.valid scheme) (S.public_of scheme) x → AcceptsBoth (S.valid scheme) (S.public_of scheme) x }

@@ -1,11 +1,12 @@
 -- No refusal applies to the bytes of authenticator data.
-use Rattle.std.proofs.Common.{◌≡◌, ◌+◌, ◌^◌, ◌<◌, ℕ, suc, true, false, List, [], ◌∷◌, ◌++◌, Option, Some, None, length, is_some, sym, ◌∙◌, ap, refl, subst, arith, take, drop, get_or, append_assoc, append-nil, inl, inr}
+use Rattle.std.proofs.Common.{◌≡◌, ◌+◌, ◌^◌, ◌<◌, ℕ, suc, true, false, List, [], ◌∷◌, ◌++◌, Option, Some, None, length, is_some, sym, ◌∙◌, ap, refl}
+use Rattle.std.proofs.Common.{subst, arith, take, drop, get_or, append_assoc, append-nil, inl, inr}
 use Rattle.std.specs.Prelude.{IfSome}
 use Rattle.std.specs.Int.{w16, w32, to_be_bytes, from_be_bytes}
 use Rattle.std.proofs.lemmas.List.{length-append, drop_at}
 use Rattle.std.proofs.lemmas.Nat.{from_be_bytes-to_be_bytes_2}
-use Rattle.first_line.specs.Lines.{First}
-use Rattle.first_line.proofs.Laws.{stops_at}
+use Rattle.refusal_order.specs.Lines.{First}
+use Rattle.refusal_order.proofs.Laws.{stops_at}
 use Rattle.ccbor.specs.Canon.{Canon}
 use Rattle.cose.specs.Keys.{IsKey, item_of}
 use Rattle.cose.proofs.KeyLemmas.{key_canon}
@@ -106,7 +107,8 @@ none_applies a bs errors.ExtraBytes h (b, front, rest, of, some, e) =
     omega (arith, n, some)
 none_applies a bs _ h p = p
 
-pub key_inside : (a : AuthenticatorData) (c : AttestedCredential) (bs : List ℕ) → AuthOf a bs → a.attested ≡ Some c → IsKey c.key × Canon (item_of c.key) (drop (55 + length c.id) bs)
+pub key_inside : (a : AuthenticatorData) (c : AttestedCredential) (bs : List ℕ) → AuthOf a bs → a.attested ≡ Some c → IsKey c.key
+    × Canon (item_of c.key) (drop (55 + length c.id) bs)
 key_inside a c bs h e =
     let is = is_credential a c h.0 e in
     let same : drop (55 + length c.id) bs ≡ key_bytes c.key = ap (λ (n : ℕ). drop (55 + n) bs) (sym (id_len_is a c bs h e)) ∙ key_is a c bs h e in

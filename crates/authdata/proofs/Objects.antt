@@ -2,7 +2,7 @@
 use Rattle.std.proofs.Common.{◌≡◌, ℕ, List, [], ◌∷◌, Option, Some, None, MatchOption, length, take, sym, refl, subst, arith, ap, ◌∙◌}
 use Rattle.std.specs.Prelude.{codes}
 use Rattle.std.proofs.lemmas.List.{take_all}
-use Rattle.first_line.proofs.Laws.{first_at}
+use Rattle.refusal_order.proofs.Laws.{first_at}
 use Rattle.ccbor.specs.Item.{Item, map, pair, no_pairs, text}
 use Rattle.ccbor.proofs.Decoding.{same_item}
 use Rattle.ccbor.specs.Canon.{Canon}
@@ -21,10 +21,12 @@ three_long (p ∷ q ∷ r ∷ []) (a, b, c, d, e, f, is) = refl
 three_long (p ∷ q ∷ r ∷ s ∷ l) (a, b, c, d, e, f, is) = absurd cc
 
 -- canonical bytes of another value are no object's
-pub other_value : (bs : List ℕ) (v : Item) → Canon v bs → ((w : Item) → Canon w bs → w ≡ v) → ((o : Attestation) → ObjectItem o v → ⊥) → (o : Attestation) → ObjectOf o bs → ⊥
+pub other_value : (bs : List ℕ) (v : Item) → Canon v bs → ((w : Item) → Canon w bs → w ≡ v) → ((o : Attestation) → ObjectItem o v → ⊥) → (o : Attestation)
+    → ObjectOf o bs → ⊥
 other_value bs v canon only none o h = none o (h.0, sym (only (object_item o) h.1))
 
-pub shape_first : (bs : List ℕ) (v : Item) → Canon v bs → ((w : Item) → Canon w bs → w ≡ v) → ((o : Attestation) → ObjectItem o v → ⊥) → ObjectRefused bs errors.Shape
+pub shape_first : (bs : List ℕ) (v : Item) → Canon v bs → ((w : Item) → Canon w bs → w ≡ v) → ((o : Attestation) → ObjectItem o v → ⊥)
+    → ObjectRefused bs errors.Shape
 shape_first bs v canon only none m = first_at 1 refl ((λ h. h v canon), tt) (other_value bs v canon only none)
 
 pub canonical_first : (bs : List ℕ) → ((v : Item) → Canon v bs → ⊥) → ObjectRefused bs errors.NotCanonical

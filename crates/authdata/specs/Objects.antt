@@ -1,6 +1,6 @@
 -- Attestation objects and their bytes: WebAuthn, section 6.5.4.
 use Rattle.std.specs.Prelude.{◌≡◌, ◌≢◌, ℕ, List, [], ◌∷◌, string_bytes, codes}
-use Rattle.first_line.specs.Lines.{First}
+use Rattle.refusal_order.specs.Lines.{First}
 use Rattle.ccbor.specs.Item.{Item, map, text, bytes, Pairs, no_pairs, pair}
 use Rattle.ccbor.specs.Canon.{Canon}
 use Rattle.ccbor.specs.View.{view}

@@ -1,7 +1,7 @@
 -- Why bytes are no authenticator data: the first of these that applies.
 use Rattle.std.specs.Prelude.{◌≡◌, ◌≢◌, ℕ, ◌+◌, ◌<◌, ◌≤◌, true, IsSome, List, [], ◌∷◌, ◌++◌, length, take, drop, slice_index, ◌⊎◌}
 use Rattle.std.specs.Int.{w16, from_be_bytes}
-use Rattle.first_line.specs.Lines.{First}
+use Rattle.refusal_order.specs.Lines.{First}
 use Rattle.cose.specs.declared.key.CoseKey.{CoseKey}
 use Rattle.cose.specs.Keys.{IsKey}
 use Rattle.authdata.specs.declared.error.Error.{Error}

@@ -4,7 +4,7 @@ use Rattle.authdata.specs.declared.response.AssertionResponse.{AssertionResponse
 use Rattle.authdata.specs.declared.response.RegistrationResponse.{RegistrationResponse}
 
 -- 5.2.2: authenticatorData, signature, userHandle, clientDataJSON, and the credential's id
-pub record Assertion : Type 0 where
+pub record AuthenticatorAssertionResponse : Type 0 where
   pub credential : List ℕ
   pub user : Option (List ℕ)
   pub auth_data : List ℕ
@@ -12,12 +12,12 @@ pub record Assertion : Type 0 where
   pub client_data : List ℕ
 
 -- 5.2.1: attestationObject, clientDataJSON
-pub record Registration : Type 0 where
+pub record AuthenticatorAttestationResponse : Type 0 where
   pub object : List ℕ
   pub client_data : List ℕ
 
-abbrev pub assertion_view : AssertionResponse → Assertion
-assertion_view r = record {
+abbrev pub assertion_response_view : AssertionResponse → AuthenticatorAssertionResponse
+assertion_response_view r = record {
   credential = r.credential.items;
   user = option_map (λ u. u.items) r.user;
   auth_data = r.auth_data.items;
@@ -25,5 +25,5 @@ assertion_view r = record {
   client_data = r.client_data.items;
 }
 
-abbrev pub registration_view : RegistrationResponse → Registration
-registration_view r = record { object = r.object.items; client_data = r.client_data.items }
+abbrev pub registration_response_view : RegistrationResponse → AuthenticatorAttestationResponse
+registration_response_view r = record { object = r.object.items; client_data = r.client_data.items }

@@ -1,7 +1,7 @@
 //! Laws of authenticator data, attestation objects and statements.
 
 ghost use Rattle.std.specs.Prelude.{◌≡◌, ◌≤◌, ◌+◌, ◌++◌, ℕ, List, Result, Some, None, drop, length};
-ghost use Rattle.first_line.specs.Lines.{First};
+ghost use Rattle.refusal_order.specs.Lines.{First};
 ghost use Rattle.ccbor.specs.Canon.{Canon};
 ghost use Rattle.cose.specs.Keys.{IsKey, encoded_length, item_of};
 ghost use Rattle.cose.specs.declared.key.CoseKey.{CoseKey};

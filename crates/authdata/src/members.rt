@@ -7,7 +7,7 @@ ghost use Rattle.authdata.specs.Objects.{Attestation, object_item, object_view};
 ghost use Rattle.authdata.specs.Private.{HasThree, ObjectItem, PartsOf};
 
 use crate::object::AttestationObject;
-use ccbor::{Key, Value};
+use ccbor::{MapKey, Value};
 use std::alloc::{AllocError, Global};
 
 /// A key and its value.
@@ -36,9 +36,9 @@ fn are_keys(first: &Value, second: &Value, third: &Value) -> bool
     ensures { IsTrue result ↔ ((view first.now ≡ text (codes "fmt"))
         × (view second.now ≡ text (codes "attStmt")) × (view third.now ≡ text (codes "authData"))) }
 {
-    first.is_key(Key::Text("fmt"))
-        && second.is_key(Key::Text("attStmt"))
-        && third.is_key(Key::Text("authData"))
+    first.is_key(MapKey::Text("fmt"))
+        && second.is_key(MapKey::Text("attStmt"))
+        && third.is_key(MapKey::Text("authData"))
 }
 
 /// The object of these parts.

@@ -3,8 +3,9 @@
 ghost use Rattle.std.specs.Prelude.{◌≡◌, ◌≢◌, ◌≤◌, ◌<◌, ◌+◌, ◌++◌, ◌∷◌, drop, length, is_some, option_map, IfOk, IfSome, IfErr, IsErrOf, MatchOption};
 ghost use Rattle.std.specs.Int.{w32, to_be_bytes};
 ghost use Rattle.authdata.specs.Flags.{is_set, AT};
-ghost use Rattle.first_line.specs.Lines.{First};
-ghost use Rattle.authdata.specs.Layout.{AuthenticatorData, AuthOf, IsAttestedCredential, attested_bytes, lent_auth_view, auth_view, credential_bytes, lent_attested_view, attested_view};
+ghost use Rattle.refusal_order.specs.Lines.{First};
+ghost use Rattle.authdata.specs.Layout.{AuthenticatorData, AuthOf, IsAttestedCredential, attested_bytes, lent_auth_view, auth_view, credential_bytes};
+ghost use Rattle.authdata.specs.Layout.{lent_attested_view, attested_view};
 ghost use Rattle.authdata.specs.Refusals.{Applies, Refused, BeginsWithKey, IsIdLength, TakesMemory, flags_in, id_len_in, later_order, order};
 ghost use Rattle.authdata.specs.Private.{WrongCredential};
 ghost use Rattle.authdata.specs.declared.error.Error.TheVariants as errors;

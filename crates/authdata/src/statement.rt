@@ -8,7 +8,7 @@ ghost use Rattle.authdata.specs.Statements.{Statement, none_statement, packed_st
 
 use crate::error::Error;
 use crate::object::AttestationObject;
-use ccbor::{Key, Value, is_end, split_key};
+use ccbor::{MapKey, Value, is_end, split_key};
 use cose::{Alg, CoseKey, Verifier};
 
 /// How a credential is attested (WebAuthn section 6.5.3).
@@ -37,9 +37,9 @@ fn packed_signature(statement: &Value, alg: Alg) -> Option<&[u8]>
         (λ sig. view statement.now ≡ packed_statement alg sig.now) }
 {
     let members = statement.as_map()?;
-    let (number, members) = split_key(members, Key::Text("alg"))?;
-    let (sig, members) = split_key(members, Key::Text("sig"))?;
-    if number.is_key(Key::Nint(alg.argument())) && is_end(members) {
+    let (number, members) = split_key(members, MapKey::Text("alg"))?;
+    let (sig, members) = split_key(members, MapKey::Text("sig"))?;
+    if number.is_key(MapKey::Nint(alg.argument())) && is_end(members) {
         sig.as_bytes()
     } else {
         None

@@ -9,11 +9,14 @@ use Rattle.ccbor.specs.Canon.{Canon}
 use Rattle.cbor_map.specs.declared.fault.Fault.{Fault}
 use Rattle.cbor_map.specs.declared.fault.Fault.TheVariants as faults
 use Rattle.cbor_map.proofs.Tests.{clean_if_none, holds, or_none}
-use Rattle.ctapmsg.specs.Schema.{Members, all_keys, fails, gravest, has_fault, in_member, in_members, is_listed, item_of, listed, members_item, no_more, record_of, sized, some_bytes}
-use Rattle.ctapmsg.specs.Entities.{UserEntity, user_content, user_members}
-use Rattle.ctapmsg.specs.Requests.{AssertionRequest, CreationRequest, RequestMessage, assertion_content, assertion_item, assertion_members, creation_content, creation_item, creation_members, get_assertion, make_credential, get_next_assertion, get_info, reset, map_of}
-use Rattle.ctapmsg.specs.Status.{NoStatus, IsRequest, has_map}
-use Rattle.replies.proofs.Texts.{and_left, and_right}
+use Rattle.cbor_map.specs.Table.{Members, all_keys, fails, gravest, has_fault, in_member, in_members, is_listed, listed, no_more, record_of, sized, some_bytes}
+use Rattle.cbor_map.specs.Content.{item_of, members_item}
+use Rattle.ctap_requests.specs.Entities.{UserEntity, user_content, user_members}
+use Rattle.ctap_requests.specs.Requests.{AssertionRequest, CreationRequest, RequestMessage, assertion_content, assertion_item, assertion_members}
+use Rattle.ctap_requests.specs.Requests.{creation_content, creation_item, creation_members, get_assertion, make_credential, get_next_assertion}
+use Rattle.ctap_requests.specs.Requests.{get_info, reset, map_of}
+use Rattle.ctap_requests.specs.Status.{NoStatus, IsRequest, has_map}
+use Rattle.ctap_replies.proofs.Texts.{and_left, and_right}
 use Rattle.authenticator.specs.Private.{HasUser, IsUser}
 
 -- no rank applies, so there is no fault
@@ -46,13 +49,17 @@ each_clean f (listed k required h ms) x e =
 within : (low high : ℕ) (f : Fault) (bs : List ℕ) → has_fault f (sized low high f some_bytes) (of.bytes bs) ≡ false → (low ≤ length bs) × (length bs ≤ high)
 within low high f bs e =
     let test = nat_le low (length bs) && nat_le (length bs) high in
-    let both : test ≡ true = holds f test (or_none (has_fault f some_bytes (of.bytes bs)) (fails f f test) e).1 in
-    (leb-true low (length bs) (and_left (nat_le low (length bs)) (nat_le (length bs) high) both), leb-true (length bs) high (and_right (nat_le low (length bs)) (nat_le (length bs) high) both))
+    let both : test ≡ true = holds f test (or_none (has_fault f some_bytes (of.bytes bs)) (fails f f test) e).1 in (
+      leb-true low (length bs) (and_left (nat_le low (length bs)) (nat_le (length bs) high) both),
+      leb-true (length bs) high (and_right (nat_le low (length bs)) (nat_le (length bs) high) both),
+    )
 
-creation_each : (f : Fault) (q : CreationRequest) (x : Option Pairs) → gravest (record_of creation_members) (creation_item q x) ≡ None → EachClean f creation_members (creation_item q x)
+creation_each : (f : Fault) (q : CreationRequest) (x : Option Pairs) → gravest (record_of creation_members) (creation_item q x) ≡ None
+    → EachClean f creation_members (creation_item q x)
 creation_each f q x e =
     each_clean f creation_members (creation_item q x)
-    (record_clean f creation_members (members_item creation_members (creation_content q (option_map of.map x))) (clean_if_none (record_of creation_members) (creation_item q x) e f))
+    (record_clean f creation_members (members_item creation_members (creation_content q (option_map of.map x)))
+    (clean_if_none (record_of creation_members) (creation_item q x) e f))
 
 user_each : (f : Fault) (u : UserEntity) → has_fault f (record_of user_members) (item_of (record_of user_members) (user_content u)) ≡ false
     → EachClean f user_members (item_of (record_of user_members) (user_content u))
@@ -79,12 +86,14 @@ assertion_hash q x e =
     let h = within 32 32 faults.InvalidSize q.client_data_hash each.1.0 in
     let a = h.0 in let b = h.1 in omega arith
 
-creation_clean : (q : CreationRequest) (bs : List ℕ) (is : IsRequest (make_credential q) bs) → gravest (record_of creation_members) (creation_item q is.spelled.0) ≡ None
+creation_clean : (q : CreationRequest) (bs : List ℕ) (is : IsRequest (make_credential q) bs)
+    → gravest (record_of creation_members) (creation_item q is.spelled.0) ≡ None
 creation_clean q bs is =
     let s = is.spelled.1 in
     clean 1 s.0 (creation_item q is.spelled.0) refl s.2 (subst NoStatus s.1 is.clean)
 
-assertion_clean : (q : AssertionRequest) (bs : List ℕ) (is : IsRequest (get_assertion q) bs) → gravest (record_of assertion_members) (assertion_item q is.spelled.0) ≡ None
+assertion_clean : (q : AssertionRequest) (bs : List ℕ) (is : IsRequest (get_assertion q) bs)
+    → gravest (record_of assertion_members) (assertion_item q is.spelled.0) ≡ None
 assertion_clean q bs is =
     let s = is.spelled.1 in
     clean 2 s.0 (assertion_item q is.spelled.0) refl s.2 (subst NoStatus s.1 is.clean)

@@ -10,15 +10,17 @@ use Rattle.authdata.specs.Statements.{packed_statement}
 use Rattle.authdata.specs.declared.statement.AttestationType.{AttestationType}
 use Rattle.authdata.specs.declared.statement.AttestationType.TheVariants as types
 use Rattle.authdata.proofs.Unique.{length-exact}
-use Rattle.ctapmsg.specs.Replies.{Creation}
-use Rattle.ctapmsg.specs.Requests.{CreationRequest}
-use Rattle.authenticator.specs.State.{State}
+use Rattle.ctap_replies.specs.Replies.{Creation}
+use Rattle.ctap_requests.specs.Requests.{CreationRequest}
+use Rattle.authenticator.specs.State.{AuthenticatorState}
 use Rattle.authenticator.specs.Private.{IsAttested}
 use Rattle.authenticator.specs.Steps.{Entry, IsSignature, attestation, creation_data}
 use Rattle.authenticator.specs.declared.consent.Consent.{Consent}
 
-pub attested_packed : (valid : Validity) (key : CoseKey) (client_data_hash : List ℕ) (consent : Consent) (attest : AttestationType) (r : Creation) (signature : List ℕ)
-    → attest ≡ types.SelfSigned → r.fmt ≡ codes "packed" → IsSignature valid key (r.auth_data ++ client_data_hash) signature → r.statement ≡ packed_statement (alg_of key) signature
+pub attested_packed : (valid : Validity) (key : CoseKey) (client_data_hash : List ℕ) (consent : Consent) (attest : AttestationType) (r : Creation)
+    (signature : List ℕ)
+    → attest ≡ types.SelfSigned → r.fmt ≡ codes "packed" → IsSignature valid key (r.auth_data ++ client_data_hash) signature
+    → r.statement ≡ packed_statement (alg_of key) signature
     → IsAttested valid key client_data_hash consent attest r
 attested_packed valid key client_data_hash consent attest r signature e f s st =
     let entry : Entry = record { key = key; message = r.auth_data ++ client_data_hash; purpose = attestation; consent = consent } in
@@ -28,7 +30,8 @@ at_most_77 : (key : CoseKey) → encoded_length key ≤ 77
 at_most_77 (keys.Es256 x y) = omega arith
 at_most_77 (keys.EdDsa x) = omega arith
 
-pub creation_length : (a : State) (q : CreationRequest) (id : List ℕ) (key : CoseKey) (bs : List ℕ) → AuthOf (creation_data a q id key) bs → length id ≡ 32 → length bs ≤ 164
+pub creation_length : (a : AuthenticatorState) (q : CreationRequest) (id : List ℕ) (key : CoseKey) (bs : List ℕ) → AuthOf (creation_data a q id key) bs
+    → length id ≡ 32 → length bs ≤ 164
 creation_length a q id key bs h l =
     let exact = length-exact (creation_data a q id key) (record { aaguid = a.aaguid; id = id; key = key }) bs h refl in
     omega (arith, exact, at_most_77 key, l)

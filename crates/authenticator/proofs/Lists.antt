@@ -1,9 +1,10 @@
 -- Lists that others are the images of.
 use Rattle.std.proofs.Common.{◌≡◌, ◌<◌, ℕ, List, [], ◌∷◌, ◌++◌, Bool, true, Option, Some, None, map, refl, ap, ◌∙◌, arith, length}
-use Rattle.std.specs.Prelude.{find, filter, option_map, remove, MatchOption, Result, Ok, Err, OnOk}
+use Rattle.std.specs.Prelude.{find, filter, option_map, remove, IfSome, Result, Ok, Err, OnOk}
 use Rattle.std.specs.List.{list_any}
 use Rattle.std.proofs.lemmas.Grind.{common_steps}
 use Rattle.std.proofs.lemmas.List.Edits.{remove-append_left}
+use Rattle.authenticator.specs.Private.{without}
 
 pub map_mapped : {X Y Z : Type 0} (f : Y → Z) (v : X → Y) (xs : List X) → map f (map v xs) ≡ map (λ x. f (v x)) xs
 map_mapped f v [] = refl
@@ -30,8 +31,9 @@ pub find_passes : {X : Type 0} (p : X → Bool) (xs : List X) (y : X) → find p
 find_passes p [] y e = absurd cc
 find_passes p (x ∷ xs) y e = grind (arith, common_steps, e, find_passes p xs y)
 
-pub removed_behind : {X : Type 0} (o : Option ℕ) (i : ℕ) (xs ys zs : List X) (y : X) → o ≡ Some i → MatchOption o (Unit {0}) (λ k. k < length xs) → ys ≡ xs ++ y ∷ [] → zs ≡ remove ys i
-    → MatchOption o (zs ≡ xs ++ y ∷ []) (λ k. zs ≡ remove xs k ++ y ∷ [])
+pub removed_behind : {X : Type 0} (o : Option ℕ) (i : ℕ) (xs ys zs : List X) (y : X) → o ≡ Some i → IfSome o (λ k. k < length xs)
+    → ys ≡ xs ++ y ∷ [] → zs ≡ remove ys i
+    → zs ≡ without xs o ++ y ∷ []
 removed_behind o i xs ys zs y is lt pushed removed =
     rw is (removed ∙ ap (λ l. remove l i) pushed ∙ remove-append_left xs (y ∷ []) i (rw is at lt))
 

@@ -1,18 +1,21 @@
 -- Orders of refusals, line by line; and what a refusal comes to.
-use Rattle.std.proofs.Common.{◌≡◌, ◌<◌, ◌+◌, ◌++◌, ℕ, List, [], ◌∷◌, Bool, true, false, not, ◌&&◌, ◌||◌, Option, Some, None, Vec, Global, refl, sym, ap, ◌∙◌, subst, arith, rules}
+use Rattle.std.proofs.Common.{◌≡◌, ◌<◌, ◌+◌, ◌++◌, ℕ, List, [], ◌∷◌, Bool, true, false, not, ◌&&◌, ◌||◌, Option, Some, None, Vec, Global, refl, sym}
+use Rattle.std.proofs.Common.{ap, ◌∙◌, subst, arith, rules}
 use Rattle.std.specs.Prelude.{Result, Ok, Err, IfOk, OnOk}
 use Rattle.std.proofs.lemmas.Grind.{common_steps}
-use Rattle.first_line.specs.Lines.{first_true}
-use Rattle.ctapmsg.specs.Requests.{AssertionRequest, CreationRequest}
-use Rattle.ctapmsg.specs.Replies.{Assertion, Creation, ReplyMessage, ReplyOf, creation_reply}
+use Rattle.refusal_order.specs.Lines.{first_true}
+use Rattle.ctap_requests.specs.Requests.{AssertionRequest, CreationRequest}
+use Rattle.ctap_replies.specs.Replies.{Assertion, Creation, ReplyMessage, ReplyOf, creation_reply}
 use Rattle.cose.specs.Schemes.{Validity}
 use Rattle.cose.specs.declared.key.Alg.{Alg}
 use Rattle.authdata.specs.Layout.{AuthOf}
-use Rattle.authenticator.specs.State.{Asked, Credential, Remembered, State, forgotten}
+use Rattle.authenticator.specs.State.{Asked, CredentialSource, Remembered, AuthenticatorState, forgotten}
 use Rattle.authenticator.specs.Credentials.{credential_of, with_sign_count}
-use Rattle.authenticator.specs.Orders.{assertion_flags, assertion_order, candidates, first_is_at_end, first_supported, is_at_end, is_empty, is_false, is_true, kept, next_order, remembered_on}
+use Rattle.authenticator.specs.Orders.{assertion_flags, assertion_order, candidates, first_is_at_end, first_supported, is_at_end, is_empty, is_false}
+use Rattle.authenticator.specs.Orders.{is_true, kept, next_order, remembered_on}
 use Rattle.authenticator.specs.Private.{Comes, FirstHappens, AssertionHappens, IsAttested, Shows, consent_order}
-use Rattle.authenticator.specs.Steps.{Answers, Creates, Entry, FirstAnswers, IsAssertion, IsSignature, Keys, Outcome, Unless, asked_by, assertion, assertion_data, creation_data, key_of, new_credential, refusal, remembering, shown_user}
+use Rattle.authenticator.specs.Steps.{AnswersWith, Creates, Entry, FirstAnswers, IsAssertion, IsSignature, Keys, Outcome, Unless, asked_by}
+use Rattle.authenticator.specs.Steps.{assertion, assertion_data, creation_data, key_of, new_credential, refusal, remembering, shown_user}
 use Rattle.authenticator.specs.declared.consent.Consent.{Consent}
 use Rattle.authenticator.specs.declared.consent.Words.{Words}
 
@@ -32,36 +35,40 @@ two_none b c s t rest e = grind (arith, common_steps, e)
 
 -- ---- refusals
 
-pub refused : (old new : State) (status : ℕ) (reply : List ℕ) (o : Option ℕ) (X : Outcome → Type 0) → o ≡ Some status → reply ≡ status ∷ [] → new ≡ forgotten old
+pub refused : (old new : AuthenticatorState) (status : ℕ) (reply : List ℕ) (o : Option ℕ) (X : Outcome → Type 0) → o ≡ Some status → reply ≡ status ∷ []
+    → new ≡ forgotten old
     → Comes (λ out. Unless o old out (X out)) reply new
 refused old new status reply o X due r n =
     let out : Outcome = record { reply = reply; state = new; signed = []; made = [] } in
     let same : out ≡ refusal old status = cc in
     ([], [], subst (λ (p : Option ℕ). Unless p old out (X out)) (sym due) same)
 
-pub refuses : {E : Type 0} (old new : State) (status : ℕ) (o : Option ℕ) (X : Outcome → Type 0) (r : Result (Vec ℕ Global) E) → o ≡ Some status
+pub refuses : {E : Type 0} (old new : AuthenticatorState) (status : ℕ) (o : Option ℕ) (X : Outcome → Type 0) (r : Result (Vec ℕ Global) E) → o ≡ Some status
     → IfOk r (λ v. v.items ≡ status ∷ []) → OnOk r (new ≡ forgotten old) → IfOk r (λ v. Comes (λ out. Unless o old out (X out)) v.items new)
 refuses old new status o X (Ok v) due is forgets = refused old new status v.items o X due is forgets
 refuses old new status o X (Err e) due is forgets = tt
 
 -- no refusal is due
-pub allowed : (old new : State) (reply : List ℕ) (o : Option ℕ) (X : Outcome → Type 0) → o ≡ None → Comes X reply new → Comes (λ out. Unless o old out (X out)) reply new
+pub allowed : (old new : AuthenticatorState) (reply : List ℕ) (o : Option ℕ) (X : Outcome → Type 0) → o ≡ None → Comes X reply new
+    → Comes (λ out. Unless o old out (X out)) reply new
 allowed old new reply o X none h =
     let out : Outcome = record { reply = reply; state = new; signed = h.0; made = h.1 } in
     (h.0, h.1, subst (λ (p : Option ℕ). Unless p old out (X out)) (sym none) h.2)
 
 -- ---- answers
 
-pub answered : (valid : Validity) (public : Keys) (old new : State) (c : Credential) (id : List ℕ) (asked : Asked) (later : List (List ℕ)) (message : Assertion → ReplyMessage) (count : Option ℕ) (r : Assertion) (reply : List ℕ)
+pub answered : (valid : Validity) (public : Keys) (old new : AuthenticatorState) (c : CredentialSource) (id : List ℕ) (asked : Asked) (later : List (List ℕ))
+    (message : Assertion → ReplyMessage) (count : Option ℕ) (r : Assertion) (reply : List ℕ)
     → credential_of id old.credentials ≡ Some c → IsAssertion valid public c asked count r → ReplyOf (message r) reply
     → new ≡ record old { credentials = with_sign_count id (c.sign_count + 1) old.credentials; remembered = remembering asked later }
-    → Comes (Answers valid public old id asked later message count) reply new
+    → Comes (AnswersWith valid public old id asked later message count) reply new
 answered valid public old new c id asked later message count r reply found is spelled state =
     let entry : Entry = record { key = key_of public c; message = r.auth_data ++ asked.client_data_hash; purpose = assertion; consent = asked.consent } in
     (entry ∷ [], [], record { credential = c; found = found; shown = r; asserts = is; reply = spelled; state = state; signed = refl; made = refl })
 
 -- what is shown of a credential, and its bytes
-pub shows : {E : Type 0} (valid : Validity) (public : Keys) (c : Credential) (asked : Asked) (message : Assertion → ReplyMessage) (count : Option ℕ) (q : Assertion) (auth_data signature : List ℕ) (r : Result (Vec ℕ Global) E)
+pub shows : {E : Type 0} (valid : Validity) (public : Keys) (c : CredentialSource) (asked : Asked) (message : Assertion → ReplyMessage) (count : Option ℕ)
+    (q : Assertion) (auth_data signature : List ℕ) (r : Result (Vec ℕ Global) E)
     → AuthOf (assertion_data c asked) auth_data → IsSignature valid (key_of public c) (auth_data ++ asked.client_data_hash) signature
     → q.credential ≡ c.id → q.auth_data ≡ auth_data → q.signature ≡ signature → q.user ≡ shown_user c → q.number ≡ count
     → IfOk r (λ v. ReplyOf (message q) v.items) → IfOk r (λ v. Shows valid public c asked message count v.items)
@@ -69,66 +76,82 @@ shows valid public c asked message count q auth_data signature (Ok v) spelled si
     record { shown = q; asserts = record { spelled = rw a spelled; signs = rw (a, s) signs; credential = id; user = user; number = number }; reply = h }
 shows valid public c asked message count q auth_data signature (Err e) spelled signs id a s user number h = tt
 
-pub not_at_end : (id : List ℕ) (cs : List Credential) (c : Credential) → credential_of id cs ≡ Some c → c.sign_count < 4294967295 → is_at_end (credential_of id cs) ≡ false
+pub not_at_end : (id : List ℕ) (cs : List CredentialSource) (c : CredentialSource) → credential_of id cs ≡ Some c → c.sign_count < 4294967295
+    → is_at_end (credential_of id cs) ≡ false
 not_at_end id cs c found lt = search (rules, found, lt)
 
-pub created : (valid : Validity) (public : Keys) (old new : State) (q : CreationRequest) (consent : Consent) (words : Words) (alg : Alg) (r : Creation) (reply : List ℕ)
+pub created : (valid : Validity) (public : Keys) (old new : AuthenticatorState) (q : CreationRequest) (consent : Consent) (words : Words) (alg : Alg)
+    (r : Creation) (reply : List ℕ)
     → first_supported q.pub_key_cred_params ≡ Some alg → AuthOf (creation_data old q words.id (public alg words.secret)) r.auth_data
     → IsAttested valid (public alg words.secret) q.client_data_hash consent old.attest r → ReplyOf (creation_reply r) reply
     → new ≡ record (forgotten old) { credentials = kept old.credentials q ++ new_credential q alg words ∷ [] }
     → Comes (Creates valid public old q consent words) reply new
-created valid public old new q consent words alg r reply chosen spelled attested bytes state =
-    (attested.0, public alg words.secret ∷ [], record { alg = alg; chosen = chosen; shown = r; spelled = spelled; attested = attested.1; reply = bytes; state = state; made = refl })
+created valid public old new q consent words alg r reply chosen spelled attested bytes state = (
+  attested.0,
+  public alg words.secret ∷ [],
+  record { alg = alg; chosen = chosen; shown = r; spelled = spelled; attested = attested.1; reply = bytes; state = state; made = refl },
+)
 
 -- what signs and makes nothing
-pub alone : {E : Type 0} (P : Outcome → Type 0) (new : State) (r : Result (Vec ℕ Global) E) → IfOk r (λ v. P (record { reply = v.items; state = new; signed = []; made = [] })) → IfOk r (λ v. Comes P v.items new)
+pub alone : {E : Type 0} (P : Outcome → Type 0) (new : AuthenticatorState) (r : Result (Vec ℕ Global) E)
+    → IfOk r (λ v. P (record { reply = v.items; state = new; signed = []; made = [] })) → IfOk r (λ v. Comes P v.items new)
 alone P new (Ok v) h = ([], [], h)
 alone P new (Err e) h = tt
 
 -- ---- getAssertion
 
-abbrev unmet : State → AssertionRequest → Bool
+abbrev unmet : AuthenticatorState → AssertionRequest → Bool
 unmet a q = is_true (assertion_flags q.options).uv && not a.uv
 
 abbrev denied : AssertionRequest → Consent → Bool
 denied q consent = (not (is_false (assertion_flags q.options).up) && not consent.present) || (is_true (assertion_flags q.options).uv && not consent.verified)
 
-abbrev others : State → List (List ℕ) → List (Bool × ℕ)
+abbrev others : AuthenticatorState → List (List ℕ) → List (Bool × ℕ)
 others a ids = (is_empty ids, 0x2E) ∷ (first_is_at_end a.credentials ids, 0x7F) ∷ []
 
-pub consent_due : (a : State) (q : AssertionRequest) (consent : Consent) (s : ℕ) → Some s ≡ first_true (consent_order a q consent) → first_true (assertion_order a q consent) ≡ Some s
-consent_due a q consent s e = two_some (unmet a q) (denied q consent) 0x2C 0x27 (others a (candidates a.credentials q.rp_id q.allow_list)) s (sym e)
+pub consent_due : (a : AuthenticatorState) (q : AssertionRequest) (consent : Consent) (s : ℕ) → first_true (consent_order a q consent) ≡ Some s
+    → first_true (assertion_order a q consent) ≡ Some s
+consent_due a q consent s e = two_some (unmet a q) (denied q consent) 0x2C 0x27 (others a (candidates a.credentials q.rp_id q.allow_list)) s e
 
-pub none_due : (a : State) (q : AssertionRequest) (consent : Consent) → None ≡ first_true (consent_order a q consent) → [] ≡ candidates a.credentials q.rp_id q.allow_list
+pub none_due : (a : AuthenticatorState) (q : AssertionRequest) (consent : Consent) → first_true (consent_order a q consent) ≡ None
+    → [] ≡ candidates a.credentials q.rp_id q.allow_list
     → first_true (assertion_order a q consent) ≡ Some 0x2E
 none_due a q consent e none =
-    two_none (unmet a q) (denied q consent) 0x2C 0x27 (others a (candidates a.credentials q.rp_id q.allow_list)) (sym e) ∙ ap (λ ids. first_true (others a ids)) (sym none)
+    two_none (unmet a q) (denied q consent) 0x2C 0x27 (others a (candidates a.credentials q.rp_id q.allow_list)) e
+    ∙ ap (λ ids. first_true (others a ids)) (sym none)
 
-end_due : (a : State) (q : AssertionRequest) (consent : Consent) (id : List ℕ) (ids : List (List ℕ)) → None ≡ first_true (consent_order a q consent) → id ∷ ids ≡ candidates a.credentials q.rp_id q.allow_list
+end_due : (a : AuthenticatorState) (q : AssertionRequest) (consent : Consent) (id : List ℕ) (ids : List (List ℕ))
+    → first_true (consent_order a q consent) ≡ None → id ∷ ids ≡ candidates a.credentials q.rp_id q.allow_list
     → first_true ((first_is_at_end a.credentials (id ∷ ids), 0x7F) ∷ []) ≡ first_true (assertion_order a q consent)
 end_due a q consent id ids e some =
-    ap (λ ids. first_true (others a ids)) some ∙ sym (two_none (unmet a q) (denied q consent) 0x2C 0x27 (others a (candidates a.credentials q.rp_id q.allow_list)) (sym e))
+    ap (λ ids. first_true (others a ids)) some
+    ∙ sym (two_none (unmet a q) (denied q consent) 0x2C 0x27 (others a (candidates a.credentials q.rp_id q.allow_list)) e)
 
-pub first_happens : {E : Type 0} (valid : Validity) (public : Keys) (old new : State) (channel : ℕ) (consent : Consent) (q : AssertionRequest) (id : List ℕ) (ids : List (List ℕ)) (asked : Asked) (r : Result (Vec ℕ Global) E)
-    → None ≡ first_true (consent_order old q consent) → id ∷ ids ≡ candidates old.credentials q.rp_id q.allow_list → asked ≡ asked_by channel q consent
+pub first_happens : {E : Type 0} (valid : Validity) (public : Keys) (old new : AuthenticatorState) (channel : ℕ) (consent : Consent) (q : AssertionRequest)
+    (id : List ℕ) (ids : List (List ℕ)) (asked : Asked) (r : Result (Vec ℕ Global) E)
+    → first_true (consent_order old q consent) ≡ None → id ∷ ids ≡ candidates old.credentials q.rp_id q.allow_list → asked ≡ asked_by channel q consent
     → IfOk r (λ v. FirstHappens valid public old (id ∷ ids) asked v.items new) → IfOk r (λ v. AssertionHappens valid public old channel q consent v.items new)
 first_happens valid public old new channel consent q id ids asked (Ok v) none some is h =
     let P : Option ℕ → List (List ℕ) → Asked → Type 0 = λ o l a. Comes (λ out. Unless o old out (FirstAnswers valid public old l a out)) v.items new in
-    let one : P (first_true (assertion_order old q consent)) (id ∷ ids) asked = subst (λ (o : Option ℕ). P o (id ∷ ids) asked) (end_due old q consent id ids none some) h in
-    let two : P (first_true (assertion_order old q consent)) (candidates old.credentials q.rp_id q.allow_list) asked = subst (λ (l : List (List ℕ)). P (first_true (assertion_order old q consent)) l asked) some one in
+    let one : P (first_true (assertion_order old q consent)) (id ∷ ids) asked =
+    subst (λ (o : Option ℕ). P o (id ∷ ids) asked) (end_due old q consent id ids none some) h in
+    let two : P (first_true (assertion_order old q consent)) (candidates old.credentials q.rp_id q.allow_list) asked =
+    subst (λ (l : List (List ℕ)). P (first_true (assertion_order old q consent)) l asked) some one in
     subst (λ (a : Asked). P (first_true (assertion_order old q consent)) (candidates old.credentials q.rp_id q.allow_list) a) is two
 first_happens valid public old new channel consent q id ids asked (Err e) none some is h = tt
 
 -- ---- getNextAssertion
 
-pub next_none : (a : State) (channel : ℕ) → None ≡ remembered_on channel a.remembered → first_true (next_order a channel) ≡ Some 0x30
+pub next_none : (a : AuthenticatorState) (channel : ℕ) → None ≡ remembered_on channel a.remembered → first_true (next_order a channel) ≡ Some 0x30
 next_none a channel e = rw (← e) refl
 
-pub next_end : (a : State) (channel : ℕ) (r : Remembered) → Some r ≡ remembered_on channel a.remembered → is_at_end (credential_of r.next a.credentials) ≡ true
+pub next_end : (a : AuthenticatorState) (channel : ℕ) (r : Remembered) → Some r ≡ remembered_on channel a.remembered
+    → is_at_end (credential_of r.next a.credentials) ≡ true
     → first_true (next_order a channel) ≡ Some 0x7F
 next_end a channel r e at = rw (← e, at) refl
 
-pub next_goes : (a : State) (channel : ℕ) (r : Remembered) → Some r ≡ remembered_on channel a.remembered → is_at_end (credential_of r.next a.credentials) ≡ false
+pub next_goes : (a : AuthenticatorState) (channel : ℕ) (r : Remembered) → Some r ≡ remembered_on channel a.remembered
+    → is_at_end (credential_of r.next a.credentials) ≡ false
     → first_true (next_order a channel) ≡ None
 next_goes a channel r e at = rw (← e, at) refl
 

@@ -1,10 +1,11 @@
 -- Replies have bytes, and few enough of them.
-use Rattle.std.proofs.Common.{◌≡◌, ◌+◌, ◌^◌, ◌<◌, ◌≤◌, ◌++◌, ℕ, List, ◌∷◌, Bool, true, false, Option, Some, None, length, refl, sym, ap, ◌∙◌, subst, arith, rules, IsUtf8, nat_lt}
+use Rattle.std.proofs.Common.{◌≡◌, ◌+◌, ◌^◌, ◌<◌, ◌≤◌, ◌++◌, ℕ, List, ◌∷◌, Bool, true, false, Option, Some, None, length, refl, sym, ap, ◌∙◌, subst}
+use Rattle.std.proofs.Common.{arith, rules, IsUtf8, nat_lt}
 use Rattle.std.specs.Prelude.{codes, IfSome, if◌then◌else◌}
 use Rattle.std.proofs.lemmas.List.{length-append}
-use Rattle.replies.specs.Pieces.{HasSizes}
-use Rattle.replies.proofs.AssertionBytes.{assertion_clean, assertion_fits}
-use Rattle.replies.proofs.Texts.{plain}
+use Rattle.ctap_replies.specs.Pieces.{HasSizes}
+use Rattle.ctap_replies.proofs.AssertionBytes.{assertion_clean, assertion_fits}
+use Rattle.ctap_replies.proofs.Texts.{plain}
 use Rattle.ccbor.specs.Item as of
 use Rattle.ccbor.specs.Item.{Item, Items, Pairs, no_items, item, no_pairs, pair}
 use Rattle.ccbor.specs.Canon.{head, before, spelling, spelling_of_items, spelling_of_pairs, count_of_items, count_of_pairs, Fits}
@@ -14,10 +15,11 @@ use Rattle.cose.specs.Schemes.{Validity}
 use Rattle.authdata.specs.Statements.{packed_statement}
 use Rattle.authdata.specs.declared.statement.AttestationType.{AttestationType}
 use Rattle.authdata.specs.declared.statement.AttestationType.TheVariants as types
-use Rattle.ctapmsg.specs.Schema.{gravest, record_of}
-use Rattle.ctapmsg.specs.Replies.{Creation, Assertion, Info, ReplyMessage, ReplyOf, creation_reply, assertion_reply, info_reply, creation_reply_item, creation_reply_members, assertion_reply_item, info_item}
+use Rattle.cbor_map.specs.Table.{gravest, record_of}
+use Rattle.ctap_replies.specs.Replies.{Creation, Assertion, Info, ReplyMessage, ReplyOf, creation_reply, assertion_reply, info_reply}
+use Rattle.ctap_replies.specs.Replies.{creation_reply_item, creation_reply_members, assertion_reply_item, info_item}
 use Rattle.authenticator.specs.Private.{IsMessage, FitsReply, IsUser}
-use Rattle.authenticator.specs.Steps.{Attests, Entry, info_of}
+use Rattle.authenticator.specs.Steps.{MakesStatement, Entry, info_of}
 use Rattle.authenticator.specs.declared.consent.Consent.{Consent}
 
 -- ---- at most so many bytes
@@ -67,7 +69,14 @@ mutual
   short_pairs : (ps : Pairs) → length (spelling_of_pairs ps) ≤ cost_of_pairs ps
   short_pairs no_pairs = omega arith
   short_pairs (pair k v ps) =
-      omega (arith, short k, short v, short_pairs ps, length-append (spelling k) (spelling v ++ spelling_of_pairs ps), length-append (spelling v) (spelling_of_pairs ps))
+      omega (
+        arith,
+        short k,
+        short v,
+        short_pairs ps,
+        length-append (spelling k) (spelling v ++ spelling_of_pairs ps),
+        length-append (spelling v) (spelling_of_pairs ps),
+      )
 
 -- a reply whose map fits
 message : (r : ReplyMessage) (v : Item) → ReplyOf r (0 ∷ spelling v) → cost v ≤ 7608 → IsMessage r
@@ -75,7 +84,8 @@ message r v spelled le = record { bytes = 0 ∷ spelling v; spelled = spelled; s
 
 -- ---- makeCredential
 
-creation_fits : (r : Creation) (ps : Pairs) → r.statement ≡ of.map ps → Fits 3 (of.map ps) → IsUtf8 r.fmt → length r.fmt ≤ 10 → length r.auth_data ≤ 164 → Fits 4 (creation_reply_item r)
+creation_fits : (r : Creation) (ps : Pairs) → r.statement ≡ of.map ps → Fits 3 (of.map ps) → IsUtf8 r.fmt → length r.fmt ≤ 10 → length r.auth_data ≤ 164
+    → Fits 4 (creation_reply_item r)
 unfolding head before
 creation_fits r ps e s u f a =
     (omega arith, (refl, refl, omega arith, (omega arith, u), (refl, refl, omega arith, omega arith, (refl, refl, omega arith, subst (Fits 3) (sym e) s, tt))))
@@ -83,9 +93,11 @@ creation_fits r ps e s u f a =
 creation_clean : (r : Creation) (ps : Pairs) → r.statement ≡ of.map ps → gravest (record_of creation_reply_members) (creation_reply_item r) ≡ None
 creation_clean r ps e = rw e refl
 
-creation_with : (r : Creation) (ps : Pairs) → r.statement ≡ of.map ps → Fits 3 (of.map ps) → IsUtf8 r.fmt → length r.fmt ≤ 10 → length r.auth_data ≤ 164 → cost r.statement ≤ 1000 → IsMessage (creation_reply r)
+creation_with : (r : Creation) (ps : Pairs) → r.statement ≡ of.map ps → Fits 3 (of.map ps) → IsUtf8 r.fmt → length r.fmt ≤ 10 → length r.auth_data ≤ 164
+    → cost r.statement ≤ 1000 → IsMessage (creation_reply r)
 creation_with r ps e s u f a le =
-    message (creation_reply r) (creation_reply_item r) (spelling (creation_reply_item r), refl, (creation_fits r ps e s u f a, refl), creation_clean r ps e) (omega arith)
+    message (creation_reply r) (creation_reply_item r) (spelling (creation_reply_item r), refl, (creation_fits r ps e s u f a, refl), creation_clean r ps e)
+    (omega arith)
 
 packed_fits : (key : CoseKey) (signature : List ℕ) → length signature ≤ 128 → Fits 3 (packed_statement (alg_of key) signature)
 unfolding head before
@@ -94,8 +106,9 @@ packed_fits key signature le = search (rules, arith, le, plain)
 named : (fmt : List ℕ) (name : List ℕ) → fmt ≡ name → IsUtf8 name → IsUtf8 fmt
 named fmt name e u = subst IsUtf8 (sym e) u
 
-pub creation_message : (valid : Validity) (key : CoseKey) (client_data_hash : List ℕ) (consent : Consent) (attest : AttestationType) (r : Creation) (signed : List Entry)
-    → Attests valid key client_data_hash consent attest r signed → length r.auth_data ≤ 164 → IsMessage (creation_reply r)
+pub creation_message : (valid : Validity) (key : CoseKey) (client_data_hash : List ℕ) (consent : Consent) (attest : AttestationType) (r : Creation)
+    (signed : List Entry)
+    → MakesStatement valid key client_data_hash consent attest r signed → length r.auth_data ≤ 164 → IsMessage (creation_reply r)
 creation_message valid key client_data_hash consent types.None r signed h a =
     creation_with r no_pairs h.1 (omega arith, tt) (named r.fmt (codes "none") h.0 (plain (codes "none") refl))
     (let l : length r.fmt ≡ 4 = ap length h.0 in omega arith) a (let l : cost r.statement ≡ 9 = ap cost h.1 in omega arith)
@@ -103,7 +116,8 @@ creation_message valid key client_data_hash consent types.SelfSigned r signed h 
     let signature = h.1.0 in
     let le : length signature ≤ 128 = h.1.1.1 in
     let l : cost r.statement ≡ 9 + (12 + (9 + (12 + (9 + length signature)))) = ap cost h.1.2 ∙ omega arith in
-    creation_with r (pair (of.text (codes "alg")) (alg_item (alg_of key)) (pair (of.text (codes "sig")) (of.bytes signature) no_pairs)) h.1.2 (packed_fits key signature le)
+    creation_with r (pair (of.text (codes "alg")) (alg_item (alg_of key)) (pair (of.text (codes "sig")) (of.bytes signature) no_pairs)) h.1.2
+    (packed_fits key signature le)
     (named r.fmt (codes "packed") h.0 (plain (codes "packed") refl))
     (let m : length r.fmt ≡ 6 = ap length h.0 in omega arith) a (omega arith)
 
@@ -112,7 +126,8 @@ creation_message valid key client_data_hash consent types.SelfSigned r signed h 
 abbrev told : List ℕ → List ℕ → List ℕ → Option (List ℕ) → Option ℕ → Assertion
 told id auth signature user number = record { credential = id; auth_data = auth; signature = signature; user = user; number = number }
 
-told_short : (id auth signature : List ℕ) (user : Option (List ℕ)) (number : Option ℕ) → length id ≡ 32 → length auth ≡ 37 → length signature ≤ 128 → IfSome user IsUser
+told_short : (id auth signature : List ℕ) (user : Option (List ℕ)) (number : Option ℕ) → length id ≡ 32 → length auth ≡ 37 → length signature ≤ 128
+    → IfSome user IsUser
     → cost (assertion_reply_item (told id auth signature user number)) ≤ 7608
 told_short id auth signature None None i a s u = omega arith
 told_short id auth signature None (Some k) i a s u = omega arith

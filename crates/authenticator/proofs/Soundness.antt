@@ -3,7 +3,7 @@ use Rattle.std.proofs.Common.{◌≡◌, ◌+◌, ◌++◌, ℕ, List, [], ◌�
 use Rattle.std.specs.Prelude.{if◌then◌else◌, not, ◌&&◌, ◌||◌, All, IfSome, is_some, nat_le, ◌==◌}
 use Rattle.std.proofs.lemmas.List.{length-append}
 use Rattle.std.proofs.lemmas.List.Elements.{All-nil, All-cons, All-head, All-same, All-tail}
-use Rattle.first_line.specs.Lines.{first_true}
+use Rattle.refusal_order.specs.Lines.{first_true}
 use Rattle.cose.specs.Schemes.{Validity}
 use Rattle.cose.specs.declared.key.CoseKey.{CoseKey}
 use Rattle.authdata.specs.Flags.{is_set, UP, UV}
@@ -11,19 +11,24 @@ use Rattle.authdata.specs.Layout.{AttestedCredential}
 use Rattle.authdata.specs.declared.statement.AttestationType.{AttestationType}
 use Rattle.authdata.specs.declared.statement.AttestationType.TheVariants as types
 use Rattle.authdata.proofs.Unique.{length-bare, length-full}
-use Rattle.ctapmsg.specs.Replies.{Assertion, Creation, ReplyMessage}
-use Rattle.ctapmsg.specs.Requests.{AssertionRequest, CreationRequest, RequestMessage, get_assertion, get_info, get_next_assertion, make_credential, reset}
-use Rattle.ctapmsg.specs.Status.{IsRequest}
-use Rattle.authenticator.specs.State.{Asked, Credential, Remembered, State, forgotten}
+use Rattle.ctap_replies.specs.Replies.{Assertion, Creation, ReplyMessage}
+use Rattle.ctap_requests.specs.Requests.{AssertionRequest, CreationRequest, RequestMessage, get_assertion, get_info, get_next_assertion, make_credential, reset}
+use Rattle.ctap_requests.specs.Status.{IsRequest}
+use Rattle.authenticator.specs.State.{Asked, CredentialSource, Remembered, AuthenticatorState, forgotten}
 use Rattle.authenticator.specs.Credentials.{credential_of, is_resident_of, with_sign_count}
-use Rattle.authenticator.specs.Orders.{assertion_flags, assertion_order, candidates, creation_flags, creation_order, first_is_at_end, is_empty, is_excluded, is_false, is_true, kept, next_order, remembered_on, reset_order}
-use Rattle.authenticator.specs.Steps.{Answers, Attests, Carries, Creates, Entry, FirstAnswers, Keys, NextAnswers, Outcome, Resets, Step, Unless, asked_by, assertion, assertion_data, attestation, creation_data, key_of, new_credential, refusal, remembering, up_bit, uv_bit}
-use Rattle.authenticator.specs.Laws.{FollowsConsent, IsCounted, IsResident, IsSound, IsStored, Keeps, SoundAssertion, SoundOutcome, SoundRemembered, SoundState, StepLaws}
+use Rattle.authenticator.specs.Orders.{assertion_flags, assertion_order, candidates, creation_flags, creation_order, first_is_at_end, is_empty}
+use Rattle.authenticator.specs.Orders.{is_excluded, is_false, is_true, kept, next_order, remembered_on, reset_order}
+use Rattle.authenticator.specs.Steps.{AnswersWith, MakesStatement, CarriesOut, Creates, Entry, FirstAnswers, Keys, NextAnswers, Outcome, Resets}
+use Rattle.authenticator.specs.Steps.{Step, Unless, asked_by, assertion, assertion_data, attestation, creation_data, key_of, new_credential, refusal}
+use Rattle.authenticator.specs.Steps.{remembering, up_bit, uv_bit}
+use Rattle.authenticator.specs.Laws.{FollowsConsent, IsCounted, IsResident, IsSound, IsStored, Keeps, SoundAssertion, SoundOutcome, SoundRemembered}
+use Rattle.authenticator.specs.Laws.{SoundState, StepLaws}
 use Rattle.authenticator.specs.declared.consent.Consent.{Consent}
 use Rattle.authenticator.specs.declared.consent.Words.{Words}
 use Rattle.authenticator.proofs.Asked.{assertion_hashed, creation_hashed}
 use Rattle.authenticator.proofs.Store.{has_id}
-use Rattle.authenticator.proofs.Stored.{LaterResident, Stays, keeps_made, keeps_same, keeps_with, last_push, later_candidates, residents_with, stays, unique_made, unique_with, with_at}
+use Rattle.authenticator.proofs.Stored.{LaterResident, Stays, keeps_made, keeps_same, keeps_with, last_push, later_candidates, residents_with, stays}
+use Rattle.authenticator.proofs.Stored.{unique_made, unique_with, with_at}
 
 -- ---- flags
 
@@ -39,44 +44,57 @@ uv_set false false h = absurd cc
 
 -- ---- what stays as it is
 
-nothing_signed : (public : Keys) (old : State) (out : Outcome) → SoundState out.state → Keeps old.credentials out.state.credentials → out.signed ≡ [] → out.made ≡ [] → SoundOutcome public old out
+nothing_signed : (public : Keys) (old : AuthenticatorState) (out : Outcome) → SoundState out.state → Keeps old.credentials out.state.credentials
+    → out.signed ≡ [] → out.made ≡ [] → SoundOutcome public old out
 nothing_signed public old out s k e m = record {
   state = s;
   keeps = k;
   entries = All-same IsSound out.signed [] e (All-nil IsSound);
-  counted = All-same (IsCounted public old.credentials out.state.credentials) out.signed [] e (All-nil (IsCounted public old.credentials out.state.credentials));
+  counted = All-same (IsCounted public old.credentials out.state.credentials) out.signed [] e
+      (All-nil (IsCounted public old.credentials out.state.credentials));
   made = All-same (IsStored public out.state.credentials) out.made [] m (All-nil (IsStored public out.state.credentials));
 }
 
-forgets : (public : Keys) (old : State) (out : Outcome) → SoundState old → out.state ≡ forgotten old → out.signed ≡ [] → out.made ≡ [] → SoundOutcome public old out
+forgets : (public : Keys) (old : AuthenticatorState) (out : Outcome) → SoundState old → out.state ≡ forgotten old → out.signed ≡ [] → out.made ≡ []
+    → SoundOutcome public old out
 forgets public old out s e n m =
     nothing_signed public old out
     (subst SoundState (sym e) (record { unique = s.unique; remembered = tt }))
-    (subst (λ (a : State). Keeps old.credentials a.credentials) (sym e) (keeps_same old.credentials)) n m
+    (subst (λ (a : AuthenticatorState). Keeps old.credentials a.credentials) (sym e) (keeps_same old.credentials)) n m
 
-refused : (public : Keys) (old : State) (status : ℕ) (out : Outcome) → SoundState old → out ≡ refusal old status → SoundOutcome public old out
-refused public old status out s e = forgets public old out s (ap (λ (o : Outcome). o.state) e) (ap (λ (o : Outcome). o.signed) e) (ap (λ (o : Outcome). o.made) e)
+refused : (public : Keys) (old : AuthenticatorState) (status : ℕ) (out : Outcome) → SoundState old → out ≡ refusal old status → SoundOutcome public old out
+refused public old status out s e =
+    forgets public old out s (ap (λ (o : Outcome). o.state) e) (ap (λ (o : Outcome). o.signed) e) (ap (λ (o : Outcome). o.made) e)
 
-unless : (public : Keys) (o : Option ℕ) (old : State) (out : Outcome) (P : Type 0) → SoundState old → (o ≡ None → P → SoundOutcome public old out) → Unless o old out P → SoundOutcome public old out
+unless : (public : Keys) (o : Option ℕ) (old : AuthenticatorState) (out : Outcome) (P : Type 0) → SoundState old → (o ≡ None → P → SoundOutcome public old out)
+    → Unless o old out P → SoundOutcome public old out
 unless public None old out P s f h = f refl h
 unless public (Some status) old out P s f h = refused public old status out s h
 
 -- ---- an answer
 
-remembered_sound : (cs : List Credential) (asked : Asked) (later : List (List ℕ)) → FollowsConsent asked → All (IsResident cs) later → IfSome (remembering asked later) (SoundRemembered cs)
+remembered_sound : (cs : List CredentialSource) (asked : Asked) (later : List (List ℕ)) → FollowsConsent asked → All (IsResident cs) later
+    → IfSome (remembering asked later) (SoundRemembered cs)
 remembered_sound cs asked [] f h = tt
 remembered_sound cs asked (id ∷ ids) f h = record { asked = f; next = All-head (IsResident cs) id ids h; later = All-tail (IsResident cs) id ids h }
 
-answers : (valid : Validity) (public : Keys) (old : State) (id : List ℕ) (asked : Asked) (later : List (List ℕ)) (message : Assertion → ReplyMessage) (count : Option ℕ) (out : Outcome)
-    → SoundState old → FollowsConsent asked → All (IsResident old.credentials) later → Answers valid public old id asked later message count out → SoundOutcome public old out
+answers : (valid : Validity) (public : Keys) (old : AuthenticatorState) (id : List ℕ) (asked : Asked) (later : List (List ℕ)) (message : Assertion
+    → ReplyMessage) (count : Option ℕ) (out : Outcome)
+    → SoundState old → FollowsConsent asked → All (IsResident old.credentials) later → AnswersWith valid public old id asked later message count out
+    → SoundOutcome public old out
 answers valid public old id asked later message count out s f r is =
     let c = is.credential in
-    let next : List Credential = with_sign_count id (c.sign_count + 1) old.credentials in
-    let e : out.state.credentials ≡ next = ap (λ (a : State). a.credentials) is.state in
+    let next : List CredentialSource = with_sign_count id (c.sign_count + 1) old.credentials in
+    let e : out.state.credentials ≡ next = ap (λ (a : AuthenticatorState). a.credentials) is.state in
     let same : c.id ≡ id = has_id id old.credentials c is.found in
     let bare : length is.shown.auth_data ≡ 37 = length-bare (assertion_data c asked) is.shown.auth_data is.asserts.spelled refl in
     let hashed = f.client_data_hash in
-    let entry : Entry = record { key = key_of public c; message = is.shown.auth_data ++ asked.client_data_hash; purpose = assertion; consent = asked.consent } in
+    let entry : Entry = record {
+      key = key_of public c;
+      message = is.shown.auth_data ++ asked.client_data_hash;
+      purpose = assertion;
+      consent = asked.consent;
+    } in
     let sound : SoundAssertion entry = record {
       purpose = refl;
       auth = assertion_data c asked;
@@ -115,17 +133,18 @@ answers valid public old id asked later message count out s f r is =
       made = All-same (IsStored public out.state.credentials) out.made [] is.made (All-nil (IsStored public out.state.credentials));
     }
 
-first_answers : (valid : Validity) (public : Keys) (old : State) (ids : List (List ℕ)) (asked : Asked) (out : Outcome)
+first_answers : (valid : Validity) (public : Keys) (old : AuthenticatorState) (ids : List (List ℕ)) (asked : Asked) (out : Outcome)
     → SoundState old → FollowsConsent asked → LaterResident old.credentials ids → FirstAnswers valid public old ids asked out → SoundOutcome public old out
 first_answers valid public old [] asked out s f r h = absurd h
 first_answers valid public old (id ∷ ids) asked out s f r h = answers valid public old id asked ids _ _ out s f r h
 
-next_answers : (valid : Validity) (public : Keys) (old : State) (o : Option Remembered) (out : Outcome)
+next_answers : (valid : Validity) (public : Keys) (old : AuthenticatorState) (o : Option Remembered) (out : Outcome)
     → SoundState old → IfSome o (SoundRemembered old.credentials) → NextAnswers valid public old o out → SoundOutcome public old out
 next_answers valid public old None out s r h = absurd h
 next_answers valid public old (Some x) out s r h = answers valid public old x.next x.asked x.later _ _ out s r.asked r.later h
 
-on_channel : (cs : List Credential) (channel : ℕ) (o : Option Remembered) → IfSome o (SoundRemembered cs) → IfSome (remembered_on channel o) (SoundRemembered cs)
+on_channel : (cs : List CredentialSource) (channel : ℕ) (o : Option Remembered) → IfSome o (SoundRemembered cs)
+    → IfSome (remembered_on channel o) (SoundRemembered cs)
 on_channel cs channel None h = tt
 on_channel cs channel (Some r) h = either (r.asked.channel == channel) where
   either : (b : Bool) → IfSome (if b then Some r else None) (SoundRemembered cs)
@@ -148,7 +167,8 @@ given true uv true verified e = (λ h. refl, more uv verified e)
 given true uv false verified e = absurd cc
 given false uv present verified e = (λ h. absurd cc, more uv verified e)
 
-follows : (old : State) (channel : ℕ) (q : AssertionRequest) (consent : Consent) → length q.client_data_hash ≡ 32 → first_true (assertion_order old q consent) ≡ None → FollowsConsent (asked_by channel q consent)
+follows : (old : AuthenticatorState) (channel : ℕ) (q : AssertionRequest) (consent : Consent) → length q.client_data_hash ≡ 32
+    → first_true (assertion_order old q consent) ≡ None → FollowsConsent (asked_by channel q consent)
 follows old channel q consent l e =
     let ids = candidates old.credentials q.rp_id q.allow_list in
     let flags = assertion_flags q.options in
@@ -163,7 +183,8 @@ not_some : {X : Type 0} (o : Option X) → is_some o ≡ false → o ≡ None
 not_some None e = refl
 not_some (Some x) e = absurd cc
 
-new_id : (old : State) (q : CreationRequest) (consent : Consent) (words : Words) → first_true (creation_order old q consent words) ≡ None → credential_of words.id old.credentials ≡ None
+new_id : (old : AuthenticatorState) (q : CreationRequest) (consent : Consent) (words : Words) → first_true (creation_order old q consent words) ≡ None
+    → credential_of words.id old.credentials ≡ None
 new_id old q consent words e =
     let flags = creation_flags q.options in
     let l6 : List (Bool × ℕ) = (nat_le 256 (length (kept old.credentials q)), 0x28) ∷ [] in
@@ -179,22 +200,24 @@ new_id old q consent words e =
 
 -- ---- a credential that is made
 
-attested_all : (valid : Validity) (public : Keys) (old : State) (q : CreationRequest) (consent : Consent) (words : Words) (key : CoseKey) (attest : AttestationType) (r : Creation) (signed : List Entry) (P : Entry → Type 0)
+attested_all : (valid : Validity) (public : Keys) (old : AuthenticatorState) (q : CreationRequest) (consent : Consent) (words : Words) (key : CoseKey)
+    (attest : AttestationType) (r : Creation) (signed : List Entry) (P : Entry → Type 0)
     → P (record { key = key; message = r.auth_data ++ q.client_data_hash; purpose = attestation; consent = consent })
-    → Attests valid key q.client_data_hash consent attest r signed → All P signed
+    → MakesStatement valid key q.client_data_hash consent attest r signed → All P signed
 attested_all valid public old q consent words key types.None r signed P h is = All-same P signed [] is.2 (All-nil P)
 attested_all valid public old q consent words key types.SelfSigned r signed P h is =
     let entry : Entry = record { key = key; message = r.auth_data ++ q.client_data_hash; purpose = attestation; consent = consent } in
     All-same P signed (entry ∷ []) is.2 (All-cons P entry [] h (All-nil P))
 
-creates : (valid : Validity) (public : Keys) (old : State) (q : CreationRequest) (consent : Consent) (words : Words) (out : Outcome)
-    → SoundState old → length words.id ≡ 32 → length q.client_data_hash ≡ 32 → credential_of words.id old.credentials ≡ None → Creates valid public old q consent words out → SoundOutcome public old out
+creates : (valid : Validity) (public : Keys) (old : AuthenticatorState) (q : CreationRequest) (consent : Consent) (words : Words) (out : Outcome)
+    → SoundState old → length words.id ≡ 32 → length q.client_data_hash ≡ 32 → credential_of words.id old.credentials ≡ None
+    → Creates valid public old q consent words out → SoundOutcome public old out
 creates valid public old q consent words out s w l none is =
     let key = public is.alg words.secret in
     let new = new_credential q is.alg words in
     let stay = kept old.credentials q in
     let stayed : Stays old.credentials stay = stays (is_true (creation_flags q.options).rk) (is_resident_of q.rp.id q.user.id) old.credentials s.unique in
-    let e : out.state.credentials ≡ stay ++ new ∷ [] = ap (λ (a : State). a.credentials) is.state in
+    let e : out.state.credentials ≡ stay ++ new ∷ [] = ap (λ (a : AuthenticatorState). a.credentials) is.state in
     let entry : Entry = record { key = key; message = is.shown.auth_data ++ q.client_data_hash; purpose = attestation; consent = consent } in
     let attested : AttestedCredential = record { aaguid = old.aaguid; id = words.id; key = key } in
     let full = length-full (creation_data old q words.id key) attested is.shown.auth_data is.spelled refl in
@@ -217,35 +240,40 @@ creates valid public old q consent words out s w l none is =
       state = subst SoundState (sym is.state) (record { unique = unique_made old.credentials stay new stayed none; remembered = tt });
       keeps = subst (Keeps old.credentials) (sym e) (keeps_made old.credentials stay new stayed none);
       entries = attested_all valid public old q consent words key old.attest is.shown out.signed IsSound sound is.attested;
-      counted = attested_all valid public old q consent words key old.attest is.shown out.signed (IsCounted public old.credentials out.state.credentials) other is.attested;
-      made = All-same (IsStored public out.state.credentials) out.made (key ∷ []) is.made (All-cons (IsStored public out.state.credentials) key [] stored (All-nil (IsStored public out.state.credentials)));
+      counted = attested_all valid public old q consent words key old.attest is.shown out.signed
+          (IsCounted public old.credentials out.state.credentials) other is.attested;
+      made = All-same (IsStored public out.state.credentials) out.made (key ∷ []) is.made
+          (All-cons (IsStored public out.state.credentials) key [] stored (All-nil (IsStored public out.state.credentials)));
     }
 
-emptied : (public : Keys) (old : State) (out : Outcome) → Resets old out → SoundOutcome public old out
+emptied : (public : Keys) (old : AuthenticatorState) (out : Outcome) → Resets old out → SoundOutcome public old out
 emptied public old out is =
     nothing_signed public old out
     (subst SoundState (sym is.state) (record { unique = tt; remembered = tt }))
-    (subst (λ (a : State). Keeps old.credentials a.credentials) (sym is.state) (λ k c e. inl refl)) is.signed is.made
+    (subst (λ (a : AuthenticatorState). Keeps old.credentials a.credentials) (sym is.state) (λ k c e. inl refl)) is.signed is.made
 
 -- ---- one call
 
-carries : (valid : Validity) (public : Keys) (old : State) (channel : ℕ) (bs : List ℕ) (consent : Consent) (words : Words) (q : RequestMessage) (out : Outcome)
-    → SoundState old → length words.id ≡ 32 → IsRequest q bs → Carries valid public old channel consent words q out → SoundOutcome public old out
+carries : (valid : Validity) (public : Keys) (old : AuthenticatorState) (channel : ℕ) (bs : List ℕ) (consent : Consent) (words : Words) (q : RequestMessage)
+    (out : Outcome)
+    → SoundState old → length words.id ≡ 32 → IsRequest q bs → CarriesOut valid public old channel consent words q out → SoundOutcome public old out
 carries valid public old channel bs consent words (make_credential q) out s w is h =
     unless public (first_true (creation_order old q consent words)) old out (Creates valid public old q consent words out) s
     (λ e made. creates valid public old q consent words out s w (creation_hashed q bs is) (new_id old q consent words e) made) h
 carries valid public old channel bs consent words (get_assertion q) out s w is h =
-    unless public (first_true (assertion_order old q consent)) old out (FirstAnswers valid public old (candidates old.credentials q.rp_id q.allow_list) (asked_by channel q consent) out) s
+    unless public (first_true (assertion_order old q consent)) old out
+    (FirstAnswers valid public old (candidates old.credentials q.rp_id q.allow_list) (asked_by channel q consent) out) s
     (λ e answered. first_answers valid public old (candidates old.credentials q.rp_id q.allow_list) (asked_by channel q consent) out s
     (follows old channel q consent (assertion_hashed q bs is) e) (later_candidates old.credentials q.rp_id q.allow_list s.unique) answered) h
 carries valid public old channel bs consent words get_next_assertion out s w is h =
     unless public (first_true (next_order old channel)) old out (NextAnswers valid public old (remembered_on channel old.remembered) out) s
-    (λ e answered. next_answers valid public old (remembered_on channel old.remembered) out s (on_channel old.credentials channel old.remembered s.remembered) answered) h
+    (λ e answered. next_answers valid public old (remembered_on channel old.remembered) out s
+    (on_channel old.credentials channel old.remembered s.remembered) answered) h
 carries valid public old channel bs consent words get_info out s w is h = forgets public old out s h.state h.signed h.made
 carries valid public old channel bs consent words reset out s w is h =
     unless public (first_true (reset_order consent)) old out (Resets old out) s (λ e r. emptied public old out r) h
 
-step : (valid : Validity) (public : Keys) (old : State) (channel : ℕ) (bs : List ℕ) (consent : Consent) (words : Words) (out : Outcome)
+step : (valid : Validity) (public : Keys) (old : AuthenticatorState) (channel : ℕ) (bs : List ℕ) (consent : Consent) (words : Words) (out : Outcome)
     → SoundState old → length words.id ≡ 32 → Step valid public old channel bs consent words out → SoundOutcome public old out
 step valid public old channel bs consent words out s w h = elim h [
   | inl unread ↦ refused public old _ out s unread.2

@@ -5,7 +5,7 @@ use Rattle.cose.specs.declared.key.CoseKey.{CoseKey}
 use Rattle.authdata.specs.Flags.{is_set, UP, UV}
 use Rattle.authdata.specs.Layout.{AttestedCredential, AuthenticatorData, AuthOf}
 use Rattle.authdata.specs.declared.statement.AttestationType.{AttestationType}
-use Rattle.authenticator.specs.State.{Credential, Asked, Remembered, State, new_state}
+use Rattle.authenticator.specs.State.{CredentialSource, Asked, Remembered, AuthenticatorState, new_state}
 use Rattle.authenticator.specs.Credentials.{credential_of}
 use Rattle.authenticator.specs.Steps.{Entry, Outcome, Keys, Step, assertion, attestation, key_of}
 use Rattle.authenticator.specs.declared.consent.Consent.{Consent}
@@ -14,13 +14,13 @@ use Rattle.authenticator.specs.declared.consent.Words.{Words}
 -- ---- states
 
 -- each id stands once
-abbrev pub IsUnique : List Credential → Type 0
+abbrev pub IsUnique : List CredentialSource → Type 0
 IsUnique [] = Unit {0}
 IsUnique (c ∷ cs) = (credential_of c.id cs ≡ None) × IsUnique cs
 
 -- the id is that of a resident credential
-abbrev pub IsResident : List Credential → List ℕ → Type 0
-IsResident cs id = (c : Credential) × (credential_of id cs ≡ Some c) × (c.resident ≡ true)
+abbrev pub IsResident : List CredentialSource → List ℕ → Type 0
+IsResident cs id = (c : CredentialSource) × (credential_of id cs ≡ Some c) × (c.resident ≡ true)
 
 -- the flags follow the consent that was given to the request
 pub record FollowsConsent (asked : Asked) : Type 0 where
@@ -28,12 +28,12 @@ pub record FollowsConsent (asked : Asked) : Type 0 where
   pub present : asked.up ≡ true → asked.consent.present ≡ true
   pub verified : asked.uv ≡ true → asked.consent.verified ≡ true
 
-pub record SoundRemembered (cs : List Credential) (r : Remembered) : Type 0 where
+pub record SoundRemembered (cs : List CredentialSource) (r : Remembered) : Type 0 where
   pub asked : FollowsConsent r.asked
   pub next : IsResident cs r.next
   pub later : All (IsResident cs) r.later
 
-pub record SoundState (a : State) : Type 0 where
+pub record SoundState (a : AuthenticatorState) : Type 0 where
   pub unique : IsUnique a.credentials
   pub remembered : IfSome a.remembered (SoundRemembered a.credentials)
 
@@ -72,8 +72,8 @@ abbrev pub IsSound : Entry → Type 0
 IsSound e = SoundAssertion e ⊎ SoundAttestation e
 
 -- an assertion's counter is one above that of a stored credential, which has it from then on
-pub record Counted (public : Keys) (old new : List Credential) (e : Entry) : Type 0 where
-  pub credential : Credential
+pub record Counted (public : Keys) (old new : List CredentialSource) (e : Entry) : Type 0 where
+  pub credential : CredentialSource
   pub found : credential_of credential.id old ≡ Some credential
   pub key : e.key ≡ key_of public credential
   pub auth : AuthenticatorData
@@ -84,24 +84,24 @@ pub record Counted (public : Keys) (old new : List Credential) (e : Entry) : Typ
   pub count : auth.sign_count ≡ credential.sign_count + 1
   pub after : credential_of credential.id new ≡ Some (record credential { sign_count = credential.sign_count + 1 })
 
-abbrev pub IsCounted : Keys → List Credential → List Credential → Entry → Type 0
+abbrev pub IsCounted : Keys → List CredentialSource → List CredentialSource → Entry → Type 0
 IsCounted public old new e = e.purpose ≡ assertion → Counted public old new e
 
 -- ---- credentials
 
 -- a credential that is still stored is the same, and its counter has not fallen
-abbrev pub Keeps : List Credential → List Credential → Type 0
-Keeps old new = (id : List ℕ) (c : Credential) → credential_of id old ≡ Some c
+abbrev pub Keeps : List CredentialSource → List CredentialSource → Type 0
+Keeps old new = (id : List ℕ) (c : CredentialSource) → credential_of id old ≡ Some c
     → (credential_of id new ≡ None)
-    ⊎ ((d : Credential) × (credential_of id new ≡ Some d) × (c.sign_count ≤ d.sign_count) × (record d { sign_count = c.sign_count } ≡ c))
+    ⊎ ((d : CredentialSource) × (credential_of id new ≡ Some d) × (c.sign_count ≤ d.sign_count) × (record d { sign_count = c.sign_count } ≡ c))
 
 -- a key that is made is that of a stored credential
-abbrev pub IsStored : Keys → List Credential → CoseKey → Type 0
-IsStored public cs key = (id : List ℕ) × (c : Credential) × (credential_of id cs ≡ Some c) × (key ≡ key_of public c)
+abbrev pub IsStored : Keys → List CredentialSource → CoseKey → Type 0
+IsStored public cs key = (id : List ℕ) × (c : CredentialSource) × (credential_of id cs ≡ Some c) × (key ≡ key_of public c)
 
 -- ---- steps
 
-pub record SoundOutcome (public : Keys) (old : State) (out : Outcome) : Type 0 where
+pub record SoundOutcome (public : Keys) (old : AuthenticatorState) (out : Outcome) : Type 0 where
   pub state : SoundState out.state
   pub keeps : Keeps old.credentials out.state.credentials
   pub entries : All IsSound out.signed
@@ -112,6 +112,6 @@ pub record StepLaws (valid : Validity) (public : Keys) : Type 0 where
   -- a new authenticator's state is sound
   pub begins : (aaguid : List ℕ) (uv : Bool) (attest : AttestationType) → SoundState (new_state aaguid uv attest)
   -- and each step keeps it so
-  pub sound : (old : State) (channel : ℕ) (bs : List ℕ) (consent : Consent) (words : Words) (out : Outcome)
+  pub sound : (old : AuthenticatorState) (channel : ℕ) (bs : List ℕ) (consent : Consent) (words : Words) (out : Outcome)
       → SoundState old → length words.id ≡ 32 → Step valid public old channel bs consent words out
       → SoundOutcome public old out

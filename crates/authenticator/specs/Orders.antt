@@ -1,16 +1,17 @@
 -- In which order an authenticator refuses a request that was read: tables of facts and status bytes (CTAP 2.1,
 -- section 8.2). The first line whose fact is so decides. The orders are this product's: consent is asked for
 -- before stored credentials are looked at.
-use Rattle.std.specs.Prelude.{ℕ, List, [], ◌∷◌, Bool, true, false, not, ◌&&◌, ◌||◌, ◌==◌, nat_le, length, Option, Some, None, is_some, is_none, ℤ, pos, negsuc, codes, find, option_map, option_to_list, if◌then◌else◌}
+use Rattle.std.specs.Prelude.{ℕ, List, [], ◌∷◌, Bool, true, false, not, ◌&&◌, ◌||◌, ◌==◌, nat_le, length, Option, Some, None, is_some, is_none, ℤ}
+use Rattle.std.specs.Prelude.{pos, negsuc, codes, find, option_map, option_to_list, if◌then◌else◌}
 use Rattle.std.specs.List.{list_any}
 use Rattle.std.specs.Option.{option_or}
 use Rattle.std.specs.Str.{bytes_eq}
 use Rattle.cose.specs.declared.key.Alg.{Alg}
 use Rattle.cose.specs.declared.key.Alg.TheVariants as algs
 use Rattle.cose.specs.Keys.{argument_of}
-use Rattle.ctapmsg.specs.Entities.{CredentialDescriptor, CredentialParameters, CreationFlags, AssertionFlags}
-use Rattle.ctapmsg.specs.Requests.{CreationRequest, AssertionRequest}
-use Rattle.authenticator.specs.State.{Credential, Remembered, State}
+use Rattle.ctap_requests.specs.Entities.{CredentialDescriptor, CredentialParameters, CreationFlags, AssertionFlags}
+use Rattle.ctap_requests.specs.Requests.{CreationRequest, AssertionRequest}
+use Rattle.authenticator.specs.State.{CredentialSource, Remembered, AuthenticatorState}
 use Rattle.authenticator.specs.Credentials.{credential_of, is_resident_of, resident_ids, without_first}
 use Rattle.authenticator.specs.declared.consent.Consent.{Consent}
 use Rattle.authenticator.specs.declared.consent.Words.{Words}
@@ -57,32 +58,32 @@ abbrev pub first_supported : List CredentialParameters → Option Alg
 first_supported [] = None
 first_supported (p ∷ ps) = option_or (supported_by p) (first_supported ps)
 
-abbrev pub is_of : List ℕ → Option Credential → Bool
+abbrev pub is_of : List ℕ → Option CredentialSource → Bool
 is_of rp_id None = false
 is_of rp_id (Some c) = bytes_eq c.rp_id rp_id
 
 -- the descriptor is of a credential that is stored for this relying party
-abbrev pub is_stored_for : List ℕ → List Credential → CredentialDescriptor → Bool
+abbrev pub is_stored_for : List ℕ → List CredentialSource → CredentialDescriptor → Bool
 is_stored_for rp_id cs d = is_public_key d.kind && is_of rp_id (credential_of d.id cs)
 
 -- an exclude list that is not there is empty
-abbrev pub is_excluded : List ℕ → List Credential → Option (List CredentialDescriptor) → Bool
+abbrev pub is_excluded : List ℕ → List CredentialSource → Option (List CredentialDescriptor) → Bool
 is_excluded rp_id cs None = false
 is_excluded rp_id cs (Some ds) = list_any (is_stored_for rp_id cs) ds
 
 -- the ids of the credentials that may answer, in their order: without an allow list the resident ones, with
 -- one the first of the list that is stored for this relying party
-abbrev pub candidates : List Credential → List ℕ → Option (List CredentialDescriptor) → List (List ℕ)
+abbrev pub candidates : List CredentialSource → List ℕ → Option (List CredentialDescriptor) → List (List ℕ)
 candidates cs rp_id None = resident_ids rp_id cs
 candidates cs rp_id (Some ds) = option_to_list (option_map (λ d. d.id) (find (is_stored_for rp_id cs) ds))
 
 -- the counter, of 32 bits, can grow no more; so it is said of a credential that isn't there
-abbrev pub is_at_end : Option Credential → Bool
+abbrev pub is_at_end : Option CredentialSource → Bool
 is_at_end None = true
 is_at_end (Some c) = nat_le 4294967295 c.sign_count
 
 -- the first of them
-abbrev pub first_is_at_end : List Credential → List (List ℕ) → Bool
+abbrev pub first_is_at_end : List CredentialSource → List (List ℕ) → Bool
 first_is_at_end cs [] = true
 first_is_at_end cs (id ∷ ids) = is_at_end (credential_of id cs)
 
@@ -94,13 +95,13 @@ is_empty (x ∷ xs) = false
 
 -- what stays when the credential is made: where it is to be resident, no other resident one of its relying
 -- party and user
-abbrev pub kept : List Credential → CreationRequest → List Credential
+abbrev pub kept : List CredentialSource → CreationRequest → List CredentialSource
 kept cs q =
     if is_true (creation_flags q.options).rk then without_first (is_resident_of q.rp.id q.user.id) cs else cs
 
 -- no algorithm is supported; an option can't be met; consent is missing; a credential is excluded; the id is
 -- taken; no room is left
-abbrev pub creation_order : State → CreationRequest → Consent → Words → List (Bool × ℕ)
+abbrev pub creation_order : AuthenticatorState → CreationRequest → Consent → Words → List (Bool × ℕ)
 creation_order a q consent words =
     let flags = creation_flags q.options in
     (is_none (first_supported q.pub_key_cred_params), 0x26)
@@ -114,7 +115,7 @@ creation_order a q consent words =
 -- ---- authenticatorGetAssertion (section 6.2)
 
 -- an option can't be met; consent is missing; no credential may answer; the first one's counter can't grow
-abbrev pub assertion_order : State → AssertionRequest → Consent → List (Bool × ℕ)
+abbrev pub assertion_order : AuthenticatorState → AssertionRequest → Consent → List (Bool × ℕ)
 assertion_order a q consent =
     let flags = assertion_flags q.options in
     let ids = candidates a.credentials q.rp_id q.allow_list in
@@ -132,12 +133,12 @@ remembered_on channel None = None
 remembered_on channel (Some r) = if r.asked.channel == channel then Some r else None
 
 -- the next credential's counter can't grow
-abbrev pub next_is_at_end : List Credential → Option Remembered → Bool
+abbrev pub next_is_at_end : List CredentialSource → Option Remembered → Bool
 next_is_at_end cs None = true
 next_is_at_end cs (Some r) = is_at_end (credential_of r.next cs)
 
 -- nothing is remembered on the channel; the next credential's counter can't grow
-abbrev pub next_order : State → ℕ → List (Bool × ℕ)
+abbrev pub next_order : AuthenticatorState → ℕ → List (Bool × ℕ)
 next_order a channel =
     let remembered = remembered_on channel a.remembered in
     (is_none remembered, 0x30)

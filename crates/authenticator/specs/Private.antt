@@ -1,17 +1,24 @@
 -- What private functions are proved against; no public clause cites it.
 use Rattle.std.specs.Prelude.{◌≡◌, ◌≤◌, ◌<◌, ◌^◌, ℕ, List, [], ◌∷◌, length, Bool, not, ◌&&◌, ◌||◌, Result, Ok, Err, Option, Some, None, IfSome}
-use Rattle.first_line.specs.Lines.{first_true}
+use Rattle.std.specs.Prelude.{position, remove, if◌then◌else◌}
+use Rattle.std.specs.Str.{bytes_eq}
+use Rattle.refusal_order.specs.Lines.{first_true}
 use Rattle.cose.specs.Schemes.{Validity}
-use Rattle.cose.specs.declared.key.Alg.{Alg}
 use Rattle.cose.specs.declared.key.CoseKey.{CoseKey}
 use Rattle.authdata.specs.declared.statement.AttestationType.{AttestationType}
-use Rattle.ctapmsg.specs.Replies.{Assertion, Creation, ReplyMessage, ReplyOf}
-use Rattle.ctapmsg.specs.Requests.{AssertionRequest, CreationRequest, RequestMessage, make_credential}
-use Rattle.authenticator.specs.State.{Asked, Credential, State}
-use Rattle.authenticator.specs.Orders.{assertion_flags, assertion_order, candidates, creation_order, first_is_at_end, is_false, is_true, first_supported, next_order, remembered_on}
-use Rattle.authenticator.specs.Steps.{Attests, Carries, Creates, Entry, FirstAnswers, IsAssertion, Keys, NextAnswers, Outcome, Unless, asked_by}
+use Rattle.ctap_replies.specs.Replies.{Assertion, Creation, ReplyMessage, ReplyOf}
+use Rattle.ctap_requests.specs.Entities.{CredentialDescriptor}
+use Rattle.ctap_requests.specs.RequestView.{assertion_options_view}
+use Rattle.ctap_requests.specs.Requests.{AssertionRequest, CreationRequest, RequestMessage, make_credential}
+use Rattle.ctap_requests.specs.declared.request.AssertionOptions.{AssertionOptions}
+use Rattle.authenticator.specs.Credentials.{credential_of}
+use Rattle.authenticator.specs.State.{Asked, CredentialSource, AuthenticatorState}
+use Rattle.authenticator.specs.Orders.{assertion_flags, creation_flags, assertion_order, candidates, creation_order, first_is_at_end, is_false}
+use Rattle.authenticator.specs.Orders.{is_stored_for, is_true, first_supported, kept, next_order, remembered_on}
+use Rattle.authenticator.specs.Steps.{MakesStatement, CarriesOut, Creates, Entry, FirstAnswers, IsAssertion, Keys, NextAnswers, Outcome, Unless, asked_by}
 use Rattle.authenticator.specs.declared.consent.Consent.{Consent}
 use Rattle.authenticator.specs.declared.consent.Words.{Words}
+use Rattle.authenticator.specs.declared.make_credential.Choice.{Choice}
 
 -- the reply has bytes, at most 7,609
 pub record IsMessage (r : ReplyMessage) : Type 0 where
@@ -36,61 +43,99 @@ pub record FitsReply (r : Assertion) : Type 0 where
   pub number : IfSome r.number IsCount
 
 -- the bytes of a reply that shows a credential's next assertion
-pub record Shows (valid : Validity) (public : Keys) (c : Credential) (asked : Asked) (message : Assertion → ReplyMessage) (count : Option ℕ) (bytes : List ℕ) : Type 0 where
+pub record Shows (valid : Validity) (public : Keys) (c : CredentialSource) (asked : Asked) (message : Assertion → ReplyMessage) (count : Option ℕ)
+    (bytes : List ℕ) : Type 0 where
   pub shown : Assertion
   pub asserts : IsAssertion valid public c asked count shown
   pub reply : ReplyOf (message shown) bytes
 
 -- with some signing or none
 abbrev pub IsAttested : Validity → CoseKey → List ℕ → Consent → AttestationType → Creation → Type 0
-IsAttested valid key client_data_hash consent attest r = (signed : List Entry) × Attests valid key client_data_hash consent attest r signed
+IsAttested valid key client_data_hash consent attest r = (signed : List Entry) × MakesStatement valid key client_data_hash consent attest r signed
 
--- no line of the order applies, and this algorithm is the first supported; or the status of the first line
-abbrev pub IsChoice : State → CreationRequest → Consent → Words → Result Alg ℕ → Type 0
-IsChoice a q consent words (Ok alg) =
-    (first_true (creation_order a q consent words) ≡ None) × (first_supported q.pub_key_cred_params ≡ Some alg)
+-- the credential of the descriptor, where it is stored for this relying party
+abbrev pub stored_for : List ℕ → List CredentialSource → CredentialDescriptor → Option CredentialSource
+stored_for rp_id cs d = if is_stored_for rp_id cs d then credential_of d.id cs else None
+
+-- the first credential of this id stands at this place
+abbrev pub StandsAt : List ℕ → List CredentialSource → ℕ → Type 0
+StandsAt id cs place = (place < length cs) × (position (λ c. bytes_eq c.id id) cs ≡ Some place)
+
+-- without the one at a place
+abbrev pub without : {X : Type 0} → List X → Option ℕ → List X
+without xs None = xs
+without xs (Some i) = remove xs i
+
+-- exactly the credential at this place goes when the new one is made
+pub record Overwrites (cs : List CredentialSource) (q : CreationRequest) (place : Option ℕ) : Type 0 where
+  pub within : IfSome place (λ i. i < length cs)
+  pub kept : kept cs q ≡ without cs place
+
+-- it asks for verification
+abbrev pub asks_verified : CreationRequest → Bool
+asks_verified q = is_true (creation_flags q.options).uv
+
+-- it asks for a resident credential
+abbrev pub asks_resident : CreationRequest → Bool
+asks_resident q = is_true (creation_flags q.options).rk
+
+-- no line of the order applies, and this is what is made: of the first supported algorithm, as the options ask, in
+-- place of what goes; or the status of the first line
+abbrev pub IsChoice : AuthenticatorState → CreationRequest → Consent → Words → Result Choice ℕ → Type 0
+IsChoice a q consent words (Ok choice) =
+    (first_true (creation_order a q consent words) ≡ None)
+    × (first_supported q.pub_key_cred_params ≡ Some choice.alg)
+    × (choice.uv ≡ asks_verified q)
+    × (choice.resident ≡ asks_resident q)
+    × Overwrites a.credentials q choice.overwritten
 IsChoice a q consent words (Err status) = first_true (creation_order a q consent words) ≡ Some status
 
 -- some outcome with this reply and state
-abbrev pub Comes : (Outcome → Type 0) → List ℕ → State → Type 0
+abbrev pub Comes : (Outcome → Type 0) → List ℕ → AuthenticatorState → Type 0
 Comes P reply new =
     (signed : List Entry) × (made : List CoseKey)
     × P (record { reply = reply; state = new; signed = signed; made = made })
 
 -- a request that was read has this reply and state
-abbrev pub Happens : Validity → Keys → State → ℕ → Consent → Words → RequestMessage → List ℕ → State → Type 0
+abbrev pub Happens : Validity → Keys → AuthenticatorState → ℕ → Consent → Words → RequestMessage → List ℕ → AuthenticatorState → Type 0
 Happens valid public old channel consent words q reply new =
-    Comes (Carries valid public old channel consent words q) reply new
+    Comes (CarriesOut valid public old channel consent words q) reply new
 
 abbrev pub HasUser : RequestMessage → Type 0
 HasUser (make_credential q) = IsUser q.user.id
 HasUser _ = Unit {0}
 
 -- the lines of a getAssertion that ask for consent
-abbrev pub consent_order : State → AssertionRequest → Consent → List (Bool × ℕ)
+abbrev pub consent_order : AuthenticatorState → AssertionRequest → Consent → List (Bool × ℕ)
 consent_order a q consent =
     let flags = assertion_flags q.options in
     (is_true flags.uv && not a.uv, 0x2C)
     ∷ ((not (is_false flags.up) && not consent.present) || (is_true flags.uv && not consent.verified), 0x27)
     ∷ []
 
+-- none of these lines applies, and these are its options; or the status of the first line
+abbrev pub IsGranted : AuthenticatorState → AssertionRequest → Consent → Result AssertionOptions ℕ → Type 0
+IsGranted a q consent (Ok options) =
+    (first_true (consent_order a q consent) ≡ None) × (assertion_options_view options ≡ assertion_flags q.options)
+IsGranted a q consent (Err status) = first_true (consent_order a q consent) ≡ Some status
+
 -- the first of the candidates has answered, or its counter is at its end
-abbrev pub FirstHappens : Validity → Keys → State → List (List ℕ) → Asked → List ℕ → State → Type 0
+abbrev pub FirstHappens : Validity → Keys → AuthenticatorState → List (List ℕ) → Asked → List ℕ → AuthenticatorState → Type 0
 FirstHappens valid public old ids asked reply new =
     Comes (λ out. Unless (first_true ((first_is_at_end old.credentials ids, 0x7F) ∷ [])) old out (FirstAnswers valid public old ids asked out)) reply new
 
 -- a makeCredential
-abbrev pub CreationHappens : Validity → Keys → State → CreationRequest → Consent → Words → List ℕ → State → Type 0
+abbrev pub CreationHappens : Validity → Keys → AuthenticatorState → CreationRequest → Consent → Words → List ℕ → AuthenticatorState → Type 0
 CreationHappens valid public old q consent words reply new =
     Comes (λ out. Unless (first_true (creation_order old q consent words)) old out (Creates valid public old q consent words out)) reply new
 
 -- a getAssertion
-abbrev pub AssertionHappens : Validity → Keys → State → ℕ → AssertionRequest → Consent → List ℕ → State → Type 0
+abbrev pub AssertionHappens : Validity → Keys → AuthenticatorState → ℕ → AssertionRequest → Consent → List ℕ → AuthenticatorState → Type 0
 AssertionHappens valid public old channel q consent reply new =
     Comes (λ out. Unless (first_true (assertion_order old q consent)) old out
     (FirstAnswers valid public old (candidates old.credentials q.rp_id q.allow_list) (asked_by channel q consent) out)) reply new
 
 -- a getNextAssertion
-abbrev pub NextHappens : Validity → Keys → State → ℕ → List ℕ → State → Type 0
+abbrev pub NextHappens : Validity → Keys → AuthenticatorState → ℕ → List ℕ → AuthenticatorState → Type 0
 NextHappens valid public old channel reply new =
     Comes (λ out. Unless (first_true (next_order old channel)) old out (NextAnswers valid public old (remembered_on channel old.remembered) out)) reply new

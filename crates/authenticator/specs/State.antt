@@ -7,7 +7,7 @@ use Rattle.authenticator.specs.declared.consent.Consent.{Consent}
 -- a public key credential source (WebAuthn Level 2, section 4): its id, its relying party's id, the user
 -- handle, the secret that its key is made of, the key's algorithm, whether it is resident, and its signature
 -- counter
-pub record Credential : Type 0 where
+pub record CredentialSource : Type 0 where
   pub id : List ℕ
   pub rp_id : List ℕ
   pub user : List ℕ
@@ -34,18 +34,18 @@ pub record Remembered : Type 0 where
 
 -- the authenticator's aaguid, whether it is configured to verify its user, how it attests, its credentials in
 -- order of creation, and at most one getAssertion that is remembered
-pub record State : Type 0 where
+pub record AuthenticatorState : Type 0 where
   pub aaguid : List ℕ
   pub uv : Bool
   pub attest : AttestationType
-  pub credentials : List Credential
+  pub credentials : List CredentialSource
   pub remembered : Option Remembered
 
 -- a new authenticator stores and remembers nothing
-abbrev pub new_state : List ℕ → Bool → AttestationType → State
+abbrev pub new_state : List ℕ → Bool → AttestationType → AuthenticatorState
 new_state aaguid uv attest =
     record { aaguid = aaguid; uv = uv; attest = attest; credentials = []; remembered = None }
 
 -- the same credentials, and nothing remembered
-abbrev pub forgotten : State → State
+abbrev pub forgotten : AuthenticatorState → AuthenticatorState
 forgotten a = record a { remembered = None }

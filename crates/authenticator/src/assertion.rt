@@ -3,11 +3,11 @@
 ghost use Rattle.std.specs.Prelude.{◌≡◌, ◌<◌, ◌≤◌, ◌+◌, IfOk, IfSome, None, false, length, option_map};
 ghost use Rattle.authdata.specs.Flags as bits;
 ghost use Rattle.authdata.specs.Layout.{AuthOf};
-ghost use Rattle.ctapmsg.specs.Replies.{assertion_reply, next_reply};
-ghost use Rattle.ctapmsg.specs.ReplyView.{lent_assertion_view};
+ghost use Rattle.ctap_replies.specs.Replies.{assertion_reply, next_reply};
+ghost use Rattle.ctap_replies.specs.ReplyView.{lent_assertion_view};
 ghost use Rattle.authenticator.specs.Private.{FitsReply, IsCount, Shows};
 ghost use Rattle.authenticator.specs.Steps.{assertion_data, shown_user, up_bit, uv_bit};
-ghost use Rattle.authenticator.specs.Views.{asked_view, credential_view};
+ghost use Rattle.authenticator.specs.Views.{asked_view, credential_source_view};
 
 use crate::credential::StoredCredential;
 use crate::remembered::AskedAssertion;
@@ -16,7 +16,7 @@ use crate::signing::signature;
 use authdata::AuthData;
 use authdata::flags::{UP, UV};
 use cose::Signer;
-use ctapmsg::AssertionView;
+use ctap_replies::AssertionView;
 use sha2::{Digest, Sha256};
 use std::alloc::{AllocError, Global};
 
@@ -41,7 +41,7 @@ fn auth_data(
     asked: &AskedAssertion,
 ) -> Result<Vec<u8>, AllocError>
     requires { credential.now.sign_count < 4294967295 }
-    ensures { IfOk result (λ bytes. AuthOf (assertion_data (credential_view credential.now) (asked_view asked.now)) bytes.items) }
+    ensures { IfOk result (λ bytes. AuthOf (assertion_data (credential_source_view credential.now) (asked_view asked.now)) bytes.items) }
 {
     let data = AuthData {
         rp_id_hash: Sha256::digest(credential.rp_id.as_bytes()),
@@ -54,7 +54,7 @@ fn auth_data(
 
 /// The user handle, which is shown for a resident credential.
 fn shown_user(credential: &StoredCredential) -> Option<&[u8]>
-    ensures { option_map (λ b. b.now) result ≡ shown_user (credential_view credential.now) }
+    ensures { option_map (λ b. b.now) result ≡ shown_user (credential_source_view credential.now) }
 {
     if !credential.resident {
         return None;
@@ -76,7 +76,7 @@ fn shown<'a>(
     ensures credential { result.credential.now ≡ credential.entry.now.id }
     ensures auth_data { result.auth_data.now ≡ auth_data.entry.now }
     ensures signature { result.signature.now ≡ signature.entry.now }
-    ensures user { option_map (λ b. b.now) result.user ≡ shown_user (credential_view credential.entry.now) }
+    ensures user { option_map (λ b. b.now) result.user ≡ shown_user (credential_source_view credential.entry.now) }
     ensures number { result.number ≡ number }
 {
     AssertionView {
@@ -99,8 +99,11 @@ pub(crate) fn assertion<S: Signer>(
 ) -> Result<Vec<u8>, AllocError>
     requires sign_count { credential.now.sign_count < 4294967295 }
     requires number { IfSome number IsCount }
-    ensures first { IfOk result (λ bytes. Shows (S.valid scheme.now) (S.public_of scheme.now) (credential_view credential.now) (asked_view asked.now) assertion_reply number bytes.items) }
-    ensures next { number ≡ None → IfOk result (λ bytes. Shows (S.valid scheme.now) (S.public_of scheme.now) (credential_view credential.now) (asked_view asked.now) next_reply number bytes.items) }
+    ensures first { IfOk result (λ bytes. Shows (S.valid scheme.now) (S.public_of scheme.now) (credential_source_view credential.now)
+        (asked_view asked.now) assertion_reply number bytes.items) }
+    ensures next { number ≡ None → IfOk result
+        (λ bytes. Shows (S.valid scheme.now) (S.public_of scheme.now) (credential_source_view credential.now)
+        (asked_view asked.now) next_reply number bytes.items) }
     ensures size { IfOk result (λ bytes. length bytes.items ≤ 7609) }
 {
     let auth_data = auth_data(alloc, credential, asked)?;

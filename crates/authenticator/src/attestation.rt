@@ -5,21 +5,22 @@ ghost use Rattle.ccbor.specs.View.{view};
 ghost use Rattle.authdata.specs.Flags as bits;
 ghost use Rattle.authdata.specs.Layout.{AuthOf};
 ghost use Rattle.authdata.specs.Statements.{packed_statement};
-ghost use Rattle.ctapmsg.specs.RequestView.{creation_view};
-ghost use Rattle.ctapmsg.specs.ReplyView.{creation_reply_view};
-ghost use Rattle.authenticator.specs.Private.{IsAttested};
+ghost use Rattle.ctap_requests.specs.RequestView.{creation_view};
+ghost use Rattle.ctap_replies.specs.ReplyView.{creation_reply_view};
+ghost use Rattle.authenticator.specs.Private.{IsAttested, asks_verified};
 ghost use Rattle.authenticator.specs.Steps.{creation_data, uv_bit};
 ghost use Rattle.authenticator.specs.declared.consent.Consent.{Consent};
 
 use crate::authenticator::Authenticator;
 use crate::consent::Words;
-use crate::options::{creation_options, is_true};
+use crate::make_credential::Choice;
 use crate::signing::signature;
 use authdata::flags::{AT, UP, UV};
 use authdata::{AttestationType, Attested, AuthData};
 use ccbor::Value;
 use cose::{Alg, CoseKey, Signer};
-use ctapmsg::{CreationReply, MakeCredential};
+use ctap_replies::CreationReply;
+use ctap_requests::MakeCredential;
 use sha2::{Digest, Sha256};
 use std::alloc::{AllocError, Global};
 
@@ -36,7 +37,7 @@ fn flags(uv: bool) -> u8
 fn packed(alloc: Global, alg: Alg, signature: Vec<u8>) -> Result<Value, AllocError>
     ensures { IfOk result (λ v. view v ≡ packed_statement alg signature.items) }
 {
-    let mut members = Vec::new(alloc);
+    let mut members = Vec::with_capacity(alloc, 2)?;
     members.push((
         Value::Text(String::from_str(alloc, "alg")?),
         Value::Nint(alg.argument()),
@@ -56,7 +57,9 @@ impl Authenticator {
         request: &MakeCredential,
         id: &[u8; 32],
         key: CoseKey,
+        uv: bool,
     ) -> Result<Vec<u8>, AllocError>
+        requires { uv ≡ asks_verified (creation_view request.now) }
         ensures { IfOk result (λ bytes. AuthOf (creation_data self.now (creation_view request.now) id.now key) bytes.items) }
     {
         let attested = Attested {
@@ -66,7 +69,7 @@ impl Authenticator {
         };
         let data = AuthData {
             rp_id_hash: Sha256::digest(request.rp.id.as_bytes()),
-            flags: flags(is_true(creation_options(request.options).uv)),
+            flags: flags(uv),
             sign_count: 0,
             attested: Some(attested),
         };
@@ -79,15 +82,19 @@ impl Authenticator {
         alloc: Global,
         scheme: &S,
         request: &MakeCredential,
-        alg: Alg,
+        choice: Choice,
         words: &Words,
     ) -> Result<CreationReply, AllocError>
+        requires { choice.uv ≡ asks_verified (creation_view request.now) }
         ensures size { IfOk result (λ r. length r.auth_data.items ≤ 164) }
-        ensures spelled { IfOk result (λ r. AuthOf (creation_data self.now (creation_view request.now) words.now.id (S.public_of scheme.now alg words.now.secret)) r.auth_data.items) }
-        ensures attested { IfOk result (λ r. (consent : Consent) → IsAttested (S.valid scheme.now) (S.public_of scheme.now alg words.now.secret) request.now.client_data_hash.items consent self.now.attest (creation_reply_view r)) }
+        ensures spelled { IfOk result (λ r. AuthOf
+            (creation_data self.now (creation_view request.now) words.now.id (S.public_of scheme.now choice.alg words.now.secret)) r.auth_data.items) }
+        ensures attested { IfOk result (λ r. (consent : Consent)
+            → IsAttested (S.valid scheme.now) (S.public_of scheme.now choice.alg words.now.secret) request.now.client_data_hash.items consent self.now.attest
+            (creation_reply_view r)) }
     {
-        let key = scheme.public(alg, &words.secret);
-        let auth_data = self.creation_data(alloc, request, &words.id, key)?;
+        let key = scheme.public(choice.alg, &words.secret);
+        let auth_data = self.creation_data(alloc, request, &words.id, key, choice.uv)?;
         match self.attest {
             AttestationType::None => Ok(CreationReply {
                 fmt: String::from_str(alloc, "none")?,
@@ -99,7 +106,7 @@ impl Authenticator {
                 let signature = signature(
                     alloc,
                     scheme,
-                    alg,
+                    choice.alg,
                     &words.secret,
                     auth_data.as_slice(),
                     client_data_hash,

@@ -1,13 +1,13 @@
 //! The authenticator.
 
 ghost use Rattle.std.specs.Prelude.{◌≡◌, ◌≤◌, ◌∷◌, [], IfOk, OnErr, OnOk, length};
-ghost use Rattle.ctapmsg.specs.RequestView.{lent_request_view};
-ghost use Rattle.ctapmsg.specs.Requests as requests;
+ghost use Rattle.ctap_requests.specs.RequestView.{lent_request_view};
+ghost use Rattle.ctap_requests.specs.Requests as requests;
 ghost use Rattle.authenticator.specs.Private.{Happens, HasUser};
 ghost use Rattle.authenticator.specs.State.{forgotten, new_state};
 ghost use Rattle.authenticator.specs.Steps.{Informs, Resets, Steps, Unless};
 ghost use Rattle.authenticator.specs.Orders.{reset_order};
-ghost use Rattle.first_line.specs.Lines.{first_true};
+ghost use Rattle.refusal_order.specs.Lines.{first_true};
 
 use crate::consent::{Consent, Words};
 use crate::credential::StoredCredential;
@@ -15,8 +15,10 @@ use crate::remembered::RememberedAssertion;
 use crate::reply::{info_bytes, status_alone, written};
 use authdata::AttestationType;
 use cose::Signer;
-use ctapmsg::status::OPERATION_DENIED;
-use ctapmsg::{Error, Reply, RequestView, view_request};
+use ctap_replies::Reply;
+use ctap_requests::{RequestView, view_request};
+use ctap_status::Error;
+use ctap_status::status::OPERATION_DENIED;
 use std::alloc::{AllocError, Global};
 use std::marker::Model;
 
@@ -33,16 +35,16 @@ pub struct Authenticator {
 
 impl Model for Authenticator {
     ghost use Rattle.std.specs.Prelude.{option_map};
-    ghost use Rattle.authenticator.specs.State.{State};
-    ghost use Rattle.authenticator.specs.Views.{credentials_view, remembered_view};
+    ghost use Rattle.authenticator.specs.State.{AuthenticatorState};
+    ghost use Rattle.authenticator.specs.Views.{credential_sources_view, remembered_view};
 
-    ghost Value = { State };
+    ghost Value = { AuthenticatorState };
 
     ghost view = { λ a. record {
       aaguid = a.aaguid;
       uv = a.uv;
       attest = a.attest;
-      credentials = credentials_view a.credentials.items;
+      credentials = credential_sources_view a.credentials.items;
       remembered = option_map remembered_view a.remembered;
     } };
 }
@@ -100,7 +102,9 @@ impl Authenticator {
 
     /// Answers a reset (CTAP 2.1, section 6.6).
     fn reset(&mut self, consent: Consent) -> Result<Vec<u8>, AllocError>
-        ensures done { IfOk result (λ reply. Unless (first_true (reset_order consent)) self.old (record { reply = reply.items; state = self.new; signed = []; made = [] }) (Resets self.old (record { reply = reply.items; state = self.new; signed = []; made = [] }))) }
+        ensures done { IfOk result (λ reply. Unless (first_true (reset_order consent)) self.old
+            (record { reply = reply.items; state = self.new; signed = []; made = [] })
+            (Resets self.old (record { reply = reply.items; state = self.new; signed = []; made = [] }))) }
         ensures size { IfOk result (λ reply. length reply.items ≤ 7609) }
         ensures err { OnErr result (self.new ≡ self.old) }
     {
@@ -123,7 +127,8 @@ impl Authenticator {
         words: Words,
     ) -> Result<Vec<u8>, AllocError>
         requires { HasUser (lent_request_view request) }
-        ensures done { IfOk result (λ reply. Happens (S.valid scheme.now) (S.public_of scheme.now) self.old channel consent words (lent_request_view request.entry) reply.items self.new) }
+        ensures done { IfOk result (λ reply. Happens (S.valid scheme.now) (S.public_of scheme.now) self.old channel consent words
+            (lent_request_view request.entry) reply.items self.new) }
         ensures size { IfOk result (λ reply. length reply.items ≤ 7609) }
         ensures err { OnErr result (self.new ≡ self.old) }
     {
@@ -143,7 +148,7 @@ impl Authenticator {
     /// Answers a request that came on a channel: always with a status byte first, and with at most 7,609 bytes.
     ///
     /// Bytes that are no request are answered by the status byte that
-    /// [`view_request`](ctapmsg::view_request) gives for them, and a request by the first of these that applies:
+    /// [`view_request`](ctap_requests::view_request) gives for them, and a request by the first of these that applies:
     ///
     /// - makeCredential (CTAP 2.1, section 6.1): 0x26 no algorithm of type `public-key` is supported (ES256 and
     ///   EdDSA are); 0x2C `up` is false, or `uv` is true and verification isn't configured; 0x27 presence isn't
@@ -170,7 +175,8 @@ impl Authenticator {
         consent: Consent,
         words: Words,
     ) -> Result<Vec<u8>, AllocError>
-        ensures stepped { IfOk result (λ reply. Steps (S.valid scheme.now) (S.public_of scheme.now) self.old channel request.now consent words reply.items self.new) }
+        ensures stepped { IfOk result (λ reply. Steps (S.valid scheme.now)
+            (S.public_of scheme.now) self.old channel request.now consent words reply.items self.new) }
         ensures size { IfOk result (λ reply. length reply.items ≤ 7609) }
         ensures memory { OnErr result (self.new ≡ self.old) }
     {

@@ -1,17 +1,19 @@
 //! The credentials that an authenticator stores, in order of creation.
 
-ghost use Rattle.std.specs.Prelude.{◌≡◌, ◌<◌, ◌++◌, ◌∷◌, [], IfOk, MatchOption, OnErr, OnOk, count_by, filter, length, map, option_map, position, remove, reverse, string_bytes};
+ghost use Rattle.std.specs.Prelude.{◌≡◌, ◌<◌, ◌++◌, ◌∷◌, [], IfOk, IfSome, List, MatchOption, OnErr, OnOk, count_by, filter, length, map, ℕ};
+ghost use Rattle.std.specs.Prelude.{option_map, position, reverse, string_bytes};
 ghost use Rattle.std.specs.List.{list_any};
 ghost use Rattle.std.specs.Prelude as list;
 ghost use Rattle.std.specs.Str.{bytes_eq};
-ghost use Rattle.ctapmsg.specs.RequestView.{descriptor_view, lent_descriptor_view};
+ghost use Rattle.ctap_requests.specs.RequestView.{descriptor_view, lent_descriptor_view};
 ghost use Rattle.authenticator.specs.Credentials.{credential_of, is_resident_for, is_resident_of, resident_ids, with_sign_count, without_first};
 ghost use Rattle.authenticator.specs.Orders.{candidates, is_excluded, is_public_key, is_stored_for};
-ghost use Rattle.authenticator.specs.Views.{credential_view, credentials_view, candidates_view};
+ghost use Rattle.authenticator.specs.Private.{StandsAt, stored_for, without};
+ghost use Rattle.authenticator.specs.Views.{credential_source_view, credential_sources_view, candidates_view};
 
 use crate::credential::StoredCredential;
 use crate::remembered::Candidates;
-use ctapmsg::{Descriptor, DescriptorView};
+use ctap_requests::{Descriptor, DescriptorView};
 use std::alloc::{AllocError, Global};
 
 /// Where the credential of an id stands.
@@ -33,18 +35,42 @@ pub(crate) fn find<'a>(
     credentials: &'a [StoredCredential],
     id: &[u8],
 ) -> Option<&'a StoredCredential>
-    ensures { option_map (λ c. credential_view c.now) result ≡ credential_of id.now (credentials_view credentials.entry.now) }
+    ensures { option_map (λ c. credential_source_view c.now) result ≡ credential_of id.now (credential_sources_view credentials.entry.now) }
 {
     first_of(credentials, id)
 }
 
-/// Writes the counter of the credential of an id.
-pub(crate) fn set_sign_count(credentials: &mut [StoredCredential], id: &[u8], sign_count: u32)
-    ensures { credentials_view credentials.new ≡ with_sign_count id.now sign_count (credentials_view credentials.old) }
+/// A stored credential, and where it stands.
+#[derive(Clone, Copy, Drop)]
+pub(crate) struct PlacedCredential<'a> {
+    pub place: usize,
+    pub credential: &'a StoredCredential,
+}
+
+/// The credential of an id, and where it stands.
+pub(crate) fn placed<'a>(
+    credentials: &'a [StoredCredential],
+    id: &[u8],
+) -> Option<PlacedCredential<'a>>
+    ensures { MatchOption result
+        (credential_of id.now (credential_sources_view credentials.entry.now) ≡ None)
+        (λ p. StandsAt id.now (credential_sources_view credentials.entry.now) p.place
+        × (credential_of id.now (credential_sources_view credentials.entry.now) ≡ Some (credential_source_view p.credential.now))) }
 {
-    if let Some(place) = place_of(credentials, id) {
-        credentials[place].sign_count = sign_count;
-    }
+    let place = place_of(credentials, id)?;
+    Some(PlacedCredential {
+        place,
+        credential: &credentials[place],
+    })
+}
+
+/// Writes the counter of the credential at a place.
+pub(crate) fn set_sign_count(credentials: &mut [StoredCredential], place: usize, sign_count: u32)
+    requires { place < length credentials.old }
+    ensures { (id : List ℕ) → StandsAt id (credential_sources_view credentials.old) place
+        → credential_sources_view credentials.new ≡ with_sign_count id sign_count (credential_sources_view credentials.old) }
+{
+    credentials[place].sign_count = sign_count;
 }
 
 /// Whether a type is `public-key`.
@@ -54,22 +80,35 @@ pub(crate) fn is_public_key(kind: &str) -> bool
     kind == "public-key"
 }
 
-/// Whether a descriptor of this type and id is of a credential that is stored for the relying party.
-fn is_stored_for(credentials: &[StoredCredential], rp_id: &str, kind: &str, id: &[u8]) -> bool
-    ensures { result ≡ is_stored_for rp_id.now (credentials_view credentials.now) (record { id = id.now; kind = kind.now }) }
+/// The credential of a descriptor of this type and id, where it is stored for the relying party.
+fn stored_for<'a>(
+    credentials: &'a [StoredCredential],
+    rp_id: &str,
+    kind: &str,
+    id: &[u8],
+) -> Option<&'a StoredCredential>
+    ensures { option_map (λ c. credential_source_view c.now) result
+        ≡ stored_for rp_id.now (credential_sources_view credentials.entry.now) (record { id = id.now; kind = kind.now }) }
 {
     if !is_public_key(kind) {
-        return false;
+        return None;
     }
     match find(credentials, id) {
-        Some(credential) => credential.rp_id.as_str() == rp_id,
-        None => false,
+        Some(credential) if credential.rp_id.as_str() == rp_id => Some(credential),
+        _ => None,
     }
+}
+
+/// Whether a descriptor of this type and id is of a credential that is stored for the relying party.
+fn is_stored_for(credentials: &[StoredCredential], rp_id: &str, kind: &str, id: &[u8]) -> bool
+    ensures { result ≡ is_stored_for rp_id.now (credential_sources_view credentials.now) (record { id = id.now; kind = kind.now }) }
+{
+    stored_for(credentials, rp_id, kind, id).is_some()
 }
 
 /// Whether one of the descriptors is of a credential that is stored for the relying party.
 fn is_any_stored(credentials: &[StoredCredential], rp_id: &str, descriptors: &[Descriptor]) -> bool
-    ensures { result ≡ list_any (λ d. is_stored_for rp_id.now (credentials_view credentials.now) (descriptor_view d)) descriptors.now }
+    ensures { result ≡ list_any (λ d. is_stored_for rp_id.now (credential_sources_view credentials.now) (descriptor_view d)) descriptors.now }
 {
     descriptors
         .iter()
@@ -82,7 +121,7 @@ pub(crate) fn is_excluded(
     rp_id: &str,
     descriptors: &Option<Vec<Descriptor>>,
 ) -> bool
-    ensures { result ≡ is_excluded rp_id.now (credentials_view credentials.now) (option_map (λ v. map descriptor_view v.items) descriptors.now) }
+    ensures { result ≡ is_excluded rp_id.now (credential_sources_view credentials.now) (option_map (λ v. map descriptor_view v.items) descriptors.now) }
 {
     match descriptors {
         Some(descriptors) => is_any_stored(credentials, rp_id, descriptors),
@@ -93,14 +132,14 @@ pub(crate) fn is_excluded(
 impl StoredCredential {
     /// Whether it is resident, and of this relying party.
     fn is_resident_for(&self, rp_id: &str) -> bool
-        ensures { result ≡ is_resident_for rp_id.now (credential_view self.now) }
+        ensures { result ≡ is_resident_for rp_id.now (credential_source_view self.now) }
     {
         self.resident && self.rp_id.as_str() == rp_id
     }
 
     /// Whether it is resident, and of this relying party and user.
     fn is_resident_of(&self, rp_id: &str, user: &[u8]) -> bool
-        ensures { result ≡ is_resident_of rp_id.now user.now (credential_view self.now) }
+        ensures { result ≡ is_resident_of rp_id.now user.now (credential_source_view self.now) }
     {
         self.is_resident_for(rp_id) && self.user.as_slice() == user
     }
@@ -108,7 +147,7 @@ impl StoredCredential {
 
 /// How many resident credentials the relying party has.
 fn count_residents(credentials: &[StoredCredential], rp_id: &str) -> usize
-    ensures { result ≡ count_by (λ c. is_resident_for rp_id.now (credential_view c)) credentials.now }
+    ensures { result ≡ count_by (λ c. is_resident_for rp_id.now (credential_source_view c)) credentials.now }
 {
     credentials
         .iter()
@@ -122,7 +161,7 @@ fn resident_ids(
     credentials: &[StoredCredential],
     rp_id: &str,
 ) -> Result<Vec<[u8; 32]>, AllocError>
-    ensures { IfOk result (λ v. v.items ≡ map (λ c. c.id) (filter (λ c. is_resident_for rp_id.now (credential_view c)) credentials.now)) }
+    ensures { IfOk result (λ v. v.items ≡ map (λ c. c.id) (filter (λ c. is_resident_for rp_id.now (credential_source_view c)) credentials.now)) }
 {
     let count = count_residents(credentials, rp_id);
     let mut ids = Vec::with_capacity(alloc, count)?;
@@ -140,26 +179,13 @@ fn residents(
     credentials: &[StoredCredential],
     rp_id: &str,
 ) -> Result<Option<Candidates>, AllocError>
-    ensures { IfOk result (λ o. candidates_view o ≡ resident_ids rp_id.now (credentials_view credentials.now)) }
+    ensures { IfOk result (λ o. candidates_view o ≡ resident_ids rp_id.now (credential_sources_view credentials.now)) }
 {
     let mut later = resident_ids(alloc, credentials, rp_id)?;
     match later.pop() {
         Some(first) => Ok(Some(Candidates { first, later })),
         None => Ok(None),
     }
-}
-
-/// The first of the descriptors that is of a credential stored for the relying party.
-fn first_stored<'a, 'b>(
-    credentials: &[StoredCredential],
-    rp_id: &str,
-    descriptors: &'a [DescriptorView<'b>],
-) -> Option<&'a DescriptorView<'b>>
-    ensures { option_map (λ d. d.now) result ≡ list.find (λ d. is_stored_for rp_id.now (credentials_view credentials.now) (lent_descriptor_view d)) descriptors.entry.now }
-{
-    descriptors
-        .iter()
-        .find(|d| is_stored_for(credentials, rp_id, d.kind, d.id))
 }
 
 /// The credential of the first of the descriptors that is of one stored for the relying party.
@@ -169,14 +195,17 @@ fn listed(
     rp_id: &str,
     descriptors: &[DescriptorView<'_>],
 ) -> Option<Candidates>
-    ensures { candidates_view result ≡ candidates (credentials_view credentials.now) rp_id.now (Some (map lent_descriptor_view descriptors.now)) }
+    ensures { candidates_view result ≡ candidates (credential_sources_view credentials.now) rp_id.now (Some (map lent_descriptor_view descriptors.now)) }
 {
-    let descriptor = first_stored(credentials, rp_id, descriptors)?;
-    let credential = find(credentials, descriptor.id)?;
-    Some(Candidates {
-        first: credential.id,
-        later: Vec::new(alloc),
-    })
+    for descriptor in descriptors {
+        if let Some(credential) = stored_for(credentials, rp_id, descriptor.kind, descriptor.id) {
+            return Some(Candidates {
+                first: credential.id,
+                later: Vec::new(alloc),
+            });
+        }
+    }
+    None
 }
 
 /// Who may answer a getAssertion: with an allow list its first descriptor that is of a credential stored for the
@@ -187,7 +216,8 @@ pub(crate) fn candidates_for(
     rp_id: &str,
     allow_list: &Option<Vec<DescriptorView<'_>>>,
 ) -> Result<Option<Candidates>, AllocError>
-    ensures { IfOk result (λ o. candidates_view o ≡ candidates (credentials_view credentials.now) rp_id.now (option_map (λ v. map lent_descriptor_view v.items) allow_list.now)) }
+    ensures { IfOk result (λ o. candidates_view o ≡ candidates (credential_sources_view credentials.now) rp_id.now
+        (option_map (λ v. map lent_descriptor_view v.items) allow_list.now)) }
 {
     match allow_list {
         Some(descriptors) => Ok(listed(alloc, credentials, rp_id, descriptors)),
@@ -201,7 +231,7 @@ pub(crate) fn resident_place(
     rp_id: &str,
     user: &[u8],
 ) -> Option<usize>
-    ensures { result ≡ position (λ c. is_resident_of rp_id.now user.now (credential_view c)) credentials.now }
+    ensures { result ≡ position (λ c. is_resident_of rp_id.now user.now (credential_source_view c)) credentials.now }
 {
     credentials
         .iter()
@@ -214,10 +244,8 @@ pub(crate) fn store(
     credential: StoredCredential,
     overwritten: Option<usize>,
 ) -> Result<(), AllocError>
-    requires { MatchOption overwritten Unit (λ i. i < length credentials.old.items) }
-    ensures ok { OnOk result (MatchOption overwritten
-        (credentials.new.items ≡ credentials.old.items ++ credential ∷ [])
-        (λ i. credentials.new.items ≡ remove credentials.old.items i ++ credential ∷ [])) }
+    requires { IfSome overwritten (λ i. i < length credentials.old.items) }
+    ensures ok { OnOk result (credentials.new.items ≡ without credentials.old.items overwritten ++ credential ∷ []) }
     ensures err { OnErr result (credentials.new.items ≡ credentials.old.items) }
 {
     credentials.push(credential)?;

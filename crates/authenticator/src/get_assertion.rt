@@ -1,25 +1,23 @@
 //! authenticatorGetAssertion (CTAP 2.1, section 6.2) and authenticatorGetNextAssertion (section 6.3).
 
-ghost use Rattle.std.specs.Prelude.{◌≡◌, ◌<◌, ◌≤◌, ◌∷◌, IfOk, IfSome, MatchOption, OnErr, length, option_map, reverse, true};
-ghost use Rattle.first_line.specs.Lines.{first_true};
-ghost use Rattle.ctapmsg.specs.RequestView.{lent_get_assertion_view};
+ghost use Rattle.std.specs.Prelude.{◌≡◌, ◌<◌, ◌≤◌, ◌∷◌, IfOk, IfSome, List, MatchOption, OnErr, length, option_map, reverse, true, ℕ};
+ghost use Rattle.ctap_requests.specs.RequestView.{assertion_options_view, lent_get_assertion_view};
 ghost use Rattle.authenticator.specs.Credentials.{credential_of, with_sign_count};
-ghost use Rattle.authenticator.specs.Orders.{candidates, is_at_end, remembered_on};
-ghost use Rattle.authenticator.specs.Private.{AssertionHappens, FirstHappens, IsCount, NextHappens, consent_order};
+ghost use Rattle.authenticator.specs.Orders.{assertion_flags, candidates, is_at_end, remembered_on};
+ghost use Rattle.authenticator.specs.Private.{AssertionHappens, FirstHappens, IsCount, IsGranted, NextHappens, StandsAt};
 ghost use Rattle.authenticator.specs.State.{Remembered};
 ghost use Rattle.authenticator.specs.Steps.{asked_by, number_with, remembering};
-ghost use Rattle.authenticator.specs.Views.{asked_view, credential_view, credentials_view, candidates_view, remembered_view};
+ghost use Rattle.authenticator.specs.Views.{asked_view, credential_source_view, credential_sources_view, candidates_view, remembered_view};
 
 use crate::assertion::assertion;
 use crate::authenticator::Authenticator;
 use crate::consent::Consent;
-use crate::credential::StoredCredential;
-use crate::credentials::{candidates_for, find, set_sign_count};
+use crate::credentials::{PlacedCredential, candidates_for, placed, set_sign_count};
 use crate::options::{assertion_options, is_denied, is_false, is_true, is_unmet};
 use crate::remembered::{AskedAssertion, Candidates, RememberedAssertion, remember};
 use cose::Signer;
-use ctapmsg::GetAssertionView;
-use ctapmsg::status::{INVALID_OPTION, NO_CREDENTIALS, NOT_ALLOWED, OPERATION_DENIED, OTHER};
+use ctap_requests::{AssertionOptions, GetAssertionView};
+use ctap_status::status::{INVALID_OPTION, NO_CREDENTIALS, NOT_ALLOWED, OPERATION_DENIED, OTHER};
 use std::alloc::{AllocError, Global};
 
 /// What a getAssertion asks.
@@ -27,11 +25,12 @@ fn asked_by(
     alloc: Global,
     channel: u32,
     request: &GetAssertionView<'_>,
+    options: AssertionOptions,
     consent: Consent,
 ) -> Result<AskedAssertion, AllocError>
+    requires { assertion_options_view options ≡ assertion_flags (lent_get_assertion_view request.now).options }
     ensures { IfOk result (λ asked. asked_view asked ≡ asked_by channel (lent_get_assertion_view request.now) consent) }
 {
-    let options = assertion_options(request.options);
     Ok(AskedAssertion {
         channel,
         client_data_hash: Vec::from_slice(alloc, request.client_data_hash)?,
@@ -63,22 +62,16 @@ impl Authenticator {
         }
     }
 
-    /// The credential of an id.
-    fn stored(&self, id: &[u8]) -> Option<&StoredCredential>
-        ensures { option_map (λ c. credential_view c.now) result ≡ credential_of id.now self.now.credentials }
-    {
-        find(&self.credentials, id)
-    }
-
-    /// The credential of an id, if its counter can grow.
-    fn countable(&self, id: &[u8]) -> Option<&StoredCredential>
+    /// The credential of an id and where it stands, if its counter can grow.
+    fn countable(&self, id: &[u8]) -> Option<PlacedCredential<'_>>
         ensures { MatchOption result
             (is_at_end (credential_of id.now self.now.credentials) ≡ true)
-            (λ c. (credential_of id.now self.now.credentials ≡ Some (credential_view c.now)) × (c.now.sign_count < 4294967295)) }
+            (λ p. (credential_of id.now self.now.credentials ≡ Some (credential_source_view p.credential.now)) × (p.credential.now.sign_count < 4294967295)
+            × StandsAt id.now self.now.credentials p.place) }
     {
-        let credential = self.stored(id)?;
-        if credential.sign_count < u32::MAX {
-            Some(credential)
+        let found = placed(&self.credentials, id)?;
+        if found.credential.sign_count < u32::MAX {
+            Some(found)
         } else {
             None
         }
@@ -90,30 +83,37 @@ impl Authenticator {
         alloc: Global,
         request: &GetAssertionView<'_>,
     ) -> Result<Option<Candidates>, AllocError>
-        ensures { IfOk result (λ o. candidates_view o ≡ candidates self.now.credentials (lent_get_assertion_view request.now).rp_id (lent_get_assertion_view request.now).allow_list) }
+        ensures { IfOk result (λ o. candidates_view o ≡ candidates self.now.credentials (lent_get_assertion_view request.now).rp_id
+            (lent_get_assertion_view request.now).allow_list) }
     {
         candidates_for(alloc, &self.credentials, request.rp_id, &request.allow_list)
     }
 
-    /// The status by which a getAssertion is refused for its options or for want of consent.
-    fn consent_refusal(&self, request: &GetAssertionView<'_>, consent: Consent) -> Option<u8>
-        ensures { result ≡ first_true (consent_order self.now (lent_get_assertion_view request.now) consent) }
+    /// The options of a getAssertion, or the status by which it is refused for them or for want of consent.
+    fn options_granted(
+        &self,
+        request: &GetAssertionView<'_>,
+        consent: Consent,
+    ) -> Result<AssertionOptions, u8>
+        ensures { IsGranted self.now (lent_get_assertion_view request.now) consent result }
     {
         let options = assertion_options(request.options);
         if is_unmet(options.uv, self.uv) {
-            return Some(INVALID_OPTION);
+            return Err(INVALID_OPTION);
         }
         if is_denied(!is_false(options.up), options.uv, consent) {
-            return Some(OPERATION_DENIED);
+            return Err(OPERATION_DENIED);
         }
-        None
+        Ok(options)
     }
 
-    /// Stores the counter of a credential that has answered, and what is remembered from now on.
-    fn settle(&mut self, id: &[u8], sign_count: u32, remembered: Option<RememberedAssertion>)
-        ensures { self.new ≡ record self.old { credentials = with_sign_count id.now sign_count self.old.credentials; remembered = option_map remembered_view remembered } }
+    /// Stores the counter of the credential at a place, which has answered, and what is remembered from now on.
+    fn settle(&mut self, place: usize, sign_count: u32, remembered: Option<RememberedAssertion>)
+        requires { place < length self.old.credentials }
+        ensures { (id : List ℕ) → StandsAt id self.old.credentials place → self.new ≡ record self.old
+            { credentials = with_sign_count id sign_count self.old.credentials; remembered = option_map remembered_view remembered } }
     {
-        set_sign_count(&mut self.credentials, id, sign_count);
+        set_sign_count(&mut self.credentials, place, sign_count);
         self.remembered = remembered;
     }
 
@@ -124,19 +124,20 @@ impl Authenticator {
         asked: AskedAssertion,
         candidates: Candidates,
     ) -> Result<Vec<u8>, AllocError>
-        ensures done { IfOk result (λ reply. FirstHappens (S.valid scheme.now) (S.public_of scheme.now) self.old (candidates_view (Some candidates)) (asked_view asked) reply.items self.new) }
+        ensures done { IfOk result (λ reply. FirstHappens (S.valid scheme.now) (S.public_of scheme.now) self.old (candidates_view (Some candidates))
+            (asked_view asked) reply.items self.new) }
         ensures size { IfOk result (λ reply. length reply.items ≤ 7609) }
         ensures err { OnErr result (self.new ≡ self.old) }
     {
         let alloc = self.allocator();
-        let Some(credential) = self.countable(&candidates.first) else {
+        let Some(found) = self.countable(&candidates.first) else {
             return self.refuse(OTHER);
         };
         let number = number_with(&candidates.later);
-        let sign_count = credential.sign_count + 1;
-        let reply = assertion(alloc, scheme, credential, &asked, number)?;
-        let Candidates { first, later } = candidates;
-        self.settle(&first, sign_count, remember(asked, later));
+        let place = found.place;
+        let sign_count = found.credential.sign_count + 1;
+        let reply = assertion(alloc, scheme, found.credential, &asked, number)?;
+        self.settle(place, sign_count, remember(asked, candidates.later));
         Ok(reply)
     }
 
@@ -148,30 +149,33 @@ impl Authenticator {
         request: &GetAssertionView<'_>,
         consent: Consent,
     ) -> Result<Vec<u8>, AllocError>
-        ensures done { IfOk result (λ reply. AssertionHappens (S.valid scheme.now) (S.public_of scheme.now) self.old channel (lent_get_assertion_view request.now) consent reply.items self.new) }
+        ensures done { IfOk result (λ reply. AssertionHappens (S.valid scheme.now) (S.public_of scheme.now) self.old channel
+            (lent_get_assertion_view request.now) consent reply.items self.new) }
         ensures size { IfOk result (λ reply. length reply.items ≤ 7609) }
         ensures err { OnErr result (self.new ≡ self.old) }
     {
-        if let Some(status) = self.consent_refusal(request, consent) {
-            return self.refuse(status);
-        }
+        let options = match self.options_granted(request, consent) {
+            Ok(options) => options,
+            Err(status) => return self.refuse(status),
+        };
         let alloc = self.allocator();
         let found = self.candidates(alloc, request)?;
         let Some(candidates) = found else {
             return self.refuse(NO_CREDENTIALS);
         };
-        let asked = asked_by(alloc, channel, request, consent)?;
+        let asked = asked_by(alloc, channel, request, options, consent)?;
         self.answer_first(scheme, asked, candidates)
     }
 
-    /// Stores the counter of the next candidate, which has answered, and remembers the later ones.
-    fn advance(&mut self, sign_count: u32)
-        ensures { (r : Remembered) → self.old.remembered ≡ Some r
+    /// Stores the counter of the next candidate, which stands at a place and has answered, and remembers the later ones.
+    fn advance(&mut self, place: usize, sign_count: u32)
+        requires { place < length self.old.credentials }
+        ensures { (r : Remembered) → self.old.remembered ≡ Some r → StandsAt r.next self.old.credentials place
             → self.new ≡ record self.old { credentials = with_sign_count r.next sign_count self.old.credentials; remembered = remembering r.asked r.later } }
     {
         if let Some(remembered) = self.remembered.take() {
-            let Candidates { first, later } = remembered.candidates;
-            self.settle(&first, sign_count, remember(remembered.asked, later));
+            let later = remembered.candidates.later;
+            self.settle(place, sign_count, remember(remembered.asked, later));
         }
     }
 
@@ -189,12 +193,13 @@ impl Authenticator {
         let Some(remembered) = self.remembered_on(channel) else {
             return self.refuse(NOT_ALLOWED);
         };
-        let Some(credential) = self.countable(&remembered.candidates.first) else {
+        let Some(found) = self.countable(&remembered.candidates.first) else {
             return self.refuse(OTHER);
         };
-        let sign_count = credential.sign_count + 1;
-        let reply = assertion(alloc, scheme, credential, &remembered.asked, None)?;
-        self.advance(sign_count);
+        let place = found.place;
+        let sign_count = found.credential.sign_count + 1;
+        let reply = assertion(alloc, scheme, found.credential, &remembered.asked, None)?;
+        self.advance(place, sign_count);
         Ok(reply)
     }
 }

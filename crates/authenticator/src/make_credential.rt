@@ -1,12 +1,12 @@
 //! authenticatorMakeCredential (CTAP 2.1, section 6.1).
 
-ghost use Rattle.std.specs.Prelude.{◌≡◌, ◌<◌, ◌≤◌, ◌++◌, ◌∷◌, ◌||◌, [], IfOk, MatchOption, OnErr, OnOk, ℤ, length, map, nat_le, option_map, remove};
-ghost use Rattle.ctapmsg.specs.RequestView.{creation_view, parameters_view};
+ghost use Rattle.std.specs.Prelude.{◌≡◌, ◌<◌, ◌≤◌, ◌++◌, ◌∷◌, ◌||◌, [], IfOk, IfSome, OnErr, OnOk, ℤ, length, map, nat_le, option_map};
+ghost use Rattle.ctap_requests.specs.RequestView.{creation_view, parameters_view};
 ghost use Rattle.authenticator.specs.Orders.{creation_flags, first_supported, is_false, is_true, kept, supported, supported_by};
-ghost use Rattle.authenticator.specs.Private.{CreationHappens, IsChoice, IsUser};
+ghost use Rattle.authenticator.specs.Private.{CreationHappens, IsChoice, IsUser, Overwrites, asks_resident, without};
 ghost use Rattle.authenticator.specs.State.{forgotten};
 ghost use Rattle.authenticator.specs.Steps.{new_credential};
-ghost use Rattle.authenticator.specs.Views.{credential_view, credentials_view};
+ghost use Rattle.authenticator.specs.Views.{credential_source_view, credential_sources_view};
 
 use crate::authenticator::Authenticator;
 use crate::consent::{Consent, Words};
@@ -15,11 +15,12 @@ use crate::credentials::{find, is_excluded, is_public_key, resident_place, store
 use crate::options::{creation_options, is_denied, is_false, is_true, is_unmet};
 use crate::reply::written;
 use cose::{Alg, Signer};
-use ctapmsg::status::{
+use ctap_replies::Reply;
+use ctap_requests::{MakeCredential, Parameters, RelyingParty, User};
+use ctap_status::status::{
     CREDENTIAL_EXCLUDED, INVALID_OPTION, KEY_STORE_FULL, OPERATION_DENIED, OTHER,
     UNSUPPORTED_ALGORITHM,
 };
-use ctapmsg::{MakeCredential, Parameters, RelyingParty, Reply, User};
 use std::alloc::AllocError;
 
 /// The most credentials of one authenticator.
@@ -61,24 +62,41 @@ fn first_supported(list: &[Parameters]) -> Option<Alg>
     None
 }
 
+/// What is made for a makeCredential.
+#[derive(Clone, Copy, Drop)]
+pub(crate) struct Choice {
+    /// The algorithm of the new credential.
+    pub alg: Alg,
+    /// Whether the user is verified.
+    pub uv: bool,
+    /// Whether the new credential is to be resident.
+    pub resident: bool,
+    /// Where the credential stands that it overwrites.
+    pub overwritten: Option<usize>,
+}
+
 /// Where the credential stands that the new one takes the place of: a resident one of the same relying party and
 /// user, where the new one is to be resident.
-fn overwritten(credentials: &[StoredCredential], request: &MakeCredential) -> Option<usize>
-    ensures { MatchOption result
-        (kept (credentials_view credentials.now) (creation_view request.now) ≡ credentials_view credentials.now)
-        (λ i. (i < length credentials.now) × (kept (credentials_view credentials.now) (creation_view request.now) ≡ credentials_view (remove credentials.now i))) }
+fn overwritten(
+    credentials: &[StoredCredential],
+    request: &MakeCredential,
+    resident: bool,
+) -> Option<usize>
+    requires { resident ≡ asks_resident (creation_view request.now) }
+    ensures { Overwrites (credential_sources_view credentials.now) (creation_view request.now) result }
 {
-    if !is_true(creation_options(request.options).rk) {
+    if !resident {
         return None;
     }
     resident_place(credentials, request.rp.id.as_str(), &request.user.id)
 }
 
 /// Whether no room is left for another credential.
-fn is_full(credentials: &[StoredCredential], request: &MakeCredential) -> bool
-    ensures { result ≡ nat_le 256 (length (kept (credentials_view credentials.now) (creation_view request.now))) }
+fn is_full(credentials: &[StoredCredential], overwritten: Option<usize>) -> bool
+    requires { IfSome overwritten (λ i. i < length credentials.now) }
+    ensures { result ≡ nat_le 256 (length (without credentials.now overwritten)) }
 {
-    match overwritten(credentials, request) {
+    match overwritten {
         Some(_) => MAX_CREDENTIALS < credentials.len(),
         None => MAX_CREDENTIALS <= credentials.len(),
     }
@@ -88,20 +106,17 @@ fn is_full(credentials: &[StoredCredential], request: &MakeCredential) -> bool
 fn put(
     credentials: &mut Vec<StoredCredential>,
     request: MakeCredential,
-    alg: Alg,
+    choice: Choice,
     words: &Words,
 ) -> Result<(), AllocError>
-    requires { IsUser request.user.id.items }
-    ensures ok { OnOk result (credentials_view credentials.new.items ≡ kept (credentials_view credentials.old.items) (creation_view request) ++ new_credential (creation_view request) alg words.now ∷ []) }
+    requires user { IsUser request.user.id.items }
+    requires resident { choice.resident ≡ asks_resident (creation_view request) }
+    requires overwritten { Overwrites (credential_sources_view credentials.old.items) (creation_view request) choice.overwritten }
+    ensures ok { OnOk result (credential_sources_view credentials.new.items ≡ kept (credential_sources_view credentials.old.items) (creation_view request)
+        ++ new_credential (creation_view request) choice.alg words.now ∷ []) }
     ensures err { OnErr result (credentials.new.items ≡ credentials.old.items) }
 {
-    let overwritten = overwritten(credentials.as_slice(), &request);
-    let MakeCredential {
-        rp,
-        user,
-        options,
-        ..
-    } = request;
+    let MakeCredential { rp, user, .. } = request;
     let RelyingParty { id: rp_id, .. } = rp;
     let User { id: user, .. } = user;
     let credential = StoredCredential {
@@ -109,21 +124,21 @@ fn put(
         rp_id,
         user,
         secret: words.secret,
-        alg,
-        resident: is_true(creation_options(options).rk),
+        alg: choice.alg,
+        resident: choice.resident,
         sign_count: 0,
     };
-    store(credentials, credential, overwritten)
+    store(credentials, credential, choice.overwritten)
 }
 
 impl Authenticator {
-    /// The algorithm of the new credential, or the status of the first line of the order that applies.
+    /// What is made for a makeCredential, or the status of the first line of the order that applies.
     fn creation_choice(
         &self,
         request: &MakeCredential,
         consent: Consent,
         words: &Words,
-    ) -> Result<Alg, u8>
+    ) -> Result<Choice, u8>
         ensures { IsChoice self.now (creation_view request.now) consent words.now result }
     {
         let options = creation_options(request.options);
@@ -146,19 +161,34 @@ impl Authenticator {
         if find(&self.credentials, &words.id).is_some() {
             return Err(OTHER);
         }
-        if is_full(&self.credentials, request) {
+        let resident = is_true(options.rk);
+        let overwritten = overwritten(&self.credentials, request, resident);
+        if is_full(&self.credentials, overwritten) {
             return Err(KEY_STORE_FULL);
         }
-        Ok(alg)
+        Ok(Choice {
+            alg,
+            uv: is_true(options.uv),
+            resident,
+            overwritten,
+        })
     }
 
     /// Stores the new credential; what was remembered is forgotten.
-    fn add(&mut self, request: MakeCredential, alg: Alg, words: &Words) -> Result<(), AllocError>
-        requires { IsUser request.user.id.items }
-        ensures ok { OnOk result (self.new ≡ record (forgotten self.old) { credentials = kept self.old.credentials (creation_view request) ++ new_credential (creation_view request) alg words.now ∷ [] }) }
+    fn add(
+        &mut self,
+        request: MakeCredential,
+        choice: Choice,
+        words: &Words,
+    ) -> Result<(), AllocError>
+        requires user { IsUser request.user.id.items }
+        requires resident { choice.resident ≡ asks_resident (creation_view request) }
+        requires overwritten { Overwrites self.old.credentials (creation_view request) choice.overwritten }
+        ensures ok { OnOk result (self.new ≡ record (forgotten self.old)
+            { credentials = kept self.old.credentials (creation_view request) ++ new_credential (creation_view request) choice.alg words.now ∷ [] }) }
         ensures err { OnErr result (self.new ≡ self.old) }
     {
-        put(&mut self.credentials, request, alg, words)?;
+        put(&mut self.credentials, request, choice, words)?;
         self.remembered = None;
         Ok(())
     }
@@ -172,18 +202,19 @@ impl Authenticator {
         words: Words,
     ) -> Result<Vec<u8>, AllocError>
         requires { IsUser request.user.id.items }
-        ensures done { IfOk result (λ reply. CreationHappens (S.valid scheme.now) (S.public_of scheme.now) self.old (creation_view request) consent words reply.items self.new) }
+        ensures done { IfOk result (λ reply. CreationHappens (S.valid scheme.now) (S.public_of scheme.now) self.old
+            (creation_view request) consent words reply.items self.new) }
         ensures size { IfOk result (λ reply. length reply.items ≤ 7609) }
         ensures err { OnErr result (self.new ≡ self.old) }
     {
         let alloc = self.allocator();
-        let alg = match self.creation_choice(&request, consent, &words) {
-            Ok(alg) => alg,
+        let choice = match self.creation_choice(&request, consent, &words) {
+            Ok(choice) => choice,
             Err(status) => return self.refuse(status),
         };
-        let shown = self.creation_reply(alloc, scheme, &request, alg, &words)?;
+        let shown = self.creation_reply(alloc, scheme, &request, choice, &words)?;
         let reply = written(alloc, Reply::MakeCredential(shown))?;
-        self.add(request, alg, &words)?;
+        self.add(request, choice, &words)?;
         Ok(reply)
     }
 }

@@ -1,11 +1,11 @@
 //! The options of requests, and the consent that they ask for.
 
 ghost use Rattle.std.specs.Prelude.{◌≡◌, not, ◌&&◌, ◌||◌, option_map};
-ghost use Rattle.ctapmsg.specs.RequestView.{assertion_options_view, creation_options_view};
+ghost use Rattle.ctap_requests.specs.RequestView.{assertion_options_view, creation_options_view};
 ghost use Rattle.authenticator.specs.Orders.{assertion_flags, creation_flags, is_false, is_true};
 
 use crate::consent::Consent;
-use ctapmsg::{AssertionOptions, CreationOptions};
+use ctap_requests::{AssertionOptions, CreationOptions};
 
 /// Whether an option is there and true.
 pub(crate) fn is_true(option: Option<bool>) -> bool

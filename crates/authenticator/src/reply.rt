@@ -2,12 +2,13 @@
 
 ghost use Rattle.std.specs.Prelude.{◌≡◌, ◌∷◌, ◌≤◌, [], IfOk, IsErrOf, None, Ok, length};
 ghost use Rattle.ctap_status.specs.declared.error.Error.TheVariants as errors;
-ghost use Rattle.ctapmsg.specs.Replies.{ReplyOf, assertion_reply, info_reply, next_reply};
-ghost use Rattle.ctapmsg.specs.ReplyView.{info_view, lent_assertion_view, reply_view};
+ghost use Rattle.ctap_replies.specs.Replies.{ReplyOf, assertion_reply, info_reply, next_reply};
+ghost use Rattle.ctap_replies.specs.ReplyView.{info_view, lent_assertion_view, reply_view};
 ghost use Rattle.authenticator.specs.Private.{IsMessage};
 ghost use Rattle.authenticator.specs.Steps.{info_of};
 
-use ctapmsg::{AssertionView, Error, InfoReply, Reply, write_assertion, write_reply};
+use ctap_replies::{AssertionView, InfoReply, Reply, write_assertion, write_reply};
+use ctap_status::Error;
 use std::alloc::{AllocError, Global};
 
 /// The bytes of a reply that has some.
@@ -49,7 +50,7 @@ pub(crate) fn written_assertion(
 pub(crate) fn status_alone(alloc: Global, status: u8) -> Result<Vec<u8>, AllocError>
     ensures { IfOk result (λ bytes. bytes.items ≡ status ∷ []) }
 {
-    let mut bytes = Vec::new(alloc);
+    let mut bytes = Vec::with_capacity(alloc, 1)?;
     bytes.push(status)?;
     Ok(bytes)
 }
@@ -58,9 +59,9 @@ pub(crate) fn status_alone(alloc: Global, status: u8) -> Result<Vec<u8>, AllocEr
 fn info(alloc: Global, aaguid: &[u8; 16], uv: bool) -> Result<InfoReply, AllocError>
     ensures { IfOk result (λ r. info_view r ≡ info_of aaguid.now uv) }
 {
-    let mut versions = Vec::new(alloc);
+    let mut versions = Vec::with_capacity(alloc, 1)?;
     versions.push(String::from_str(alloc, "FIDO_2_0")?)?;
-    let mut options = Vec::new(alloc);
+    let mut options = Vec::with_capacity(alloc, 4)?;
     options.push((String::from_str(alloc, "rk")?, true))?;
     options.push((String::from_str(alloc, "up")?, true))?;
     options.push((String::from_str(alloc, "uv")?, uv))?;

@@ -1,5 +1,6 @@
 -- A value that has no fault against a table is read by it.
-use Rattle.std.proofs.Common.{◌≡◌, ℕ, zero, suc, Bool, true, false, cond, List, [], ◌∷◌, Option, Some, None, refl, sym, ap, subst, ◌∙◌, pos, negsuc, nat_le, nat_lt}
+use Rattle.std.proofs.Common.{◌≡◌, ℕ, zero, suc, Bool, true, false, cond, List, [], ◌∷◌, Option, Some, None, refl, sym, ap, subst, ◌∙◌, pos, negsuc}
+use Rattle.std.proofs.Common.{nat_le, nat_lt}
 use Rattle.ccbor.specs.Item as of
 use Rattle.ccbor.specs.Item.{Item, Items, no_items, item, Pairs, no_pairs, pair}
 use Rattle.ccbor.specs.Canon.{before, spelling, Fits, ItemsFit, PairsFit}
@@ -9,7 +10,9 @@ use Rattle.ccbor.proofs.AccessLemmas.{same_key}
 use Rattle.ccbor.proofs.KeyOrder.{before_trans}
 use Rattle.cbor_map.specs.declared.fault.Fault.{Fault}
 use Rattle.cbor_map.specs.declared.fault.Fault.TheVariants as faults
-use Rattle.cbor_map.specs.Table.{Holds, a_number, some_bytes, a_text, a_truth, any_map, that_text, unsigned, truths, list_of, record_of, not_empty, sized, Members, no_more, listed, fails, size_of, any_item, is_listed, all_keys, all_truths, has_fault, in_members, Clean}
+use Rattle.cbor_map.specs.Table.{Holds, a_number, some_bytes, a_text, a_truth, any_map, that_text, unsigned, truths, list_of, record_of, not_empty}
+use Rattle.cbor_map.specs.Table.{sized, Members, no_more, listed, fails, size_of, any_item, is_listed, all_keys, all_truths, has_fault, in_members}
+use Rattle.cbor_map.specs.Table.{Clean}
 use Rattle.cbor_map.specs.Content.{Content, Contents, optional}
 use Rattle.cbor_map.specs.Reading.{checked, is_within, each_truth, each_in, read_in, members_in}
 use Rattle.cbor_map.proofs.Tests.{or_none, holds}
@@ -26,7 +29,8 @@ truths_there no_pairs e = ([], refl)
 truths_there (pair (of.text k) (of.boolean b) ps) e = let rest = truths_there ps e in ((k, b) ∷ rest.0, rw rest.1 refl)
 truths_there (pair _ _ ps) e = absurd cc
 
-each_complete : (h : Holds) → IsComplete h → (xs : Items) (d : ℕ) → ItemsFit d xs → ((f : Fault) → any_item (has_fault f h) xs ≡ false) → (cs : List (Content h)) × (each_in (read_in h) xs ≡ Some cs)
+each_complete : (h : Holds) → IsComplete h → (xs : Items) (d : ℕ) → ItemsFit d xs → ((f : Fault) → any_item (has_fault f h) xs ≡ false)
+    → (cs : List (Content h)) × (each_in (read_in h) xs ≡ Some cs)
 each_complete h complete no_items d fits clean = ([], refl)
 each_complete h complete (item x xs) d fits clean =
     let first = complete x d fits.0 (λ f. (or_none (has_fault f h x) (any_item (has_fault f h) xs) (clean f)).0) in
@@ -37,15 +41,18 @@ each_complete h complete (item x xs) d fits clean =
 
 -- the members that are there are read in the table's order
 abbrev pub AreComplete : Members → Type 0
-AreComplete ms = (ps : Pairs) (d : ℕ) → ((k v : Item) → value_at k ps ≡ Some v → Fits d v) → ((f : Fault) → in_members f ms (of.map ps) ≡ false) → (c : Contents ms) × (members_in ms (in_order ms ps) ≡ Some c)
+AreComplete ms = (ps : Pairs) (d : ℕ) → ((k v : Item) → value_at k ps ≡ Some v → Fits d v) → ((f : Fault) → in_members f ms (of.map ps) ≡ false)
+    → (c : Contents ms) × (members_in ms (in_order ms ps) ≡ Some c)
 
 -- a key before all of a table's is at the front of no map of its members
-no_front : (k : Item) (ms : Members) (ps : Pairs) (last : List ℕ) → ((x : List ℕ) → before last x ≡ true → before (spelling k) x ≡ true) → IsOrderedFrom last ms → split_key k (in_order ms ps) ≡ None
+no_front : (k : Item) (ms : Members) (ps : Pairs) (last : List ℕ) → ((x : List ℕ) → before last x ≡ true → before (spelling k) x ≡ true) → IsOrderedFrom last ms
+    → split_key k (in_order ms ps) ≡ None
 no_front k no_more ps last up ordered = refl
-no_front k (listed l r h ms) ps last up ordered = go (value_at l ps) (no_front k ms ps (spelling l) (λ x b. before_trans (spelling k) (spelling l) x (up (spelling l) ordered.0) b) ordered.2) where
-  go : (o : Option Item) → split_key k (in_order ms ps) ≡ None → split_key k (optional l o (in_order ms ps)) ≡ None
-  go (Some v) inner = rw (differ_back k l (up (spelling l) ordered.0)) refl
-  go None inner = inner
+no_front k (listed l r h ms) ps last up ordered =
+    go (value_at l ps) (no_front k ms ps (spelling l) (λ x b. before_trans (spelling k) (spelling l) x (up (spelling l) ordered.0) b) ordered.2) where
+      go : (o : Option Item) → split_key k (in_order ms ps) ≡ None → split_key k (optional l o (in_order ms ps)) ≡ None
+      go (Some v) inner = rw (differ_back k l (up (spelling l) ordered.0)) refl
+      go None inner = inner
 
 -- a value at a key: the key is the same as itself
 found_same : (k : Item) (ps : Pairs) (v : Item) → value_at k ps ≡ Some v → is_same_key k k ≡ true
@@ -58,7 +65,8 @@ found_same k (pair l w ps) v e =
 
 complete_required : (k : Item) (h : Holds) (ms : Members) → IsComplete h → AreComplete ms → AreComplete (listed k true h ms)
 complete_required k h ms complete others ps d fits clean = go (value_at k ps) refl where
-  go : (o : Option Item) → value_at k ps ≡ o → (c : Contents (listed k true h ms)) × (members_in (listed k true h ms) (in_order (listed k true h ms) ps) ≡ Some c)
+  go : (o : Option Item) → value_at k ps ≡ o → (c : Contents (listed k true h ms))
+      × (members_in (listed k true h ms) (in_order (listed k true h ms) ps) ≡ Some c)
   go (Some v) e =
       let parts = λ (f : Fault). or_none (has_fault f h v) (in_members f ms (of.map ps)) (rw e at (clean f)) in
       let first = complete v d (fits k v e) (λ f. (parts f).0) in
@@ -68,7 +76,8 @@ complete_required k h ms complete others ps d fits clean = go (value_at k ps) re
 
 complete_optional : (k : Item) (h : Holds) (ms : Members) → IsOrderedFrom (spelling k) ms → IsComplete h → AreComplete ms → AreComplete (listed k false h ms)
 complete_optional k h ms ordered complete others ps d fits clean = go (value_at k ps) refl where
-  go : (o : Option Item) → value_at k ps ≡ o → (c : Contents (listed k false h ms)) × (members_in (listed k false h ms) (in_order (listed k false h ms) ps) ≡ Some c)
+  go : (o : Option Item) → value_at k ps ≡ o → (c : Contents (listed k false h ms))
+      × (members_in (listed k false h ms) (in_order (listed k false h ms) ps) ≡ Some c)
   go (Some v) e =
       let parts = λ (f : Fault). or_none (has_fault f h v) (in_members f ms (of.map ps)) (rw e at (clean f)) in
       let first = complete v d (fits k v e) (λ f. (parts f).0) in
@@ -133,5 +142,7 @@ mutual
 
   complete_members : (ms : Members) (last : List ℕ) → IsOrderedFrom last ms → AreComplete ms
   complete_members no_more last o ps d fits clean = (tt, refl)
-  complete_members (listed k true h ms) last o ps d fits clean = complete_required k h ms (complete h o.1) (complete_members ms (spelling k) o.2) ps d fits clean
-  complete_members (listed k false h ms) last o ps d fits clean = complete_optional k h ms o.2 (complete h o.1) (complete_members ms (spelling k) o.2) ps d fits clean
+  complete_members (listed k true h ms) last o ps d fits clean =
+      complete_required k h ms (complete h o.1) (complete_members ms (spelling k) o.2) ps d fits clean
+  complete_members (listed k false h ms) last o ps d fits clean =
+      complete_optional k h ms o.2 (complete h o.1) (complete_members ms (spelling k) o.2) ps d fits clean

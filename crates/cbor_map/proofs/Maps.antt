@@ -40,11 +40,13 @@ members_maps (listed k true h ms) ps c e =
     let m = bind_some (split_key k ps) _ c e in
     let a = bind_some (read_in h m.0.0) _ c m.2 in
     let r = bind_some (members_in ms m.0.1) _ c a.2 in
-    subst (λ (d : Contents (listed k true h ms)). AreMaps (listed k true h ms) d) (same_Some (a.0, r.0) c r.2) (is_map h m.0.0 a.0 a.1, members_maps ms m.0.1 r.0 r.1)
+    subst (λ (d : Contents (listed k true h ms)). AreMaps (listed k true h ms) d) (same_Some (a.0, r.0) c r.2)
+    (is_map h m.0.0 a.0 a.1, members_maps ms m.0.1 r.0 r.1)
 members_maps (listed k false h ms) ps c e =
     let a = bind_some (maybe (read_in h) (take_key k ps).0) _ c e in
     let r = bind_some (members_in ms (take_key k ps).1) _ c a.2 in
-    subst (λ (d : Contents (listed k false h ms)). AreMaps (listed k false h ms) d) (same_Some (a.0, r.0) c r.2) (is_map_if_there h (take_key k ps).0 a.0 a.1, members_maps ms (take_key k ps).1 r.0 r.1)
+    subst (λ (d : Contents (listed k false h ms)). AreMaps (listed k false h ms) d) (same_Some (a.0, r.0) c r.2)
+    (is_map_if_there h (take_key k ps).0 a.0 a.1, members_maps ms (take_key k ps).1 r.0 r.1)
 
 pub read_maps : (ms : Members) (x : Item) (c : Contents ms) → read_in (record_of ms) x ≡ Some c → AreMaps ms c
 read_maps ms (of.map ps) c e = members_maps ms ps c e

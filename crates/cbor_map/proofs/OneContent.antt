@@ -4,7 +4,8 @@ use Rattle.ccbor.specs.Item.{Item, Pairs, pair}
 use Rattle.ccbor.specs.Canon.{before, spelling}
 use Rattle.ccbor.specs.View.{items_of, pairs_of}
 use Rattle.ccbor.proofs.KeyOrder.{before_trans, before_itself}
-use Rattle.cbor_map.specs.Table.{Holds, a_number, some_bytes, a_text, a_truth, any_map, that_text, unsigned, truths, list_of, record_of, not_empty, sized, Members, no_more, listed}
+use Rattle.cbor_map.specs.Table.{Holds, a_number, some_bytes, a_text, a_truth, any_map, that_text, unsigned, truths, list_of, record_of, not_empty}
+use Rattle.cbor_map.specs.Table.{sized, Members, no_more, listed}
 use Rattle.cbor_map.specs.Content.{Content, Contents, truth_pair, item_of, members_item}
 use Rattle.cbor_map.proofs.Ordered.{IsOrdered, IsOrderedFrom}
 
@@ -37,11 +38,14 @@ one_each h one (p ∷ c) (q ∷ d) e =
 -- ---- records
 
 -- the first key of a table's map comes after the last one
-first_after : (ms : Members) (last : List ℕ) (c : Contents ms) (k v : Item) (ps : Pairs) → IsOrderedFrom last ms → members_item ms c ≡ pair k v ps → before last (spelling k) ≡ true
+first_after : (ms : Members) (last : List ℕ) (c : Contents ms) (k v : Item) (ps : Pairs) → IsOrderedFrom last ms → members_item ms c ≡ pair k v ps
+    → before last (spelling k) ≡ true
 first_after no_more last c k v ps ordered e = absurd cc
 first_after (listed l true h ms) last (a, c) k v ps ordered e = let same : l ≡ k = cc in ap (λ (i : Item). before last (spelling i)) (sym same) ∙ ordered.0
-first_after (listed l false h ms) last (Some a, c) k v ps ordered e = let same : l ≡ k = cc in ap (λ (i : Item). before last (spelling i)) (sym same) ∙ ordered.0
-first_after (listed l false h ms) last (None, c) k v ps ordered e = before_trans last (spelling l) (spelling k) ordered.0 (first_after ms (spelling l) c k v ps ordered.2 e)
+first_after (listed l false h ms) last (Some a, c) k v ps ordered e = let same : l ≡ k = cc in ap (λ (i : Item). before last (spelling i)) (sym same)
+    ∙ ordered.0
+first_after (listed l false h ms) last (None, c) k v ps ordered e =
+    before_trans last (spelling l) (spelling k) ordered.0 (first_after ms (spelling l) c k v ps ordered.2 e)
 
 pair_parts : (k v w : Item) (ps qs : Pairs) → pair k v ps ≡ pair k w qs → (v ≡ w) × (ps ≡ qs)
 pair_parts k v w ps qs e = (cc, cc)
@@ -56,8 +60,10 @@ one_optional k h ms ordered one others (Some a, c) (Some b, d) e =
     let parts = pair_parts k (item_of h a) (item_of h b) (members_item ms c) (members_item ms d) e in
     ap (λ (x : Content h). (Some x, c)) (one a b parts.0) ∙ ap (λ (r : Contents ms). (Some b, r)) (others c d parts.1)
 one_optional k h ms ordered one others (None, c) (None, d) e = ap (λ (r : Contents ms). (None, r)) (others c d e)
-one_optional k h ms ordered one others (None, c) (Some b, d) e = absurd (before_itself (spelling k) (first_after ms (spelling k) c k (item_of h b) (members_item ms d) ordered e))
-one_optional k h ms ordered one others (Some a, c) (None, d) e = absurd (before_itself (spelling k) (first_after ms (spelling k) d k (item_of h a) (members_item ms c) ordered (sym e)))
+one_optional k h ms ordered one others (None, c) (Some b, d) e =
+    absurd (before_itself (spelling k) (first_after ms (spelling k) c k (item_of h b) (members_item ms d) ordered e))
+one_optional k h ms ordered one others (Some a, c) (None, d) e =
+    absurd (before_itself (spelling k) (first_after ms (spelling k) d k (item_of h a) (members_item ms c) ordered (sym e)))
 
 mutual
   pub one_content : (h : Holds) → IsOrdered h → HasOne h

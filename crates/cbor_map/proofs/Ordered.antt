@@ -25,7 +25,8 @@ pub differ : (k l : Item) → before (spelling k) (spelling l) ≡ true → is_s
 differ k l b = false_from_ne_true (is_same_key k l) (λ s. before_itself (spelling k) (ap (λ (i : Item). before (spelling k) (spelling i)) (same_key k l s) ∙ b))
 
 pub differ_back : (k l : Item) → before (spelling k) (spelling l) ≡ true → is_same_key l k ≡ false
-differ_back k l b = false_from_ne_true (is_same_key l k) (λ s. before_itself (spelling k) (ap (λ (i : Item). before (spelling k) (spelling i)) (sym (same_key l k s)) ∙ b))
+differ_back k l b = false_from_ne_true (is_same_key l k)
+    (λ s. before_itself (spelling k) (ap (λ (i : Item). before (spelling k) (spelling i)) (sym (same_key l k s)) ∙ b))
 
 -- a listed key comes after the last one
 pub after_last : (ms : Members) (last : List ℕ) (l : Item) → IsOrderedFrom last ms → is_listed ms l ≡ true → before last (spelling l) ≡ true
@@ -45,7 +46,8 @@ not_there k ms (pair l v ps) ordered all =
     rw other (not_there k ms ps ordered both.1)
 
 -- what is listed is listed in a longer table
-pub listed_too : (k : Item) (r : Bool) (h : Holds) (ms : Members) (ps : Pairs) → all_keys (is_listed ms) ps ≡ true → all_keys (is_listed (listed k r h ms)) ps ≡ true
+pub listed_too : (k : Item) (r : Bool) (h : Holds) (ms : Members) (ps : Pairs) → all_keys (is_listed ms) ps ≡ true
+    → all_keys (is_listed (listed k r h ms)) ps ≡ true
 listed_too k r h ms no_pairs all = refl
 listed_too k r h ms (pair l v ps) all =
     let both = and_parts (is_listed ms l) (all_keys (is_listed ms) ps) all in

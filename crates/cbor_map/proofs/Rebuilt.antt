@@ -20,7 +20,8 @@ absent : (k : Item) (d : ℕ) (last : List ℕ) (ps : Pairs) → PairsFit d last
 absent k d last no_pairs fits never = refl
 absent k d last (pair l v ps) fits never =
     let after = fits.1 in
-    let other : is_same_key l k ≡ false = false_from_ne_true (is_same_key l k) (λ s. never (ap (λ (i : Item). before last (spelling i)) (sym (same_key l k s)) ∙ after)) in
+    let other : is_same_key l k ≡ false =
+    false_from_ne_true (is_same_key l k) (λ s. never (ap (λ (i : Item). before last (spelling i)) (sym (same_key l k s)) ∙ after)) in
     rw other (absent k d (spelling l) ps fits.4 (λ b. never (before_trans last (spelling l) (spelling k) after b)))
 
 -- a front pair before all of a table's keys isn't looked at
@@ -34,7 +35,8 @@ skip k v ps (listed l r h ms) last up ordered =
     rw (other, inner) refl
 
 -- keys after the table's first one are listed behind it
-narrowed : (k : Item) (r : Bool) (h : Holds) (ms : Members) (d : ℕ) (last : List ℕ) (ps : Pairs) → ((x : List ℕ) → before last x ≡ true → before (spelling k) x ≡ true) → PairsFit d last ps
+narrowed : (k : Item) (r : Bool) (h : Holds) (ms : Members) (d : ℕ) (last : List ℕ) (ps : Pairs)
+    → ((x : List ℕ) → before last x ≡ true → before (spelling k) x ≡ true) → PairsFit d last ps
     → all_keys (is_listed (listed k r h ms)) ps ≡ true → all_keys (is_listed ms) ps ≡ true
 narrowed k r h ms d last no_pairs up fits all = refl
 narrowed k r h ms d last (pair l v ps) up fits all =
@@ -42,9 +44,11 @@ narrowed k r h ms d last (pair l v ps) up fits all =
     let both = and_parts (is_same_key l k || is_listed ms l) (all_keys (is_listed (listed k r h ms)) ps) all in
     let other = differ_back k l after in
     let here : is_listed ms l ≡ true = rw other at both.0 in
-    and_from (is_listed ms l) (all_keys (is_listed ms) ps) here (narrowed k r h ms d (spelling l) ps (λ x b. before_trans (spelling k) (spelling l) x after b) fits.4 both.1)
+    and_from (is_listed ms l) (all_keys (is_listed ms) ps) here
+    (narrowed k r h ms d (spelling l) ps (λ x b. before_trans (spelling k) (spelling l) x after b) fits.4 both.1)
 
-pub in_order_is : (ms : Members) (d : ℕ) (last : List ℕ) (ps : Pairs) → IsOrderedFrom last ms → PairsFit d last ps → all_keys (is_listed ms) ps ≡ true → in_order ms ps ≡ ps
+pub in_order_is : (ms : Members) (d : ℕ) (last : List ℕ) (ps : Pairs) → IsOrderedFrom last ms → PairsFit d last ps → all_keys (is_listed ms) ps ≡ true
+    → in_order ms ps ≡ ps
 in_order_is no_more d last no_pairs ordered fits all = refl
 in_order_is no_more d last (pair l v ps) ordered fits all = absurd cc
 in_order_is (listed k r h ms) d last no_pairs ordered fits all = in_order_is ms d (spelling k) no_pairs ordered.2 tt refl

@@ -11,7 +11,8 @@ use Rattle.ccbor.proofs.Numbers.{bind_some}
 use Rattle.ccbor.proofs.KeyOrder.{before_trans}
 use Rattle.ccbor.proofs.AccessLemmas.{same_key, split_key_takes}
 use Rattle.cbor_map.specs.declared.fault.Fault.{Fault}
-use Rattle.cbor_map.specs.Table.{Holds, a_number, some_bytes, a_text, a_truth, any_map, that_text, unsigned, truths, list_of, record_of, not_empty, sized, Members, no_more, listed, size_of, any_item, is_listed, all_keys, all_truths, has_fault, in_members, Clean}
+use Rattle.cbor_map.specs.Table.{Holds, a_number, some_bytes, a_text, a_truth, any_map, that_text, unsigned, truths, list_of, record_of, not_empty}
+use Rattle.cbor_map.specs.Table.{sized, Members, no_more, listed, size_of, any_item, is_listed, all_keys, all_truths, has_fault, in_members, Clean}
 use Rattle.cbor_map.specs.Content.{Content, Contents, number_item, truth_pair, item_of, members_item}
 use Rattle.cbor_map.specs.Reading.{checked, is_within, each_truth, each_in, maybe, taken_from, read_in, members_in}
 use Rattle.cbor_map.proofs.Tests.{none_or}
@@ -38,21 +39,24 @@ truths_read no_pairs c e = (ap (λ (os : List (List ℕ × Bool)). pairs_of (map
 truths_read (pair (of.text k) (of.boolean b) ps) c e =
     let rest = bind_some (each_truth ps) (λ (os : List (List ℕ × Bool)). Some ((k, b) ∷ os)) c e in
     let inner = truths_read ps rest.0 rest.1 in (
-      ap (λ (qs : Pairs). pair (of.text k) (of.boolean b) qs) inner.0 ∙ ap (λ (os : List (List ℕ × Bool)). pairs_of (map truth_pair os)) (same_Some ((k, b) ∷ rest.0) c rest.2),
+      ap (λ (qs : Pairs). pair (of.text k) (of.boolean b) qs) inner.0
+          ∙ ap (λ (os : List (List ℕ × Bool)). pairs_of (map truth_pair os)) (same_Some ((k, b) ∷ rest.0) c rest.2),
       inner.1,
     )
 truths_read (pair _ _ ps) c e = absurd cc
 
 -- ---- lists and truth values
 
-each_sound : (h : Holds) → IsSound h → (xs : Items) (cs : List (Content h)) → each_in (read_in h) xs ≡ Some cs → (xs ≡ items_of (map (item_of h) cs)) × ((f : Fault) → any_item (has_fault f h) xs ≡ false)
+each_sound : (h : Holds) → IsSound h → (xs : Items) (cs : List (Content h)) → each_in (read_in h) xs ≡ Some cs → (xs ≡ items_of (map (item_of h) cs))
+    × ((f : Fault) → any_item (has_fault f h) xs ≡ false)
 each_sound h sound no_items cs e = (ap (λ (l : List (Content h)). items_of (map (item_of h) l)) (same_Some [] cs e), λ f. refl)
 each_sound h sound (item x xs) cs e =
     let a = bind_some (read_in h x) (λ a. each_in (read_in h) xs >>= λ rest. Some (a ∷ rest)) cs e in
     let r = bind_some (each_in (read_in h) xs) (λ rest. Some (a.0 ∷ rest)) cs a.2 in
     let first = sound x a.0 a.1 in
     let inner = each_sound h sound xs r.0 r.1 in (
-      ap (λ (i : Item). item i xs) first.0 ∙ ap (λ (is : Items). item (item_of h a.0) is) inner.0 ∙ ap (λ (l : List (Content h)). items_of (map (item_of h) l)) (same_Some (a.0 ∷ r.0) cs r.2),
+      ap (λ (i : Item). item i xs) first.0 ∙ ap (λ (is : Items). item (item_of h a.0) is) inner.0
+          ∙ ap (λ (l : List (Content h)). items_of (map (item_of h) l)) (same_Some (a.0 ∷ r.0) cs r.2),
       λ f. none_or (has_fault f h x) (any_item (has_fault f h) xs) (first.1 f) (inner.1 f),
     )
 
@@ -65,7 +69,8 @@ split_same k (pair l v ps) m e =
     ap (λ (i : Item). is_same_key i k) (sym (same_key l k s.0)) ∙ s.0
 
 -- a front pair before all of a table's keys has no part in it
-passes : (f : Fault) (k v : Item) (ps : Pairs) (ms : Members) (last : List ℕ) → ((x : List ℕ) → before last x ≡ true → before (spelling k) x ≡ true) → IsOrderedFrom last ms
+passes : (f : Fault) (k v : Item) (ps : Pairs) (ms : Members) (last : List ℕ) → ((x : List ℕ) → before last x ≡ true → before (spelling k) x ≡ true)
+    → IsOrderedFrom last ms
     → in_members f ms (of.map (pair k v ps)) ≡ in_members f ms (of.map ps)
 passes f k v ps no_more last up ordered = refl
 passes f k v ps (listed l r h ms) last up ordered =
@@ -75,8 +80,10 @@ passes f k v ps (listed l r h ms) last up ordered =
     rw (other, inner) refl
 
 -- a member that is there
-there : (k : Item) (r : Bool) (h : Holds) (ms : Members) → IsOrderedFrom (spelling k) ms → (ps : Pairs) (m : Item × Pairs) → split_key k ps ≡ Some m → (a : Content h) → (m.0 ≡ item_of h a) × Clean h m.0
-    → (rest : Contents ms) → AreMembers ms m.1 rest → (c : Contents (listed k r h ms)) → pair k (item_of h a) (members_item ms rest) ≡ members_item (listed k r h ms) c → AreMembers (listed k r h ms) ps c
+there : (k : Item) (r : Bool) (h : Holds) (ms : Members) → IsOrderedFrom (spelling k) ms → (ps : Pairs) (m : Item × Pairs) → split_key k ps ≡ Some m
+    → (a : Content h) → (m.0 ≡ item_of h a) × Clean h m.0
+    → (rest : Contents ms) → AreMembers ms m.1 rest → (c : Contents (listed k r h ms))
+    → pair k (item_of h a) (members_item ms rest) ≡ members_item (listed k r h ms) c → AreMembers (listed k r h ms) ps c
 there k r h ms ordered ps m s a value rest others c made =
     let is = split_key_takes k ps m s in
     let same = split_same k ps m s in
@@ -91,9 +98,11 @@ sound_required k h ms ordered sound others ps c e =
     let m = bind_some (split_key k ps) _ c e in
     let a = bind_some (read_in h m.0.0) _ c m.2 in
     let r = bind_some (members_in ms m.0.1) _ c a.2 in
-    there k true h ms ordered ps m.0 m.1 a.0 (sound m.0.0 a.0 a.1) r.0 (others m.0.1 r.0 r.1) c (ap (members_item (listed k true h ms)) (same_Some (a.0, r.0) c r.2))
+    there k true h ms ordered ps m.0 m.1 a.0 (sound m.0.0 a.0 a.1) r.0 (others m.0.1 r.0 r.1) c
+    (ap (members_item (listed k true h ms)) (same_Some (a.0, r.0) c r.2))
 
-optional_there : (k : Item) (h : Holds) (ms : Members) → IsOrderedFrom (spelling k) ms → IsSound h → AreSound ms → (ps : Pairs) (c : Contents (listed k false h ms)) (m : Item × Pairs) → split_key k ps ≡ Some m
+optional_there : (k : Item) (h : Holds) (ms : Members) → IsOrderedFrom (spelling k) ms → IsSound h → AreSound ms
+    → (ps : Pairs) (c : Contents (listed k false h ms)) (m : Item × Pairs) → split_key k ps ≡ Some m
     → (maybe (read_in h) (Some m.0) >>= λ a. members_in ms m.1 >>= λ rest. Some (a, rest)) ≡ Some c → AreMembers (listed k false h ms) ps c
 optional_there k h ms ordered sound others ps c m s e =
     let b = bind_some (maybe (read_in h) (Some m.0)) _ c e in
@@ -117,7 +126,9 @@ optional_absent k h ms ordered others ps c e =
 
 sound_optional : (k : Item) (h : Holds) (ms : Members) → IsOrderedFrom (spelling k) ms → IsSound h → AreSound ms → AreSound (listed k false h ms)
 sound_optional k h ms ordered sound others ps c e = go (split_key k ps) refl e where
-  go : (o : Option (Item × Pairs)) → split_key k ps ≡ o → (maybe (read_in h) (taken_from o ps).0 >>= λ a. members_in ms (taken_from o ps).1 >>= λ rest. Some (a, rest)) ≡ Some c → AreMembers (listed k false h ms) ps c
+  go : (o : Option (Item × Pairs)) → split_key k ps ≡ o
+      → (maybe (read_in h) (taken_from o ps).0 >>= λ a. members_in ms (taken_from o ps).1 >>= λ rest. Some (a, rest)) ≡ Some c
+      → AreMembers (listed k false h ms) ps c
   go (Some m) s g = optional_there k h ms ordered sound others ps c m s g
   go None s g = optional_absent k h ms ordered others ps c g
 

@@ -1,6 +1,6 @@
 -- What a `Holds` of the code stands for, variant by variant.
 use Rattle.std.proofs.Common.{◌≡◌, ℕ, List, Bool, Bor, rules}
-use Rattle.ccbor.specs.declared.value.Key.{Key}
+use Rattle.ccbor.specs.declared.value.MapKey.{MapKey}
 use Rattle.cbor_map.specs.declared.fault.Fault.{Fault}
 use Rattle.cbor_map.specs.Table.{a_number, some_bytes, a_text, a_truth, any_map, that_text, unsigned, truths, list_of, record_of, not_empty, sized}
 use Rattle.cbor_map.specs.TableView.{holds_view, members_view}
@@ -23,7 +23,7 @@ holds-AnyMap = search (rules, the_lemmas)
 pub holds-List : (k : Bor Code) → holds_view (table.List k) ≡ list_of (holds_view k.now)
 holds-List k = search (rules, the_lemmas)
 
-pub holds-Record : (ms : Bor (List (Key × Bool × Code))) → holds_view (table.Record ms) ≡ record_of (members_view ms.now)
+pub holds-Record : (ms : Bor (List (MapKey × Bool × Code))) → holds_view (table.Record ms) ≡ record_of (members_view ms.now)
 holds-Record ms = search (rules, the_lemmas)
 
 pub holds-Sized : (low high : ℕ) (fault : Fault) (k : Bor Code) → holds_view (table.Sized low high fault k) ≡ sized low high fault (holds_view k.now)
@@ -45,4 +45,17 @@ pub holds-Unsigned : (low : ℕ) → holds_view (table.Unsigned low) ≡ unsigne
 holds-Unsigned low = search (rules, the_lemmas)
 
 -- all of them
-pub ruleset tables = (holds-Bytes, holds-Text, holds-Truth, holds-AnyMap, holds-List, holds-Record, holds-Sized, holds-Number, holds-NotEmpty, holds-Truths, holds-ThatText, holds-Unsigned)
+pub ruleset tables = (
+  holds-Bytes,
+  holds-Text,
+  holds-Truth,
+  holds-AnyMap,
+  holds-List,
+  holds-Record,
+  holds-Sized,
+  holds-Number,
+  holds-NotEmpty,
+  holds-Truths,
+  holds-ThatText,
+  holds-Unsigned,
+)

@@ -3,7 +3,8 @@ use Rattle.std.specs.Prelude.{ℕ, List, Bool, true, false, Option, Some, None, 
 use Rattle.ccbor.specs.Item as of
 use Rattle.ccbor.specs.Item.{Item, Pairs, no_pairs, pair}
 use Rattle.ccbor.specs.View.{items_of, pairs_of}
-use Rattle.cbor_map.specs.Table.{Holds, a_number, some_bytes, a_text, a_truth, any_map, that_text, unsigned, truths, list_of, record_of, not_empty, sized, Members, no_more, listed}
+use Rattle.cbor_map.specs.Table.{Holds, a_number, some_bytes, a_text, a_truth, any_map, that_text, unsigned, truths, list_of, record_of, not_empty}
+use Rattle.cbor_map.specs.Table.{sized, Members, no_more, listed}
 
 -- of a member that is required, or may be absent
 abbrev pub Member : Bool → Type 0 → Type 0

@@ -1,11 +1,13 @@
 -- The plain program that readers are proved against: the members of a map, taken one after another in the
 -- table's order. That it reads the contents of the values without a fault, and no others, are lemmas.
-use Rattle.std.specs.Prelude.{◌≡◌, ℕ, List, [], ◌∷◌, Bool, true, false, nat_le, nat_lt, ◌&&◌, Option, Some, None, is_some, Result, Ok, Err, ℤ, pos, negsuc, if◌then◌else◌}
+use Rattle.std.specs.Prelude.{◌≡◌, ℕ, List, [], ◌∷◌, Bool, true, false, nat_le, nat_lt, ◌&&◌, Option, Some, None, is_some, Result, Ok, Err, ℤ, pos}
+use Rattle.std.specs.Prelude.{negsuc, if◌then◌else◌}
 use Rattle.ccbor.specs.Item as of
 use Rattle.ccbor.specs.Item.{Item, Items, no_items, item, Pairs, no_pairs, pair}
 use Rattle.ccbor.specs.Reading.{◌>>=◌}
 use Rattle.ccbor.specs.Access.{split_key, is_same_key, is_end, bytes_in, text_in, bool_in, uint_in, items_in, pairs_in}
-use Rattle.cbor_map.specs.Table.{Holds, a_number, some_bytes, a_text, a_truth, any_map, that_text, unsigned, truths, list_of, record_of, not_empty, sized, Members, no_more, listed, size_of}
+use Rattle.cbor_map.specs.Table.{Holds, a_number, some_bytes, a_text, a_truth, any_map, that_text, unsigned, truths, list_of, record_of, not_empty}
+use Rattle.cbor_map.specs.Table.{sized, Members, no_more, listed, size_of}
 use Rattle.cbor_map.specs.Content.{Content, Contents, Member}
 use Rattle.cbor_map.specs.declared.error.Error.{Error}
 use Rattle.cbor_map.specs.declared.error.Error.TheVariants as errors

@@ -1,13 +1,13 @@
 -- The table that a `Holds` of the code stands for.
 use Rattle.std.specs.Prelude.{List, [], ◌∷◌, Bool, map}
-use Rattle.ccbor.specs.declared.value.Key.{Key}
+use Rattle.ccbor.specs.declared.value.MapKey.{MapKey}
 use Rattle.ccbor.specs.Access.{key_item}
 use Rattle.cbor_map.specs.Table as of
 use Rattle.cbor_map.specs.Table.{Holds, Members}
 use Rattle.cbor_map.specs.declared.table.Holds.{Holds as Code, fold-Holds}
 use Rattle.cbor_map.specs.declared.table.Holds.TheOpen.{Holds-F}
 
-abbrev pub members_of : List (Key × Bool × Holds) → Members
+abbrev pub members_of : List (MapKey × Bool × Holds) → Members
 members_of [] = of.no_more
 members_of (m ∷ ms) = of.listed (key_item m.0) m.1 m.2 (members_of ms)
 
@@ -28,5 +28,5 @@ holds_step (Holds-F.Sized low high fault k) = of.sized low high fault k.now
 abbrev pub holds_view : Code → Holds
 holds_view = fold-Holds Holds holds_step
 
-abbrev pub members_view : List (Key × Bool × Code) → Members
+abbrev pub members_view : List (MapKey × Bool × Code) → Members
 members_view ms = members_of (map (λ m. (m.0, m.1, holds_view m.2)) ms)

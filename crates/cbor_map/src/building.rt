@@ -6,7 +6,7 @@ ghost use Rattle.ccbor.specs.View.{view};
 ghost use Rattle.ccbor.specs.Item.{text, bytes};
 ghost use Rattle.cbor_map.specs.Building.{pair_list_view, member_list};
 
-use ccbor::{Key, Value};
+use ccbor::{MapKey, Value};
 use std::alloc::{AllocError, Global};
 
 /// The value of a text.
@@ -24,13 +24,13 @@ pub fn bytes_value(alloc: Global, content: &[u8]) -> Result<Value, AllocError>
 }
 
 /// A key, as a value.
-fn key_value(alloc: Global, key: Key<'_>) -> Result<Value, AllocError>
+fn key_value(alloc: Global, key: MapKey<'_>) -> Result<Value, AllocError>
     ensures { IfOk result (λ v. view v ≡ key_item key.entry) }
 {
     match key {
-        Key::Uint(n) => Ok(Value::Uint(n)),
-        Key::Nint(n) => Ok(Value::Nint(n)),
-        Key::Text(content) => text_value(alloc, content),
+        MapKey::Uint(n) => Ok(Value::Uint(n)),
+        MapKey::Nint(n) => Ok(Value::Nint(n)),
+        MapKey::Text(content) => text_value(alloc, content),
     }
 }
 
@@ -38,7 +38,7 @@ fn key_value(alloc: Global, key: Key<'_>) -> Result<Value, AllocError>
 pub fn push_member(
     alloc: Global,
     pairs: &mut Vec<(Value, Value)>,
-    key: Key<'_>,
+    key: MapKey<'_>,
     value: Value,
 ) -> Result<(), AllocError>
     ensures { OnOk result (pair_list_view pairs.new.items
@@ -53,7 +53,7 @@ pub fn push_member(
 pub fn push_if_there(
     alloc: Global,
     pairs: &mut Vec<(Value, Value)>,
-    key: Key<'_>,
+    key: MapKey<'_>,
     value: Option<Value>,
 ) -> Result<(), AllocError>
     ensures { OnOk result (pair_list_view pairs.new.items

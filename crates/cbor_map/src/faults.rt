@@ -8,7 +8,7 @@ ghost use Rattle.cbor_map.specs.declared.fault.Fault.TheVariants as faults;
 
 use crate::fault::Fault;
 use crate::table::Holds;
-use ccbor::{Key, Value};
+use ccbor::{MapKey, Value};
 
 /// Whether the test fails, and this is the fault that is asked for.
 fn fails(fault: Fault, here: Fault, test: bool) -> bool
@@ -33,7 +33,7 @@ fn size_of(value: &Value) -> u64
     }
 }
 
-fn is_listed(members: &[(Key<'static>, bool, Holds)], value: &Value) -> bool
+fn is_listed(members: &[(MapKey<'static>, bool, Holds)], value: &Value) -> bool
     ensures { result ≡ is_listed (members_view members.now) (view value.now) }
 {
     for (key, _, _) in members {
@@ -44,7 +44,7 @@ fn is_listed(members: &[(Key<'static>, bool, Holds)], value: &Value) -> bool
     false
 }
 
-fn all_listed(members: &[(Key<'static>, bool, Holds)], pairs: &[(Value, Value)]) -> bool
+fn all_listed(members: &[(MapKey<'static>, bool, Holds)], pairs: &[(Value, Value)]) -> bool
     ensures { result ≡ all_keys (is_listed (members_view members.now)) (pairs_view pairs.now) }
 {
     for (key, _) in pairs {
@@ -82,7 +82,7 @@ fn has_fault(fault: Fault, holds: &Holds, value: &Value) -> bool
         Holds::Text => fails(fault, Fault::AnotherKind, value.as_text().is_some()),
         Holds::Truth => fails(fault, Fault::AnotherKind, value.as_bool().is_some()),
         Holds::AnyMap => fails(fault, Fault::AnotherKind, value.as_map().is_some()),
-        Holds::ThatText(text) => fails(fault, Fault::AnotherKind, value.is_key(Key::Text(text))),
+        Holds::ThatText(text) => fails(fault, Fault::AnotherKind, value.is_key(MapKey::Text(text))),
         Holds::Unsigned(low) => match value.as_uint() {
             Some(n) => fails(fault, Fault::AnotherKind, *low <= n),
             None => fails(fault, Fault::AnotherKind, false),
@@ -125,7 +125,7 @@ fn any_item(fault: Fault, holds: &Holds, items: &[Value]) -> bool
 }
 
 #[cycle(faults)]
-fn in_members(fault: Fault, members: &[(Key<'static>, bool, Holds)], value: &Value) -> bool
+fn in_members(fault: Fault, members: &[(MapKey<'static>, bool, Holds)], value: &Value) -> bool
     ensures { result ≡ in_members fault (members_view members.now) (view value.now) }
 {
     for (key, required, holds) in members {

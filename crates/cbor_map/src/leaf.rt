@@ -8,7 +8,7 @@ ghost use Rattle.cbor_map.specs.Reading.{Gives, Yields, checked, is_within, mayb
 ghost use Rattle.cbor_map.specs.Table.{size_of, unsigned};
 
 use crate::error::{Error, Shape};
-use ccbor::{Key, View};
+use ccbor::{MapKey, View};
 use std::alloc::Global;
 
 /// The bytes of a string, or the items of an array.
@@ -54,7 +54,7 @@ pub fn not_empty(value: &View<'_>) -> Result<(), Shape>
 pub fn that_text(value: &View<'_>, content: &str) -> Result<(), Shape>
     ensures { Yields (λ u. u) result (checked (is_same_key (shown value.now) (text content.now))) }
 {
-    if value.is_key(Key::Text(content)) {
+    if value.is_key(MapKey::Text(content)) {
         Ok(())
     } else {
         Err(Shape)

@@ -1,7 +1,7 @@
 //! Tables of a map's members.
 
 use crate::fault::Fault;
-use ccbor::Key;
+use ccbor::MapKey;
 
 /// What a member of a map may hold.
 #[derive(Clone, Copy)]
@@ -26,7 +26,7 @@ pub enum Holds {
     List(&'static Holds),
     /// A map of these members, in the canonical order of their keys: the key, whether it is
     /// required, and what it holds.
-    Record(&'static [(Key<'static>, bool, Holds)]),
+    Record(&'static [(MapKey<'static>, bool, Holds)]),
     /// With a byte or an item; else there is this fault.
     NotEmpty(Fault, &'static Holds),
     /// Of so many bytes or items, from the first to the second number; else there is this fault.

@@ -7,7 +7,7 @@ ghost use Rattle.ccbor.specs.Viewing.{shown, shown_items, shown_pairs};
 ghost use Rattle.cbor_map.specs.Reading.{Yields, checked, take_key};
 
 use crate::error::Shape;
-use ccbor::{ArrayView, Key, MapView, View};
+use ccbor::{ArrayView, MapKey, MapView, View};
 
 /// The items of an array; another value is [`Shape`].
 pub fn items<'a>(value: &View<'a>) -> Result<ArrayView<'a>, Shape>
@@ -31,7 +31,10 @@ pub fn members<'a>(value: &View<'a>) -> Result<MapView<'a>, Shape>
 
 /// The value of the first member, whose key must be this one, and the members behind it; else
 /// [`Shape`].
-pub fn required<'a>(members: &MapView<'a>, key: Key<'_>) -> Result<(View<'a>, MapView<'a>), Shape>
+pub fn required<'a>(
+    members: &MapView<'a>,
+    key: MapKey<'_>,
+) -> Result<(View<'a>, MapView<'a>), Shape>
     ensures { Yields (λ m. (shown m.0, shown_pairs m.1)) result
         (split_key (key_item key.entry) (shown_pairs members.now)) }
 {
@@ -42,7 +45,7 @@ pub fn required<'a>(members: &MapView<'a>, key: Key<'_>) -> Result<(View<'a>, Ma
 }
 
 /// The value of the first member if its key is this one, and the members behind it; else all members.
-pub fn optional<'a>(members: MapView<'a>, key: Key<'_>) -> (Option<View<'a>>, MapView<'a>)
+pub fn optional<'a>(members: MapView<'a>, key: MapKey<'_>) -> (Option<View<'a>>, MapView<'a>)
     ensures { (option_map shown result.0, shown_pairs result.1)
         ≡ take_key (key_item key.entry) (shown_pairs members.entry) }
 {

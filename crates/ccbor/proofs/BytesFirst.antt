@@ -12,6 +12,7 @@ pub bytes_spelled : (bs rest content tail : List ℕ) (major n : ℕ) → IsByte
 bytes_spelled bs rest content tail major n fits at is found =
     let h = head_takes bs ((major, n), rest) fits at in
     let c = content_takes n rest (content, tail) h.0.rest_fits found in (
-      h.0.parts ∙ ap (λ m. head m n ++ rest) is ∙ ap (λ l. head 2 n ++ l) c.0.parts ∙ ap (λ k. head 2 k ++ (content ++ tail)) (sym c.1) ∙ sym (append_assoc (head 2 (length content)) content tail),
+      h.0.parts ∙ ap (λ m. head m n ++ rest) is ∙ ap (λ l. head 2 n ++ l) c.0.parts ∙ ap (λ k. head 2 k ++ (content ++ tail)) (sym c.1)
+          ∙ sym (append_assoc (head 2 (length content)) content tail),
       subst (λ k. k < 2 ^ 64) (sym c.1) h.1,
     )

@@ -73,15 +73,21 @@ no_key (pair k v ps) n bs are some none = none k (spelling k) (spelling v ++ spe
 pub no_value : (all : Pairs) (n : ℕ) (bs found mid : List ℕ) → ArePairs all n bs → n ≢ 0 → Cuts bs found mid → NoFront mid → ⊥
 no_value no_pairs n bs found mid are some cuts none = some are.count
 no_value (pair k v ps) n bs found mid are some cuts none =
-    none v (spelling v) (spelling_of_pairs ps) (wider v 3 are.fit.3, refl) (cuts k (spelling k) (spelling v ++ spelling_of_pairs ps) (wider k 3 are.fit.2, refl) are.spelled).1
+    none v (spelling v) (spelling_of_pairs ps) (wider v 3 are.fit.3, refl)
+    (cuts k (spelling k) (spelling v ++ spelling_of_pairs ps) (wider k 3 are.fit.2, refl) are.spelled).1
 
 pub first_pair : (all : Pairs) (n : ℕ) (bs found mid value rest : List ℕ) → ArePairs all n bs → n ≢ 0 → Cuts bs found mid → Cuts mid value rest
-    → Canon (shown found) found × Canon (shown value) value × ArePairs (shown_pairs (n - 1, rest)) (n - 1) rest × (Some (shown found, shown value, shown_pairs (n - 1, rest)) ≡ pairs_first all)
+    → Canon (shown found) found × Canon (shown value) value × ArePairs (shown_pairs (n - 1, rest)) (n - 1) rest
+    × (Some (shown found, shown value, shown_pairs (n - 1, rest)) ≡ pairs_first all)
 first_pair no_pairs n bs found mid value rest are some cuts then = absurd (some are.count)
 first_pair (pair k v ps) n bs found mid value rest are some cuts then =
     let one = cuts k (spelling k) (spelling v ++ spelling_of_pairs ps) (wider k 3 are.fit.2, refl) are.spelled in
     let two = then v (spelling v) (spelling_of_pairs ps) (wider v 3 are.fit.3, refl) one.1 in
     let key : Canon k found = (wider k 3 are.fit.2, one.0) in
     let canon : Canon v value = (wider v 3 are.fit.3, two.0) in
-    let others : ArePairs ps (n - 1) rest = record { count = omega (arith, are.count); spelled = two.1; fit = first_of ps 3 (spelling k) are.fit.4 } in
-    (shows k found key, shows v value canon, shows_pairs ps (n - 1) rest others, rw (shown_is k found key, shown_is v value canon, shown_pairs_is ps (n - 1) rest others) refl)
+    let others : ArePairs ps (n - 1) rest = record { count = omega (arith, are.count); spelled = two.1; fit = first_of ps 3 (spelling k) are.fit.4 } in (
+      shows k found key,
+      shows v value canon,
+      shows_pairs ps (n - 1) rest others,
+      rw (shown_is k found key, shown_is v value canon, shown_pairs_is ps (n - 1) rest others) refl,
+    )

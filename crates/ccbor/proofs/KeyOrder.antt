@@ -14,7 +14,8 @@ key_cmp = then_cmp (on major_of nat_cmp) (then_cmp (on length nat_cmp) (slice_cm
 key_total : IsTotalOrder key_cmp
 key_total = then_total (on_total major_of nat_cmp_total) (then_total (on_total length nat_cmp_total) (lists_total nat_cmp_total))
 
-by_parts : (m n p q : ℕ) (o : Ordering) → cond (eqb m n) (cond (eqb p q) (is_lt o) (ltb p q)) (ltb m n) ≡ is_lt (ordering_then (nat_cmp m n) (ordering_then (nat_cmp p q) o))
+by_parts : (m n p q : ℕ) (o : Ordering)
+    → cond (eqb m n) (cond (eqb p q) (is_lt o) (ltb p q)) (ltb m n) ≡ is_lt (ordering_then (nat_cmp m n) (ordering_then (nat_cmp p q) o))
 by_parts m n p q o = grind (arith, nat_tests)
 
 before_is : (a b : List ℕ) → before a b ≡ is_lt (key_cmp a b)

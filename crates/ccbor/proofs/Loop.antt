@@ -22,7 +22,8 @@ onto-push add (x ∷ vs) v end = ap (add x) (onto-push add vs v end)
 abbrev pub after : {V A : Type 0} → (V → A → A) → List V → Read A → Read A
 after add vs read = read >>= λ x. Some (onto add vs x.0, x.1)
 
-pub after-push : {V A : Type 0} (add : V → A → A) (vs : List V) (v : V) (read : Read A) → after add vs (read >>= λ x. Some (add v x.0, x.1)) ≡ after add (vs ++ v ∷ []) read
+pub after-push : {V A : Type 0} (add : V → A → A) (vs : List V) (v : V) (read : Read A)
+    → after add vs (read >>= λ x. Some (add v x.0, x.1)) ≡ after add (vs ++ v ∷ []) read
 after-push add vs v (Some x) = ap (λ a. Some (a, x.1)) (sym (onto-push add vs v x.0))
 after-push add vs v None = refl
 

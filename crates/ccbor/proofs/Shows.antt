@@ -1,5 +1,6 @@
 -- What the bytes of a view show.
-use Rattle.std.proofs.Common.{◌≡◌, ◌≢◌, ℕ, zero, suc, ◌<◌, ◌≤◌, drop, false, cond, eqb, List, [], ◌++◌, length, take, Some, None, refl, sym, ap, ◌∙◌, append-nil, arith}
+use Rattle.std.proofs.Common.{◌≡◌, ◌≢◌, ℕ, zero, suc, ◌<◌, ◌≤◌, drop, false, cond, eqb, List, [], ◌++◌, length, take, Some, None, refl, sym, ap, ◌∙◌}
+use Rattle.std.proofs.Common.{append-nil, arith}
 use Rattle.std.proofs.lemmas.Option.{same_Some}
 use Rattle.std.proofs.lemmas.List.{take_at, take-append-drop, length-append, length-drop, nil_from_length}
 use Rattle.ccbor.specs.Item.{Item, uint, nint, bytes, text, array, map, boolean, Items, no_items, item, Pairs, no_pairs, pair}
@@ -32,7 +33,8 @@ headed (boolean b) d fits = boolean_head b []
 pub head_is : (x : Item) (bs : List ℕ) → Canon x bs → head_at bs ≡ Some ((major_in x, argument_in x), body_in x)
 head_is x bs c = ap head_at c.1 ∙ headed x 4 c.0
 
-pub parts_shown : (x : Item) (bs : List ℕ) → Canon x bs → (major m n : ℕ) (rest : List ℕ) → head_at bs ≡ Some ((m, n), rest) → parts_in major x ≡ cond (eqb m major) (Some (n, rest)) None
+pub parts_shown : (x : Item) (bs : List ℕ) → Canon x bs → (major m n : ℕ) (rest : List ℕ) → head_at bs ≡ Some ((m, n), rest)
+    → parts_in major x ≡ cond (eqb m major) (Some (n, rest)) None
 parts_shown x bs c major m n rest e =
     let both = same_Some ((major_in x, argument_in x), body_in x) ((m, n), rest) (sym (head_is x bs c) ∙ e) in
     ap (λ (p : (ℕ × ℕ) × List ℕ). cond (eqb p.0.0 major) (Some (p.0.1, p.1)) None) both

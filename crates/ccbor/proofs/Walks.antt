@@ -15,7 +15,8 @@ pub same_rest : {A B : Type 0} → (f : A → B) (read : Read A) → rest_of (re
 same_rest f (Some x) = refl
 same_rest f None = refl
 
-behind : {A B : Type 0} (read : Read A) (next : A × List ℕ → Read B) (g : List ℕ → Option (List ℕ)) → ((x : A × List ℕ) → rest_of (next x) ≡ g x.1) → rest_of (read >>= next) ≡ (rest_of read >>= g)
+behind : {A B : Type 0} (read : Read A) (next : A × List ℕ → Read B) (g : List ℕ → Option (List ℕ)) → ((x : A × List ℕ) → rest_of (next x) ≡ g x.1)
+    → rest_of (read >>= next) ≡ (rest_of read >>= g)
 behind (Some x) next g same = same x
 behind None next g same = refl
 
@@ -23,7 +24,8 @@ pub key_passed : (known : Bool) (bs : List ℕ) (m n : ℕ) (r : List ℕ) → h
     → key_rest (key_at known bs) ≡ (rest_of (leaf_at known (m, n) r) >>= λ rest. Some (take (length bs - length rest) bs, rest))
 unfolding key_at
 key_passed known bs m n r e t = rw (e, t) (of (leaf_at known (m, n) r)) where
-  of : (read : Read Item) → key_rest (read >>= λ k. Some ((k.0, take (length bs - length k.1) bs), k.1)) ≡ (rest_of read >>= λ rest. Some (take (length bs - length rest) bs, rest))
+  of : (read : Read Item) → key_rest (read >>= λ k. Some ((k.0, take (length bs - length k.1) bs), k.1))
+      ≡ (rest_of read >>= λ rest. Some (take (length bs - length rest) bs, rest))
   of (Some x) = refl
   of None = refl
 
@@ -33,7 +35,8 @@ module _ (inside : List ℕ → Read Item) (count i : ℕ) (lt : i < count) wher
   items_passed bs = rw (one_more count i lt) (behind (inside bs) _ _ (λ x. same_rest (item x.0) (items_at inside (count - (i + 1)) x.1)))
 
   pub pairs_passed : (known : Bool) (last bs : List ℕ) → rest_of (pairs_at known inside last (count - i) bs)
-      ≡ (key_rest (key_at known bs) >>= λ k. cond (known || before last k.0) (rest_of (inside k.1) >>= λ r. rest_of (pairs_at known inside k.0 (count - (i + 1)) r)) None)
+      ≡ (key_rest (key_at known bs) >>= λ k. cond (known || before last k.0)
+      (rest_of (inside k.1) >>= λ r. rest_of (pairs_at known inside k.0 (count - (i + 1)) r)) None)
   unfolding pairs_at
   pairs_passed known last bs = rw (one_more count i lt) (of (key_at known bs)) where
     others : Item × List ℕ → Item × List ℕ → Read Pairs
@@ -43,6 +46,7 @@ module _ (inside : List ℕ → Read Item) (count i : ℕ) (lt : i < count) wher
         ≡ (key_rest read >>= λ k. cond (known || before last k.0) (rest_of (inside k.1) >>= λ r. rest_of (pairs_at known inside k.0 (count - (i + 1)) r)) None)
     of None = refl
     of (Some k) = test (known || before last k.0.1) where
-      test : (b : Bool) → rest_of (cond b (inside k.1 >>= others k.0) None) ≡ cond b (rest_of (inside k.1) >>= λ r. rest_of (pairs_at known inside k.0.1 (count - (i + 1)) r)) None
+      test : (b : Bool) → rest_of (cond b (inside k.1 >>= others k.0) None) ≡ cond b
+          (rest_of (inside k.1) >>= λ r. rest_of (pairs_at known inside k.0.1 (count - (i + 1)) r)) None
       test true = behind (inside k.1) _ _ (λ v. same_rest (pair k.0.0 v.0) (pairs_at known inside k.0.1 (count - (i + 1)) v.1))
       test false = refl

@@ -3,8 +3,8 @@ use Rattle.std.specs.Prelude.{ℕ, zero, suc, List, Bool, true, false, Option, S
 use Rattle.std.specs.Str.{bytes_eq}
 use Rattle.ccbor.specs.Item.{Item, uint, nint, bytes, text, array, map, boolean, Items, no_items, item, Pairs, no_pairs, pair}
 use Rattle.ccbor.specs.Canon.{count_of_items, count_of_pairs}
-use Rattle.ccbor.specs.declared.value.Key.{Key}
-use Rattle.ccbor.specs.declared.value.Key.TheVariants as keys
+use Rattle.ccbor.specs.declared.value.MapKey.{MapKey}
+use Rattle.ccbor.specs.declared.value.MapKey.TheVariants as keys
 
 -- what a value of this kind has in it; one of another kind has nothing
 abbrev pub uint_in : Item → Option ℕ
@@ -36,7 +36,7 @@ pairs_in (map ps) = Some ps
 pairs_in _ = None
 
 -- the value that a key is
-abbrev pub key_item : Key → Item
+abbrev pub key_item : MapKey → Item
 key_item (keys.Uint n) = uint n
 key_item (keys.Nint n) = nint n
 key_item (keys.Text s) = text s.now

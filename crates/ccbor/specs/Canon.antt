@@ -1,6 +1,7 @@
 -- Canonical CBOR: the one encoding of each value. This is the CTAP2 canonical CBOR encoding form of
 -- CTAP 2.1, "Message Encoding", over the heads of RFC 8949, section 3.
-use Rattle.std.specs.Prelude.{◌≡◌, ℕ, zero, suc, ◌+◌, ◌*◌, ◌/◌, ◌^◌, ◌<◌, Bool, true, false, List, [], ◌∷◌, ◌++◌, length, slice_index, nat_lt, ◌==◌, IsTrue, IsUtf8, if◌then◌else◌}
+use Rattle.std.specs.Prelude.{◌≡◌, ℕ, zero, suc, ◌+◌, ◌*◌, ◌/◌, ◌^◌, ◌<◌, Bool, true, false, List, [], ◌∷◌, ◌++◌, length, slice_index, nat_lt, ◌==◌}
+use Rattle.std.specs.Prelude.{IsTrue, IsUtf8, if◌then◌else◌}
 use Rattle.std.specs.Cmp.Lexicographic.{slice_cmp}
 use Rattle.std.specs.Int.{w8, w16, w32, w64, to_be_bytes}
 use Rattle.std.specs.Ordering.{nat_cmp, is_lt}

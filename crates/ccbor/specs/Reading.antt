@@ -2,7 +2,8 @@
 -- only those of views reach it, by `shown`, which the law `shown_values` pins to `Canon`.
 -- Each function reads from the front of a list: what it read and the bytes after it, or None. Where the
 -- bytes are known to be canonical, the order of keys and whether texts are UTF-8 are not looked at.
-use Rattle.std.specs.Prelude.{◌≡◌, ℕ, zero, suc, ◌-◌, ◌/◌, ◌%◌, ◌^◌, List, [], ◌∷◌, length, take, drop, true, false, Option, Some, None, option_map, Result, Ok, Err, nat_lt, ◌==◌, ◌||◌, Bool, if◌then◌else◌}
+use Rattle.std.specs.Prelude.{◌≡◌, ℕ, zero, suc, ◌-◌, ◌/◌, ◌%◌, ◌^◌, List, [], ◌∷◌, length, take, drop, true, false, Option, Some, None, option_map}
+use Rattle.std.specs.Prelude.{Result, Ok, Err, nat_lt, ◌==◌, ◌||◌, Bool, if◌then◌else◌}
 use Rattle.std.specs.Str.{is_utf8}
 use Rattle.std.specs.Int.{Width, w8, w16, w32, w64, byte_len, from_be_bytes}
 use Rattle.ccbor.specs.declared.error.Error.{Error}

@@ -1,10 +1,11 @@
 //! What a value is, kind by kind, and what a map has at a key. Nothing here takes memory.
 
 ghost use Rattle.std.specs.Prelude.{◌≡◌, option_map, string_bytes};
-ghost use Rattle.ccbor.specs.Access.{uint_in, nint_in, bytes_in, text_in, bool_in, items_in, pairs_in, key_item, is_same_key, value_at, member, split_key, is_end};
+ghost use Rattle.ccbor.specs.Access.{uint_in, nint_in, bytes_in, text_in, bool_in, items_in, pairs_in, key_item, is_same_key, value_at, member};
+ghost use Rattle.ccbor.specs.Access.{split_key, is_end};
 ghost use Rattle.ccbor.specs.View.{view, items_view, pairs_view};
 
-use crate::value::{Key, Value};
+use crate::value::{MapKey, Value};
 
 impl Value {
     /// The number n, if this is an unsigned number.
@@ -78,20 +79,20 @@ impl Value {
     }
 
     /// Whether the value is this key.
-    pub fn is_key(&self, key: Key<'_>) -> bool
+    pub fn is_key(&self, key: MapKey<'_>) -> bool
         ensures { result ≡ is_same_key (view self.now) (key_item key.entry) }
     {
         match (self, key) {
-            (Value::Uint(n), Key::Uint(m)) => *n == m,
-            (Value::Nint(n), Key::Nint(m)) => *n == m,
-            (Value::Text(s), Key::Text(t)) => s.as_str() == t,
+            (Value::Uint(n), MapKey::Uint(m)) => *n == m,
+            (Value::Nint(n), MapKey::Nint(m)) => *n == m,
+            (Value::Text(s), MapKey::Text(t)) => s.as_str() == t,
             _ => false,
         }
     }
 
     /// The value at this key, if this is a map that has it: that of the first such pair, where a map
     /// made by hand has several.
-    pub fn get(&self, key: Key<'_>) -> Option<&Value>
+    pub fn get(&self, key: MapKey<'_>) -> Option<&Value>
         ensures { option_map (λ b. view b.now) result
             ≡ member (key_item key.entry) (view self.now) }
     {
@@ -103,7 +104,7 @@ impl Value {
 }
 
 /// The value of the first pair with this key.
-pub fn value_at<'a>(pairs: &'a [(Value, Value)], key: Key<'_>) -> Option<&'a Value>
+pub fn value_at<'a>(pairs: &'a [(Value, Value)], key: MapKey<'_>) -> Option<&'a Value>
     ensures { option_map (λ b. view b.now) result
         ≡ value_at (key_item key.entry) (pairs_view pairs.now) }
 {
@@ -118,7 +119,7 @@ pub fn value_at<'a>(pairs: &'a [(Value, Value)], key: Key<'_>) -> Option<&'a Val
 /// If the first pair has this key, its value and the pairs behind it.
 pub fn split_key<'a>(
     pairs: &'a [(Value, Value)],
-    key: Key<'_>,
+    key: MapKey<'_>,
 ) -> Option<(&'a Value, &'a [(Value, Value)])>
     ensures { option_map (λ x. (view x.0.now, pairs_view x.1.now)) result
         ≡ split_key (key_item key.entry) (pairs_view pairs.now) }

@@ -50,6 +50,6 @@ pub use error::Error;
 pub use front::bytes_first;
 pub use law::{nothing_first, one_spelling, shown_values};
 pub use reading::{decode, decode_all};
-pub use value::{Key, MAX_DEPTH, Value};
+pub use value::{MAX_DEPTH, MapKey, Value};
 pub use view::{ArrayView, MapView, View};
 pub use writing::encode;

@@ -32,7 +32,7 @@ pub enum Value {
 
 /// A key of a map, to look it up.
 #[derive(Clone, Copy, Debug)]
-pub enum Key<'k> {
+pub enum MapKey<'k> {
     /// The number n.
     Uint(u64),
     /// The number -1 - n.

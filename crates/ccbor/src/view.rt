@@ -4,7 +4,8 @@ ghost use Rattle.std.specs.Prelude.{◌≡◌, ◌⊎◌, ◌<◌, ◌≤◌, �
 ghost use Rattle.ccbor.specs.declared.error.Error.TheVariants as errors;
 ghost use Rattle.ccbor.specs.Item.{Item, Pairs, no_pairs, pair};
 ghost use Rattle.ccbor.specs.Canon.{Canon};
-ghost use Rattle.ccbor.specs.Access.{uint_in, nint_in, bool_in, bytes_in, text_in, items_in, pairs_in, len_in, item_in, pair_in, items_first, pairs_first, key_item, is_same_key, member, split_key, is_end};
+ghost use Rattle.ccbor.specs.Access.{uint_in, nint_in, bool_in, bytes_in, text_in, items_in, pairs_in, len_in, item_in, pair_in, items_first};
+ghost use Rattle.ccbor.specs.Access.{pairs_first, key_item, is_same_key, member, split_key, is_end};
 ghost use Rattle.ccbor.specs.View.{view};
 ghost use Rattle.ccbor.specs.Viewing.{ArePairs, parts_in, shown, shown_items, shown_pairs};
 
@@ -12,7 +13,7 @@ use crate::error::Error;
 use crate::head::{ARRAY, BYTES, MAP, NEGATIVE, SIMPLE, TEXT, TRUE, UNSIGNED, head_at};
 use crate::passing::{front, known_front};
 use crate::reading::item_at;
-use crate::value::{Key, MAX_DEPTH, Value};
+use crate::value::{MAX_DEPTH, MapKey, Value};
 use std::alloc::{AllocError, Global};
 use std::marker::Model;
 use std::str;
@@ -87,19 +88,19 @@ fn parts(bytes: &[u8], major: u8) -> Option<(u64, &[u8])>
 }
 
 /// Whether the value is this key.
-fn is_key(bytes: &[u8], key: Key<'_>) -> bool
+fn is_key(bytes: &[u8], key: MapKey<'_>) -> bool
     ensures { (x : Item) → Canon x bytes.now → result ≡ is_same_key x (key_item key.entry) }
 {
     match key {
-        Key::Uint(n) => match parts(bytes, UNSIGNED) {
+        MapKey::Uint(n) => match parts(bytes, UNSIGNED) {
             Some((m, _)) => m == n,
             None => false,
         },
-        Key::Nint(n) => match parts(bytes, NEGATIVE) {
+        MapKey::Nint(n) => match parts(bytes, NEGATIVE) {
             Some((m, _)) => m == n,
             None => false,
         },
-        Key::Text(text) => match parts(bytes, TEXT) {
+        MapKey::Text(text) => match parts(bytes, TEXT) {
             Some((_, content)) => content == text.as_bytes(),
             None => false,
         },
@@ -274,7 +275,7 @@ impl<'a> View<'a> {
     }
 
     /// The value at this key, if this is a map that has it.
-    pub fn get(&self, key: Key<'_>) -> Option<View<'a>>
+    pub fn get(&self, key: MapKey<'_>) -> Option<View<'a>>
         ensures { option_map shown result ≡ member (key_item key.entry) (shown self.now) }
     {
         let mut pairs = self.as_map()?;
@@ -288,7 +289,7 @@ impl<'a> View<'a> {
     }
 
     /// Whether the value is this key.
-    pub fn is_key(&self, key: Key<'_>) -> bool
+    pub fn is_key(&self, key: MapKey<'_>) -> bool
         ensures { result ≡ is_same_key (shown self.now) (key_item key.entry) }
     {
         is_key(self.bytes, key)
@@ -339,7 +340,7 @@ impl<'a> MapView<'a> {
     }
 
     /// If the first pair has this key, its value and the pairs behind it.
-    pub fn split_key(&self, key: Key<'_>) -> Option<(View<'a>, MapView<'a>)>
+    pub fn split_key(&self, key: MapKey<'_>) -> Option<(View<'a>, MapView<'a>)>
         ensures { option_map (λ r. (shown r.0, shown_pairs r.1)) result
             ≡ split_key (key_item key.entry) (shown_pairs self.now) }
     {

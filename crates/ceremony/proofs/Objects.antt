@@ -9,7 +9,7 @@ use Rattle.ccbor.specs.Canon.{Fits, PairsFit, before, head, is_key, spelling}
 use Rattle.cbor_map.specs.Table.{has_fault, record_of}
 use Rattle.cbor_map.specs.declared.fault.Fault.TheVariants.{AnotherKind}
 use Rattle.cbor_map.proofs.Tests.{clean_if_none}
-use Rattle.ctapmsg.specs.Replies.{Creation, ReplyOf, creation_reply, creation_reply_item, creation_reply_members}
+use Rattle.ctap_replies.specs.Replies.{Creation, ReplyOf, creation_reply, creation_reply_item, creation_reply_members}
 use Rattle.authdata.specs.Objects.{IsMap, ObjectOf, object_item}
 use Rattle.client.specs.Responses.{object_of}
 
@@ -20,7 +20,8 @@ value_fits d last k v ps h = h.3
 rest_fits : (d : ℕ) (last : List ℕ) (k v : Item) (ps : Pairs) → PairsFit d last (pair k v ps) → PairsFit d (spelling k) ps
 rest_fits d last k v ps h = h.4
 
-pairs_fit : (d : ℕ) (last : List ℕ) (k v : Item) (ps : Pairs) → IsTrue (is_key k) → IsTrue (before last (spelling k)) → Fits d k → Fits d v → PairsFit d (spelling k) ps → PairsFit d last (pair k v ps)
+pairs_fit : (d : ℕ) (last : List ℕ) (k v : Item) (ps : Pairs) → IsTrue (is_key k) → IsTrue (before last (spelling k)) → Fits d k → Fits d v
+    → PairsFit d (spelling k) ps → PairsFit d last (pair k v ps)
 pairs_fit d last k v ps key after fit value rest = (key, after, fit, value, rest)
 
 -- the names of the object's members, in their order
@@ -33,10 +34,12 @@ fmt_text : IsUtf8 (codes "fmt")
 fmt_text = IsUtf8-from_ascii (codes "fmt") (ascii (codes "fmt") (omega arith, (omega arith, (omega arith, tt))))
 
 statement_text : IsUtf8 (codes "attStmt")
-statement_text = IsUtf8-from_ascii (codes "attStmt") (ascii (codes "attStmt") (omega arith, (omega arith, (omega arith, (omega arith, (omega arith, (omega arith, (omega arith, tt))))))))
+statement_text = IsUtf8-from_ascii (codes "attStmt")
+    (ascii (codes "attStmt") (omega arith, (omega arith, (omega arith, (omega arith, (omega arith, (omega arith, (omega arith, tt))))))))
 
 data_text : IsUtf8 (codes "authData")
-data_text = IsUtf8-from_ascii (codes "authData") (ascii (codes "authData") (omega arith, (omega arith, (omega arith, (omega arith, (omega arith, (omega arith, (omega arith, (omega arith, tt)))))))))
+data_text = IsUtf8-from_ascii (codes "authData")
+    (ascii (codes "authData") (omega arith, (omega arith, (omega arith, (omega arith, (omega arith, (omega arith, (omega arith, (omega arith, tt)))))))))
 
 fmt_before : IsTrue (before [] (spelling (text (codes "fmt"))))
 unfolding before head
@@ -53,15 +56,19 @@ data_before = refl
 members_fit : (fmt auth_data : List ℕ) (statement : Item) → Fits 3 (text fmt) → Fits 3 statement → Fits 3 (bytes auth_data)
     → PairsFit 3 [] (pair (text (codes "fmt")) (text fmt) (pair (text (codes "attStmt")) statement (pair (text (codes "authData")) (bytes auth_data) no_pairs)))
 members_fit fmt auth_data statement f s a =
-    pairs_fit 3 [] (text (codes "fmt")) (text fmt) (pair (text (codes "attStmt")) statement (pair (text (codes "authData")) (bytes auth_data) no_pairs)) refl fmt_before
+    pairs_fit 3 [] (text (codes "fmt")) (text fmt)
+    (pair (text (codes "attStmt")) statement (pair (text (codes "authData")) (bytes auth_data) no_pairs)) refl fmt_before
     (omega arith, fmt_text) f
-    (pairs_fit 3 (spelling (text (codes "fmt"))) (text (codes "attStmt")) statement (pair (text (codes "authData")) (bytes auth_data) no_pairs) refl statement_before
+    (pairs_fit 3 (spelling (text (codes "fmt"))) (text (codes "attStmt")) statement
+    (pair (text (codes "authData")) (bytes auth_data) no_pairs) refl statement_before
     (omega arith, statement_text) s
     (pairs_fit 3 (spelling (text (codes "attStmt"))) (text (codes "authData")) (bytes auth_data) no_pairs refl data_before
     (omega arith, data_text) a tt))
 
 -- the statement is a map
-statement_map : (fmt auth_data : List ℕ) (v : Item) → has_fault AnotherKind (record_of creation_reply_members) (creation_reply_item (record { fmt = fmt; auth_data = auth_data; statement = v })) ≡ false → IsMap v
+statement_map : (fmt auth_data : List ℕ) (v : Item)
+    → has_fault AnotherKind (record_of creation_reply_members) (creation_reply_item (record { fmt = fmt; auth_data = auth_data; statement = v })) ≡ false
+    → IsMap v
 statement_map fmt auth_data (map ps) e = (ps, refl)
 statement_map fmt auth_data _ e = absurd (cc)
 

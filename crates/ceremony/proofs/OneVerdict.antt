@@ -6,19 +6,19 @@ use Rattle.hidlink.specs.Wire.{Carries, Dies, HasEnded}
 use Rattle.hidlink.proofs.Beginnings.{taken}
 use Rattle.hidlink.proofs.Laws.{one_carried, one_death, not_both, packets_taken}
 use Rattle.hidlink.proofs.SoFar.{ArePackets}
-use Rattle.first_line.proofs.Laws.{none_first, one_first}
+use Rattle.refusal_order.proofs.Laws.{none_first, one_first}
 use Rattle.ccbor.specs.Item.{Item}
 use Rattle.ccbor.specs.Canon.{Canon}
-use Rattle.ctapmsg.specs.Replies.{HasOtherShape, ReplyRefused}
-use Rattle.replies.specs.declared.reply.Kind.{Kind}
-use Rattle.replies.specs.declared.reply.Kind.TheVariants as kinds
-use Rattle.replies.proofs.Laws.{creation_never_both, never_both, one_assertion_reply, one_creation_reply}
+use Rattle.ctap_replies.specs.Replies.{HasOtherShape, ReplyRefused}
+use Rattle.ctap_replies.specs.declared.reply.Kind.{Kind}
+use Rattle.ctap_replies.specs.declared.reply.Kind.TheVariants as kinds
+use Rattle.ctap_replies.proofs.Laws.{creation_never_both, never_both, one_assertion_reply, one_creation_reply}
 use Rattle.ctap_status.specs.declared.error.Error.{Error as ReplyError}
 use Rattle.ctap_status.specs.declared.error.Error.TheVariants as replies
-use Rattle.verification.specs.Shared.{Relation}
-use Rattle.verification.specs.Authentication as authentication
-use Rattle.verification.specs.Registration as enrolment
-use Rattle.site.specs.State.{State}
+use Rattle.cose.specs.Schemes.{Validity}
+use Rattle.verification.specs.SignIn as authentication
+use Rattle.verification.specs.Registration as registration_steps
+use Rattle.site.specs.State.{SiteState}
 use Rattle.ceremony.specs.SignIn as sign_in
 use Rattle.ceremony.specs.Registration as registration
 use Rattle.ceremony.specs.Verdict.{Ceremony, RefusedMessage, Refused, Succeeds}
@@ -68,7 +68,8 @@ shape_value kinds.Reset rest some h = absurd (some refl)
 value_and_none : (kind : Kind) (a b : List ℕ) → kind ≢ kinds.Reset → a ≡ b → ((v : Item) → Canon v a → ⊥) → HasOtherShape kind b → ⊥
 value_and_none kind a b some e none h = let v = shape_value kind b some h in none v.0 (subst (λ (l : List ℕ). Canon v.0 l) (sym e) v.1)
 
-one_unread : (kind : Kind) (m : List ℕ) (e f : ReplyError) → kind ≢ kinds.Reset → e ≢ replies.Memory → f ≢ replies.Memory → ReplyRefused kind m e → ReplyRefused kind m f → e ≡ f
+one_unread : (kind : Kind) (m : List ℕ) (e f : ReplyError) → kind ≢ kinds.Reset → e ≢ replies.Memory → f ≢ replies.Memory → ReplyRefused kind m e
+    → ReplyRefused kind m f → e ≡ f
 one_unread kind m replies.Empty replies.Empty some se sf a b = refl
 one_unread kind m (replies.Refused s) (replies.Refused t) some se sf a b = ap (λ x. replies.Refused x) (let g = a.1 in let h = b.1 in cc)
 one_unread kind m replies.NotCanonical replies.NotCanonical some se sf a b = refl
@@ -83,10 +84,10 @@ pub record IsOne {R W : Type 0} (k : Ceremony R W) : Type 0 where
   pub command : k.command ≢ kinds.Reset
   pub one_reply : (r q : R) (m : List ℕ) → k.IsReply r m → k.IsReply q m → r ≡ q
   pub read : (r : R) (m : List ℕ) (e : ReplyError) → k.IsReply r m → ReplyRefused k.command m e → e ≢ replies.Memory → ⊥
-  pub one_step : (r : R) (w v : W) → k.Fails r w → k.Fails r v → w ≡ v
-  pub passed : (r : R) (w : W) → k.Passes r → k.Fails r w → ⊥
+  pub one_step : (r : R) (w v : W) → k.FailsSite r w → k.FailsSite r v → w ≡ v
+  pub passed : (r : R) (w : W) → k.PassesSite r → k.FailsSite r w → ⊥
 
-pub sign_in_one : (valid : Relation) (s : State) (session : ℕ) (t : List ℕ) → IsOne (sign_in.sign_in valid s session t)
+pub sign_in_one : (valid : Validity) (s : SiteState) (session : ℕ) (t : List ℕ) → IsOne (sign_in.sign_in valid s session t)
 sign_in_one valid s session t = record {
   command = λ e. cc;
   one_reply = one_assertion_reply;
@@ -95,13 +96,13 @@ sign_in_one valid s session t = record {
   passed = λ r w all fails. none_first (λ x passed failed. failed passed) authentication.steps w all fails;
 }
 
-pub registration_one : (valid : Relation) (s : State) (session : ℕ) (t : List ℕ) → IsOne (registration.registration valid s session t)
+pub registration_one : (valid : Validity) (s : SiteState) (session : ℕ) (t : List ℕ) → IsOne (registration.registration valid s session t)
 registration_one valid s session t = record {
   command = λ e. cc;
   one_reply = one_creation_reply;
   read = λ r m e spelled refused some. creation_never_both m e refused some r spelled;
-  one_step = λ r w v a b. one_first (λ x passed fails. fails passed) enrolment.steps w v a b;
-  passed = λ r w all fails. none_first (λ x passed failed. failed passed) enrolment.steps w all fails;
+  one_step = λ r w v a b. one_first (λ x passed fails. fails passed) registration_steps.steps w v a b;
+  passed = λ r w all fails. none_first (λ x passed failed. failed passed) registration_steps.steps w all fails;
 }
 
 -- ---- the verdict
@@ -112,7 +113,7 @@ module _ {R W : Type 0} (k : Ceremony R W) (one : IsOne k) where
   one_message m (errors.Reply x) (errors.Refused w) se sf a b = absurd (one.read b.0 m x b.1 a.0 a.1)
   one_message m (errors.Refused w) (errors.Reply y) se sf a b = absurd (one.read a.0 m y a.1 b.0 b.1)
   one_message m (errors.Refused w) (errors.Refused v) se sf a b =
-      ap (λ z. errors.Refused z) (one.one_step b.0 w v (subst (λ (r : R). k.Fails r w) (one.one_reply a.0 b.0 m a.1 b.1) a.2) b.2)
+      ap (λ z. errors.Refused z) (one.one_step b.0 w v (subst (λ (r : R). k.FailsSite r w) (one.one_reply a.0 b.0 m a.1 b.1) a.2) b.2)
   one_message m _ _ se sf a b = absurd (grind arith)
 
   Says : Given → Error W → Type 0
@@ -138,7 +139,8 @@ module _ {R W : Type 0} (k : Ceremony R W) (one : IsOne k) where
   one_said (death index kind) e f se sf a b = a ∙ sym b
   one_said nothing e f se sf a b = a ∙ sym b
 
-  pub one_refusal : (c : ℕ) (ps : List Packet) → c < 2 ^ 32 → ArePackets ps → (e f : Error W) → e ≢ errors.Memory → f ≢ errors.Memory → Refused k c ps e → Refused k c ps f → e ≡ f
+  pub one_refusal : (c : ℕ) (ps : List Packet) → c < 2 ^ 32 → ArePackets ps → (e f : Error W) → e ≢ errors.Memory → f ≢ errors.Memory → Refused k c ps e
+      → Refused k c ps f → e ≡ f
   one_refusal c ps low all e f se sf a b =
       let x = given_of c ps e se a in
       let y = given_of c ps f sf b in
@@ -151,13 +153,14 @@ module _ {R W : Type 0} (k : Ceremony R W) (one : IsOne k) where
       (o.0, one.one_reply r q b.0 (subst (λ (m : List ℕ). k.IsReply r m) o.2 a.2) b.2)
 
   -- a message that succeeds is refused for nothing but want of memory
-  good_message : (m : List ℕ) (r : R) (e : Error W) → e ≢ errors.Memory → k.IsReply r m → k.Passes r → RefusedMessage k m e → ⊥
+  good_message : (m : List ℕ) (r : R) (e : Error W) → e ≢ errors.Memory → k.IsReply r m → k.PassesSite r → RefusedMessage k m e → ⊥
   good_message m r errors.Memory some spelled passes h = some refl
   good_message m r (errors.Reply x) some spelled passes h = one.read r m x spelled h.0 h.1
-  good_message m r (errors.Refused w) some spelled passes h = one.passed r w passes (subst (λ (q : R). k.Fails q w) (one.one_reply h.0 r m h.1 spelled) h.2)
+  good_message m r (errors.Refused w) some spelled passes h = one.passed r w passes (subst (λ (q : R). k.FailsSite q w) (one.one_reply h.0 r m h.1 spelled) h.2)
   good_message m r _ some spelled passes h = h
 
-  pub not_both_verdicts : (c : ℕ) (ps : List Packet) → c < 2 ^ 32 → ArePackets ps → (n : ℕ) (r : R) (e : Error W) → e ≢ errors.Memory → Succeeds k c ps n r → Refused k c ps e → ⊥
+  pub not_both_verdicts : (c : ℕ) (ps : List Packet) → c < 2 ^ 32 → ArePackets ps → (n : ℕ) (r : R) (e : Error W) → e ≢ errors.Memory → Succeeds k c ps n r
+      → Refused k c ps e → ⊥
   unfolding Gives Says
   not_both_verdicts c ps low all n r e some a b =
       let x = given_of c ps e some b in

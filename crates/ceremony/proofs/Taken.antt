@@ -61,7 +61,8 @@ begins_take qs ps b =
     (omega arith, sym (take_at qs b.0 (length qs) refl) ∙ ap (take (length qs)) (sym b.1))
 
 -- what a beginning of the packets carries is carried by those taken
-pub carried : (c t : ℕ) (ps qs : List Packet) (cmd : ℕ) (m : List ℕ) → IsBeginning qs ps → Carries c qs cmd m → IsTaken c ps t → (t ≤ length ps) × Carries c (take t ps) cmd m
+pub carried : (c t : ℕ) (ps qs : List Packet) (cmd : ℕ) (m : List ℕ) → IsBeginning qs ps → Carries c qs cmd m → IsTaken c ps t → (t ≤ length ps)
+    × Carries c (take t ps) cmd m
 carried c t ps qs cmd m b h taken =
     let k = begins_take qs ps b in
     let h' : Carries c (take (length qs) ps) cmd m = subst (λ (xs : List Packet). Carries c xs cmd m) k.1 h in
@@ -80,7 +81,8 @@ died c t ps qs kind b d taken =
     (omega arith, subst (λ (n : ℕ). Dies c (take n ps) kind) same d')
 
 -- so the index of it
-pub died_at : (c t i : ℕ) (ps : List Packet) (kind : DeadKind) → (1 ≤ t) × Dies c (take t ps) kind → IsTaken c ps t → i + 1 ≡ t → (i < length ps) × Dies c (take (i + 1) ps) kind
+pub died_at : (c t i : ℕ) (ps : List Packet) (kind : DeadKind) → (1 ≤ t) × Dies c (take t ps) kind → IsTaken c ps t → i + 1 ≡ t → (i < length ps)
+    × Dies c (take (i + 1) ps) kind
 died_at c t i ps kind d taken e =
     let within : t ≤ length ps = taken.within in
     (omega arith, subst (λ (n : ℕ). Dies c (take n ps) kind) (sym e) d.1)
@@ -95,7 +97,11 @@ none_more n ps v g =
     omega (arith, length-take {A = Packet})
 
 -- all has ended with the packet at i
-pub ended_with : (c k i : ℕ) (v : LiveState) (ps : List Packet) (p : Packet) → take (i + 1) ps ≡ take i ps ++ p ∷ [] → c ≡ k → HasGot v (take i ps ++ p ∷ []) → HasEnded c (take i ps ++ p ∷ [])
+pub ended_with : (c k i : ℕ) (v : LiveState) (ps : List Packet) (p : Packet) → take (i + 1) ps ≡ take i ps ++ p ∷ [] → c ≡ k → HasGot v (take i ps ++ p ∷ [])
+    → HasEnded c (take i ps ++ p ∷ [])
     → (n : ℕ) × HasGot v (take n ps) × (HasEnded k (take n ps) ⊎ (length ps ≤ n))
-ended_with c k i v ps p push same got over =
-    (i + 1, subst (λ (qs : List Packet). HasGot v qs) (sym push) got, inl (subst (λ (j : ℕ). HasEnded j (take (i + 1) ps)) same (subst (HasEnded c) (sym push) over)))
+ended_with c k i v ps p push same got over = (
+  i + 1,
+  subst (λ (qs : List Packet). HasGot v qs) (sym push) got,
+  inl (subst (λ (j : ℕ). HasEnded j (take (i + 1) ps)) same (subst (HasEnded c) (sym push) over)),
+)

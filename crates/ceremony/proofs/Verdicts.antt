@@ -19,7 +19,8 @@ one_message c ps n k m l a b = let o = one_carried c n k ps 16 16 m l a.0 b.0 a.
 abbrev pub AreEnough : ℕ → ℕ → List Packet → Type 0
 AreEnough c k ps = HasEnded c (take k ps) ⊎ (length ps ≤ k)
 
-carried_more : (c k n cmd : ℕ) (ps : List Packet) (m : List ℕ) → (n ≤ length (take k ps)) × Carries c (take n (take k ps)) cmd m → (n ≤ length ps) × Carries c (take n ps) cmd m
+carried_more : (c k n cmd : ℕ) (ps : List Packet) (m : List ℕ) → (n ≤ length (take k ps)) × Carries c (take n (take k ps)) cmd m → (n ≤ length ps)
+    × Carries c (take n ps) cmd m
 carried_more c k n cmd ps m d =
     let within : n ≤ length (take k ps) = d.0 in
     (omega (arith, length-take k ps), subst (λ (xs : List Packet). Carries c xs cmd m) (take-take n k ps (omega (arith, length-take k ps))) d.1)
@@ -27,7 +28,8 @@ carried_more c k n cmd ps m d =
 pub succeeds_more : {R W : Type 0} (x : Ceremony R W) (c k : ℕ) (ps : List Packet) (n : ℕ) (r : R) → Succeeds x c (take k ps) n r → Succeeds x c ps n r
 succeeds_more x c k ps n r s = (s.0, carried_more c k n 16 ps s.0 s.1, s.2, s.3)
 
-pub succeeds_less : {R W : Type 0} (x : Ceremony R W) (c k : ℕ) (ps : List Packet) (n : ℕ) (r : R) → AreEnough c k ps → Succeeds x c ps n r → Succeeds x c (take k ps) n r
+pub succeeds_less : {R W : Type 0} (x : Ceremony R W) (c k : ℕ) (ps : List Packet) (n : ℕ) (r : R) → AreEnough c k ps → Succeeds x c ps n r
+    → Succeeds x c (take k ps) n r
 succeeds_less x c k ps n r (inr all) s = subst (λ (xs : List Packet). Succeeds x c xs n r) (sym (take_all k ps all)) s
 succeeds_less x c k ps n r (inl over) s = elim (cases_lt k n) [
   | inl less ↦ absurd (carries_first c k n ps 16 s.0 less s.1.0 s.1.1 over)
@@ -35,7 +37,8 @@ succeeds_less x c k ps n r (inl over) s = elim (cases_lt k n) [
       (s.0, (omega (arith, length-take k ps), subst (λ (xs : List Packet). Carries c xs 16 s.0) (sym (take-take n k ps within)) s.1.1), s.2, s.3)
 ]
 
-pub refused_more : {R W : Type 0} (x : Ceremony R W) (c k : ℕ) (ps : List Packet) (e : Error W) → AreEnough c k ps → Refused x c (take k ps) e → Refused x c ps e
+pub refused_more : {R W : Type 0} (x : Ceremony R W) (c k : ℕ) (ps : List Packet) (e : Error W) → AreEnough c k ps → Refused x c (take k ps) e
+    → Refused x c ps e
 refused_more x c k ps errors.Incomplete (inl over) h = absurd (h over)
 refused_more x c k ps errors.Incomplete (inr all) h = subst (λ (xs : List Packet). HasEnded c xs → ⊥) (take_all k ps all) h
 refused_more x c k ps (errors.Dead index kind) enough h =
@@ -51,14 +54,15 @@ delivers_more c k n ps m d = carried_more c k n 16 ps m d
 
 -- ---- an answer on the first packets is one on all
 
-pub refuses_more : {R W A : Type 0} (x : Ceremony R W) (c k : ℕ) (ps : List Packet) (r : Result A (Error W)) → AreEnough c k ps → IfErr r (Refused x c (take k ps)) → IfErr r (Refused x c ps)
+pub refuses_more : {R W A : Type 0} (x : Ceremony R W) (c k : ℕ) (ps : List Packet) (r : Result A (Error W)) → AreEnough c k ps
+    → IfErr r (Refused x c (take k ps)) → IfErr r (Refused x c ps)
 refuses_more x c k ps (Ok a) enough h = tt
 refuses_more x c k ps (Err e) enough h = refused_more x c k ps e enough h
 
-pub accepts_more : {R W A E : Type 0} (x : Ceremony R W) (used : A → ℕ) (Tells : R → A → Type 0) (c k : ℕ) (ps : List Packet) (r : Result A E)
-    → IfOk r (λ a. (q : R) × Succeeds x c (take k ps) (used a) q × Tells q a) → IfOk r (λ a. (q : R) × Succeeds x c ps (used a) q × Tells q a)
-accepts_more x used Tells c k ps (Ok a) h = (h.0, succeeds_more x c k ps (used a) h.0 h.1, h.2)
-accepts_more x used Tells c k ps (Err e) h = tt
+pub accepts_more : {R W A E : Type 0} (x : Ceremony R W) (used : A → ℕ) (IsTold : R → A → Type 0) (c k : ℕ) (ps : List Packet) (r : Result A E)
+    → IfOk r (λ a. (q : R) × Succeeds x c (take k ps) (used a) q × IsTold q a) → IfOk r (λ a. (q : R) × Succeeds x c ps (used a) q × IsTold q a)
+accepts_more x used IsTold c k ps (Ok a) h = (h.0, succeeds_more x c k ps (used a) h.0 h.1, h.2)
+accepts_more x used IsTold c k ps (Err e) h = tt
 
 pub carries_more : {R A E : Type 0} (IsReply : R → List ℕ → Type 0) (P : R → Type 0) (c k : ℕ) (ps : List Packet) (r : Result A E)
     → OnOk r (CarriesReply IsReply P c (take k ps)) → OnOk r (CarriesReply IsReply P c ps)

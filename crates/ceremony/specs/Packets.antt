@@ -38,7 +38,7 @@ abbrev pub IsEnded : Result Fed Ended → Type 0
 IsEnded (Ok f) = ⊥
 IsEnded (Err e) = Unit {0}
 
-pub record Answers (c : ℕ) (ps : List Packet) (p : Packet) (r : Result Fed Ended) : Type 0 where
+pub record LiveAnswers (c : ℕ) (ps : List Packet) (p : Packet) (r : Result Fed Ended) : Type 0 where
   pub ended : IsEnded r ↔ HasEnded c ps
   pub ready : IsReady r ↔ ((HasEnded c ps → ⊥) × HasEnded c (ps ++ p ∷ []))
   pub more : IsMore r ↔ (HasEnded c (ps ++ p ∷ []) → ⊥)

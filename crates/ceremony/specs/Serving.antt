@@ -2,13 +2,13 @@
 use Rattle.std.specs.Prelude.{◌≡◌, ◌≢◌, ◌⊎◌, ◌<◌, ◌≤◌, ℕ, List, [], ◌∷◌, Option, Some, length, slice_index}
 use Rattle.hidframe.specs.Packets.{fields}
 use Rattle.hidframe.specs.declared.ctaphid.TheConstants.{CTAPHID_CBOR, CTAPHID_KEEPALIVE, MAX_PAYLOAD_SIZE, STATUS_UPNEEDED}
-use Rattle.hidlink.specs.History.{Call, Answered, Expired, Kept, Took}
+use Rattle.hidlink.specs.History.{DeviceCall, Answered, Expired, Kept, Took}
 use Rattle.hidlink.specs.Ranks.{IsWorking, Message, expiry, on_working, response}
 use Rattle.hidlink.specs.Ranks as device
 use Rattle.hidlink.specs.Told.{work}
-use Rattle.hidlink.specs.declared.transaction.Step.TheVariants as step
+use Rattle.hidlink.specs.declared.transaction.DeviceEvent.TheVariants as step
 use Rattle.ctap_status.specs.declared.status.TheConstants.{KEEPALIVE_CANCEL}
-use Rattle.authenticator.specs.State.{State}
+use Rattle.authenticator.specs.State.{AuthenticatorState}
 use Rattle.cose.specs.Schemes.{Validity}
 use Rattle.authenticator.specs.Steps.{Steps, Keys}
 use Rattle.ceremony.specs.declared.serving.Act.{Act}
@@ -17,9 +17,9 @@ use Rattle.ceremony.specs.declared.serving.Act.TheVariants as act
 -- the calls that the act is to the device; the message that the device sends, if any; and what the authenticator
 -- is afterwards
 pub record Done : Type 0 where
-  pub calls : List Call
+  pub calls : List DeviceCall
   pub sent : Option Message
-  pub authenticator : State
+  pub authenticator : AuthenticatorState
 
 -- bytes that fit into a message (section 11.2.4)
 abbrev pub IsPayload : List ℕ → Type 0
@@ -28,7 +28,7 @@ IsPayload m = (length m ≤ MAX_PAYLOAD_SIZE) × ((k : ℕ) → slice_index m k 
 -- A packet is taken, and a cancelled request is answered by status 0x2D; what else comes of it is sent. A decision
 -- on the request that the device works on is a step of the authenticator, whose reply is the answer. Waiting sends a
 -- keepalive: the user's presence is needed.
-abbrev pub Serves : Validity → Keys → ℕ → device.State → State → Act → Done → Type 0
+abbrev pub Serves : Validity → Keys → ℕ → device.TransactionState → AuthenticatorState → Act → Done → Type 0
 Serves valid public n s a (act.Packet p) d =
     (((response n s (fields p)).step ≡ step.Cancelled)
     × (d ≡ record {

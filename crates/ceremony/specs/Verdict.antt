@@ -5,8 +5,8 @@ use Rattle.hidframe.specs.declared.Packet.{Packet}
 use Rattle.hidframe.specs.declared.ctaphid.TheConstants.{CTAPHID_CBOR, CTAPHID_ERROR}
 use Rattle.hidlink.specs.Wire.{Carries, Dies, HasEnded}
 use Rattle.ctap_status.specs.declared.error.Error.TheVariants as replies
-use Rattle.replies.specs.declared.reply.Kind.{Kind}
-use Rattle.ctapmsg.specs.Replies.{ReplyRefused}
+use Rattle.ctap_replies.specs.declared.reply.Kind.{Kind}
+use Rattle.ctap_replies.specs.Replies.{ReplyRefused}
 use Rattle.ceremony.specs.declared.error.Error.{Error}
 use Rattle.ceremony.specs.declared.error.Error.TheVariants as errors
 
@@ -15,8 +15,8 @@ use Rattle.ceremony.specs.declared.error.Error.TheVariants as errors
 pub record Ceremony (R W : Type 0) : Type 1 where
   pub command : Kind
   pub IsReply : R → List ℕ → Type 0
-  pub Passes : R → Type 0
-  pub Fails : R → W → Type 0
+  pub PassesSite : R → Type 0
+  pub FailsSite : R → W → Type 0
 
 -- the first n packets carry the message m on channel c, as the reply to a request
 abbrev pub Delivers : ℕ → List Packet → ℕ → List ℕ → Type 0
@@ -24,7 +24,7 @@ Delivers c ps n m = (n ≤ length ps) × Carries c (take n ps) CTAPHID_CBOR m
 
 -- they carry a reply which passes each step of the site
 abbrev pub Succeeds : {R W : Type 0} → Ceremony R W → ℕ → List Packet → ℕ → R → Type 0
-Succeeds k c ps n r = (m : List ℕ) × Delivers c ps n m × k.IsReply r m × k.Passes r
+Succeeds k c ps n r = (m : List ℕ) × Delivers c ps n m × k.IsReply r m × k.PassesSite r
 
 -- they carry a reply of which this holds
 abbrev pub CarriesReply : {R : Type 0} → (R → List ℕ → Type 0) → (R → Type 0) → ℕ → List Packet → Type 0
@@ -34,7 +34,7 @@ CarriesReply {R} IsReply P c ps = (n : ℕ) × (m : List ℕ) × (r : R) × Deli
 -- Want of memory says nothing.
 abbrev pub RefusedMessage : {R W : Type 0} → Ceremony R W → List ℕ → Error W → Type 0
 RefusedMessage k m (errors.Reply e) = ReplyRefused k.command m e × (e ≢ replies.Memory)
-RefusedMessage {R} k m (errors.Refused w) = (r : R) × k.IsReply r m × k.Fails r w
+RefusedMessage {R} k m (errors.Refused w) = (r : R) × k.IsReply r m × k.FailsSite r w
 RefusedMessage k m errors.Memory = Unit {0}
 RefusedMessage k m e = ⊥
 

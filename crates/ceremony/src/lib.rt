@@ -2,16 +2,16 @@
 //! on top; and the authenticator's end of the same packets.
 #![tactic(auto)]
 
-mod authentication;
 mod error;
 mod law;
 mod live;
 mod registration;
 mod serving;
+mod signing_in;
 
-pub use authentication::{Accepted, sign_in};
 pub use error::Error;
 pub use law::one_verdict;
 pub use live::{Fed, Live};
 pub use registration::{Enrolled, register};
 pub use serving::{Act, ServeError, serve};
+pub use signing_in::{Accepted, sign_in};

@@ -2,7 +2,7 @@
 
 ghost use Rattle.std.specs.Prelude.{◌≡◌, ◌≤◌, ◌<◌, ◌+◌, ◌^◌, ◌++◌, ◌⊎◌, [], ◌∷◌, List, ℕ, length, take, IfErr, IfOk, OnErr};
 ghost use Rattle.hidframe.specs.declared.Packet.{Packet};
-ghost use Rattle.hidlink.specs.Feeds.{Answers};
+ghost use Rattle.hidlink.specs.Feeds.{CollectorAnswers};
 ghost use Rattle.hidlink.specs.Wire.{Got, HasEnded};
 ghost use Rattle.ceremony.specs.Packets as packets;
 ghost use Rattle.ceremony.specs.Packets.{HasGot};
@@ -48,7 +48,7 @@ fn collect(collector: &mut Collector, packet: &Packet) -> Result<Fed, Ended>
     ensures got { (ps : List Packet) → Got collector.old.cid ps collector.old.shown
         → Got collector.old.cid (ps ++ packet.now ∷ []) collector.new.shown }
     ensures answer { (ps : List Packet) → Got collector.old.cid ps collector.old.shown
-        → packets.Answers collector.old.cid ps packet.now result }
+        → packets.LiveAnswers collector.old.cid ps packet.now result }
 {
     match collector.feed(packet) {
         Ok(outcome) => match outcome {
@@ -88,7 +88,7 @@ impl Live {
         requires { self.old.taken + 1 < 2 ^ 64 }
         ensures channel { self.new.cid ≡ self.old.cid }
         ensures got { (ps : List Packet) → HasGot self.old ps → HasGot self.new (ps ++ packet.now ∷ []) }
-        ensures answer { (ps : List Packet) → HasGot self.old ps → packets.Answers self.old.cid ps packet.now result }
+        ensures answer { (ps : List Packet) → HasGot self.old ps → packets.LiveAnswers self.old.cid ps packet.now result }
     {
         let fed = match collect(&mut self.collector, packet) {
             Ok(fed) => fed,

@@ -2,16 +2,16 @@
 
 ghost use Rattle.std.specs.Prelude.{◌≡◌, List, ℕ, IfErr, IfOk, MatchResult, OnErr, OnOk};
 ghost use Rattle.hidframe.specs.declared.Packet.{Packet};
-ghost use Rattle.ctapmsg.specs.Replies.{Creation, ReplyOf, creation_reply};
-ghost use Rattle.ctapmsg.specs.ReplyView.{creation_reply_view};
+ghost use Rattle.ctap_replies.specs.Replies.{Creation, ReplyOf, creation_reply};
+ghost use Rattle.ctap_replies.specs.ReplyView.{creation_reply_view};
 ghost use Rattle.authdata.specs.Objects.{ObjectOf};
 ghost use Rattle.client.specs.Responses.{object_of};
-ghost use Rattle.verification.specs.Registration.{PassesAll};
+ghost use Rattle.verification.specs.Registration.{PassesRegistration};
 ghost use Rattle.site.specs.Answers.{IsRegistered};
-ghost use Rattle.site.specs.State.{IsAfterRegistration, enrolment_in};
+ghost use Rattle.site.specs.State.{IsAfterRegistration, judged_registration};
 ghost use Rattle.ceremony.specs.Packets.{HasGot};
 ghost use Rattle.ceremony.specs.Registration as ceremony;
-ghost use Rattle.ceremony.specs.Registration.{Accepts, IsAfter, response};
+ghost use Rattle.ceremony.specs.Registration.{AcceptsRegistration, IsAfter, response};
 ghost use Rattle.ceremony.specs.Verdict.{Refused, RefusedMessage, Succeeds};
 ghost use Rattle.ceremony.specs.declared.error.Error.TheVariants as errors;
 
@@ -19,7 +19,7 @@ use crate::error::Error;
 use crate::live::{Live, feed_all};
 use client::{ResponseError, attestation_object};
 use cose::Verifier;
-use ctapmsg::{CreationReply, read_creation};
+use ctap_replies::{CreationReply, read_creation};
 use hidframe::Packet;
 use site::{Registered, RegistrationError, RegistrationParts, RegistrationRefusal, Site};
 use std::alloc::{AllocError, Global};
@@ -58,17 +58,18 @@ fn judge<V: Verifier>(
     message: &[u8],
 ) -> Result<Registered, Error<RegistrationRefusal>>
     ensures accepted { IfOk result (λ x. (r : Creation) × ReplyOf (creation_reply r) message.now
-        × PassesAll (V.valid verifier.now) (enrolment_in site.old session (response r client_data.now))
+        × PassesRegistration (V.valid verifier.now) (judged_registration site.old session (response r client_data.now))
         × IsRegistered (response r client_data.now) x × IsAfterRegistration site.old session (response r client_data.now) site.new) }
     ensures complete { (r : Creation) → ReplyOf (creation_reply r) message.now
-        → PassesAll (V.valid verifier.now) (enrolment_in site.old session (response r client_data.now)) → IfErr result (λ e. e ≡ errors.Memory) }
+        → PassesRegistration (V.valid verifier.now) (judged_registration site.old session (response r client_data.now))
+        → IfErr result (λ e. e ≡ errors.Memory) }
     ensures refused { IfErr result (RefusedMessage (ceremony.registration (V.valid verifier.now) site.old session client_data.now) message.now) }
     ensures unchanged { OnErr result (site.new ≡ site.old) }
 {
     let reply = match read_creation(alloc, message) {
         Ok(reply) => reply,
         Err(error) => match error {
-            ctapmsg::Error::Memory => return Err(Error::Memory),
+            ctap_status::Error::Memory => return Err(Error::Memory),
             _ => return Err(Error::Reply(error)),
         },
     };
@@ -101,7 +102,7 @@ impl Live {
         // It is accepted after n packets exactly if these carry a reply which passes each step of the site:
         // where it is accepted, they do,
         ensures accepted { (ps : List Packet) → HasGot self.now ps
-            → IfOk result (Accepts (V.valid verifier.now) site.old session client_data.now self.now.cid ps) }
+            → IfOk result (AcceptsRegistration (V.valid verifier.now) site.old session client_data.now self.now.cid ps) }
         // and where they do, it is accepted after just these, unless memory is wanting.
         ensures complete { (ps : List Packet) (n : ℕ) (r : Creation) → HasGot self.now ps
             → Succeeds (ceremony.registration (V.valid verifier.now) site.old session client_data.now) self.now.cid ps n r
@@ -147,7 +148,7 @@ pub fn register<V: Verifier>(
 ) -> Result<Enrolled, Error<RegistrationRefusal>>
     // It is accepted after n packets exactly if these carry a reply which passes each step of the site:
     // where it is accepted, they do,
-    ensures accepted { IfOk result (Accepts (V.valid verifier.now) site.old session client_data.now cid packets.now) }
+    ensures accepted { IfOk result (AcceptsRegistration (V.valid verifier.now) site.old session client_data.now cid packets.now) }
     // and where they do, it is accepted after just these, unless memory is wanting.
     ensures complete { (n : ℕ) (r : Creation)
         → Succeeds (ceremony.registration (V.valid verifier.now) site.old session client_data.now) cid packets.now n r

@@ -2,18 +2,18 @@
 
 ghost use Rattle.std.specs.Prelude.{◌≡◌, ◌+◌, ◌≤◌, ◌++◌, [], ◌∷◌, List, Err, IsErrOf, OnErr, OnOk, length, vec_capacity, vec_len};
 ghost use Rattle.hidframe.specs.declared.ctaphid.TheConstants.{CTAPHID_CBOR, CTAPHID_KEEPALIVE, MAX_PAYLOAD_SIZE, STATUS_UPNEEDED};
-ghost use Rattle.hidlink.specs.History.{Answered, Call, Kept, Leaves};
+ghost use Rattle.hidlink.specs.History.{Answered, DeviceCall, Kept, Leaves};
 ghost use Rattle.hidlink.specs.Ranks.{IsWorking, on_working, packets_of};
-ghost use Rattle.ceremony.specs.AtDevice.{Acts, Decides, Moves, Takes};
+ghost use Rattle.ceremony.specs.AtDevice.{DeviceActs, Decides, Moves, Takes};
 ghost use Rattle.ceremony.specs.Serving.{AsksForWork, Done, IsPayload, Serves};
 ghost use Rattle.ceremony.specs.declared.serving.ServeError.TheVariants as errors;
 
 use authenticator::{Authenticator, Consent, Words};
 use cose::Signer;
-use ctapmsg::status::KEEPALIVE_CANCEL;
+use ctap_status::status::KEEPALIVE_CANCEL;
 use hidframe::Packet;
 use hidframe::ctaphid::STATUS_UPNEEDED;
-use hidlink::{Device, Step};
+use hidlink::{Device, DeviceEvent};
 use std::alloc::AllocError;
 use thiserror::Error as ErrorType;
 
@@ -96,7 +96,7 @@ fn take(device: &mut Device, packet: &Packet)
     requires { device.old.left ≡ [] }
     ensures { Takes device.old packet.now device.new }
 {
-    if let Step::Cancelled = device.packet(packet) {
+    if let DeviceEvent::Cancelled = device.packet(packet) {
         let _ = device.answer(&[KEEPALIVE_CANCEL]);
     }
 }
@@ -110,7 +110,8 @@ fn decide<S: Signer>(
     words: Words,
 ) -> Result<(), ServeError>
     requires { device.old.left ≡ [] }
-    ensures decided { OnOk result (Decides (S.valid scheme.now) (S.public_of scheme.now) device.old authenticator.old consent words device.new authenticator.new) }
+    ensures decided { OnOk result (Decides (S.valid scheme.now)
+        (S.public_of scheme.now) device.old authenticator.old consent words device.new authenticator.new) }
     ensures not_working { IsErrOf result errors.NotWorking → IsWorking device.old.state → ⊥ }
     ensures device { OnErr result (device.new ≡ device.old) }
     ensures authenticator { OnErr result (authenticator.new ≡ authenticator.old) }
@@ -146,7 +147,7 @@ fn act_on<S: Signer>(
     act: Act,
 ) -> Result<(), ServeError>
     requires { device.old.left ≡ [] }
-    ensures acted { OnOk result (Acts (S.valid scheme.now) (S.public_of scheme.now) device.old authenticator.old act device.new authenticator.new) }
+    ensures acted { OnOk result (DeviceActs (S.valid scheme.now) (S.public_of scheme.now) device.old authenticator.old act device.new authenticator.new) }
     ensures not_working { IsErrOf result errors.NotWorking → AsksForWork act × (IsWorking device.old.state → ⊥) }
     ensures device { OnErr result (device.new ≡ device.old) }
     ensures authenticator { OnErr result (authenticator.new ≡ authenticator.old) }
@@ -187,7 +188,7 @@ pub fn serve<S: Signer>(
     ensures served { OnOk result ((done : Done)
         × Serves (S.valid scheme.now) (S.public_of scheme.now) device.old.channels device.old.state authenticator.old act done
         × (authenticator.new ≡ done.authenticator) × (out.new.items ≡ out.old.items ++ packets_of done.sent)
-        × ((h : List Call) → Leaves h device.old.channels device.old.state → Leaves (h ++ done.calls) device.new.channels device.new.state)) }
+        × ((h : List DeviceCall) → Leaves h device.old.channels device.old.state → Leaves (h ++ done.calls) device.new.channels device.new.state)) }
     // nothing is left to send,
     ensures drained { device.new.left ≡ [] }
     // and a refusal, for want of memory or of a request, changes nothing.

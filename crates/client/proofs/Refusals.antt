@@ -4,11 +4,11 @@ use Rattle.std.specs.Prelude.{Ok, Some, option_and_then}
 use Rattle.hidframe.specs.declared.Packet.{Packet}
 use Rattle.url.specs.Host.{domain_of}
 use Rattle.url.specs.Parts.{Parts, nonempty_host}
-use Rattle.first_line.proofs.Laws.{first_at}
+use Rattle.refusal_order.proofs.Laws.{first_at}
 use Rattle.client.specs.declared.error.RequestError.{RequestError}
 use Rattle.client.specs.declared.error.RequestError.TheVariants as refusals
 use Rattle.client.specs.Origins.{IsOriginOn, IsRpIdOf}
-use Rattle.client.specs.Asked.{Call, IsWritten, Asks, PassesAll, IsRefused}
+use Rattle.client.specs.Asked.{ClientCall, IsWritten, Asks, PassesRequest, IsRefused}
 use Rattle.client.specs.Steps.{MayAsk, MayNotAsk, IsFramed, IsNotSent}
 use Rattle.client.proofs.Messages.{one_message}
 
@@ -21,11 +21,11 @@ one_host text host other a b =
     cc
 
 -- the lines that a caller who may ask meets
-own_rp_id : (x : Call) → MayAsk x.origin x.rp_id → (host : List ℕ) → IsOriginOn host x.origin → IsRpIdOf host x.rp_id
+own_rp_id : (x : ClientCall) → MayAsk x.origin x.rp_id → (host : List ℕ) → IsOriginOn host x.origin → IsRpIdOf host x.rp_id
 own_rp_id x may host on = subst (λ h. IsRpIdOf h x.rp_id) (one_host x.origin may.host host may.on on) may.own
 
 -- the origin or the rp id is refused
-pub origin_fails : (x : Call) (e : RequestError) → MayNotAsk x.origin x.rp_id e → IsRefused x e
+pub origin_fails : (x : ClientCall) (e : RequestError) → MayNotAsk x.origin x.rp_id e → IsRefused x e
 origin_fails x refusals.BadOrigin none = first_at 0 refl tt (λ p. none p.0 p.1)
 origin_fails x refusals.RpIdNotOfOrigin m = first_at 1 refl ((m.0, m.1), tt) (λ p. m.2 (p m.0 m.1))
 origin_fails x refusals.Unfit m = absurd m
@@ -33,7 +33,7 @@ origin_fails x refusals.TooLong m = absurd m
 origin_fails x refusals.Memory m = tt
 
 -- the request is refused, where the caller may ask
-pub sending_fails : (x : Call) (e : RequestError) → MayAsk x.origin x.rp_id → IsNotSent x.request e → IsRefused x e
+pub sending_fails : (x : ClientCall) (e : RequestError) → MayAsk x.origin x.rp_id → IsNotSent x.request e → IsRefused x e
 sending_fails x refusals.BadOrigin may m = absurd m
 sending_fails x refusals.RpIdNotOfOrigin may m = absurd m
 sending_fails x refusals.Unfit may none = first_at 2 refl ((may.host, may.on), (own_rp_id x may, tt)) (λ p. none p.0 p.1)
@@ -42,12 +42,13 @@ sending_fails x refusals.TooLong may m =
 sending_fails x refusals.Memory may m = tt
 
 -- nothing is refused
-pub passes_all : (x : Call) (c : ℕ) (ps : List Packet) → MayAsk x.origin x.rp_id → IsFramed x.request c ps → PassesAll x
+pub passes_all : (x : ClientCall) (c : ℕ) (ps : List Packet) → MayAsk x.origin x.rp_id → IsFramed x.request c ps → PassesRequest x
 passes_all x c ps may f = ((may.host, may.on), (own_rp_id x may, ((f.message, f.written), (fits, tt))))
   where
     fits : (bs : List ℕ) → IsWritten x.request bs → length bs ≤ 7609
     fits bs w = subst (λ m. length m ≤ 7609) (one_message x.request f.message bs f.written.0 w.0) f.size
 
 -- what is handed out is the call's
-pub asks : (x : Call) (c : ℕ) (text : List ℕ) (ps : List Packet) → text ≡ x.client_data → IsFramed x.request c ps → Asks x c (record { client_data = text; packets = ps })
+pub asks : (x : ClientCall) (c : ℕ) (text : List ℕ) (ps : List Packet) → text ≡ x.client_data → IsFramed x.request c ps
+    → Asks x c (record { client_data = text; packets = ps })
 asks x c text ps same f = record { client_data = same; message = f.message; written = f.written; packets = f.packets }

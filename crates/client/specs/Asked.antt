@@ -1,7 +1,7 @@
 -- What a client asks an authenticator for: WebAuthn Level 2, sections 5.1.3 and 5.1.4; CTAP 2.1, sections 6.1
 -- and 6.2.
 use Rattle.std.specs.Prelude.{◌≡◌, ◌≤◌, ℕ, List, [], ◌∷◌, map, length, Bool, true, false, ◌||◌, Option, Some, None, codes, if◌then◌else◌}
-use Rattle.first_line.specs.Lines.{Each, FirstFailing}
+use Rattle.refusal_order.specs.Lines.{Each, FirstFailing}
 use Rattle.hidframe.specs.declared.Packet.{Packet}
 use Rattle.hidframe.specs.declared.ctaphid.TheConstants.{CTAPHID_CBOR, MAX_PAYLOAD_SIZE}
 use Rattle.hidframe.specs.Frames.{TheZeroFrames}
@@ -9,13 +9,13 @@ use Rattle.clientdata.specs.declared.record.CeremonyType.TheVariants.{Create, Ge
 use Rattle.clientdata.specs.Serialised.{client_data_text, hash_of}
 use Rattle.cose.specs.declared.key.Alg.{Alg}
 use Rattle.cose.specs.Keys.{number_of}
-use Rattle.ctapmsg.specs.Entities.{CredentialDescriptor, CredentialParameters, CreationFlags, AssertionFlags}
-use Rattle.ctapmsg.specs.Requests.{AssertionRequest, CreationRequest, RequestMessage, RequestOf, make_credential, get_assertion}
-use Rattle.ctapmsg.specs.Status.{NoStatus}
+use Rattle.ctap_requests.specs.Entities.{CredentialDescriptor, CredentialParameters, CreationFlags, AssertionFlags}
+use Rattle.ctap_requests.specs.Requests.{AssertionRequest, CreationRequest, RequestMessage, RequestOf, make_credential, get_assertion}
+use Rattle.ctap_requests.specs.Status.{NoStatus}
 use Rattle.client.specs.declared.error.RequestError.{RequestError}
 use Rattle.client.specs.declared.error.RequestError.TheVariants as refusals
 use Rattle.client.specs.declared.outgoing.Outgoing.{Outgoing}
-use Rattle.client.specs.Options.{SignIn, Registration}
+use Rattle.client.specs.Options.{SignInOptions, RegistrationOptions}
 use Rattle.client.specs.Origins.{IsOriginOn, IsRpIdOf}
 
 -- ---- members
@@ -51,18 +51,18 @@ creation_flags rk uv = if rk || uv then Some (record { rk = wanted rk; up = None
 -- ---- the calls
 
 -- who asks for which relying party: the caller's origin and the rp id; the client data, and the request
-pub record Call : Type 0 where
+pub record ClientCall : Type 0 where
   pub origin : List ℕ
   pub rp_id : List ℕ
   pub client_data : List ℕ
   pub request : RequestMessage
 
 -- the client data of a sign-in at an origin, which is not cross-origin (WebAuthn, section 5.8.1)
-abbrev pub sign_in_data : List ℕ → SignIn → List ℕ
+abbrev pub sign_in_data : List ℕ → SignInOptions → List ℕ
 sign_in_data origin o = client_data_text Get o.challenge origin false
 
 -- what authenticatorGetAssertion is asked for with these client data
-abbrev pub assertion_of : SignIn → List ℕ → AssertionRequest
+abbrev pub assertion_of : SignInOptions → List ℕ → AssertionRequest
 assertion_of o client_data = record {
   rp_id = o.rp_id;
   client_data_hash = hash_of client_data;
@@ -71,7 +71,7 @@ assertion_of o client_data = record {
 }
 
 -- a sign-in (section 5.1.4)
-abbrev pub sign_in_call : List ℕ → SignIn → Call
+abbrev pub sign_in_call : List ℕ → SignInOptions → ClientCall
 sign_in_call origin o = record {
   origin = origin;
   rp_id = o.rp_id;
@@ -80,11 +80,11 @@ sign_in_call origin o = record {
 }
 
 -- the client data of a registration
-abbrev pub registration_data : List ℕ → Registration → List ℕ
+abbrev pub registration_data : List ℕ → RegistrationOptions → List ℕ
 registration_data origin o = client_data_text Create o.challenge origin false
 
 -- what authenticatorMakeCredential is asked for with these client data
-abbrev pub creation_of : Registration → List ℕ → CreationRequest
+abbrev pub creation_of : RegistrationOptions → List ℕ → CreationRequest
 creation_of o client_data = record {
   client_data_hash = hash_of client_data;
   rp = record { id = o.rp_id; name = Some o.rp_name };
@@ -95,7 +95,7 @@ creation_of o client_data = record {
 }
 
 -- a registration (section 5.1.3)
-abbrev pub registration_call : List ℕ → Registration → Call
+abbrev pub registration_call : List ℕ → RegistrationOptions → ClientCall
 registration_call origin o = record {
   origin = origin;
   rp_id = o.rp_id;
@@ -118,7 +118,7 @@ abbrev pub IsWritten : RequestMessage → List ℕ → Type 0
 IsWritten q bs = RequestOf q None bs × NoStatus bs
 
 -- the client data are the call's, and the packets are its request on the channel, as CBOR and zero-filled
-pub record Asks (x : Call) (c : ℕ) (out : Sent) : Type 0 where
+pub record Asks (x : ClientCall) (c : ℕ) (out : Sent) : Type 0 where
   pub client_data : out.client_data ≡ x.client_data
   pub message : List ℕ
   pub written : IsWritten x.request message
@@ -127,25 +127,25 @@ pub record Asks (x : Call) (c : ℕ) (out : Sent) : Type 0 where
 -- ---- refusals
 
 -- what a call has to meet, a line a refusal
-abbrev pub Passes : Call → RequestError → Type 0
+abbrev pub PassesRequestStep : ClientCall → RequestError → Type 0
 -- the origin is one on some host
-Passes x refusals.BadOrigin = (host : List ℕ) × IsOriginOn host x.origin
+PassesRequestStep x refusals.BadOrigin = (host : List ℕ) × IsOriginOn host x.origin
 -- the rp id is one of that host
-Passes x refusals.RpIdNotOfOrigin = (host : List ℕ) → IsOriginOn host x.origin → IsRpIdOf host x.rp_id
+PassesRequestStep x refusals.RpIdNotOfOrigin = (host : List ℕ) → IsOriginOn host x.origin → IsRpIdOf host x.rp_id
 -- the request has bytes
-Passes x refusals.Unfit = (bs : List ℕ) × IsWritten x.request bs
+PassesRequestStep x refusals.Unfit = (bs : List ℕ) × IsWritten x.request bs
 -- they fit into a message
-Passes x refusals.TooLong = (bs : List ℕ) → IsWritten x.request bs → length bs ≤ MAX_PAYLOAD_SIZE
-Passes x refusals.Memory = Unit {0}
+PassesRequestStep x refusals.TooLong = (bs : List ℕ) → IsWritten x.request bs → length bs ≤ MAX_PAYLOAD_SIZE
+PassesRequestStep x refusals.Memory = Unit {0}
 
 -- the refusals in their order
 abbrev pub refusals_in_order : List RequestError
 refusals_in_order = refusals.BadOrigin ∷ refusals.RpIdNotOfOrigin ∷ refusals.Unfit ∷ refusals.TooLong ∷ []
 
-abbrev pub PassesAll : Call → Type 0
-PassesAll x = Each (Passes x) refusals_in_order
+abbrev pub PassesRequest : ClientCall → Type 0
+PassesRequest x = Each (PassesRequestStep x) refusals_in_order
 
 -- the first line that the call does not meet: it meets each earlier one
-abbrev pub IsRefused : Call → RequestError → Type 0
+abbrev pub IsRefused : ClientCall → RequestError → Type 0
 IsRefused x refusals.Memory = Unit {0}
-IsRefused x e = FirstFailing (Passes x) refusals_in_order e
+IsRefused x e = FirstFailing (PassesRequestStep x) refusals_in_order e

@@ -6,7 +6,7 @@ use Rattle.client.specs.declared.options.RequestOptions.{RequestOptions}
 use Rattle.client.specs.declared.options.CreationOptions.{CreationOptions}
 
 -- 5.5: challenge, rpId, the ids of allowCredentials, and whether userVerification is required
-pub record SignIn : Type 0 where
+pub record SignInOptions : Type 0 where
   pub challenge : List ℕ
   pub rp_id : List ℕ
   pub allow : List (List ℕ)
@@ -15,7 +15,7 @@ pub record SignIn : Type 0 where
 -- 5.4: challenge; rp, its id and name; user, its id, name and displayName; the algorithms of
 -- pubKeyCredParams; the ids of excludeCredentials; and of authenticatorSelection whether a resident key and
 -- userVerification are required
-pub record Registration : Type 0 where
+pub record RegistrationOptions : Type 0 where
   pub challenge : List ℕ
   pub rp_id : List ℕ
   pub rp_name : List ℕ
@@ -31,11 +31,11 @@ pub record Registration : Type 0 where
 abbrev pub ids_of : List (Bor (List ℕ)) → List (List ℕ)
 ids_of ids = map (λ id. id.now) ids
 
-abbrev pub sign_in_view : RequestOptions → SignIn
-sign_in_view o = record { challenge = o.challenge.now; rp_id = o.rp_id.now; allow = ids_of o.allow.now; uv = o.uv }
+abbrev pub sign_in_options_view : RequestOptions → SignInOptions
+sign_in_options_view o = record { challenge = o.challenge.now; rp_id = o.rp_id.now; allow = ids_of o.allow.now; uv = o.uv }
 
-abbrev pub registration_view : CreationOptions → Registration
-registration_view o = record {
+abbrev pub registration_options_view : CreationOptions → RegistrationOptions
+registration_options_view o = record {
   challenge = o.challenge.now;
   rp_id = o.rp_id.now;
   rp_name = o.rp_name.now;

@@ -1,11 +1,11 @@
 -- What a client hands to a relying party: WebAuthn Level 2, sections 5.2.1 and 5.2.2.
 use Rattle.std.specs.Prelude.{ℕ, List}
-use Rattle.ctapmsg.specs.Replies as replies
+use Rattle.ctap_replies.specs.Replies as replies
 use Rattle.authdata.specs.Objects.{Attestation}
 use Rattle.authdata.specs.Responses as responses
 
 -- the reply's members and the client data; how many credentials there are is the client's own
-abbrev pub response_of : replies.Assertion → List ℕ → responses.Assertion
+abbrev pub response_of : replies.Assertion → List ℕ → responses.AuthenticatorAssertionResponse
 response_of r client_data = record {
   credential = r.credential;
   user = r.user;

@@ -7,7 +7,7 @@ use Rattle.url.specs.Origin.{origin_of, ascii_serialization}
 use Rattle.hidframe.specs.declared.Packet.{Packet}
 use Rattle.hidframe.specs.declared.ctaphid.TheConstants.{CTAPHID_CBOR, MAX_PAYLOAD_SIZE}
 use Rattle.hidframe.specs.Frames.{TheZeroFrames}
-use Rattle.ctapmsg.specs.Requests.{RequestMessage}
+use Rattle.ctap_requests.specs.Requests.{RequestMessage}
 use Rattle.client.specs.declared.error.RequestError.{RequestError}
 use Rattle.client.specs.declared.error.RequestError.TheVariants as refusals
 use Rattle.client.specs.Origins.{IsOriginOn, IsRpIdOf}

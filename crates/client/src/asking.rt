@@ -1,9 +1,9 @@
 //! Asking an authenticator (WebAuthn Level 2, sections 5.1.3 and 5.1.4).
 
 ghost use Rattle.std.specs.Prelude.{◌≡◌, IfErr, IfOk, OnOk};
-ghost use Rattle.ctapmsg.specs.RequestView.{request_view};
-ghost use Rattle.client.specs.Asked.{Asks, Call, IsRefused, PassesAll, registration_call, sent_view, sign_in_call};
-ghost use Rattle.client.specs.Options.{registration_view, sign_in_view};
+ghost use Rattle.ctap_requests.specs.RequestView.{request_view};
+ghost use Rattle.client.specs.Asked.{Asks, ClientCall, IsRefused, PassesRequest, registration_call, sent_view, sign_in_call};
+ghost use Rattle.client.specs.Options.{registration_options_view, sign_in_options_view};
 ghost use Rattle.client.specs.Steps.{MayAsk};
 
 use crate::building::{client_data, get_assertion, make_credential};
@@ -12,7 +12,7 @@ use crate::options::{CreationOptions, RequestOptions};
 use crate::origin::check_origin;
 use crate::outgoing::{Outgoing, packets_of};
 use clientdata::CeremonyType;
-use ctapmsg::Request;
+use ctap_requests::Request;
 use std::alloc::Global;
 
 /// What a call hands out that has these client data and asks for this request.
@@ -22,10 +22,10 @@ fn outgoing(
     request: &Request,
     cid: u32,
 ) -> Result<Outgoing, RequestError>
-    ensures passes { (x : Call) → MayAsk x.origin x.rp_id → request_view request.now ≡ x.request → OnOk result (PassesAll x) }
-    ensures asks { (x : Call) → client_data.items ≡ x.client_data → request_view request.now ≡ x.request
+    ensures passes { (x : ClientCall) → MayAsk x.origin x.rp_id → request_view request.now ≡ x.request → OnOk result (PassesRequest x) }
+    ensures asks { (x : ClientCall) → client_data.items ≡ x.client_data → request_view request.now ≡ x.request
         → IfOk result (λ out. Asks x cid (sent_view out)) }
-    ensures refused { (x : Call) → MayAsk x.origin x.rp_id → request_view request.now ≡ x.request → IfErr result (IsRefused x) }
+    ensures refused { (x : ClientCall) → MayAsk x.origin x.rp_id → request_view request.now ≡ x.request → IfErr result (IsRefused x) }
 {
     let packets = packets_of(alloc, request, cid)?;
     Ok(Outgoing {
@@ -50,9 +50,9 @@ pub fn assertion_request(
     options: &RequestOptions<'_>,
     cid: u32,
 ) -> Result<Outgoing, RequestError>
-    ensures passes { OnOk result (PassesAll (sign_in_call origin.now (sign_in_view options.now))) }
-    ensures asks { IfOk result (λ out. Asks (sign_in_call origin.now (sign_in_view options.now)) cid (sent_view out)) }
-    ensures refused { IfErr result (IsRefused (sign_in_call origin.now (sign_in_view options.now))) }
+    ensures passes { OnOk result (PassesRequest (sign_in_call origin.now (sign_in_options_view options.now))) }
+    ensures asks { IfOk result (λ out. Asks (sign_in_call origin.now (sign_in_options_view options.now)) cid (sent_view out)) }
+    ensures refused { IfErr result (IsRefused (sign_in_call origin.now (sign_in_options_view options.now))) }
 {
     check_origin(alloc, origin, options.rp_id)?;
     let client_data = client_data(alloc, CeremonyType::Get, options.challenge, origin)?;
@@ -76,9 +76,9 @@ pub fn creation_request(
     options: &CreationOptions<'_>,
     cid: u32,
 ) -> Result<Outgoing, RequestError>
-    ensures passes { OnOk result (PassesAll (registration_call origin.now (registration_view options.now))) }
-    ensures asks { IfOk result (λ out. Asks (registration_call origin.now (registration_view options.now)) cid (sent_view out)) }
-    ensures refused { IfErr result (IsRefused (registration_call origin.now (registration_view options.now))) }
+    ensures passes { OnOk result (PassesRequest (registration_call origin.now (registration_options_view options.now))) }
+    ensures asks { IfOk result (λ out. Asks (registration_call origin.now (registration_options_view options.now)) cid (sent_view out)) }
+    ensures refused { IfErr result (IsRefused (registration_call origin.now (registration_options_view options.now))) }
 {
     check_origin(alloc, origin, options.rp_id)?;
     let client_data = client_data(alloc, CeremonyType::Create, options.challenge, origin)?;

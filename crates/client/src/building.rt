@@ -2,14 +2,14 @@
 
 ghost use Rattle.std.specs.Prelude.{◌≡◌, IfOk, Some, false, option_map};
 ghost use Rattle.clientdata.specs.Serialised.{client_data_text};
-ghost use Rattle.ctapmsg.specs.RequestView.{assertion_options_view, assertion_view, creation_options_view, creation_view, rp_view, user_view};
+ghost use Rattle.ctap_requests.specs.RequestView.{assertion_options_view, assertion_view, creation_options_view, creation_view, rp_view, user_view};
 ghost use Rattle.client.specs.Asked.{assertion_flags, assertion_of, creation_flags, creation_of, wanted};
-ghost use Rattle.client.specs.Options.{registration_view, sign_in_view};
+ghost use Rattle.client.specs.Options.{registration_options_view, sign_in_options_view};
 
 use crate::entities::{descriptors, parameters};
 use crate::options::{CreationOptions, RequestOptions};
 use clientdata::{CeremonyType, ClientData, hash, serialise};
-use ctapmsg::{AssertionOptions, GetAssertion, MakeCredential, RelyingParty, User};
+use ctap_requests::{AssertionOptions, GetAssertion, MakeCredential, RelyingParty, User};
 use std::alloc::{AllocError, Global};
 
 /// The client data of a ceremony, not cross-origin.
@@ -52,11 +52,11 @@ fn assertion_options(uv: bool) -> Option<AssertionOptions>
 }
 
 /// The options of a registration, if there are any to write.
-fn creation_options(rk: bool, uv: bool) -> Option<ctapmsg::CreationOptions>
+fn creation_options(rk: bool, uv: bool) -> Option<ctap_requests::CreationOptions>
     ensures { option_map creation_options_view result ≡ creation_flags rk uv }
 {
     if rk || uv {
-        Some(ctapmsg::CreationOptions {
+        Some(ctap_requests::CreationOptions {
             rk: wanted(rk),
             up: None,
             uv: wanted(uv),
@@ -73,7 +73,7 @@ pub fn get_assertion(
     client_data: &[u8],
 ) -> Result<GetAssertion, AllocError>
     ensures { IfOk result (λ q. assertion_view q
-        ≡ assertion_of (sign_in_view options.now) client_data.now) }
+        ≡ assertion_of (sign_in_options_view options.now) client_data.now) }
 {
     Ok(GetAssertion {
         rp_id: String::from_str(alloc, options.rp_id)?,
@@ -115,7 +115,7 @@ pub fn make_credential(
     client_data: &[u8],
 ) -> Result<MakeCredential, AllocError>
     ensures { IfOk result (λ q. creation_view q
-        ≡ creation_of (registration_view options.now) client_data.now) }
+        ≡ creation_of (registration_options_view options.now) client_data.now) }
 {
     Ok(MakeCredential {
         client_data_hash: Vec::from_slice(alloc, &hash(client_data))?,

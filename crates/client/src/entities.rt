@@ -2,12 +2,12 @@
 
 ghost use Rattle.std.specs.Prelude.{◌≡◌, IfOk, map, option_map};
 ghost use Rattle.cose.specs.Keys.{number_of};
-ghost use Rattle.ctapmsg.specs.RequestView.{descriptor_view, parameters_view};
+ghost use Rattle.ctap_requests.specs.RequestView.{descriptor_view, parameters_view};
 ghost use Rattle.client.specs.Asked.{descriptor_of, descriptors_of, parameters_of};
 ghost use Rattle.client.specs.Options.{ids_of};
 
 use cose::Alg;
-use ctapmsg::{Descriptor, Parameters};
+use ctap_requests::{Descriptor, Parameters};
 use std::alloc::{AllocError, Global};
 
 /// The type of a public key credential (WebAuthn Level 2, section 5.8.2).

@@ -3,12 +3,12 @@
 ghost use Rattle.std.specs.Prelude.{◌≡◌, [], ◌∷◌, ℕ, IfErr, IfOk, List, None};
 ghost use Rattle.hidframe.specs.declared.ctaphid.TheConstants.{CTAPHID_CBOR};
 ghost use Rattle.hidframe.specs.Frames.{TheZeroFrames};
-ghost use Rattle.ctapmsg.specs.Requests.{RequestOf, get_next_assertion};
-ghost use Rattle.ctapmsg.specs.RequestView.{request_view};
+ghost use Rattle.ctap_requests.specs.Requests.{RequestOf, get_next_assertion};
+ghost use Rattle.ctap_requests.specs.RequestView.{request_view};
 ghost use Rattle.client.specs.Steps.{IsFramed, IsNotFramed, IsNotSent};
 
 use crate::error::RequestError;
-use ctapmsg::{Request, write_request};
+use ctap_requests::{Request, write_request};
 use hidframe::ctaphid::CTAPHID_CBOR;
 use hidframe::{Packet, frame, packet_at};
 use std::alloc::Global;
@@ -43,7 +43,7 @@ pub fn packets_of(alloc: Global, request: &Request, cid: u32) -> Result<Vec<Pack
 {
     match write_request(alloc, request) {
         Ok(message) => framed(alloc, cid, &message),
-        Err(ctapmsg::Error::Unfit) => Err(RequestError::Unfit),
+        Err(ctap_status::Error::Unfit) => Err(RequestError::Unfit),
         Err(_) => Err(RequestError::Memory),
     }
 }

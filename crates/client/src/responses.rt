@@ -2,20 +2,20 @@
 
 ghost use Rattle.std.specs.Prelude.{◌≡◌, ℕ, IfOk, IsErrOf, List};
 ghost use Rattle.authdata.specs.Objects.{ObjectOf};
-ghost use Rattle.authdata.specs.Responses.{assertion_view};
-ghost use Rattle.ctapmsg.specs.ReplyView.{assertion_reply_view, creation_reply_view};
+ghost use Rattle.authdata.specs.Responses.{assertion_response_view};
+ghost use Rattle.ctap_replies.specs.ReplyView.{assertion_reply_view, creation_reply_view};
 ghost use Rattle.client.specs.Responses.{object_of, response_of};
 ghost use Rattle.client.specs.declared.error.ResponseError.TheVariants as errors;
 
 use crate::error::ResponseError;
 use authdata::{AssertionResponse, AttestationObject, RegistrationResponse};
-use ctapmsg::{AssertionReply, CreationReply};
+use ctap_replies::{AssertionReply, CreationReply};
 use std::alloc::Global;
 
 /// The response of a sign-in (`AuthenticatorAssertionResponse`, WebAuthn Level 2, section 5.2.2): the members
 /// of the authenticator's reply, unchanged, and the client data that were sent with its request. Takes no memory.
 pub fn assertion_response(reply: AssertionReply, client_data: Vec<u8>) -> AssertionResponse
-    ensures { assertion_view result ≡ response_of (assertion_reply_view reply) client_data.items }
+    ensures { assertion_response_view result ≡ response_of (assertion_reply_view reply) client_data.items }
 {
     AssertionResponse {
         credential: reply.credential,

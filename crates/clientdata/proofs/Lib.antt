@@ -6,3 +6,4 @@ pub mod Texts
 pub mod ReadBack
 pub mod Plain
 pub mod Whole
+pub mod Lists

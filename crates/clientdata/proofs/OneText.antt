@@ -8,5 +8,6 @@ use Rattle.clientdata.specs.Serialised.{challenge_text_of}
 pub one_challenge : (a b : List ℕ) → IsBytes a → IsBytes b → challenge_text_of a ≡ challenge_text_of b → a ≡ b
 unfolding challenge_text_of
 one_challenge a b a_bytes b_bytes same =
-    let back = sym (decode_of-encode_of url_safe_no_pad a refl a_bytes) ∙ ap (decode_of url_safe_no_pad) same ∙ decode_of-encode_of url_safe_no_pad b refl b_bytes in
+    let back = sym (decode_of-encode_of url_safe_no_pad a refl a_bytes) ∙ ap (decode_of url_safe_no_pad) same
+    ∙ decode_of-encode_of url_safe_no_pad b refl b_bytes in
     cc back

@@ -1,5 +1,6 @@
 -- Texts of which each byte stands for itself between quotation marks; the texts of challenges are.
-use Rattle.std.proofs.Common.{◌≡◌, ◌<◌, ◌&&◌, ◌+◌, ◌*◌, ◌/◌, ◌%◌, Bool, true, false, not, ℕ, zero, suc, List, [], ◌∷◌, ◌++◌, refl, append-nil, arith, slice_index}
+use Rattle.std.proofs.Common.{◌≡◌, ◌<◌, ◌&&◌, ◌+◌, ◌*◌, ◌/◌, ◌%◌, Bool, true, false, not, ℕ, zero, suc, List, [], ◌∷◌, ◌++◌, refl, append-nil, arith}
+use Rattle.std.proofs.Common.{slice_index}
 use Rattle.std.specs.List.{AllByRecursion}
 use Rattle.std.specs.Prelude.{IsAscii, codes, flat_map, nat_lt, ◌==◌}
 use Rattle.std.proofs.lemmas.Bool.{and_parts, eqb-false, ltb-true, ne_eqb, le-ltb}

@@ -1,5 +1,6 @@
 -- Serialised client data are read as what was serialised.
-use Rattle.std.proofs.Common.{◌≡◌, ℕ, Bool, true, false, List, [], ◌∷◌, ◌++◌, Option, Some, None, refl, sym, ap, ap₂, ◌∙◌, arith, append_assoc, append-nil, option_and_then, IsUtf8}
+use Rattle.std.proofs.Common.{◌≡◌, ℕ, Bool, true, false, List, [], ◌∷◌, ◌++◌, Option, Some, None, refl, sym, ap, ap₂, ◌∙◌, arith, append_assoc}
+use Rattle.std.proofs.Common.{append-nil, option_and_then, IsUtf8}
 use Rattle.std.specs.Prelude.{chars, codes, flat_map}
 use Rattle.std.proofs.lemmas.List.{append_cancel_left}
 use Rattle.std.proofs.lemmas.Str.{encodes-chars}
@@ -64,13 +65,16 @@ module _ (t c o : List ℕ) (cross : Bool) where
       (json.member (codes "origin") (json.string o) (json.member (codes "crossOrigin") (json.boolean cross) json.no_members))))
 
   abbrev pieces : List ℕ
-  pieces = codes "{\"type\":" ++ (quoted t ++ (codes ",\"challenge\":" ++ (quoted c ++ (codes ",\"origin\":" ++ (quoted o ++ (codes ",\"crossOrigin\":" ++ (truth_of cross ++ codes "}")))))))
+  pieces = codes "{\"type\":" ++ (quoted t
+      ++ (codes ",\"challenge\":" ++ (quoted c ++ (codes ",\"origin\":" ++ (quoted o ++ (codes ",\"crossOrigin\":" ++ (truth_of cross ++ codes "}")))))))
 
   lex-pieces : IsUtf8 t → IsUtf8 c → IsUtf8 o → lex between pieces ≡ lexemes
   lex-pieces ut uc uo =
       let after_origin = lex-quoted o _ uo ∙ ap (λ l. token (string o) ∷ l) (lex-cross cross) in
-      let after_challenge = lex-quoted c _ uc ∙ ap (λ l. token (string c) ∷ l) (lex-origin _ ∙ ap (λ l. comma ∷ token (string (codes "origin")) ∷ colon ∷ l) after_origin) in
-      let after_type = lex-quoted t _ ut ∙ ap (λ l. token (string t) ∷ l) (lex-challenge _ ∙ ap (λ l. comma ∷ token (string (codes "challenge")) ∷ colon ∷ l) after_challenge) in
+      let after_challenge = lex-quoted c _ uc
+      ∙ ap (λ l. token (string c) ∷ l) (lex-origin _ ∙ ap (λ l. comma ∷ token (string (codes "origin")) ∷ colon ∷ l) after_origin) in
+      let after_type = lex-quoted t _ ut
+      ∙ ap (λ l. token (string t) ∷ l) (lex-challenge _ ∙ ap (λ l. comma ∷ token (string (codes "challenge")) ∷ colon ∷ l) after_challenge) in
       lex-type _ ∙ ap (λ l. token begin_object ∷ token (string (codes "type")) ∷ colon ∷ l) after_type
 
   punctuate-lexemes : punctuate fresh lexemes ≡ json_tokens tree
@@ -83,12 +87,14 @@ module _ (t c o : List ℕ) (cross : Bool) where
       let parsed = ap (json.value max_depth) same ∙ value-json_tokens tree max_depth [] (omega arith) in
       ap (λ p. option_and_then seen_in (option_and_then of_json (option_and_then (λ q. json.if_last q.0 q.1) p))) parsed
 
-pieces-text : (kind : CeremonyType) (challenge origin : List ℕ) (cross : Bool) → client_data_text kind challenge origin cross ≡ pieces (type_of kind) (challenge_text_of challenge) origin cross
+pieces-text : (kind : CeremonyType) (challenge origin : List ℕ) (cross : Bool)
+    → client_data_text kind challenge origin cross ≡ pieces (type_of kind) (challenge_text_of challenge) origin cross
 unfolding client_data_front
 pieces-text kind challenge origin cross = simp append_assoc
 
 pub seen_of-text : (kind : CeremonyType) (challenge origin : List ℕ) (cross : Bool) → IsUtf8 origin
-    → seen_of (client_data_text kind challenge origin cross) ≡ Some (record { kind = type_of kind; challenge = challenge_text_of challenge; origin = origin; binding = Absent })
+    → seen_of (client_data_text kind challenge origin cross) ≡ Some
+    (record { kind = type_of kind; challenge = challenge_text_of challenge; origin = origin; binding = Absent })
 unfolding seen_of
 seen_of-text kind challenge origin cross u =
     rw (is_text-text kind challenge origin cross u)
@@ -110,9 +116,11 @@ one_truth false true e = absurd (cc)
 one_truth false false e = refl
 
 one_end : (front : List ℕ) (x y : Bool) → (front ++ truth_of x) ++ codes "}" ≡ (front ++ truth_of y) ++ codes "}" → x ≡ y
-one_end front x y e = one_truth x y (append_cancel_left front _ _ (sym (append_assoc front (truth_of x) (codes "}")) ∙ e ∙ append_assoc front (truth_of y) (codes "}")))
+one_end front x y e = one_truth x y
+    (append_cancel_left front _ _ (sym (append_assoc front (truth_of x) (codes "}")) ∙ e ∙ append_assoc front (truth_of y) (codes "}")))
 
-one_cross : (kind : CeremonyType) (challenge origin : List ℕ) (x y : Bool) → client_data_text kind challenge origin x ≡ client_data_text kind challenge origin y → x ≡ y
+one_cross : (kind : CeremonyType) (challenge origin : List ℕ) (x y : Bool) → client_data_text kind challenge origin x ≡ client_data_text kind challenge origin y
+    → x ≡ y
 unfolding client_data_front
 one_cross kind challenge origin x y e =
     one_end (codes "{\"type\":" ++ quoted (type_of kind) ++ codes ",\"challenge\":" ++ quoted (challenge_text_of challenge)
@@ -122,7 +130,8 @@ abbrev some_seen : Option Seen → Seen
 some_seen None = record { kind = []; challenge = []; origin = []; binding = Absent }
 some_seen (Some seen) = seen
 
-pub one_record : (k l : CeremonyType) (a b o p : List ℕ) (x y : Bool) → IsBytes a → IsBytes b → IsUtf8 o → IsUtf8 p → client_data_text k a o x ≡ client_data_text l b p y → (k ≡ l) × (a ≡ b) × (o ≡ p) × (x ≡ y)
+pub one_record : (k l : CeremonyType) (a b o p : List ℕ) (x y : Bool) → IsBytes a → IsBytes b → IsUtf8 o → IsUtf8 p
+    → client_data_text k a o x ≡ client_data_text l b p y → (k ≡ l) × (a ≡ b) × (o ≡ p) × (x ≡ y)
 one_record k l a b o p x y a_bytes b_bytes uo up e =
     let seen = sym (seen_of-text k a o x uo) ∙ ap seen_of e ∙ seen_of-text l b p y up in
     let kinds : type_of k ≡ type_of l = ap (λ s. (some_seen s).kind) seen in

@@ -76,6 +76,7 @@ IsUtf8-text kind challenge origin cross u =
     (ascii (codes ",\"crossOrigin\":") refl)) (IsUtf8-truth cross))
     (ascii (codes "}") refl)
 
-pub is_text-text : (kind : CeremonyType) (challenge origin : List ℕ) (cross : Bool) → IsUtf8 origin → is_text (client_data_text kind challenge origin cross) ≡ true
+pub is_text-text : (kind : CeremonyType) (challenge origin : List ℕ) (cross : Bool) → IsUtf8 origin
+    → is_text (client_data_text kind challenge origin cross) ≡ true
 unfolding client_data_front
 is_text-text kind challenge origin cross u = is_utf8-from_IsUtf8 _ (IsUtf8-text kind challenge origin cross u)

@@ -1,9 +1,9 @@
 -- The pieces of serialised client data around the challenge, and texts that are written as they are. Private functions
 -- are proved against these.
-use Rattle.std.specs.Prelude.{◌≢◌, ◌≤◌, ◌<◌, ℕ, List, ◌++◌, codes, length, slice_index}
+use Rattle.std.specs.Prelude.{◌≡◌, ◌≢◌, ◌≤◌, ◌<◌, ℕ, Bool, List, ◌++◌, codes, length, slice_index}
 use Rattle.clientdata.specs.declared.record.CeremonyType.{CeremonyType}
 use Rattle.clientdata.specs.Quoted.{quoted}
-use Rattle.clientdata.specs.Serialised.{type_of}
+use Rattle.clientdata.specs.Serialised.{truth_of, type_of}
 
 -- up to the challenge's first character
 unfoldable pub before_challenge : CeremonyType → List ℕ
@@ -12,6 +12,10 @@ before_challenge kind = codes "{\"type\":" ++ quoted (type_of kind) ++ codes ",\
 -- from behind the challenge's last character to before the last member's value
 unfoldable pub behind_challenge : List ℕ → List ℕ
 behind_challenge origin = codes "\",\"origin\":" ++ quoted origin ++ codes ",\"crossOrigin\":"
+
+-- what stands behind the challenge
+abbrev pub IsBehindChallenge : List ℕ → Bool → List ℕ → Type 0
+IsBehindChallenge origin cross rest = rest ≡ behind_challenge origin ++ (truth_of cross ++ codes "}")
 
 -- a byte that is an ASCII character and stands for itself between quotation marks
 abbrev pub IsPlain : ℕ → Type 0

@@ -1,6 +1,6 @@
 //! Challenges as texts.
 
-ghost use Rattle.std.specs.Prelude.{◌≡◌, IfOk, string_bytes};
+ghost use Rattle.std.specs.Prelude.{◌≡◌, ◌↔◌, IfOk, IsTrue, string_bytes};
 ghost use Rattle.clientdata.specs.Expected.{ArePlain};
 ghost use Rattle.clientdata.specs.Serialised.{challenge_text_of};
 
@@ -24,4 +24,11 @@ pub(crate) fn challenge_bytes(challenge: &[u8; 32]) -> [u8; 43]
     let mut text = [0; 43];
     let _ = URL_SAFE_NO_PAD.encode_slice(challenge, &mut text).unwrap();
     text
+}
+
+/// Whether a text is the challenge's, of 32 bytes, as client data have it. It takes no memory.
+pub fn is_challenge_text(text: &str, challenge: &[u8; 32]) -> bool
+    ensures { IsTrue result ↔ (text.now ≡ challenge_text_of challenge.now) }
+{
+    text.as_bytes() == challenge_bytes(challenge).as_slice()
 }

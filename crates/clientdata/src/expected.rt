@@ -1,8 +1,8 @@
 //! Client data that are, byte for byte, what was expected: told without memory.
 
-ghost use Rattle.std.specs.Prelude.{◌≡◌, ◌≢◌, ◌↔◌, ◌++◌, ℕ, List, Bool, IfOk, IsTrue, IsUtf8, MatchOption};
-ghost use Rattle.clientdata.specs.Expected.{before_challenge, behind_challenge};
-ghost use Rattle.clientdata.specs.Serialised.{challenge_text_of, client_data_text};
+ghost use Rattle.std.specs.Prelude.{◌≡◌, ◌≢◌, ◌↔◌, ◌++◌, ℕ, List, Bool, Contains, IfOk, IsTrue, IsUtf8, MatchOption};
+ghost use Rattle.clientdata.specs.Expected.{IsBehindChallenge, before_challenge, behind_challenge};
+ghost use Rattle.clientdata.specs.Serialised.{client_data_text};
 
 use crate::challenge::challenge_bytes;
 use crate::quoting::push_quoted;
@@ -57,6 +57,17 @@ impl ExpectedOrigin {
     {
         self.written.as_bytes()
     }
+
+    /// Whether these bytes stand behind the challenge in serialised client data of this origin, cross-origin or not.
+    fn ends(&self, rest: &[u8]) -> bool
+        ensures told { IsTrue result ↔ ((cross : Bool) × IsBehindChallenge self.now cross rest.now) }
+        ensures utf8 { IsUtf8 self.now }
+    {
+        match behind(rest, self.written()) {
+            Some(rest) => rest == b"false}".as_slice() || rest == b"true}".as_slice(),
+            None => false,
+        }
+    }
 }
 
 /// The text before the challenge.
@@ -70,19 +81,26 @@ fn before_challenge(kind: CeremonyType) -> &'static [u8]
 }
 
 /// What stands behind a front of the bytes.
-fn behind<'a>(bytes: &'a [u8], front: &[u8]) -> Option<&'a [u8]>
+pub(crate) fn behind<'a>(bytes: &'a [u8], front: &[u8]) -> Option<&'a [u8]>
     ensures { MatchOption result ((rest : List ℕ) → bytes.now ≢ front.now ++ rest) (λ rest. bytes.now ≡ front.now ++ rest.now) }
 {
     bytes.strip_prefix(front)
 }
 
-/// What stands behind a front of the bytes and a second one.
-fn behind_both<'a>(bytes: &'a [u8], front: &[u8], second: &[u8]) -> Option<&'a [u8]>
-    ensures { MatchOption result ((rest : List ℕ) → bytes.now ≢ front.now ++ (second.now ++ rest))
-        (λ rest. bytes.now ≡ front.now ++ (second.now ++ rest.now)) }
+/// What stands behind the challenge, where the bytes begin as serialised client data of this ceremony and challenge do.
+fn behind_challenge<'a>(
+    bytes: &'a [u8],
+    kind: CeremonyType,
+    challenge: &[u8; 32],
+) -> Option<&'a [u8]>
+    ensures { MatchOption result
+        ((origin : List ℕ) (cross : Bool) → bytes.now ≢ client_data_text kind challenge.now origin cross)
+        (λ rest. (origin : List ℕ) (cross : Bool)
+        → (bytes.now ≡ client_data_text kind challenge.now origin cross) ↔ IsBehindChallenge origin cross rest.now) }
 {
-    let rest = behind(bytes, front)?;
-    behind(rest, second)
+    let challenge = challenge_bytes(challenge);
+    let rest = behind(bytes, before_challenge(kind))?;
+    behind(rest, &challenge)
 }
 
 /// Whether the bytes are the serialised client data (WebAuthn Level 2, section 5.8.1.1) of this ceremony,
@@ -96,12 +114,29 @@ pub fn is_serialised(
     ensures told { IsTrue result ↔ ((cross : Bool) × (bytes.now ≡ client_data_text kind challenge.now origin.now cross)) }
     ensures utf8 { IsTrue result → IsUtf8 origin.now }
 {
-    let challenge = challenge_bytes(challenge);
-    let Some(rest) = behind_both(bytes, before_challenge(kind), &challenge) else {
+    match behind_challenge(bytes, kind, challenge) {
+        Some(rest) => origin.ends(rest),
+        None => false,
+    }
+}
+
+/// The same for one of several origins: the challenge's text is made and compared once. It takes no memory.
+pub fn is_serialised_for_any(
+    bytes: &[u8],
+    kind: CeremonyType,
+    challenge: &[u8; 32],
+    origins: &[ExpectedOrigin],
+) -> bool
+    ensures { IsTrue result ↔ ((origin : List ℕ) × (cross : Bool) × Contains origins.now origin × IsUtf8 origin
+        × (bytes.now ≡ client_data_text kind challenge.now origin cross)) }
+{
+    let Some(rest) = behind_challenge(bytes, kind, challenge) else {
         return false;
     };
-    let Some(rest) = behind(rest, origin.written()) else {
-        return false;
-    };
-    rest == b"false}".as_slice() || rest == b"true}".as_slice()
+    for origin in origins {
+        if origin.ends(rest) {
+            return true;
+        }
+    }
+    false
 }

@@ -13,10 +13,10 @@ mod seen;
 mod serialising;
 mod text;
 
-pub use challenge::challenge_text;
+pub use challenge::{challenge_text, is_challenge_text};
 pub use digest::hash;
 pub use error::Error;
-pub use expected::{ExpectedOrigin, is_serialised};
+pub use expected::{ExpectedOrigin, is_serialised, is_serialised_for_any};
 pub use law::{challenge_texts, digest_lengths, serialised_texts};
 pub use quoting::quoted_text;
 pub use record::{CeremonyType, ClientData};

@@ -3,17 +3,14 @@ use Rattle.std.proofs.Common.{◌≡◌, ℕ, cond, eqb, List, length, Option, S
 use Rattle.std.proofs.lemmas.Bool.{eqb-true, eq-eqb}
 use Rattle.std.proofs.lemmas.Option.{cond_some}
 use Rattle.ccbor.specs.Item.{Item, uint, nint, bytes, map, Pairs, no_pairs, pair}
-use Rattle.cose.specs.Reading.{◌>>=◌}
+use Rattle.ccbor.specs.Reading.{◌>>=◌}
 use Rattle.ccbor.specs.Access.{is_same_key, split_key, bytes_in, is_end}
+use Rattle.ccbor.proofs.Numbers.{bind_some}
 use Rattle.ccbor.proofs.AccessLemmas.{same_key, split_key_takes, bytes_in_is, end_is}
 use Rattle.cose.specs.declared.key.CoseKey.{CoseKey}
 use Rattle.cose.specs.declared.key.CoseKey.TheVariants as keys
 use Rattle.cose.specs.Keys.{item_of, KeyOf}
 use Rattle.cose.specs.Reading.{constant_at, coordinate_at, es256_at, eddsa_at}
-
-bind_some : {A B : Type 0} (r : Option A) (f : A → Option B) (y : B) → (r >>= f) ≡ Some y → (x : A) × (r ≡ Some x) × (f x ≡ Some y)
-bind_some (Some x) f y e = (x, refl, e)
-bind_some None f y e = absurd cc
 
 -- ---- what is read is the key's
 

@@ -2,14 +2,10 @@
 -- It reads a key from the pairs of a map, front first.
 use Rattle.std.specs.Prelude.{ℕ, List, length, Option, Some, None, ◌==◌, if◌then◌else◌}
 use Rattle.ccbor.specs.Item.{Item, uint, nint, Pairs}
+use Rattle.ccbor.specs.Reading.{◌>>=◌}
 use Rattle.ccbor.specs.Access.{split_key, is_same_key, is_end, bytes_in}
 use Rattle.cose.specs.declared.key.CoseKey.{CoseKey}
 use Rattle.cose.specs.declared.key.CoseKey.TheVariants as keys
-
-infixl 10 ◌>>=◌
-abbrev pub ◌>>=◌ : {A B : Type 0} → Option A → (A → Option B) → Option B
-(Some x) >>= f = f x
-None >>= f = None
 
 unfoldable pub constant_at : Item → Item → Pairs → Option Pairs
 constant_at k v ps = do

@@ -6,14 +6,14 @@ ghost use Rattle.ccbor.specs.Access.{key_item};
 ghost use Rattle.cose.specs.Reading.{constant_at, coordinate_at, es256_at, eddsa_at};
 
 use crate::key::CoseKey;
-use ccbor::{Key, Value, is_end, split_key};
+use ccbor::{MapKey, Value, is_end, split_key};
 
 /// The pairs behind a first one that has this key and this value.
 #[tactic(auto, unfolding(crate::specs::Reading::constant_at))]
 fn constant<'a>(
     pairs: &'a [(Value, Value)],
-    key: Key<'_>,
-    value: Key<'_>,
+    key: MapKey<'_>,
+    value: MapKey<'_>,
 ) -> Option<&'a [(Value, Value)]>
     ensures { option_map (λ x. pairs_view x.now) result
         ≡ constant_at (key_item key.entry) (key_item value.entry) (pairs_view pairs.now) }
@@ -30,7 +30,7 @@ fn constant<'a>(
 #[tactic(auto, unfolding(crate::specs::Reading::coordinate_at))]
 fn coordinate<'a>(
     pairs: &'a [(Value, Value)],
-    key: Key<'_>,
+    key: MapKey<'_>,
 ) -> Option<([u8; 32], &'a [(Value, Value)])>
     ensures { option_map (λ x. (x.0, pairs_view x.1.now)) result
         ≡ coordinate_at (key_item key.entry) (pairs_view pairs.now) }
@@ -48,11 +48,11 @@ fn coordinate<'a>(
 pub fn es256(pairs: &[(Value, Value)]) -> Option<CoseKey>
     ensures { result ≡ es256_at (pairs_view pairs.now) }
 {
-    let pairs = constant(pairs, Key::Uint(1), Key::Uint(2))?;
-    let pairs = constant(pairs, Key::Uint(3), Key::Nint(6))?;
-    let pairs = constant(pairs, Key::Nint(0), Key::Uint(1))?;
-    let (x, pairs) = coordinate(pairs, Key::Nint(1))?;
-    let (y, pairs) = coordinate(pairs, Key::Nint(2))?;
+    let pairs = constant(pairs, MapKey::Uint(1), MapKey::Uint(2))?;
+    let pairs = constant(pairs, MapKey::Uint(3), MapKey::Nint(6))?;
+    let pairs = constant(pairs, MapKey::Nint(0), MapKey::Uint(1))?;
+    let (x, pairs) = coordinate(pairs, MapKey::Nint(1))?;
+    let (y, pairs) = coordinate(pairs, MapKey::Nint(2))?;
     if is_end(pairs) {
         Some(CoseKey::Es256 { x, y })
     } else {
@@ -65,10 +65,10 @@ pub fn es256(pairs: &[(Value, Value)]) -> Option<CoseKey>
 pub fn eddsa(pairs: &[(Value, Value)]) -> Option<CoseKey>
     ensures { result ≡ eddsa_at (pairs_view pairs.now) }
 {
-    let pairs = constant(pairs, Key::Uint(1), Key::Uint(1))?;
-    let pairs = constant(pairs, Key::Uint(3), Key::Nint(7))?;
-    let pairs = constant(pairs, Key::Nint(0), Key::Uint(6))?;
-    let (x, pairs) = coordinate(pairs, Key::Nint(1))?;
+    let pairs = constant(pairs, MapKey::Uint(1), MapKey::Uint(1))?;
+    let pairs = constant(pairs, MapKey::Uint(3), MapKey::Nint(7))?;
+    let pairs = constant(pairs, MapKey::Nint(0), MapKey::Uint(6))?;
+    let (x, pairs) = coordinate(pairs, MapKey::Nint(1))?;
     if is_end(pairs) {
         Some(CoseKey::EdDsa { x })
     } else {

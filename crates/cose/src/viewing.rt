@@ -6,11 +6,11 @@ ghost use Rattle.ccbor.specs.Access.{key_item};
 ghost use Rattle.cose.specs.Reading.{constant_at, coordinate_at, es256_at, eddsa_at};
 
 use crate::key::CoseKey;
-use ccbor::{Key, MapView};
+use ccbor::{MapKey, MapView};
 
 /// The pairs behind a first one that has this key and this value.
 #[tactic(auto, unfolding(crate::specs::Reading::constant_at))]
-fn constant<'a>(pairs: &MapView<'a>, key: Key<'_>, value: Key<'_>) -> Option<MapView<'a>>
+fn constant<'a>(pairs: &MapView<'a>, key: MapKey<'_>, value: MapKey<'_>) -> Option<MapView<'a>>
     ensures { option_map shown_pairs result
         ≡ constant_at (key_item key.entry) (key_item value.entry) (shown_pairs pairs.now) }
 {
@@ -24,7 +24,7 @@ fn constant<'a>(pairs: &MapView<'a>, key: Key<'_>, value: Key<'_>) -> Option<Map
 
 /// The coordinate that a first pair has at this key, and the pairs behind it.
 #[tactic(auto, unfolding(crate::specs::Reading::coordinate_at))]
-fn coordinate<'a>(pairs: &MapView<'a>, key: Key<'_>) -> Option<([u8; 32], MapView<'a>)>
+fn coordinate<'a>(pairs: &MapView<'a>, key: MapKey<'_>) -> Option<([u8; 32], MapView<'a>)>
     ensures { option_map (λ x. (x.0, shown_pairs x.1)) result
         ≡ coordinate_at (key_item key.entry) (shown_pairs pairs.now) }
 {
@@ -41,11 +41,11 @@ fn coordinate<'a>(pairs: &MapView<'a>, key: Key<'_>) -> Option<([u8; 32], MapVie
 pub fn es256(pairs: &MapView<'_>) -> Option<CoseKey>
     ensures { result ≡ es256_at (shown_pairs pairs.now) }
 {
-    let pairs = constant(pairs, Key::Uint(1), Key::Uint(2))?;
-    let pairs = constant(&pairs, Key::Uint(3), Key::Nint(6))?;
-    let pairs = constant(&pairs, Key::Nint(0), Key::Uint(1))?;
-    let (x, pairs) = coordinate(&pairs, Key::Nint(1))?;
-    let (y, pairs) = coordinate(&pairs, Key::Nint(2))?;
+    let pairs = constant(pairs, MapKey::Uint(1), MapKey::Uint(2))?;
+    let pairs = constant(&pairs, MapKey::Uint(3), MapKey::Nint(6))?;
+    let pairs = constant(&pairs, MapKey::Nint(0), MapKey::Uint(1))?;
+    let (x, pairs) = coordinate(&pairs, MapKey::Nint(1))?;
+    let (y, pairs) = coordinate(&pairs, MapKey::Nint(2))?;
     if pairs.is_end() {
         Some(CoseKey::Es256 { x, y })
     } else {
@@ -58,10 +58,10 @@ pub fn es256(pairs: &MapView<'_>) -> Option<CoseKey>
 pub fn eddsa(pairs: &MapView<'_>) -> Option<CoseKey>
     ensures { result ≡ eddsa_at (shown_pairs pairs.now) }
 {
-    let pairs = constant(pairs, Key::Uint(1), Key::Uint(1))?;
-    let pairs = constant(&pairs, Key::Uint(3), Key::Nint(7))?;
-    let pairs = constant(&pairs, Key::Nint(0), Key::Uint(6))?;
-    let (x, pairs) = coordinate(&pairs, Key::Nint(1))?;
+    let pairs = constant(pairs, MapKey::Uint(1), MapKey::Uint(1))?;
+    let pairs = constant(&pairs, MapKey::Uint(3), MapKey::Nint(7))?;
+    let pairs = constant(&pairs, MapKey::Nint(0), MapKey::Uint(6))?;
+    let (x, pairs) = coordinate(&pairs, MapKey::Nint(1))?;
     if pairs.is_end() {
         Some(CoseKey::EdDsa { x })
     } else {

@@ -1,7 +1,9 @@
-use Rattle.std.specs.Prelude.{◌≡◌}
-use Rattle.ctap_status.specs.declared.status.TheConstants.{OK, INVALID_COMMAND, INVALID_PARAMETER, CBOR_UNEXPECTED_TYPE, INVALID_CBOR, MISSING_PARAMETER, LIMIT_EXCEEDED, CREDENTIAL_EXCLUDED, UNSUPPORTED_ALGORITHM, OPERATION_DENIED, KEY_STORE_FULL, INVALID_OPTION, KEEPALIVE_CANCEL, NO_CREDENTIALS, NOT_ALLOWED, OTHER}
-
 -- The status bytes: CTAP 2.1 section 8.2.
+use Rattle.std.specs.Prelude.{◌≡◌}
+use Rattle.ctap_status.specs.declared.status.TheConstants.{OK, INVALID_COMMAND, INVALID_PARAMETER, CBOR_UNEXPECTED_TYPE, INVALID_CBOR}
+use Rattle.ctap_status.specs.declared.status.TheConstants.{MISSING_PARAMETER, LIMIT_EXCEEDED, CREDENTIAL_EXCLUDED, UNSUPPORTED_ALGORITHM}
+use Rattle.ctap_status.specs.declared.status.TheConstants.{OPERATION_DENIED, KEY_STORE_FULL, INVALID_OPTION, KEEPALIVE_CANCEL, NO_CREDENTIALS}
+use Rattle.ctap_status.specs.declared.status.TheConstants.{NOT_ALLOWED, OTHER}
 
 -- success, and those by which a request is refused as it is read
 abbrev pub HasReadingStatuses : Type 0

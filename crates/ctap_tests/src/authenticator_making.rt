@@ -6,7 +6,7 @@ use crate::authenticator_names::bytes_of;
 use authdata::{AttestationObject, AttestationType, check_statement};
 use authenticator::Authenticator;
 use cose::{Alg, BenchScheme, Signer};
-use ctapmsg::{Kind, Reply, read_reply};
+use ctap_replies::{Kind, Reply, read_reply};
 use std::alloc::{AllocError, Global};
 use std::test::Fail;
 

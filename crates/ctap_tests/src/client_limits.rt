@@ -68,7 +68,7 @@ fn sign_ins(rt: HostRuntime) {
 
 /// The origin, the rp id, the user handle, the exclude list, how many bytes the relying party's name has, and what
 /// the registration is refused as. With a name of 7,501 bytes and the first user the request has 7,609 bytes.
-type Registration = (
+type RegistrationRow = (
     &'static str,
     &'static str,
     &'static [u8],
@@ -77,7 +77,7 @@ type Registration = (
     Option<RequestError>,
 );
 
-const REGISTRATIONS: &[Registration] = &[
+const REGISTRATIONS: &[RegistrationRow] = &[
     ("https://abc", "abc", &[1], &[], 7501, None),
     (
         "https://abc",
@@ -195,7 +195,7 @@ fn is_longest(alloc: Global) -> Result<bool, Fail> {
 }
 
 /// What the registration of a row is refused as, if it is.
-fn refusal(alloc: Global, row: &Registration) -> Result<Option<RequestError>, AllocError> {
+fn refusal(alloc: Global, row: &RegistrationRow) -> Result<Option<RequestError>, AllocError> {
     let (origin, rp_id, user_id, exclude, count, _) = row;
     let rp_name = name(alloc, *count)?;
     let options = options(rp_id, user_id, exclude, &rp_name);

@@ -8,7 +8,7 @@ use client::{
 };
 use clientdata::{CeremonyType, read};
 use cose::Alg;
-use ctapmsg::{GetAssertion, MakeCredential, Request, read_request};
+use ctap_requests::{GetAssertion, MakeCredential, Request, read_request};
 use std::alloc::{AllocError, Global};
 use std::test::Fail;
 
@@ -17,17 +17,17 @@ const CHALLENGE: &[u8] = &[
     0, 0, 0, 0, 0, 0, 0, 1, 0, 0, 0, 0, 0, 0, 0, 0, 0, 0, 0, 0, 0, 0, 0, 0, 0, 0, 0, 0, 0, 0, 0, 0,
 ];
 
-/// A sign-in: the origin, the options, the client data, and the message's pieces, of which the second is the
-/// client data's hash.
-struct SignIn {
+/// A request: the origin, the options, the client data, and the message's pieces, of which the second is the client
+/// data's hash.
+struct RequestRow<Options> {
     origin: &'static str,
-    options: RequestOptions<'static>,
+    options: Options,
     client_data: &'static str,
     message: [&'static [u8]; 3],
 }
 
-const SIGN_INS: &[SignIn] = &[
-    SignIn {
+const SIGN_INS: &[RequestRow<RequestOptions<'static>>] = &[
+    RequestRow {
         origin: "https://abc",
         options: RequestOptions {
             challenge: CHALLENGE,
@@ -42,7 +42,7 @@ const SIGN_INS: &[SignIn] = &[
             b"",
         ],
     },
-    SignIn {
+    RequestRow {
         origin: "https://a.example",
         options: RequestOptions {
             challenge: &[0, 1, 2],
@@ -59,14 +59,6 @@ const SIGN_INS: &[SignIn] = &[
     },
 ];
 
-/// A registration, in the same way.
-struct Registration {
-    origin: &'static str,
-    options: CreationOptions<'static>,
-    client_data: &'static str,
-    message: [&'static [u8]; 3],
-}
-
 /// The client data's hash of the last three.
 const HASH: &[u8] =
     b"\x9c\x1a\xc5\xf4\x42\x7b\x4d\x60\x47\x26\x30\x50\x36\xcf\x6e\x87\x3d\x38\x9e\x18\xbf\xf3\x67\xac\x68\xf1\x6d\xec\x49\xd6\xa9\xb2";
@@ -74,8 +66,8 @@ const HASH: &[u8] =
 const CLIENT_DATA: &str =
     r#"{"type":"webauthn.create","challenge":"AAEC","origin":"https://a.example:8443","crossOrigin":false}"#;
 
-const REGISTRATIONS: &[Registration] = &[
-    Registration {
+const REGISTRATIONS: &[RequestRow<CreationOptions<'static>>] = &[
+    RequestRow {
         origin: "https://abc",
         options: CreationOptions {
             challenge: CHALLENGE,
@@ -96,7 +88,7 @@ const REGISTRATIONS: &[Registration] = &[
             b"\x02\xa2bidcabcdnamecABC\x03\xa3bidA\x01dnameaukdisplayNamecU V\x04\x81\xa2calg\x26dtypejpublic-key",
         ],
     },
-    Registration {
+    RequestRow {
         origin: "https://a.example:8443",
         options: CreationOptions {
             challenge: &[0, 1, 2],
@@ -114,10 +106,11 @@ const REGISTRATIONS: &[Registration] = &[
         message: [
             b"\x01\xa6\x01\x58\x20",
             HASH,
-            b"\x02\xa2bidia.exampledname\x60\x03\xa3bidB\x01\x02dnameb\xc3\xa9kdisplayName\x60\x04\x82\xa2calg\x27dtypejpublic-key\xa2calg\x26dtypejpublic-key\x05\x81\xa2bidA\x0adtypejpublic-key\x07\xa2brk\xf5buv\xf5",
+            b"\x02\xa2bidia.exampledname\x60\x03\xa3bidB\x01\x02dnameb\xc3\xa9kdisplayName\x60\x04\x82\xa2calg\x27dtypejpublic-key\xa2calg\x26dtypejpu\
+                blic-key\x05\x81\xa2bidA\x0adtypejpublic-key\x07\xa2brk\xf5buv\xf5",
         ],
     },
-    Registration {
+    RequestRow {
         origin: "https://a.example:8443",
         options: CreationOptions {
             challenge: &[0, 1, 2],
@@ -138,7 +131,7 @@ const REGISTRATIONS: &[Registration] = &[
             b"\x02\xa2bidia.exampledname\x60\x03\xa3bidB\x01\x02dname\x60kdisplayName\x60\x04\x81\xa2calg\x27dtypejpublic-key\x07\xa1brk\xf5",
         ],
     },
-    Registration {
+    RequestRow {
         origin: "https://a.example:8443",
         options: CreationOptions {
             challenge: &[0, 1, 2],
@@ -314,7 +307,8 @@ fn packets(rt: HostRuntime) -> Result<(), Fail> {
     let row = &SIGN_INS[0];
     let out = assertion_request(rt.alloc(), row.origin, &row.options, 0x0102_0304)?;
     let expected: &[u8] =
-        b"\x01\x02\x03\x04\x90\x00\x2a\x02\xa2\x01cabc\x02\x58\x20\x4d\x89\xc6\x06\xa1\x95\xf1\x6f\x21\x92\xc5\xfa\x07\x71\x04\x26\x49\x82\x17\x6e\x26\xf4\xf6\x81\x67\xf4\x3a\x58\x2b\xcb\xd9\x11";
+        b"\x01\x02\x03\x04\x90\x00\x2a\x02\xa2\x01cabc\x02\x58\x20\x4d\x89\xc6\x06\xa1\x95\xf1\x6f\x21\x92\xc5\xfa\x07\x71\x04\x26\x49\x82\x17\x6e\x26\
+            \xf4\xf6\x81\x67\xf4\x3a\x58\x2b\xcb\xd9\x11";
     assert!(rt; out.packets.as_slice() == [packet(expected)].as_slice());
     let next: &[u8] = &[1, 2, 3, 4, 0x90, 0, 1, 8];
     assert!(rt; next_request(0x0102_0304) == packet(next));

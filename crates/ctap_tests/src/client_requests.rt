@@ -3,7 +3,7 @@
 use crate::device::{INIT, take};
 use crate::framing::packet;
 use hidframe::Packet;
-use hidlink::{Device, Step};
+use hidlink::{Device, DeviceEvent};
 use std::alloc::{AllocError, Global};
 
 /// A device with channels 1 and 2 that took these packets, each of which it was quiet about but the last.
@@ -11,15 +11,15 @@ fn given(alloc: Global, packets: &[Packet]) -> Result<Option<Device>, AllocError
     let mut device = Device::new(alloc)?;
     take(&mut device, &packet(INIT));
     take(&mut device, &packet(INIT));
-    let mut last = Step::Quiet;
+    let mut last = DeviceEvent::Quiet;
     for packet in packets {
-        if last != Step::Quiet {
+        if last != DeviceEvent::Quiet {
             return Ok(None);
         }
         last = take(&mut device, packet).0;
     }
     match last {
-        Step::Request { cid: 2 } => Ok(Some(device)),
+        DeviceEvent::Request { cid: 2 } => Ok(Some(device)),
         _ => Ok(None),
     }
 }

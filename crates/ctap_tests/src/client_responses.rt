@@ -3,7 +3,7 @@
 use authdata::AssertionResponse;
 use ccbor::Value;
 use client::{ResponseError, assertion_response, creation_response};
-use ctapmsg::{AssertionReply, CreationReply};
+use ctap_replies::{AssertionReply, CreationReply};
 use std::alloc::{AllocError, Global};
 use std::test::Fail;
 

@@ -4,7 +4,7 @@ ghost use Rattle.std.specs.Prelude.{◌≡◌, ◌≤◌, [], IsTrue};
 
 use crate::framing::packet;
 use hidframe::Packet;
-use hidlink::{Device, Step};
+use hidlink::{Device, DeviceEvent};
 use std::alloc::{AllocError, Global};
 
 /// An INIT on the broadcast channel.
@@ -37,10 +37,10 @@ pub fn device_doing(alloc: Global, doing: &str) -> Result<Device, AllocError> {
 }
 
 /// Gives the device a packet, once it has nothing left to send; the first packet that it then sends.
-pub fn take(device: &mut Device, packet: &Packet) -> (Step, Option<Packet>) {
+pub fn take(device: &mut Device, packet: &Packet) -> (DeviceEvent, Option<Packet>) {
     drain(device);
     if !device.drained() {
-        return (Step::Quiet, None);
+        return (DeviceEvent::Quiet, None);
     }
     let step = device.packet(packet);
     (step, device.next_out())

@@ -8,7 +8,7 @@ use crate::device_ranks::{CHANNELS, COMMANDS, CONTINUATIONS, INITS, INTERLEAVED,
 use crate::framing::{packet, packet_or_none};
 use hidframe::ctaphid::{CTAPHID_CBOR, CTAPHID_PING};
 use hidframe::{Packet, frame, packet_at};
-use hidlink::{Device, MAX_CHANNELS, Refusal, Step};
+use hidlink::{Device, DeviceEvent, MAX_CHANNELS, Refusal};
 use std::alloc::{AllocError, Global};
 use std::test::Fail;
 use test_words::{Table, bytes_of, part};
@@ -61,7 +61,7 @@ fn is_echoed(device: &mut Device, len: usize) -> Result<bool, Fail>
     let mut quiet = true;
     for packet in frame(2, CTAPHID_PING, &payload[..len])? {
         let (step, sent) = take(device, &packet);
-        quiet = quiet && first.is_none() && step == Step::Quiet;
+        quiet = quiet && first.is_none() && step == DeviceEvent::Quiet;
         first = sent;
     }
     Ok(quiet && is_sent(device, CTAPHID_PING, first, &payload[..len]))
@@ -86,12 +86,12 @@ fn is_requested(device: &mut Device, len: usize) -> Result<bool, Fail>
 {
     let payload = [0x55; 7609];
     let mut quiet = true;
-    let mut last = Step::Quiet;
+    let mut last = DeviceEvent::Quiet;
     for packet in frame(2, CTAPHID_CBOR, &payload[..len])? {
-        quiet = quiet && last == Step::Quiet;
+        quiet = quiet && last == DeviceEvent::Quiet;
         last = take(device, &packet).0;
     }
-    let told = quiet && last == Step::Request { cid: 2 };
+    let told = quiet && last == DeviceEvent::Request { cid: 2 };
     Ok(told && device.drained() && requests(device, &payload[..len]))
 }
 
@@ -241,7 +241,7 @@ const NO_MORE: &[u8] = &[0xff, 0xff, 0xff, 0xff, 0xbf, 0, 1, 0x7f];
 
 /// Whether a device answers an INIT on the broadcast channel by this, and then has so many channels.
 fn is_assigned(device: &mut Device, sent: &[u8], channels: u32) -> bool {
-    take(device, &packet(INIT)) == (Step::Quiet, packet_or_none(sent))
+    take(device, &packet(INIT)) == (DeviceEvent::Quiet, packet_or_none(sent))
         && device.channels() == channels
 }
 

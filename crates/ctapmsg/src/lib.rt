@@ -2,13 +2,13 @@
 //! replies, of the crate `replies`, in the message encoding of section 8.
 #![tactic(auto)]
 
-pub use ctap_status::{Error, status, status_numbers};
-pub use replies::{
+pub use ctap_replies::{
     AssertionReply, AssertionView, CreationReply, InfoReply, Kind, Reply, read_assertion,
     read_creation, read_reply, write_assertion, write_reply,
 };
-pub use requests::{
+pub use ctap_requests::{
     AssertionOptions, CreationOptions, Descriptor, DescriptorView, GetAssertion, GetAssertionView,
     MakeCredential, Parameters, RelyingParty, Request, RequestView, User, one_rank, read_request,
     view_request, write_request,
 };
+pub use ctap_status::{Error, status, status_numbers};

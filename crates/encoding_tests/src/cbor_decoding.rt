@@ -21,15 +21,16 @@ pub const NUMBERS: Table = "0 and a byte behind it|0000|Uint(0)|1
 -2^64|3bffffffffffffffff|Nint(18446744073709551615)|9";
 
 /// The same of other values.
-pub const OTHERS: Table = r#"bytes, and one behind them|4201ff00|Bytes([1, 255])|3
+pub const OTHERS: Table = "bytes, and one behind them|4201ff00|Bytes([1, 255])|3
 no bytes|40|Bytes([])|1
-a text of two-byte characters|64c3a9c3a8|Text("éè")|5
-no text|60|Text("")|1
+a text of two-byte characters|64c3a9c3a8|Text(\"éè\")|5
+no text|60|Text(\"\")|1
 false and true|82f4f5|Array([Bool(false), Bool(true)])|3
-a shorter text before a lower one|a262 'id 0063 'fmt 00|Map([(Text("id"), Uint(0)), (Text("fmt"), Uint(0))])|10
-keys of each kind in order|a5000118180220033818046005|Map([(Uint(0), Uint(1)), (Uint(24), Uint(2)), (Nint(0), Uint(3)), (Nint(24), Uint(4)), (Text(""), Uint(5))])|13
+a shorter text before a lower one|a262 'id 0063 'fmt 00|Map([(Text(\"id\"), Uint(0)), (Text(\"fmt\"), Uint(0))])|10
+keys of each kind in order|a5000118180220033818046005|Map([(Uint(0), Uint(1)), (Uint(24), Uint(2)), (Nint(0), Uint(3)), (Nint(24), Uint(4)), (Text(\"\"), \
+    Uint(5))])|13
 four arrays deep|81818180|Array([Array([Array([Array([])])])])|4
-four maps and arrays deep|a10181a102a0|Map([(Uint(1), Array([Map([(Uint(2), Map([]))])]))])|6"#;
+four maps and arrays deep|a10181a102a0|Map([(Uint(1), Array([Map([(Uint(2), Map([]))])]))])|6";
 
 /// The same of more of them.
 pub const MORE_OTHERS: Table =

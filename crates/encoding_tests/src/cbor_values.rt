@@ -2,7 +2,7 @@
 //! the form of RFC 9053, section 7.2.
 
 use crate::pieces::{Table, bytes_of, number, part};
-use ccbor::{Error, Key, MapView, Value, View, decode_all, is_end, split_key, value_at};
+use ccbor::{Error, MapKey, MapView, Value, View, decode_all, is_end, split_key, value_at};
 use std::alloc::{AllocError, Global};
 use std::test::Fail;
 
@@ -127,13 +127,13 @@ text:b
 text:";
 
 /// The key of a word.
-fn key_of(word: &str) -> Key<'_> {
+fn key_of(word: &str) -> MapKey<'_> {
     let (kind, content) = word.split_once(":").unwrap_or((word, ""));
     let number = content.parse().unwrap_or(0);
     match kind {
-        "uint" => Key::Uint(number),
-        "nint" => Key::Nint(number),
-        _ => Key::Text(content),
+        "uint" => MapKey::Uint(number),
+        "nint" => MapKey::Nint(number),
+        _ => MapKey::Text(content),
     }
 }
 
@@ -241,12 +241,13 @@ fn is_walked(alloc: Global, map: &View<'_>, steps: Table) -> Result<bool, AllocE
         };
         pairs = rest;
     }
-    Ok(pairs.is_end() && pairs.split_key(Key::Text("a")).is_none())
+    Ok(pairs.is_end() && pairs.split_key(MapKey::Text("a")).is_none())
 }
 
 /// {1: 1, 3: -8, -1: 6, -2: 32 bytes of 0x11}.
 const ED25519: &[u8] =
-    b"\xa4\x01\x01\x03\x27\x20\x06\x21\x58\x20\x11\x11\x11\x11\x11\x11\x11\x11\x11\x11\x11\x11\x11\x11\x11\x11\x11\x11\x11\x11\x11\x11\x11\x11\x11\x11\x11\x11\x11\x11\x11\x11";
+    b"\xa4\x01\x01\x03\x27\x20\x06\x21\x58\x20\x11\x11\x11\x11\x11\x11\x11\x11\x11\x11\x11\x11\x11\x11\x11\x11\x11\x11\x11\x11\x11\x11\x11\x11\x11\x11\
+        \x11\x11\x11\x11\x11\x11";
 
 /// [[1, {0: h'02'}], "ab", 7]: what lies at place 1 and 2 stands behind a nested value.
 const NESTED: &[u8] = b"\x83\x82\x01\xa1\x00\x41\x02\x62ab\x07";
@@ -260,7 +261,7 @@ fn item_is(array: &View<'_>, index: usize, text: Option<&str>, number: Option<u6
 }
 
 /// Whether the pair at this place has this number as its value.
-fn pair_is(map: &View<'_>, index: usize, key: Key<'_>, number: u64) -> bool {
+fn pair_is(map: &View<'_>, index: usize, key: MapKey<'_>, number: u64) -> bool {
     match map.pair(index) {
         Some((found, value)) => found.is_key(key) && value.as_uint() == Some(number),
         None => false,
@@ -269,12 +270,12 @@ fn pair_is(map: &View<'_>, index: usize, key: Key<'_>, number: u64) -> bool {
 
 /// The byte string at the key -2 of the map, to a view.
 fn viewed_x<'a>(map: &View<'a>) -> Option<&'a [u8]> {
-    map.get(Key::Nint(1))?.as_bytes()
+    map.get(MapKey::Nint(1))?.as_bytes()
 }
 
 /// The byte string at the key -2 of the map.
 fn x(map: &Value) -> Option<&[u8]> {
-    map.get(Key::Nint(1))?.as_bytes()
+    map.get(MapKey::Nint(1))?.as_bytes()
 }
 
 /// Whether the items of NESTED are seen, and nothing behind them.
@@ -288,12 +289,12 @@ fn has_items(array: &View<'_>) -> bool {
 
 /// Whether pairs and members of ED25519 are seen, and no others.
 fn has_pairs(map: &View<'_>) -> bool {
-    pair_is(map, 0, Key::Uint(1), 1)
-        && pair_is(map, 2, Key::Nint(0), 6)
+    pair_is(map, 0, MapKey::Uint(1), 1)
+        && pair_is(map, 2, MapKey::Nint(0), 6)
         && map.pair(4).is_none()
         && map.item(0).is_none()
-        && map.get(Key::Uint(2)).is_none()
-        && map.get(Key::Text("x")).is_none()
+        && map.get(MapKey::Uint(2)).is_none()
+        && map.get(MapKey::Text("x")).is_none()
         && viewed_x(map) == Some([0x11; 32].as_slice())
         && map.span() == ED25519
         && map.len() == 4

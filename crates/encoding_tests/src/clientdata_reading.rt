@@ -62,14 +62,16 @@ a challenge that is no text|'{"type":"x","challenge":null,"origin":""}
 an origin that is no text|'{"type":"x","challenge":"","origin":["o"]}"#;
 
 /// The same of bytes that are no UTF-8, and of marks.
-pub const BYTES: Table = r#"a byte order mark|efbbbf '{"type":"x","challenge":"","origin":""}
+pub const BYTES: Table =
+    "a byte order mark|efbbbf '{\"type\":\"x\",\"challenge\":\"\",\"origin\":\"\"}
 no UTF-8|ff
-no UTF-8 in a text|'{"type":" c328 '","challenge":"","origin":""}
-a surrogate's bytes|'{"type":" eda080 '","challenge":"","origin":""}
-cut|'{"type":"x","challenge":"","origin":""
-each member another|'{"type":"webauthn.get","challenge":"AAEC","origin":"https://a.example","crossOrigin":true,"tokenBinding":{"status":"supported"}}|'webauthn.get|'AAEC|'https://a.example|1
-a mark inside|'{"type":" efbbbf '","challenge":"","origin":""}|efbbbf|||0
-NUL by an escape|'{"type":"a\u0000b","challenge":"","origin":""}|'a 00 'b|||0"#;
+no UTF-8 in a text|'{\"type\":\" c328 '\",\"challenge\":\"\",\"origin\":\"\"}
+a surrogate's bytes|'{\"type\":\" eda080 '\",\"challenge\":\"\",\"origin\":\"\"}
+cut|'{\"type\":\"x\",\"challenge\":\"\",\"origin\":\"\"
+each member another|'{\"type\":\"webauthn.get\",\"challenge\":\"AAEC\",\"origin\":\"https://a.example\",\"crossOrigin\":true,\
+    \"tokenBinding\":{\"status\":\"supported\"}}|'webauthn.get|'AAEC|'https://a.example|1
+a mark inside|'{\"type\":\" efbbbf '\",\"challenge\":\"\",\"origin\":\"\"}|efbbbf|||0
+NUL by an escape|'{\"type\":\"a\\u0000b\",\"challenge\":\"\",\"origin\":\"\"}|'a 00 'b|||0";
 
 /// The same of long inputs.
 pub const LONG: Table =

@@ -14,10 +14,13 @@ use std::test::Fail;
 const TEXTS: &[&str] = &[
     r#"sign-in|get|000102|https://a.example|false|AAEC|{"type":"webauthn.get","challenge":"AAEC","origin":"https://a.example","crossOrigin":false}"#,
     r#"registration|create|fbff||true|-_8|{"type":"webauthn.create","challenge":"-_8","origin":"","crossOrigin":true}"#,
-    "a quotation mark and U+0001|get|000102|a\"b\u{1}|false|AAEC|{\"type\":\"webauthn.get\",\"challenge\":\"AAEC\",\"origin\":\"a\\\"b\\u0001\",\"crossOrigin\":false}",
-    "other code points|get|000102|\\\n\u{1f}/\u{7f}é😀|false|AAEC|{\"type\":\"webauthn.get\",\"challenge\":\"AAEC\",\"origin\":\"\\\\\\u000a\\u001f/\u{7f}é😀\",\"crossOrigin\":false}",
+    "a quotation mark and U+0001|get|000102|a\"b\u{1}|false|AAEC|{\"type\":\"webauthn.get\",\"challenge\":\"AAEC\",\"origin\":\"a\\\"b\\u0001\",\
+        \"crossOrigin\":false}",
+    "other code points|get|000102|\\\n\u{1f}/\u{7f}é😀|false|AAEC|{\"type\":\"webauthn.get\",\"challenge\":\"AAEC\",\
+        \"origin\":\"\\\\\\u000a\\u001f/\u{7f}é😀\",\"crossOrigin\":false}",
     "NUL, a space and no challenge|create||\0 |false||{\"type\":\"webauthn.create\",\"challenge\":\"\",\"origin\":\"\\u0000 \",\"crossOrigin\":false}",
-    r#"a challenge of 16 bytes|get|fffefdfcfbfaf9f80706050403020100|https://a.example:8443|true|__79_Pv6-fgHBgUEAwIBAA|{"type":"webauthn.get","challenge":"__79_Pv6-fgHBgUEAwIBAA","origin":"https://a.example:8443","crossOrigin":true}"#,
+    "a challenge of 16 bytes|get|fffefdfcfbfaf9f80706050403020100|https://a.example:8443|true|__79_Pv6-fgHBgUEAwIBAA|{\"type\":\"webauthn.get\",\
+        \"challenge\":\"__79_Pv6-fgHBgUEAwIBAA\",\"origin\":\"https://a.example:8443\",\"crossOrigin\":true}",
 ];
 
 /// The record of a row.

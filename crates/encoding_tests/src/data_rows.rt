@@ -9,7 +9,7 @@ use std::test::Fail;
 
 /// What is so of a line: the function of that name.
 #[derive(Drop)]
-enum Kind {
+enum DataRow {
     NoKey,
     Reading,
     Cut,
@@ -26,53 +26,53 @@ enum Kind {
 }
 
 /// Whether this is so of the line.
-fn is_so(alloc: Global, kind: &Kind, line: &str) -> Result<bool, Fail> {
+fn is_so(alloc: Global, kind: &DataRow, line: &str) -> Result<bool, Fail> {
     match kind {
-        Kind::NoKey => cose_keys::is_no_key(alloc, line),
-        Kind::Reading => authdata_bytes::is_reading(alloc, line),
-        Kind::Cut => authdata_bytes::is_refused_cut(alloc, line),
-        Kind::Object => attestation_objects::is_object(alloc, line),
-        Kind::NoObject => attestation_objects::is_no_object(alloc, line),
-        Kind::Statement => attestation_objects::is_statement(alloc, line),
-        Kind::Shown => attestation_statements::is_shown(alloc, line),
-        Kind::Told => clientdata_expected::is_told(alloc, line),
-        Kind::Read => clientdata_reading::is_read(alloc, line),
-        Kind::Verified => clientdata_writing::is_verified(alloc, line),
-        Kind::Long => clientdata_writing::is_long(alloc, line),
-        Kind::Base64url => clientdata_writing::is_base64url(alloc, line),
-        Kind::Hashed => clientdata_writing::is_hashed(alloc, line),
+        DataRow::NoKey => cose_keys::is_no_key(alloc, line),
+        DataRow::Reading => authdata_bytes::is_reading(alloc, line),
+        DataRow::Cut => authdata_bytes::is_refused_cut(alloc, line),
+        DataRow::Object => attestation_objects::is_object(alloc, line),
+        DataRow::NoObject => attestation_objects::is_no_object(alloc, line),
+        DataRow::Statement => attestation_objects::is_statement(alloc, line),
+        DataRow::Shown => attestation_statements::is_shown(alloc, line),
+        DataRow::Told => clientdata_expected::is_told(alloc, line),
+        DataRow::Read => clientdata_reading::is_read(alloc, line),
+        DataRow::Verified => clientdata_writing::is_verified(alloc, line),
+        DataRow::Long => clientdata_writing::is_long(alloc, line),
+        DataRow::Base64url => clientdata_writing::is_base64url(alloc, line),
+        DataRow::Hashed => clientdata_writing::is_hashed(alloc, line),
     }
 }
 
 #[test]
 fn rows(rt: HostRuntime) -> Result<(), Fail> {
     let tables = [
-        (Kind::NoKey, cose_keys::MISSING),
-        (Kind::NoKey, cose_keys::OTHER_MEMBERS),
-        (Kind::NoKey, cose_keys::OTHER_VALUES),
-        (Kind::NoKey, cose_keys::MORE),
-        (Kind::Reading, authdata_bytes::BARE),
-        (Kind::Reading, authdata_bytes::IDS),
-        (Kind::Reading, authdata_bytes::KEYS),
-        (Kind::Reading, authdata_bytes::WHOLE),
-        (Kind::Reading, authdata_bytes::LONG),
-        (Kind::Reading, authdata_bytes::SHORTER),
-        (Kind::Cut, authdata_bytes::CUT),
-        (Kind::Object, attestation_objects::OBJECTS),
-        (Kind::NoObject, attestation_objects::SHAPES),
-        (Kind::NoObject, attestation_objects::MEMBERS),
-        (Kind::Statement, attestation_objects::STATEMENTS),
-        (Kind::Shown, attestation_statements::STATEMENTS),
-        (Kind::Told, clientdata_expected::TEXTS),
-        (Kind::Read, clientdata_reading::MEMBERS),
-        (Kind::Read, clientdata_reading::WHOLE),
-        (Kind::Read, clientdata_reading::BYTES),
-        (Kind::Read, clientdata_reading::LONG),
-        (Kind::Read, clientdata_reading::ORIGINS),
-        (Kind::Verified, clientdata_writing::VERIFIED),
-        (Kind::Long, clientdata_writing::LONG),
-        (Kind::Base64url, clientdata_writing::ENCODED),
-        (Kind::Hashed, clientdata_writing::HASHED),
+        (DataRow::NoKey, cose_keys::MISSING),
+        (DataRow::NoKey, cose_keys::OTHER_MEMBERS),
+        (DataRow::NoKey, cose_keys::OTHER_VALUES),
+        (DataRow::NoKey, cose_keys::MORE),
+        (DataRow::Reading, authdata_bytes::BARE),
+        (DataRow::Reading, authdata_bytes::IDS),
+        (DataRow::Reading, authdata_bytes::KEYS),
+        (DataRow::Reading, authdata_bytes::WHOLE),
+        (DataRow::Reading, authdata_bytes::LONG),
+        (DataRow::Reading, authdata_bytes::SHORTER),
+        (DataRow::Cut, authdata_bytes::CUT),
+        (DataRow::Object, attestation_objects::OBJECTS),
+        (DataRow::NoObject, attestation_objects::SHAPES),
+        (DataRow::NoObject, attestation_objects::MEMBERS),
+        (DataRow::Statement, attestation_objects::STATEMENTS),
+        (DataRow::Shown, attestation_statements::STATEMENTS),
+        (DataRow::Told, clientdata_expected::TEXTS),
+        (DataRow::Read, clientdata_reading::MEMBERS),
+        (DataRow::Read, clientdata_reading::WHOLE),
+        (DataRow::Read, clientdata_reading::BYTES),
+        (DataRow::Read, clientdata_reading::LONG),
+        (DataRow::Read, clientdata_reading::ORIGINS),
+        (DataRow::Verified, clientdata_writing::VERIFIED),
+        (DataRow::Long, clientdata_writing::LONG),
+        (DataRow::Base64url, clientdata_writing::ENCODED),
+        (DataRow::Hashed, clientdata_writing::HASHED),
     ];
     for (kind, table) in tables {
         for line in table.lines() {

@@ -4,7 +4,9 @@
 use crate::pieces::Table;
 
 pub const REQUESTS: Table =
-    "all members at their limits|create6 create-hash long-rp long-name long-user long-name long-display-name 0491 es256 es256 es256 es256 es256 es256 es256 es256 es256 es256 es256 es256 es256 es256 es256 es256 es256 0588 id-of-64 type id-of-64 type id-of-64 type id-of-64 type id-of-64 type id-of-64 type id-of-64 type id-of-64 type 07a362 'rk f562 'up f562 'uv f5|00
+    "all members at their limits|create6 create-hash long-rp long-name long-user long-name long-display-name 0491 es256 es256 es256 es256 es256 \
+    es256 es256 es256 es256 es256 es256 es256 es256 es256 es256 es256 es256 0588 id-of-64 type id-of-64 type id-of-64 type id-of-64 type id-of-64 \
+    type id-of-64 type id-of-64 type id-of-64 type 07a362 'rk f562 'up f562 'uv f5|00
 7,609 bytes|create4 create-hash rp-of-7526 user parameters|00
 7,609 bytes, cut|create5 create-hash rp-of-7526 user parameters|12
 7,609 bytes, 0 behind|create4 create-hash rp-of-7526 user parameters 00|12
@@ -16,8 +18,10 @@ an rp id of 7,000 bytes|create4 create-hash 02a162 'id 791b58 61*7000 user param
 an rp id of 254 bytes|create4 create-hash 02a162 'id 78fe 61*254 user parameters|15
 a user id of 65 bytes|create4 create-hash rp-of-7526 03a162 'id 5841 01*65 parameters|15
 an excluded id of 65 bytes|create5 create-hash rp-of-7526 user parameters 0581 id-of-65 type|15
-eight descriptors of 64 bytes|02a40178fd 61*253 get-hash 0388 id-of-64 type id-of-64 type id-of-64 type id-of-64 type id-of-64 type id-of-64 type id-of-64 type id-of-64 type 05a262 'up f562 'uv f5|00
-nine descriptors of 64 bytes|02a30178fd 61*253 get-hash 0389 id-of-64 type id-of-64 type id-of-64 type id-of-64 type id-of-64 type id-of-64 type id-of-64 type id-of-64 type id-of-64 type|15
+eight descriptors of 64 bytes|02a40178fd 61*253 get-hash 0388 id-of-64 type id-of-64 type id-of-64 type id-of-64 type id-of-64 type id-of-64 type id-of-64 \
+    type id-of-64 type 05a262 'up f562 'uv f5|00
+nine descriptors of 64 bytes|02a30178fd 61*253 get-hash 0389 id-of-64 type id-of-64 type id-of-64 type id-of-64 type id-of-64 type id-of-64 type id-of-64 \
+    type id-of-64 type id-of-64 type|15
 a type of 7,500 bytes|get3 rp-id get-hash 0381a262 'id 41 'a 64 'type 791d4c 61*7500|00
 an id of 65 bytes|get3 rp-id get-hash 0381 id-of-65 type|15
 another command|03 00*7608|01

@@ -31,7 +31,8 @@ without hash|create3 rp user parameters|14
 without rp|create3 create-hash user parameters|14
 without user|create3 create-hash rp parameters|14
 without parameters|create3 create-hash rp user|14
-nine excluded|create5 create-hash rp user parameters exclude9 descriptor descriptor descriptor descriptor descriptor descriptor descriptor descriptor descriptor|15";
+nine excluded|create5 create-hash rp user parameters exclude9 descriptor descriptor descriptor descriptor descriptor descriptor descriptor descriptor \
+    descriptor|15";
 
 /// The same of getAssertion.
 pub const MAPS_OF_ASSERTIONS: Table = "getAssertion alone|02|12

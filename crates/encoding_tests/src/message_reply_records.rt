@@ -12,20 +12,34 @@ use std::test::Fail;
 
 /// What a reply is for, its bytes, the command, and its text (`pieces::expanded`).
 pub const REPLIES: Table =
-    r#"a credential|00a30163 'abc 02450d0d0d0d0d03a263 'alg 2663 'sig 420e0e|create|MakeCredential(CreationReply { fmt: "abc", auth_data: [13, 13, 13, 13, 13], statement: Map([(Text("alg"), Nint(6)), (Text("sig"), Bytes([14, 14]))]) })
-a credential of 7,609 bytes|00a30164 'none 02591dab 07*7595 03a0|create|MakeCredential(CreationReply { fmt: "none", auth_data: [7~, 7*7594~], statement: Map([]) })
-an assertion, all members|00a5 id-0a0a type data-and-signature user-of-0d 0507|get|GetAssertion(AssertionReply { credential: [10, 10], auth_data: [11, 11, 11], signature: [12, 12, 12, 12], user: Some([13, 13, 13, 13, 13]), number: Some(7) })
-the required members|00a3 id-0a0a type data-and-signature|get|GetAssertion(AssertionReply { credential: [10, 10], auth_data: [11, 11, 11], signature: [12, 12, 12, 12], user: None, number: None })
-a number alone|00a4 id-0a0a type data-and-signature 051b ff*8|get|GetAssertion(AssertionReply { credential: [10, 10], auth_data: [11, 11, 11], signature: [12, 12, 12, 12], user: None, number: Some(18446744073709551615) })
-an assertion of 7,609 bytes|00a501a262 'id 5840 01*64 type 02590ed8 02*3800 03590e36 03*3638 04a162 'id 5840 04*64 051818|get|GetAssertion(AssertionReply { credential: [1~, 1*63~], auth_data: [2~, 2*3799~], signature: [3~, 3*3637~], user: Some([4~, 4*63~]), number: Some(24) })
-single bytes|00a501a262 'id 4101 type 02410203410304a162 'id 41040505|get|GetAssertion(AssertionReply { credential: [1], auth_data: [2], signature: [3], user: Some([4]), number: Some(5) })
-the next, the required members|00a3 id-0a0a type data-and-signature|next|GetNextAssertion(AssertionReply { credential: [10, 10], auth_data: [11, 11, 11], signature: [12, 12, 12, 12], user: None, number: None })
-the next, a user|00a4 id-0a0a type data-and-signature user-of-0d|next|GetNextAssertion(AssertionReply { credential: [10, 10], auth_data: [11, 11, 11], signature: [12, 12, 12, 12], user: Some([13, 13, 13, 13, 13]), number: None })
+    "a credential|00a30163 'abc 02450d0d0d0d0d03a263 'alg 2663 'sig 420e0e|create|MakeCredential(CreationReply { fmt: \"abc\", auth_data: [13, 13, \
+    13, 13, 13], statement: Map([(Text(\"alg\"), Nint(6)), (Text(\"sig\"), Bytes([14, 14]))]) })
+a credential of 7,609 bytes|00a30164 'none 02591dab 07*7595 03a0|create|MakeCredential(CreationReply { fmt: \"none\", auth_data: [7~, 7*7594~], statement: \
+    Map([]) })
+an assertion, all members|00a5 id-0a0a type data-and-signature user-of-0d 0507|get|GetAssertion(AssertionReply { credential: [10, 10], auth_data: [11, 11, \
+    11], signature: [12, 12, 12, 12], user: Some([13, 13, 13, 13, 13]), number: Some(7) })
+the required members|00a3 id-0a0a type data-and-signature|get|GetAssertion(AssertionReply { credential: [10, 10], auth_data: [11, 11, 11], signature: [12, \
+    12, 12, 12], user: None, number: None })
+a number alone|00a4 id-0a0a type data-and-signature 051b ff*8|get|GetAssertion(AssertionReply { credential: [10, 10], auth_data: [11, 11, 11], signature: \
+    [12, 12, 12, 12], user: None, number: Some(18446744073709551615) })
+an assertion of 7,609 bytes|00a501a262 'id 5840 01*64 type 02590ed8 02*3800 03590e36 03*3638 04a162 'id 5840 04*64 051818|get|GetAssertion(AssertionReply { \
+    credential: [1~, 1*63~], auth_data: [2~, 2*3799~], signature: [3~, 3*3637~], user: Some([4~, 4*63~]), number: Some(24) })
+single bytes|00a501a262 'id 4101 type 02410203410304a162 'id 41040505|get|GetAssertion(AssertionReply { credential: [1], auth_data: [2], signature: [3], \
+    user: Some([4]), number: Some(5) })
+the next, the required members|00a3 id-0a0a type data-and-signature|next|GetNextAssertion(AssertionReply { credential: [10, 10], auth_data: [11, 11, 11], \
+    signature: [12, 12, 12, 12], user: None, number: None })
+the next, a user|00a4 id-0a0a type data-and-signature user-of-0d|next|GetNextAssertion(AssertionReply { credential: [10, 10], auth_data: [11, 11, 11], \
+    signature: [12, 12, 12, 12], user: Some([13, 13, 13, 13, 13]), number: None })
 reset|00|reset|Reset
-information, all members|00a6018266 'U2F_V2 68 'FIDO_2_0 0350 0f*16 04a362 'rk f562 'up f464 'plat f5 050107181808190100|info|GetInfo(InfoReply { versions: ["U2F_V2", "FIDO_2_0"], aaguid: [15~, 15*15~], options: [("rk", true), ("up", false), ("plat", true)], max_msg_size: 1, max_credential_count_in_list: 24, max_credential_id_length: 256 })
-what this authenticator is|info-front info-options info-end|info|GetInfo(InfoReply { versions: ["FIDO_2_0"], aaguid: [0~, 0*15~], options: [("rk", true), ("up", true), ("uv", false), ("plat", false)], max_msg_size: 7609, max_credential_count_in_list: 8, max_credential_id_length: 64 })
-information of 7,609 bytes|00a60181791d96 61*7574 0350 0f*16 04a0050007170819ffff|info|GetInfo(InfoReply { versions: ["~a*7574~"], aaguid: [15~, 15*15~], options: [], max_msg_size: 0, max_credential_count_in_list: 23, max_credential_id_length: 65535 })
-borders of numbers|00a601800350 0f*16 04a0051a00010000071affffffff 081b0000000100000000|info|GetInfo(InfoReply { versions: [], aaguid: [15~, 15*15~], options: [], max_msg_size: 65536, max_credential_count_in_list: 4294967295, max_credential_id_length: 4294967296 })"#;
+information, all members|00a6018266 'U2F_V2 68 'FIDO_2_0 0350 0f*16 04a362 'rk f562 'up f464 'plat f5 050107181808190100|info|GetInfo(InfoReply { versions: \
+    [\"U2F_V2\", \"FIDO_2_0\"], aaguid: [15~, 15*15~], options: [(\"rk\", true), (\"up\", false), (\"plat\", true)], max_msg_size: 1, \
+    max_credential_count_in_list: 24, max_credential_id_length: 256 })
+what this authenticator is|info-front info-options info-end|info|GetInfo(InfoReply { versions: [\"FIDO_2_0\"], aaguid: [0~, 0*15~], options: [(\"rk\", \
+    true), (\"up\", true), (\"uv\", false), (\"plat\", false)], max_msg_size: 7609, max_credential_count_in_list: 8, max_credential_id_length: 64 })
+information of 7,609 bytes|00a60181791d96 61*7574 0350 0f*16 04a0050007170819ffff|info|GetInfo(InfoReply { versions: [\"~a*7574~\"], aaguid: [15~, 15*15~], \
+    options: [], max_msg_size: 0, max_credential_count_in_list: 23, max_credential_id_length: 65535 })
+borders of numbers|00a601800350 0f*16 04a0051a00010000071affffffff 081b0000000100000000|info|GetInfo(InfoReply { versions: [], aaguid: [15~, 15*15~], \
+    options: [], max_msg_size: 65536, max_credential_count_in_list: 4294967295, max_credential_id_length: 4294967296 })";
 
 /// Whether this is the text of the reply.
 fn is_printed(alloc: Global, reply: &Reply, text: &str) -> Result<bool, AllocError> {

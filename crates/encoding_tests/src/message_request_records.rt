@@ -12,20 +12,40 @@ use std::test::Fail;
 
 /// What a request is for, its bytes, and its text (`pieces::expanded`).
 pub const REQUESTS: Table =
-    r#"all members|01a6 create-hash 02a262 'id 63 'abc 64 'name 63 'def 03a362 'id 430a0a0a 64 'name 63 'ghi 6b 'displayName 63 'jkl 0482a263 'alg 26 type a263 'alg 390100 type 0582a262 'id 420b0b type a262 'id 410c64 'type 61 'x 07a362 'rk f462 'up f562 'uv f4|MakeCredential(MakeCredential { client_data_hash: [34~, 34*31~], rp: RelyingParty { id: "abc", name: Some("def") }, user: User { id: [10, 10, 10], name: Some("ghi"), display_name: Some("jkl") }, pub_key_cred_params: [Parameters { alg: -7, kind: "public-key" }, Parameters { alg: -257, kind: "public-key" }], exclude_list: Some([Descriptor { id: [11, 11], kind: "public-key" }, Descriptor { id: [12], kind: "x" }]), options: Some(CreationOptions { rk: Some(false), up: Some(true), uv: Some(false) }) })
-the required members|01a4 create-hash rp-a user-and-no-parameters|MakeCredential(MakeCredential { client_data_hash: [34~, 34*31~], rp: RelyingParty { id: "a", name: None }, user: User { id: [10], name: None, display_name: None }, pub_key_cred_params: [], exclude_list: None, options: None })
-rk alone|01a5 create-hash rp-a user-and-no-parameters 07a162 'rk f5|MakeCredential(MakeCredential { client_data_hash: [34~, 34*31~], rp: RelyingParty { id: "a", name: None }, user: User { id: [10], name: None, display_name: None }, pub_key_cred_params: [], exclude_list: None, options: Some(CreationOptions { rk: Some(true), up: None, uv: None }) })
-up alone|01a5 create-hash rp-a user-and-no-parameters 07a162 'up f5|MakeCredential(MakeCredential { client_data_hash: [34~, 34*31~], rp: RelyingParty { id: "a", name: None }, user: User { id: [10], name: None, display_name: None }, pub_key_cred_params: [], exclude_list: None, options: Some(CreationOptions { rk: None, up: Some(true), uv: None }) })
-uv alone|01a5 create-hash rp-a user-and-no-parameters 07a162 'uv f5|MakeCredential(MakeCredential { client_data_hash: [34~, 34*31~], rp: RelyingParty { id: "a", name: None }, user: User { id: [10], name: None, display_name: None }, pub_key_cred_params: [], exclude_list: None, options: Some(CreationOptions { rk: None, up: None, uv: Some(true) }) })
-a name of the user alone|01a4 create-hash rp-a 03a262 'id 410a64 'name 7841 62*65 0480|MakeCredential(MakeCredential { client_data_hash: [34~, 34*31~], rp: RelyingParty { id: "a", name: None }, user: User { id: [10], name: Some("~b*65~"), display_name: None }, pub_key_cred_params: [], exclude_list: None, options: None })
-a display name alone|01a4 create-hash rp-a 03a262 'id 5840 0a*64 6b 'displayName 7841 63*65 0480|MakeCredential(MakeCredential { client_data_hash: [34~, 34*31~], rp: RelyingParty { id: "a", name: None }, user: User { id: [10~, 10*63~], name: None, display_name: Some("~c*65~") }, pub_key_cred_params: [], exclude_list: None, options: None })
-all members|02a4 rp-id-and-hash 0382a262 'id 420b0b type a262 'id 410c64 'type 61 'x 05a262 'up f562 'uv f4|GetAssertion(GetAssertion { rp_id: "abc", client_data_hash: [34~, 34*31~], allow_list: Some([Descriptor { id: [11, 11], kind: "public-key" }, Descriptor { id: [12], kind: "x" }]), options: Some(AssertionOptions { up: Some(true), uv: Some(false) }) })
-the required members|02a2 rp-id-and-hash|GetAssertion(GetAssertion { rp_id: "abc", client_data_hash: [34~, 34*31~], allow_list: None, options: None })
-up alone|02a3 rp-id-and-hash 05a162 'up f5|GetAssertion(GetAssertion { rp_id: "abc", client_data_hash: [34~, 34*31~], allow_list: None, options: Some(AssertionOptions { up: Some(true), uv: None }) })
-uv alone|02a3 rp-id-and-hash 05a162 'uv f5|GetAssertion(GetAssertion { rp_id: "abc", client_data_hash: [34~, 34*31~], allow_list: None, options: Some(AssertionOptions { up: None, uv: Some(true) }) })
+    "all members|01a6 create-hash 02a262 'id 63 'abc 64 'name 63 'def 03a362 'id 430a0a0a 64 'name 63 'ghi 6b 'displayName 63 'jkl 0482a263 'alg 26 \
+    type a263 'alg 390100 type 0582a262 'id 420b0b type a262 'id 410c64 'type 61 'x 07a362 'rk f462 'up f562 'uv f4|MakeCredential(MakeCredential { \
+    client_data_hash: [34~, 34*31~], rp: RelyingParty { id: \"abc\", name: Some(\"def\") }, user: User { id: [10, 10, 10], name: Some(\"ghi\"), \
+    display_name: Some(\"jkl\") }, pub_key_cred_params: [Parameters { alg: -7, kind: \"public-key\" }, Parameters { alg: -257, kind: \"public-key\" \
+    }], exclude_list: Some([Descriptor { id: [11, 11], kind: \"public-key\" }, Descriptor { id: [12], kind: \"x\" }]), options: \
+    Some(CreationOptions { rk: Some(false), up: Some(true), uv: Some(false) }) })
+the required members|01a4 create-hash rp-a user-and-no-parameters|MakeCredential(MakeCredential { client_data_hash: [34~, 34*31~], rp: RelyingParty { id: \
+    \"a\", name: None }, user: User { id: [10], name: None, display_name: None }, pub_key_cred_params: [], exclude_list: None, options: None })
+rk alone|01a5 create-hash rp-a user-and-no-parameters 07a162 'rk f5|MakeCredential(MakeCredential { client_data_hash: [34~, 34*31~], rp: RelyingParty { id: \
+    \"a\", name: None }, user: User { id: [10], name: None, display_name: None }, pub_key_cred_params: [], exclude_list: None, options: \
+    Some(CreationOptions { rk: Some(true), up: None, uv: None }) })
+up alone|01a5 create-hash rp-a user-and-no-parameters 07a162 'up f5|MakeCredential(MakeCredential { client_data_hash: [34~, 34*31~], rp: RelyingParty { id: \
+    \"a\", name: None }, user: User { id: [10], name: None, display_name: None }, pub_key_cred_params: [], exclude_list: None, options: \
+    Some(CreationOptions { rk: None, up: Some(true), uv: None }) })
+uv alone|01a5 create-hash rp-a user-and-no-parameters 07a162 'uv f5|MakeCredential(MakeCredential { client_data_hash: [34~, 34*31~], rp: RelyingParty { id: \
+    \"a\", name: None }, user: User { id: [10], name: None, display_name: None }, pub_key_cred_params: [], exclude_list: None, options: \
+    Some(CreationOptions { rk: None, up: None, uv: Some(true) }) })
+a name of the user alone|01a4 create-hash rp-a 03a262 'id 410a64 'name 7841 62*65 0480|MakeCredential(MakeCredential { client_data_hash: [34~, 34*31~], rp: \
+    RelyingParty { id: \"a\", name: None }, user: User { id: [10], name: Some(\"~b*65~\"), display_name: None }, pub_key_cred_params: [], \
+    exclude_list: None, options: None })
+a display name alone|01a4 create-hash rp-a 03a262 'id 5840 0a*64 6b 'displayName 7841 63*65 0480|MakeCredential(MakeCredential { client_data_hash: [34~, \
+    34*31~], rp: RelyingParty { id: \"a\", name: None }, user: User { id: [10~, 10*63~], name: None, display_name: Some(\"~c*65~\") }, \
+    pub_key_cred_params: [], exclude_list: None, options: None })
+all members|02a4 rp-id-and-hash 0382a262 'id 420b0b type a262 'id 410c64 'type 61 'x 05a262 'up f562 'uv f4|GetAssertion(GetAssertion { rp_id: \"abc\", \
+    client_data_hash: [34~, 34*31~], allow_list: Some([Descriptor { id: [11, 11], kind: \"public-key\" }, Descriptor { id: [12], kind: \"x\" }]), \
+    options: Some(AssertionOptions { up: Some(true), uv: Some(false) }) })
+the required members|02a2 rp-id-and-hash|GetAssertion(GetAssertion { rp_id: \"abc\", client_data_hash: [34~, 34*31~], allow_list: None, options: None })
+up alone|02a3 rp-id-and-hash 05a162 'up f5|GetAssertion(GetAssertion { rp_id: \"abc\", client_data_hash: [34~, 34*31~], allow_list: None, options: \
+    Some(AssertionOptions { up: Some(true), uv: None }) })
+uv alone|02a3 rp-id-and-hash 05a162 'uv f5|GetAssertion(GetAssertion { rp_id: \"abc\", client_data_hash: [34~, 34*31~], allow_list: None, options: \
+    Some(AssertionOptions { up: None, uv: Some(true) }) })
 getNextAssertion|08|GetNextAssertion
 getInfo|04|GetInfo
-reset|07|Reset"#;
+reset|07|Reset";
 
 /// Whether this is the text of the request.
 fn is_printed(alloc: Global, request: &Request, text: &str) -> Result<bool, AllocError> {

@@ -11,7 +11,7 @@ use std::test::Fail;
 
 /// What is so of a line: the function of that name.
 #[derive(Drop)]
-enum Kind {
+enum MessageRow {
     Answered,
     Refused,
     Command,
@@ -23,42 +23,45 @@ enum Kind {
 }
 
 /// Whether this is so of the line.
-fn is_so(alloc: Global, kind: &Kind, line: &str) -> Result<bool, Fail> {
+fn is_so(alloc: Global, kind: &MessageRow, line: &str) -> Result<bool, Fail> {
     match kind {
-        Kind::Answered => message_answers::is_answered(alloc, line),
-        Kind::Refused => message_answers::is_refused(alloc, line),
-        Kind::Command => message_commands::is_command(alloc, line),
-        Kind::Extended => message_extensions::is_extended(alloc, line),
-        Kind::Request => message_request_records::is_request(alloc, line),
-        Kind::UnfitRequest => message_request_records::is_unfit_request(alloc, line),
-        Kind::Reply => message_reply_records::is_reply(alloc, line),
-        Kind::UnfitReply => message_reply_records::is_unfit_reply(alloc, line),
+        MessageRow::Answered => message_answers::is_answered(alloc, line),
+        MessageRow::Refused => message_answers::is_refused(alloc, line),
+        MessageRow::Command => message_commands::is_command(alloc, line),
+        MessageRow::Extended => message_extensions::is_extended(alloc, line),
+        MessageRow::Request => message_request_records::is_request(alloc, line),
+        MessageRow::UnfitRequest => message_request_records::is_unfit_request(alloc, line),
+        MessageRow::Reply => message_reply_records::is_reply(alloc, line),
+        MessageRow::UnfitReply => message_reply_records::is_unfit_reply(alloc, line),
     }
 }
 
 #[test]
 fn rows(rt: HostRuntime) -> Result<(), Fail> {
     let tables = [
-        (Kind::Answered, message_commands::UNKNOWN),
-        (Kind::Answered, message_request_rows::ASSERTIONS),
-        (Kind::Answered, message_request_rows::CREATIONS),
-        (Kind::Answered, message_maps::MAPS_OF_CREATIONS),
-        (Kind::Answered, message_maps::MAPS_OF_ASSERTIONS),
-        (Kind::Answered, message_creation_maps::CREATION_PAIRS),
-        (Kind::Answered, message_pairs::ORDER),
-        (Kind::Answered, message_pairs::KIND),
-        (Kind::Answered, message_pairs::LATER),
-        (Kind::Answered, message_large::REQUESTS),
-        (Kind::Refused, message_reply_rows::REPLIES),
-        (Kind::Refused, message_reply_rows::FAULTS),
-        (Kind::Refused, message_information::FAULTS),
-        (Kind::Refused, message_large::REPLIES),
-        (Kind::Command, message_commands::COMMANDS),
-        (Kind::Extended, message_extensions::REQUESTS),
-        (Kind::Request, message_request_records::REQUESTS),
-        (Kind::UnfitRequest, message_request_records::UNFIT_REQUESTS),
-        (Kind::Reply, message_reply_records::REPLIES),
-        (Kind::UnfitReply, message_reply_records::UNFIT_REPLIES),
+        (MessageRow::Answered, message_commands::UNKNOWN),
+        (MessageRow::Answered, message_request_rows::ASSERTIONS),
+        (MessageRow::Answered, message_request_rows::CREATIONS),
+        (MessageRow::Answered, message_maps::MAPS_OF_CREATIONS),
+        (MessageRow::Answered, message_maps::MAPS_OF_ASSERTIONS),
+        (MessageRow::Answered, message_creation_maps::CREATION_PAIRS),
+        (MessageRow::Answered, message_pairs::ORDER),
+        (MessageRow::Answered, message_pairs::KIND),
+        (MessageRow::Answered, message_pairs::LATER),
+        (MessageRow::Answered, message_large::REQUESTS),
+        (MessageRow::Refused, message_reply_rows::REPLIES),
+        (MessageRow::Refused, message_reply_rows::FAULTS),
+        (MessageRow::Refused, message_information::FAULTS),
+        (MessageRow::Refused, message_large::REPLIES),
+        (MessageRow::Command, message_commands::COMMANDS),
+        (MessageRow::Extended, message_extensions::REQUESTS),
+        (MessageRow::Request, message_request_records::REQUESTS),
+        (
+            MessageRow::UnfitRequest,
+            message_request_records::UNFIT_REQUESTS,
+        ),
+        (MessageRow::Reply, message_reply_records::REPLIES),
+        (MessageRow::UnfitReply, message_reply_records::UNFIT_REPLIES),
     ];
     for (kind, table) in tables {
         for line in table.lines() {

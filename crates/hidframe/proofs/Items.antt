@@ -1,3 +1,4 @@
+-- The items of a frame list, one after another.
 use Rattle.std.proofs.Common.{◌≡◌, ◌≤◌, ◌<◌, ◌+◌, [], ◌∷◌, List, ℕ, suc, zero, length, map, ◌-◌, sym, ◌∙◌, ap, arith, refl, add-zero}
 use Rattle.std.specs.Prelude.{slice_get, Some, None, Option, MatchOption}
 use Rattle.std.proofs.Common.{inl, inr, subst}
@@ -46,7 +47,9 @@ pub items_at : (c cmd : ℕ) (m : List ℕ) (i : ℕ) (r : Option Packet) → r 
     → MatchOption r (items_from c cmd m i ≡ []) (λ p. items_from c cmd m i ≡ p ∷ items_from c cmd m (i + 1))
 items_at c cmd m i r e = elim (cases_lt i (packet_count (length m))) [
   | inl h ↦ let is : r ≡ Some (item c cmd m i) = e ∙ get-items c cmd m i h in
-      subst (λ (x : Option Packet). MatchOption x (items_from c cmd m i ≡ []) (λ p. items_from c cmd m i ≡ p ∷ items_from c cmd m (i + 1))) (sym is) (items-more c cmd m i h)
+      subst (λ (x : Option Packet). MatchOption x (items_from c cmd m i ≡ []) (λ p. items_from c cmd m i ≡ p ∷ items_from c cmd m (i + 1))) (sym is)
+      (items-more c cmd m i h)
   | inr h ↦ let is : r ≡ None = e ∙ get-items-past c cmd m i h in
-      subst (λ (x : Option Packet). MatchOption x (items_from c cmd m i ≡ []) (λ p. items_from c cmd m i ≡ p ∷ items_from c cmd m (i + 1))) (sym is) (items-none c cmd m i h)
+      subst (λ (x : Option Packet). MatchOption x (items_from c cmd m i ≡ []) (λ p. items_from c cmd m i ≡ p ∷ items_from c cmd m (i + 1))) (sym is)
+      (items-none c cmd m i h)
 ]

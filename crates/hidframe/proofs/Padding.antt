@@ -1,3 +1,4 @@
+-- Parts of a list with zeros behind them.
 use Rattle.std.proofs.Common.{◌≡◌, ℕ, suc, zero, ◌+◌, ◌-◌, ◌≤◌, List, [], ◌∷◌, ◌++◌, length, take, drop, refl, sym, ◌∙◌, ap, arith, length-append}
 use Rattle.std.specs.Prelude.{replicate}
 use Rattle.std.proofs.lemmas.List.{drop-replicate, take-replicate, length-replicate}
@@ -26,7 +27,8 @@ pad (suc n) zero (x ∷ m) r h =
 pad (suc n) (suc i) (x ∷ m) r h = pad (suc n) i m r (omega arith)
 
 pub length-padded : (n : ℕ) (bytes : List ℕ) → length bytes ≤ n → length (padded n bytes) ≡ n
-length-padded n bytes h = length-append bytes (replicate (n - length bytes) 0) ∙ sum (length (replicate (n - length bytes) 0)) (length-replicate (n - length bytes) 0)
+length-padded n bytes h = length-append bytes (replicate (n - length bytes) 0)
+    ∙ sum (length (replicate (n - length bytes) 0)) (length-replicate (n - length bytes) 0)
   where
     sum : (k : ℕ) → k ≡ n - length bytes → length bytes + k ≡ n
     sum k e = omega arith

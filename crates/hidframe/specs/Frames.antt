@@ -1,10 +1,9 @@
+-- The packets of a message: CTAP 2.1 section 11.2.4.
 use Rattle.std.specs.Prelude.{◌≡◌, ℕ, ◌+◌, ◌-◌, ◌/◌, ◌≤◌, List, [], ◌∷◌, ◌++◌, length, map, replicate}
 use Rattle.std.specs.List.{flat_map, AllByRecursion}
 use Rattle.hidframe.specs.declared.Packet.{Packet}
 use Rattle.hidframe.specs.declared.ctaphid.TheConstants.{INIT_DATA_SIZE, CONT_DATA_SIZE, MAX_PAYLOAD_SIZE}
 use Rattle.hidframe.specs.Packets.{Fields, Initial, Continuation, fields, IsPacket}
-
--- The packets of a message: CTAP 2.1 section 11.2.4.
 
 -- how many continuations follow the initial packet of a message of n bytes: the bytes that don't fit
 -- into it by 59, rounded up

@@ -1,7 +1,11 @@
-use Rattle.std.specs.Prelude.{◌≡◌}
-use Rattle.hidframe.specs.declared.ctaphid.TheConstants.{PACKET_SIZE, INIT_DATA_SIZE, CONT_DATA_SIZE, MAX_PAYLOAD_SIZE, CTAPHID_BROADCAST_CID, CTAPHID_RESERVED_CID, CTAPHID_PING, CTAPHID_MSG, CTAPHID_LOCK, CTAPHID_INIT, CTAPHID_WINK, CTAPHID_CBOR, CTAPHID_CANCEL, CTAPHID_KEEPALIVE, CTAPHID_ERROR, ERR_INVALID_CMD, ERR_INVALID_PAR, ERR_INVALID_LEN, ERR_INVALID_SEQ, ERR_MSG_TIMEOUT, ERR_CHANNEL_BUSY, ERR_INVALID_CHANNEL, ERR_OTHER, STATUS_PROCESSING, STATUS_UPNEEDED, PROTOCOL_VERSION, CAPABILITY_WINK, CAPABILITY_CBOR, CAPABILITY_NMSG}
-
 -- The numbers of CTAPHID: CTAP 2.1 sections 11.2.3, 11.2.4 and 11.2.9.
+use Rattle.std.specs.Prelude.{◌≡◌}
+use Rattle.hidframe.specs.declared.ctaphid.TheConstants.{PACKET_SIZE, INIT_DATA_SIZE, CONT_DATA_SIZE, MAX_PAYLOAD_SIZE, CTAPHID_BROADCAST_CID}
+use Rattle.hidframe.specs.declared.ctaphid.TheConstants.{CTAPHID_RESERVED_CID, CTAPHID_PING, CTAPHID_MSG, CTAPHID_LOCK, CTAPHID_INIT, CTAPHID_WINK}
+use Rattle.hidframe.specs.declared.ctaphid.TheConstants.{CTAPHID_CBOR, CTAPHID_CANCEL, CTAPHID_KEEPALIVE, CTAPHID_ERROR, ERR_INVALID_CMD}
+use Rattle.hidframe.specs.declared.ctaphid.TheConstants.{ERR_INVALID_PAR, ERR_INVALID_LEN, ERR_INVALID_SEQ, ERR_MSG_TIMEOUT, ERR_CHANNEL_BUSY}
+use Rattle.hidframe.specs.declared.ctaphid.TheConstants.{ERR_INVALID_CHANNEL, ERR_OTHER, STATUS_PROCESSING, STATUS_UPNEEDED, PROTOCOL_VERSION}
+use Rattle.hidframe.specs.declared.ctaphid.TheConstants.{CAPABILITY_WINK, CAPABILITY_CBOR, CAPABILITY_NMSG}
 
 -- bytes: of a packet, of the data of an initial packet and of a continuation, and the most of a payload
 abbrev pub HasSizes : Type 0

@@ -1,11 +1,10 @@
+-- What a packet says: CTAP 2.1 section 11.2.4.
 use Rattle.std.specs.Prelude.{◌≡◌, ℕ, ◌-◌, ◌<◌, List, [], ◌∷◌, length, slice_index, slice_range, nat_lt, if◌then◌else◌}
 use Rattle.std.specs.Int.{w16, w32, from_be_bytes}
 use Rattle.hidframe.specs.declared.ctaphid.TheConstants.{PACKET_SIZE}
 use Rattle.hidframe.specs.declared.Packet.{Packet}
 use Rattle.hidframe.specs.declared.Head.{Head}
 use Rattle.hidframe.specs.declared.Head.TheVariants.{Init, Cont}
-
--- What a packet says: CTAP 2.1 section 11.2.4.
 
 -- what a packet says: its channel, its command and length or its number, and its data area
 pub data Fields : Type 0 where

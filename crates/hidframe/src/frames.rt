@@ -1,6 +1,7 @@
 //! The packets of a message: CTAP 2.1 section 11.2.4.
 
-ghost use Rattle.std.specs.Prelude.{◌≡◌, ◌<◌, ◌≤◌, ◌+◌, ◌*◌, ◌^◌, ◌↔◌, ◌-◌, ◌++◌, ℕ, List, length, replicate, IsErr, IfOk, slice_get, slice_index, MatchOption, [], ◌∷◌};
+ghost use Rattle.std.specs.Prelude.{◌≡◌, ◌<◌, ◌≤◌, ◌+◌, ◌*◌, ◌^◌, ◌↔◌, ◌-◌, ◌++◌, ℕ, List, length, replicate, IsErr, IfOk, slice_get, slice_index};
+ghost use Rattle.std.specs.Prelude.{MatchOption, [], ◌∷◌};
 ghost use Rattle.std.specs.Iterator.{YieldsFirst, item_count};
 ghost use Rattle.hidframe.specs.declared.Packet.{Packet};
 ghost use Rattle.hidframe.specs.Frames.{TheZeroFrames, ZeroFrames};

@@ -1,3 +1,4 @@
+-- Beginnings of a list of packets, and what each of them carries.
 use Rattle.std.proofs.Common.{◌≡◌, ℕ, suc, zero, ◌≤◌, ◌⊎◌, inl, inr, List, [], ◌∷◌, ◌++◌, take, drop, refl, sym, ◌∙◌, ap, arith}
 use Rattle.std.proofs.lemmas.List.{append_assoc, append-nil, same_from_push, take-append-drop}
 use Rattle.hidframe.specs.declared.Packet.{Packet}

@@ -1,3 +1,4 @@
+-- What a feed answers is exactly what the packets carry.
 use Rattle.std.proofs.Common.{◌≡◌, ℕ, inl, inr, List, [], ◌∷◌, ◌++◌, refl, sym, ◌∙◌, ap, subst}
 use Rattle.std.specs.Prelude.{◌↔◌, Ok, Err}
 use Rattle.hidframe.specs.declared.Packet.{Packet}
@@ -9,7 +10,7 @@ use Rattle.hidlink.specs.declared.collection.Outcome.TheVariants.{More, Reply, D
 use Rattle.hidlink.specs.Wire.{Carries, Dies, HasEnded, IsBeginning, Shown, Replied, Failed, Died, Holds, Got}
 use Rattle.hidlink.specs.Collected.{Collected}
 use Rattle.hidlink.specs.Steps.{step, IsEnded}
-use Rattle.hidlink.specs.Feeds.{Tells, Answers, Gives, IsMore, IsReply, IsDeviceError, IsDeath}
+use Rattle.hidlink.specs.Feeds.{TellsOutcome, CollectorAnswers, Gives, IsMore, IsReply, IsDeviceError, IsDeath}
 use Rattle.hidlink.proofs.Beginnings.{beginning_cases, begins_itself, has_ended_later}
 use Rattle.hidlink.proofs.SoFar.{packets-append}
 use Rattle.hidlink.proofs.Shows.{carries_now, dies_now, ended_holds, holds-step, holds_ended, one_shown}
@@ -19,7 +20,8 @@ pub got-step : (c : ℕ) (ps : List Packet) (p : Packet) (s t : Shown) → IsPac
 got-step c ps p s t whole is g = record {
   channel = g.channel;
   packets = packets-append ps (p ∷ []) g.packets (whole, tt);
-  holds = let P : Shown → Type 0 = Holds c (ps ++ p ∷ []) in subst P (sym is) (holds-step c ps p s g.channel (packets-append ps (p ∷ []) g.packets (whole, tt)) g.holds);
+  holds = let P : Shown → Type 0 = Holds c (ps ++ p ∷ []) in
+      subst P (sym is) (holds-step c ps p s g.channel (packets-append ps (p ∷ []) g.packets (whole, tt)) g.holds);
 }
 
 -- of a collector that took a packet
@@ -29,7 +31,8 @@ got_taken old new p whole e = (ap (λ k. k.cid) e, λ ps g. got-step old.cid ps 
 
 -- ---- what is so with the packet before which the list had not ended
 
-here : (c : ℕ) (ps : List Packet) (p : Packet) (X : List Packet → Type 0) → ((qs : List Packet) → IsBeginning qs ps → X qs → HasEnded c ps) → (HasEnded c ps → ⊥)
+here : (c : ℕ) (ps : List Packet) (p : Packet) (X : List Packet → Type 0) → ((qs : List Packet) → IsBeginning qs ps → X qs → HasEnded c ps)
+    → (HasEnded c ps → ⊥)
     → (qs : List Packet) × IsBeginning qs (ps ++ p ∷ []) × X qs → X (ps ++ p ∷ [])
 here c ps p X ends before h = elim (beginning_cases h.0 ps p h.1) [ inl b ↦ absurd (before (ends h.0 b h.2)) | inr e ↦ subst X e h.2 ]
 
@@ -54,22 +57,22 @@ now c ps p t before g =
 
 -- ---- the answers that a state allows
 
-reply : (t : Shown) (outcome : Outcome) (m : List ℕ) → Tells t outcome → IsReply (Ok outcome) m ↔ (t ≡ Replied m)
+reply : (t : Shown) (outcome : Outcome) (m : List ℕ) → TellsOutcome t outcome → IsReply (Ok outcome) m ↔ (t ≡ Replied m)
 reply t (Reply bytes) m h = (λ e. h ∙ ap Replied e, λ e. cc)
 reply t More m h = (λ e. absurd e, λ e. h (rw e tt))
 reply t _ m h = (λ e. absurd e, λ e. absurd (cc))
 
-device_error : (t : Shown) (outcome : Outcome) (code : ℕ) → Tells t outcome → IsDeviceError (Ok outcome) code ↔ (t ≡ Failed code)
+device_error : (t : Shown) (outcome : Outcome) (code : ℕ) → TellsOutcome t outcome → IsDeviceError (Ok outcome) code ↔ (t ≡ Failed code)
 device_error t (DeviceError code') code h = (λ e. h ∙ ap Failed e, λ e. cc)
 device_error t More code h = (λ e. absurd e, λ e. h (rw e tt))
 device_error t _ code h = (λ e. absurd e, λ e. absurd (cc))
 
-death : (t : Shown) (outcome : Outcome) (kind : DeadKind) → Tells t outcome → IsDeath (Ok outcome) kind ↔ (t ≡ Died kind)
+death : (t : Shown) (outcome : Outcome) (kind : DeadKind) → TellsOutcome t outcome → IsDeath (Ok outcome) kind ↔ (t ≡ Died kind)
 death t (Dead kind') kind h = (λ e. h ∙ ap Died e, λ e. cc)
 death t More kind h = (λ e. absurd e, λ e. h (rw e tt))
 death t _ kind h = (λ e. absurd e, λ e. absurd (cc))
 
-more : (t : Shown) (outcome : Outcome) → Tells t outcome → IsMore (Ok outcome) ↔ (IsEnded t → ⊥)
+more : (t : Shown) (outcome : Outcome) → TellsOutcome t outcome → IsMore (Ok outcome) ↔ (IsEnded t → ⊥)
 more t More h = (λ _. h, λ _. tt)
 more t (Reply bytes) h = (λ e. absurd e, λ e. e (rw h tt))
 more t (DeviceError code) h = (λ e. absurd e, λ e. e (rw h tt))
@@ -82,7 +85,7 @@ pub back : {A B : Type 0} → A ↔ B → B ↔ A
 back e = (e.1, e.0)
 
 -- what an outcome says of the packets that a collector got
-pub outcome_gives : (c : ℕ) (ps : List Packet) (s : Shown) (outcome : Outcome) → Tells s outcome → Got c ps s → Gives c ps outcome
+pub outcome_gives : (c : ℕ) (ps : List Packet) (s : Shown) (outcome : Outcome) → TellsOutcome s outcome → Got c ps s → Gives c ps outcome
 outcome_gives c ps s outcome told g =
     let P : Shown → Type 0 = Holds c ps in
     let shown : (t : Shown) → (s ≡ t) ↔ Holds c ps t = λ t. (λ e. subst P e g.holds, λ h. one_shown c ps s t g.channel g.packets g.holds h) in
@@ -93,7 +96,8 @@ outcome_gives c ps s outcome told g =
       more = by_way (more s outcome told) (λ n e. n (holds_ended c ps s g.channel g.packets g.holds e), λ n e. n (ended_holds c ps s e g.holds));
     }
 
-pub answers-ok : (c : ℕ) (ps : List Packet) (p : Packet) (s t : Shown) (outcome : Outcome) → IsPacket p → (IsEnded s → ⊥) → t ≡ step c s (fields p) → Tells t outcome → Got c ps s → Answers c ps p (Ok outcome)
+pub answers-ok : (c : ℕ) (ps : List Packet) (p : Packet) (s t : Shown) (outcome : Outcome) → IsPacket p → (IsEnded s → ⊥) → t ≡ step c s (fields p)
+    → TellsOutcome t outcome → Got c ps s → CollectorAnswers c ps p (Ok outcome)
 answers-ok c ps p s t outcome whole alive is told g =
     let before : HasEnded c ps → ⊥ = λ h. alive (holds_ended c ps s g.channel g.packets g.holds h) in
     let g' : Got c (ps ++ p ∷ []) t = got-step c ps p s t whole is g in
@@ -106,7 +110,7 @@ answers-ok c ps p s t outcome whole alive is told g =
       more = (outcome_gives c (ps ++ p ∷ []) t outcome told g').more;
     }
 
-pub answers-err : (c : ℕ) (ps : List Packet) (p : Packet) (s : Shown) (e : Ended) → IsEnded s → Got c ps s → Answers c ps p (Err e)
+pub answers-err : (c : ℕ) (ps : List Packet) (p : Packet) (s : Shown) (e : Ended) → IsEnded s → Got c ps s → CollectorAnswers c ps p (Err e)
 answers-err c ps p s e ended g =
     let now : HasEnded c ps = ended_holds c ps s ended g.holds in
     record {

@@ -1,3 +1,4 @@
+-- What an opener has heard of its packets.
 use Rattle.std.proofs.Common.{◌≡◌, ℕ, ◌≤◌, List, [], ◌∷◌, ◌++◌, length, refl, ◌∙◌, ap, arith, append_assoc}
 use Rattle.std.specs.Prelude.{Option, None, Some, MatchOption, slice_get}
 use Rattle.std.specs.List.{AllByRecursion}
@@ -17,7 +18,8 @@ heard_more nonce ps p c o = record {
   assigns = o.assigns;
 }
 
-none_more : (nonce : List ℕ) (ps : List Packet) (p : Packet) → AllByRecursion (IsNoInitResponse nonce) ps → IsNoInitResponse nonce p → AllByRecursion (IsNoInitResponse nonce) (ps ++ p ∷ [])
+none_more : (nonce : List ℕ) (ps : List Packet) (p : Packet) → AllByRecursion (IsNoInitResponse nonce) ps → IsNoInitResponse nonce p
+    → AllByRecursion (IsNoInitResponse nonce) (ps ++ p ∷ [])
 none_more nonce [] p h k = (k, tt)
 none_more nonce (q ∷ ps) p h k = (h.0, none_more nonce ps p h.1 k)
 

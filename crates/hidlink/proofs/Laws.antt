@@ -1,3 +1,4 @@
+-- Packets come to one end: one message, one error or one death.
 use Rattle.std.proofs.Common.{◌≡◌, ℕ, ◌^◌, ◌<◌, ◌≤◌, ◌⊎◌, inl, inr, List, [], ◌∷◌, ◌++◌, length, take, refl, sym, ◌∙◌, ap, subst, arith, slice_index}
 use Rattle.std.proofs.lemmas.Bool.{cases_lt}
 use Rattle.std.proofs.lemmas.List.{length-take-le}
@@ -12,21 +13,24 @@ use Rattle.hidlink.proofs.Shows.{carries_now, dies_now, state-dies}
 
 -- fewer packets of a list begin what is before its last packet
 before_last : (j k : ℕ) (ps before : List Packet) (last : Packet) → j < k → k ≤ length ps → take k ps ≡ before ++ last ∷ [] → IsBeginning (take j ps) before
-before_last j k ps before last less within e = elim (beginning_cases (take j ps) before last (subst (λ qs. IsBeginning (take j ps) qs) e (taken_less j k ps (omega arith)))) [
-  | inl b ↦ b
-  | inr all ↦
-      let same : length (take j ps) ≡ length (take k ps) = ap length (all ∙ sym e) in
-      absurd (omega (arith, length-take-le j ps (omega arith), length-take-le k ps within))
-]
+before_last j k ps before last less within e =
+    elim (beginning_cases (take j ps) before last (subst (λ qs. IsBeginning (take j ps) qs) e (taken_less j k ps (omega arith)))) [
+      | inl b ↦ b
+      | inr all ↦
+          let same : length (take j ps) ≡ length (take k ps) = ap length (all ∙ sym e) in
+          absurd (omega (arith, length-take-le j ps (omega arith), length-take-le k ps within))
+    ]
 
 -- before the packet that completes what is carried nothing has ended, nor before that after which none can come
 pub carries_first : (c j k : ℕ) (ps : List Packet) (cmd : ℕ) (m : List ℕ) → j < k → k ≤ length ps → Carries c (take k ps) cmd m → HasEnded c (take j ps) → ⊥
 carries_first c j k ps cmd m less within h e =
-    carries_now c h.before h.last cmd m (subst (λ qs. Carries c qs cmd m) h.ends h) (has_ended_later (take j ps) h.before (before_last j k ps h.before h.last less within h.ends) e)
+    carries_now c h.before h.last cmd m (subst (λ qs. Carries c qs cmd m) h.ends h)
+    (has_ended_later (take j ps) h.before (before_last j k ps h.before h.last less within h.ends) e)
 
 pub dies_first : (c j k : ℕ) (ps : List Packet) (kind : DeadKind) → j < k → k ≤ length ps → Dies c (take k ps) kind → HasEnded c (take j ps) → ⊥
 dies_first c j k ps kind less within d e =
-    dies_now c d.before d.last kind (subst (λ qs. Dies c qs kind) d.ends d) (has_ended_later (take j ps) d.before (before_last j k ps d.before d.last less within d.ends) e)
+    dies_now c d.before d.last kind (subst (λ qs. Dies c qs kind) d.ends d)
+    (has_ended_later (take j ps) d.before (before_last j k ps d.before d.last less within d.ends) e)
 
 pub carried_ends : (c : ℕ) (ps : List Packet) (cmd : ℕ) (m : List ℕ) → Carries c ps cmd m → HasEnded c ps
 carried_ends c ps cmd m h = inl (ps, cmd, m, begins_itself ps, h)
@@ -65,15 +69,18 @@ one_place j k a b = elim (cases_lt j k) [ inl less ↦ absurd (a less) | inr ge 
 pub one_carried : (c j k : ℕ) (ps : List Packet) (cmd other : ℕ) (m n : List ℕ) → j ≤ length ps → k ≤ length ps
     → Carries c (take j ps) cmd m → Carries c (take k ps) other n → (j ≡ k) × (cmd ≡ other) × (m ≡ n)
 one_carried c j k ps cmd other m n hj hk a b =
-    let place : j ≡ k = one_place j k (λ less. carries_first c j k ps other n less hk b (carried_ends c (take j ps) cmd m a)) (λ more. carries_first c k j ps cmd m more hj a (carried_ends c (take k ps) other n b)) in
+    let place : j ≡ k = one_place j k (λ less. carries_first c j k ps other n less hk b (carried_ends c (take j ps) cmd m a))
+    (λ more. carries_first c k j ps cmd m more hj a (carried_ends c (take k ps) other n b)) in
     let both = carries_one c (take k ps) cmd other m n (subst (λ i. Carries c (take i ps) cmd m) place a) b in
     (place, both.0, both.1)
 
 pub one_death : (c j k : ℕ) (ps : List Packet) (kind other : DeadKind) → c < 2 ^ 32 → ArePackets (take j ps)
     → j ≤ length ps → k ≤ length ps → Dies c (take j ps) kind → Dies c (take k ps) other → (j ≡ k) × (kind ≡ other)
 one_death c j k ps kind other low all hj hk a b =
-    let place : j ≡ k = one_place j k (λ less. dies_first c j k ps other less hk b (death_ends c (take j ps) kind a)) (λ more. dies_first c k j ps kind more hj a (death_ends c (take k ps) other b)) in
-    let x : Died kind ≡ Died other = sym (state-dies c (take j ps) kind low all a) ∙ ap (λ i. state c (take i ps)) place ∙ state-dies c (take k ps) other low (subst (λ i. ArePackets (take i ps)) place all) b in
+    let place : j ≡ k = one_place j k (λ less. dies_first c j k ps other less hk b (death_ends c (take j ps) kind a))
+    (λ more. dies_first c k j ps kind more hj a (death_ends c (take k ps) other b)) in
+    let x : Died kind ≡ Died other = sym (state-dies c (take j ps) kind low all a) ∙ ap (λ i. state c (take i ps)) place
+    ∙ state-dies c (take k ps) other low (subst (λ i. ArePackets (take i ps)) place all) b in
     (place, cc)
 
 pub not_both : (c j k : ℕ) (ps : List Packet) (cmd : ℕ) (m : List ℕ) (kind : DeadKind) → Carries c (take j ps) cmd m → Dies c (take k ps) kind → ⊥

@@ -5,8 +5,8 @@ use Rattle.std.proofs.lemmas.Bool.{cond_both, eqb-true}
 use Rattle.hidframe.specs.Packets.{Fields, Initial, Continuation, fields}
 use Rattle.hidlink.specs.declared.arbitration.Arbitration.{Arbitration}
 use Rattle.hidlink.specs.declared.arbitration.Arbitration.TheVariants.{Refused, NewChannel}
-use Rattle.hidlink.specs.Ranks.{State, Idle, chosen, rank}
-use Rattle.hidlink.specs.History.{Answered, Call, Expired, Kept, Leaves, Took, assigns, channels, channels_after}
+use Rattle.hidlink.specs.Ranks.{TransactionState, Idle, chosen, rank}
+use Rattle.hidlink.specs.History.{Answered, DeviceCall, Expired, Kept, Leaves, Took, assigns, channels, channels_after}
 use Rattle.hidlink.proofs.Lines.{Rests, first_line}
 
 -- a packet of rank 6 comes only where there is another channel
@@ -24,7 +24,7 @@ one_more n (Initial c cmd len area) h = cond_both (rank n Idle c cmd len == 6) (
     (λ other. h)
 one_more n (Continuation c seq area) h = h
 
-after_part : (n : ℕ) (part : List Call) → n ≤ 65535 → channels_after n part ≤ 65535
+after_part : (n : ℕ) (part : List DeviceCall) → n ≤ 65535 → channels_after n part ≤ 65535
 after_part n [] h = h
 after_part n (Took p ∷ []) h = one_more n (fields p) h
 after_part n (Answered m ∷ []) h = h
@@ -32,9 +32,9 @@ after_part n (Kept status ∷ []) h = h
 after_part n (Expired ∷ []) h = h
 after_part n (x ∷ y ∷ zs) h = h
 
-after_parts : (n : ℕ) (parts : List (List Call)) → n ≤ 65535 → channels n parts ≤ 65535
+after_parts : (n : ℕ) (parts : List (List DeviceCall)) → n ≤ 65535 → channels n parts ≤ 65535
 after_parts n [] h = h
 after_parts n (part ∷ parts) h = after_parts (channels_after n part) parts (after_part n part h)
 
-pub at_most : (h : List Call) (n : ℕ) (s : State) → Leaves h n s → n ≤ 65535
+pub at_most : (h : List DeviceCall) (n : ℕ) (s : TransactionState) → Leaves h n s → n ≤ 65535
 at_most h n s l = subst (λ (k : ℕ). k ≤ 65535) (sym l.out) (after_parts 0 l.parts (omega arith))

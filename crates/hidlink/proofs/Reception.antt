@@ -1,3 +1,4 @@
+-- What a whole list of packets gives, packet by packet.
 use Rattle.std.proofs.Common.{◌≡◌, ◌↔◌, ℕ, ◌+◌, ◌^◌, ◌<◌, ◌≤◌, inl, inr, List, [], ◌∷◌, ◌++◌, length, take, sym, ◌∙◌, ap, subst, arith}
 use Rattle.hidframe.specs.declared.Packet.{Packet}
 use Rattle.hidlink.specs.declared.collection.DeadKind.{DeadKind}
@@ -65,11 +66,13 @@ receives_at c ps i p s r within push before some g shows =
     let end : IsEnded s = elim (ended_or s) [ inl e ↦ e | inr n ↦ absurd (some (λ h. n (holds_ended c (take (i + 1) ps) s g.channel g.packets g.holds h))) ] in
     let ended : HasEnded c (take (i + 1) ps) = ended_holds c (take (i + 1) ps) s end g.holds in
     let is : Now c (take (i + 1) ps) s = rw push (now c (take i ps) p s before (rw push at g)) in
-    let early = λ (n : ℕ) (less : n < i + 1) (h : HasEnded c (take n ps)). before (has_ended_later (take n ps) (take i ps) (taken_less n i ps (omega arith)) h) in
+    let early = λ (n : ℕ) (less : n < i + 1) (h : HasEnded c (take n ps)). before
+    (has_ended_later (take n ps) (take i ps) (taken_less n i ps (omega arith)) h) in
     let carried = λ (cmd : ℕ) (m : List ℕ) (n : ℕ) (room : n ≤ length ps) (h : Carries c (take n ps) cmd m).
     one_place n (i + 1) (λ less. early n less (carried_ends c (take n ps) cmd m h)) (λ late. carries_first c (i + 1) n ps cmd m late room h ended) in
     let died = λ (kind : DeadKind) (j : ℕ) (room : j < length ps) (h : Dies c (take (j + 1) ps) kind).
-    one_place (j + 1) (i + 1) (λ less. early (j + 1) less (death_ends c (take (j + 1) ps) kind h)) (λ late. dies_first c (i + 1) (j + 1) ps kind late (omega arith) h ended) in
+    one_place (j + 1) (i + 1) (λ less. early (j + 1) less (death_ends c (take (j + 1) ps) kind h))
+    (λ late. dies_first c (i + 1) (j + 1) ps kind late (omega arith) h ended) in
     record {
       message = λ m n. by_way (message s i end r m n shows) (
         λ q. (rw q.1 (omega arith), rw q.1 ((is.reply m).1 q.0)),
@@ -77,7 +80,8 @@ receives_at c ps i p s r within push before some g shows =
       );
       device_error = λ code n. by_way (device_error s i end r code n shows) (
         λ q. (rw q.1 (omega arith), rw q.1 ((is.device_error code).1 q.0)),
-        λ q. let here : n ≡ i + 1 = carried 63 (code ∷ []) n q.0 q.1 in ((is.device_error code).0 (subst (λ k. Carries c (take k ps) 63 (code ∷ [])) here q.1), here),
+        λ q. let here : n ≡ i + 1 = carried 63 (code ∷ []) n q.0 q.1 in
+            ((is.device_error code).0 (subst (λ k. Carries c (take k ps) 63 (code ∷ [])) here q.1), here),
       );
       dead = λ j kind. by_way (death s i end r j kind shows) (
         λ q. (rw q.1 within, rw q.1 ((is.dead kind).1 q.0)),

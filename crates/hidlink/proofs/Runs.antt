@@ -1,4 +1,6 @@
-use Rattle.std.proofs.Common.{◌≡◌, ℕ, suc, ◌+◌, ◌<◌, ◌≤◌, ◌⊎◌, inl, inr, true, false, cond, List, [], ◌∷◌, ◌++◌, length, take, map, refl, sym, ◌∙◌, ap, subst, arith, slice_index, add-zero}
+-- What a collector shows after a run of packets.
+use Rattle.std.proofs.Common.{◌≡◌, ℕ, suc, ◌+◌, ◌<◌, ◌≤◌, ◌⊎◌, inl, inr, true, false, cond, List, [], ◌∷◌, ◌++◌, length, take, map, refl, sym, ◌∙◌}
+use Rattle.std.proofs.Common.{ap, subst, arith, slice_index, add-zero}
 use Rattle.std.proofs.lemmas.List.{append_assoc, append-nil, same_from_push, map-append, take_at}
 use Rattle.std.proofs.lemmas.List.Elements.{filter-append}
 use Rattle.std.proofs.lemmas.Bool.{eq-eqb, lt-ltb, le-ltb, le-leb, ne_eqb}
@@ -7,7 +9,7 @@ use Rattle.hidframe.specs.declared.Packet.{Packet}
 use Rattle.hidframe.specs.Packets.{Fields, Initial, Continuation, fields}
 use Rattle.hidframe.specs.Frames.{continuations, continuation_count, joined}
 use Rattle.std.specs.Prelude.{◌==◌}
-use Rattle.hidlink.specs.Wire.{channel_of, on, IsKeepalive, AreKeepalives, Carries, IsBeginning, Open, Shown, Waiting, Receiving, Replied, Failed, Died}
+use Rattle.hidlink.specs.Wire.{channel_of, on, IsKeepalive, AreKeepalives, Carries, IsBeginning, OpenMessage, Shown, Waiting, Receiving, Replied, Failed, Died}
 use Rattle.hidlink.specs.Steps.{received, on_channel, step, run, state, IsEnded}
 
 -- a run in two parts
@@ -37,7 +39,8 @@ state-append c ps more =
 pub state-push : (c : ℕ) (ps : List Packet) (p : Packet) → state c (ps ++ p ∷ []) ≡ step c (state c ps) (fields p)
 state-push c ps p =
     state-append c ps (p ∷ [])
-    ∙ (elim (channel_of (fields p) == c) as (λ b. run (state c ps) (map fields (cond b (p ∷ []) [])) ≡ cond b (on_channel (state c ps) (fields p)) (state c ps)) [ true ↦ refl | false ↦ refl ])
+    ∙ (elim (channel_of (fields p) == c) as (λ b. run (state c ps) (map fields (cond b (p ∷ []) [])) ≡ cond b (on_channel (state c ps) (fields p)) (state c ps))
+    [ true ↦ refl | false ↦ refl ])
 
 -- nothing comes after the end
 pub run-ended : (s : Shown) → IsEnded s → (fs : List Fields) → run s fs ≡ s
@@ -95,7 +98,8 @@ cases_last (x ∷ xs) = inr (elim (cases_last xs) [
   | inr h ↦ (x ∷ h.0, h.1, ap (λ ys. x ∷ ys) h.2)
 ])
 
-pub continuations-append : (c k : ℕ) (xs : List (List ℕ)) (y : List ℕ) → continuations c k (xs ++ y ∷ []) ≡ continuations c k xs ++ Continuation c (k + length xs) y ∷ []
+pub continuations-append : (c k : ℕ) (xs : List (List ℕ)) (y : List ℕ)
+    → continuations c k (xs ++ y ∷ []) ≡ continuations c k xs ++ Continuation c (k + length xs) y ∷ []
 continuations-append c k [] y = ap (λ n. Continuation c n y ∷ []) (sym (add-zero k))
 continuations-append c k (x ∷ xs) y =
     ap (λ fs. Continuation c k x ∷ fs) (continuations-append c (k + 1) xs y ∙ ap (λ n. continuations c (k + 1) xs ++ Continuation c n y ∷ []) (omega arith))
@@ -103,9 +107,11 @@ continuations-append c k (x ∷ xs) y =
 -- ---- a message that has begun
 
 -- keepalives, and then a packet that says f
-run_from : (waits begun : List Packet) (f : Fields) (fs : List Fields) → AreKeepalives waits → map fields begun ≡ f ∷ fs → run Waiting (map fields (waits ++ begun)) ≡ run (on_channel Waiting f) fs
+run_from : (waits begun : List Packet) (f : Fields) (fs : List Fields) → AreKeepalives waits → map fields begun ≡ f ∷ fs
+    → run Waiting (map fields (waits ++ begun)) ≡ run (on_channel Waiting f) fs
 run_from waits begun f fs k e =
-    ap (run Waiting) (map-append fields waits begun ∙ ap (λ xs. map fields waits ++ xs) e) ∙ run-append Waiting (map fields waits) (f ∷ fs) ∙ ap (λ s. run s (f ∷ fs)) (run-keepalives waits k)
+    ap (run Waiting) (map-append fields waits begun ∙ ap (λ xs. map fields waits ++ xs) e) ∙ run-append Waiting (map fields waits) (f ∷ fs)
+    ∙ ap (λ s. run s (f ∷ fs)) (run-keepalives waits k)
 
 -- The packets qs are keepalives, then packets of a message of len bytes on c: these data areas joined, with
 -- `next` continuations.
@@ -121,10 +127,21 @@ pub record Begun (c : ℕ) (qs : List Packet) (cmd len next : ℕ) (bytes : List
   pub so_far : bytes ≡ first ++ joined later
 
 -- a message is open that has begun, can be carried and is not all there
-pub begun_of : {c len next : ℕ} {ps : List Packet} {bytes : List ℕ} → Open c ps len next bytes → Begun c (on c ps) 16 len next bytes
-begun_of o = record { waits = o.waits; begun = o.begun; first = o.first; later = o.later; split = o.split; keepalives = o.keepalives; packets = o.packets; number = o.number; so_far = o.so_far }
+pub begun_of : {c len next : ℕ} {ps : List Packet} {bytes : List ℕ} → OpenMessage c ps len next bytes → Begun c (on c ps) 16 len next bytes
+begun_of o = record {
+  waits = o.waits;
+  begun = o.begun;
+  first = o.first;
+  later = o.later;
+  split = o.split;
+  keepalives = o.keepalives;
+  packets = o.packets;
+  number = o.number;
+  so_far = o.so_far;
+}
 
-pub open_as : {c len next : ℕ} {ps : List Packet} {bytes : List ℕ} → Begun c (on c ps) 16 len next bytes → len ≤ 7609 → next < continuation_count len → Open c ps len next bytes
+pub open_as : {c len next : ℕ} {ps : List Packet} {bytes : List ℕ} → Begun c (on c ps) 16 len next bytes → len ≤ 7609 → next < continuation_count len
+    → OpenMessage c ps len next bytes
 open_as b room missing = record {
   waits = b.waits;
   begun = b.begun;
@@ -139,7 +156,8 @@ open_as b room missing = record {
   so_far = b.so_far;
 }
 
-pub run_begun : {c len next : ℕ} {qs : List Packet} {bytes : List ℕ} (b : Begun c qs 16 len next bytes) → len ≤ 7609 → next ≤ continuation_count len → run Waiting (map fields qs) ≡ received len next bytes
+pub run_begun : {c len next : ℕ} {qs : List Packet} {bytes : List ℕ} (b : Begun c qs 16 len next bytes) → len ≤ 7609 → next ≤ continuation_count len
+    → run Waiting (map fields qs) ≡ received len next bytes
 unfolding on_channel
 run_begun {c} {len} {next} b room within =
     let number : length b.later ≡ next = b.number in
@@ -154,11 +172,15 @@ before_last : {c cmd len next : ℕ} {qs : List Packet} {bytes : List ℕ} (p : 
 before_last {c} {cmd} {len} {next} {qs} p b = elim (cases_last b.begun) [
   | inl none ↦ let x : [] ≡ Initial c cmd len b.first ∷ continuations c 0 b.later = ap (map fields) (sym none) ∙ b.packets in absurd (cc)
   | inr q ↦
-      let same : qs ≡ b.waits ++ q.0 = (same_from_push qs (b.waits ++ q.0) p q.1 (b.split ∙ ap (λ xs. b.waits ++ xs) q.2 ∙ sym (append_assoc b.waits q.0 (q.1 ∷ [])))).0 in
-      let said : map fields q.0 ++ fields q.1 ∷ [] ≡ Initial c cmd len b.first ∷ continuations c 0 b.later = sym (map-append fields q.0 (q.1 ∷ [])) ∙ ap (map fields) (sym q.2) ∙ b.packets in
+      let same : qs ≡ b.waits ++ q.0 =
+      (same_from_push qs (b.waits ++ q.0) p q.1 (b.split ∙ ap (λ xs. b.waits ++ xs) q.2 ∙ sym (append_assoc b.waits q.0 (q.1 ∷ [])))).0 in
+      let said : map fields q.0 ++ fields q.1 ∷ [] ≡ Initial c cmd len b.first ∷ continuations c 0 b.later = sym (map-append fields q.0 (q.1 ∷ []))
+      ∙ ap (map fields) (sym q.2) ∙ b.packets in
       elim (cases_last b.later) [
         | inl none ↦
-            let first : q.0 ≡ [] = no_packets q.0 (same_from_push (map fields q.0) [] (fields q.1) (Initial c cmd len b.first) (said ∙ ap (λ l. Initial c cmd len b.first ∷ continuations c 0 l) none)).0 in
+            let first : q.0 ≡ [] = no_packets q.0
+            (same_from_push (map fields q.0) [] (fields q.1) (Initial c cmd len b.first) (said
+            ∙ ap (λ l. Initial c cmd len b.first ∷ continuations c 0 l) none)).0 in
             inl (rw (same, first, append-nil) b.keepalives)
         | inr k ↦
             let size : length b.later ≡ length k.0 + 1 = ap length k.2 ∙ length_push k.0 k.1 in
@@ -168,7 +190,17 @@ before_last {c} {cmd} {len} {next} {qs} p b = elim (cases_last b.begun) [
             inr (
               length k.0,
               b.first ++ joined k.0,
-              record { waits = b.waits; begun = q.0; first = b.first; later = k.0; split = same; keepalives = b.keepalives; packets = packets; number = refl; so_far = refl },
+              record {
+                waits = b.waits;
+                begun = q.0;
+                first = b.first;
+                later = k.0;
+                split = same;
+                keepalives = b.keepalives;
+                packets = packets;
+                number = refl;
+                so_far = refl;
+              },
               sym size ∙ b.number,
             )
       ]
@@ -184,7 +216,8 @@ before_last {c} {cmd} {len} {next} {qs} p b = elim (cases_last b.begun) [
 abbrev pub ending : ℕ → List ℕ → Shown
 ending cmd m = cond (cmd == 16) (Replied m) (Failed (slice_index m 0))
 
-begun_whole : {c cmd : ℕ} {ps : List Packet} {m : List ℕ} (h : Carries c ps cmd m) → Begun c (on c ps) cmd (length m) (continuation_count (length m)) (m ++ h.frames.rest)
+begun_whole : {c cmd : ℕ} {ps : List Packet} {m : List ℕ} (h : Carries c ps cmd m)
+    → Begun c (on c ps) cmd (length m) (continuation_count (length m)) (m ++ h.frames.rest)
 begun_whole h = record {
   waits = h.waits;
   begun = h.message;
@@ -200,13 +233,17 @@ begun_whole h = record {
 -- it ends with it
 pub state-carries : (c : ℕ) (ps : List Packet) (cmd : ℕ) (m : List ℕ) → Carries c ps cmd m → state c ps ≡ ending cmd m
 state-carries c ps cmd m h = elim h.kind [
-  | inl e ↦ run_begun (subst (λ k. Begun c (on c ps) k (length m) (continuation_count (length m)) (m ++ h.frames.rest)) e (begun_whole h)) h.frames.room (omega arith)
-      ∙ received-whole (length m) (continuation_count (length m)) (m ++ h.frames.rest) (omega arith) ∙ ap Replied (take_at m h.frames.rest (length m) refl) ∙ rw e refl
-  | inr e ↦ ap (λ xs. run Waiting (map fields xs)) h.split ∙ run_from h.waits h.message (Initial c cmd (length m) h.frames.first) (continuations c 0 h.frames.later) h.keepalives h.frames.packets
+  | inl e ↦ run_begun (subst (λ k. Begun c (on c ps) k (length m) (continuation_count (length m)) (m ++ h.frames.rest)) e (begun_whole h)) h.frames.room
+      (omega arith)
+      ∙ received-whole (length m) (continuation_count (length m)) (m ++ h.frames.rest) (omega arith) ∙ ap Replied (take_at m h.frames.rest (length m) refl)
+      ∙ rw e refl
+  | inr e ↦ ap (λ xs. run Waiting (map fields xs)) h.split
+      ∙ run_from h.waits h.message (Initial c cmd (length m) h.frames.first) (continuations c 0 h.frames.later) h.keepalives h.frames.packets
       ∙ rw e.0 (one_byte m h.frames.first h.frames.later h.frames.rest e.1 h.frames.count h.frames.begins)
 ]
   where
-    one_byte : (m first : List ℕ) (later : List (List ℕ)) (rest : List ℕ) → length m ≡ 1 → length later ≡ continuation_count (length m) → first ++ joined later ≡ m ++ rest
+    one_byte : (m first : List ℕ) (later : List (List ℕ)) (rest : List ℕ) → length m ≡ 1 → length later ≡ continuation_count (length m)
+        → first ++ joined later ≡ m ++ rest
         → run (on_channel Waiting (Initial c 63 (length m) first)) (continuations c 0 later) ≡ Failed (slice_index m 0)
     one_byte [] first later rest one count begins = absurd (omega arith)
     one_byte (b ∷ m) first later rest one count begins =
@@ -224,7 +261,8 @@ pending_before c ps p cmd m h ended =
     elim (before_last p b) [
       | inl waits ↦ subst P (run-keepalives (on c ps) waits) ended
       | inr o ↦ let less : o.0 + 1 ≡ continuation_count (length m) = o.3 in elim h.kind [
-        | inl e ↦ subst P (run_begun (subst (λ k. Begun c (on c ps) k (length m) o.0 o.1) e o.2) h.frames.room (omega arith) ∙ received-missing (length m) o.0 o.1 (omega arith)) ended
+        | inl e ↦ subst P (run_begun (subst (λ k. Begun c (on c ps) k (length m) o.0 o.1) e o.2) h.frames.room (omega arith)
+            ∙ received-missing (length m) o.0 o.1 (omega arith)) ended
         | inr e ↦ let one : length m ≡ 1 = e.1 in omega arith
       ]
     ]

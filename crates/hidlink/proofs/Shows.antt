@@ -1,4 +1,6 @@
-use Rattle.std.proofs.Common.{◌≡◌, ℕ, ◌-◌, ◌^◌, ◌<◌, ◌≤◌, ◌⊎◌, inl, inr, true, false, cond, List, [], ◌∷◌, ◌++◌, length, take, refl, sym, ◌∙◌, ap, subst, arith, slice_index}
+-- What a collector shows is so of the packets.
+use Rattle.std.proofs.Common.{◌≡◌, ℕ, ◌-◌, ◌^◌, ◌<◌, ◌≤◌, ◌⊎◌, inl, inr, true, false, cond, List, [], ◌∷◌, ◌++◌, length, take, refl, sym, ◌∙◌, ap}
+use Rattle.std.proofs.Common.{subst, arith, slice_index}
 use Rattle.std.specs.Prelude.{◌==◌}
 use Rattle.std.proofs.lemmas.List.{append_assoc, append-nil, same_from_push}
 use Rattle.std.proofs.lemmas.Bool.{eq-eqb, ne_eqb, eqb-true, eqb-false, le-leb, lt-leb, cond_both}
@@ -8,15 +10,18 @@ use Rattle.hidframe.specs.Packets.{Fields, Initial, Continuation, fields}
 use Rattle.hidframe.specs.Frames.{continuation_count}
 use Rattle.hidlink.specs.declared.collection.DeadKind.{DeadKind}
 use Rattle.hidlink.specs.declared.collection.DeadKind.TheVariants.{WrongCommand, BadLength, BadKeepalive, StrayContinuation, WrongSequence, Interrupted}
-use Rattle.hidlink.specs.Wire.{channel_of, on, IsKeepalive, AreKeepalives, IsWrongCommand, IsBadLength, IsBadKeepalive, Carries, IsBeginning, IsDead, Open, IsOpen, Fault, Dies, Shown, Waiting, Receiving, Replied, Failed, Died, Holds, HasEnded}
+use Rattle.hidlink.specs.Wire.{channel_of, on, IsKeepalive, AreKeepalives, IsWrongCommand, IsBadLength, IsBadKeepalive, Carries, IsBeginning, IsDead}
+use Rattle.hidlink.specs.Wire.{OpenMessage, IsOpen, PacketFault, Dies, Shown, Waiting, Receiving, Replied, Failed, Died, Holds, HasEnded}
 use Rattle.hidlink.specs.Steps.{on_channel, step, state, IsEnded}
-use Rattle.hidlink.proofs.Runs.{begun_of, open_as, on-push, on-other, keepalive_stays, run-keepalives, received-missing, run_begun, state-push, state-ended, state-carries, ending, pending_before}
+use Rattle.hidlink.proofs.Runs.{begun_of, open_as, on-push, on-other, keepalive_stays, run-keepalives, received-missing, run_begun, state-push}
+use Rattle.hidlink.proofs.Runs.{state-ended, state-carries, ending, pending_before}
 use Rattle.hidlink.proofs.Beginnings.{begins_itself, begins_later, dead_itself}
 use Rattle.hidframe.proofs.Uniqueness.{AreaFits, fields_fit}
-use Rattle.hidlink.proofs.SoFar.{ArePackets, packets_left, completes, completes_waiting, first_packet, begins_with, goes_on, holds-received, packets_right, carries}
+use Rattle.hidlink.proofs.SoFar.{ArePackets, packets_left, completes, completes_waiting, first_packet, begins_with, goes_on, holds-received}
+use Rattle.hidlink.proofs.SoFar.{packets_right, carries}
 
 -- an open message is the state
-pub state-open : {c len next : ℕ} {ps : List Packet} {bytes : List ℕ} → Open c ps len next bytes → state c ps ≡ Receiving len next bytes
+pub state-open : {c len next : ℕ} {ps : List Packet} {bytes : List ℕ} → OpenMessage c ps len next bytes → state c ps ≡ Receiving len next bytes
 state-open {len} {next} {bytes} o =
     let missing : next < continuation_count len = o.missing in
     run_begun (begun_of o) o.room (omega arith) ∙ received-missing len next bytes missing
@@ -42,7 +47,8 @@ pub alive : (c : ℕ) (ps : List Packet) (s : Shown) → c < 2 ^ 32 → ArePacke
 alive c ps Waiting low all waits n dead = dead (ps ++ first_packet c ∷ []) 16 [] (inr (first_packet c ∷ [], refl)) (completes_waiting c ps low waits)
 alive c ps (Receiving len next bytes) low all o n dead =
     let missing : next < continuation_count len = o.missing in
-    let done : (more : List Packet) × (m : List ℕ) × Carries c (ps ++ more) 16 m = completes c ps len next bytes (continuation_count len - next - 1) low all (begun_of o) o.room (omega arith) in
+    let done : (more : List Packet) × (m : List ℕ) × Carries c (ps ++ more) 16 m =
+    completes c ps len next bytes (continuation_count len - next - 1) low all (begun_of o) o.room (omega arith) in
     dead (ps ++ done.0) 16 done.1 (inr (done.0, refl)) done.2
 alive c ps _ low all h n dead = n tt
 
@@ -77,7 +83,7 @@ state-shown c ps _ h n = absurd (n tt)
 
 -- a fault
 -- which fault a packet outside a message is
-waiting_fault : (kind : DeadKind) (c : ℕ) (ps : List Packet) (f : Fields) → (IsOpen c ps → ⊥) → Fault c ps f kind → on_channel Waiting f ≡ Died kind
+waiting_fault : (kind : DeadKind) (c : ℕ) (ps : List Packet) (f : Fields) → (IsOpen c ps → ⊥) → PacketFault c ps f kind → on_channel Waiting f ≡ Died kind
 unfolding on_channel
 waiting_fault WrongCommand c ps (Initial cid cmd len area) shut h =
     rw (ne_eqb cmd 16 h.1.0, ne_eqb cmd 63 h.1.1, ne_eqb cmd 59 h.1.2) refl
@@ -95,7 +101,8 @@ waiting_fault StrayContinuation c ps (Continuation cid seq area) shut h = refl
 waiting_fault WrongSequence c ps f shut h = absurd (shut (h.0, h.1, h.2, h.3))
 waiting_fault Interrupted c ps f shut h = absurd (shut h.0)
 
-open_fault : (kind : DeadKind) (c : ℕ) (ps : List Packet) (f : Fields) (len next : ℕ) (bytes : List ℕ) → Open c ps len next bytes → Fault c ps f kind → on_channel (Receiving len next bytes) f ≡ Died kind
+open_fault : (kind : DeadKind) (c : ℕ) (ps : List Packet) (f : Fields) (len next : ℕ) (bytes : List ℕ) → OpenMessage c ps len next bytes
+    → PacketFault c ps f kind → on_channel (Receiving len next bytes) f ≡ Died kind
 unfolding on_channel
 open_fault WrongCommand c ps f len next bytes o h = absurd (h.0 (len, next, bytes, o))
 open_fault BadLength c ps f len next bytes o h = absurd (h.0 (len, next, bytes, o))
@@ -109,12 +116,20 @@ open_fault WrongSequence c ps (Continuation cid seq area) len next bytes o h =
 open_fault Interrupted c ps (Initial cid cmd more area) len next bytes o h = refl
 open_fault Interrupted c ps (Continuation cid seq area) len next bytes o h = absurd h.1
 
-dies : (c : ℕ) (ps : List Packet) (p : Packet) (s : Shown) (f : Fields) (kind : DeadKind) → c < 2 ^ 32 → ArePackets (ps ++ p ∷ []) → Holds c ps s → (IsEnded s → ⊥) → fields p ≡ f → channel_of f ≡ c
-    → on_channel s f ≡ Died kind → Fault c ps f kind → Holds c (ps ++ p ∷ []) (on_channel s f)
+dies : (c : ℕ) (ps : List Packet) (p : Packet) (s : Shown) (f : Fields) (kind : DeadKind) → c < 2 ^ 32 → ArePackets (ps ++ p ∷ []) → Holds c ps s
+    → (IsEnded s → ⊥) → fields p ≡ f → channel_of f ≡ c
+    → on_channel s f ≡ Died kind → PacketFault c ps f kind → Holds c (ps ++ p ∷ []) (on_channel s f)
 dies c ps p s f kind low all h n says on_c e fault =
     let after : state c (ps ++ p ∷ []) ≡ Died kind = state-push c ps p ∙ rw (says, eq-eqb (channel_of f) c on_c, state-shown c ps s h n) e in
     let death : Dies c (ps ++ p ∷ []) kind =
-    record { before = ps; last = p; ends = refl; dead = dead_from_state c (ps ++ p ∷ []) kind after; shortest = alive c ps s low (packets_left ps (p ∷ []) all) h n; fault = rw says fault } in
+    record {
+      before = ps;
+      last = p;
+      ends = refl;
+      dead = dead_from_state c (ps ++ p ∷ []) kind after;
+      shortest = alive c ps s low (packets_left ps (p ∷ []) all) h n;
+      fault = rw says fault;
+    } in
     rw e (ps ++ p ∷ [], begins_itself (ps ++ p ∷ []), death)
 
 all-push : (ps : List Packet) (p : Packet) → AreKeepalives ps → IsKeepalive (fields p) → AreKeepalives (ps ++ p ∷ [])
@@ -124,54 +139,79 @@ all-push (q ∷ ps) p h k = (h.0, all-push ps p h.1 k)
 -- what an initial packet outside a message is
 opening : (cid cmd len : ℕ) (area : List ℕ) → let f = Initial cid cmd len area in
     ((cmd ≡ 16) × (len ≤ 7609)) ⊎ (((cmd ≡ 63) × (len ≡ 1)) ⊎ (IsKeepalive f ⊎ (IsWrongCommand f ⊎ (IsBadLength f ⊎ IsBadKeepalive f))))
-opening cid cmd len area = grind (arith, nat_tests, eqb_tells cmd 16, eqb_tells cmd 63, eqb_tells cmd 59, eqb_tells len 1, leb_tells len 7609, eqb_tells (slice_index area 0) 1, eqb_tells (slice_index area 0) 2)
+opening cid cmd len area = grind (
+  arith,
+  nat_tests,
+  eqb_tells cmd 16,
+  eqb_tells cmd 63,
+  eqb_tells cmd 59,
+  eqb_tells len 1,
+  leb_tells len 7609,
+  eqb_tells (slice_index area 0) 1,
+  eqb_tells (slice_index area 0) 2,
+)
 
 -- a packet on the channel
-holds-waiting : (c : ℕ) (ps : List Packet) (p : Packet) (f : Fields) → c < 2 ^ 32 → ArePackets (ps ++ p ∷ []) → AreKeepalives (on c ps) → fields p ≡ f → channel_of f ≡ c → Holds c (ps ++ p ∷ []) (on_channel Waiting f)
+holds-waiting : (c : ℕ) (ps : List Packet) (p : Packet) (f : Fields) → c < 2 ^ 32 → ArePackets (ps ++ p ∷ []) → AreKeepalives (on c ps) → fields p ≡ f
+    → channel_of f ≡ c → Holds c (ps ++ p ∷ []) (on_channel Waiting f)
 unfolding on_channel
 holds-waiting c ps p (Continuation cid seq area) low all waits says here =
     dies c ps p Waiting (Continuation cid seq area) StrayContinuation low all waits (λ e. e) says here refl (not_open c ps waits, tt)
 holds-waiting c ps p (Initial cid cmd len area) low all waits says here =
-    let bad = λ (kind : DeadKind) (fault : Fault c ps (Initial cid cmd len area) kind).
-    dies c ps p Waiting (Initial cid cmd len area) kind low all waits (λ e. e) says here (waiting_fault kind c ps (Initial cid cmd len area) (not_open c ps waits) fault) fault in
+    let bad = λ (kind : DeadKind) (fault : PacketFault c ps (Initial cid cmd len area) kind).
+    dies c ps p Waiting (Initial cid cmd len area) kind low all waits (λ e. e) says here
+    (waiting_fault kind c ps (Initial cid cmd len area) (not_open c ps waits) fault) fault in
     let shut : IsOpen c ps → ⊥ = not_open c ps waits in
     let says' : fields p ≡ Initial c cmd len area = says ∙ ap (λ k. Initial k cmd len area) here in
     let on_c : channel_of (fields p) ≡ c = ap channel_of says' in
     elim (opening cid cmd len area) [
-      | inl cbor ↦ rw (cbor.0, le-leb len 7609 cbor.1) (holds-received ps p all (begins_with c ps p 16 len area waits (says' ∙ ap (λ k. Initial c k len area) cbor.0)) cbor.1 on_c (omega arith))
-      | inr (inl error) ↦ rw (error.0, error.1) (ps ++ p ∷ [], begins_itself (ps ++ p ∷ []), fails c ps p area all waits (says' ∙ ap (λ k. Initial c k len area) error.0 ∙ ap (λ k. Initial c 63 k area) error.1))
-      | inr (inr (inl keepalive)) ↦ rw (keepalive_stays (Initial cid cmd len area) keepalive, on-push c ps p on_c) (all-push (on c ps) p waits (rw says keepalive))
+      | inl cbor ↦ rw (cbor.0, le-leb len 7609 cbor.1)
+          (holds-received ps p all (begins_with c ps p 16 len area waits (says' ∙ ap (λ k. Initial c k len area) cbor.0)) cbor.1 on_c (omega arith))
+      | inr (inl error) ↦ rw (error.0, error.1) (
+        ps ++ p ∷ [],
+        begins_itself (ps ++ p ∷ []),
+        fails c ps p area all waits (says' ∙ ap (λ k. Initial c k len area) error.0 ∙ ap (λ k. Initial c 63 k area) error.1),
+      )
+      | inr (inr (inl keepalive)) ↦ rw (keepalive_stays (Initial cid cmd len area) keepalive, on-push c ps p on_c)
+          (all-push (on c ps) p waits (rw says keepalive))
       | inr (inr (inr (inl wrong))) ↦ bad WrongCommand (shut, wrong)
       | inr (inr (inr (inr (inl long)))) ↦ bad BadLength (shut, long)
       | inr (inr (inr (inr (inr status)))) ↦ bad BadKeepalive (shut, status)
     ]
   where
     -- an error of one byte carries that byte
-    fails : (c : ℕ) (ps : List Packet) (p : Packet) (area : List ℕ) → ArePackets (ps ++ p ∷ []) → AreKeepalives (on c ps) → fields p ≡ Initial c 63 1 area → Carries c (ps ++ p ∷ []) 63 (slice_index area 0 ∷ [])
+    fails : (c : ℕ) (ps : List Packet) (p : Packet) (area : List ℕ) → ArePackets (ps ++ p ∷ []) → AreKeepalives (on c ps) → fields p ≡ Initial c 63 1 area
+        → Carries c (ps ++ p ∷ []) 63 (slice_index area 0 ∷ [])
     fails c ps p area all waits says =
         let long : length area ≡ 57 = subst AreaFits says (fields_fit p (packets_right ps (p ∷ []) all).0) in
-        subst (λ m. Carries c (ps ++ p ∷ []) 63 m) (front area long) (carries ps p (begins_with c ps p 63 1 area waits says) (ap channel_of says) (omega arith) (omega arith) (inr (refl, refl)))
+        subst (λ m. Carries c (ps ++ p ∷ []) 63 m) (front area long)
+        (carries ps p (begins_with c ps p 63 1 area waits says) (ap channel_of says) (omega arith) (omega arith) (inr (refl, refl)))
       where
         front : (area : List ℕ) → length area ≡ 57 → take 1 area ≡ slice_index area 0 ∷ []
         front [] h = absurd (omega arith)
         front (x ∷ xs) h = refl
 
-holds-here : (c : ℕ) (ps : List Packet) (p : Packet) (s : Shown) (f : Fields) → c < 2 ^ 32 → ArePackets (ps ++ p ∷ []) → fields p ≡ f → channel_of f ≡ c → Holds c ps s → Holds c (ps ++ p ∷ []) (on_channel s f)
+holds-here : (c : ℕ) (ps : List Packet) (p : Packet) (s : Shown) (f : Fields) → c < 2 ^ 32 → ArePackets (ps ++ p ∷ []) → fields p ≡ f → channel_of f ≡ c
+    → Holds c ps s → Holds c (ps ++ p ∷ []) (on_channel s f)
 unfolding on_channel
 holds-here c ps p Waiting f low all says here h = holds-waiting c ps p f low all h says here
 holds-here c ps p (Receiving len next bytes) (Initial cid cmd more area) low all says here h =
     dies c ps p (Receiving len next bytes) (Initial cid cmd more area) Interrupted low all h (λ e. e) says here refl ((len, next, bytes, h), tt)
 holds-here c ps p (Receiving len next bytes) (Continuation cid seq area) low all says here h = elim (eqb_tells seq next) [
   | inl same ↦ let missing : next < continuation_count len = h.missing in
-      rw same.0 (holds-received ps p all (goes_on ps p area (begun_of h) (says ∙ ap (λ k. Continuation k seq area) here ∙ ap (λ k. Continuation c k area) same.1)) h.room (ap channel_of says ∙ here) (omega arith))
-  | inr other ↦ dies c ps p (Receiving len next bytes) (Continuation cid seq area) WrongSequence low all h (λ e. e) says here (rw other.0 refl) (len, next, bytes, h, other.1)
+      rw same.0 (holds-received ps p all
+      (goes_on ps p area (begun_of h) (says ∙ ap (λ k. Continuation k seq area) here ∙ ap (λ k. Continuation c k area) same.1)) h.room (ap channel_of says
+      ∙ here) (omega arith))
+  | inr other ↦ dies c ps p (Receiving len next bytes) (Continuation cid seq area) WrongSequence low all h (λ e. e) says here (rw other.0 refl)
+      (len, next, bytes, h, other.1)
 ]
 holds-here c ps p (Replied m) f low all says here h = holds-later c ps p (Replied m) tt h
 holds-here c ps p (Failed code) f low all says here h = holds-later c ps p (Failed code) tt h
 holds-here c ps p (Died kind) f low all says here h = holds-later c ps p (Died kind) tt h
 
 -- one packet more
-pub holds-step : (c : ℕ) (ps : List Packet) (p : Packet) (s : Shown) → c < 2 ^ 32 → ArePackets (ps ++ p ∷ []) → Holds c ps s → Holds c (ps ++ p ∷ []) (step c s (fields p))
+pub holds-step : (c : ℕ) (ps : List Packet) (p : Packet) (s : Shown) → c < 2 ^ 32 → ArePackets (ps ++ p ∷ []) → Holds c ps s
+    → Holds c (ps ++ p ∷ []) (step c s (fields p))
 holds-step c ps p s low all h =
     let P : Shown → Type 0 = Holds c (ps ++ p ∷ []) in
     cond_both (channel_of (fields p) == c) (on_channel s (fields p)) s P
@@ -211,7 +251,8 @@ pub dies_now : (c : ℕ) (ps : List Packet) (p : Packet) (kind : DeadKind) → D
 dies_now c ps p kind d (inl e) = d.dead e.0 e.1 e.2 (inl (more_begins e.0 ps p e.3)) e.4
 dies_now c ps p kind d (inr e) = d.shortest (subst (λ qs. IsDead c qs) (same_from_push ps d.before p d.last d.ends).0 (dead_itself c ps e))
 
-state_fault : (c : ℕ) (ps : List Packet) (s : Shown) (f : Fields) (kind : DeadKind) → Holds c ps s → (IsEnded s → ⊥) → Fault c ps f kind → on_channel s f ≡ Died kind
+state_fault : (c : ℕ) (ps : List Packet) (s : Shown) (f : Fields) (kind : DeadKind) → Holds c ps s → (IsEnded s → ⊥) → PacketFault c ps f kind
+    → on_channel s f ≡ Died kind
 state_fault c ps Waiting f kind h n fault = waiting_fault kind c ps f (not_open c ps h) fault
 state_fault c ps (Receiving len next bytes) f kind h n fault = open_fault kind c ps f len next bytes h fault
 state_fault c ps _ f kind h n fault = absurd (n tt)
@@ -224,7 +265,8 @@ state-dies c ps kind low all d =
     let n : IsEnded (state c d.before) → ⊥ = λ e. dies_now c d.before d.last kind d' (ended_holds c d.before (state c d.before) e h) in
     ap (state c) d.ends ∙ state-push c d.before d.last ∙ (elim (eqb_tells (channel_of (fields d.last)) c) [
       | inl here ↦ rw here.0 (state_fault c d.before (state c d.before) (fields d.last) kind h n d.fault)
-      | inr other ↦ absurd (alive c (d.before ++ d.last ∷ []) (state c d.before) low all' (holds-other c d.before d.last (state c d.before) other.1 h) n d'.dead)
+      | inr other ↦ absurd (alive c (d.before ++ d.last ∷ []) (state c d.before) low all'
+          (holds-other c d.before d.last (state c d.before) other.1 h) n d'.dead)
     ])
 
 got-state : (c : ℕ) (ps : List Packet) (s : Shown) → c < 2 ^ 32 → ArePackets ps → Holds c ps s → state c ps ≡ s

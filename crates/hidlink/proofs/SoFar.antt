@@ -1,4 +1,6 @@
-use Rattle.std.proofs.Common.{◌≡◌, ℕ, suc, zero, ◌+◌, ◌-◌, ◌*◌, ◌^◌, ◌<◌, ◌≤◌, ◌⊎◌, inl, true, false, cond, nat_lt, List, [], ◌∷◌, ◌++◌, length, take, drop, map, refl, sym, ◌∙◌, ap, subst, arith, zero-add}
+-- A request's packets up to one of them.
+use Rattle.std.proofs.Common.{◌≡◌, ℕ, suc, zero, ◌+◌, ◌-◌, ◌*◌, ◌^◌, ◌<◌, ◌≤◌, ◌⊎◌, inl, true, false, cond, nat_lt, List, [], ◌∷◌, ◌++◌, length}
+use Rattle.std.proofs.Common.{take, drop, map, refl, sym, ◌∙◌, ap, subst, arith, zero-add}
 use Rattle.std.specs.Prelude.{◌==◌, replicate}
 use Rattle.std.specs.Int.{w32, to_be_bytes}
 use Rattle.std.specs.List.{AllByRecursion}
@@ -52,7 +54,8 @@ size {c} {cmd} {len} ps all s =
         omega arith
 
 -- the first packet
-pub begins_with : (c : ℕ) (ps : List Packet) (p : Packet) (cmd len : ℕ) (area : List ℕ) → AreKeepalives (on c ps) → fields p ≡ Initial c cmd len area → Begun c (on c (ps ++ p ∷ [])) cmd len 0 area
+pub begins_with : (c : ℕ) (ps : List Packet) (p : Packet) (cmd len : ℕ) (area : List ℕ) → AreKeepalives (on c ps) → fields p ≡ Initial c cmd len area
+    → Begun c (on c (ps ++ p ∷ [])) cmd len 0 area
 begins_with c ps p cmd len area waits says = rw (on-push c ps p (ap channel_of says)) (record {
   waits = on c ps;
   begun = p ∷ [];
@@ -66,7 +69,8 @@ begins_with c ps p cmd len area waits says = rw (on-push c ps p (ap channel_of s
 })
 
 -- one more
-pub goes_on : {c cmd len next : ℕ} {bytes : List ℕ} (ps : List Packet) (p : Packet) (area : List ℕ) → Begun c (on c ps) cmd len next bytes → fields p ≡ Continuation c next area
+pub goes_on : {c cmd len next : ℕ} {bytes : List ℕ} (ps : List Packet) (p : Packet) (area : List ℕ) → Begun c (on c ps) cmd len next bytes
+    → fields p ≡ Continuation c next area
     → Begun c (on c (ps ++ p ∷ [])) cmd len (next + 1) (bytes ++ area)
 goes_on {c} {cmd} {len} ps p area o says = rw (on-push c ps p (ap channel_of says)) (record {
   waits = o.waits;
@@ -76,14 +80,16 @@ goes_on {c} {cmd} {len} ps p area o says = rw (on-push c ps p (ap channel_of say
   split = ap (λ qs. qs ++ p ∷ []) o.split ∙ append_assoc o.waits o.begun (p ∷ []);
   keepalives = o.keepalives;
   packets = map-append fields o.begun (p ∷ []) ∙ ap (λ fs. fs ++ fields p ∷ []) o.packets
-      ∙ ap (λ f. (Initial c cmd len o.first ∷ continuations c 0 o.later) ++ f ∷ []) (says ∙ ap (λ n. Continuation c n area) (sym (zero-add (length o.later) ∙ o.number)))
+      ∙ ap (λ f. (Initial c cmd len o.first ∷ continuations c 0 o.later) ++ f ∷ []) (says
+      ∙ ap (λ n. Continuation c n area) (sym (zero-add (length o.later) ∙ o.number)))
       ∙ ap (λ fs. Initial c cmd len o.first ∷ fs) (sym (continuations-append c 0 o.later area));
   number = length_push o.later area ∙ ap (λ n. n + 1) o.number;
   so_far = ap (λ bs. bs ++ area) o.so_far ∙ flat_map_more (λ (a : List ℕ). a) o.first o.later area;
 })
 
 -- all of them
-pub carries : {c cmd len : ℕ} {bytes : List ℕ} (ps : List Packet) (p : Packet) → Begun c (on c (ps ++ p ∷ [])) cmd len (continuation_count len) bytes → channel_of (fields p) ≡ c → len ≤ 7609 → len ≤ length bytes
+pub carries : {c cmd len : ℕ} {bytes : List ℕ} (ps : List Packet) (p : Packet) → Begun c (on c (ps ++ p ∷ [])) cmd len (continuation_count len) bytes
+    → channel_of (fields p) ≡ c → len ≤ 7609 → len ≤ length bytes
     → (cmd ≡ 16) ⊎ ((cmd ≡ 63) × (len ≡ 1)) → Carries c (ps ++ p ∷ []) cmd (take len bytes)
 carries {c} {cmd} {len} {bytes} ps p s on_c room long kind =
     let size : length (take len bytes) ≡ len = length-take-le len bytes long in
@@ -109,15 +115,19 @@ carries {c} {cmd} {len} {bytes} ps p s on_c room long kind =
     }
 
 -- what the last packet left
-pub holds-received : {c len next : ℕ} {bytes : List ℕ} (ps : List Packet) (p : Packet) → ArePackets (ps ++ p ∷ []) → Begun c (on c (ps ++ p ∷ [])) 16 len next bytes → len ≤ 7609
+pub holds-received : {c len next : ℕ} {bytes : List ℕ} (ps : List Packet) (p : Packet) → ArePackets (ps ++ p ∷ [])
+    → Begun c (on c (ps ++ p ∷ [])) 16 len next bytes → len ≤ 7609
     → channel_of (fields p) ≡ c → next ≤ continuation_count len → Holds c (ps ++ p ∷ []) (received len next bytes)
 holds-received {c} {len} {next} {bytes} ps p all s room on_c within =
     cond_both (nat_lt next (continuation_count len)) _ _ (Holds c (ps ++ p ∷ []))
     (λ e. open_as s room (ltb-true next (continuation_count len) e))
     (λ e. let h : continuation_count len ≤ next = ltb-false next (continuation_count len) e in
     let whole : next ≡ continuation_count len = omega arith in
-    let all_came : length bytes ≡ 57 + 59 * next = size (ps ++ p ∷ []) all s in
-    (ps ++ p ∷ [], ([], sym (append-nil (ps ++ p ∷ []))), carries ps p (subst (λ k. Begun c (on c (ps ++ p ∷ [])) 16 len k bytes) whole s) on_c room (omega arith) (inl refl)))
+    let all_came : length bytes ≡ 57 + 59 * next = size (ps ++ p ∷ []) all s in (
+      ps ++ p ∷ [],
+      ([], sym (append-nil (ps ++ p ∷ []))),
+      carries ps p (subst (λ k. Begun c (on c (ps ++ p ∷ [])) 16 len k bytes) whole s) on_c room (omega arith) (inl refl),
+    ))
 
 -- packets that complete a message
 pub first_packet : ℕ → Packet
@@ -133,7 +143,8 @@ first-says c h = ap (λ n. Initial n 16 0 (replicate 57 0)) (from_be_bytes-to_be
 pub next-says : (c k : ℕ) → c < 2 ^ 32 → k < 128 → fields (next_packet c k) ≡ Continuation c k (replicate 59 0)
 unfolding fields next_packet
 next-says c k h small =
-    ap (λ b. cond b (Continuation (channel (next_packet c k)) k (replicate 59 0)) (Initial (channel (next_packet c k)) (k - 128) 0 (replicate 57 0))) (lt-ltb k 128 small)
+    ap (λ b. cond b (Continuation (channel (next_packet c k)) k (replicate 59 0)) (Initial (channel (next_packet c k)) (k - 128) 0 (replicate 57 0)))
+    (lt-ltb k 128 small)
     ∙ ap (λ n. Continuation n k (replicate 59 0)) (from_be_bytes-to_be_bytes_4 c h)
 
 pub next_whole : (c k : ℕ) → c < 2 ^ 32 → k < 256 → IsPacket (next_packet c k)
@@ -144,9 +155,13 @@ next_whole c k h small =
 -- an open message can be completed
 next_comes : {c len next : ℕ} {bytes : List ℕ} (ps : List Packet) → c < 2 ^ 32 → next < 128 → ArePackets ps → Begun c (on c ps) 16 len next bytes
     → ArePackets (ps ++ next_packet c next ∷ []) × Begun c (on c (ps ++ next_packet c next ∷ [])) 16 len (next + 1) (bytes ++ replicate 59 0)
-next_comes {c} {len} {next} ps h small all s = (packets-append ps (next_packet c next ∷ []) all (next_whole c next h (omega arith), tt), goes_on ps (next_packet c next) (replicate 59 0) s (next-says c next h small))
+next_comes {c} {len} {next} ps h small all s = (
+  packets-append ps (next_packet c next ∷ []) all (next_whole c next h (omega arith), tt),
+  goes_on ps (next_packet c next) (replicate 59 0) s (next-says c next h small),
+)
 
-pub completes : (c : ℕ) (ps : List Packet) (len next : ℕ) (bytes : List ℕ) (left : ℕ) → c < 2 ^ 32 → ArePackets ps → Begun c (on c ps) 16 len next bytes → len ≤ 7609 → next + left + 1 ≡ continuation_count len
+pub completes : (c : ℕ) (ps : List Packet) (len next : ℕ) (bytes : List ℕ) (left : ℕ) → c < 2 ^ 32 → ArePackets ps → Begun c (on c ps) 16 len next bytes
+    → len ≤ 7609 → next + left + 1 ≡ continuation_count len
     → (more : List Packet) × (m : List ℕ) × Carries c (ps ++ more) 16 m
 completes c ps len next bytes zero h all s room e =
     let now = next_comes ps h (omega arith) all s in
@@ -154,7 +169,8 @@ completes c ps len next bytes zero h all s room e =
     let whole : next + 1 ≡ continuation_count len = omega arith in (
       next_packet c next ∷ [],
       take len (bytes ++ replicate 59 0),
-      carries ps (next_packet c next) (subst (λ k. Begun c (on c (ps ++ next_packet c next ∷ [])) 16 len k (bytes ++ replicate 59 0)) whole now.1) (ap channel_of (next-says c next h (omega arith))) room (omega arith) (inl refl),
+      carries ps (next_packet c next) (subst (λ k. Begun c (on c (ps ++ next_packet c next ∷ [])) 16 len k (bytes ++ replicate 59 0)) whole now.1)
+          (ap channel_of (next-says c next h (omega arith))) room (omega arith) (inl refl),
     )
 completes c ps len next bytes (suc left) h all s room e =
     let now = next_comes ps h (omega arith) all s in
@@ -165,4 +181,5 @@ completes c ps len next bytes (suc left) h all s room e =
 -- so is one that isn't begun
 pub completes_waiting : (c : ℕ) (ps : List Packet) → c < 2 ^ 32 → AreKeepalives (on c ps) → Carries c (ps ++ first_packet c ∷ []) 16 []
 completes_waiting c ps h waits =
-    carries ps (first_packet c) (begins_with c ps (first_packet c) 16 0 (replicate 57 0) waits (first-says c h)) (ap channel_of (first-says c h)) (omega arith) (omega arith) (inl refl)
+    carries ps (first_packet c) (begins_with c ps (first_packet c) 16 0 (replicate 57 0) waits (first-says c h)) (ap channel_of (first-says c h)) (omega arith)
+    (omega arith) (inl refl)

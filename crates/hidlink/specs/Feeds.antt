@@ -1,3 +1,4 @@
+-- What a collector answers to a packet, and what it tells of all packets so far.
 use Rattle.std.specs.Prelude.{◌≡◌, ℕ, ◌↔◌, List, [], ◌∷◌, ◌++◌, Result, Ok, Err}
 use Rattle.hidframe.specs.declared.Packet.{Packet}
 use Rattle.hidframe.specs.declared.ctaphid.TheConstants.{CTAPHID_CBOR, CTAPHID_ERROR}
@@ -7,8 +8,6 @@ use Rattle.hidlink.specs.declared.collection.Outcome.{Outcome}
 use Rattle.hidlink.specs.declared.collection.Outcome.TheVariants.{More, Reply, DeviceError, Dead}
 use Rattle.hidlink.specs.Wire.{Carries, Dies, HasEnded, IsBeginning, Shown, Replied, Failed, Died}
 use Rattle.hidlink.specs.Steps.{IsEnded}
-
--- What a collector answers to a packet, and what it tells of all packets so far.
 
 -- the answer is More; the reply m; the error `code`; the death of this kind; that it has ended before
 abbrev pub IsMore : Result Outcome Ended → Type 0
@@ -44,7 +43,7 @@ IsEndedAnswer (Ok fed) = ⊥
 IsEndedAnswer (Err e) = Unit {0}
 
 -- What a feed of the packet p after the packets ps answers, with what list each answer comes.
-pub record Answers (c : ℕ) (ps : List Packet) (p : Packet) (r : Result Outcome Ended) : Type 0 where
+pub record CollectorAnswers (c : ℕ) (ps : List Packet) (p : Packet) (r : Result Outcome Ended) : Type 0 where
   pub reply : (m : List ℕ) → IsReply r m ↔ Carries c (ps ++ p ∷ []) CTAPHID_CBOR m
   pub device_error : (code : ℕ)
       → IsDeviceError r code ↔ Carries c (ps ++ p ∷ []) CTAPHID_ERROR (code ∷ [])
@@ -63,8 +62,8 @@ pub record Gives (c : ℕ) (ps : List Packet) (outcome : Outcome) : Type 0 where
   pub more : IsMore (Ok outcome) ↔ (HasEnded c ps → ⊥)
 
 -- what an outcome says of what the collector shows
-abbrev pub Tells : Shown → Outcome → Type 0
-Tells t More = IsEnded t → ⊥
-Tells t (Reply bytes) = t ≡ Replied bytes.now
-Tells t (DeviceError code) = t ≡ Failed code
-Tells t (Dead kind) = t ≡ Died kind
+abbrev pub TellsOutcome : Shown → Outcome → Type 0
+TellsOutcome t More = IsEnded t → ⊥
+TellsOutcome t (Reply bytes) = t ≡ Replied bytes.now
+TellsOutcome t (DeviceError code) = t ≡ Failed code
+TellsOutcome t (Dead kind) = t ≡ Died kind

@@ -3,20 +3,20 @@
 use Rattle.std.specs.Prelude.{◌≡◌, ◌<◌, ◌≤◌, ◌*◌, ℕ, ◌+◌, ◌==◌, nat_lt, List, ◌++◌, length, take, if◌then◌else◌}
 use Rattle.hidframe.specs.Packets.{Fields, Initial, Continuation, fields}
 use Rattle.hidframe.specs.Frames.{continuation_count}
-use Rattle.hidlink.specs.Ranks.{State, Idle, Receiving, Working, IsWorking, Response, DeviceState, chosen, packets_of}
+use Rattle.hidlink.specs.Ranks.{TransactionState, Idle, Receiving, Working, IsWorking, Response, DeviceState, chosen, packets_of}
 use Rattle.hidlink.specs.declared.arbitration.Arbitration.{Arbitration}
 use Rattle.hidlink.specs.declared.arbitration.Arbitration.TheVariants.{Refused, NewChannel, ChannelAnew, Interrupted, Cancelled, Ignored, Begins}
-use Rattle.hidlink.specs.declared.transaction.Step.{Step}
+use Rattle.hidlink.specs.declared.transaction.DeviceEvent.{DeviceEvent}
 use Rattle.hidlink.specs.declared.transaction.Phase.{Phase}
 use Rattle.hidlink.specs.declared.transaction.Phase.TheVariants as phase
-use Rattle.hidlink.specs.History.{Call, Took, Answered, Kept, Expired}
+use Rattle.hidlink.specs.History.{DeviceCall, Took, Answered, Kept, Expired}
 
 -- the channels handed out and the state after a call
 pub record Effect : Type 0 where
   pub channels : ℕ
-  pub after : State
+  pub after : TransactionState
 
-abbrev pub to : ℕ → State → Effect
+abbrev pub to : ℕ → TransactionState → Effect
 to n s = record { channels = n; after = s }
 
 abbrev pub came : ℕ → ℕ → ℕ → ℕ → ℕ → List ℕ → Effect
@@ -25,7 +25,7 @@ came n c cmd len next bytes =
     else (if cmd == 16 then to n (Working c (take len bytes)) else to n Idle)
 
 -- what a choice does
-abbrev pub chosen_effect : ℕ → State → ℕ → ℕ → ℕ → List ℕ → Arbitration → Effect
+abbrev pub chosen_effect : ℕ → TransactionState → ℕ → ℕ → ℕ → List ℕ → Arbitration → Effect
 chosen_effect n s c cmd len area (Refused code) = to n s
 chosen_effect n s c cmd len area NewChannel = to (n + 1) s
 chosen_effect n s c cmd len area ChannelAnew = to n Idle
@@ -35,7 +35,7 @@ chosen_effect n s c cmd len area Ignored = to n s
 chosen_effect n s c cmd len area Begins = came n c cmd len 0 area
 
 -- what a packet does that says this
-abbrev pub packet_effect : ℕ → State → Fields → Effect
+abbrev pub packet_effect : ℕ → TransactionState → Fields → Effect
 packet_effect n s (Initial c cmd len area) = chosen_effect n s c cmd len area (chosen n s c cmd len)
 packet_effect n Idle (Continuation c seq area) = to n Idle
 packet_effect n (Working cid payload) (Continuation c seq area) = to n (Working cid payload)
@@ -44,7 +44,7 @@ packet_effect n (Receiving cid cmd len next bytes) (Continuation c seq area) =
     else to n (Receiving cid cmd len next bytes)
 
 -- what a call does
-abbrev pub effect : ℕ → State → Call → Effect
+abbrev pub effect : ℕ → TransactionState → DeviceCall → Effect
 effect n s (Took p) = packet_effect n s (fields p)
 effect n Idle (Answered m) = to n Idle
 effect n (Receiving cid cmd len next bytes) (Answered m) = to n (Receiving cid cmd len next bytes)
@@ -55,7 +55,7 @@ effect n (Working cid payload) Expired = to n (Working cid payload)
 effect n (Receiving cid cmd len next bytes) Expired = to n Idle
 
 -- what a choice may rest on
-abbrev pub MayChoose : ℕ → State → ℕ → ℕ → Arbitration → Type 0
+abbrev pub MayChoose : ℕ → TransactionState → ℕ → ℕ → Arbitration → Type 0
 MayChoose n s cmd len (Refused code) = Unit {0}
 MayChoose n s cmd len NewChannel = n < 65535
 MayChoose n s cmd len ChannelAnew = Unit {0}
@@ -65,7 +65,7 @@ MayChoose n s cmd len Ignored = Unit {0}
 MayChoose n s cmd len Begins = (len ≤ 7609) × (s ≡ Idle)
 
 -- what it shows in this phase with these bytes
-abbrev pub state_view : Phase → List ℕ → State
+abbrev pub state_view : Phase → List ℕ → TransactionState
 state_view phase.Idle bytes = Idle
 state_view (phase.Receiving cid cmd len next) bytes = Receiving cid cmd len next bytes
 state_view (phase.Working cid) bytes = Working cid bytes
@@ -76,6 +76,6 @@ PhaseFits (phase.Receiving cid cmd len next) bytes = (length bytes ≡ 57 + 59 *
 PhaseFits (phase.Working cid) bytes = length bytes ≤ 7609
 
 -- what a packet made of a device, and what the call told
-abbrev pub Does : DeviceState → Step → Effect → Response → Type 0
+abbrev pub Does : DeviceState → DeviceEvent → Effect → Response → Type 0
 Does new step effect response =
     (new ≡ record { channels = effect.channels; state = effect.after; left = packets_of response.sent }) × (step ≡ response.step)

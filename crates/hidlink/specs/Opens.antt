@@ -1,3 +1,4 @@
+-- The response to an INIT on the broadcast channel: CTAP 2.1 section 11.2.9.1.3.
 use Rattle.std.specs.Prelude.{◌≡◌, ◌≢◌, ℕ, List, [], ◌∷◌, ◌++◌, take, slice_index, bit_and, Option, Some, None}
 use Rattle.std.specs.List.{AllByRecursion}
 use Rattle.std.specs.Int.{w32, from_be_bytes}
@@ -6,8 +7,6 @@ use Rattle.hidframe.specs.declared.ctaphid.TheConstants.{CTAPHID_BROADCAST_CID, 
 use Rattle.hidframe.specs.Packets.{Initial, fields}
 use Rattle.hidlink.specs.declared.opening.Opening.{Opening}
 use Rattle.hidlink.specs.declared.opening.Opening.TheVariants.{More, Channel}
-
--- The response to an INIT on the broadcast channel: CTAP 2.1 section 11.2.9.1.3.
 
 -- These data bytes respond to the nonce and assign the channel c: they are the nonce, the channel, the
 -- protocol's version, the device's three version bytes and the capabilities.

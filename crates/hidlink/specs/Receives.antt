@@ -1,3 +1,4 @@
+-- What a whole list of packets gives: CTAP 2.1 sections 11.2.3 to 11.2.5, for the reply to one request.
 use Rattle.std.specs.Prelude.{◌≡◌, ℕ, ◌+◌, ◌<◌, ◌≤◌, ◌↔◌, List, [], ◌∷◌, length, take}
 use Rattle.hidframe.specs.declared.Packet.{Packet}
 use Rattle.hidframe.specs.declared.ctaphid.TheConstants.{CTAPHID_CBOR, CTAPHID_ERROR}
@@ -5,8 +6,6 @@ use Rattle.hidlink.specs.declared.collection.DeadKind.{DeadKind}
 use Rattle.hidlink.specs.declared.collection.Received.{Received}
 use Rattle.hidlink.specs.declared.collection.Received.TheVariants.{Message, DeviceError, Dead, Incomplete}
 use Rattle.hidlink.specs.Wire.{Carries, Dies, HasEnded}
-
--- What a whole list of packets gives: CTAP 2.1 sections 11.2.3 to 11.2.5, for the reply to one request.
 
 -- the answer is the message m after n packets
 abbrev pub IsMessage : Received → List ℕ → ℕ → Type 0

@@ -1,3 +1,5 @@
+-- What a list of packets carries on a channel: CTAP 2.1 sections 11.2.3 to 11.2.5, for the reply to
+-- one CTAPHID_CBOR request. The relations are over the whole list.
 use Rattle.std.specs.Prelude.{◌≡◌, ◌≢◌, ℕ, ◌<◌, ◌≤◌, ◌^◌, ◌⊎◌, ◌==◌, List, [], ◌∷◌, ◌++◌, length, map, filter, slice_index}
 use Rattle.std.specs.List.{AllByRecursion}
 use Rattle.hidframe.specs.declared.Packet.{Packet}
@@ -6,9 +8,6 @@ use Rattle.hidframe.specs.Frames.{Frames, continuations, continuation_count, joi
 use Rattle.hidframe.specs.declared.ctaphid.TheConstants.{CTAPHID_CBOR, CTAPHID_ERROR, CTAPHID_KEEPALIVE, STATUS_PROCESSING, STATUS_UPNEEDED, MAX_PAYLOAD_SIZE}
 use Rattle.hidlink.specs.declared.collection.DeadKind.{DeadKind}
 use Rattle.hidlink.specs.declared.collection.DeadKind.TheVariants.{WrongCommand, BadLength, BadKeepalive, StrayContinuation, WrongSequence, Interrupted}
-
--- What a list of packets carries on a channel: CTAP 2.1 sections 11.2.3 to 11.2.5, for the reply to
--- one CTAPHID_CBOR request. The relations are over the whole list.
 
 -- the channel of a packet that says this
 abbrev pub channel_of : Fields → ℕ
@@ -65,7 +64,7 @@ HasEnded c ps = SomeCarries c ps ⊎ SomeIsDead c ps
 
 -- The packets on c are keepalives, then less than all packets of a message of len bytes: these data
 -- areas joined, with `next` continuations.
-pub record Open (c : ℕ) (ps : List Packet) (len next : ℕ) (bytes : List ℕ) : Type 0 where
+pub record OpenMessage (c : ℕ) (ps : List Packet) (len next : ℕ) (bytes : List ℕ) : Type 0 where
   pub waits : List Packet
   pub begun : List Packet
   pub first : List ℕ
@@ -79,7 +78,7 @@ pub record Open (c : ℕ) (ps : List Packet) (len next : ℕ) (bytes : List ℕ)
   pub so_far : bytes ≡ first ++ joined later
 
 abbrev pub IsOpen : ℕ → List Packet → Type 0
-IsOpen c ps = (len : ℕ) × (next : ℕ) × (bytes : List ℕ) × Open c ps len next bytes
+IsOpen c ps = (len : ℕ) × (next : ℕ) × (bytes : List ℕ) × OpenMessage c ps len next bytes
 
 -- what a packet at fault says, where no message is open
 abbrev pub IsWrongCommand : Fields → Type 0
@@ -111,14 +110,14 @@ IsOtherNumber next (Initial cid cmd len area) = ⊥
 IsOtherNumber next (Continuation cid seq area) = seq ≢ next
 
 -- the kind of fault of a packet that says this, after the packets ps
-abbrev pub Fault : ℕ → List Packet → Fields → DeadKind → Type 0
-Fault c ps f WrongCommand = (IsOpen c ps → ⊥) × IsWrongCommand f
-Fault c ps f BadLength = (IsOpen c ps → ⊥) × IsBadLength f
-Fault c ps f BadKeepalive = (IsOpen c ps → ⊥) × IsBadKeepalive f
-Fault c ps f StrayContinuation = (IsOpen c ps → ⊥) × IsContinuation f
-Fault c ps f WrongSequence = (len : ℕ) × (next : ℕ) × (bytes : List ℕ)
-    × Open c ps len next bytes × IsOtherNumber next f
-Fault c ps f Interrupted = IsOpen c ps × IsInitial f
+abbrev pub PacketFault : ℕ → List Packet → Fields → DeadKind → Type 0
+PacketFault c ps f WrongCommand = (IsOpen c ps → ⊥) × IsWrongCommand f
+PacketFault c ps f BadLength = (IsOpen c ps → ⊥) × IsBadLength f
+PacketFault c ps f BadKeepalive = (IsOpen c ps → ⊥) × IsBadKeepalive f
+PacketFault c ps f StrayContinuation = (IsOpen c ps → ⊥) × IsContinuation f
+PacketFault c ps f WrongSequence = (len : ℕ) × (next : ℕ) × (bytes : List ℕ)
+    × OpenMessage c ps len next bytes × IsOtherNumber next f
+PacketFault c ps f Interrupted = IsOpen c ps × IsInitial f
 
 -- ps is dead, no shorter beginning of it is, and its last packet has this kind of fault
 pub record Dies (c : ℕ) (ps : List Packet) (kind : DeadKind) : Type 0 where
@@ -127,7 +126,7 @@ pub record Dies (c : ℕ) (ps : List Packet) (kind : DeadKind) : Type 0 where
   pub ends : ps ≡ before ++ last ∷ []
   pub dead : IsDead c ps
   pub shortest : IsDead c before → ⊥
-  pub fault : Fault c before (fields last) kind
+  pub fault : PacketFault c before (fields last) kind
 
 -- the number of a kind
 abbrev pub number_of : DeadKind → ℕ
@@ -150,7 +149,7 @@ pub data Shown : Type 0 where
 -- what it shows is so of the packets ps
 abbrev pub Holds : ℕ → List Packet → Shown → Type 0
 Holds c ps Waiting = AreKeepalives (on c ps)
-Holds c ps (Receiving len next bytes) = Open c ps len next bytes
+Holds c ps (Receiving len next bytes) = OpenMessage c ps len next bytes
 Holds c ps (Replied m) = (qs : List Packet) × IsBeginning qs ps × Carries c qs CTAPHID_CBOR m
 Holds c ps (Failed code) = (qs : List Packet) × IsBeginning qs ps × Carries c qs CTAPHID_ERROR (code ∷ [])
 Holds c ps (Died kind) = (qs : List Packet) × IsBeginning qs ps × Dies c qs kind

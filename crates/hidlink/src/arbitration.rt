@@ -2,7 +2,7 @@
 //! order open this project's own.
 
 ghost use Rattle.std.specs.Prelude.{◌≡◌, ◌⊎◌, unwrap_or};
-ghost use Rattle.first_line.specs.Lines.{first_true};
+ghost use Rattle.refusal_order.specs.Lines.{first_true};
 ghost use Rattle.hidlink.specs.Ranks.{choices};
 
 use hidframe::ctaphid::{

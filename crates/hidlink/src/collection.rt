@@ -172,7 +172,7 @@ impl Collector {
     ghost use Rattle.hidlink.specs.Wire.{Got};
     ghost use Rattle.hidlink.specs.Steps.{IsEnded, on_channel, step};
     ghost use Rattle.std.specs.Prelude.{ℕ, length};
-    ghost use Rattle.hidlink.specs.Feeds.{Answers, Gives, Tells};
+    ghost use Rattle.hidlink.specs.Feeds.{CollectorAnswers, Gives, TellsOutcome};
 
     /// A collector of channel `cid`. Takes the memory that it needs; nothing else does.
     pub fn new(alloc: Global, cid: u32) -> Result<Self, AllocError>
@@ -199,7 +199,7 @@ impl Collector {
     pub fn feed(&mut self, packet: &Packet) -> Result<Outcome<'_>, Ended>
         ensures* after { sem 𝓛 (Rests the_row self.entry (λ new. (new.cid ≡ self.entry.now.cid) ×
             ((ps : List Packet) → Got self.entry.now.cid ps self.entry.now.shown → Got self.entry.now.cid (ps ++ packet.now ∷ []) new.shown))) }
-        ensures answer { (ps : List Packet) → Got self.entry.now.cid ps self.entry.now.shown → Answers self.entry.now.cid ps packet.now result }
+        ensures answer { (ps : List Packet) → Got self.entry.now.cid ps self.entry.now.shown → CollectorAnswers self.entry.now.cid ps packet.now result }
     {
         let ended = self.is_ended();
         self.take(packet);
@@ -218,7 +218,7 @@ impl Collector {
 
     /// What is shown.
     fn shown(&self) -> Outcome<'_>
-        ensures { Tells self.now.shown result }
+        ensures { TellsOutcome self.now.shown result }
     {
         match self.phase {
             Phase::Idle | Phase::Within { .. } => Outcome::More,

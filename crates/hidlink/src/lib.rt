@@ -12,4 +12,4 @@ pub use arbitration::MAX_CHANNELS;
 pub use collection::{Collector, DeadKind, Ended, Outcome, Received, one_outcome, receive};
 pub use law::whole_request;
 pub use opening::{Opener, Opening};
-pub use transaction::{Device, Refusal, Step, one_history, one_step};
+pub use transaction::{Device, DeviceEvent, Refusal, one_history, one_step};

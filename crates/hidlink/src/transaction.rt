@@ -3,16 +3,17 @@
 
 ghost use Rattle.std.specs.Prelude.{◌≡◌, ◌⊎◌, ◌≤◌, ◌<◌, ◌+◌, ◌++◌, ◌↔◌, [], ◌∷◌, List, ℕ, Bool, length, take, IfOk, IsErrOf, IsTrue, OnErr, OnOk, Some};
 ghost use Rattle.hidframe.specs.Packets.{Continuation, Fields, Initial, fields, IsPacket};
-ghost use Rattle.hidlink.specs.declared.transaction.Step.{Step};
-ghost use Rattle.hidlink.specs.declared.transaction.Step.TheVariants as step;
-ghost use Rattle.hidlink.specs.Told.{Tells};
+ghost use Rattle.hidlink.specs.declared.transaction.DeviceEvent.{DeviceEvent};
+ghost use Rattle.hidlink.specs.declared.transaction.DeviceEvent.TheVariants as step;
+ghost use Rattle.hidlink.specs.Told.{TellsEvent};
 ghost use Rattle.hidlink.specs.declared.arbitration.TheConstants.{MAX_CHANNELS};
-ghost use Rattle.hidlink.specs.History.{Answered, Call, Expired, Kept, Leaves, Reads, Took};
+ghost use Rattle.hidlink.specs.History.{Answered, DeviceCall, Expired, Kept, Leaves, Reads, Took};
 ghost use Rattle.std.specs.Prelude.{◌*◌, Err};
 ghost use Rattle.std.specs.Bool.{OnFalse, OnTrue};
 ghost use Rattle.std.specs.Int.{w32, to_be_bytes};
 ghost use Rattle.hidlink.specs.Machine.{Does, MayChoose, PhaseFits, came, chosen_effect, effect, packet_effect, state_view};
-ghost use Rattle.hidlink.specs.Ranks.{Idle, IsReceiving, IsWorking, State, chosen_response, error, expiry, init_response, is_busy, is_receiving_on, is_working_on, on_receipt, on_working, packets_of, request_payload, response, working_channel};
+ghost use Rattle.hidlink.specs.Ranks.{Idle, IsReceiving, IsWorking, TransactionState, chosen_response, error, expiry, init_response, is_busy};
+ghost use Rattle.hidlink.specs.Ranks.{is_receiving_on, is_working_on, on_receipt, on_working, packets_of, request_payload, response, working_channel};
 
 use crate::arbitration::{Arbitration, arbitrate};
 use crate::room::{Inbox, Outbox};
@@ -29,7 +30,7 @@ use thiserror::Error;
 
 /// What a packet gave.
 #[derive(Clone, Copy, PartialEq, Eq, Debug)]
-pub enum Step {
+pub enum DeviceEvent {
     /// Nothing that the caller has to act on.
     Quiet,
     /// A request is complete on channel `cid`, and the device works on it.
@@ -91,7 +92,7 @@ fn advance(
     len: u16,
     next: u8,
     bytes: &[u8],
-) -> (Phase, Step)
+) -> (Phase, DeviceEvent)
     requires len { len ≤ 7609 }
     requires held { length inbox.old ≤ len }
     requires number { length inbox.old + length bytes.now ≡ 57 + 59 * next }
@@ -110,12 +111,12 @@ fn advance(
             len,
             next,
         };
-        (receiving, Step::Quiet)
+        (receiving, DeviceEvent::Quiet)
     } else if cmd == CTAPHID_CBOR {
-        (Phase::Working { cid }, Step::Request { cid })
+        (Phase::Working { cid }, DeviceEvent::Request { cid })
     } else {
         outbox.echo(cid, inbox);
-        (Phase::Idle, Step::Quiet)
+        (Phase::Idle, DeviceEvent::Quiet)
     }
 }
 
@@ -226,14 +227,14 @@ impl Device {
 
     /// Takes a packet: at most one message is to be sent after it. The caller sees to it that nothing
     /// is left to send. The order in which an initial packet is judged stands in the crate's README.
-    pub fn packet(&mut self, packet: &Packet) -> Step
+    pub fn packet(&mut self, packet: &Packet) -> DeviceEvent
         requires { self.old.left ≡ [] }
         ensures step { result ≡ (response self.old.channels self.old.state (fields packet.now)).step }
         ensures sent { self.new.left ≡ packets_of (response self.old.channels self.old.state (fields packet.now)).sent }
-        ensures told { (h : List Call) → Leaves h self.old.channels self.old.state
-            → Tells self.old.state (fields packet.now) self.new.state result }
+        ensures told { (h : List DeviceCall) → Leaves h self.old.channels self.old.state
+            → TellsEvent self.old.state (fields packet.now) self.new.state result }
         ensures cancelled { result ≡ step.Cancelled → IsWorking self.old.state × (self.new ≡ self.old) }
-        ensures history { (h : List Call) → Leaves h self.old.channels self.old.state
+        ensures history { (h : List DeviceCall) → Leaves h self.old.channels self.old.state
             → Leaves (h ++ Took packet.now ∷ []) self.new.channels self.new.state }
     {
         match packet.read() {
@@ -248,7 +249,7 @@ impl Device {
     }
 
     /// Takes an initial packet.
-    fn initial(&mut self, cid: u32, cmd: u8, len: u16, bytes: &[u8]) -> Step
+    fn initial(&mut self, cid: u32, cmd: u8, len: u16, bytes: &[u8]) -> DeviceEvent
         requires drained { self.old.left ≡ [] }
         requires bytes { length bytes.now ≡ 57 }
         ensures does { Does self.new result (packet_effect self.old.channels self.old.state (Initial cid cmd len bytes.now))
@@ -270,7 +271,7 @@ impl Device {
     }
 
     /// Does what was chosen for an initial packet.
-    fn act(&mut self, choice: Arbitration, cid: u32, cmd: u8, len: u16, bytes: &[u8]) -> Step
+    fn act(&mut self, choice: Arbitration, cid: u32, cmd: u8, len: u16, bytes: &[u8]) -> DeviceEvent
         requires drained { self.old.left ≡ [] }
         requires bytes { length bytes.now ≡ 57 }
         requires may { MayChoose self.old.channels self.old.state cmd len choice }
@@ -281,26 +282,30 @@ impl Device {
         match choice {
             Arbitration::Refused(code) => {
                 self.error(cid, code);
-                Step::Quiet
+                DeviceEvent::Quiet
             }
             Arbitration::NewChannel => {
                 self.channels += 1;
                 self.answer_init(cid, self.channels, bytes);
-                Step::Quiet
+                DeviceEvent::Quiet
             }
             Arbitration::ChannelAnew => {
                 let aborted = self.is_working_on(cid);
                 self.phase = Phase::Idle;
                 self.answer_init(cid, cid, bytes);
-                if aborted { Step::Aborted } else { Step::Quiet }
+                if aborted {
+                    DeviceEvent::Aborted
+                } else {
+                    DeviceEvent::Quiet
+                }
             }
             Arbitration::Interrupted => {
                 self.phase = Phase::Idle;
                 self.error(cid, ERR_INVALID_SEQ);
-                Step::Quiet
+                DeviceEvent::Quiet
             }
-            Arbitration::Cancelled => Step::Cancelled,
-            Arbitration::Ignored => Step::Quiet,
+            Arbitration::Cancelled => DeviceEvent::Cancelled,
+            Arbitration::Ignored => DeviceEvent::Quiet,
             Arbitration::Begins => {
                 self.inbox.clear();
                 let (phase, step) = advance(
@@ -319,7 +324,7 @@ impl Device {
     }
 
     /// Takes a continuation.
-    fn continuation(&mut self, cid: u32, seq: u8, bytes: &[u8]) -> Step
+    fn continuation(&mut self, cid: u32, seq: u8, bytes: &[u8]) -> DeviceEvent
         requires drained { self.old.left ≡ [] }
         requires bytes { length bytes.now ≡ 59 }
         ensures does { Does self.new result (packet_effect self.old.channels self.old.state (Continuation cid seq bytes.now))
@@ -334,12 +339,12 @@ impl Device {
                 next,
             } => {
                 if receiving != cid {
-                    return Step::Quiet;
+                    return DeviceEvent::Quiet;
                 }
                 if seq != next {
                     self.phase = Phase::Idle;
                     self.error(cid, ERR_INVALID_SEQ);
-                    return Step::Quiet;
+                    return DeviceEvent::Quiet;
                 }
                 let (phase, step) = advance(
                     &mut self.inbox,
@@ -353,7 +358,7 @@ impl Device {
                 self.phase = phase;
                 step
             }
-            Phase::Idle | Phase::Working { .. } => Step::Quiet,
+            Phase::Idle | Phase::Working { .. } => DeviceEvent::Quiet,
         }
     }
 
@@ -411,7 +416,7 @@ impl Device {
         ensures not_working { IsErrOf result Refusal.NotWorking ↔ (IsWorking self.old.state → ⊥) }
         ensures too_long { IsErrOf result Refusal.TooLong ↔ (IsWorking self.old.state × (MAX_PAYLOAD_SIZE < length payload.now)) }
         ensures refused { OnErr result (self.new ≡ self.old) }
-        ensures history { (h : List Call) → Leaves h self.old.channels self.old.state
+        ensures history { (h : List DeviceCall) → Leaves h self.old.channels self.old.state
             → Leaves (h ++ Answered payload.now ∷ []) self.new.channels self.new.state }
     {
         let Some(cid) = self.working() else {
@@ -437,7 +442,7 @@ impl Device {
         ensures ok { OnOk result (IsWorking self.old.state) }
         ensures not_working { IsErrOf result Refusal.NotWorking ↔ (IsWorking self.old.state → ⊥) }
         ensures only { OnErr result (result ≡ Err Refusal.NotWorking) }
-        ensures history { (h : List Call) → Leaves h self.old.channels self.old.state
+        ensures history { (h : List DeviceCall) → Leaves h self.old.channels self.old.state
             → Leaves (h ++ Kept status ∷ []) self.new.channels self.new.state }
     {
         let Some(cid) = self.working() else {
@@ -457,7 +462,7 @@ impl Device {
         ensures sent { self.new.left ≡ packets_of (expiry self.old.state) }
         ensures idle { OnTrue result (self.new ≡ record self.old { state = Idle; left = self.new.left }) }
         ensures same { OnFalse result (self.new ≡ self.old) }
-        ensures history { (h : List Call) → Leaves h self.old.channels self.old.state
+        ensures history { (h : List DeviceCall) → Leaves h self.old.channels self.old.state
             → Leaves (h ++ Expired ∷ []) self.new.channels self.new.state }
     {
         match self.phase {
@@ -475,15 +480,15 @@ impl Device {
 /// The law of a packet's step: of what a device did before and after a packet one step tells.
 #[tactic(auto, using(crate::proofs::Telling::one_step))]
 pub fn one_step()
-    ensures { (s t : State) (f : Fields) (x y : Step) → Tells s f t x → Tells s f t y → x ≡ y }
+    ensures { (s t : TransactionState) (f : Fields) (x y : DeviceEvent) → TellsEvent s f t x → TellsEvent s f t y → x ≡ y }
 {}
 
 /// The laws of a device's history. Each history has one reading into parts, and leaves a device with
 /// one number of channels, at most 65,535, in one state.
 pub fn one_history()
-    ensures one { (h : List Call) (ps qs : List (List Call)) (a b : List Call) → Reads h ps a → Reads h qs b
+    ensures one { (h : List DeviceCall) (ps qs : List (List DeviceCall)) (a b : List DeviceCall) → Reads h ps a → Reads h qs b
         → (ps ≡ qs) × (a ≡ b) }
-    ensures one_state { (h : List Call) (n k : ℕ) (s t : State) → Leaves h n s → Leaves h k t → (n ≡ k) × (s ≡ t) }
-    ensures most { (h : List Call) (n : ℕ) (s : State) → Leaves h n s → n ≤ MAX_CHANNELS }
-    ensures every { (h : List Call) → (n : ℕ) × (s : State) × Leaves h n s }
+    ensures one_state { (h : List DeviceCall) (n k : ℕ) (s t : TransactionState) → Leaves h n s → Leaves h k t → (n ≡ k) × (s ≡ t) }
+    ensures most { (h : List DeviceCall) (n : ℕ) (s : TransactionState) → Leaves h n s → n ≤ MAX_CHANNELS }
+    ensures every { (h : List DeviceCall) → (n : ℕ) × (s : TransactionState) × Leaves h n s }
 {}

@@ -1,7 +1,7 @@
 //! Replies that an adversary has of two sites and two security keys, offered to one of the sites: as they came, and put
 //! together anew.
 
-use crate::key::{Key, Rp, asserts, registers};
+use crate::security_key::{Rp, SecurityKey, asserts, registers};
 use authdata::AssertionResponse;
 use cose::BenchScheme;
 use site::{AssertionParts, Policy, SignInError, Site};
@@ -69,8 +69,8 @@ the first reply after it|ffff|1";
 struct World {
     here: Site,
     elsewhere: Site,
-    key: Key,
-    other_key: Key,
+    key: SecurityKey,
+    other_key: SecurityKey,
     replies: Vec<AssertionResponse>,
 }
 
@@ -114,12 +114,12 @@ fn raised(alloc: Global, reply: &AssertionResponse) -> Option<AssertionResponse>
 }
 
 /// Whether a key makes a credential of this number that is registered at a site.
-fn makes(alloc: Global, site: &mut Site, key: &mut Key, rp: &Rp, number: u8) -> bool {
+fn makes(alloc: Global, site: &mut Site, key: &mut SecurityKey, rp: &Rp, number: u8) -> bool {
     registers(alloc, site, key, rp, number).is_some()
 }
 
 /// Whether a key makes credential 3 for here, at another site than the one that is attacked.
-fn makes_unknown(alloc: Global, key: &mut Key) -> bool {
+fn makes_unknown(alloc: Global, key: &mut SecurityKey) -> bool {
     match site_of(alloc, &HERE) {
         Some(mut site) => makes(alloc, &mut site, key, &HERE, 3),
         None => false,
@@ -132,8 +132,8 @@ impl World {
         Some(World {
             here: site_of(alloc, &HERE)?,
             elsewhere: site_of(alloc, &ELSEWHERE)?,
-            key: Key::new(alloc)?,
-            other_key: Key::new(alloc)?,
+            key: SecurityKey::new(alloc)?,
+            other_key: SecurityKey::new(alloc)?,
             replies: Vec::new(alloc),
         })
     }

@@ -103,12 +103,12 @@ fn dead(index: u64, kind: DeadKind) -> &'static str {
     }
 }
 
-fn refused(reason: ctapmsg::Error, value: u8) -> &'static str {
+fn refused(reason: ctap_status::Error, value: u8) -> &'static str {
     match reason {
-        ctapmsg::Error::Empty => "Empty",
-        ctapmsg::Error::Refused(status) if status == value => "Status",
-        ctapmsg::Error::NotCanonical => "NotCanonical",
-        ctapmsg::Error::Shape => "Shape",
+        ctap_status::Error::Empty => "Empty",
+        ctap_status::Error::Refused(status) if status == value => "Status",
+        ctap_status::Error::NotCanonical => "NotCanonical",
+        ctap_status::Error::Shape => "Shape",
         _ => "another",
     }
 }

@@ -45,13 +45,8 @@ impl End {
         if !self.device.drained() {
             return Err(ServeError::Memory);
         }
-        serve(
-            &mut self.device,
-            &mut self.authenticator,
-            &BenchScheme,
-            act,
-            sent,
-        )
+        let (device, authenticator) = (&mut self.device, &mut self.authenticator);
+        serve(device, authenticator, &BenchScheme, act, sent)
     }
 }
 

@@ -9,10 +9,10 @@ mod bytes;
 #[cfg(test)]
 mod channels;
 #[cfg(test)]
-mod key;
-#[cfg(test)]
 mod random;
 #[cfg(test)]
 mod refused;
+#[cfg(test)]
+mod security_key;
 #[cfg(test)]
 mod wire;

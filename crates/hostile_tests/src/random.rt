@@ -5,7 +5,7 @@ use crate::channels::{CONSENT, End, WORDS, are};
 use crate::wire::{CLIENT_DATA, packet, reply, scheme, site};
 use ceremony::{Act, Fed, Live, ServeError};
 use hidframe::Packet;
-use hidlink::{Collector, Device, Opener, Opening, Outcome, Step};
+use hidlink::{Collector, Device, DeviceEvent, Opener, Opening, Outcome};
 use rand_core::Rng;
 use rand_pcg::Pcg32;
 use std::alloc::Global;
@@ -67,12 +67,12 @@ fn sends_on(device: &mut Device, packet: &Packet) -> bool {
 }
 
 /// Whether a device may answer a packet by this step, on which it worked before and works now on these channels.
-fn may_be(step: Step, before: Option<u32>, now: Option<u32>) -> bool {
+fn may_be(step: DeviceEvent, before: Option<u32>, now: Option<u32>) -> bool {
     match step {
-        Step::Quiet => now == before,
-        Step::Request { cid } => before.is_none() && now == Some(cid),
-        Step::Cancelled => before.is_some() && now == before,
-        Step::Aborted => before.is_some() && now.is_none(),
+        DeviceEvent::Quiet => now == before,
+        DeviceEvent::Request { cid } => before.is_none() && now == Some(cid),
+        DeviceEvent::Cancelled => before.is_some() && now == before,
+        DeviceEvent::Aborted => before.is_some() && now.is_none(),
     }
 }
 

@@ -5,7 +5,7 @@ ghost use Rattle.passkey.specs.Checked.{IsChecked, IsUnchecked};
 ghost use Rattle.passkey.specs.declared.check.CheckFault.TheVariants as faults;
 
 use clientdata::{CeremonyType, ClientData, limited_verify};
-use command_line::unhex;
+use passkey_command_line::unhex;
 use std::alloc::{AllocError, Global};
 
 /// Why nothing is checked.

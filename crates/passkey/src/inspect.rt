@@ -6,9 +6,9 @@ ghost use Rattle.passkey.specs.declared.inspect.InspectFault.TheVariants as faul
 use authdata::{Attested, AuthData};
 use ccbor::{Value, decode_all};
 use clientdata::{Binding, Seen, quoted_text};
-use command_line::{Inspection, unhex};
 use cose::Alg;
 use hidframe::{Head, Packet};
+use passkey_command_line::{Inspection, unhex};
 use std::alloc::{AllocError, Global};
 use std::fmt::{Debug, Write};
 use std::str;

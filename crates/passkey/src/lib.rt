@@ -11,5 +11,5 @@ pub use agreement::{agreement, of_all_runs};
 pub use ceremony::{
     Accepted, Act, Enrolled, Error, Fed, Live, ServeError, one_verdict, register, serve, sign_in,
 };
-pub use command_line::{Inspection, Subcommand, command, unhex};
+pub use passkey_command_line::{Inspection, Subcommand, command, unhex};
 pub use program::{MAX_INPUT, run};

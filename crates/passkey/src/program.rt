@@ -7,7 +7,7 @@ use crate::inspect::{InspectFault, inspect};
 use crate::replay::{ScriptEnd, run_script};
 use crate::script::Fault;
 use clap::error::ErrorKind;
-use command_line::{Inspection, Subcommand, command};
+use passkey_command_line::{Inspection, Subcommand, command};
 use std::alloc::Global;
 use std::io;
 use std::io::{Read, Write};
@@ -50,7 +50,7 @@ fn print<O: Write>(out: &mut O, text: &str) -> io::Result<()> {
     out.flush()
 }
 
-/// Writes what clap says of the words that it refuses, and answers the status.
+/// Writes what clap says of the arguments that it refuses, and answers the status.
 fn refuse_words<E: Write>(err: &mut E, error: &clap::Error) -> u8 {
     if error.kind() == ErrorKind::OutOfMemory {
         return fail(err, "out of memory", 3);
@@ -118,21 +118,21 @@ fn tell<O: Write, E: Write>(verified: bool, out: &mut O, err: &mut E) -> u8 {
     }
 }
 
-/// The program: words, the program's name first, and the standard streams; the answer is its status.
+/// The program: arguments, the program's name first, and the standard streams; the answer is its status.
 ///
-/// 0 where all went well. Faults go to `err` and are found in this order: words that clap refuses (status
+/// 0 where all went well. Faults go to `err` and are found in this order: arguments that clap refuses (status
 /// 2, also for help), input of more than `MAX_INPUT` bytes (`input too long`, 2), a read that fails (`read
 /// failed`, 4), then those of the subcommand. Want of memory is `out of memory`, 3; a write to `out` that
 /// fails is `write failed`, 5, and what went out is a beginning of the whole. Where `err` fails too, the
 /// status is the same.
 pub fn run<'a, R: Read, O: Write, E: Write>(
     alloc: Global,
-    words: &'a [&'a str],
+    arguments: &'a [&'a str],
     reader: &mut R,
     out: &mut O,
     err: &mut E,
 ) -> u8 {
-    let asked = match command(alloc, words) {
+    let asked = match command(alloc, arguments) {
         Ok(asked) => asked,
         Err(error) => return refuse_words(err, &error),
     };

@@ -77,7 +77,10 @@ fn write_refusal(error: &Error<SignInRefusal>, out: &mut String) -> Result<(), A
         Error::Incomplete => writeln!(out, "refused Incomplete"),
         Error::Dead { index, kind } => writeln!(out, "refused Dead {index} {kind:?}"),
         Error::DeviceError(code) => writeln!(out, "refused DeviceError {code:02x}"),
-        Error::Reply(ctapmsg::Error::Refused(code)) => writeln!(out, "refused Status {code:02x}"),
+        Error::Reply(ctap_status::Error::Refused(code)) => writeln!(
+            out,
+            "refused Status {code:02x}"
+        ),
         Error::Reply(reason) => writeln!(out, "refused {reason:?}"),
         Error::Refused(step) => {
             let number = step.number();
@@ -118,16 +121,13 @@ impl<'a> Replay<'a> {
         &mut self,
         alloc: Global,
         user: Option<Vec<u8>>,
-        verified: bool,
+        uv: bool,
         words: [u8; 24],
         allow: &[Vec<u8>],
         out: &mut String,
     ) -> Result<(), Fault> {
         let allow: Vec<&[u8]> = allow.iter().map(|id| id.as_slice()).collect(alloc)?;
-        match self
-            .site
-            .begin_sign_in(user.as_deref(), &allow, verified, words)
-        {
+        match self.site.begin_sign_in(user.as_deref(), &allow, uv, words) {
             Ok(started) => {
                 let number = started.session;
                 let challenge = challenge_text(alloc, &started.challenge)?;
@@ -195,10 +195,10 @@ impl<'a> Replay<'a> {
             Line::Row(row) => add_row(&mut self.rows, row)?,
             Line::Session {
                 user,
-                verified,
+                uv,
                 words,
                 allow,
-            } => self.begin_sign_in(alloc, user, verified, words, &allow, out)?,
+            } => self.begin_sign_in(alloc, user, uv, words, &allow, out)?,
             Line::Client(text) => self.client_data = text,
             Line::Valid {
                 key,

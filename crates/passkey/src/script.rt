@@ -4,9 +4,9 @@ ghost use Rattle.std.specs.Prelude.{◌≡◌};
 ghost use Rattle.passkey.specs.declared.script.Fault.TheVariants as faults;
 
 use ccbor::View;
-use command_line::{LineKind, line_kind, unhex};
 use cose::CoseKey;
 use hidframe::Packet;
+use passkey_command_line::{LineKind, line_kind, unhex};
 use site::Row;
 use std::alloc::{AllocError, AllocFailed, Global};
 
@@ -23,7 +23,7 @@ pub enum Line<'a> {
     /// `session <user or -> <0 or 1> <words> [ids]`: a sign-in begins; 1 requires verification.
     Session {
         user: Option<Vec<u8>>,
-        verified: bool,
+        uv: bool,
         words: [u8; 24],
         allow: Vec<Vec<u8>>,
     },
@@ -165,13 +165,13 @@ fn session(field: &str) -> Result<u64, Fault> {
 fn session_line<'a>(
     alloc: Global,
     named: &str,
-    verified: &str,
+    uv: &str,
     words: &str,
     listed: &[&str],
 ) -> Result<Line<'a>, Fault> {
     Ok(Line::Session {
         user: user(alloc, named)?,
-        verified: truth(verified)?,
+        uv: truth(uv)?,
         words: array(alloc, words)?,
         allow: ids(alloc, listed)?,
     })
@@ -198,8 +198,8 @@ fn line_of<'a>(alloc: Global, kind: LineKind, fields: &[&'a str]) -> Result<Line
         (LineKind::Row, [id, user, found, count]) => {
             Ok(Line::Row(row(alloc, id, user, found, count)?))
         }
-        (LineKind::Session, [named, verified, words, listed @ ..]) => {
-            session_line(alloc, named, verified, words, listed)
+        (LineKind::Session, [named, uv, words, listed @ ..]) => {
+            session_line(alloc, named, uv, words, listed)
         }
         (LineKind::Valid, [found, auth_data, sig]) => valid_line(alloc, found, auth_data, sig),
         (LineKind::Packet, [found]) => Ok(Line::Packet(packet(&bytes(alloc, found)?)?)),

@@ -7,16 +7,16 @@ use std::io::Write;
 use std::process::ExitCode;
 use std::{env, io};
 
-/// The words of the command line behind the file's name.
-fn words(rt: &(impl Env + AllocGlobal)) -> io::Result<Vec<String>> {
-    let mut words = Vec::new(rt.alloc());
+/// The arguments of the command line behind the file's name.
+fn arguments(rt: &(impl Env + AllocGlobal)) -> io::Result<Vec<String>> {
+    let mut arguments = Vec::new(rt.alloc());
     for word in env::args(rt)?.skip(1) {
-        words.push(word)?;
+        arguments.push(word)?;
     }
-    Ok(words)
+    Ok(arguments)
 }
 
-/// The status where the words could not be collected.
+/// The status where the arguments could not be collected.
 fn no_words(rt: &HostRuntime, error: &io::Error) -> u8 {
     let (text, status) = if error.kind() == io::ErrorKind::OutOfMemory {
         ("out of memory\n", 3)
@@ -27,17 +27,17 @@ fn no_words(rt: &HostRuntime, error: &io::Error) -> u8 {
     status
 }
 
-/// Runs the program on its name and the words.
+/// Runs the program on its name and the arguments.
 fn run_words(rt: &HostRuntime) -> io::Result<u8> {
-    let owned = words(rt)?;
-    let mut words = Vec::new(rt.alloc());
-    words.push("passkey")?;
+    let owned = arguments(rt)?;
+    let mut arguments = Vec::new(rt.alloc());
+    arguments.push("passkey")?;
     for word in &owned {
-        words.push(word.as_str())?;
+        arguments.push(word.as_str())?;
     }
     Ok(run(
         rt.alloc(),
-        words.as_slice(),
+        arguments.as_slice(),
         &mut rt.stdin(),
         &mut rt.stdout(),
         &mut rt.stderr(),

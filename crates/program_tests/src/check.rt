@@ -66,7 +66,7 @@ const CREATED: &str =
 const SPACED: &str =
     " {\"type\":\"webauthn.get\",\"challenge\":\"AAEC\",\"origin\":\"https://a.example\",\"crossOrigin\":false}";
 
-/// What a case is for, the words, standard input, and whether it matches.
+/// What a case is for, the arguments, standard input, and whether it matches.
 const VERDICTS: &[(&str, &[&str], &str, bool)] = &[
     ("the text", GET, TEXT, true),
     ("goes on", GET, CONTINUED, true),
@@ -99,17 +99,17 @@ fn verdict(matches: bool) -> Wanted<'static> {
 
 #[test]
 fn checks(rt: HostRuntime) -> Result<(), Fail> {
-    for (name, words, input, matches) in VERDICTS {
+    for (name, arguments, input, matches) in VERDICTS {
         let wanted = verdict(*matches);
         assert!(rt;
-            ends(rt.alloc(), words, input.as_bytes(), &wanted),
+            ends(rt.alloc(), arguments, input.as_bytes(), &wanted),
             "{name}"
         );
     }
-    for (words, beginning) in REFUSED {
+    for (arguments, beginning) in REFUSED {
         let mut reader = TEXT.as_bytes();
         assert!(rt;
-            refuses(rt.alloc(), words, &mut reader, beginning),
+            refuses(rt.alloc(), arguments, &mut reader, beginning),
             "{beginning}"
         );
     }

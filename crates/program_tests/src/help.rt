@@ -6,12 +6,12 @@ use std::alloc::{AllocError, Global};
 use std::str;
 use std::test::Fail;
 
-/// What the program says to these words on standard error.
-fn said(alloc: Global, words: &[&str]) -> Vec<u8> {
+/// What the program says to these arguments on standard error.
+fn said(alloc: Global, arguments: &[&str]) -> Vec<u8> {
     let mut out = Vec::new(alloc);
     let mut err = Vec::new(alloc);
     let mut reader: &[u8] = b"";
-    run(alloc, words, &mut reader, &mut out, &mut err);
+    run(alloc, arguments, &mut reader, &mut out, &mut err);
     err
 }
 

@@ -2,6 +2,8 @@
 #![tactic(auto)]
 
 #[cfg(test)]
+mod arguments;
+#[cfg(test)]
 mod check;
 #[cfg(test)]
 mod help;
@@ -21,5 +23,3 @@ mod scripts;
 mod streams;
 #[cfg(test)]
 mod verdict_rows;
-#[cfg(test)]
-mod words;

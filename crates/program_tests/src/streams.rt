@@ -105,11 +105,11 @@ impl Ended {
 }
 
 /// Runs the program on this input, of which it gets a byte a read.
-fn run_failing(alloc: Global, words: &[&str], input: &[u8], failing: Failing) -> Ended {
+fn run_failing(alloc: Global, arguments: &[&str], input: &[u8], failing: Failing) -> Ended {
     let mut reader = FailingReader::new(input, failing.read);
     let mut out = FailingWriter::new(alloc, failing.write);
     let mut err = FailingWriter::new(alloc, failing.error);
-    let status = run(alloc, words, &mut reader, &mut out, &mut err);
+    let status = run(alloc, arguments, &mut reader, &mut out, &mut err);
     Ended {
         status,
         reads: reader.calls,
@@ -145,9 +145,9 @@ fn reads(alloc: Global, input: &[u8]) -> Option<u32> {
 
 /// How many writes of this text there are, each of which ends the run with `write failed` and status 5 where it fails,
 /// behind the bytes that were written before.
-fn writes(alloc: Global, words: &[&str], input: &[u8], text: &[u8]) -> Option<u32> {
+fn writes(alloc: Global, arguments: &[&str], input: &[u8], text: &[u8]) -> Option<u32> {
     for write in 1..MOST {
-        let ended = run_failing(alloc, words, input, Failing { write, ..NONE });
+        let ended = run_failing(alloc, arguments, input, Failing { write, ..NONE });
         if ended.out.calls < write {
             return Some(ended.out.calls);
         }
@@ -163,13 +163,13 @@ fn writes(alloc: Global, words: &[&str], input: &[u8], text: &[u8]) -> Option<u3
 /// this to standard output, whichever of them fails.
 fn errors(
     alloc: Global,
-    words: &[&str],
+    arguments: &[&str],
     input: &[u8],
     failing: Failing,
     (status, out): (u8, &[u8]),
 ) -> Option<u32> {
     for error in 1..MOST {
-        let ended = run_failing(alloc, words, input, Failing { error, ..failing });
+        let ended = run_failing(alloc, arguments, input, Failing { error, ..failing });
         if ended.status != status || ended.out.got.as_slice() != out {
             return None;
         }
@@ -233,7 +233,7 @@ fn all_errors(alloc: Global) -> Result<[Option<u32>; 4], Fail> {
 }
 
 /// The texts are `line 4: bad script`, `read failed`, `write failed` and `bad hex`, each with its line feed; that of refused
-/// words is clap's.
+/// arguments is clap's.
 #[test]
 fn each_write_to_standard_error(rt: HostRuntime) -> Result<(), Fail> {
     let errors_of_runs = all_errors(rt.alloc())?;
@@ -241,7 +241,7 @@ fn each_write_to_standard_error(rt: HostRuntime) -> Result<(), Fail> {
         errors_of_runs == [Some(19), Some(12), Some(13), Some(8)],
         "{errors_of_runs:?}"
     );
-    let words = errors(rt.alloc(), &["passkey", "--colour"], b"", NONE, (2, b""));
-    assert!(rt; words > Some(20));
+    let arguments = errors(rt.alloc(), &["passkey", "--colour"], b"", NONE, (2, b""));
+    assert!(rt; arguments > Some(20));
     Ok(())
 }

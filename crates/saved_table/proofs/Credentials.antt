@@ -57,7 +57,8 @@ unfolding before head
 ordered = (refl, tt, (refl, tt, (refl, tt, (refl, tt, (refl, tt, (refl, tt, tt))))))
 
 -- what is read is the map of its members
-pub members_are : (x : Item) (m : Contents credential_members) → read_in (record_of credential_members) x ≡ Some m → x ≡ value_of (record_of credential_members) m
+pub members_are : (x : Item) (m : Contents credential_members) → read_in (record_of credential_members) x ≡ Some m
+    → x ≡ value_of (record_of credential_members) m
 members_are x m e = read_is (record_of credential_members) ordered x m e
 
 same_marks : (r s : Bool) → mark_of r ≡ mark_of s → r ≡ s
@@ -72,7 +73,8 @@ credential_from id user key n eligible retired = record { id = id; user = user; 
 -- credentials of one map are one
 pub one_credential : (c d : Credential) → IsKey c.key → IsKey d.key → credential_item c ≡ credential_item d → c ≡ d
 one_credential c d h g e =
-    let same : content_of c ≡ content_of d = same_Some (content_of c) (content_of d) (sym (credential_read c) ∙ ap (read_in (record_of credential_members)) e ∙ credential_read d) in
+    let same : content_of c ≡ content_of d =
+    same_Some (content_of c) (content_of d) (sym (credential_read c) ∙ ap (read_in (record_of credential_members)) e ∙ credential_read d) in
     let ids : c.id ≡ d.id = ap (λ (m : Contents credential_members). m.0) same in
     let users : c.user ≡ d.user = ap (λ (m : Contents credential_members). m.1.0) same in
     let items : key_item c.key ≡ key_item d.key = ap (λ (m : Contents credential_members). m.1.1.0) same in
@@ -89,8 +91,11 @@ one_credential c d h g e =
 
 -- ---- from what is read
 
-made : (id user : List ℕ) (k : Item) (n : ℕ) (eligible : Option Bool) (r : Bool) → value_of (record_of credential_members) (id, (user, (k, (n, (eligible, (mark_of r, tt))))))
-    ≡ map (pair (uint 1) (bytes id) (pair (uint 2) (bytes user) (pair (uint 3) k (pair (uint 4) (uint n) (optional (uint 5) (option_map boolean eligible) (optional (uint 6) (true_if r) no_pairs))))))
+made : (id user : List ℕ) (k : Item) (n : ℕ) (eligible : Option Bool) (r : Bool)
+    → value_of (record_of credential_members) (id, (user, (k, (n, (eligible, (mark_of r, tt))))))
+    ≡ map (pair (uint 1) (bytes id)
+    (pair (uint 2) (bytes user) (pair (uint 3) k
+    (pair (uint 4) (uint n) (optional (uint 5) (option_map boolean eligible) (optional (uint 6) (true_if r) no_pairs))))))
 made id user k n (Some b) true = refl
 made id user k n (Some b) false = refl
 made id user k n None true = refl
@@ -107,7 +112,8 @@ not_retired mark r e none = e ∙ ap is_some none
 module _ (version : ℕ) (x k : Item) (id user : List ℕ) (n : ℕ) (eligible retired : Option Bool)
     (read : read_in (record_of credential_members) x ≡ Some (id, (user, (k, (n, (eligible, (retired, tt))))))) where
   -- what was read is the credential's that has it
-  pub credential_found : (i u : List ℕ) (key : CoseKey) (count : ℕ) (r : Bool) → i ≡ id → u ≡ user → KeyOf key k → count ≡ n → count < 2 ^ 32 → AreMarks version eligible retired
+  pub credential_found : (i u : List ℕ) (key : CoseKey) (count : ℕ) (r : Bool) → i ≡ id → u ≡ user → KeyOf key k → count ≡ n → count < 2 ^ 32
+      → AreMarks version eligible retired
       → r ≡ is_some retired → FitsVersion version (credential_from i u key count eligible r) × (x ≡ credential_item (credential_from i u key count eligible r))
   credential_found i u key count r ids users is counts small marks e =
       let mark = mark_is retired r marks.0 e in
@@ -117,8 +123,10 @@ module _ (version : ℕ) (x k : Item) (id user : List ℕ) (n : ℕ) (eligible r
       )
 
   -- a credential that has the map has what was read of it
-  pub same_content : (c : Credential) → x ≡ credential_item c → ◌≡◌ {A = Contents credential_members} (id, (user, (k, (n, (eligible, (retired, tt)))))) (content_of c)
-  same_content c is = same_Some (id, (user, (k, (n, (eligible, (retired, tt)))))) (content_of c) (sym read ∙ ap (read_in (record_of credential_members)) is ∙ credential_read c)
+  pub same_content : (c : Credential) → x ≡ credential_item c
+      → ◌≡◌ {A = Contents credential_members} (id, (user, (k, (n, (eligible, (retired, tt)))))) (content_of c)
+  same_content c is = same_Some (id, (user, (k, (n, (eligible, (retired, tt)))))) (content_of c) (sym read ∙ ap (read_in (record_of credential_members)) is
+      ∙ credential_read c)
 
   pub no_key : ((l : CoseKey) → KeyOf l k → ⊥) → (c : Credential) → FitsVersion version c → x ≡ credential_item c → ⊥
   no_key none c fits is = none c.key (fits.key, ap (λ (m : Contents credential_members). m.1.1.0) (same_content c is))

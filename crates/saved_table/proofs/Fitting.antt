@@ -1,7 +1,7 @@
 -- A table has an encoding.
 use Rattle.std.proofs.Common.{◌≡◌, ◌<◌, ◌≤◌, ◌^◌, ℕ, suc, List, [], ◌∷◌, length, Bool, true, false, Option, Some, None, option_map, IsUtf8, refl, ap, arith}
 use Rattle.std.proofs.Common.{map as each}
-use Rattle.first_line.specs.Lines.{Each}
+use Rattle.refusal_order.specs.Lines.{Each}
 use Rattle.ccbor.specs.Item.{Item, uint, bytes, map, boolean, no_pairs, pair}
 use Rattle.ccbor.specs.Canon.{head, before, count_of_items, Fits, ItemsFit}
 use Rattle.ccbor.specs.View.{items_of}
@@ -9,19 +9,64 @@ use Rattle.cbor_map.specs.Content.{optional}
 use Rattle.cose.specs.Keys.{item_of as key_item}
 use Rattle.cose.proofs.KeyLemmas.{key_fits}
 use Rattle.verification.specs.Records.{Credential}
-use Rattle.credentials.specs.Table.{IsRow, AreRows, IsTable}
+use Rattle.credential_table.specs.Table.{IsRow, AreRows, IsTable}
 use Rattle.saved_table.specs.Saved.{Saved, FitsVersion, credential_item, table_item, true_if}
 
 members_fit : (id user : List ℕ) (k : Item) (n : ℕ) (eligible : Option Bool) (retired : Bool) → length id ≤ 64 → length user ≤ 64 → Fits 1 k → n < 2 ^ 32
-    → Fits 2 (map (pair (uint 1) (bytes id) (pair (uint 2) (bytes user) (pair (uint 3) k (pair (uint 4) (uint n) (optional (uint 5) (option_map boolean eligible) (optional (uint 6) (true_if retired) no_pairs)))))))
+    → Fits 2 (map (pair (uint 1) (bytes id)
+    (pair (uint 2) (bytes user) (pair (uint 3) k
+    (pair (uint 4) (uint n) (optional (uint 5) (option_map boolean eligible) (optional (uint 6) (true_if retired) no_pairs)))))))
 unfolding head before
-members_fit id user k n (Some e) true a b c d = (omega arith, (refl, refl, omega arith, omega arith, (refl, refl, omega arith, omega arith, (refl, refl, omega arith, c, (refl, refl, omega arith, omega arith, (refl, refl, omega arith, tt, (refl, refl, omega arith, tt, tt)))))))
-members_fit id user k n (Some e) false a b c d = (omega arith, (refl, refl, omega arith, omega arith, (refl, refl, omega arith, omega arith, (refl, refl, omega arith, c, (refl, refl, omega arith, omega arith, (refl, refl, omega arith, tt, tt))))))
-members_fit id user k n None true a b c d = (omega arith, (refl, refl, omega arith, omega arith, (refl, refl, omega arith, omega arith, (refl, refl, omega arith, c, (refl, refl, omega arith, omega arith, (refl, refl, omega arith, tt, tt))))))
-members_fit id user k n None false a b c d = (omega arith, (refl, refl, omega arith, omega arith, (refl, refl, omega arith, omega arith, (refl, refl, omega arith, c, (refl, refl, omega arith, omega arith, tt)))))
+members_fit id user k n (Some e) true a b c d = (
+  omega arith,
+  (
+    refl,
+    refl,
+    omega arith,
+    omega arith,
+    (
+      refl,
+      refl,
+      omega arith,
+      omega arith,
+      (refl, refl, omega arith, c, (refl, refl, omega arith, omega arith, (refl, refl, omega arith, tt, (refl, refl, omega arith, tt, tt)))),
+    ),
+  ),
+)
+members_fit id user k n (Some e) false a b c d = (
+  omega arith,
+  (
+    refl,
+    refl,
+    omega arith,
+    omega arith,
+    (refl, refl, omega arith, omega arith, (refl, refl, omega arith, c, (refl, refl, omega arith, omega arith, (refl, refl, omega arith, tt, tt)))),
+  ),
+)
+members_fit id user k n None true a b c d = (
+  omega arith,
+  (
+    refl,
+    refl,
+    omega arith,
+    omega arith,
+    (refl, refl, omega arith, omega arith, (refl, refl, omega arith, c, (refl, refl, omega arith, omega arith, (refl, refl, omega arith, tt, tt)))),
+  ),
+)
+members_fit id user k n None false a b c d = (
+  omega arith,
+  (
+    refl,
+    refl,
+    omega arith,
+    omega arith,
+    (refl, refl, omega arith, omega arith, (refl, refl, omega arith, c, (refl, refl, omega arith, omega arith, tt))),
+  ),
+)
 
 credential_fits : (version : ℕ) (c : Credential) → IsRow c → FitsVersion version c → Fits 2 (credential_item c)
-credential_fits version c is fits = members_fit c.id c.user (key_item c.key) c.sign_count c.eligible c.retired is.0.1 is.1.1 (key_fits c.key fits.key) fits.sign_count
+credential_fits version c is fits =
+    members_fit c.id c.user (key_item c.key) c.sign_count c.eligible c.retired is.0.1 is.1.1 (key_fits c.key fits.key) fits.sign_count
 
 credentials_fit : (version : ℕ) (rows : List Credential) → AreRows rows → Each (FitsVersion version) rows → ItemsFit 2 (items_of (each credential_item rows))
 credentials_fit version [] are fit = tt
@@ -36,5 +81,19 @@ pub table_fits : (version : ℕ) (saved : Saved) → version < 2 ^ 64 → saved.
 unfolding head before
 table_fits version saved small numbered short utf8 table fit =
     let most = table.0 in
-    let len = count saved.rows in
-    (omega arith, (refl, refl, omega arith, small, (refl, refl, omega arith, (short, utf8), (refl, refl, omega arith, numbered, (refl, refl, omega arith, (omega arith, credentials_fit version saved.rows table.1 fit), tt)))))
+    let len = count saved.rows in (
+      omega arith,
+      (
+        refl,
+        refl,
+        omega arith,
+        small,
+        (
+          refl,
+          refl,
+          omega arith,
+          (short, utf8),
+          (refl, refl, omega arith, numbered, (refl, refl, omega arith, (omega arith, credentials_fit version saved.rows table.1 fit), tt)),
+        ),
+      ),
+    )

@@ -3,7 +3,7 @@ use Rattle.std.proofs.Common.{◌≡◌, ◌<◌, ℕ, List, [], ◌∷◌, ◌+
 use Rattle.std.proofs.Common.{map as each}
 use Rattle.std.proofs.lemmas.Option.{cond_some, same_Some}
 use Rattle.std.proofs.lemmas.List.{length-append}
-use Rattle.first_line.specs.Lines.{Each}
+use Rattle.refusal_order.specs.Lines.{Each}
 use Rattle.ccbor.specs.Item.{Item, Items, no_items, item, uint, text, array, map, Pairs, no_pairs, pair}
 use Rattle.ccbor.specs.Access.{items_first, split_key, is_end, uint_in, text_in, items_in, pairs_in}
 use Rattle.ccbor.specs.Canon.{Canon}
@@ -12,8 +12,8 @@ use Rattle.ccbor.proofs.AccessLemmas.{split_key_takes, pairs_in_is, uint_in_is, 
 use Rattle.ccbor.proofs.Decoding.{same_item}
 use Rattle.ccbor.proofs.Numbers.{bind_some}
 use Rattle.verification.specs.Records.{Credential}
-use Rattle.credentials.specs.Table.{row_of, IsRow, IsTable}
-use Rattle.credentials.proofs.RowLemmas.{front_absent}
+use Rattle.credential_table.specs.Table.{row_of, IsRow, IsTable}
+use Rattle.credential_table.proofs.RowLemmas.{front_absent}
 use Rattle.saved_table.specs.Saved.{Saved, FitsVersion, TableOf, credential_item, table_item}
 use Rattle.saved_table.specs.Private.{IsOf, table_in}
 use Rattle.saved_table.specs.declared.error.Error.{Error}
@@ -71,7 +71,14 @@ module _ (version : ℕ) where
       let parts = item_parts (credential_item c) (credential_item d) (in_front front (item x xs)) (items_of (each credential_item rows)) e in
       let more = goes_on rows front x xs f.1 r.1 parts.1 in
       let same : c ≡ d = one_credential c d f.0.key r.0.key parts.0 in
-      record { row = more.row; rest = more.rest; is = ap (λ (l : List Credential). d ∷ l) more.is ∙ ap (λ (y : Credential). y ∷ (front ++ more.row ∷ more.rest)) (sym same); fits = more.fits; map_is = more.map_is }
+      record {
+        row = more.row;
+        rest = more.rest;
+        is = ap (λ (l : List Credential). d ∷ l) more.is
+            ∙ ap (λ (y : Credential). y ∷ (front ++ more.row ∷ more.rest)) (sym same);
+        fits = more.fits;
+        map_is = more.map_is;
+      }
 
   -- and it may stand behind them
   pub goes_behind : (rows front : List Credential) (x : Item) (xs : Items) → IsTable rows → (g : Goes rows front x xs)
@@ -104,12 +111,14 @@ pub whole_read : (version : ℕ) (rp_id : List ℕ) (next : ℕ) (xs : Items) �
 unfolding table_in
 whole_read version rp_id next xs = refl
 
-joined : (x a b c d : Item) (p q r s t : Pairs) (version : ℕ) (rp_id : List ℕ) (next : ℕ) (xs : Items) → x ≡ map p → p ≡ pair (uint 1) a q → a ≡ uint version → q ≡ pair (uint 2) b r → b ≡ text rp_id
+joined : (x a b c d : Item) (p q r s t : Pairs) (version : ℕ) (rp_id : List ℕ) (next : ℕ) (xs : Items) → x ≡ map p → p ≡ pair (uint 1) a q → a ≡ uint version
+    → q ≡ pair (uint 2) b r → b ≡ text rp_id
     → r ≡ pair (uint 3) c s → c ≡ uint next → s ≡ pair (uint 4) d t → d ≡ array xs → t ≡ no_pairs → x ≡ whole version rp_id next xs
 joined x a b c d p q r s t version rp_id next xs e0 e1 e2 e3 e4 e5 e6 e7 e8 e9 = cc
 
 -- what is read is that map
-pub read_whole : (x : Item) (version : ℕ) (rp_id : List ℕ) (next : ℕ) (xs : Items) → table_in x ≡ Some (version, rp_id, next, xs) → x ≡ whole version rp_id next xs
+pub read_whole : (x : Item) (version : ℕ) (rp_id : List ℕ) (next : ℕ) (xs : Items) → table_in x ≡ Some (version, rp_id, next, xs)
+    → x ≡ whole version rp_id next xs
 unfolding table_in
 read_whole x version rp_id next xs e =
     let t : ℕ × List ℕ × ℕ × Items = (version, rp_id, next, xs) in
@@ -125,8 +134,10 @@ read_whole x version rp_id next xs e =
     let made : ℕ × List ℕ × ℕ × Items = (v.0, r.0, n.0, c.0) in
     let last = cond_some (is_end four.0.1) made t c.2 in
     let is : x ≡ whole v.0 r.0 n.0 c.0 =
-    joined x one.0.0 two.0.0 three.0.0 four.0.0 ps.0 one.0.1 two.0.1 three.0.1 four.0.1 v.0 r.0 n.0 c.0 (pairs_in_is x ps.0 ps.1) (split_key_takes (uint 1) ps.0 one.0 one.1) (uint_in_is one.0.0 v.0 v.1)
-    (split_key_takes (uint 2) one.0.1 two.0 two.1) (text_in_is two.0.0 r.0 r.1) (split_key_takes (uint 3) two.0.1 three.0 three.1) (uint_in_is three.0.0 n.0 n.1)
+    joined x one.0.0 two.0.0 three.0.0 four.0.0 ps.0 one.0.1 two.0.1 three.0.1 four.0.1 v.0 r.0 n.0 c.0 (pairs_in_is x ps.0 ps.1)
+    (split_key_takes (uint 1) ps.0 one.0 one.1) (uint_in_is one.0.0 v.0 v.1)
+    (split_key_takes (uint 2) one.0.1 two.0 two.1) (text_in_is two.0.0 r.0 r.1) (split_key_takes (uint 3) two.0.1 three.0 three.1)
+    (uint_in_is three.0.0 n.0 n.1)
     (split_key_takes (uint 4) three.0.1 four.0 four.1) (items_in_is four.0.0 c.0 c.1) (end_is four.0.1 last.0) in
     is ∙ ap (λ (y : ℕ × List ℕ × ℕ × Items). whole y.0 y.1 y.2 y.3) last.1
 
@@ -140,12 +151,17 @@ one_saved v w s t bytes h g =
     let items = same_item (table_item v s) (table_item w t) bytes h.spelled g.spelled in
     let xs = items_of (each credential_item s.rows) in
     let ys = items_of (each credential_item t.rows) in
-    let same = same_Some (v, s.rp_id, s.next, xs) (w, t.rp_id, t.next, ys) (sym (whole_read v s.rp_id s.next xs) ∙ ap table_in items ∙ whole_read w t.rp_id t.next ys) in
+    let same = same_Some (v, s.rp_id, s.next, xs) (w, t.rp_id, t.next, ys) (sym (whole_read v s.rp_id s.next xs) ∙ ap table_in items
+    ∙ whole_read w t.rp_id t.next ys) in
     let versions : v ≡ w = ap (λ (y : ℕ × List ℕ × ℕ × Items). y.0) same in
     let rps : s.rp_id ≡ t.rp_id = ap (λ (y : ℕ × List ℕ × ℕ × Items). y.1) same in
     let nexts : s.next ≡ t.next = ap (λ (y : ℕ × List ℕ × ℕ × Items). y.2) same in
-    let rows = one_list v s.rows t.rows h.each (subst (λ (n : ℕ). Each (FitsVersion n) t.rows) (sym versions) g.each) (ap (λ (y : ℕ × List ℕ × ℕ × Items). y.3) same) in
-    (versions, ap (λ (x : List ℕ). saved_from x s.next s.rows) rps ∙ ap (λ (x : ℕ). saved_from t.rp_id x s.rows) nexts ∙ ap (λ (x : List Credential). saved_from t.rp_id t.next x) rows)
+    let rows = one_list v s.rows t.rows h.each (subst (λ (n : ℕ). Each (FitsVersion n) t.rows) (sym versions) g.each)
+    (ap (λ (y : ℕ × List ℕ × ℕ × Items). y.3) same) in (
+      versions,
+      ap (λ (x : List ℕ). saved_from x s.next s.rows) rps ∙ ap (λ (x : ℕ). saved_from t.rp_id x s.rows) nexts
+          ∙ ap (λ (x : List Credential). saved_from t.rp_id t.next x) rows,
+    )
 
 -- ---- loading
 
@@ -166,13 +182,16 @@ module _ (bytes : List ℕ) (x : Item) (canon : Canon x bytes) where
     pub not_of : (IsOf rp_id found → ⊥) → (v : ℕ) (s : Saved) → s.rp_id ≡ rp_id → TableOf v s bytes → ⊥
     not_of none v s is h = none (rw (found_is v s h) (h.known.0, h.known.1, is, h.next))
 
-    pub no_rows : ((rows : List Credential) → IsTable rows → Each (FitsVersion found.0) rows → found.3 ≡ items_of (each credential_item rows) → ⊥) → (v : ℕ) (s : Saved) → TableOf v s bytes → ⊥
+    pub no_rows : ((rows : List Credential) → IsTable rows → Each (FitsVersion found.0) rows → found.3 ≡ items_of (each credential_item rows) → ⊥)
+        → (v : ℕ) (s : Saved) → TableOf v s bytes → ⊥
     no_rows none v s h =
         let e = found_is v s h in
         none s.rows h.rows (rw e h.each) (ap (λ (y : ℕ × List ℕ × ℕ × Items). y.3) e)
 
-    pub loaded : IsOf rp_id found → (rows : List Credential) → IsTable rows → Each (FitsVersion found.0) rows → found.3 ≡ items_of (each credential_item rows) → TableOf found.0 (record { rp_id = rp_id; next = found.2; rows = rows }) bytes
+    pub loaded : IsOf rp_id found → (rows : List Credential) → IsTable rows → Each (FitsVersion found.0) rows → found.3 ≡ items_of (each credential_item rows)
+        → TableOf found.0 (record { rp_id = rp_id; next = found.2; rows = rows }) bytes
     loaded is rows table fit e =
         let item = read_whole x found.0 found.1 found.2 found.3 read in
-        let value : x ≡ whole found.0 rp_id found.2 (items_of (each credential_item rows)) = item ∙ ap (λ (r : List ℕ). whole found.0 r found.2 found.3) is.2 ∙ ap (λ (xs : Items). whole found.0 rp_id found.2 xs) e in
+        let value : x ≡ whole found.0 rp_id found.2 (items_of (each credential_item rows)) = item ∙ ap (λ (r : List ℕ). whole found.0 r found.2 found.3) is.2
+        ∙ ap (λ (xs : Items). whole found.0 rp_id found.2 xs) e in
         record { known = (is.0, is.1); next = is.3; rows = table; each = fit; spelled = rw value at canon }

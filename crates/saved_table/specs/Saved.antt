@@ -2,14 +2,14 @@
 -- "Message Encoding"). The map is this product's own.
 use Rattle.std.specs.Prelude.{◌≡◌, ◌<◌, ◌≤◌, ◌^◌, ◌++◌, ℕ, List, Bool, true, false, Option, Some, None, option_map}
 use Rattle.std.specs.Prelude.{map as each}
-use Rattle.first_line.specs.Lines.{Each}
+use Rattle.refusal_order.specs.Lines.{Each}
 use Rattle.ccbor.specs.Item.{Item, uint, bytes, text, array, map, boolean, no_pairs, pair}
 use Rattle.ccbor.specs.Canon.{Canon}
 use Rattle.ccbor.specs.View.{items_of}
 use Rattle.cbor_map.specs.Content.{optional}
 use Rattle.cose.specs.Keys.{IsKey, item_of as key_item}
 use Rattle.verification.specs.Records.{Credential}
-use Rattle.credentials.specs.Table.{IsTable}
+use Rattle.credential_table.specs.Table.{IsTable}
 
 -- its rp id, the number of the next session, and its credentials in order of registration
 pub record Saved : Type 0 where

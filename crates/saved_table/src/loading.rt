@@ -1,11 +1,11 @@
 //! Loading what was saved.
 
 ghost use Rattle.std.specs.Prelude.{◌≡◌, ◌↔◌, ℕ, List, map, IfOk, IsErrOf, IsTrue};
-ghost use Rattle.first_line.specs.Lines.{Each};
+ghost use Rattle.refusal_order.specs.Lines.{Each};
 ghost use Rattle.ccbor.specs.View.{items_of};
 ghost use Rattle.ccbor.specs.Viewing.{shown_items};
 ghost use Rattle.verification.specs.Records.{Credential};
-ghost use Rattle.credentials.specs.Table.{IsTable};
+ghost use Rattle.credential_table.specs.Table.{IsTable};
 ghost use Rattle.saved_table.specs.Saved.{Saved, FitsVersion, TableOf, credential_item};
 ghost use Rattle.saved_table.specs.Private.{IsOf};
 ghost use Rattle.saved_table.specs.Views.{table_members_view};
@@ -14,7 +14,7 @@ ghost use Rattle.saved_table.specs.declared.error.Error.TheVariants as errors;
 use crate::error::Error;
 use crate::reading::{TableMembers, credential, table_members};
 use ccbor::{ArrayView, View};
-use credentials::Table;
+use credential_table::Table;
 use std::alloc::Global;
 
 /// What was saved of a relying party.

@@ -5,7 +5,7 @@ ghost use Rattle.ccbor.specs.Viewing.{shown};
 ghost use Rattle.cbor_map.specs.Reading.{Yields, read_in};
 ghost use Rattle.cbor_map.specs.Table.{record_of};
 ghost use Rattle.verification.specs.Records.{Credential};
-ghost use Rattle.credentials.specs.Views.{row_view};
+ghost use Rattle.credential_table.specs.Views.{row_view};
 ghost use Rattle.saved_table.specs.Saved.{FitsVersion, credential_item};
 ghost use Rattle.saved_table.specs.Private.{AreMarks, credential_members, table_in};
 ghost use Rattle.saved_table.specs.Views.{members_content, table_members_view};
@@ -13,9 +13,9 @@ ghost use Rattle.saved_table.specs.declared.error.Error.TheVariants as errors;
 
 use crate::error::Error;
 use cbor_map::{Shape, any_map, bytes, end, members, optional, required, truth_if_there, unsigned};
-use ccbor::{ArrayView, Key, View};
+use ccbor::{ArrayView, MapKey, View};
 use cose::CoseKey;
-use credentials::Row;
+use credential_table::Row;
 use std::alloc::Global;
 
 /// The members of a table's map.
@@ -44,13 +44,13 @@ pub fn table_members<'a>(value: &View<'a>) -> Option<TableMembers<'a>>
     ensures { option_map table_members_view result ≡ table_in (shown value.now) }
 {
     let rest = value.as_map()?;
-    let (held, rest) = rest.split_key(Key::Uint(1))?;
+    let (held, rest) = rest.split_key(MapKey::Uint(1))?;
     let version = held.as_uint()?;
-    let (held, rest) = rest.split_key(Key::Uint(2))?;
+    let (held, rest) = rest.split_key(MapKey::Uint(2))?;
     let rp_id = held.as_text()?;
-    let (held, rest) = rest.split_key(Key::Uint(3))?;
+    let (held, rest) = rest.split_key(MapKey::Uint(3))?;
     let next = held.as_uint()?;
-    let (held, rest) = rest.split_key(Key::Uint(4))?;
+    let (held, rest) = rest.split_key(MapKey::Uint(4))?;
     let credentials = held.as_array()?;
     if !rest.is_end() {
         return None;
@@ -68,17 +68,17 @@ fn credential_members<'a>(value: &View<'a>) -> Result<CredentialMembers<'a>, Sha
     ensures { Yields members_content result (read_in (record_of credential_members) (shown value.now)) }
 {
     let rest = members(value)?;
-    let (held, rest) = required(&rest, Key::Uint(1))?;
+    let (held, rest) = required(&rest, MapKey::Uint(1))?;
     let id = bytes(&held)?;
-    let (held, rest) = required(&rest, Key::Uint(2))?;
+    let (held, rest) = required(&rest, MapKey::Uint(2))?;
     let user = bytes(&held)?;
-    let (key, rest) = required(&rest, Key::Uint(3))?;
+    let (key, rest) = required(&rest, MapKey::Uint(3))?;
     any_map(&key)?;
-    let (held, rest) = required(&rest, Key::Uint(4))?;
+    let (held, rest) = required(&rest, MapKey::Uint(4))?;
     let sign_count = unsigned(&held, 0)?;
-    let (held, rest) = optional(rest, Key::Uint(5));
+    let (held, rest) = optional(rest, MapKey::Uint(5));
     let eligible = truth_if_there(held)?;
-    let (held, rest) = optional(rest, Key::Uint(6));
+    let (held, rest) = optional(rest, MapKey::Uint(6));
     let retired = truth_if_there(held)?;
     end(&rest)?;
     Ok(CredentialMembers {

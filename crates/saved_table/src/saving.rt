@@ -1,18 +1,18 @@
 //! Saving.
 
 ghost use Rattle.std.specs.Prelude.{◌≡◌, ◌≤◌, map, IfOk, OnErr, OnOk, option_map};
-ghost use Rattle.first_line.specs.Lines.{Each};
+ghost use Rattle.refusal_order.specs.Lines.{Each};
 ghost use Rattle.ccbor.specs.Item.{boolean};
 ghost use Rattle.ccbor.specs.View.{items_of, items_view, view};
 ghost use Rattle.verification.specs.Views.{credential_view};
-ghost use Rattle.credentials.specs.Table.{IsTable};
+ghost use Rattle.credential_table.specs.Table.{IsTable};
 ghost use Rattle.saved_table.specs.Saved.{AppendsTable, FitsVersion, credential_item, table_item, true_if};
 
 use cbor_map::{bytes_value, push_if_there, push_member, text_value};
-use ccbor::{Key, Value, encode};
-use credentials::Table;
+use ccbor::{MapKey, Value, encode};
+use credential_table::Table;
 use std::alloc::{AllocError, Global};
-use verification::CredentialView;
+use verification::RowView;
 
 /// The version that is written.
 const VERSION: u64 = 3;
@@ -39,7 +39,7 @@ fn retired_value(retired: bool) -> Option<Value>
 }
 
 /// The value of a credential's map.
-fn credential_value(alloc: Global, row: &CredentialView<'_>) -> Result<Value, AllocError>
+fn credential_value(alloc: Global, row: &RowView<'_>) -> Result<Value, AllocError>
     ensures fits { IfOk result (λ _. FitsVersion 3 (credential_view row.now)) }
     ensures value { IfOk result (λ v. view v ≡ credential_item (credential_view row.now)) }
 {
@@ -47,17 +47,27 @@ fn credential_value(alloc: Global, row: &CredentialView<'_>) -> Result<Value, Al
     let user = bytes_value(alloc, row.user)?;
     let key = row.key.to_value(alloc)?;
     let mut pairs = Vec::new(alloc);
-    push_member(alloc, &mut pairs, Key::Uint(1), id)?;
-    push_member(alloc, &mut pairs, Key::Uint(2), user)?;
-    push_member(alloc, &mut pairs, Key::Uint(3), key)?;
+    push_member(alloc, &mut pairs, MapKey::Uint(1), id)?;
+    push_member(alloc, &mut pairs, MapKey::Uint(2), user)?;
+    push_member(alloc, &mut pairs, MapKey::Uint(3), key)?;
     push_member(
         alloc,
         &mut pairs,
-        Key::Uint(4),
+        MapKey::Uint(4),
         Value::Uint(u64::from(row.sign_count)),
     )?;
-    push_if_there(alloc, &mut pairs, Key::Uint(5), truth_value(row.eligible))?;
-    push_if_there(alloc, &mut pairs, Key::Uint(6), retired_value(row.retired))?;
+    push_if_there(
+        alloc,
+        &mut pairs,
+        MapKey::Uint(5),
+        truth_value(row.eligible),
+    )?;
+    push_if_there(
+        alloc,
+        &mut pairs,
+        MapKey::Uint(6),
+        retired_value(row.retired),
+    )?;
     Ok(Value::Map(pairs))
 }
 
@@ -82,10 +92,15 @@ fn table_value(alloc: Global, rp_id: &str, next: u64, table: &Table) -> Result<V
     let credentials = credential_values(alloc, table)?;
     let rp_id = text_value(alloc, rp_id)?;
     let mut pairs = Vec::new(alloc);
-    push_member(alloc, &mut pairs, Key::Uint(1), Value::Uint(VERSION))?;
-    push_member(alloc, &mut pairs, Key::Uint(2), rp_id)?;
-    push_member(alloc, &mut pairs, Key::Uint(3), Value::Uint(next))?;
-    push_member(alloc, &mut pairs, Key::Uint(4), Value::Array(credentials))?;
+    push_member(alloc, &mut pairs, MapKey::Uint(1), Value::Uint(VERSION))?;
+    push_member(alloc, &mut pairs, MapKey::Uint(2), rp_id)?;
+    push_member(alloc, &mut pairs, MapKey::Uint(3), Value::Uint(next))?;
+    push_member(
+        alloc,
+        &mut pairs,
+        MapKey::Uint(4),
+        Value::Array(credentials),
+    )?;
     Ok(Value::Map(pairs))
 }
 

@@ -9,34 +9,35 @@ use Rattle.std.specs.FinMap.{gets}
 use Rattle.std.specs.FinMap as finite
 use Rattle.authdata.specs.Flags.{is_set, BE}
 use Rattle.authdata.specs.Layout.{AuthenticatorData, AuthOf}
-use Rattle.authdata.specs.Responses.{Assertion}
+use Rattle.authdata.specs.Responses.{AuthenticatorAssertionResponse}
 use Rattle.authdata.specs.Responses as responses
-use Rattle.verification.specs.Records.{RelyingParty, Credential, Registration, SignIn}
-use Rattle.verification.specs.Shared.{Relation}
-use Rattle.verification.specs.Authentication as authentication
-use Rattle.verification.specs.Authentication.{IsCounted}
+use Rattle.verification.specs.Records.{RelyingParty, Credential, ExpectedRegistration, ExpectedSignIn}
+use Rattle.cose.specs.Schemes.{Validity}
+use Rattle.verification.specs.SignIn as authentication
+use Rattle.verification.specs.SignIn.{IsCounted}
 use Rattle.verification.specs.Registration as registration
 use Rattle.verification.specs.Registration.{Attests}
-use Rattle.credentials.specs.Table.{row_of, with_row, signed_in, retired}
-use Rattle.credentials.proofs.RowLemmas.{found_id}
+use Rattle.credential_table.specs.Table.{row_of, with_row, signed_in, retired}
+use Rattle.credential_table.proofs.RowLemmas.{found_id}
 use Rattle.saved_table.specs.Saved.{TableOf}
 use Rattle.saved_table.proofs.Tables.{one_saved}
-use Rattle.sessions.specs.Sessions.{Expected, ForSignIn, Opening, OpensSignIn, OpensRegistration, begun, challenge_of, closed, expected_of, for_registration, for_sign_in, sign_in_at}
-use Rattle.site.specs.State.{State, IsAfterRegistration, IsAfterSignIn, attempt_in, enrolment_in, registered, saved_of}
+use Rattle.ceremony_sessions.specs.Sessions.{Expected, ForSignIn, Opening, OpensSignIn, OpensRegistration, begun, challenge_of, closed, expected_of}
+use Rattle.ceremony_sessions.specs.Sessions.{for_registration, for_sign_in, sign_in_at}
+use Rattle.site.specs.State.{SiteState, IsAfterRegistration, IsAfterSignIn, judged_sign_in, judged_registration, registered, saved_of}
 use Rattle.site.specs.Laws.{GoesOn, IsFresh, IsGone, IsNumbered, Keeps, SiteLaws, Takes, after_abandon, after_begin, after_restart, after_retire, challenge_in}
 use Rattle.site.proofs.Judged.{no_row, same_attempt}
 use Rattle.site.proofs.Kept.{KeptBy, kept_changed, kept_here, kept_onward, row_before, row_changed}
 
 -- ---- going on
 
-stays : (s : State) → GoesOn s s
+stays : (s : SiteState) → GoesOn s s
 stays s = record {
   rows = λ id row e. kept_here s.rows row (ap (λ x. row_of x s.rows) (found_id id s.rows row e) ∙ e);
   gone = λ n h. h;
   rp = refl;
 }
 
-onward : (s t u : State) → GoesOn s t → GoesOn t u → GoesOn s u
+onward : (s t u : SiteState) → GoesOn s t → GoesOn t u → GoesOn s u
 onward s t u a b = record {
   rows = λ id row e.
       let x = a.rows id row e in
@@ -48,52 +49,53 @@ onward s t u a b = record {
 
 -- ---- sessions
 
-gone_closed : (s : State) (rows : List Credential) (k n : ℕ) → IsGone s n → IsGone (record s { rows = rows; sessions = closed k s.sessions }) n
+gone_closed : (s : SiteState) (rows : List Credential) (k n : ℕ) → IsGone s n → IsGone (record s { rows = rows; sessions = closed k s.sessions }) n
 gone_closed s rows k n (lt, none) = (lt, grind (arith, gets, common_steps, none))
 
-gone_begun : (s : State) (o : Opening) (n : ℕ) → IsGone s n → IsGone (after_begin s o) n
+gone_begun : (s : SiteState) (o : Opening) (n : ℕ) → IsGone s n → IsGone (after_begin s o) n
 gone_begun s o n (lt, none) = (omega arith, grind (arith, gets, common_steps, none, lt))
 
-gone_restarted : (s : State) (n : ℕ) → IsGone s n → IsGone (after_restart s) n
+gone_restarted : (s : SiteState) (n : ℕ) → IsGone s n → IsGone (after_restart s) n
 gone_restarted s n (lt, none) = (lt, grind (arith, gets, common_steps))
 
-fresh_closed : (s : State) (rows : List Credential) (k : ℕ) → IsFresh s → IsFresh (record s { rows = rows; sessions = closed k s.sessions })
+fresh_closed : (s : SiteState) (rows : List Credential) (k : ℕ) → IsFresh s → IsFresh (record s { rows = rows; sessions = closed k s.sessions })
 fresh_closed s rows k fresh n is = grind (arith, gets, common_steps, fresh n, is)
 
-fresh_begun : (s : State) (o : Opening) → IsFresh s → IsFresh (after_begin s o)
+fresh_begun : (s : SiteState) (o : Opening) → IsFresh s → IsFresh (after_begin s o)
 fresh_begun s o fresh n is = grind (arith, gets, common_steps, fresh n, is)
 
-fresh_restarted : (s : State) → IsFresh (after_restart s)
+fresh_restarted : (s : SiteState) → IsFresh (after_restart s)
 fresh_restarted s n is = grind (arith, gets, common_steps, is)
 
-gone_now : (s : State) (rows : List Credential) (n : ℕ) → IsFresh s → IsSome (finite.get s.sessions.expected n) → IsGone (record s { rows = rows; sessions = closed n s.sessions }) n
+gone_now : (s : SiteState) (rows : List Credential) (n : ℕ) → IsFresh s → IsSome (finite.get s.sessions.expected n)
+    → IsGone (record s { rows = rows; sessions = closed n s.sessions }) n
 gone_now s rows n fresh is = (fresh n is, grind (arith, gets, common_steps))
 
 pub none_there : {X : Type 0} (o : Option X) → IsSome o → o ≡ None → ⊥
 none_there o is e = grind (arith, common_steps, is, e)
 
-empty_fresh : (s : State) → s.sessions.expected ≡ finite.empty → IsFresh s
+empty_fresh : (s : SiteState) → s.sessions.expected ≡ finite.empty → IsFresh s
 empty_fresh s e n is =
     let none : finite.get s.sessions.expected n ≡ None = rw e (grind (arith, gets, common_steps)) in
     absurd (none_there (finite.get s.sessions.expected n) is none)
 
 -- ---- challenges
 
-pub still : (s : State) (k n : ℕ) (e : Expected) → finite.get (closed k s.sessions).expected n ≡ Some e → finite.get s.sessions.expected n ≡ Some e
+pub still : (s : SiteState) (k n : ℕ) (e : Expected) → finite.get (closed k s.sessions).expected n ≡ Some e → finite.get s.sessions.expected n ≡ Some e
 still s k n e h = grind (arith, gets, common_steps, h)
 
-numbered_closed : (s : State) (rows : List Credential) (k : ℕ) → IsNumbered s → IsNumbered (record s { rows = rows; sessions = closed k s.sessions })
+numbered_closed : (s : SiteState) (rows : List Credential) (k : ℕ) → IsNumbered s → IsNumbered (record s { rows = rows; sessions = closed k s.sessions })
 numbered_closed s rows k f n e h = f n e (still s k n e h)
 
 new_challenge : (n : ℕ) (o : Opening) → (words : List ℕ) × (challenge_in (expected_of n o) ≡ challenge_of n words)
-new_challenge n (OpensSignIn user allow verified words) = (words, refl)
-new_challenge n (OpensRegistration user algorithms verified words) = (words, refl)
+new_challenge n (OpensSignIn user allow uv words) = (words, refl)
+new_challenge n (OpensRegistration user algorithms uv words) = (words, refl)
 
-pub begun_or : (s : State) (o : Opening) (n : ℕ) (e : Expected) → finite.get (begun s.sessions o).expected n ≡ Some e
+pub begun_or : (s : SiteState) (o : Opening) (n : ℕ) (e : Expected) → finite.get (begun s.sessions o).expected n ≡ Some e
     → ((n ≡ s.sessions.next) × (e ≡ expected_of s.sessions.next o)) ⊎ (finite.get s.sessions.expected n ≡ Some e)
 begun_or s o n e h = grind (arith, gets, common_steps, h)
 
-numbered_begun : (s : State) (o : Opening) → s.sessions.next < 2 ^ 64 - 1 → IsNumbered s → IsNumbered (after_begin s o)
+numbered_begun : (s : SiteState) (o : Opening) → s.sessions.next < 2 ^ 64 - 1 → IsNumbered s → IsNumbered (after_begin s o)
 numbered_begun s o lt f n e h = elim (begun_or s o n e h) [
   | inl (here, is) ↦
       let c = new_challenge s.sessions.next o in
@@ -101,8 +103,9 @@ numbered_begun s o lt f n e h = elim (begun_or s o n e h) [
   | inr old ↦ f n e old
 ]
 
-numbered_empty : (s : State) → s.sessions.expected ≡ finite.empty → IsNumbered s
-numbered_empty s e n x h = let none : finite.get s.sessions.expected n ≡ None = rw e (grind (arith, gets, common_steps)) in let bad : None ≡ Some x = sym none ∙ h in cc
+numbered_empty : (s : SiteState) → s.sessions.expected ≡ finite.empty → IsNumbered s
+numbered_empty s e n x h = let none : finite.get s.sessions.expected n ≡ None = rw e (grind (arith, gets, common_steps)) in let bad : None ≡ Some x = sym none
+    ∙ h in cc
 
 one_number : (n k : ℕ) (v w : List ℕ) → n < 2 ^ 64 → k < 2 ^ 64 → challenge_of n v ≡ challenge_of k w → (n ≡ k) × (v ≡ w)
 one_number n k v w ln lk e =
@@ -110,13 +113,13 @@ one_number n k v w ln lk e =
     let rest : v ≡ w = sym (drop_at (to_be_bytes w64 n) v 8 refl) ∙ ap (drop 8) e ∙ drop_at (to_be_bytes w64 k) w 8 refl in
     (sym (from_be_bytes-to_be_bytes_8 n ln) ∙ ap (from_be_bytes w64) front ∙ from_be_bytes-to_be_bytes_8 k lk, rest)
 
-is_open_by : (o : Option Expected) (e : SignIn) → for_sign_in o ≡ Some e → o ≡ Some (ForSignIn e)
+is_open_by : (o : Option Expected) (e : ExpectedSignIn) → for_sign_in o ≡ Some e → o ≡ Some (ForSignIn e)
 is_open_by o e h = grind (arith, common_steps, h)
 
 some_sign_in : (o : Option Expected) → IsSome (for_sign_in o) → IsSome o
 some_sign_in o h = grind (arith, common_steps, h)
 
-some_registration : (o : Option Expected) (e : Registration) → for_registration o ≡ Some e → IsSome o
+some_registration : (o : Option Expected) (e : ExpectedRegistration) → for_registration o ≡ Some e → IsSome o
 some_registration o e h = grind (arith, common_steps, h)
 
 -- ---- what happens
@@ -127,16 +130,16 @@ retire_keeps x = record { id = refl; key = refl; user = refl; sign_count = omega
 not_lower : (stored received : ℕ) → IsCounted stored received → stored ≤ received
 not_lower stored received = elim [ inl (x, y) ↦ omega arith | inr lt ↦ omega arith ]
 
-goes_closed : (s : State) (n : ℕ) → GoesOn s (after_abandon s n)
+goes_closed : (s : SiteState) (n : ℕ) → GoesOn s (after_abandon s n)
 goes_closed s n = record { rows = (stays s).rows; gone = λ k h. gone_closed s s.rows n k h; rp = refl }
 
-goes_begun : (s : State) (o : Opening) → GoesOn s (after_begin s o)
+goes_begun : (s : SiteState) (o : Opening) → GoesOn s (after_begin s o)
 goes_begun s o = record { rows = (stays s).rows; gone = λ n h. gone_begun s o n h; rp = refl }
 
-goes_restarted : (s : State) → GoesOn s (after_restart s)
+goes_restarted : (s : SiteState) → GoesOn s (after_restart s)
 goes_restarted s = record { rows = (stays s).rows; gone = λ n h. gone_restarted s n h; rp = refl }
 
-goes_retired : (s : State) (id : List ℕ) → GoesOn s (after_retire s id)
+goes_retired : (s : SiteState) (id : List ℕ) → GoesOn s (after_retire s id)
 goes_retired s id = record {
   rows = λ k row e. kept_changed id retired s.rows k row (λ x. refl) (λ x is. retire_keeps x) e;
   gone = λ n h. h;
@@ -144,7 +147,8 @@ goes_retired s id = record {
 }
 
 -- what a sign-in that passes stores keeps the credential
-sign_in_keeps : (valid : Relation) (s : State) (n : ℕ) (r : Assertion) (a : AuthenticatorData) → authentication.PassesAll valid (attempt_in s n r) → AuthOf a r.auth_data
+sign_in_keeps : (valid : Validity) (s : SiteState) (n : ℕ) (r : AuthenticatorAssertionResponse) (a : AuthenticatorData)
+    → authentication.PassesSignIn valid (judged_sign_in s n r) → AuthOf a r.auth_data
     → (x : Credential) → row_of r.credential s.rows ≡ Some x → KeptBy (signed_in a.sign_count (is_set a.flags BE)) x
 sign_in_keeps valid s n r a passes is x there = record {
   id = refl;
@@ -155,12 +159,16 @@ sign_in_keeps valid s n r a passes is x there = record {
   retired = λ e. e;
 }
 
-accepts : (s : State) (rows : List Credential) (n : ℕ) → IsFresh s → IsSome (finite.get s.sessions.expected n) → GoesOn s (record s { rows = rows; sessions = closed n s.sessions })
+accepts : (s : SiteState) (rows : List Credential) (n : ℕ) → IsFresh s → IsSome (finite.get s.sessions.expected n)
+    → GoesOn s (record s { rows = rows; sessions = closed n s.sessions })
     → Keeps s (record s { rows = rows; sessions = closed n s.sessions }) × Takes s (record s { rows = rows; sessions = closed n s.sessions }) n
-accepts s rows n fresh was goes =
-    (record { numbered = numbered_closed s rows n; fresh = fresh_closed s rows n fresh; goes_on = goes }, record { was_open = was; gone = gone_now s rows n fresh was })
+accepts s rows n fresh was goes = (
+  record { numbered = numbered_closed s rows n; fresh = fresh_closed s rows n fresh; goes_on = goes },
+  record { was_open = was; gone = gone_now s rows n fresh was },
+)
 
-signs_in : (valid : Relation) (s : State) (n : ℕ) (r : Assertion) (t : State) → IsFresh s → authentication.PassesAll valid (attempt_in s n r) → IsAfterSignIn s n r t → Keeps s t × Takes s t n
+signs_in : (valid : Validity) (s : SiteState) (n : ℕ) (r : AuthenticatorAssertionResponse) (t : SiteState) → IsFresh s
+    → authentication.PassesSignIn valid (judged_sign_in s n r) → IsAfterSignIn s n r t → Keeps s t × Takes s t n
 signs_in valid s n r t fresh passes (a, is_auth, after) =
     let change = signed_in a.sign_count (is_set a.flags BE) in
     let rows = with_row r.credential change s.rows in
@@ -172,7 +180,8 @@ signs_in valid s n r t fresh passes (a, is_auth, after) =
     } in
     subst (λ x. Keeps s x × Takes s x n) (sym after) (accepts s rows n fresh was goes)
 
-registers : (s : State) (n : ℕ) (r : responses.Registration) (t : State) → IsFresh s → IsAfterRegistration s n r t → Keeps s t × Takes s t n
+registers : (s : SiteState) (n : ℕ) (r : responses.AuthenticatorAttestationResponse) (t : SiteState) → IsFresh s → IsAfterRegistration s n r t → Keeps s t
+    × Takes s t n
 registers s n r t fresh (e, o, a, c, open_for, attests, after) =
     let rows = s.rows ++ registered e a c ∷ [] in
     let was : IsSome (finite.get s.sessions.expected n) = some_registration (finite.get s.sessions.expected n) e open_for in
@@ -183,34 +192,42 @@ registers s n r t fresh (e, o, a, c, open_for, attests, after) =
     } in
     subst (λ x. Keeps s x × Takes s x n) (sym after) (accepts s rows n fresh was goes)
 
-stores : (s : State) (n : ℕ) (r : Assertion) (t : State) (row : Credential) → IsAfterSignIn s n r t → row_of r.credential s.rows ≡ Some row
+stores : (s : SiteState) (n : ℕ) (r : AuthenticatorAssertionResponse) (t : SiteState) (row : Credential) → IsAfterSignIn s n r t
+    → row_of r.credential s.rows ≡ Some row
     → (a : AuthenticatorData) × AuthOf a r.auth_data × (row_of r.credential t.rows ≡ Some (signed_in a.sign_count (is_set a.flags BE) row))
-stores s n r t row (a, is_auth, after) found =
-    (a, is_auth, ap (λ x. row_of r.credential x.rows) after ∙ row_changed r.credential (signed_in a.sign_count (is_set a.flags BE)) s.rows row (λ x. refl) found)
+stores s n r t row (a, is_auth, after) found = (
+  a,
+  is_auth,
+  ap (λ x. row_of r.credential x.rows) after
+      ∙ row_changed r.credential (signed_in a.sign_count (is_set a.flags BE)) s.rows row (λ x. refl) found,
+)
 
-abbrev attempt_of_party : RelyingParty → State → ℕ → Assertion → authentication.Attempt
-attempt_of_party rp s n r = record (attempt_in s n r) { rp = rp }
+abbrev attempt_of_party : RelyingParty → SiteState → ℕ → AuthenticatorAssertionResponse → authentication.JudgedSignIn
+attempt_of_party rp s n r = record (judged_sign_in s n r) { rp = rp }
 
-judged : (s t : State) (n : ℕ) (r : Assertion) → t.rp ≡ s.rp → sign_in_at n t.sessions ≡ sign_in_at n s.sessions
-    → row_of r.credential t.rows ≡ row_of r.credential s.rows → attempt_in t n r ≡ attempt_in s n r
+judged : (s t : SiteState) (n : ℕ) (r : AuthenticatorAssertionResponse) → t.rp ≡ s.rp → sign_in_at n t.sessions ≡ sign_in_at n s.sessions
+    → row_of r.credential t.rows ≡ row_of r.credential s.rows → judged_sign_in t n r ≡ judged_sign_in s n r
 judged s t n r parties sessions rows =
     same_attempt t.rp r (sign_in_at n t.sessions) (sign_in_at n s.sessions) (row_of r.credential t.rows) (row_of r.credential s.rows) sessions rows
     ∙ ap (λ rp. attempt_of_party rp s n r) parties
 
-retired_refused : (valid : Relation) (s : State) (n : ℕ) (r : Assertion) (row : Credential) → row_of r.credential s.rows ≡ Some row → row.retired ≡ true
-    → authentication.PassesAll valid (attempt_in s n r) → ⊥
+retired_refused : (valid : Validity) (s : SiteState) (n : ℕ) (r : AuthenticatorAssertionResponse) (row : Credential) → row_of r.credential s.rows ≡ Some row
+    → row.retired ≡ true
+    → authentication.PassesSignIn valid (judged_sign_in s n r) → ⊥
 retired_refused valid s n r row there is passes = let no : row.retired ≡ false = (passes.1.1.0.1 row there).1 in absurd cc
 
-registered_refused : (valid : Relation) (s : State) (n : ℕ) (r : responses.Registration) → registration.PassesAll valid (enrolment_in s n r)
+registered_refused : (valid : Validity) (s : SiteState) (n : ℕ) (r : responses.AuthenticatorAttestationResponse)
+    → registration.PassesRegistration valid (judged_registration s n r)
     → registration.Attested r (λ o a c. row_of c.id s.rows ≡ None)
 registered_refused valid s n r passes o a c attests = no_row (row_of c.id s.rows) (passes.1.1.1.1.1.1.1.1.1.1.1.1.1.1.0 o a c attests)
 
-one_table : (s t : State) (v w : ℕ) (bs : List ℕ) → TableOf v (saved_of s) bs → TableOf w (saved_of t) bs → (t.rows ≡ s.rows) × (t.sessions.next ≡ s.sessions.next)
+one_table : (s t : SiteState) (v w : ℕ) (bs : List ℕ) → TableOf v (saved_of s) bs → TableOf w (saved_of t) bs → (t.rows ≡ s.rows)
+    × (t.sessions.next ≡ s.sessions.next)
 one_table s t v w bs a b =
     let same = (one_saved v w (saved_of s) (saved_of t) bs a b).1 in
     (ap (λ x. x.rows) (sym same), ap (λ x. x.next) (sym same))
 
-pub laws : (valid : Relation) → SiteLaws valid
+pub laws : (valid : Validity) → SiteLaws valid
 laws valid = record {
   stays = stays;
   onward = onward;

@@ -3,54 +3,60 @@ use Rattle.std.proofs.Common.{◌≡◌, ◌<◌, ◌≤◌, ◌↔◌, ℕ, Lis
 use Rattle.std.proofs.lemmas.Grind.{common_steps}
 use Rattle.std.proofs.lemmas.Bool.{cases_Bool}
 use Rattle.std.specs.Prelude.{Bool, true, false, not, Option, Some, None, IfSome, IsSome, IsTrue, is_some, option_map}
-use Rattle.first_line.specs.Lines.{Each, FirstFailing}
-use Rattle.first_line.proofs.Laws.{each_joined, first_along, first_behind}
+use Rattle.refusal_order.specs.Lines.{Each, FirstFailing}
+use Rattle.refusal_order.proofs.Laws.{each_joined, first_along, first_behind}
 use Rattle.authdata.specs.Layout.{AuthenticatorData, AttestedCredential, IsAttestedCredential, IsAuthenticatorData}
-use Rattle.authdata.specs.Responses.{Assertion}
+use Rattle.authdata.specs.Responses.{AuthenticatorAssertionResponse}
 use Rattle.authdata.specs.Responses as responses
 use Rattle.cose.specs.declared.key.CoseKey.{CoseKey}
-use Rattle.verification.specs.Records.{RelyingParty, Credential, SignIn, Registration}
-use Rattle.verification.specs.Shared.{Relation}
-use Rattle.verification.specs.Answers.{never}
-use Rattle.verification.specs.Authentication.{Attempt}
-use Rattle.verification.specs.Registration.{Enrolment, Passes, PassesAll, IsFirstFailing, response_steps, table_steps}
+use Rattle.verification.specs.Records.{RelyingParty, Credential, ExpectedSignIn, ExpectedRegistration}
+use Rattle.cose.specs.Schemes.{Validity}
+use Rattle.verification.specs.SignInAnswers.{never}
+use Rattle.verification.specs.SignIn.{JudgedSignIn}
+use Rattle.verification.specs.Registration.{JudgedRegistration, PassesRegistrationStep, PassesRegistration, IsFirstFailing, response_steps, table_steps}
 use Rattle.verification.specs.declared.party.Policy.{Policy}
 use Rattle.verification.specs.declared.refusal.RegistrationRefusal.{RegistrationRefusal}
-use Rattle.credentials.specs.Table.{IsWithin, row_of, signed_in, with_row}
-use Rattle.sessions.specs.Sessions.{Open}
-use Rattle.site.specs.State.{State}
+use Rattle.credential_table.specs.Table.{IsWithin, row_of, signed_in, with_row}
+use Rattle.ceremony_sessions.specs.Sessions.{OpenSessions}
+use Rattle.site.specs.State.{SiteState}
 
 -- ---- sign-in
 
-abbrev attempt_with : RelyingParty → Assertion → Option SignIn → Option Credential → Attempt
+abbrev attempt_with : RelyingParty → AuthenticatorAssertionResponse → Option ExpectedSignIn → Option Credential → JudgedSignIn
 attempt_with rp r session credential = record { rp = rp; session = session; credential = credential; response = r }
 
-pub same_attempt : (rp : RelyingParty) (r : Assertion) (s t : Option SignIn) (c d : Option Credential) → s ≡ t → c ≡ d → attempt_with rp r s c ≡ attempt_with rp r t d
+pub same_attempt : (rp : RelyingParty) (r : AuthenticatorAssertionResponse) (s t : Option ExpectedSignIn) (c d : Option Credential) → s ≡ t → c ≡ d
+    → attempt_with rp r s c ≡ attempt_with rp r t d
 same_attempt rp r s t c d sessions credentials =
     ap (λ x. attempt_with rp r x c) sessions ∙ ap (attempt_with rp r t) credentials
 
 -- ---- registration
 
-abbrev enrolment_with : RelyingParty → Policy → responses.Registration → (List ℕ → Bool) → Bool → Option Registration → Enrolment
-enrolment_with rp policy r is_registered is_full session =
+abbrev registration_with : RelyingParty → Policy → responses.AuthenticatorAttestationResponse → (List ℕ → Bool) → Bool → Option ExpectedRegistration
+    → JudgedRegistration
+registration_with rp policy r is_registered is_full session =
     record { rp = rp; policy = policy; session = session; response = r; is_registered = is_registered; is_full = is_full }
 
-pub same_enrolment : (rp : RelyingParty) (policy : Policy) (r : responses.Registration) (is_registered : List ℕ → Bool) (is_full : Bool) (s t : Option Registration) → s ≡ t
-    → enrolment_with rp policy r is_registered is_full s ≡ enrolment_with rp policy r is_registered is_full t
-same_enrolment rp policy r is_registered is_full s t sessions = ap (enrolment_with rp policy r is_registered is_full) sessions
+pub same_registration : (rp : RelyingParty) (policy : Policy) (r : responses.AuthenticatorAttestationResponse) (is_registered : List ℕ → Bool) (is_full : Bool)
+    (s t : Option ExpectedRegistration) → s ≡ t
+    → registration_with rp policy r is_registered is_full s ≡ registration_with rp policy r is_registered is_full t
+same_registration rp policy r is_registered is_full s t sessions = ap (registration_with rp policy r is_registered is_full) sessions
 
 -- the steps on the table do not look at signatures
-abbrev Same : Relation → Enrolment → RegistrationRefusal → Type 0
-Same valid x w = (Passes never x w → Passes valid x w) × ((Passes never x w → ⊥) → Passes valid x w → ⊥)
+abbrev Same : Validity → JudgedRegistration → RegistrationRefusal → Type 0
+Same valid x w = (PassesRegistrationStep never x w → PassesRegistrationStep valid x w)
+    × ((PassesRegistrationStep never x w → ⊥) → PassesRegistrationStep valid x w → ⊥)
 
-table_same : (valid : Relation) (x : Enrolment) → Each (Same valid x) table_steps
+table_same : (valid : Validity) (x : JudgedRegistration) → Each (Same valid x) table_steps
 table_same valid x = ((λ h. h, λ h. h), ((λ h. h, λ h. h), tt))
 
-pub table_fails : (valid : Relation) (x : Enrolment) (w : RegistrationRefusal) → Each (Passes valid x) response_steps → FirstFailing (Passes never x) table_steps w → IsFirstFailing valid x w
+pub table_fails : (valid : Validity) (x : JudgedRegistration) (w : RegistrationRefusal) → Each (PassesRegistrationStep valid x) response_steps
+    → FirstFailing (PassesRegistrationStep never x) table_steps w → IsFirstFailing valid x w
 table_fails valid x w passes first = first_behind response_steps passes (first_along (table_same valid x) first)
 
-pub all_pass : (valid : Relation) (x : Enrolment) → Each (Passes valid x) response_steps → Each (Passes never x) table_steps → PassesAll valid x
-all_pass valid x passes table = each_joined (Passes valid x) response_steps table_steps passes table
+pub all_pass : (valid : Validity) (x : JudgedRegistration) → Each (PassesRegistrationStep valid x) response_steps
+    → Each (PassesRegistrationStep never x) table_steps → PassesRegistration valid x
+all_pass valid x passes table = each_joined (PassesRegistrationStep valid x) response_steps table_steps passes table
 
 -- whether a row is there, as it is told
 pub said_row : (b : Bool) (o : Option Credential) → b ≡ false ↔ o ≡ None → is_some o ≡ b
@@ -86,27 +92,31 @@ some_seen f (Some x) is = refl
 pub attested_limits : (a : AuthenticatorData) (c : AttestedCredential) → IsAuthenticatorData a → a.attested ≡ Some c → IsWithin 64 c.id
 attested_limits a c is e = let l = subst (λ o. IfSome o IsAttestedCredential) e is.attested in (l.id_low, l.id_high)
 
-abbrev pub admitted_as : RelyingParty → Policy → responses.Registration → List Credential → Option Registration → Enrolment
-admitted_as rp policy r rows session = enrolment_with rp policy r (λ id. is_some (row_of id rows)) (is_full rows) session
+abbrev pub admitted_as : RelyingParty → Policy → responses.AuthenticatorAttestationResponse → List Credential → Option ExpectedRegistration → JudgedRegistration
+admitted_as rp policy r rows session = registration_with rp policy r (λ id. is_some (row_of id rows)) (is_full rows) session
 
 abbrev row_with : List ℕ → List ℕ → CoseKey → ℕ → Bool → Credential
 row_with id user key sign_count eligible = record { id = id; user = user; key = key; sign_count = sign_count; eligible = Some eligible; retired = false }
 
 -- the row that is pushed, by what is told of it
-pub same_row : {id i : List ℕ} {user u : List ℕ} {key k : CoseKey} {sign_count n : ℕ} {eligible b : Bool} → id ≡ i → user ≡ u → key ≡ k → sign_count ≡ n → eligible ≡ b
+pub same_row : {id i : List ℕ} {user u : List ℕ} {key k : CoseKey} {sign_count n : ℕ} {eligible b : Bool} → id ≡ i → user ≡ u → key ≡ k → sign_count ≡ n
+    → eligible ≡ b
     → row_with id user key sign_count eligible ≡ row_with i u k n b
 same_row {id} {i} {user} {u} {key} {k} {sign_count} {n} {eligible} {b} ids users keys counts marks =
-    ap (λ x. row_with x user key sign_count eligible) ids ∙ ap (λ x. row_with i x key sign_count eligible) users ∙ ap (λ x. row_with i u x sign_count eligible) keys
+    ap (λ x. row_with x user key sign_count eligible) ids ∙ ap (λ x. row_with i x key sign_count eligible) users
+    ∙ ap (λ x. row_with i u x sign_count eligible) keys
     ∙ ap (λ x. row_with i u k x eligible) counts ∙ ap (row_with i u k n) marks
 
 -- ---- the state afterwards
 
-abbrev state_of : RelyingParty → Policy → List Credential → Open → State
+abbrev state_of : RelyingParty → Policy → List Credential → OpenSessions → SiteState
 state_of rp policy rows sessions = record { rp = rp; policy = policy; rows = rows; sessions = sessions }
 
-pub same_state : (rp : RelyingParty) (policy : Policy) (x y : List Credential) (s t : Open) → x ≡ y → s ≡ t → state_of rp policy x s ≡ state_of rp policy y t
+pub same_state : (rp : RelyingParty) (policy : Policy) (x y : List Credential) (s t : OpenSessions) → x ≡ y → s ≡ t
+    → state_of rp policy x s ≡ state_of rp policy y t
 same_state rp policy x y s t rows sessions = ap (λ l. state_of rp policy l s) rows ∙ ap (state_of rp policy y) sessions
 
-pub same_change : (rows : List Credential) (id k : List ℕ) (m n : ℕ) (b d : Bool) → id ≡ k → m ≡ n → b ≡ d → with_row id (signed_in m b) rows ≡ with_row k (signed_in n d) rows
+pub same_change : (rows : List Credential) (id k : List ℕ) (m n : ℕ) (b d : Bool) → id ≡ k → m ≡ n → b ≡ d
+    → with_row id (signed_in m b) rows ≡ with_row k (signed_in n d) rows
 same_change rows id k m n b d ids counts marks =
     ap (λ x. with_row x (signed_in m b) rows) ids ∙ ap (λ x. with_row k (signed_in x b) rows) counts ∙ ap (λ x. with_row k (signed_in n x) rows) marks

@@ -4,8 +4,8 @@ use Rattle.std.proofs.lemmas.Bool.{cases_Bool}
 use Rattle.std.proofs.lemmas.Grind.{common_steps}
 use Rattle.std.specs.Str.{bytes_eq}
 use Rattle.verification.specs.Records.{Credential}
-use Rattle.credentials.specs.Table.{row_of, with_row}
-use Rattle.credentials.proofs.RowLemmas.{found_id, same_id}
+use Rattle.credential_table.specs.Table.{row_of, with_row}
+use Rattle.credential_table.proofs.RowLemmas.{found_id, same_id}
 use Rattle.std.specs.Cmp.Lexicographic.{bytes_decides}
 use Rattle.site.specs.Laws.{IsKept}
 
@@ -36,25 +36,29 @@ pub record KeptBy (change : Credential → Credential) (row : Credential) : Type
   pub eligible : (known : Bool) → row.eligible ≡ Some known → (change row).eligible ≡ Some known
   pub retired : row.retired ≡ true → (change row).retired ≡ true
 
-pub changed_kept : (rows : List Credential) (row : Credential) (change : Credential → Credential) → KeptBy change row → row_of row.id rows ≡ Some (change row) → IsKept row rows
+pub changed_kept : (rows : List Credential) (row : Credential) (change : Credential → Credential) → KeptBy change row → row_of row.id rows ≡ Some (change row)
+    → IsKept row rows
 changed_kept rows row change k e =
     record { now = change row; found = e; key = k.key; user = k.user; sign_count = k.sign_count; eligible = k.eligible; retired = k.retired }
 
 -- the row that was changed
-pub row_changed : (id : List ℕ) (change : Credential → Credential) (rows : List Credential) (row : Credential) → ((x : Credential) → (change x).id ≡ x.id) → row_of id rows ≡ Some row
+pub row_changed : (id : List ℕ) (change : Credential → Credential) (rows : List Credential) (row : Credential) → ((x : Credential) → (change x).id ≡ x.id)
+    → row_of id rows ≡ Some row
     → row_of id (with_row id change rows) ≡ Some (change row)
 row_changed id change [] row same e = absurd cc
 row_changed id change (r ∷ rs) row same e = grind (arith, common_steps, e, same r, row_changed id change rs row same)
 
 -- another row where one was changed
-row_beside : (id k : List ℕ) (change : Credential → Credential) (rows : List Credential) (row : Credential) → ((x : Credential) → (change x).id ≡ x.id) → row_of k rows ≡ Some row
+row_beside : (id k : List ℕ) (change : Credential → Credential) (rows : List Credential) (row : Credential) → ((x : Credential) → (change x).id ≡ x.id)
+    → row_of k rows ≡ Some row
     → bytes_eq id k ≡ false → row_of k (with_row id change rows) ≡ Some row
 row_beside id k change [] row same e other = absurd cc
 row_beside id k change (r ∷ rs) row same e other =
     grind (arith, common_steps, e, other, same r, same_id id r.id, same_id k r.id, bytes_decides, row_beside id k change rs row same)
 
 -- each row is kept where one is changed by a change that keeps it
-pub kept_changed : (id : List ℕ) (change : Credential → Credential) (rows : List Credential) (k : List ℕ) (row : Credential) → ((x : Credential) → (change x).id ≡ x.id)
+pub kept_changed : (id : List ℕ) (change : Credential → Credential) (rows : List Credential) (k : List ℕ) (row : Credential)
+    → ((x : Credential) → (change x).id ≡ x.id)
     → ((x : Credential) → row_of id rows ≡ Some x → KeptBy change x) → row_of k rows ≡ Some row → IsKept row (with_row id change rows)
 kept_changed id change rows k row same keeps e =
     let mine : row.id ≡ k = found_id k rows row e in
@@ -62,7 +66,8 @@ kept_changed id change rows k row same keeps e =
       | inl first ↦
           let ids : id ≡ k = same_id id k first in
           let there : row_of id rows ≡ Some row = rw ids e in
-          changed_kept (with_row id change rows) row change (keeps row there) (ap (λ x. row_of x (with_row id change rows)) (mine ∙ sym ids) ∙ row_changed id change rows row same there)
+          changed_kept (with_row id change rows) row change (keeps row there) (ap (λ x. row_of x (with_row id change rows)) (mine ∙ sym ids)
+          ∙ row_changed id change rows row same there)
       | inr apart ↦ kept_here (with_row id change rows) row (ap (λ x. row_of x (with_row id change rows)) mine ∙ row_beside id k change rows row same e apart)
     ]
 

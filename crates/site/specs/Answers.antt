@@ -4,23 +4,23 @@ use Rattle.std.specs.Option.{ForSome}
 use Rattle.authdata.specs.Flags.{is_set, BS}
 use Rattle.authdata.specs.Layout.{AuthenticatorData, AttestedCredential, AuthOf}
 use Rattle.authdata.specs.Objects.{Attestation}
-use Rattle.authdata.specs.Responses.{Assertion}
+use Rattle.authdata.specs.Responses.{AuthenticatorAssertionResponse}
 use Rattle.authdata.specs.Responses as responses
 use Rattle.verification.specs.Registration.{Attests}
-use Rattle.credentials.specs.Table.{row_of}
-use Rattle.site.specs.State.{State}
-use Rattle.site.specs.declared.sign_in.SignedIn.{SignedIn}
+use Rattle.credential_table.specs.Table.{row_of}
+use Rattle.site.specs.State.{SiteState}
+use Rattle.site.specs.declared.signing_in.SignedIn.{SignedIn}
 use Rattle.site.specs.declared.registration.Registered.{Registered}
 
 -- who signed in, with which credential, and whether it is backed up: the user is that of the credential, the mark
 -- is what came
-abbrev pub IsSignedIn : State → Assertion → SignedIn → Type 0
+abbrev pub IsSignedIn : SiteState → AuthenticatorAssertionResponse → SignedIn → Type 0
 IsSignedIn s r x =
     ForSome (row_of r.credential s.rows) (λ row. x.user.items ≡ row.user)
     × (x.credential.items ≡ r.credential)
     × ((a : AuthenticatorData) × AuthOf a r.auth_data × (x.backed_up ≡ is_set a.flags BS))
 
 -- the credential that the response attests
-abbrev pub IsRegistered : responses.Registration → Registered → Type 0
+abbrev pub IsRegistered : responses.AuthenticatorAttestationResponse → Registered → Type 0
 IsRegistered r x =
     (o : Attestation) × (a : AuthenticatorData) × (c : AttestedCredential) × Attests r o a c × (x.credential.items ≡ c.id)

@@ -6,12 +6,13 @@ use Rattle.cose.specs.contracts.key.CoseKey as key
 use Rattle.verification.specs.Records.{RelyingParty, Credential}
 use Rattle.verification.specs.declared.party.Policy.{Policy}
 use Rattle.verification.specs.contracts.party.Policy as policy
-use Rattle.sessions.specs.Sessions.{Open}
-use Rattle.sessions.specs.Codes.{Bytes, coded_bytes, open_code}
-use Rattle.site.specs.State.{State}
+use Rattle.ceremony_sessions.specs.Sessions.{OpenSessions}
+use Rattle.ceremony_sessions.specs.Codes.{Bytes, coded_bytes, open_code}
+use Rattle.site.specs.State.{SiteState}
 
 abbrev party_code : Coded RelyingParty
-party_code = code_by (Bytes × List Bytes) (coded× coded_bytes (coded_list coded_bytes)) (λ p. (p.rp_id, p.origins)) (λ p. record { rp_id = p.0; origins = p.1 }) (λ _. refl)
+party_code = code_by (Bytes × List Bytes) (coded× coded_bytes (coded_list coded_bytes)) (λ p. (p.rp_id, p.origins)) (λ p. record { rp_id = p.0; origins = p.1 })
+    (λ _. refl)
 
 abbrev credential_code : Coded Credential
 credential_code =
@@ -20,8 +21,8 @@ credential_code =
     (λ c. (c.id, (c.user, (c.key, (c.sign_count, (c.eligible, c.retired))))))
     (λ p. record { id = p.0; user = p.1.0; key = p.1.1.0; sign_count = p.1.1.1.0; eligible = p.1.1.1.1.0; retired = p.1.1.1.1.1 }) (λ _. refl)
 
-abbrev pub state_code : Coded State
+abbrev pub state_code : Coded SiteState
 state_code =
-    code_by (RelyingParty × (Policy × (List Credential × Open)))
+    code_by (RelyingParty × (Policy × (List Credential × OpenSessions)))
     (coded× party_code (coded× policy.the_row.coded (coded× (coded_list credential_code) open_code)))
     (λ s. (s.rp, (s.policy, (s.rows, s.sessions)))) (λ p. record { rp = p.0; policy = p.1.0; rows = p.1.1.0; sessions = p.1.1.1 }) (λ _. refl)

@@ -3,16 +3,16 @@ use Rattle.std.specs.Prelude.{◌≡◌, ◌<◌, ◌≤◌, ◌-◌, ◌^◌, �
 use Rattle.std.specs.FinMap as finite
 use Rattle.authdata.specs.Flags.{is_set, BE}
 use Rattle.authdata.specs.Layout.{AuthenticatorData, AuthOf}
-use Rattle.authdata.specs.Responses.{Assertion}
+use Rattle.authdata.specs.Responses.{AuthenticatorAssertionResponse}
 use Rattle.authdata.specs.Responses as responses
-use Rattle.verification.specs.Records.{Credential, SignIn}
-use Rattle.verification.specs.Shared.{Relation}
-use Rattle.verification.specs.Authentication as authentication
+use Rattle.verification.specs.Records.{Credential, ExpectedSignIn}
+use Rattle.cose.specs.Schemes.{Validity}
+use Rattle.verification.specs.SignIn as authentication
 use Rattle.verification.specs.Registration as registration
-use Rattle.credentials.specs.Table.{row_of, with_row, signed_in, retired}
+use Rattle.credential_table.specs.Table.{row_of, with_row, signed_in, retired}
 use Rattle.saved_table.specs.Saved.{TableOf}
-use Rattle.sessions.specs.Sessions.{Expected, ForSignIn, ForRegistration, Opening, begun, challenge_of, closed, sign_in_at}
-use Rattle.site.specs.State.{State, attempt_in, enrolment_in, IsAfterSignIn, IsAfterRegistration, none_open, saved_of}
+use Rattle.ceremony_sessions.specs.Sessions.{Expected, ForSignIn, ForRegistration, Opening, begun, challenge_of, closed, sign_in_at}
+use Rattle.site.specs.State.{SiteState, judged_sign_in, judged_registration, IsAfterSignIn, IsAfterRegistration, none_open, saved_of}
 
 -- the credential is still there: its key and its user are what they were, its counter has not fallen, what is known
 -- of its eligibility is known, and if it was retired it is
@@ -26,15 +26,15 @@ pub record IsKept (row : Credential) (rows : List Credential) : Type 0 where
   pub retired : row.retired ≡ true → now.retired ≡ true
 
 -- each open session has a number below the next
-abbrev pub IsFresh : State → Type 0
+abbrev pub IsFresh : SiteState → Type 0
 IsFresh s = (n : ℕ) → IsSome (finite.get s.sessions.expected n) → n < s.sessions.next
 
 -- a number that was given, and is closed
-abbrev pub IsGone : State → ℕ → Type 0
+abbrev pub IsGone : SiteState → ℕ → Type 0
 IsGone s n = (n < s.sessions.next) × (finite.get s.sessions.expected n ≡ None)
 
 -- no credential is lost, and no session comes again
-pub record GoesOn (s t : State) : Type 0 where
+pub record GoesOn (s t : SiteState) : Type 0 where
   pub rows : (id : List ℕ) (row : Credential) → row_of id s.rows ≡ Some row → IsKept row t.rows
   pub gone : (n : ℕ) → IsGone s n → IsGone t n
   pub rp : t.rp ≡ s.rp
@@ -44,61 +44,64 @@ challenge_in (ForSignIn e) = e.challenge
 challenge_in (ForRegistration e) = e.challenge
 
 -- each open session's challenge begins with its number
-abbrev pub IsNumbered : State → Type 0
+abbrev pub IsNumbered : SiteState → Type 0
 IsNumbered s = (n : ℕ) (e : Expected) → finite.get s.sessions.expected n ≡ Some e → (n < 2 ^ 64) × ((words : List ℕ) × (challenge_in e ≡ challenge_of n words))
 
-pub record Keeps (s t : State) : Type 0 where
+pub record Keeps (s t : SiteState) : Type 0 where
   pub numbered : IsNumbered s → IsNumbered t
   pub fresh : IsFresh t
   pub goes_on : GoesOn s t
 
 -- the session was open, and is gone
-pub record Takes (s t : State) (n : ℕ) : Type 0 where
+pub record Takes (s t : SiteState) (n : ℕ) : Type 0 where
   pub was_open : IsSome (finite.get s.sessions.expected n)
   pub gone : IsGone t n
 
 -- a session begins; one is abandoned; a credential is retired; the table is saved and loaded
-abbrev pub after_begin : State → Opening → State
+abbrev pub after_begin : SiteState → Opening → SiteState
 after_begin s o = record s { sessions = begun s.sessions o }
 
-abbrev pub after_abandon : State → ℕ → State
+abbrev pub after_abandon : SiteState → ℕ → SiteState
 after_abandon s n = record s { sessions = closed n s.sessions }
 
-abbrev pub after_retire : State → List ℕ → State
+abbrev pub after_retire : SiteState → List ℕ → SiteState
 after_retire s id = record s { rows = with_row id retired s.rows }
 
-abbrev pub after_restart : State → State
+abbrev pub after_restart : SiteState → SiteState
 after_restart s = record s { sessions = none_open s.sessions.next }
 
-pub record SiteLaws (valid : Relation) : Type 0 where
-  pub stays : (s : State) → GoesOn s s
-  pub onward : (s t u : State) → GoesOn s t → GoesOn t u → GoesOn s u
+pub record SiteLaws (valid : Validity) : Type 0 where
+  pub stays : (s : SiteState) → GoesOn s s
+  pub onward : (s t u : SiteState) → GoesOn s t → GoesOn t u → GoesOn s u
   -- a site begins without sessions
-  pub starts : (s : State) → s.sessions.expected ≡ finite.empty → IsFresh s × IsNumbered s
+  pub starts : (s : SiteState) → s.sessions.expected ≡ finite.empty → IsFresh s × IsNumbered s
   -- whatever happens to it, it keeps what it has
-  pub begins : (s : State) (o : Opening) → s.sessions.next < 2 ^ 64 - 1 → IsFresh s → Keeps s (after_begin s o)
-  pub abandons : (s : State) (n : ℕ) → IsFresh s → Keeps s (after_abandon s n)
-  pub retires : (s : State) (id : List ℕ) → IsFresh s → Keeps s (after_retire s id)
-  pub restarts : (s : State) → IsFresh s → Keeps s (after_restart s)
+  pub begins : (s : SiteState) (o : Opening) → s.sessions.next < 2 ^ 64 - 1 → IsFresh s → Keeps s (after_begin s o)
+  pub abandons : (s : SiteState) (n : ℕ) → IsFresh s → Keeps s (after_abandon s n)
+  pub retires : (s : SiteState) (id : List ℕ) → IsFresh s → Keeps s (after_retire s id)
+  pub restarts : (s : SiteState) → IsFresh s → Keeps s (after_restart s)
   -- an acceptance takes its session
-  pub signs_in : (s : State) (n : ℕ) (r : Assertion) (t : State) → IsFresh s
-      → authentication.PassesAll valid (attempt_in s n r) → IsAfterSignIn s n r t → Keeps s t × Takes s t n
-  pub registers : (s : State) (n : ℕ) (r : responses.Registration) (t : State) → IsFresh s
-      → registration.PassesAll valid (enrolment_in s n r) → IsAfterRegistration s n r t → Keeps s t × Takes s t n
+  pub signs_in : (s : SiteState) (n : ℕ) (r : AuthenticatorAssertionResponse) (t : SiteState) → IsFresh s
+      → authentication.PassesSignIn valid (judged_sign_in s n r) → IsAfterSignIn s n r t → Keeps s t × Takes s t n
+  pub registers : (s : SiteState) (n : ℕ) (r : responses.AuthenticatorAttestationResponse) (t : SiteState) → IsFresh s
+      → registration.PassesRegistration valid (judged_registration s n r) → IsAfterRegistration s n r t → Keeps s t × Takes s t n
   -- and stores the counter and the mark of eligibility that came
-  pub stores : (s : State) (n : ℕ) (r : Assertion) (t : State) (row : Credential) → IsAfterSignIn s n r t → row_of r.credential s.rows ≡ Some row
+  pub stores : (s : SiteState) (n : ℕ) (r : AuthenticatorAssertionResponse) (t : SiteState) (row : Credential) → IsAfterSignIn s n r t
+      → row_of r.credential s.rows ≡ Some row
       → (a : AuthenticatorData) × AuthOf a r.auth_data × (row_of r.credential t.rows ≡ Some (signed_in a.sign_count (is_set a.flags BE) row))
   -- two sessions have two challenges
   pub one_number : (n k : ℕ) (v w : List ℕ) → n < 2 ^ 64 → k < 2 ^ 64 → challenge_of n v ≡ challenge_of k w → (n ≡ k) × (v ≡ w)
-  pub is_open : (s : State) (n : ℕ) (e : SignIn) → sign_in_at n s.sessions ≡ Some e → finite.get s.sessions.expected n ≡ Some (ForSignIn e)
+  pub is_open : (s : SiteState) (n : ℕ) (e : ExpectedSignIn) → sign_in_at n s.sessions ≡ Some e → finite.get s.sessions.expected n ≡ Some (ForSignIn e)
   -- a sign-in is judged by the relying party, what its session expects, and its credential alone
-  pub judged : (s t : State) (n : ℕ) (r : Assertion) → t.rp ≡ s.rp → sign_in_at n t.sessions ≡ sign_in_at n s.sessions
-      → row_of r.credential t.rows ≡ row_of r.credential s.rows → attempt_in t n r ≡ attempt_in s n r
+  pub judged : (s t : SiteState) (n : ℕ) (r : AuthenticatorAssertionResponse) → t.rp ≡ s.rp → sign_in_at n t.sessions ≡ sign_in_at n s.sessions
+      → row_of r.credential t.rows ≡ row_of r.credential s.rows → judged_sign_in t n r ≡ judged_sign_in s n r
   -- no credential that is retired signs in, and no id that has a credential is registered
-  pub retired_refused : (s : State) (n : ℕ) (r : Assertion) (row : Credential) → row_of r.credential s.rows ≡ Some row → row.retired ≡ true
-      → authentication.PassesAll valid (attempt_in s n r) → ⊥
-  pub registered_refused : (s : State) (n : ℕ) (r : responses.Registration) → registration.PassesAll valid (enrolment_in s n r)
+  pub retired_refused : (s : SiteState) (n : ℕ) (r : AuthenticatorAssertionResponse) (row : Credential) → row_of r.credential s.rows ≡ Some row
+      → row.retired ≡ true
+      → authentication.PassesSignIn valid (judged_sign_in s n r) → ⊥
+  pub registered_refused : (s : SiteState) (n : ℕ) (r : responses.AuthenticatorAttestationResponse)
+      → registration.PassesRegistration valid (judged_registration s n r)
       → registration.Attested r (λ o a c. row_of c.id s.rows ≡ None)
   -- what was saved is loaded: the same bytes are those of one table and one next number
-  pub one_saved : (s t : State) (v w : ℕ) (bytes : List ℕ) → TableOf v (saved_of s) bytes → TableOf w (saved_of t) bytes
+  pub one_saved : (s t : SiteState) (v w : ℕ) (bytes : List ℕ) → TableOf v (saved_of s) bytes → TableOf w (saved_of t) bytes
       → (t.rows ≡ s.rows) × (t.sessions.next ≡ s.sessions.next)

@@ -4,44 +4,44 @@ use Rattle.std.specs.FinMap as finite
 use Rattle.authdata.specs.Flags.{is_set, BE}
 use Rattle.authdata.specs.Layout.{AuthenticatorData, AttestedCredential, AuthOf}
 use Rattle.authdata.specs.Objects.{Attestation}
-use Rattle.authdata.specs.Responses.{Assertion}
+use Rattle.authdata.specs.Responses.{AuthenticatorAssertionResponse}
 use Rattle.authdata.specs.Responses as responses
-use Rattle.verification.specs.Records.{RelyingParty, Credential, Registration}
-use Rattle.verification.specs.Authentication.{Attempt}
-use Rattle.verification.specs.Registration.{Enrolment, Attests}
+use Rattle.verification.specs.Records.{RelyingParty, Credential, ExpectedRegistration}
+use Rattle.verification.specs.SignIn.{JudgedSignIn}
+use Rattle.verification.specs.Registration.{JudgedRegistration, Attests}
 use Rattle.verification.specs.declared.party.Policy.{Policy}
-use Rattle.credentials.specs.Table.{row_of, with_row, signed_in, IsWithin}
+use Rattle.credential_table.specs.Table.{row_of, with_row, signed_in, IsWithin}
 use Rattle.saved_table.specs.Saved.{Saved}
-use Rattle.sessions.specs.Sessions.{Open, closed, registration_at, sign_in_at}
+use Rattle.ceremony_sessions.specs.Sessions.{OpenSessions, closed, registration_at, sign_in_at}
 
 -- the relying party; the attestations that it accepts; its credentials in order of registration; its sessions
-pub record State : Type 0 where
+pub record SiteState : Type 0 where
   pub rp : RelyingParty
   pub policy : Policy
   pub rows : List Credential
-  pub sessions : Open
+  pub sessions : OpenSessions
 
 -- an rp id of 1 to 253 bytes, and at least one origin
 abbrev pub IsParty : RelyingParty → Type 0
 IsParty rp = IsWithin 253 rp.rp_id × (1 ≤ length rp.origins)
 
 -- no session is open
-abbrev pub none_open : ℕ → Open
+abbrev pub none_open : ℕ → OpenSessions
 none_open next = record { expected = finite.empty; next = next }
 
 -- what is kept over a restart
-abbrev pub saved_of : State → Saved
+abbrev pub saved_of : SiteState → Saved
 saved_of s = record { rp_id = s.rp.rp_id; next = s.sessions.next; rows = s.rows }
 
 -- ---- sign-in
 
 -- a response as it is judged in a session
-abbrev pub attempt_in : State → ℕ → Assertion → Attempt
-attempt_in s n r = record { rp = s.rp; session = sign_in_at n s.sessions; credential = row_of r.credential s.rows; response = r }
+abbrev pub judged_sign_in : SiteState → ℕ → AuthenticatorAssertionResponse → JudgedSignIn
+judged_sign_in s n r = record { rp = s.rp; session = sign_in_at n s.sessions; credential = row_of r.credential s.rows; response = r }
 
 -- after a sign-in is accepted: the credential has the signature counter and the mark of eligibility that came, and
 -- the session is closed
-abbrev pub IsAfterSignIn : State → ℕ → Assertion → State → Type 0
+abbrev pub IsAfterSignIn : SiteState → ℕ → AuthenticatorAssertionResponse → SiteState → Type 0
 IsAfterSignIn s n r new =
     (a : AuthenticatorData) × AuthOf a r.auth_data
     × (new ≡ record s { rows = with_row r.credential (signed_in a.sign_count (is_set a.flags BE)) s.rows; sessions = closed n s.sessions })
@@ -49,8 +49,8 @@ IsAfterSignIn s n r new =
 -- ---- registration
 
 -- a response as it is judged in a session
-abbrev pub enrolment_in : State → ℕ → responses.Registration → Enrolment
-enrolment_in s n r = record {
+abbrev pub judged_registration : SiteState → ℕ → responses.AuthenticatorAttestationResponse → JudgedRegistration
+judged_registration s n r = record {
   rp = s.rp;
   policy = s.policy;
   session = registration_at n s.sessions;
@@ -60,7 +60,7 @@ enrolment_in s n r = record {
 }
 
 -- the credential that is registered: with the session's user, and the counter and the mark of eligibility that came
-abbrev pub registered : Registration → AuthenticatorData → AttestedCredential → Credential
+abbrev pub registered : ExpectedRegistration → AuthenticatorData → AttestedCredential → Credential
 registered e a c = record {
   id = c.id;
   user = e.user;
@@ -71,8 +71,8 @@ registered e a c = record {
 }
 
 -- after a registration is accepted: the credential stands last, and the session is closed
-abbrev pub IsAfterRegistration : State → ℕ → responses.Registration → State → Type 0
+abbrev pub IsAfterRegistration : SiteState → ℕ → responses.AuthenticatorAttestationResponse → SiteState → Type 0
 IsAfterRegistration s n r new =
-    (e : Registration) × (o : Attestation) × (a : AuthenticatorData) × (c : AttestedCredential)
+    (e : ExpectedRegistration) × (o : Attestation) × (a : AuthenticatorData) × (c : AttestedCredential)
     × (registration_at n s.sessions ≡ Some e) × Attests r o a c
     × (new ≡ record s { rows = s.rows ++ registered e a c ∷ []; sessions = closed n s.sessions })

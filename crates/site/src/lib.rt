@@ -4,17 +4,17 @@
 mod error;
 mod law;
 mod registration;
-mod sign_in;
+mod signing_in;
 mod site;
 
-pub use credentials::{Row, Rows, Table};
+pub use ceremony_sessions::{Error as BeginError, Started};
+pub use credential_table::{Row, Rows, Table};
 pub use error::Error;
 pub use law::site_laws;
 pub use registration::Registered;
-pub use sessions::{Error as BeginError, Started};
-pub use sign_in::SignedIn;
+pub use signing_in::SignedIn;
 pub use site::{MAX_RP_ID, Site};
 pub use verification::{
-    AssertionParts, CredentialView, Policy, RegistrationError, RegistrationParts,
-    RegistrationRefusal, SignInError, SignInRefusal,
+    AssertionParts, Policy, RegistrationError, RegistrationParts, RegistrationRefusal, RowView,
+    SignInError, SignInRefusal,
 };

@@ -1,17 +1,17 @@
 //! Finishing a registration (WebAuthn Level 2, section 7.1).
 
 ghost use Rattle.std.specs.Prelude.{◌≡◌, IfErr, IfOk, OnErr, OnOk};
-ghost use Rattle.authdata.specs.Responses.{registration_view};
-ghost use Rattle.verification.specs.Registration.{PassesAll};
+ghost use Rattle.authdata.specs.Responses.{registration_response_view};
+ghost use Rattle.verification.specs.Registration.{PassesRegistration};
 ghost use Rattle.verification.specs.RegistrationAnswers.{IsRefused};
 ghost use Rattle.verification.specs.Views.{registration_parts_view};
 ghost use Rattle.site.specs.Answers.{IsRegistered};
-ghost use Rattle.site.specs.State.{IsAfterRegistration, enrolment_in};
+ghost use Rattle.site.specs.State.{IsAfterRegistration, judged_registration};
 
 use crate::site::Site;
 use authdata::RegistrationResponse;
 use cose::Verifier;
-use credentials::Row;
+use credential_table::Row;
 use verification::{
     RegistrationAttempt, RegistrationError, RegistrationParts, verify_registration,
 };
@@ -25,7 +25,7 @@ pub struct Registered {
 
 /// The members of a response that is owned.
 fn parts(response: &RegistrationResponse) -> RegistrationParts<'_>
-    ensures { registration_parts_view result ≡ registration_view response.now }
+    ensures { registration_parts_view result ≡ registration_response_view response.now }
 {
     RegistrationParts {
         object: &response.object,
@@ -46,10 +46,11 @@ impl Site {
         response: &RegistrationParts<'_>,
     ) -> Result<Registered, RegistrationError>
         // It is accepted only if it passes each step,
-        ensures accepted { IfOk result (λ x. PassesAll (V.valid verifier.now) (enrolment_in self.old session (registration_parts_view response.now))
+        ensures accepted { IfOk result (λ x. PassesRegistration (V.valid verifier.now)
+            (judged_registration self.old session (registration_parts_view response.now))
             × IsRegistered (registration_parts_view response.now) x) }
         // and refused at the first step that it does not pass.
-        ensures refused { IfErr result (IsRefused (V.valid verifier.now) (enrolment_in self.old session (registration_parts_view response.now))) }
+        ensures refused { IfErr result (IsRefused (V.valid verifier.now) (judged_registration self.old session (registration_parts_view response.now))) }
         ensures after { OnOk result (IsAfterRegistration self.old session (registration_parts_view response.now) self.new) }
         ensures unchanged { OnErr result (self.new ≡ self.old) }
     {
@@ -88,10 +89,11 @@ impl Site {
         session: u64,
         response: &RegistrationResponse,
     ) -> Result<Registered, RegistrationError>
-        ensures accepted { IfOk result (λ x. PassesAll (V.valid verifier.now) (enrolment_in self.old session (registration_view response.now))
-            × IsRegistered (registration_view response.now) x) }
-        ensures refused { IfErr result (IsRefused (V.valid verifier.now) (enrolment_in self.old session (registration_view response.now))) }
-        ensures after { OnOk result (IsAfterRegistration self.old session (registration_view response.now) self.new) }
+        ensures accepted { IfOk result (λ x. PassesRegistration (V.valid verifier.now)
+            (judged_registration self.old session (registration_response_view response.now))
+            × IsRegistered (registration_response_view response.now) x) }
+        ensures refused { IfErr result (IsRefused (V.valid verifier.now) (judged_registration self.old session (registration_response_view response.now))) }
+        ensures after { OnOk result (IsAfterRegistration self.old session (registration_response_view response.now) self.new) }
         ensures unchanged { OnErr result (self.new ≡ self.old) }
     {
         self.finish_registration_parts(verifier, session, &parts(response))

@@ -1,24 +1,25 @@
 //! The site.
 
-ghost use Rattle.std.specs.Prelude.{◌≡◌, ◌≢◌, ◌↔◌, ◌≤◌, ◌<◌, [], IfErr, IfOk, IfSome, IsErrOf, IsSome, IsTrue, OnErr, OnOk, ℕ, false, is_some, length, map, option_map, true};
+ghost use Rattle.std.specs.Prelude.{◌≡◌, ◌≢◌, ◌↔◌, ◌≤◌, ◌<◌, [], IfErr, IfOk, IfSome, IsErrOf, IsSome, IsTrue, OnErr, OnOk, ℕ, false, is_some};
+ghost use Rattle.std.specs.Prelude.{length, map, option_map, true};
 ghost use Rattle.std.specs.FinMap as finite;
 ghost use Rattle.std.specs.Option.{ForSome};
 ghost use Rattle.verification.specs.Views.{credential_view, texts_of};
-ghost use Rattle.credentials.specs.Table.{IsTable, retired, row_of, with_row};
-ghost use Rattle.credentials.specs.Views.{rows_view, kept_view};
-ghost use Rattle.sessions.specs.Sessions.{IsRefused, OpensRegistration, OpensSignIn, PassesAll, begun, challenge_of, closed};
+ghost use Rattle.credential_table.specs.Table.{IsTable, retired, row_of, with_row};
+ghost use Rattle.credential_table.specs.Views.{rows_view, stored_row_view};
+ghost use Rattle.ceremony_sessions.specs.Sessions.{IsRefused, OpensRegistration, OpensSignIn, PassesOpening, begun, challenge_of, closed};
 ghost use Rattle.saved_table.specs.Saved.{AppendsTable, Saved, TableOf};
 ghost use Rattle.site.specs.State.{IsParty, none_open, saved_of};
 ghost use Rattle.site.specs.declared.error.Error.TheVariants as errors;
 
 use crate::error::Error;
+use ceremony_sessions::{Sessions, Started};
 use cose::Alg;
-use credentials::{Row, Rows, Table, is_within};
+use credential_table::{Row, Rows, Table, is_within};
 use saved_table::{Loaded, save};
-use sessions::{Sessions, Started};
 use std::alloc::{AllocError, Global};
 use std::marker::Model;
-use verification::{CredentialView, Policy, RelyingParty};
+use verification::{Policy, RelyingParty, RowView};
 
 /// The most bytes of an rp id.
 pub const MAX_RP_ID: usize = 253;
@@ -36,10 +37,10 @@ pub struct Site {
 
 impl Model for Site {
     ghost use Rattle.std.specs.Prelude.{◌≤◌};
-    ghost use Rattle.site.specs.State.{State, IsParty};
+    ghost use Rattle.site.specs.State.{SiteState, IsParty};
     ghost use Rattle.site.specs.Codes.{state_code};
 
-    ghost Value = { State };
+    ghost Value = { SiteState };
 
     ghost coded = { state_code };
 
@@ -66,7 +67,13 @@ fn site_with(
 ) -> Result<Site, AllocError>
     requires party { IsParty (record { rp_id = rp_id.now; origins = texts_of origins.now }) }
     requires next { 1 ≤ next }
-    ensures { IfOk result (λ s. s ≡ record { rp = record { rp_id = rp_id.now; origins = texts_of origins.now }; policy = policy; rows = table; sessions = none_open next }) }
+    ensures { IfOk result (λ s. s ≡ record {
+      rp = record { rp_id = rp_id.now; origins = texts_of origins.now };
+      policy = policy;
+      rows = table;
+      sessions =
+          none_open next;
+    }) }
 {
     Ok(Site {
         alloc,
@@ -83,7 +90,8 @@ impl Site {
     /// `BadInput` where the rp id is not of 1 to 253 bytes or there is no origin; `Memory` where there was none for
     /// the copies of the texts. An origin is compared as a text.
     pub fn new(alloc: Global, rp_id: &str, origins: &[&str], policy: Policy) -> Result<Site, Error>
-        ensures made { IfOk result (λ s. s ≡ record { rp = record { rp_id = rp_id.now; origins = texts_of origins.now }; policy = policy; rows = []; sessions = none_open 1 }) }
+        ensures made { IfOk result (λ s. s
+            ≡ record { rp = record { rp_id = rp_id.now; origins = texts_of origins.now }; policy = policy; rows = []; sessions = none_open 1 }) }
         ensures input { IsErrOf result Error.BadInput ↔ ¬ IsParty (record { rp_id = rp_id.now; origins = texts_of origins.now }) }
         ensures no_table { IfErr result (λ e. e ≢ errors.BadTable) }
     {
@@ -100,7 +108,8 @@ impl Site {
         policy: Policy,
         table: Table,
     ) -> Result<Site, Error>
-        ensures made { IfOk result (λ s. s ≡ record { rp = record { rp_id = rp_id.now; origins = texts_of origins.now }; policy = policy; rows = table; sessions = none_open 1 }) }
+        ensures made { IfOk result (λ s. s
+            ≡ record { rp = record { rp_id = rp_id.now; origins = texts_of origins.now }; policy = policy; rows = table; sessions = none_open 1 }) }
         ensures input { IsErrOf result Error.BadInput ↔ ¬ IsParty (record { rp_id = rp_id.now; origins = texts_of origins.now }) }
         ensures no_table { IfErr result (λ e. e ≢ errors.BadTable) }
     {
@@ -121,7 +130,14 @@ impl Site {
         policy: Policy,
         rows: Vec<Row>,
     ) -> Result<Site, Error>
-        ensures made { IfOk result (λ s. s ≡ record { rp = record { rp_id = rp_id.now; origins = texts_of origins.now }; policy = policy; rows = rows_view rows.items; sessions = none_open 1 }) }
+        ensures made { IfOk result (λ s. s
+            ≡ record {
+              rp = record { rp_id = rp_id.now; origins = texts_of origins.now };
+              policy = policy;
+              rows = rows_view rows.items;
+              sessions =
+                  none_open 1;
+            }) }
         ensures input { IsErrOf result Error.BadInput ↔ ¬ IsParty (record { rp_id = rp_id.now; origins = texts_of origins.now }) }
         ensures table { IsErrOf result Error.BadTable → IsTable (rows_view rows.items) → ⊥ }
     {
@@ -130,8 +146,8 @@ impl Site {
         }
         match Table::from_rows(alloc, rows) {
             Ok(table) => Ok(site_with(alloc, rp_id, origins, policy, table, 1)?),
-            Err(credentials::Error::BadTable) => Err(Error::BadTable),
-            Err(credentials::Error::Memory) => Err(Error::Memory),
+            Err(credential_table::Error::BadTable) => Err(Error::BadTable),
+            Err(credential_table::Error::Memory) => Err(Error::Memory),
         }
     }
 
@@ -148,7 +164,13 @@ impl Site {
         policy: Policy,
     ) -> Result<Site, Error>
         ensures loaded { IfOk result (λ s. ((version : ℕ) × TableOf version (saved_of s) bytes.now)
-            × (s ≡ record { rp = record { rp_id = rp_id.now; origins = texts_of origins.now }; policy = policy; rows = s.rows; sessions = none_open s.sessions.next })) }
+            × (s ≡ record {
+              rp = record { rp_id = rp_id.now; origins = texts_of origins.now };
+              policy = policy;
+              rows = s.rows;
+              sessions =
+                  none_open s.sessions.next;
+            })) }
         ensures input { IsErrOf result Error.BadInput ↔ ¬ IsParty (record { rp_id = rp_id.now; origins = texts_of origins.now }) }
         ensures table { IsErrOf result Error.BadTable → (version : ℕ) (saved : Saved) → saved.rp_id ≡ rp_id.now → TableOf version saved bytes.now → ⊥ }
     {
@@ -184,16 +206,19 @@ impl Site {
         &mut self,
         user: Option<&[u8]>,
         allow: &[&[u8]],
-        verified: bool,
+        uv: bool,
         words: [u8; 24],
-    ) -> Result<Started, sessions::Error>
-        ensures passes { OnOk result (PassesAll self.old.sessions (OpensSignIn (option_map (λ u. u.now) user.entry) (map (λ id. id.now) allow.now) verified words)) }
+    ) -> Result<Started, ceremony_sessions::Error>
+        ensures passes { OnOk result (PassesOpening self.old.sessions
+            (OpensSignIn (option_map (λ u. u.now) user.entry) (map (λ id. id.now) allow.now) uv words)) }
         ensures started { IfOk result (λ s. (s.session ≡ self.old.sessions.next) × (s.challenge ≡ challenge_of self.old.sessions.next words)) }
-        ensures begun { OnOk result (self.new ≡ record self.old { sessions = begun self.old.sessions (OpensSignIn (option_map (λ u. u.now) user.entry) (map (λ id. id.now) allow.now) verified words) }) }
-        ensures refused { IfErr result (IsRefused self.old.sessions (OpensSignIn (option_map (λ u. u.now) user.entry) (map (λ id. id.now) allow.now) verified words)) }
+        ensures begun { OnOk result (self.new ≡ record self.old
+            { sessions = begun self.old.sessions (OpensSignIn (option_map (λ u. u.now) user.entry) (map (λ id. id.now) allow.now) uv words) }) }
+        ensures refused { IfErr result (IsRefused self.old.sessions
+            (OpensSignIn (option_map (λ u. u.now) user.entry) (map (λ id. id.now) allow.now) uv words)) }
         ensures unchanged { OnErr result (self.new ≡ self.old) }
     {
-        self.sessions.begin_sign_in(user, allow, verified, words)
+        self.sessions.begin_sign_in(user, allow, uv, words)
     }
 
     /// Begins a registration for the account with this user handle, with these algorithms offered, and with the user
@@ -204,17 +229,17 @@ impl Site {
         &mut self,
         user: &[u8],
         algorithms: &[Alg],
-        verified: bool,
+        uv: bool,
         words: [u8; 24],
-    ) -> Result<Started, sessions::Error>
-        ensures passes { OnOk result (PassesAll self.old.sessions (OpensRegistration user.now algorithms.now verified words)) }
+    ) -> Result<Started, ceremony_sessions::Error>
+        ensures passes { OnOk result (PassesOpening self.old.sessions (OpensRegistration user.now algorithms.now uv words)) }
         ensures started { IfOk result (λ s. (s.session ≡ self.old.sessions.next) × (s.challenge ≡ challenge_of self.old.sessions.next words)) }
-        ensures begun { OnOk result (self.new ≡ record self.old { sessions = begun self.old.sessions (OpensRegistration user.now algorithms.now verified words) }) }
-        ensures refused { IfErr result (IsRefused self.old.sessions (OpensRegistration user.now algorithms.now verified words)) }
+        ensures begun { OnOk result (self.new ≡ record self.old { sessions = begun self.old.sessions (OpensRegistration user.now algorithms.now uv words) }) }
+        ensures refused { IfErr result (IsRefused self.old.sessions (OpensRegistration user.now algorithms.now uv words)) }
         ensures unchanged { OnErr result (self.new ≡ self.old) }
     {
         self.sessions
-            .begin_registration(user, algorithms, verified, words)
+            .begin_registration(user, algorithms, uv, words)
     }
 
     /// Closes a session: true exactly where it was open. It takes no memory.
@@ -236,7 +261,7 @@ impl Site {
     }
 
     /// The credential of an id, retired or not. It takes no memory.
-    pub fn row(&self, id: &[u8]) -> Option<CredentialView<'_>>
+    pub fn row(&self, id: &[u8]) -> Option<RowView<'_>>
         ensures { option_map credential_view result ≡ row_of id.now self.now.rows }
     {
         self.table.row(id)
@@ -244,7 +269,7 @@ impl Site {
 
     /// The credentials in order of registration. It takes no memory.
     pub fn rows(&self) -> Rows<'_>
-        ensures { map (λ e. kept_view e.0.items e.1) result.0 ≡ self.now.rows }
+        ensures { map (λ e. stored_row_view e.0.items e.1) result.0 ≡ self.now.rows }
     {
         self.table.rows()
     }

@@ -10,7 +10,7 @@ use crate::values::{bytes_if_there, bytes_of, is_set, list_of, number, value};
 use authdata::RegistrationResponse;
 use cose::{Alg, BenchScheme, Signer};
 use site::{
-    AssertionParts, BeginError, CredentialView, Error, Registered, RegistrationError, SignInError,
+    AssertionParts, BeginError, Error, Registered, RegistrationError, RowView, SignInError,
     SignedIn, Site, Started,
 };
 use std::alloc::{AllocError, Global};
@@ -188,7 +188,7 @@ fn finished(
 }
 
 /// Whether a credential is stored so, of this user.
-fn is_row(row: &CredentialView<'_>, user: &[u8], act: &str) -> bool {
+fn is_row(row: &RowView<'_>, user: &[u8], act: &str) -> bool {
     let eligible = match row.eligible {
         None => "-",
         Some(false) => "0",
@@ -275,7 +275,7 @@ fn answer(alloc: Global, site: &mut Site, act: &str) -> Result<u64, AllocError> 
         "all-sign-ins" => begin_all(alloc, site, act),
         "register" => begin_registration(alloc, site, act),
         "answer" => finished(alloc, site, act, true),
-        "enrol" => finished(alloc, site, act, false),
+        "attest" => finished(alloc, site, act, false),
         "abandon" => Ok(u64::from(site.abandon(number(act, "session", 1)))),
         "row" => Ok(u64::from(is_stored(alloc, site, act)?)),
         "rows" => Ok(count(site)),

@@ -1,7 +1,7 @@
 //! The table of credentials, by public calls only.
 
 use cose::CoseKey;
-use credentials::{Error, Row, Table};
+use credential_table::{Error, Row, Table};
 use std::alloc::{AllocError, Global};
 use std::test::Fail;
 

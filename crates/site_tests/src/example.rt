@@ -1,11 +1,11 @@
 //! A registration, a sign-in and a restart of a site, whose page hands on what a client answers over a security key.
 
 use crate::honest::{Manner, ORIGIN, POLICY, RP_ID, USER, assertion, creation, restart};
-use crate::key::Key;
+use crate::security_key::SecurityKey;
 use authdata::{AssertionResponse, AttestationType, RegistrationResponse};
 use client::{Outgoing, assertion_response, creation_response};
 use cose::{Alg, BenchScheme};
-use ctapmsg::{Kind, Reply, read_creation, read_reply};
+use ctap_replies::{Kind, Reply, read_creation, read_reply};
 use hidlink::{Collector, Received, receive};
 use site::Site;
 use std::alloc::Global;
@@ -14,7 +14,7 @@ use std::test::Fail;
 const MANNER: Manner = (Alg::EdDsa, AttestationType::None, true);
 
 /// The message by which the key answers a client's request.
-fn answered(alloc: Global, key: &mut Key, request: &Outgoing) -> Option<Vec<u8>> {
+fn answered(alloc: Global, key: &mut SecurityKey, request: &Outgoing) -> Option<Vec<u8>> {
     let mut collector = Collector::new(alloc, key.channel).ok()?;
     let packets = key.answer(alloc, &request.packets)?;
     let Received::Message { message, .. } = receive(&mut collector, &packets) else {
@@ -24,7 +24,7 @@ fn answered(alloc: Global, key: &mut Key, request: &Outgoing) -> Option<Vec<u8>>
 }
 
 /// A client's answer to the challenge of a registration.
-fn creates(alloc: Global, key: &mut Key, challenge: &[u8]) -> Option<RegistrationResponse> {
+fn creates(alloc: Global, key: &mut SecurityKey, challenge: &[u8]) -> Option<RegistrationResponse> {
     let request = creation(alloc, &MANNER, challenge, key.channel)?;
     let message = answered(alloc, key, &request)?;
     let reply = read_creation(alloc, &message).ok()?;
@@ -32,7 +32,7 @@ fn creates(alloc: Global, key: &mut Key, challenge: &[u8]) -> Option<Registratio
 }
 
 /// A client's answer to the challenge of a sign-in.
-fn asserts(alloc: Global, key: &mut Key, challenge: &[u8]) -> Option<AssertionResponse> {
+fn asserts(alloc: Global, key: &mut SecurityKey, challenge: &[u8]) -> Option<AssertionResponse> {
     let request = assertion(alloc, challenge, &[], key.channel)?;
     let message = answered(alloc, key, &request)?;
     match read_reply(alloc, Kind::GetAssertion, &message).ok()? {
@@ -42,7 +42,7 @@ fn asserts(alloc: Global, key: &mut Key, challenge: &[u8]) -> Option<AssertionRe
 }
 
 /// The user registers and signs in.
-fn visits(alloc: Global, site: &mut Site, key: &mut Key) -> Option<u64> {
+fn visits(alloc: Global, site: &mut Site, key: &mut SecurityKey) -> Option<u64> {
     let verifier = BenchScheme; // hides nothing, for tests alone: put your own verifier here
 
     let started = site
@@ -60,7 +60,7 @@ fn visits(alloc: Global, site: &mut Site, key: &mut Key) -> Option<u64> {
 }
 
 /// The counter of the credential after a visit and a restart.
-fn count(alloc: Global, site: &mut Site, key: &mut Key) -> Option<u32> {
+fn count(alloc: Global, site: &mut Site, key: &mut SecurityKey) -> Option<u32> {
     key.open(alloc)?;
     visits(alloc, site, key)?;
     restart(alloc, site)?;
@@ -69,7 +69,7 @@ fn count(alloc: Global, site: &mut Site, key: &mut Key) -> Option<u32> {
 
 /// The same at a new site with a new key.
 fn count_anew(alloc: Global) -> Option<u32> {
-    let mut key = Key::new(alloc, MANNER.1)?;
+    let mut key = SecurityKey::new(alloc, MANNER.1)?;
     let mut site = Site::new(alloc, RP_ID, &[ORIGIN], POLICY).ok()?;
     count(alloc, &mut site, &mut key)
 }

@@ -8,7 +8,7 @@ use std::alloc::{AllocError, Global};
 use std::test::Fail;
 use test_words::Table;
 use verification::{
-    AssertionParts, CredentialView, RelyingParty, SignInAttempt, SignInError, SignInSession,
+    AssertionParts, RelyingParty, RowView, SignInAttempt, SignInError, SignInSession,
     verify_assertion,
 };
 
@@ -38,7 +38,7 @@ fn session(alloc: Global, line: &str) -> Result<SignInSession, AllocError> {
     Ok(SignInSession {
         user: bytes_if_there(alloc, value(line, "account", "01"))?,
         allow: list_of(alloc, value(line, "allow", ""))?,
-        verified: false,
+        uv: false,
         challenge,
     })
 }
@@ -65,8 +65,8 @@ struct Given {
 }
 
 /// A credential of the user 01, which was never used.
-fn credential<'a>(id: &'a [u8], retired: bool) -> CredentialView<'a> {
-    CredentialView {
+fn credential<'a>(id: &'a [u8], retired: bool) -> RowView<'a> {
+    RowView {
         id,
         user: &[1],
         key: &KEY,
@@ -80,7 +80,7 @@ fn credential<'a>(id: &'a [u8], retired: bool) -> CredentialView<'a> {
 fn attempt<'a>(
     given: &'a Given,
     session: Option<&'a SignInSession>,
-    credential: Option<CredentialView<'a>>,
+    credential: Option<RowView<'a>>,
     id: &'a [u8],
 ) -> SignInAttempt<'a> {
     SignInAttempt {

@@ -1,7 +1,7 @@
 //! A registration and a sign-in, as a site, a client and a security key carry them out; and a request that is cancelled.
 
-use crate::key::Key;
 use crate::packets::packet;
+use crate::security_key::SecurityKey;
 use authdata::AttestationType;
 use ceremony::{Act, register, sign_in};
 use client::{CreationOptions, Outgoing, RequestOptions, assertion_request, creation_request};
@@ -48,7 +48,12 @@ pub(crate) fn creation(
 }
 
 /// Registers a credential of the user.
-fn registers(alloc: Global, site: &mut Site, key: &mut Key, manner: &Manner) -> Option<Vec<u8>> {
+fn registers(
+    alloc: Global,
+    site: &mut Site,
+    key: &mut SecurityKey,
+    manner: &Manner,
+) -> Option<Vec<u8>> {
     let started = site
         .begin_registration(USER, &[manner.0], true, [1; 24])
         .ok()?;
@@ -66,7 +71,7 @@ fn registers(alloc: Global, site: &mut Site, key: &mut Key, manner: &Manner) -> 
         &packets,
     )
     .ok()
-    .map(|enrolled| enrolled.credential)
+    .map(|new| new.credential)
 }
 
 /// What a client asks of the key for a sign-in, in a session with this challenge.
@@ -86,7 +91,12 @@ pub(crate) fn assertion(
 }
 
 /// Signs the user in, with one of these credentials, or with any where none is listed: whether that user is told.
-fn signs_in(alloc: Global, site: &mut Site, key: &mut Key, listed: &[&[u8]]) -> Option<bool> {
+fn signs_in(
+    alloc: Global,
+    site: &mut Site,
+    key: &mut SecurityKey,
+    listed: &[&[u8]],
+) -> Option<bool> {
     let started = site.begin_sign_in(Some(USER), listed, true, [2; 24]).ok()?;
     let request = assertion(alloc, &started.challenge, listed, key.channel)?;
     let packets = key.answer(alloc, &request.packets)?;
@@ -119,7 +129,12 @@ pub(crate) fn restart(alloc: Global, site: &mut Site) -> Option<()> {
 }
 
 /// Whether the credential that is registered signs in after a restart, its counter 0 and then 1.
-fn is_honest(alloc: Global, site: &mut Site, key: &mut Key, manner: &Manner) -> Option<bool> {
+fn is_honest(
+    alloc: Global,
+    site: &mut Site,
+    key: &mut SecurityKey,
+    manner: &Manner,
+) -> Option<bool> {
     key.open(alloc)?;
     let credential = registers(alloc, site, key, manner)?;
     let registered = count(site, &credential)?;
@@ -135,7 +150,7 @@ fn is_honest(alloc: Global, site: &mut Site, key: &mut Key, manner: &Manner) -> 
 
 /// The same at a new site with a new key.
 fn is_honest_anew(alloc: Global, manner: &Manner) -> Option<bool> {
-    let mut key = Key::new(alloc, manner.1)?;
+    let mut key = SecurityKey::new(alloc, manner.1)?;
     let mut site = Site::new(alloc, RP_ID, &[ORIGIN], POLICY).ok()?;
     is_honest(alloc, &mut site, &mut key, manner)
 }
@@ -162,7 +177,7 @@ fn registered_then_signed_in(rt: HostRuntime) -> Result<(), Fail> {
 }
 
 /// Whether a request that is cancelled, by a CANCEL on its channel, is answered by status 2d alone.
-fn is_cancelled(alloc: Global, key: &mut Key) -> Option<bool> {
+fn is_cancelled(alloc: Global, key: &mut SecurityKey) -> Option<bool> {
     key.open(alloc)?;
     let request = assertion(alloc, USER, &[], key.channel)?;
     let mut sent = Vec::new(alloc);
@@ -179,7 +194,7 @@ fn is_cancelled(alloc: Global, key: &mut Key) -> Option<bool> {
 
 #[test]
 fn cancelled(rt: HostRuntime) -> Result<(), Fail> {
-    let mut key = Key::new(rt.alloc(), AttestationType::None).ok_or("no key")?;
+    let mut key = SecurityKey::new(rt.alloc(), AttestationType::None).ok_or("no key")?;
     assert!(rt; is_cancelled(rt.alloc(), &mut key) == Some(true) && key.len() == 0);
     Ok(())
 }

@@ -15,8 +15,6 @@ mod honest;
 #[cfg(test)]
 mod kept;
 #[cfg(test)]
-mod key;
-#[cfg(test)]
 mod limits;
 #[cfg(test)]
 mod lists;
@@ -34,6 +32,8 @@ mod responses;
 mod rows;
 #[cfg(test)]
 mod saved;
+#[cfg(test)]
+mod security_key;
 #[cfg(test)]
 mod sign_in;
 #[cfg(test)]

@@ -64,14 +64,17 @@ const OTHERS: &[(&str, Verdict)] = &[
     ("first-of-three second-of-three", Err(Error::Incomplete)),
     (
         "first-of-three second-of-three third-of-three",
-        Err(Error::Reply(ctapmsg::Error::NotCanonical)),
+        Err(Error::Reply(ctap_status::Error::NotCanonical)),
     ),
     ("00000001bf000106 first second", Err(Error::DeviceError(6))),
     (
         "000000019000012e",
-        Err(Error::Reply(ctapmsg::Error::Refused(0x2e))),
+        Err(Error::Reply(ctap_status::Error::Refused(0x2e))),
     ),
-    ("00000001900000", Err(Error::Reply(ctapmsg::Error::Empty))),
+    (
+        "00000001900000",
+        Err(Error::Reply(ctap_status::Error::Empty)),
+    ),
     ("first second", Ok(2)),
     ("first second 0000000100 keepalive", Ok(2)),
     ("keepalive 00000002bb000102 first 0000000200 second", Ok(5)),

@@ -3,10 +3,8 @@
 use ceremony::ServeError;
 use hidlink::DeadKind;
 use site::{BeginError, Error, RegistrationRefusal, SignInRefusal};
-use std::alloc::{AllocError, Global};
-use std::fmt::{Debug, Display};
 use std::test::Fail;
-use test_words::Table;
+use test_words::{Table, append_refusal};
 
 /// A number, 0 where there is none; a name and a text.
 const SIGN_IN: Table = "1|SessionNotOpen|the session is not open for sign-in
@@ -122,33 +120,19 @@ const CEREMONY_ERRORS: &[ceremony::Error<SignInRefusal>] = &[
         kind: DeadKind::WrongSequence,
     },
     ceremony::Error::DeviceError(6),
-    ceremony::Error::Reply(ctapmsg::Error::Empty),
-    ceremony::Error::Reply(ctapmsg::Error::Refused(46)),
-    ceremony::Error::Reply(ctapmsg::Error::NotCanonical),
-    ceremony::Error::Reply(ctapmsg::Error::Shape),
+    ceremony::Error::Reply(ctap_status::Error::Empty),
+    ceremony::Error::Reply(ctap_status::Error::Refused(46)),
+    ceremony::Error::Reply(ctap_status::Error::NotCanonical),
+    ceremony::Error::Reply(ctap_status::Error::Shape),
     ceremony::Error::Refused(SignInRefusal::UserNotPresent),
     ceremony::Error::Memory,
 ];
-
-/// Appends the line of a refusal.
-fn put<E: Debug + Display>(
-    alloc: Global,
-    number: Option<u8>,
-    error: &E,
-    lines: &mut String,
-) -> Result<(), AllocError> {
-    let line = format!(in alloc; "{}|{error:?}|{error}", number.unwrap_or(0))?;
-    if !lines.is_empty() {
-        lines.push_str("\n")?;
-    }
-    lines.push_str(line.as_str())
-}
 
 #[test]
 fn steps_of_a_sign_in(rt: HostRuntime) -> Result<(), Fail> {
     let mut lines = String::new(rt.alloc());
     for step in STEPS {
-        put(rt.alloc(), Some(step.number()), step, &mut lines)?;
+        append_refusal(rt.alloc(), Some(step.number()), step, &mut lines)?;
     }
     assert!(rt; lines.as_str() == SIGN_IN);
     Ok(())
@@ -158,7 +142,7 @@ fn steps_of_a_sign_in(rt: HostRuntime) -> Result<(), Fail> {
 fn steps_of_a_registration(rt: HostRuntime) -> Result<(), Fail> {
     let mut lines = String::new(rt.alloc());
     for step in REGISTRATION_STEPS {
-        put(rt.alloc(), Some(step.number()), step, &mut lines)?;
+        append_refusal(rt.alloc(), Some(step.number()), step, &mut lines)?;
     }
     assert!(rt; lines.as_str() == REGISTRATION);
     Ok(())
@@ -168,10 +152,10 @@ fn steps_of_a_registration(rt: HostRuntime) -> Result<(), Fail> {
 fn of_a_site(rt: HostRuntime) -> Result<(), Fail> {
     let mut lines = String::new(rt.alloc());
     for error in BEGIN_ERRORS {
-        put(rt.alloc(), error.number(), error, &mut lines)?;
+        append_refusal(rt.alloc(), error.number(), error, &mut lines)?;
     }
     for error in SITE_ERRORS {
-        put(rt.alloc(), error.number(), error, &mut lines)?;
+        append_refusal(rt.alloc(), error.number(), error, &mut lines)?;
     }
     assert!(rt; lines.as_str() == SITE);
     Ok(())
@@ -181,7 +165,7 @@ fn of_a_site(rt: HostRuntime) -> Result<(), Fail> {
 fn of_a_ceremony(rt: HostRuntime) -> Result<(), Fail> {
     let mut lines = String::new(rt.alloc());
     for error in CEREMONY_ERRORS {
-        put(rt.alloc(), error.number(), error, &mut lines)?;
+        append_refusal(rt.alloc(), error.number(), error, &mut lines)?;
     }
     assert!(rt; lines.as_str() == CEREMONY);
     Ok(())
@@ -190,14 +174,17 @@ fn of_a_ceremony(rt: HostRuntime) -> Result<(), Fail> {
 #[test]
 fn of_what_is_stored_and_of_an_act(rt: HostRuntime) -> Result<(), Fail> {
     let mut lines = String::new(rt.alloc());
-    for error in [credentials::Error::BadTable, credentials::Error::Memory] {
-        put(rt.alloc(), None, &error, &mut lines)?;
+    for error in [
+        credential_table::Error::BadTable,
+        credential_table::Error::Memory,
+    ] {
+        append_refusal(rt.alloc(), None, &error, &mut lines)?;
     }
     for error in [saved_table::Error::BadTable, saved_table::Error::Memory] {
-        put(rt.alloc(), None, &error, &mut lines)?;
+        append_refusal(rt.alloc(), None, &error, &mut lines)?;
     }
     for error in [ServeError::NotWorking, ServeError::Memory] {
-        put(rt.alloc(), error.number(), &error, &mut lines)?;
+        append_refusal(rt.alloc(), error.number(), &error, &mut lines)?;
     }
     assert!(rt; lines.as_str() == STORED);
     Ok(())

@@ -8,7 +8,7 @@ use test_words::Table;
 
 /// The step refuses the registration, and the good one is then answered so on that session.
 const REFUSED: Pattern =
-    "$1$ rows=five;1 register $1$ account=03 uv=1;2 sign-in;$2$ enrol $1$;$3$ enrol;$4$ abandon";
+    "$1$ rows=five;1 register $1$ account=03 uv=1;2 sign-in;$2$ attest $1$;$3$ attest;$4$ abandon";
 
 /// A name, what is changed in a registration, the numbers of the steps that refuse it, and then the good one, 0 for
 /// none, and whether the session is then open.
@@ -41,7 +41,7 @@ registered and retired|id=0c format=packed secret=7|15|0|0"#;
 
 /// The registration is accepted, the credential stands last, and that session alone is closed.
 const ACCEPTED: Pattern =
-    "$1$ rows=five;1 register $1$ account=03 uv=1;2 sign-in;0 enrol $1$;1 row id=1a user=03 count=258 eligible=$2$;0 abandon;1 abandon session=2";
+    "$1$ rows=five;1 register $1$ account=03 uv=1;2 sign-in;0 attest $1$;1 row id=1a user=03 count=258 eligible=$2$;0 abandon;1 abandon session=2";
 
 /// A name, the registration, and the mark of eligibility that is stored.
 const ACCEPTANCES: Table = "none||1
@@ -57,7 +57,7 @@ pub(crate) const TABLES: &[(Pattern, Table)] = &[(REFUSED, REFUSALS), (ACCEPTED,
 
 /// Of two faults the first is told.
 const FAULTY: Pattern =
-    "$1$ $11$ rows=five;1 register $1$ $11$ uv=1;$0$ enrol $1$ $11$ format=packed secret=7;1 abandon session=1";
+    "$1$ $11$ rows=five;1 register $1$ $11$ uv=1;$0$ attest $1$ $11$ format=packed secret=7;1 abandon session=1";
 
 /// For each step but the last, in order, its number, and what is changed in a site, a session or a registration so that
 /// it fails; no two of the same.
@@ -82,7 +82,12 @@ pub(crate) const FAULTS: (Pattern, Table) = (FAULTY, FAULTS_IN_ORDER);
 
 /// The largest table, at which each fault is told before the last step's; and the same table after a restart.
 const FULL: &str =
-    r#"rows=full;65536 rows;1 row id=00000000 count=0 eligible=-;1 row id=0000ffff count=65535 eligible=-;0 row id=00010000;1 register uv=1;16 enrol;16 enrol format=packed secret=7;1 enrol session=3;2 enrol end=;3 enrol type=get;4 enrol challenge=IA;5 enrol origin=http://abc;6 enrol rest=,"tokenBinding":{"status":"present","id":"AA"};7 enrol behind=00;8 enrol rp=abd;9 enrol flip=1;10 enrol flip=4;12 enrol format=tpm;13 enrol secret=8;15 enrol id=0000ffff;2 register uv=1 algs=es256;11 enrol session=2 challenge=IA;65536 rows;1 abandon;0 restart policy=self;65536 rows;1 row id=00000000 count=0 eligible=-;1 row id=0000ffff count=65535 eligible=-;0 row id=00010000;3 register uv=1;14 enrol session=3 challenge=MA;16 enrol session=3 challenge=MA format=packed secret=7;65536 rows;1 abandon session=3"#;
+    "rows=full;65536 rows;1 row id=00000000 count=0 eligible=-;1 row id=0000ffff count=65535 eligible=-;0 row id=00010000;1 register uv=1;16 attest;\
+        16 attest format=packed secret=7;1 attest session=3;2 attest end=;3 attest type=get;4 attest challenge=IA;5 attest origin=http://abc;6 \
+        attest rest=,\"tokenBinding\":{\"status\":\"present\",\"id\":\"AA\"};7 attest behind=00;8 attest rp=abd;9 attest flip=1;10 attest flip=4;12 \
+        attest format=tpm;13 attest secret=8;15 attest id=0000ffff;2 register uv=1 algs=es256;11 attest session=2 challenge=IA;65536 rows;1 abandon;\
+        0 restart policy=self;65536 rows;1 row id=00000000 count=0 eligible=-;1 row id=0000ffff count=65535 eligible=-;0 row id=00010000;3 register \
+        uv=1;14 attest session=3 challenge=MA;16 attest session=3 challenge=MA format=packed secret=7;65536 rows;1 abandon session=3";
 
 #[test]
 fn full(rt: HostRuntime) -> Result<(), Fail> {

@@ -47,21 +47,23 @@ client data without an origin|client={"type":"webauthn.get","challenge":"AAAAAAA
 
 /// The same sessions. The response is accepted, that credential alone is changed, and that session alone is closed.
 const ACCEPTED: Pattern =
-    "rows=five;1 sign-in allow=0a,0b,0c,0d,0e,0f uv=1;2 register uv=1;0 answer $1$;1 row $2$;1 row id=0f count=4294967295 eligible=-;0 abandon;1 abandon session=2";
+    "rows=five;1 sign-in allow=0a,0b,0c,0d,0e,0f uv=1;2 register uv=1;0 answer $1$;1 row $2$;1 row id=0f count=4294967295 eligible=-;0 abandon;1 \
+        abandon session=2";
 
 /// A name, the response, and the credential that is stored then.
-const ACCEPTANCES: Table = r#"not eligible||
+const ACCEPTANCES: Table = "not eligible||
 eligible|flip=8|eligible=1
 backed up|flip=8 flip=16 backed=1|eligible=1
 a reserved flag|flip=2|
 the greatest counter|count=4294967295|count=4294967295
 no counters|id=0b user=02 told=02 count=0|id=0b user=02 count=0
 a first counter|id=0b user=02 told=02 count=1|id=0b user=02 count=1
-members in another order, the second origin, binding supported|client={"origin":"https://def","tokenBinding":{"status":"supported"},"challenge":"AAAAAAAAAAEAAAAAAAAAAAAAAAAAAAAAAAAAAAAAAAA","type":"webauthn.get"}|
-cross-origin, at the second origin|origin=https://def rest=,"crossOrigin":true|
+members in another order, the second origin, binding supported|client={\"origin\":\"https://def\",\"tokenBinding\":{\"status\":\"supported\"},\
+    \"challenge\":\"AAAAAAAAAAEAAAAAAAAAAAAAAAAAAAAAAAAAAAAAAAA\",\"type\":\"webauthn.get\"}|
+cross-origin, at the second origin|origin=https://def rest=,\"crossOrigin\":true|
 a space behind the client data|space=1|
 a signature of 72 bytes|signature=5a*72 listed=5a*72|
-a signature of 128 bytes|signature=5a*128 listed=5a*128|"#;
+a signature of 128 bytes|signature=5a*128 listed=5a*128|";
 
 /// The session stays open where the response is refused.
 const EXPECTED: Pattern = "rows=five;1 sign-in $0$;$2$ answer $1$;$3$ abandon";

@@ -1,10 +1,13 @@
 //! Tables as texts, and bytes as words, for the crates of tests.
 //!
-//! A table is lines, each of parts with `|` between them. Bytes are words: hexadecimal digits, with `*` and how often
-//! they stand where that is not once; characters behind `'`; or a name, which stands for its own words.
+//! Rows are written in two notations. A table is lines, each of parts with `|` between them. Bytes in a part are words:
+//! hexadecimal digits, with `*` and how often they stand where that is not once; characters behind `'`; or a name, which
+//! stands for its own words. What is done in an order is a script: acts with `;` between them, each of the answer that is
+//! wanted, the act's name, and words `name=value`. The crate that has the acts reads the script; the README shows both.
 #![tactic(auto)]
 
 use std::alloc::{AllocError, Global};
+use std::fmt::{Debug, Display};
 
 /// Lines, each of parts with `|` between them.
 pub type Table = &'static str;
@@ -74,4 +77,19 @@ pub fn bytes_of<'a>(
     let mut bytes = Vec::new(alloc);
     append_words(alloc, names, &mut bytes, words)?;
     Ok(bytes)
+}
+
+/// Appends the line of a refusal, behind a line break where one stands before: its number, 0 where it has none; its name
+/// and its text.
+pub fn append_refusal<E: Debug + Display>(
+    alloc: Global,
+    number: Option<u8>,
+    error: &E,
+    lines: &mut String,
+) -> Result<(), AllocError> {
+    let line = format!(in alloc; "{}|{error:?}|{error}", number.unwrap_or(0))?;
+    if !lines.is_empty() {
+        lines.push_str("\n")?;
+    }
+    lines.push_str(line.as_str())
 }

@@ -1,7 +1,7 @@
 -- From lines and groups of steps to the steps of a registration.
 use Rattle.std.proofs.Common.{◌≡◌, ◌⊎◌, inl, inr, ℕ, List, [], ◌∷◌, ◌++◌, Some, None, refl, subst, sym, Bool, true, false, Contains, codes, ◌∙◌}
-use Rattle.first_line.proofs.Laws.{each_joined, first_along, first_at, first_before, first_behind, first_image}
-use Rattle.first_line.specs.Lines.{Each, FirstFailing}
+use Rattle.refusal_order.proofs.Laws.{each_joined, first_along, first_at, first_before, first_behind, first_image}
+use Rattle.refusal_order.specs.Lines.{Each, FirstFailing}
 use Rattle.clientdata.specs.declared.record.CeremonyType.TheVariants.{Create}
 use Rattle.cose.specs.Keys.{alg_of}
 use Rattle.authdata.specs.Layout.{AuthenticatorData, AttestedCredential, AuthOf}
@@ -11,14 +11,17 @@ use Rattle.authdata.specs.declared.statement.AttestationType.{AttestationType}
 use Rattle.authdata.specs.declared.statement.AttestationType.TheVariants as types
 use Rattle.authdata.proofs.Objects.{one_object}
 use Rattle.authdata.proofs.Unique.{one_value}
-use Rattle.verification.specs.Records.{Registration}
-use Rattle.verification.specs.Shared.{Relation, IsFor, IsPresent, IsVerifiedAs}
-use Rattle.verification.specs.Registration.{Attested, Attests, Enrolment, Passes, attestation_steps, auth_data_steps, client_data_steps, hash_in, response_steps, table_steps}
-use Rattle.verification.specs.ClientData.{Says, lines}
-use Rattle.verification.specs.Answers.{never}
-use Rattle.verification.specs.RegistrationAnswers.{Accepts, AttestsNothing, FailsIn, IsNoData, IsRefused, Shows, ShowsNothing, Tells, step_of}
-use Rattle.verification.specs.declared.client_data.ClientDataLine.{ClientDataLine}
-use Rattle.verification.specs.declared.client_data.ClientDataLine.TheVariants as line
+use Rattle.verification.specs.Records.{ExpectedRegistration}
+use Rattle.cose.specs.Schemes.{Validity}
+use Rattle.verification.specs.Shared.{IsFor, IsPresent, IsVerifiedAs}
+use Rattle.verification.specs.Registration.{Attested, Attests, JudgedRegistration, PassesRegistrationStep, attestation_steps, auth_data_steps}
+use Rattle.verification.specs.Registration.{client_data_steps, hash_in, response_steps, table_steps}
+use Rattle.verification.specs.ClientData.{PassesClientDataStep, client_data_order}
+use Rattle.verification.specs.SignInAnswers.{never}
+use Rattle.verification.specs.RegistrationAnswers.{AcceptsAttestation, AttestsNothing, FailsIn, IsNoData, IsRefused, AttestsAs, AttestsAsNothing}
+use Rattle.verification.specs.RegistrationAnswers.{IsVerifiedRegistration, step_of}
+use Rattle.verification.specs.declared.client_data.ClientDataStep.{ClientDataStep}
+use Rattle.verification.specs.declared.client_data.ClientDataStep.TheVariants as line
 use Rattle.verification.specs.declared.refusal.RegistrationError.{RegistrationError}
 use Rattle.verification.specs.declared.refusal.RegistrationError.TheVariants as errors
 use Rattle.verification.specs.declared.refusal.RegistrationRefusal.{RegistrationRefusal}
@@ -47,30 +50,35 @@ no_credential bs o a spelled read bare = λ p b c other read' attested.
 
 -- ---- client data
 
-line_passes : (x : Enrolment) (e : Registration) → x.session ≡ Some e → (l : ClientDataLine) → Says Create e.challenge x.rp x.response.client_data l → Passes never x (step_of l)
+line_passes : (x : JudgedRegistration) (e : ExpectedRegistration) → x.session ≡ Some e → (l : ClientDataStep)
+    → PassesClientDataStep Create e.challenge x.rp x.response.client_data l → PassesRegistrationStep never x (step_of l)
 line_passes x e is line.Readable says = says
 line_passes x e is line.Type says = says
 line_passes x e is line.Challenge says = λ other other_is. let same : e ≡ other = cc in rw (sym same) says
 line_passes x e is line.Origin says = says
 line_passes x e is line.TokenBinding says = says
 
-line_says : (x : Enrolment) (e : Registration) → x.session ≡ Some e → (l : ClientDataLine) → Passes never x (step_of l) → Says Create e.challenge x.rp x.response.client_data l
+line_says : (x : JudgedRegistration) (e : ExpectedRegistration) → x.session ≡ Some e → (l : ClientDataStep) → PassesRegistrationStep never x (step_of l)
+    → PassesClientDataStep Create e.challenge x.rp x.response.client_data l
 line_says x e is line.Readable passes = passes
 line_says x e is line.Type passes = passes
 line_says x e is line.Challenge passes = passes e is
 line_says x e is line.Origin passes = passes
 line_says x e is line.TokenBinding passes = passes
 
-pub client_data_fails : (x : Enrolment) (e : Registration) (l : ClientDataLine) → x.session ≡ Some e → FirstFailing (Says Create e.challenge x.rp x.response.client_data) lines l
-    → FirstFailing (Passes never x) client_data_steps (step_of l)
+pub client_data_fails : (x : JudgedRegistration) (e : ExpectedRegistration) (l : ClientDataStep) → x.session ≡ Some e
+    → FirstFailing (PassesClientDataStep Create e.challenge x.rp x.response.client_data) client_data_order l
+    → FirstFailing (PassesRegistrationStep never x) client_data_steps (step_of l)
 client_data_fails x e l is first =
-    let open_session : Passes never x step.SessionNotOpen = rw is refl in
-    first_behind (step.SessionNotOpen ∷ []) (open_session, tt) (first_image step_of (line_passes x e is) (λ m other passes. other (line_says x e is m passes)) first)
+    let open_session : PassesRegistrationStep never x step.SessionNotOpen = rw is refl in
+    first_behind (step.SessionNotOpen ∷ []) (open_session, tt)
+    (first_image step_of (line_passes x e is) (λ m other passes. other (line_says x e is m passes)) first)
 
 -- ---- what is attested
 
 -- the response attests just one credential
-one_attested : (x : Enrolment) (o p : Attestation) (a b : AuthenticatorData) (c d : AttestedCredential) → Attests x.response o a c → Attests x.response p b d
+one_attested : (x : JudgedRegistration) (o p : Attestation) (a b : AuthenticatorData) (c d : AttestedCredential) → Attests x.response o a c
+    → Attests x.response p b d
     → (o ≡ p) × (a ≡ b) × (c ≡ d)
 one_attested x o p a b c d h k =
     let objects : o ≡ p = one_object o p x.response.object h.object k.object in
@@ -80,53 +88,62 @@ one_attested x o p a b c d h k =
     let second : b.attested ≡ Some d = k.attested in
     (objects, readings, cc)
 
-module _ (x : Enrolment) (o : Attestation) (a : AuthenticatorData) (c : AttestedCredential) (h : Attests x.response o a c) where
+module _ (x : JudgedRegistration) (o : Attestation) (a : AuthenticatorData) (c : AttestedCredential) (h : Attests x.response o a c) where
   -- what holds of it holds of whatever the response attests
   pub of_attested : (P : Attestation → AuthenticatorData → AttestedCredential → Type 0) → P o a c → Attested x.response P
   of_attested P p = λ q b d k.
       let same = one_attested x o q a b c d h k in
       subst (λ (e : AttestedCredential). P q b e) same.2 (subst (λ (e : AuthenticatorData). P q e c) same.1 (subst (λ (e : Attestation). P e a c) same.0 p))
 
-  pub found : Passes never x step.BadAttestationObject
+  pub found : PassesRegistrationStep never x step.BadAttestationObject
   found = (o, a, c, h)
 
-  pub wrong_party : (IsFor x.rp a → ⊥) → FirstFailing (Passes never x) auth_data_steps step.WrongRelyingParty
+  pub wrong_party : (IsFor x.rp a → ⊥) → FirstFailing (PassesRegistrationStep never x) auth_data_steps step.WrongRelyingParty
   wrong_party other = first_at 1 refl (found, tt) (λ passes. other (passes o a c h))
 
   module _ (party : IsFor x.rp a) where
-    for_party : Passes never x step.WrongRelyingParty
+    for_party : PassesRegistrationStep never x step.WrongRelyingParty
     for_party = of_attested (λ q b d. IsFor x.rp b) party
 
-    pub not_present : (IsPresent a → ⊥) → FirstFailing (Passes never x) auth_data_steps step.UserNotPresent
+    pub not_present : (IsPresent a → ⊥) → FirstFailing (PassesRegistrationStep never x) auth_data_steps step.UserNotPresent
     not_present absent = first_at 2 refl (found, (for_party, tt)) (λ passes. absent (passes o a c h))
 
-    module _ (present : IsPresent a) (e : Registration) (is : x.session ≡ Some e) where
-      is_present : Passes never x step.UserNotPresent
+    module _ (present : IsPresent a) (e : ExpectedRegistration) (is : x.session ≡ Some e) where
+      is_present : PassesRegistrationStep never x step.UserNotPresent
       is_present = of_attested (λ q b d. IsPresent b) present
 
-      pub not_verified : (IsVerifiedAs e.verified a → ⊥) → FirstFailing (Passes never x) auth_data_steps step.UserNotVerified
+      pub not_verified : (IsVerifiedAs e.uv a → ⊥) → FirstFailing (PassesRegistrationStep never x) auth_data_steps step.UserNotVerified
       not_verified unverified = first_at 3 refl (found, (for_party, (is_present, tt))) (λ passes. unverified (passes e is o a c h))
 
-      module _ (verified : IsVerifiedAs e.verified a) where
-        abbrev Verified : Registration → Type 0
-        Verified f = Attested x.response (λ q b d. IsVerifiedAs f.verified b)
+      module _ (verified : IsVerifiedAs e.uv a) where
+        abbrev Verified : ExpectedRegistration → Type 0
+        Verified f = Attested x.response (λ q b d. IsVerifiedAs f.uv b)
 
-        is_verified : Passes never x step.UserNotVerified
-        is_verified = of_some Verified x.session e is (of_attested (λ q b d. IsVerifiedAs e.verified b) verified)
+        is_verified : PassesRegistrationStep never x step.UserNotVerified
+        is_verified = of_some Verified x.session e is (of_attested (λ q b d. IsVerifiedAs e.uv b) verified)
 
-        pub not_offered : (Contains e.algorithms (alg_of c.key) → ⊥) → FirstFailing (Passes never x) auth_data_steps step.AlgorithmNotOffered
+        pub not_offered : (Contains e.algorithms (alg_of c.key) → ⊥) → FirstFailing (PassesRegistrationStep never x) auth_data_steps step.AlgorithmNotOffered
         not_offered other = first_at 4 refl (found, (for_party, (is_present, (is_verified, tt)))) (λ passes. other (passes e is o a c h))
 
-        abbrev Offered : Registration → Type 0
+        abbrev Offered : ExpectedRegistration → Type 0
         Offered f = Attested x.response (λ q b d. Contains f.algorithms (alg_of d.key))
 
-        pub data_passes : Contains e.algorithms (alg_of c.key) → Each (Passes never x) auth_data_steps
-        data_passes offered =
-            (found, (for_party, (is_present, (is_verified, (of_some Offered x.session e is (of_attested (λ q b d. Contains e.algorithms (alg_of d.key)) offered), tt)))))
+        pub data_passes : Contains e.algorithms (alg_of c.key) → Each (PassesRegistrationStep never x) auth_data_steps
+        data_passes offered = (
+          found,
+          (
+            for_party,
+            (
+              is_present,
+              (is_verified, (of_some Offered x.session e is (of_attested (λ q b d. Contains e.algorithms (alg_of d.key)) offered), tt)),
+            ),
+          ),
+        )
 
 -- bytes that attest nothing fail at the object
-pub nothing : (x : Enrolment) (e : RegistrationError) → AttestsNothing x.response.object e → FailsIn never x auth_data_steps e
-nothing x (errors.Refused step.BadAttestationObject) none = first_at 0 refl tt (λ passes. none passes.0 passes.1 passes.2 passes.3.object passes.3.auth_data passes.3.attested)
+pub nothing : (x : JudgedRegistration) (e : RegistrationError) → AttestsNothing x.response.object e → FailsIn never x auth_data_steps e
+nothing x (errors.Refused step.BadAttestationObject) none =
+    first_at 0 refl tt (λ passes. none passes.0 passes.1 passes.2 passes.3.object passes.3.auth_data passes.3.attested)
 nothing x (errors.Refused w) none = absurd none
 nothing x errors.Memory none = tt
 
@@ -136,25 +153,28 @@ nothing x errors.Memory none = tt
 two_formats : (fmt : List ℕ) → fmt ≡ codes "none" → fmt ≡ codes "packed" → ⊥
 two_formats fmt none packed = let same : codes "none" ≡ codes "packed" = sym none ∙ packed in cc
 
-module _ (valid : Relation) (x : Enrolment) (o : Attestation) (a : AuthenticatorData) (c : AttestedCredential) (h : Attests x.response o a c) where
+module _ (valid : Validity) (x : JudgedRegistration) (o : Attestation) (a : AuthenticatorData) (c : AttestedCredential) (h : Attests x.response o a c) where
   abbrev ShownAs : AttestationType → Type 0
-  ShownAs kind = Shows valid o c.key (hash_in x.response) kind
+  ShownAs kind = AttestsAs valid o c.key (hash_in x.response) kind
 
-  known : (kind : AttestationType) → ShownAs kind → Passes valid x step.UnknownFormat
+  known : (kind : AttestationType) → ShownAs kind → PassesRegistrationStep valid x step.UnknownFormat
   known types.None shown = of_attested x o a c h (λ q b d. IsKnownFormat q.fmt) (inl shown.0)
   known types.SelfSigned shown = of_attested x o a c h (λ q b d. IsKnownFormat q.fmt) (inr shown.0)
 
-  stated : (kind : AttestationType) → ShownAs kind → Passes valid x step.BadStatement
+  stated : (kind : AttestationType) → ShownAs kind → PassesRegistrationStep valid x step.BadStatement
   stated types.None shown = of_attested x o a c h (λ q b d. IsNone q ⊎ IsSelfSigned valid q d.key (hash_in x.response)) (inl shown)
   stated types.SelfSigned shown = of_attested x o a c h (λ q b d. IsNone q ⊎ IsSelfSigned valid q d.key (hash_in x.response)) (inr shown)
 
-  pub statement_fails : (w : RegistrationRefusal) → ShowsNothing valid o c.key (hash_in x.response) w → FirstFailing (Passes valid x) attestation_steps w
+  pub statement_fails : (w : RegistrationRefusal) → AttestsAsNothing valid o c.key (hash_in x.response) w
+      → FirstFailing (PassesRegistrationStep valid x) attestation_steps w
   statement_fails step.UnknownFormat none = first_at 0 refl tt (λ passes. none (passes o a c h))
   statement_fails step.BadStatement none =
-      first_at 1 refl (of_attested x o a c h (λ q b d. IsKnownFormat q.fmt) none.0, tt) (λ passes. elim (passes o a c h) [ inl p ↦ none.1 p | inr p ↦ none.2 p ])
+      first_at 1 refl (of_attested x o a c h (λ q b d. IsKnownFormat q.fmt) none.0, tt)
+      (λ passes. elim (passes o a c h) [ inl p ↦ none.1 p | inr p ↦ none.2 p ])
   statement_fails w none = absurd none
 
-  pub not_accepted : (kind : AttestationType) → ShownAs kind → (Accepts x.policy kind → ⊥) → FirstFailing (Passes valid x) attestation_steps step.AttestationNotAccepted
+  pub not_accepted : (kind : AttestationType) → ShownAs kind → (AcceptsAttestation x.policy kind → ⊥)
+      → FirstFailing (PassesRegistrationStep valid x) attestation_steps step.AttestationNotAccepted
   not_accepted types.None shown other =
       first_at 2 refl (known types.None shown, (stated types.None shown, tt)) (λ passes. other ((passes o a c h).0 shown))
   not_accepted types.SelfSigned shown other =
@@ -163,18 +183,18 @@ module _ (valid : Relation) (x : Enrolment) (o : Attestation) (a : Authenticator
   abbrev AcceptedAs : Attestation → AuthenticatorData → AttestedCredential → Type 0
   AcceptedAs q b d = (IsNone q → x.policy.accept_none ≡ true) × (IsSelfSigned valid q d.key (hash_in x.response) → x.policy.accept_self ≡ true)
 
-  accepted_as : (kind : AttestationType) → ShownAs kind → Accepts x.policy kind → AcceptedAs o a c
+  accepted_as : (kind : AttestationType) → ShownAs kind → AcceptsAttestation x.policy kind → AcceptedAs o a c
   accepted_as types.None shown accepts = (λ none. accepts, λ self. absurd (two_formats o.fmt shown.0 self.0))
   accepted_as types.SelfSigned shown accepts = (λ none. absurd (two_formats o.fmt none.0 shown.0), λ self. accepts)
 
-  pub attestation_passes : (kind : AttestationType) → ShownAs kind → Accepts x.policy kind → Each (Passes valid x) attestation_steps
+  pub attestation_passes : (kind : AttestationType) → ShownAs kind → AcceptsAttestation x.policy kind → Each (PassesRegistrationStep valid x) attestation_steps
   attestation_passes kind shown accepts =
       (known kind shown, (stated kind shown, (of_attested x o a c h AcceptedAs (accepted_as kind shown accepts), tt)))
 
 -- ---- the groups joined
 
 -- the same registration before another table
-abbrev before : Enrolment → (List ℕ → Bool) → Bool → Enrolment
+abbrev before : JudgedRegistration → (List ℕ → Bool) → Bool → JudgedRegistration
 before x is_registered is_full = record {
   rp = x.rp;
   policy = x.policy;
@@ -185,10 +205,11 @@ before x is_registered is_full = record {
 }
 
 -- a step says the same of both
-abbrev Same : Relation → Enrolment → Relation → Enrolment → RegistrationRefusal → Type 0
-Same valid x other y w = (Passes valid x w → Passes other y w) × ((Passes valid x w → ⊥) → Passes other y w → ⊥)
+abbrev Same : Validity → JudgedRegistration → Validity → JudgedRegistration → RegistrationRefusal → Type 0
+Same valid x other y w = (PassesRegistrationStep valid x w → PassesRegistrationStep other y w)
+    × ((PassesRegistrationStep valid x w → ⊥) → PassesRegistrationStep other y w → ⊥)
 
-module _ (valid : Relation) (x : Enrolment) (is_registered : List ℕ → Bool) (is_full : Bool) where
+module _ (valid : Validity) (x : JudgedRegistration) (is_registered : List ℕ → Bool) (is_full : Bool) where
   client_same : Each (Same never x valid (before x is_registered is_full)) client_data_steps
   client_same = ((λ h. h, λ h. h), ((λ h. h, λ h. h), ((λ h. h, λ h. h), ((λ h. h, λ h. h), ((λ h. h, λ h. h), ((λ h. h, λ h. h), tt))))))
 
@@ -202,23 +223,28 @@ module _ (valid : Relation) (x : Enrolment) (is_registered : List ℕ → Bool) 
   client_fails (errors.Refused w) first = first_before table_steps (first_before (auth_data_steps ++ attestation_steps) (first_along client_same first))
   client_fails errors.Memory first = tt
 
-  pub data_fails : Each (Passes never x) client_data_steps → (e : RegistrationError) → FailsIn never x auth_data_steps e → IsRefused valid (before x is_registered is_full) e
-  data_fails a (errors.Refused w) first = first_before table_steps (first_behind client_data_steps a (first_before attestation_steps (first_along data_same first)))
+  pub data_fails : Each (PassesRegistrationStep never x) client_data_steps → (e : RegistrationError) → FailsIn never x auth_data_steps e
+      → IsRefused valid (before x is_registered is_full) e
+  data_fails a (errors.Refused w) first =
+      first_before table_steps (first_behind client_data_steps a (first_before attestation_steps (first_along data_same first)))
   data_fails a errors.Memory first = tt
 
-  pub attestation_fails : Each (Passes never x) client_data_steps → Each (Passes never x) auth_data_steps → (w : RegistrationRefusal)
-      → FirstFailing (Passes valid x) attestation_steps w → IsRefused valid (before x is_registered is_full) (errors.Refused w)
-  attestation_fails a b w first = first_before table_steps (first_behind client_data_steps a (first_behind auth_data_steps b (first_along attestation_same first)))
+  pub attestation_fails : Each (PassesRegistrationStep never x) client_data_steps → Each (PassesRegistrationStep never x) auth_data_steps
+      → (w : RegistrationRefusal)
+      → FirstFailing (PassesRegistrationStep valid x) attestation_steps w → IsRefused valid (before x is_registered is_full) (errors.Refused w)
+  attestation_fails a b w first =
+      first_before table_steps (first_behind client_data_steps a (first_behind auth_data_steps b (first_along attestation_same first)))
 
-  pub response_passes : Each (Passes never x) client_data_steps → Each (Passes never x) auth_data_steps → Each (Passes valid x) attestation_steps
-      → Each (Passes valid (before x is_registered is_full)) response_steps
+  pub response_passes : Each (PassesRegistrationStep never x) client_data_steps → Each (PassesRegistrationStep never x) auth_data_steps
+      → Each (PassesRegistrationStep valid x) attestation_steps
+      → Each (PassesRegistrationStep valid (before x is_registered is_full)) response_steps
   response_passes a b c =
-      each_joined (Passes valid (before x is_registered is_full)) client_data_steps (auth_data_steps ++ attestation_steps) a
-      (each_joined (Passes valid (before x is_registered is_full)) auth_data_steps attestation_steps b c)
+      each_joined (PassesRegistrationStep valid (before x is_registered is_full)) client_data_steps (auth_data_steps ++ attestation_steps) a
+      (each_joined (PassesRegistrationStep valid (before x is_registered is_full)) auth_data_steps attestation_steps b c)
 
 -- ---- the table
 
-module _ (x : Enrolment) (v : NewCredential) (tells : Tells x v) where
+module _ (x : JudgedRegistration) (v : NewCredential) (tells : IsVerifiedRegistration x v) where
   -- the table says this of the credential
   abbrev IsSaid : Bool → Attestation → AuthenticatorData → AttestedCredential → Type 0
   IsSaid said q b d = x.is_registered d.id ≡ said
@@ -228,11 +254,12 @@ module _ (x : Enrolment) (v : NewCredential) (tells : Tells x v) where
       let here : x.is_registered tells.2.id ≡ said = subst (λ (id : List ℕ). x.is_registered id ≡ said) tells.4 e in
       of_attested x tells.0 tells.1 tells.2 tells.3 (IsSaid said) here
 
-  pub registered : x.is_registered v.id ≡ true → FirstFailing (Passes never x) table_steps step.CredentialRegistered
-  registered e = first_at 0 refl tt (λ passes. let yes = of_id true e tells.0 tells.1 tells.2 tells.3 in let no_one = passes tells.0 tells.1 tells.2 tells.3 in absurd cc)
+  pub registered : x.is_registered v.id ≡ true → FirstFailing (PassesRegistrationStep never x) table_steps step.CredentialRegistered
+  registered e = first_at 0 refl tt
+      (λ passes. let yes = of_id true e tells.0 tells.1 tells.2 tells.3 in let no_one = passes tells.0 tells.1 tells.2 tells.3 in absurd cc)
 
-  pub full : x.is_registered v.id ≡ false → x.is_full ≡ true → FirstFailing (Passes never x) table_steps step.TableFull
+  pub full : x.is_registered v.id ≡ false → x.is_full ≡ true → FirstFailing (PassesRegistrationStep never x) table_steps step.TableFull
   full e f = first_at 1 refl (of_id false e, tt) (λ passes. absurd cc)
 
-  pub admitted : x.is_registered v.id ≡ false → x.is_full ≡ false → Each (Passes never x) table_steps
+  pub admitted : x.is_registered v.id ≡ false → x.is_full ≡ false → Each (PassesRegistrationStep never x) table_steps
   admitted e f = (of_id false e, (f, tt))

@@ -1,31 +1,31 @@
--- The lines on client data that both ceremonies have, for a ceremony's type and challenge. Private functions are
+-- The steps on client data that both ceremonies have, for a ceremony's type and challenge. Private functions are
 -- proved against these; the steps of the ceremonies say the same of their own response.
 use Rattle.std.specs.Prelude.{◌≡◌, ℕ, Bool, List, [], ◌∷◌, Contains, IsSome, IsUtf8}
 use Rattle.std.specs.Option.{ForSome}
 use Rattle.clientdata.specs.Reading.{seen_of}
 use Rattle.clientdata.specs.Serialised.{client_data_text}
 use Rattle.clientdata.specs.declared.record.CeremonyType.{CeremonyType}
-use Rattle.first_line.specs.Lines.{FirstFailing}
+use Rattle.refusal_order.specs.Lines.{FirstFailing}
 use Rattle.verification.specs.Records.{RelyingParty}
 use Rattle.verification.specs.Shared.{HasType, HasChallenge, HasOrigin, HasNoBinding}
 use Rattle.verification.specs.declared.client_data.ClientDataError.{ClientDataError}
 use Rattle.verification.specs.declared.client_data.ClientDataError.TheVariants as errors
-use Rattle.verification.specs.declared.client_data.ClientDataLine.{ClientDataLine}
-use Rattle.verification.specs.declared.client_data.ClientDataLine.TheVariants as line
+use Rattle.verification.specs.declared.client_data.ClientDataStep.{ClientDataStep}
+use Rattle.verification.specs.declared.client_data.ClientDataStep.TheVariants as line
 
-abbrev pub Says : CeremonyType → List ℕ → RelyingParty → List ℕ → ClientDataLine → Type 0
-Says kind challenge rp t line.Readable = IsSome (seen_of t)
-Says kind challenge rp t line.Type = ForSome (seen_of t) (HasType kind)
-Says kind challenge rp t line.Challenge = ForSome (seen_of t) (HasChallenge challenge)
-Says kind challenge rp t line.Origin = ForSome (seen_of t) (HasOrigin rp)
-Says kind challenge rp t line.TokenBinding = ForSome (seen_of t) HasNoBinding
+abbrev pub PassesClientDataStep : CeremonyType → List ℕ → RelyingParty → List ℕ → ClientDataStep → Type 0
+PassesClientDataStep kind challenge rp t line.Readable = IsSome (seen_of t)
+PassesClientDataStep kind challenge rp t line.Type = ForSome (seen_of t) (HasType kind)
+PassesClientDataStep kind challenge rp t line.Challenge = ForSome (seen_of t) (HasChallenge challenge)
+PassesClientDataStep kind challenge rp t line.Origin = ForSome (seen_of t) (HasOrigin rp)
+PassesClientDataStep kind challenge rp t line.TokenBinding = ForSome (seen_of t) HasNoBinding
 
-abbrev pub lines : List ClientDataLine
-lines = line.Readable ∷ line.Type ∷ line.Challenge ∷ line.Origin ∷ line.TokenBinding ∷ []
+abbrev pub client_data_order : List ClientDataStep
+client_data_order = line.Readable ∷ line.Type ∷ line.Challenge ∷ line.Origin ∷ line.TokenBinding ∷ []
 
--- the first line that fails is named; want of memory says nothing
+-- the first step that fails is named; want of memory says nothing
 abbrev pub Fails : CeremonyType → List ℕ → RelyingParty → List ℕ → ClientDataError → Type 0
-Fails kind challenge rp t (errors.Fails line) = FirstFailing (Says kind challenge rp t) lines line
+Fails kind challenge rp t (errors.Fails line) = FirstFailing (PassesClientDataStep kind challenge rp t) client_data_order line
 Fails kind challenge rp t errors.Memory = Unit {0}
 
 -- the bytes are the serialised client data (section 5.8.1.1) of this ceremony and challenge, for one of the origins

@@ -1,9 +1,9 @@
 pub mod Records
 pub mod Shared
 pub mod ClientData
-pub mod Authentication
+pub mod SignIn
 pub mod Registration
-pub mod Answers
+pub mod SignInAnswers
 pub mod RegistrationAnswers
 pub mod Views
 pub mod Numbers

@@ -28,16 +28,16 @@ pub record NewCredential : Type 0 where
 
 -- what a sign-in expects: a user, where one is named; the credentials that may answer, where there are any
 -- listed; whether the user is to be verified; and the challenge
-pub record SignIn : Type 0 where
+pub record ExpectedSignIn : Type 0 where
   pub user : Option (List ℕ)
   pub allow : List (List ℕ)
-  pub verified : Bool
+  pub uv : Bool
   pub challenge : List ℕ
 
 -- what a registration expects: the user, the algorithms offered, whether the user is to be verified, and the
 -- challenge
-pub record Registration : Type 0 where
+pub record ExpectedRegistration : Type 0 where
   pub user : List ℕ
   pub algorithms : List Alg
-  pub verified : Bool
+  pub uv : Bool
   pub challenge : List ℕ

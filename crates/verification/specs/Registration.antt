@@ -2,7 +2,7 @@
 use Rattle.std.specs.Prelude.{◌≡◌, ◌⊎◌, ℕ, List, [], ◌∷◌, ◌++◌, Option, Some, IsSome, Bool, true, false, Contains}
 use Rattle.std.specs.Option.{ForSome}
 use Rattle.sha2.specs.Sha256.{sha256}
-use Rattle.first_line.specs.Lines.{Each, FirstFailing}
+use Rattle.refusal_order.specs.Lines.{Each, FirstFailing}
 use Rattle.cose.specs.Keys.{alg_of}
 use Rattle.clientdata.specs.Reading.{seen_of}
 use Rattle.clientdata.specs.declared.record.CeremonyType.TheVariants.{Create}
@@ -10,8 +10,9 @@ use Rattle.authdata.specs.Layout.{AuthenticatorData, AttestedCredential, AuthOf}
 use Rattle.authdata.specs.Objects.{Attestation, ObjectOf}
 use Rattle.authdata.specs.Responses as responses
 use Rattle.authdata.specs.Statements.{IsKnownFormat, IsNone, IsSelfSigned}
-use Rattle.verification.specs.Records.{RelyingParty, Registration}
-use Rattle.verification.specs.Shared.{Relation, HasType, HasChallenge, HasOrigin, HasNoBinding, IsFor, IsPresent, IsVerifiedAs}
+use Rattle.verification.specs.Records.{RelyingParty, ExpectedRegistration}
+use Rattle.cose.specs.Schemes.{Validity}
+use Rattle.verification.specs.Shared.{HasType, HasChallenge, HasOrigin, HasNoBinding, IsFor, IsPresent, IsVerifiedAs}
 use Rattle.verification.specs.declared.party.Policy.{Policy}
 use Rattle.verification.specs.declared.refusal.RegistrationRefusal.{RegistrationRefusal}
 use Rattle.verification.specs.declared.refusal.RegistrationRefusal.TheVariants as step
@@ -19,63 +20,63 @@ use Rattle.verification.specs.declared.refusal.RegistrationRefusal.TheVariants a
 -- a registration as it is judged: the relying party and the attestations that it accepts; what the session
 -- expects, where one is open for registration; the response; the ids that are registered already, retired or
 -- not; and whether there is no room for another credential
-pub record Enrolment : Type 0 where
+pub record JudgedRegistration : Type 0 where
   pub rp : RelyingParty
   pub policy : Policy
-  pub session : Option Registration
-  pub response : responses.Registration
+  pub session : Option ExpectedRegistration
+  pub response : responses.AuthenticatorAttestationResponse
   pub is_registered : List ℕ → Bool
   pub is_full : Bool
 
 -- the response's attestation object, its authenticator data, and the credential that they attest
-pub record Attests (r : responses.Registration) (o : Attestation) (a : AuthenticatorData) (c : AttestedCredential) : Type 0 where
+pub record Attests (r : responses.AuthenticatorAttestationResponse) (o : Attestation) (a : AuthenticatorData) (c : AttestedCredential) : Type 0 where
   pub object : ObjectOf o r.object
   pub auth_data : AuthOf a o.auth_data
   pub attested : a.attested ≡ Some c
 
 -- whatever the response attests has this property
-abbrev pub Attested : responses.Registration → (Attestation → AuthenticatorData → AttestedCredential → Type 0) → Type 0
+abbrev pub Attested : responses.AuthenticatorAttestationResponse → (Attestation → AuthenticatorData → AttestedCredential → Type 0) → Type 0
 Attested r P = (o : Attestation) (a : AuthenticatorData) (c : AttestedCredential) → Attests r o a c → P o a c
 
 -- the hash of the client data
-abbrev pub hash_in : responses.Registration → List ℕ
+abbrev pub hash_in : responses.AuthenticatorAttestationResponse → List ℕ
 hash_in r = sha256 r.client_data
 
 -- the response passes a step, where it passes the earlier ones
-abbrev pub Passes : Relation → Enrolment → RegistrationRefusal → Type 0
+abbrev pub PassesRegistrationStep : Validity → JudgedRegistration → RegistrationRefusal → Type 0
 -- the session is open, for registration
-Passes valid x step.SessionNotOpen = IsSome x.session
+PassesRegistrationStep valid x step.SessionNotOpen = IsSome x.session
 -- the client data can be read
-Passes valid x step.UnreadableClientData = IsSome (seen_of x.response.client_data)
+PassesRegistrationStep valid x step.UnreadableClientData = IsSome (seen_of x.response.client_data)
 -- their type is webauthn.create
-Passes valid x step.WrongType = ForSome (seen_of x.response.client_data) (HasType Create)
+PassesRegistrationStep valid x step.WrongType = ForSome (seen_of x.response.client_data) (HasType Create)
 -- their challenge is the session's
-Passes valid x step.WrongChallenge = ForSome x.session (λ e. ForSome (seen_of x.response.client_data) (HasChallenge e.challenge))
+PassesRegistrationStep valid x step.WrongChallenge = ForSome x.session (λ e. ForSome (seen_of x.response.client_data) (HasChallenge e.challenge))
 -- their origin is one of the relying party's
-Passes valid x step.WrongOrigin = ForSome (seen_of x.response.client_data) (HasOrigin x.rp)
+PassesRegistrationStep valid x step.WrongOrigin = ForSome (seen_of x.response.client_data) (HasOrigin x.rp)
 -- token binding is not used
-Passes valid x step.TokenBinding = ForSome (seen_of x.response.client_data) HasNoBinding
+PassesRegistrationStep valid x step.TokenBinding = ForSome (seen_of x.response.client_data) HasNoBinding
 -- the bytes are an attestation object, whose authenticator data attest a credential
-Passes valid x step.BadAttestationObject = (o : Attestation) × (a : AuthenticatorData) × (c : AttestedCredential) × Attests x.response o a c
+PassesRegistrationStep valid x step.BadAttestationObject = (o : Attestation) × (a : AuthenticatorData) × (c : AttestedCredential) × Attests x.response o a c
 -- rpIdHash is the hash of the rp id
-Passes valid x step.WrongRelyingParty = Attested x.response (λ o a c. IsFor x.rp a)
+PassesRegistrationStep valid x step.WrongRelyingParty = Attested x.response (λ o a c. IsFor x.rp a)
 -- UP is set
-Passes valid x step.UserNotPresent = Attested x.response (λ o a c. IsPresent a)
+PassesRegistrationStep valid x step.UserNotPresent = Attested x.response (λ o a c. IsPresent a)
 -- UV is set, where the session requires it
-Passes valid x step.UserNotVerified = ForSome x.session (λ e. Attested x.response (λ o a c. IsVerifiedAs e.verified a))
+PassesRegistrationStep valid x step.UserNotVerified = ForSome x.session (λ e. Attested x.response (λ o a c. IsVerifiedAs e.uv a))
 -- the key's algorithm is one of those offered
-Passes valid x step.AlgorithmNotOffered = ForSome x.session (λ e. Attested x.response (λ o a c. Contains e.algorithms (alg_of c.key)))
+PassesRegistrationStep valid x step.AlgorithmNotOffered = ForSome x.session (λ e. Attested x.response (λ o a c. Contains e.algorithms (alg_of c.key)))
 -- the statement's format is known
-Passes valid x step.UnknownFormat = Attested x.response (λ o a c. IsKnownFormat o.fmt)
+PassesRegistrationStep valid x step.UnknownFormat = Attested x.response (λ o a c. IsKnownFormat o.fmt)
 -- the statement shows no attestation, or self attestation
-Passes valid x step.BadStatement = Attested x.response (λ o a c. IsNone o ⊎ IsSelfSigned valid o c.key (hash_in x.response))
+PassesRegistrationStep valid x step.BadStatement = Attested x.response (λ o a c. IsNone o ⊎ IsSelfSigned valid o c.key (hash_in x.response))
 -- the relying party accepts that
-Passes valid x step.AttestationNotAccepted = Attested x.response (λ o a c.
+PassesRegistrationStep valid x step.AttestationNotAccepted = Attested x.response (λ o a c.
     (IsNone o → x.policy.accept_none ≡ true) × (IsSelfSigned valid o c.key (hash_in x.response) → x.policy.accept_self ≡ true))
 -- the credential is not registered, to anyone
-Passes valid x step.CredentialRegistered = Attested x.response (λ o a c. x.is_registered c.id ≡ false)
+PassesRegistrationStep valid x step.CredentialRegistered = Attested x.response (λ o a c. x.is_registered c.id ≡ false)
 -- there is room for it
-Passes valid x step.TableFull = x.is_full ≡ false
+PassesRegistrationStep valid x step.TableFull = x.is_full ≡ false
 
 -- the steps in their order: on the session and the client data; on the authenticator data; on the attestation;
 -- on the table
@@ -100,9 +101,9 @@ response_steps = client_data_steps ++ (auth_data_steps ++ attestation_steps)
 abbrev pub steps : List RegistrationRefusal
 steps = response_steps ++ table_steps
 
-abbrev pub PassesAll : Relation → Enrolment → Type 0
-PassesAll valid x = Each (Passes valid x) steps
+abbrev pub PassesRegistration : Validity → JudgedRegistration → Type 0
+PassesRegistration valid x = Each (PassesRegistrationStep valid x) steps
 
 -- the first step that the response does not pass: it passes each earlier one
-abbrev pub IsFirstFailing : Relation → Enrolment → RegistrationRefusal → Type 0
-IsFirstFailing valid x w = FirstFailing (Passes valid x) steps w
+abbrev pub IsFirstFailing : Validity → JudgedRegistration → RegistrationRefusal → Type 0
+IsFirstFailing valid x w = FirstFailing (PassesRegistrationStep valid x) steps w

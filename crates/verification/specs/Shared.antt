@@ -1,4 +1,4 @@
--- The lines that sections 7.1 and 7.2 of WebAuthn Level 2 have in common: on client data (5.8.1) and on
+-- The steps that sections 7.1 and 7.2 of WebAuthn Level 2 have in common: on client data (5.8.1) and on
 -- authenticator data (6.1).
 use Rattle.std.specs.Prelude.{◌≡◌, ◌⊎◌, ℕ, List, Bool, true, Contains}
 use Rattle.sha2.specs.Sha256.{sha256}
@@ -10,10 +10,6 @@ use Rattle.clientdata.specs.declared.seen.Seen.{Seen}
 use Rattle.authdata.specs.Flags.{is_set, UP, UV}
 use Rattle.authdata.specs.Layout.{AuthenticatorData}
 use Rattle.verification.specs.Records.{RelyingParty}
-
--- a scheme's relation: the signature is valid for the message under the key
-abbrev pub Relation : Type 1
-Relation = CoseKey → List ℕ → List ℕ → Type 0
 
 -- the type is the ceremony's
 abbrev pub HasType : CeremonyType → Seen → Type 0

@@ -1,42 +1,42 @@
 -- What the crate's types stand for.
 use Rattle.std.specs.Prelude.{ℕ, Bool, false, List, map, option_map}
 use Rattle.std.specs.Borrow.{Bor}
-use Rattle.authdata.specs.Responses.{Assertion}
+use Rattle.authdata.specs.Responses.{AuthenticatorAssertionResponse}
 use Rattle.authdata.specs.Responses as responses
-use Rattle.verification.specs.Records.{Credential, NewCredential, SignIn, Registration}
-use Rattle.verification.specs.declared.record.CredentialView.{CredentialView}
+use Rattle.verification.specs.Records.{Credential, NewCredential, ExpectedSignIn, ExpectedRegistration}
+use Rattle.verification.specs.declared.record.RowView.{RowView}
 use Rattle.verification.specs.declared.record.SignInSession.{SignInSession}
 use Rattle.verification.specs.declared.record.RegistrationSession.{RegistrationSession}
 use Rattle.verification.specs.declared.record.AssertionParts.{AssertionParts}
 use Rattle.verification.specs.declared.record.RegistrationParts.{RegistrationParts}
-use Rattle.verification.specs.declared.assertion.SignInAttempt.{SignInAttempt}
+use Rattle.verification.specs.declared.signing_in.SignInAttempt.{SignInAttempt}
 use Rattle.verification.specs.declared.registration.RegistrationAttempt.{RegistrationAttempt}
 use Rattle.verification.specs.declared.registration.AdmittedCredential.{AdmittedCredential}
-use Rattle.verification.specs.Authentication.{Attempt}
-use Rattle.verification.specs.Registration.{Enrolment}
+use Rattle.verification.specs.SignIn.{JudgedSignIn}
+use Rattle.verification.specs.Registration.{JudgedRegistration}
 
 -- the texts that a list of borrowed texts lends
 abbrev pub texts_of : List (Bor (List ℕ)) → List (List ℕ)
 texts_of texts = map (λ text. text.now) texts
 
-abbrev pub credential_view : CredentialView → Credential
+abbrev pub credential_view : RowView → Credential
 credential_view c = record { id = c.id.now; user = c.user.now; key = c.key.now; sign_count = c.sign_count; eligible = c.eligible; retired = c.retired }
 
 abbrev pub admitted_view : AdmittedCredential → NewCredential
 admitted_view c = record { id = c.id.items; key = c.key; sign_count = c.sign_count; eligible = c.eligible }
 
-abbrev pub sign_in_view : SignInSession → SignIn
+abbrev pub sign_in_view : SignInSession → ExpectedSignIn
 sign_in_view s = record {
   user = option_map (λ u. u.items) s.user;
   allow = map (λ id. id.items) s.allow.items;
-  verified = s.verified;
+  uv = s.uv;
   challenge = s.challenge;
 }
 
-abbrev pub registration_view : RegistrationSession → Registration
-registration_view s = record { user = s.user.items; algorithms = s.algorithms.items; verified = s.verified; challenge = s.challenge }
+abbrev pub registration_view : RegistrationSession → ExpectedRegistration
+registration_view s = record { user = s.user.items; algorithms = s.algorithms.items; uv = s.uv; challenge = s.challenge }
 
-abbrev pub assertion_parts_view : AssertionParts → Assertion
+abbrev pub assertion_parts_view : AssertionParts → AuthenticatorAssertionResponse
 assertion_parts_view p = record {
   credential = p.credential.now;
   user = option_map (λ u. u.now) p.user;
@@ -45,11 +45,11 @@ assertion_parts_view p = record {
   client_data = p.client_data.now;
 }
 
-abbrev pub registration_parts_view : RegistrationParts → responses.Registration
+abbrev pub registration_parts_view : RegistrationParts → responses.AuthenticatorAttestationResponse
 registration_parts_view p = record { object = p.object.now; client_data = p.client_data.now }
 
-abbrev pub attempt_view : SignInAttempt → Attempt
-attempt_view x = record {
+abbrev pub judged_sign_in_view : SignInAttempt → JudgedSignIn
+judged_sign_in_view x = record {
   rp = x.party.now;
   session = option_map (λ s. sign_in_view s.now) x.session;
   credential = option_map credential_view x.credential;
@@ -57,8 +57,8 @@ attempt_view x = record {
 }
 
 -- the registration as it is judged, where these ids are registered and there is room or not
-abbrev pub enrolment_view : RegistrationAttempt → (List ℕ → Bool) → Bool → Enrolment
-enrolment_view x is_registered is_full = record {
+abbrev pub judged_registration_view : RegistrationAttempt → (List ℕ → Bool) → Bool → JudgedRegistration
+judged_registration_view x is_registered is_full = record {
   rp = x.party.now;
   policy = x.policy;
   session = option_map (λ s. registration_view s.now) x.session;
@@ -68,5 +68,5 @@ enrolment_view x is_registered is_full = record {
 }
 
 -- the same where nothing is registered: for steps that do not look at the table
-abbrev pub judged : RegistrationAttempt → Enrolment
-judged x = enrolment_view x (λ _. false) false
+abbrev pub judged_without_table : RegistrationAttempt → JudgedRegistration
+judged_without_table x = judged_registration_view x (λ _. false) false

@@ -1,17 +1,16 @@
-//! The lines on client data that both ceremonies have (WebAuthn Level 2, section 5.8.1).
+//! The steps on client data that both ceremonies have (WebAuthn Level 2, section 5.8.1).
 
 ghost use Rattle.std.specs.Prelude.{◌≡◌, IfErr, IsErrOf, OnOk};
-ghost use Rattle.first_line.specs.Lines.{Each};
-ghost use Rattle.verification.specs.ClientData.{Fails, IsSerialised, Says, lines};
-ghost use Rattle.verification.specs.declared.client_data.ClientDataError.TheVariants as errors;
+ghost use Rattle.refusal_order.specs.Lines.{Each};
+ghost use Rattle.verification.specs.ClientData.{Fails, IsSerialised, PassesClientDataStep, client_data_order};
 
 use crate::party::RelyingParty;
-use clientdata::{Binding, CeremonyType, Seen, challenge_text, read};
-use std::alloc::{AllocError, Global};
+use clientdata::{Binding, CeremonyType, is_challenge_text, read};
+use std::alloc::Global;
 
-/// The line on client data that fails.
+/// The step on client data that fails.
 #[derive(Clone, Copy, Debug, PartialEq, Eq, Drop)]
-pub(crate) enum ClientDataLine {
+pub(crate) enum ClientDataStep {
     Readable,
     Type,
     Challenge,
@@ -19,19 +18,11 @@ pub(crate) enum ClientDataLine {
     TokenBinding,
 }
 
-/// Why client data are refused: the first line that fails, or want of memory.
+/// Why client data are refused: the first step that fails, or want of memory.
 #[derive(Clone, Copy, Debug, PartialEq, Eq, Drop)]
 pub(crate) enum ClientDataError {
-    Fails(ClientDataLine),
+    Fails(ClientDataStep),
     Memory,
-}
-
-impl From<AllocError> for ClientDataError {
-    ghost from_gives = { λ _ e. e ≡ errors.Memory };
-
-    fn from(_e: AllocError) -> ClientDataError {
-        ClientDataError::Memory
-    }
 }
 
 /// Judges client data as those of a ceremony of this kind and challenge. What is serialised is read back, so client
@@ -43,7 +34,7 @@ pub(crate) fn check_client_data(
     challenge: &[u8; 32],
     party: &RelyingParty,
 ) -> Result<(), ClientDataError>
-    ensures passes { OnOk result (Each (Says kind challenge.now party.now bytes.now) lines) }
+    ensures passes { OnOk result (Each (PassesClientDataStep kind challenge.now party.now bytes.now) client_data_order) }
     ensures refused { IfErr result (Fails kind challenge.now party.now bytes.now) }
     ensures memory { IsErrOf result ClientDataError.Memory → IsSerialised kind challenge.now party.now bytes.now → ⊥ }
 {
@@ -53,22 +44,21 @@ pub(crate) fn check_client_data(
     let seen = match read(alloc, bytes) {
         Ok(seen) => seen,
         Err(clientdata::Error::Unreadable) => {
-            return Err(ClientDataError::Fails(ClientDataLine::Readable));
+            return Err(ClientDataError::Fails(ClientDataStep::Readable));
         }
         Err(clientdata::Error::Memory) => return Err(ClientDataError::Memory),
     };
-    let challenge = challenge_text(alloc, challenge)?;
     if seen.kind.as_str() != kind.text() {
-        return Err(ClientDataError::Fails(ClientDataLine::Type));
+        return Err(ClientDataError::Fails(ClientDataStep::Type));
     }
-    if seen.challenge.as_str() != challenge.as_str() {
-        return Err(ClientDataError::Fails(ClientDataLine::Challenge));
+    if !is_challenge_text(seen.challenge.as_str(), challenge) {
+        return Err(ClientDataError::Fails(ClientDataStep::Challenge));
     }
     if !party.has_origin(seen.origin.as_str()) {
-        return Err(ClientDataError::Fails(ClientDataLine::Origin));
+        return Err(ClientDataError::Fails(ClientDataStep::Origin));
     }
     if let Binding::Other = seen.binding {
-        return Err(ClientDataError::Fails(ClientDataLine::TokenBinding));
+        return Err(ClientDataError::Fails(ClientDataStep::TokenBinding));
     }
     Ok(())
 }

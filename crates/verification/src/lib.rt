@@ -3,20 +3,18 @@
 //! it is handed, and keeps nothing.
 #![tactic(auto)]
 
-mod assertion;
 mod client_data;
 mod flag;
 mod party;
 mod record;
 mod refusal;
 mod registration;
+mod signing_in;
 
-pub use assertion::{SignInAttempt, VerifiedAssertion, verify_assertion};
 pub use party::{Policy, RelyingParty};
-pub use record::{
-    AssertionParts, CredentialView, RegistrationParts, RegistrationSession, SignInSession,
-};
+pub use record::{AssertionParts, RegistrationParts, RegistrationSession, RowView, SignInSession};
 pub use refusal::{RegistrationError, RegistrationRefusal, SignInError, SignInRefusal};
 pub use registration::{
     AdmittedCredential, RegistrationAttempt, VerifiedRegistration, verify_registration,
 };
+pub use signing_in::{SignInAttempt, VerifiedAssertion, verify_assertion};

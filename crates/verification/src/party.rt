@@ -5,7 +5,7 @@ ghost use Rattle.sha2.specs.Sha256.{sha256};
 ghost use Rattle.verification.specs.ClientData.{IsSerialised};
 ghost use Rattle.verification.specs.Views.{texts_of};
 
-use clientdata::{CeremonyType, ExpectedOrigin, is_serialised};
+use clientdata::{CeremonyType, ExpectedOrigin, is_serialised_for_any};
 use sha2::{Digest, Sha256};
 use std::alloc::{AllocError, Global};
 use std::marker::Model;
@@ -43,7 +43,7 @@ impl RelyingParty {
     pub fn new(alloc: Global, rp_id: &str, origins: &[&str]) -> Result<RelyingParty, AllocError>
         ensures { IfOk result (λ p. p ≡ record { rp_id = rp_id.now; origins = texts_of origins.now }) }
     {
-        let mut expected = Vec::new(alloc);
+        let mut expected = Vec::with_capacity(alloc, origins.len())?;
         for origin in origins {
             expected.push(ExpectedOrigin::new(alloc, origin)?)?;
         }
@@ -85,11 +85,6 @@ impl RelyingParty {
     pub(crate) fn expects(&self, bytes: &[u8], kind: CeremonyType, challenge: &[u8; 32]) -> bool
         ensures { IsTrue result ↔ IsSerialised kind challenge.now self.now bytes.now }
     {
-        for origin in &self.origins {
-            if is_serialised(bytes, kind, challenge, origin) {
-                return true;
-            }
-        }
-        false
+        is_serialised_for_any(bytes, kind, challenge, &self.origins)
     }
 }

@@ -4,7 +4,7 @@ use cose::{Alg, CoseKey};
 
 /// A registered credential, lent.
 #[derive(Clone, Copy, Debug, Drop)]
-pub struct CredentialView<'a> {
+pub struct RowView<'a> {
     /// The credential id: 1 to 64 bytes.
     pub id: &'a [u8],
     /// The user handle: 1 to 64 bytes.
@@ -26,8 +26,8 @@ pub struct SignInSession {
     pub user: Option<Vec<u8>>,
     /// The ids of the credentials that may answer; none for any.
     pub allow: Vec<Vec<u8>>,
-    /// Whether the user is to be verified.
-    pub verified: bool,
+    /// Whether user verification (UV) is required.
+    pub uv: bool,
     /// The challenge, of which no other session has the same.
     pub challenge: [u8; 32],
 }
@@ -39,8 +39,8 @@ pub struct RegistrationSession {
     pub user: Vec<u8>,
     /// The algorithms that were offered.
     pub algorithms: Vec<Alg>,
-    /// Whether the user is to be verified.
-    pub verified: bool,
+    /// Whether user verification (UV) is required.
+    pub uv: bool,
     /// The challenge, of which no other session has the same.
     pub challenge: [u8; 32],
 }

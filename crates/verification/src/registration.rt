@@ -1,17 +1,19 @@
 //! Judging a registration (WebAuthn Level 2, section 7.1).
 
 ghost use Rattle.std.specs.Prelude.{◌≡◌, ◌↔◌, Bool, Contains, IfErr, IfOk, IsTrue, List, OnOk, Some, ℕ};
-ghost use Rattle.first_line.specs.Lines.{Each, FirstFailing};
+ghost use Rattle.refusal_order.specs.Lines.{Each, FirstFailing};
 ghost use Rattle.cose.specs.Keys.{alg_of};
 ghost use Rattle.authdata.specs.Objects.{ObjectOf, object_view};
 ghost use Rattle.authdata.specs.Layout.{AuthOf, auth_view, attested_view};
-ghost use Rattle.verification.specs.Registration.{Attests, Enrolment, Passes, attestation_steps, auth_data_steps, client_data_steps, response_steps, table_steps};
-ghost use Rattle.verification.specs.RegistrationAnswers.{Accepts, AttestsNothing, FailsIn, IsNoData, IsRefused, Shows, ShowsNothing, Tells, step_of};
-ghost use Rattle.verification.specs.Answers.{never};
+ghost use Rattle.verification.specs.Registration.{Attests, JudgedRegistration, PassesRegistrationStep, attestation_steps, auth_data_steps};
+ghost use Rattle.verification.specs.Registration.{client_data_steps, response_steps, table_steps};
+ghost use Rattle.verification.specs.RegistrationAnswers.{AcceptsAttestation, AttestsNothing, FailsIn, IsNoData, IsRefused, AttestsAs};
+ghost use Rattle.verification.specs.RegistrationAnswers.{AttestsAsNothing, IsVerifiedRegistration, step_of};
+ghost use Rattle.verification.specs.SignInAnswers.{never};
 ghost use Rattle.verification.specs.Attested.{IsOf, data_of};
-ghost use Rattle.verification.specs.Views.{admitted_view, enrolment_view, judged, registration_view, registration_parts_view};
+ghost use Rattle.verification.specs.Views.{admitted_view, judged_registration_view, judged_without_table, registration_view, registration_parts_view};
 
-use crate::client_data::{ClientDataError, ClientDataLine, check_client_data};
+use crate::client_data::{ClientDataError, ClientDataStep, check_client_data};
 use crate::flag::is_verified_as;
 use crate::party::{Policy, RelyingParty};
 use crate::record::{RegistrationParts, RegistrationSession};
@@ -78,15 +80,15 @@ struct Attestation {
 }
 
 /// What the step on client data is, of those of a registration.
-fn refusal_of(line: ClientDataLine) -> RegistrationRefusal
+fn refusal_of(line: ClientDataStep) -> RegistrationRefusal
     ensures { result ≡ step_of line }
 {
     match line {
-        ClientDataLine::Readable => RegistrationRefusal::UnreadableClientData,
-        ClientDataLine::Type => RegistrationRefusal::WrongType,
-        ClientDataLine::Challenge => RegistrationRefusal::WrongChallenge,
-        ClientDataLine::Origin => RegistrationRefusal::WrongOrigin,
-        ClientDataLine::TokenBinding => RegistrationRefusal::TokenBinding,
+        ClientDataStep::Readable => RegistrationRefusal::UnreadableClientData,
+        ClientDataStep::Type => RegistrationRefusal::WrongType,
+        ClientDataStep::Challenge => RegistrationRefusal::WrongChallenge,
+        ClientDataStep::Origin => RegistrationRefusal::WrongOrigin,
+        ClientDataStep::TokenBinding => RegistrationRefusal::TokenBinding,
     }
 }
 
@@ -116,8 +118,8 @@ fn statement<V: Verifier>(
     key: &CoseKey,
     hash: &[u8; 32],
 ) -> Result<AttestationType, RegistrationRefusal>
-    ensures shown { IfOk result (Shows (V.valid verifier.now) (object_view object.now) key.now hash.now) }
-    ensures refused { IfErr result (ShowsNothing (V.valid verifier.now) (object_view object.now) key.now hash.now) }
+    ensures shown { IfOk result (AttestsAs (V.valid verifier.now) (object_view object.now) key.now hash.now) }
+    ensures refused { IfErr result (AttestsAsNothing (V.valid verifier.now) (object_view object.now) key.now hash.now) }
 {
     match check_statement(verifier, object, key, hash) {
         Ok(kind) => Ok(kind),
@@ -128,7 +130,7 @@ fn statement<V: Verifier>(
 
 /// Whether the policy accepts this kind of attestation.
 fn is_accepted(policy: Policy, kind: AttestationType) -> bool
-    ensures { IsTrue result ↔ Accepts policy kind }
+    ensures { IsTrue result ↔ AcceptsAttestation policy kind }
 {
     match kind {
         AttestationType::None => policy.accept_none,
@@ -192,9 +194,9 @@ fn attested_by(alloc: Global, bytes: &[u8]) -> Result<Attestation, RegistrationE
 impl<'a> RegistrationAttempt<'a> {
     /// The session, where it is open and the steps on client data are passed.
     fn check_client_data(&self, alloc: Global) -> Result<&'a RegistrationSession, RegistrationError>
-        ensures passes { OnOk result (Each (Passes never (judged self.now)) client_data_steps) }
-        ensures session { IfOk result (λ s. (judged self.now).session ≡ Some (registration_view s.now)) }
-        ensures refused { IfErr result (FailsIn never (judged self.now) client_data_steps) }
+        ensures passes { OnOk result (Each (PassesRegistrationStep never (judged_without_table self.now)) client_data_steps) }
+        ensures session { IfOk result (λ s. (judged_without_table self.now).session ≡ Some (registration_view s.now)) }
+        ensures refused { IfErr result (FailsIn never (judged_without_table self.now) client_data_steps) }
     {
         let Some(session) = self.session else {
             return Err(RegistrationError::Refused(RegistrationRefusal::SessionNotOpen));
@@ -218,10 +220,10 @@ impl<'a> RegistrationAttempt<'a> {
         alloc: Global,
         session: &RegistrationSession,
     ) -> Result<Attestation, RegistrationError>
-        requires { (judged self.now).session ≡ Some (registration_view session.now) }
-        ensures passes { OnOk result (Each (Passes never (judged self.now)) auth_data_steps) }
-        ensures found { IfOk result (λ x. Attests (judged self.now).response (object_view x.object) (data_of x) (attested_view x.credential)) }
-        ensures refused { IfErr result (FailsIn never (judged self.now) auth_data_steps) }
+        requires { (judged_without_table self.now).session ≡ Some (registration_view session.now) }
+        ensures passes { OnOk result (Each (PassesRegistrationStep never (judged_without_table self.now)) auth_data_steps) }
+        ensures found { IfOk result (λ x. Attests (judged_without_table self.now).response (object_view x.object) (data_of x) (attested_view x.credential)) }
+        ensures refused { IfErr result (FailsIn never (judged_without_table self.now) auth_data_steps) }
     {
         let found = match attested_by(alloc, self.response.object) {
             Ok(found) => found,
@@ -233,7 +235,7 @@ impl<'a> RegistrationAttempt<'a> {
         if !flags::is_set(found.flags, flags::UP) {
             return Err(RegistrationError::Refused(RegistrationRefusal::UserNotPresent));
         }
-        if !is_verified_as(session.verified, found.flags) {
+        if !is_verified_as(session.uv, found.flags) {
             return Err(RegistrationError::Refused(RegistrationRefusal::UserNotVerified));
         }
         if !offers(session, &found.credential.key) {
@@ -248,9 +250,9 @@ impl<'a> RegistrationAttempt<'a> {
         verifier: &V,
         found: &Attestation,
     ) -> Result<(), RegistrationRefusal>
-        requires { Attests (judged self.now).response (object_view found.now.object) (data_of found.now) (attested_view found.now.credential) }
-        ensures passes { OnOk result (Each (Passes (V.valid verifier.now) (judged self.now)) attestation_steps) }
-        ensures refused { IfErr result (FirstFailing (Passes (V.valid verifier.now) (judged self.now)) attestation_steps) }
+        requires { Attests (judged_without_table self.now).response (object_view found.now.object) (data_of found.now) (attested_view found.now.credential) }
+        ensures passes { OnOk result (Each (PassesRegistrationStep (V.valid verifier.now) (judged_without_table self.now)) attestation_steps) }
+        ensures refused { IfErr result (FirstFailing (PassesRegistrationStep (V.valid verifier.now) (judged_without_table self.now)) attestation_steps) }
     {
         let hash = hash(self.response.client_data);
         let kind = match statement(verifier, &found.object, &found.credential.key, &hash) {
@@ -296,11 +298,11 @@ pub fn verify_registration<V: Verifier>(
     verifier: &V,
     attempt: &RegistrationAttempt<'_>,
 ) -> Result<VerifiedRegistration, RegistrationError>
-    ensures accepted { IfOk result (λ v. Tells (judged attempt.now) v
+    ensures accepted { IfOk result (λ v. IsVerifiedRegistration (judged_without_table attempt.now) v
         × ((is_registered : List ℕ → Bool) (is_full : Bool)
-        → Each (Passes (V.valid verifier.now) (enrolment_view attempt.now is_registered is_full)) response_steps)) }
+        → Each (PassesRegistrationStep (V.valid verifier.now) (judged_registration_view attempt.now is_registered is_full)) response_steps)) }
     ensures refused { IfErr result (λ e. (is_registered : List ℕ → Bool) (is_full : Bool)
-        → IsRefused (V.valid verifier.now) (enrolment_view attempt.now is_registered is_full) e) }
+        → IsRefused (V.valid verifier.now) (judged_registration_view attempt.now is_registered is_full) e) }
 {
     let session = attempt.check_client_data(alloc)?;
     let found = attempt.attestation(alloc, session)?;
@@ -324,10 +326,11 @@ impl VerifiedRegistration {
         is_full: bool,
     ) -> Result<AdmittedCredential, RegistrationRefusal>
         ensures admitted { IfOk result (λ c. admitted_view c ≡ self) }
-        ensures passes { OnOk result ((x : Enrolment) → Tells x self → x.is_registered self.id ≡ is_registered → x.is_full ≡ is_full
-            → Each (Passes never x) table_steps) }
-        ensures refused { IfErr result (λ w. (x : Enrolment) → Tells x self → x.is_registered self.id ≡ is_registered → x.is_full ≡ is_full
-            → FirstFailing (Passes never x) table_steps w) }
+        ensures passes { OnOk result ((x : JudgedRegistration) → IsVerifiedRegistration x self → x.is_registered self.id ≡ is_registered → x.is_full ≡ is_full
+            → Each (PassesRegistrationStep never x) table_steps) }
+        ensures refused { IfErr result (λ w. (x : JudgedRegistration) → IsVerifiedRegistration x self → x.is_registered self.id ≡ is_registered
+            → x.is_full ≡ is_full
+            → FirstFailing (PassesRegistrationStep never x) table_steps w) }
     {
         if is_registered {
             return Err(RegistrationRefusal::CredentialRegistered);

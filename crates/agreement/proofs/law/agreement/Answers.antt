@@ -1,3 +1,4 @@
+-- What is owed of `agreement`.
 use Rattle.agreement.proofs.Registering.{registers}
 use Rattle.agreement.proofs.SigningIn.{signs_in}
 use Rattle.agreement.proofs.Runs.{agrees}

@@ -1,3 +1,4 @@
+-- What is owed of `below`.
 use Rattle.agreement.proofs.law.below.Goals as goal
 
 pub returns : goal.returns

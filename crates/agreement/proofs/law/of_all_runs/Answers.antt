@@ -1,3 +1,4 @@
+-- What is owed of `of_all_runs`.
 use Rattle.agreement.proofs.AllRuns.{of_all_runs}
 use Rattle.agreement.proofs.Ledger.{ledger}
 use Rattle.agreement.proofs.law.of_all_runs.Goals as goal

@@ -1,3 +1,4 @@
+-- What is owed of `key_inside`.
 use Rattle.authdata.proofs.NoRefusal.{key_inside}
 use Rattle.authdata.proofs.law.key_inside.Goals as goal
 

@@ -1,3 +1,4 @@
+-- What is owed of `one_object`.
 use Rattle.authdata.proofs.Objects.{one_object}
 use Rattle.authdata.proofs.law.one_object.Goals as goal
 

@@ -1,3 +1,4 @@
+-- What is owed of `one_reading`.
 use Rattle.authdata.proofs.Unique.{one_front, one_value}
 use Rattle.authdata.proofs.law.one_reading.Goals as goal
 

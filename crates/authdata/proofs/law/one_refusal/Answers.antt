@@ -1,5 +1,6 @@
+-- What is owed of `one_refusal`.
 use Rattle.authdata.specs.Refusals.{order}
-use Rattle.first_line.proofs.Laws.{one_first}
+use Rattle.refusal_order.proofs.Laws.{one_first}
 use Rattle.authdata.proofs.NoRefusal.{none_applies}
 use Rattle.authdata.proofs.law.one_refusal.Goals as goal
 

@@ -1,3 +1,4 @@
+-- What is owed of `one_statement`.
 use Rattle.authdata.proofs.Statements.{one_statement}
 use Rattle.authdata.proofs.law.one_statement.Goals as goal
 

@@ -1,3 +1,4 @@
+-- What is owed of `sizes`.
 use Rattle.authdata.proofs.Unique.{length-bare, length-exact, length-full, length-least}
 use Rattle.authdata.proofs.law.sizes.Goals as goal
 

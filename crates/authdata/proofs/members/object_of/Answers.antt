@@ -1,3 +1,4 @@
+-- What is owed of `object_of`.
 use Rattle.std.proofs.Common.{rules}
 use Rattle.authdata.proofs.Objects.{object_is}
 use Rattle.authdata.proofs.members.object_of.Goals as goal

@@ -1,3 +1,4 @@
+-- What is owed of `three_members`.
 use Rattle.std.proofs.Common.{◌≡◌, ◌∙◌, length, ap, subst, arith}
 use Rattle.ccbor.specs.Item.{map}
 use Rattle.ccbor.proofs.Views.{view-Map}

@@ -1,3 +1,4 @@
+-- What is owed of `key_front`.
 use Rattle.std.proofs.Common.{refl}
 use Rattle.authdata.proofs.Fronts.{other_value, no_value}
 use Rattle.authdata.proofs.parts.key_front.Goals as goal

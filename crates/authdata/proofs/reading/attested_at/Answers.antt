@@ -1,3 +1,4 @@
+-- What is owed of `attested_at`.
 use Rattle.std.proofs.Common.{sym}
 use Rattle.authdata.proofs.Joins.{to_the_end}
 use Rattle.authdata.proofs.Firsts.{credential_refused}

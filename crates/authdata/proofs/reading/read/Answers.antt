@@ -1,3 +1,4 @@
+-- What is owed of `read`.
 use Rattle.std.proofs.Common.{◌≡◌}
 use Rattle.std.proofs.lemmas.Result.{err_from_is_err_and}
 use Rattle.authdata.specs.declared.error.Error.TheVariants as errors

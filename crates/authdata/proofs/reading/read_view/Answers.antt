@@ -1,3 +1,4 @@
+-- What is owed of `read_view`.
 use Rattle.std.proofs.Common.{◌≡◌, ◌<◌, ◌^◌, length, option_map, ap, subst, sym, ◌∙◌, arith, rules}
 use Rattle.authdata.specs.Flags.{is_set, HasBackup, ED}
 use Rattle.authdata.specs.Layout.{lent_attested_view, IsAuthenticatorData}
@@ -34,7 +35,8 @@ returns-then-rest-gt0-clause-refused c =
     let flags : c.in-Some.flags < 256 = search rules in
     let backup : HasBackup c.in-Some.flags = search rules in
     let is : IsAuthenticatorData (auth_from c.in-Some.hash.now c.in-Some.flags c.in-Some.sign_count (option_map lent_attested_view c.in-Ok.attested)) =
-    auth_is bs c.in-Some.hash.now c.in-Some.flags c.in-Some.sign_count c.in-Ok.attested len flags count c.in-Some.ensures.flags k.flag (sym c.if-is_set.ensures) backup k.is in
+    auth_is bs c.in-Some.hash.now c.in-Some.flags c.in-Some.sign_count c.in-Ok.attested len flags count c.in-Some.ensures.flags k.flag
+    (sym c.if-is_set.ensures) backup k.is in
     let some : 0 < length c.in-Ok.rest.now = omega arith in
     extra_first bs (λ s. let t = c.is_short.ensures.1 s in let f = c.if-is_short.false in absurd cc)
     (λ s. let t = ap (λ n. is_set n ED) c.in-Some.ensures.flags ∙ s in let f = c.if-is_set.ensures in absurd cc)

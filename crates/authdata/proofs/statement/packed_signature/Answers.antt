@@ -1,3 +1,4 @@
+-- What is owed of `packed_signature`.
 use Rattle.std.proofs.Common.{sym, ◌∙◌, ap}
 use Rattle.ccbor.specs.Access.{is_same_key}
 use Rattle.ccbor.specs.Item.{nint}

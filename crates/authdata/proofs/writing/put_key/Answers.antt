@@ -1,3 +1,4 @@
+-- What is owed of `put_key`.
 use Rattle.std.proofs.Common.{refl}
 use Rattle.authdata.specs.Layout.{key_bytes}
 use Rattle.cose.proofs.KeyLemmas.{key_canon}

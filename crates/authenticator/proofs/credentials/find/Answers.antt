@@ -1,3 +1,4 @@
+-- What is owed of `find`.
 use Rattle.authenticator.proofs.Store.{found_is}
 use Rattle.authenticator.proofs.credentials.find.Goals as goal
 

@@ -1,3 +1,4 @@
+-- What is owed of `step_laws`.
 use Rattle.authenticator.proofs.Soundness.{laws}
 use Rattle.authenticator.proofs.law.step_laws.Goals as goal
 

@@ -1,5 +1,6 @@
+-- What the loop of `first_supported` keeps.
 use Rattle.std.proofs.Common.{◌≡◌, drop, map}
-use Rattle.ctapmsg.specs.RequestView.{parameters_view}
+use Rattle.ctap_requests.specs.RequestView.{parameters_view}
 use Rattle.authenticator.specs.Orders.{first_supported}
 use Rattle.authenticator.proofs.make_credential.first_supported.Given as goal
 

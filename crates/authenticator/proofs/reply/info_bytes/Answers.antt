@@ -1,5 +1,6 @@
+-- What is owed of `info_bytes`.
 use Rattle.std.proofs.Common.{rules}
-use Rattle.ctapmsg.specs.ReplyView.{info_view}
+use Rattle.ctap_replies.specs.ReplyView.{info_view}
 use Rattle.authenticator.proofs.Replies.{info_message}
 use Rattle.authenticator.proofs.reply.info_bytes.Goals as goal
 

@@ -1,3 +1,4 @@
+-- What is owed of `written`.
 use Rattle.authenticator.proofs.reply.written.Goals as goal
 
 pub bytes_of-requires : goal.bytes_of-requires

@@ -1,3 +1,4 @@
+-- What is owed of `written_assertion`.
 use Rattle.authenticator.proofs.reply.written_assertion.Goals as goal
 
 pub bytes_of-requires : goal.bytes_of-requires

@@ -1,3 +1,4 @@
+-- What the loop of `all_listed` keeps.
 use Rattle.std.proofs.Common.{◌≡◌, drop}
 use Rattle.ccbor.specs.View.{pairs_view}
 use Rattle.cbor_map.specs.Table.{all_keys, is_listed}
@@ -5,4 +6,5 @@ use Rattle.cbor_map.specs.TableView.{members_view}
 use Rattle.cbor_map.proofs.faults.all_listed.Given as goal
 
 abbrev pub invariant-loop-key : goal.invariant-loop-key
-invariant-loop-key l = all_keys (is_listed (members_view l.members)) (pairs_view (drop l.key-index l.pairs)) ≡ all_keys (is_listed (members_view l.members)) (pairs_view l.pairs)
+invariant-loop-key l = all_keys (is_listed (members_view l.members)) (pairs_view (drop l.key-index l.pairs)) ≡ all_keys (is_listed (members_view l.members))
+    (pairs_view l.pairs)

@@ -1,3 +1,4 @@
+-- What the loop of `all_truths` keeps.
 use Rattle.std.proofs.Common.{◌≡◌, drop}
 use Rattle.ccbor.specs.View.{pairs_view}
 use Rattle.cbor_map.specs.Table.{all_truths}

@@ -1,3 +1,4 @@
+-- What the loop of `is_listed` keeps.
 use Rattle.std.proofs.Common.{◌≡◌, drop}
 use Rattle.ccbor.specs.View.{view}
 use Rattle.cbor_map.specs.Table.{is_listed}

@@ -1,3 +1,4 @@
+-- What is owed of `size_of`.
 use Rattle.std.proofs.Common.{◌≡◌, sym}
 use Rattle.ccbor.specs.Item.{array}
 use Rattle.ccbor.specs.View.{view, items_view}

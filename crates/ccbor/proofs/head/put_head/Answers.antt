@@ -1,3 +1,4 @@
+-- What is owed of `put_head`.
 use Rattle.std.proofs.Common.{◌+◌, ◌*◌, [], ◌∷◌, ◌++◌, sym, ap, ◌∙◌, arith}
 use Rattle.ccbor.proofs.Numbers.{head_tiny, head_8, head_16, head_32, head_64, one_byte_is}
 use Rattle.ccbor.proofs.Appended.{ends_with}

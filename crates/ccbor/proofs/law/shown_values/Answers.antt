@@ -1,3 +1,4 @@
+-- What is owed of `shown_values`.
 use Rattle.ccbor.proofs.Shows.{shown_is}
 use Rattle.ccbor.proofs.Elements.{shown_pairs_is}
 use Rattle.ccbor.proofs.law.shown_values.Goals as goal

@@ -1,3 +1,4 @@
+-- What is owed of `text_at`.
 use Rattle.std.proofs.Common.{◌∙◌, string_bytes}
 use Rattle.ccbor.proofs.Leaves.{text_is, text_is_none}
 use Rattle.ccbor.proofs.Views.{view-Text}
@@ -10,4 +11,5 @@ returns-in_ok-from_str-in-Ok c =
     c.in_ok-content.ensures c.in-Ok.ensures.cases.1 (c.in_ok-from_str-in-Ok.ensures.ok ∙ c.in-Ok.ensures.cases.0))
 
 pub returns-in-Err : goal.returns-in-Err
-returns-in-Err c = text_is_none c.args.count c.args.rest.now c.in_ok-content.content.now c.in_ok-content.rest.now c.in_ok-content.ensures c.in-Err.ensures.cases.0
+returns-in-Err c = text_is_none c.args.count c.args.rest.now c.in_ok-content.content.now c.in_ok-content.rest.now c.in_ok-content.ensures
+    c.in-Err.ensures.cases.0

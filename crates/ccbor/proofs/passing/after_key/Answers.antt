@@ -1,3 +1,4 @@
+-- What is owed of `after_key`.
 use Rattle.std.proofs.Common.{◌≡◌, false, refl, sym, ◌∙◌}
 use Rattle.ccbor.specs.Reading.{head_at, begins_key, key_at}
 use Rattle.ccbor.proofs.Walks.{no_head, key_passed}
@@ -16,9 +17,18 @@ returns-then-not-begins_key c =
 pub returns-in_err-rest : goal.returns-in_err-rest
 returns-in_err-rest c =
     let h = c.in-Ok in
-    rw (c.from_residual.ensures, key_passed c.args.known c.args.bytes.now h.head.major h.head.argument h.rest.now h.ensures (sym c.begins_key.ensures ∙ c.if-not-begins_key.false), ← c.in_err-rest.ensures) refl
+    rw (
+      c.from_residual.ensures,
+      key_passed c.args.known c.args.bytes.now h.head.major h.head.argument h.rest.now h.ensures (sym c.begins_key.ensures
+          ∙ c.if-not-begins_key.false),
+      ← c.in_err-rest.ensures,
+    ) refl
 
 pub returns : goal.returns
 returns c =
     let h = c.in-Ok in
-    rw (key_passed c.args.known c.args.bytes.now h.head.major h.head.argument h.rest.now h.ensures (sym c.begins_key.ensures ∙ c.if-not-begins_key.false), ← c.in_ok-rest.ensures, c.span_before.ensures) refl
+    rw (
+      key_passed c.args.known c.args.bytes.now h.head.major h.head.argument h.rest.now h.ensures (sym c.begins_key.ensures ∙ c.if-not-begins_key.false),
+      ← c.in_ok-rest.ensures,
+      c.span_before.ensures,
+    ) refl

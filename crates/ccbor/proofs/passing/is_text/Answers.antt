@@ -1,3 +1,4 @@
+-- What is owed of `is_text`.
 use Rattle.std.proofs.Common.{refl}
 use Rattle.std.proofs.lemmas.Str.{is_utf8-from_IsUtf8}
 use Rattle.ccbor.proofs.Leaves.{no_text}

@@ -1,10 +1,12 @@
+-- What is owed of `known_front`.
 use Rattle.std.proofs.Common.{◌≡◌, ◌∙◌, true}
 use Rattle.ccbor.proofs.Decoding.{known_rest}
 use Rattle.ccbor.proofs.Leaves.{front_is}
 use Rattle.ccbor.proofs.passing.known_front.Goals as goal
 
 pub returns-in_err-rest : goal.returns-in_err-rest
-returns-in_err-rest c = rw c.from_residual.ensures (λ x a more canon is. let e = c.in_err-rest.ensures ∙ known_rest true x a more c.args.bytes.now canon is in absurd cc)
+returns-in_err-rest c = rw c.from_residual.ensures (λ x a more canon is. let e = c.in_err-rest.ensures
+    ∙ known_rest true x a more c.args.bytes.now canon is in absurd cc)
 
 pub returns : goal.returns
 returns c = λ x a more canon is.

@@ -1,3 +1,4 @@
+-- What is owed of `decode_all`.
 use Rattle.std.proofs.Common.{sym, ap, ◌∙◌}
 use Rattle.ccbor.specs.Viewing.{shown}
 use Rattle.ccbor.proofs.Shows.{shown_is}

@@ -1,3 +1,4 @@
+-- What is owed of `parts`.
 use Rattle.std.proofs.Common.{◌≡◌, true, false, eqb, refl, sym, ◌∙◌, arith}
 use Rattle.std.proofs.lemmas.Bool.Decides.{nat_tests}
 use Rattle.ccbor.specs.Reading.{head_at}
@@ -6,7 +7,8 @@ use Rattle.ccbor.proofs.Shows.{head_is, parts_shown}
 use Rattle.ccbor.proofs.view.parts.Goals as goal
 
 pub returns-in_default : goal.returns-in_default
-returns-in_default c = λ x canon. let e = sym (no_head c.in_default.field-0 (head_at c.args.bytes.now) c.in_default.ensures) ∙ head_is x c.args.bytes.now canon in absurd cc
+returns-in_default c = λ x canon. let e = sym (no_head c.in_default.field-0 (head_at c.args.bytes.now) c.in_default.ensures)
+    ∙ head_is x c.args.bytes.now canon in absurd cc
 
 pub returns-then-head-major : goal.returns-then-head-major
 returns-then-head-major c = λ x canon.

@@ -1,3 +1,4 @@
+-- What is owed of `collect`.
 use Rattle.ceremony.proofs.Feeding.{ended, ready}
 use Rattle.ceremony.proofs.live.collect.Goals as goal
 

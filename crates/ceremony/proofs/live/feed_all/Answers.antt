@@ -1,3 +1,4 @@
+-- What is owed of `feed_all`.
 use Rattle.std.proofs.Common.{◌≡◌, ◌+◌, ◌++◌, inr, [], ◌∷◌, List, take, slice_index_or, refl, sym, ◌∙◌, subst}
 use Rattle.std.proofs.lemmas.List.{take_more}
 use Rattle.hidframe.specs.declared.Packet.{Packet}
@@ -18,7 +19,8 @@ pub returns-in-Ok-Ready-clause-got : goal.returns-in-Ok-Ready-clause-got
 returns-in-Ok-Ready-clause-got c =
     let ps = take c.loop-packet.packet-index c.args.packets.now in
     let i = c.loop-packet.invariant in
-    ended_with c.loop-packet.live.cid _ c.loop-packet.packet-index c.feed.new.self c.args.packets.now _ (take_more c.args.packets.now c.loop-packet.packet-index (record { 0 = [] }) c.loop-packet-test.true) i.channel
+    ended_with c.loop-packet.live.cid _ c.loop-packet.packet-index c.feed.new.self c.args.packets.now _
+    (take_more c.args.packets.now c.loop-packet.packet-index (record { 0 = [] }) c.loop-packet-test.true) i.channel
     (c.in-Ok-Ready.ensures.got ps i.got)
     (over_ready c.loop-packet.live.cid ps _ c.in-Ok-Ready.field-0 c.in-Ok-Ready.field-0-is (c.in-Ok-Ready.ensures.answer ps i.got))
 
@@ -29,13 +31,15 @@ pub returns-in-Err-clause-got : goal.returns-in-Err-clause-got
 returns-in-Err-clause-got c =
     let ps = take c.loop-packet.packet-index c.args.packets.now in
     let i = c.loop-packet.invariant in
-    ended_with c.loop-packet.live.cid _ c.loop-packet.packet-index c.feed.new.self c.args.packets.now _ (take_more c.args.packets.now c.loop-packet.packet-index (record { 0 = [] }) c.loop-packet-test.true) i.channel
+    ended_with c.loop-packet.live.cid _ c.loop-packet.packet-index c.feed.new.self c.args.packets.now _
+    (take_more c.args.packets.now c.loop-packet.packet-index (record { 0 = [] }) c.loop-packet-test.true) i.channel
     (c.in-Err.ensures.got ps i.got)
     (has_ended_later ps _ (_, refl) ((c.in-Err.ensures.answer ps i.got).ended.0 tt))
 
 pub loop-packet-preserved : goal.loop-packet-preserved
 loop-packet-preserved c =
-    let push : take (c.loop-packet.packet-index + 1) c.args.packets.now ≡ take c.loop-packet.packet-index c.args.packets.now ++ slice_index_or c.args.packets.now c.loop-packet.packet-index (record { 0 = [] }) ∷ [] =
+    let push : take (c.loop-packet.packet-index + 1) c.args.packets.now ≡ take c.loop-packet.packet-index c.args.packets.now
+    ++ slice_index_or c.args.packets.now c.loop-packet.packet-index (record { 0 = [] }) ∷ [] =
     take_more c.args.packets.now c.loop-packet.packet-index (record { 0 = [] }) c.loop-packet-test.true in
     let i = c.loop-packet.invariant in
     let got : HasGot c.feed.new.self (take (c.loop-packet.packet-index + 1) c.args.packets.now) =

@@ -1,3 +1,4 @@
+-- What the loop of `feed_all` keeps.
 use Rattle.std.proofs.Common.{◌≡◌, ◌≤◌, take}
 use Rattle.ceremony.specs.Packets.{HasGot}
 use Rattle.ceremony.proofs.live.feed_all.Given as goal

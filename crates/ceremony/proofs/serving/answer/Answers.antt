@@ -1,3 +1,4 @@
+-- What is owed of `answer`.
 use Rattle.std.proofs.Common.{◌≤◌, arith, length}
 use Rattle.ceremony.proofs.Acting.{not_refused}
 use Rattle.ceremony.proofs.serving.answer.Goals as goal

@@ -1,3 +1,4 @@
+-- What is owed of `decide`.
 use Rattle.std.proofs.Common.{◌≡◌, [], ◌∷◌, List, ℕ, sym, ◌∙◌, subst}
 use Rattle.hidlink.specs.History.{Answered}
 use Rattle.hidlink.specs.Ranks.{on_working}

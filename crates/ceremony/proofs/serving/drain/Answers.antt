@@ -1,3 +1,4 @@
+-- What is owed of `drain`.
 use Rattle.std.proofs.Common.{◌≡◌, ◌+◌, ◌-◌, ◌<◌, ◌≤◌, inl, inr, ◌++◌, [], ◌∷◌, List, length, refl, sym, ◌∙◌, ap, arith}
 use Rattle.std.specs.Prelude.{vec_capacity, vec_len}
 use Rattle.std.proofs.lemmas.List.{append_assoc, append-nil}
@@ -16,7 +17,8 @@ loop-number-preserved c =
     let room : vec_len c.loop-number.out + (129 - c.loop-number._number) ≤ vec_capacity c.loop-number.out = i.room in
     let free : vec_len c.loop-number.out < vec_capacity c.loop-number.out = omega (arith, before, room) in
     let put : c.push.new.self.items ≡ c.loop-number.out.items ++ c.in-Some.packet ∷ [] =
-    one_sent c.push.result (c.loop-number.out.items ++ c.in-Some.packet ∷ []) c.loop-number.out.items c.push.new.self.items (c.push.ensures.succeeds free) c.push.ensures.items in
+    one_sent c.push.result (c.loop-number.out.items ++ c.in-Some.packet ∷ []) c.loop-number.out.items c.push.new.self.items
+    (c.push.ensures.succeeds free) c.push.ensures.items in
     let one : c.loop-number.device.left ≡ c.in-Some.packet ∷ c.next_out.new.self.left = c.in-Some.ensures.gives in
     let most : length c.loop-number.device.left ≤ 129 = c.in-Some.ensures.most in
     record {
@@ -43,7 +45,8 @@ returns-in_default-clause-out c =
 pub returns-clause-device : goal.returns-clause-device
 returns-clause-device c =
     let i = c.loop-number.invariant in
-    i.device ∙ ap (λ (ps : List Packet). record c.args.device.now { left = ps }) (all_sent c.loop-number._number c.loop-number.device.left c.loop-number-test.false i.few)
+    i.device ∙ ap (λ (ps : List Packet). record c.args.device.now { left = ps })
+    (all_sent c.loop-number._number c.loop-number.device.left c.loop-number-test.false i.few)
 
 pub returns-clause-out : goal.returns-clause-out
 returns-clause-out c =

@@ -1,3 +1,4 @@
+-- What the loop of `drain` keeps.
 use Rattle.std.proofs.Common.{◌≡◌, ◌+◌, ◌-◌, ◌≤◌, ◌⊎◌, ◌++◌, length}
 use Rattle.std.specs.Prelude.{vec_capacity, vec_len}
 use Rattle.ceremony.proofs.serving.drain.Given as goal

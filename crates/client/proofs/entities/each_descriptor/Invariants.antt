@@ -1,5 +1,6 @@
+-- What the loop of `each_descriptor` keeps.
 use Rattle.std.proofs.Common.{◌≡◌, map, take}
-use Rattle.ctapmsg.specs.RequestView.{descriptor_view}
+use Rattle.ctap_requests.specs.RequestView.{descriptor_view}
 use Rattle.client.specs.Asked.{descriptor_of}
 use Rattle.client.specs.Options.{ids_of}
 use Rattle.client.proofs.entities.each_descriptor.Given as goal

@@ -1,5 +1,6 @@
+-- What the loop of `parameters` keeps.
 use Rattle.std.proofs.Common.{◌≡◌, map, take}
-use Rattle.ctapmsg.specs.RequestView.{parameters_view}
+use Rattle.ctap_requests.specs.RequestView.{parameters_view}
 use Rattle.client.specs.Asked.{parameters_of}
 use Rattle.client.proofs.entities.parameters.Given as goal
 

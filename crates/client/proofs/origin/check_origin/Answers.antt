@@ -1,3 +1,4 @@
+-- What is owed of `check_origin`.
 use Rattle.std.proofs.Common.{sym, ◌∙◌, ap}
 use Rattle.std.specs.Prelude.{option_copied}
 use Rattle.client.specs.Origins.{IsOriginOn}

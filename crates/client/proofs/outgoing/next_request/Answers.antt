@@ -1,3 +1,4 @@
+-- What is owed of `next_request`.
 use Rattle.std.proofs.Common.{◌≡◌, [], ◌∷◌, refl, sym, ◌∙◌, subst, arith}
 use Rattle.std.specs.Prelude.{Option, Some, IsSome}
 use Rattle.hidframe.specs.declared.Packet.{Packet}

@@ -1,3 +1,4 @@
+-- What is owed of `challenge_bytes`.
 use Rattle.std.proofs.Common.{◌≡◌, ◌++◌, ℕ, List, [], Result, Ok, Err, OnOk, drop, length, ap, ◌∙◌, append-nil, arith, refl, rules, subst, sym}
 use Rattle.std.proofs.lemmas.List.{drop_all}
 use Rattle.base64.specs.Engines.{url_safe_no_pad}
@@ -15,7 +16,8 @@ unfolding challenge_text_of
 over (Err e) n m old new is a b w = absurd (cc)
 over (Ok k) n m old new is a b w =
     let none : drop 43 old ≡ [] = drop_all 43 old (omega (arith, b)) in
-    w ∙ ap (λ (n : ℕ). encode_of url_safe_no_pad m ++ drop (encoded_size_of url_safe_no_pad n) old) a ∙ ap (λ (l : List ℕ). encode_of url_safe_no_pad m ++ l) none
+    w ∙ ap (λ (n : ℕ). encode_of url_safe_no_pad m ++ drop (encoded_size_of url_safe_no_pad n) old) a
+    ∙ ap (λ (l : List ℕ). encode_of url_safe_no_pad m ++ l) none
     ∙ append-nil (encode_of url_safe_no_pad m)
 
 pub returns : goal.returns

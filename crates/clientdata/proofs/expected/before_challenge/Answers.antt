@@ -1,3 +1,4 @@
+-- What is owed of `before_challenge`.
 use Rattle.std.proofs.Common.{refl}
 use Rattle.clientdata.specs.Expected.{before_challenge}
 use Rattle.clientdata.specs.Serialised.{type_of}

@@ -1,3 +1,4 @@
+-- What is owed of `behind`.
 use Rattle.std.proofs.lemmas.Bool.Decides.{Decides-eqb}
 use Rattle.std.proofs.lemmas.Slice.Eq.{strip_prefix_is}
 use Rattle.clientdata.proofs.expected.behind.Goals as goal

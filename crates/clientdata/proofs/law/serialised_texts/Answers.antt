@@ -1,3 +1,4 @@
+-- What is owed of `serialised_texts`.
 use Rattle.clientdata.proofs.ReadBack.{one_record, seen_of-text}
 use Rattle.clientdata.proofs.law.serialised_texts.Goals as goal
 

@@ -1,3 +1,4 @@
+-- What the loop of `push_quoted` keeps.
 use Rattle.std.proofs.Common.{◌≡◌, ◌++◌, ◌∷◌, string_bytes}
 use Rattle.std.specs.Prelude.{flat_map}
 use Rattle.clientdata.specs.Quoted.{escaped}

@@ -1,3 +1,4 @@
+-- What is owed of `read`.
 use Rattle.std.proofs.Common.{rules}
 use Rattle.clientdata.specs.Reading.{seen_of}
 use Rattle.clientdata.proofs.seen.read.Goals as goal

@@ -1,3 +1,4 @@
+-- What is owed of `front`.
 use Rattle.std.proofs.Common.{rules}
 use Rattle.clientdata.specs.Serialised.{client_data_front}
 use Rattle.clientdata.proofs.serialising.front.Goals as goal

@@ -1,3 +1,4 @@
+-- What is owed of `one_key_each`.
 use Rattle.std.proofs.Common.{sym, ◌∙◌}
 use Rattle.cose.proofs.KeyLemmas.{one_key}
 use Rattle.cose.proofs.law.one_key_each.Goals as goal

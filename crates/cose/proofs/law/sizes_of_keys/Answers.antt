@@ -1,3 +1,4 @@
+-- What is owed of `sizes_of_keys`.
 use Rattle.cose.proofs.KeyLemmas.{key_canon, length-key}
 use Rattle.cose.proofs.law.sizes_of_keys.Goals as goal
 

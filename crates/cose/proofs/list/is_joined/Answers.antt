@@ -1,3 +1,4 @@
+-- What is owed of `is_joined`.
 use Rattle.std.proofs.Common.{rules, ◌≡◌, ◌++◌, ℕ, List, Bool, IsTrue, Some, None, sym, ◌∙◌, refl}
 use Rattle.std.proofs.lemmas.List.{append_cancel_left}
 use Rattle.std.proofs.lemmas.Bool.Decides.{Decides-eqb}

@@ -1,3 +1,4 @@
+-- What is owed of `one_frame_list`.
 use Rattle.hidframe.proofs.Uniqueness.{the_items}
 use Rattle.hidframe.proofs.Existence.{are_zero_frames}
 use Rattle.hidframe.proofs.frames.one_frame_list.Goals as goal

@@ -1,3 +1,4 @@
+-- What is owed of `packet_at`.
 use Rattle.std.proofs.Common.{sym, ◌∙◌, ap}
 use Rattle.std.specs.Prelude.{slice_get}
 use Rattle.hidframe.proofs.Uniqueness.{the_items}

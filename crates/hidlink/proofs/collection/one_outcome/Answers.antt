@@ -1,3 +1,4 @@
+-- What is owed of `one_outcome`.
 use Rattle.hidlink.proofs.Laws.{one_carried, one_death, not_both, packets_taken}
 use Rattle.hidlink.proofs.collection.one_outcome.Goals as goal
 

@@ -1,3 +1,4 @@
+-- What is owed of `receive`.
 use Rattle.std.proofs.Common.{◌≡◌, ◌+◌, ◌++◌, [], ◌∷◌, take, slice_index_or, subst, sym, ◌∙◌, true≢false, refl}
 use Rattle.std.proofs.lemmas.List.{take_more, take_all}
 use Rattle.hidframe.specs.declared.Packet.{Packet}
@@ -13,7 +14,8 @@ loop-i-init c = record { channel = refl; got = c.requires; unended = nothing_end
 pub returns-then-not-wants_more : goal.returns-then-not-wants_more
 returns-then-not-wants_more c =
     let p : Packet = slice_index_or c.args.packets.now c.loop-i.i (record { 0 = [] }) in
-    let push : take (c.loop-i.i + 1) c.args.packets.now ≡ take c.loop-i.i c.args.packets.now ++ slice_index_or c.args.packets.now c.loop-i.i (record { 0 = [] }) ∷ [] =
+    let push : take (c.loop-i.i + 1) c.args.packets.now ≡ take c.loop-i.i c.args.packets.now ++ slice_index_or c.args.packets.now c.loop-i.i (record { 0 = [] })
+    ∷ [] =
     take_more c.args.packets.now c.loop-i.i (record { 0 = [] }) c.loop-i-test.true in
     let now : Got c.loop-i.collector.cid (take (c.loop-i.i + 1) c.args.packets.now) c.wants_more.new.collector.shown =
     subst (λ qs. Got c.loop-i.collector.cid qs c.wants_more.new.collector.shown) (sym push)
@@ -27,7 +29,8 @@ returns-then-not-wants_more c =
 
 pub loop-i-preserved : goal.loop-i-preserved
 loop-i-preserved c =
-    let push : take (c.loop-i.i + 1) c.args.packets.now ≡ take c.loop-i.i c.args.packets.now ++ slice_index_or c.args.packets.now c.loop-i.i (record { 0 = [] }) ∷ [] =
+    let push : take (c.loop-i.i + 1) c.args.packets.now ≡ take c.loop-i.i c.args.packets.now ++ slice_index_or c.args.packets.now c.loop-i.i (record { 0 = [] })
+    ∷ [] =
     take_more c.args.packets.now c.loop-i.i (record { 0 = [] }) c.loop-i-test.true in
     let same : c.wants_more.new.collector.cid ≡ c.loop-i.collector.cid = c.wants_more.ensures.channel in
     record {

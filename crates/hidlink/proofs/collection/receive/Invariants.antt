@@ -1,3 +1,4 @@
+-- What the loop of `receive` keeps.
 use Rattle.std.proofs.Common.{◌≡◌, take}
 use Rattle.hidlink.specs.Wire.{Got, HasEnded}
 use Rattle.hidlink.proofs.collection.receive.Given as goal

@@ -1,3 +1,4 @@
+-- What is owed of `whole_request`.
 use Rattle.hidlink.proofs.Whole.{comes, quiet, stays, ends}
 use Rattle.hidlink.proofs.law.whole_request.Goals as goal
 

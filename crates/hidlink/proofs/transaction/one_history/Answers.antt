@@ -1,3 +1,4 @@
+-- What is owed of `one_history`.
 use Rattle.hidlink.proofs.Most.{at_most}
 use Rattle.hidlink.proofs.Readings.{one_reading}
 use Rattle.hidlink.proofs.Steps.{one_state, leaves_some}

@@ -1,12 +1,13 @@
+-- What is owed of `credentials_in`.
 use Rattle.std.proofs.Common.{◌≡◌, ◌<◌, ◌++◌, [], ◌∷◌, length, None, Err, refl, sym, ap, ◌∙◌, arith}
 use Rattle.std.proofs.lemmas.Result.{err_from_is_err_and}
 use Rattle.std.proofs.lemmas.List.{length-append}
-use Rattle.first_line.proofs.Laws.{each_joined}
+use Rattle.refusal_order.proofs.Laws.{each_joined}
 use Rattle.ccbor.specs.Item.{item}
 use Rattle.ccbor.specs.Viewing.{shown, shown_items}
-use Rattle.credentials.specs.Table.{IsRow, row_of}
-use Rattle.credentials.specs.Views.{row_view}
-use Rattle.credentials.proofs.RowLemmas.{one_more}
+use Rattle.credential_table.specs.Table.{IsRow, row_of}
+use Rattle.credential_table.specs.Views.{row_view}
+use Rattle.credential_table.proofs.RowLemmas.{one_more}
 use Rattle.saved_table.specs.Saved.{FitsVersion, credential_item}
 use Rattle.saved_table.specs.declared.error.Error.TheVariants as errors
 use Rattle.saved_table.proofs.Credentials.{one_credential}
@@ -18,14 +19,16 @@ returns-in_err-row-clause-none c = λ e rows table each is.
     let p = err_from_is_err_and c.from_residual.result c.from_residual.ensures.1 in
     let bad = same_error c.from_residual.result p.0 c.in_err-row.field-0.0 errors.BadTable p.1 p.2 e in
     let front = first_item (shown_items c.loop-item.rest) (shown c.in-Some.item) (shown_items c.in-Some.after) (sym c.in-Some.ensures.parts) in
-    let met : in_front c.loop-item.table (item (shown c.in-Some.item) (shown_items c.in-Some.after)) ≡ shown_items c.args.items = ap (in_front c.loop-item.table) (sym front) ∙ c.loop-item.invariant.2 in
+    let met : in_front c.loop-item.table (item (shown c.in-Some.item) (shown_items c.in-Some.after)) ≡ shown_items c.args.items =
+    ap (in_front c.loop-item.table) (sym front) ∙ c.loop-item.invariant.2 in
     let g = goes_on c.args.version rows c.loop-item.table (shown c.in-Some.item) (shown_items c.in-Some.after) c.loop-item.invariant.1 each (met ∙ is) in
     c.in_err-row.ensures.none (ap Err bad) g.row g.fits g.map_is
 
 pub returns-then-not-admits-clause-none : goal.returns-then-not-admits-clause-none
 returns-then-not-admits-clause-none c = λ e rows table each is.
     let front = first_item (shown_items c.loop-item.rest) (shown c.in-Some.item) (shown_items c.in-Some.after) (sym c.in-Some.ensures.parts) in
-    let met : in_front c.loop-item.table (item (shown c.in-Some.item) (shown_items c.in-Some.after)) ≡ shown_items c.args.items = ap (in_front c.loop-item.table) (sym front) ∙ c.loop-item.invariant.2 in
+    let met : in_front c.loop-item.table (item (shown c.in-Some.item) (shown_items c.in-Some.after)) ≡ shown_items c.args.items =
+    ap (in_front c.loop-item.table) (sym front) ∙ c.loop-item.invariant.2 in
     let g = goes_on c.args.version rows c.loop-item.table (shown c.in-Some.item) (shown_items c.in-Some.after) c.loop-item.invariant.1 each (met ∙ is) in
     let may = goes_behind c.args.version rows c.loop-item.table (shown c.in-Some.item) (shown_items c.in-Some.after) table g in
     let row = row_view c.in_ok-row.row in

@@ -1,7 +1,8 @@
+-- What the loop of `credentials_in` keeps.
 use Rattle.std.proofs.Common.{◌≡◌}
-use Rattle.first_line.specs.Lines.{Each}
+use Rattle.refusal_order.specs.Lines.{Each}
 use Rattle.ccbor.specs.Viewing.{shown_items}
-use Rattle.credentials.specs.Table.{IsTable}
+use Rattle.credential_table.specs.Table.{IsTable}
 use Rattle.saved_table.specs.Saved.{FitsVersion}
 use Rattle.saved_table.proofs.Tables.{in_front}
 use Rattle.saved_table.proofs.loading.credentials_in.Given as goal

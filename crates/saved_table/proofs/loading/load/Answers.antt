@@ -1,3 +1,4 @@
+-- What is owed of `load`.
 use Rattle.std.proofs.Common.{◌∙◌, length, Err, refl, sym, ap, inl, inr}
 use Rattle.std.proofs.lemmas.Result.{err_from_is_err_and}
 use Rattle.std.proofs.Math.Seq.{take-length}

@@ -1,3 +1,4 @@
+-- What is owed of `credential`.
 use Rattle.std.proofs.Common.{◌<◌, ◌^◌, refl, arith}
 use Rattle.ccbor.specs.Viewing.{shown}
 use Rattle.saved_table.proofs.Credentials.{credential_found}

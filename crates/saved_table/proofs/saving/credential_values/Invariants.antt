@@ -1,9 +1,10 @@
+-- What the loop of `credential_values` keeps.
 use Rattle.std.proofs.Common.{◌≡◌, ◌++◌, map}
-use Rattle.first_line.specs.Lines.{Each}
+use Rattle.refusal_order.specs.Lines.{Each}
 use Rattle.ccbor.specs.View.{view}
 use Rattle.verification.specs.Views.{credential_view}
-use Rattle.credentials.specs.Table.{IsTable}
-use Rattle.credentials.specs.Views.{kept_view}
+use Rattle.credential_table.specs.Table.{IsTable}
+use Rattle.credential_table.specs.Views.{stored_row_view}
 use Rattle.saved_table.specs.Saved.{FitsVersion, credential_item}
 use Rattle.saved_table.proofs.saving.credential_values.Given as goal
 
@@ -14,4 +15,4 @@ invariant-loop-row l =
     IsTable l.table ×
     Each (FitsVersion 3) (map credential_view l.yielded) ×
     (map view l.values.items ≡ map credential_item (map credential_view l.yielded)) ×
-    (l.table ≡ map credential_view l.yielded ++ map (λ e. kept_view e.0.items e.1) l.row-iterator.0)
+    (l.table ≡ map credential_view l.yielded ++ map (λ e. stored_row_view e.0.items e.1) l.row-iterator.0)

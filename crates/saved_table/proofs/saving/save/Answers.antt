@@ -1,3 +1,4 @@
+-- What is owed of `save`.
 use Rattle.std.proofs.Common.{◌<◌, ◌^◌, length, Err, refl, ap, subst, arith}
 use Rattle.ccbor.specs.Item.{Item}
 use Rattle.ccbor.specs.Canon.{AppendsCanon, spelling}

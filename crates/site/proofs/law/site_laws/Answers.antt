@@ -1,3 +1,4 @@
+-- What is owed of `site_laws`.
 use Rattle.site.proofs.Goings.{laws}
 use Rattle.site.proofs.law.site_laws.Goals as goal
 

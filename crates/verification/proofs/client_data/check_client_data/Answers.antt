@@ -1,5 +1,6 @@
+-- What is owed of `check_client_data`.
 use Rattle.std.proofs.Common.{refl, rules}
-use Rattle.first_line.proofs.Laws.{first_at}
+use Rattle.refusal_order.proofs.Laws.{first_at}
 use Rattle.verification.proofs.Expected.{expected_says}
 use Rattle.verification.proofs.client_data.check_client_data.Goals as goal
 
@@ -9,8 +10,8 @@ returns-in-Err-Unreadable-clause-refused c = first_at 0 refl (search rules) (sea
 pub returns-then-ne-clause-refused : goal.returns-then-ne-clause-refused
 returns-then-ne-clause-refused c = first_at 1 refl (search rules) (search rules)
 
-pub returns-then-ne-2-clause-refused : goal.returns-then-ne-2-clause-refused
-returns-then-ne-2-clause-refused c = first_at 2 refl (search rules) (search rules)
+pub returns-then-not-is_challenge_text-clause-refused : goal.returns-then-not-is_challenge_text-clause-refused
+returns-then-not-is_challenge_text-clause-refused c = first_at 2 refl (search rules) (search rules)
 
 pub returns-then-not-has_origin-clause-refused : goal.returns-then-not-has_origin-clause-refused
 returns-then-not-has_origin-clause-refused c = first_at 3 refl (search rules) (search rules)

@@ -1,3 +1,4 @@
+-- What is owed of `attested_by`.
 use Rattle.std.proofs.Common.{sym, ◌∙◌, ap}
 use Rattle.std.specs.Prelude.{option_map}
 use Rattle.authdata.specs.Layout.{auth_view, attested_view}

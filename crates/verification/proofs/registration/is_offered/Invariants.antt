@@ -1,3 +1,4 @@
+-- What the loop of `is_offered` keeps.
 use Rattle.std.proofs.Common.{◌≢◌, ◌<◌, ℕ, slice_index_or}
 use Rattle.cose.specs.declared.key.Alg.{Alg}
 use Rattle.verification.proofs.registration.is_offered.Given as goal

@@ -1,30 +1,44 @@
+-- What is owed of `verify_registration`.
 use Rattle.std.proofs.lemmas.Result.{err_from_is_err_and}
 use Rattle.authdata.specs.Layout.{attested_view}
 use Rattle.authdata.specs.Objects.{object_view}
 use Rattle.verification.specs.Attested.{data_of}
-use Rattle.verification.specs.Views.{judged}
+use Rattle.verification.specs.Views.{judged_without_table}
 use Rattle.verification.proofs.Registrations.{client_fails, data_fails, attestation_fails, response_passes}
 use Rattle.verification.proofs.registration.verify_registration.Goals as goal
 
 pub returns-in_err-session-clause-refused : goal.returns-in_err-session-clause-refused
 returns-in_err-session-clause-refused g c =
     let p = err_from_is_err_and c.from_residual.result c.from_residual.ensures.1 in
-    rw (p.1, p.2) (λ r f. client_fails (g.V.Verifier.valid c.args.verifier.now) (judged c.args.attempt.now) r f c.in_err-session.field-0.0 c.in_err-session.ensures.refused)
+    rw (p.1, p.2) (λ r f. client_fails (g.V.Verifier.valid c.args.verifier.now)
+    (judged_without_table c.args.attempt.now) r f c.in_err-session.field-0.0 c.in_err-session.ensures.refused)
 
 pub returns-in_err-found-clause-refused : goal.returns-in_err-found-clause-refused
 returns-in_err-found-clause-refused g c =
     let p = err_from_is_err_and c.from_residual-in_err-found.result c.from_residual-in_err-found.ensures.1 in
-    rw (p.1, p.2) (λ r f. data_fails (g.V.Verifier.valid c.args.verifier.now) (judged c.args.attempt.now) r f c.in_ok-session.ensures.passes c.in_err-found.field-0.0 c.in_err-found.ensures.refused)
+    rw (p.1, p.2) (λ r f. data_fails (g.V.Verifier.valid c.args.verifier.now)
+    (judged_without_table c.args.attempt.now) r f c.in_ok-session.ensures.passes c.in_err-found.field-0.0 c.in_err-found.ensures.refused)
 
 pub returns-in_err-check_attestation-clause-refused : goal.returns-in_err-check_attestation-clause-refused
 returns-in_err-check_attestation-clause-refused g c =
     let p = err_from_is_err_and c.from_residual-in_err-check_attestation.result c.from_residual-in_err-check_attestation.ensures.1 in
-    rw (p.1, p.2) (λ r f. attestation_fails (g.V.Verifier.valid c.args.verifier.now) (judged c.args.attempt.now) r f c.in_ok-session.ensures.passes c.in_ok-found.ensures.passes
+    rw (p.1, p.2) (λ r f. attestation_fails (g.V.Verifier.valid c.args.verifier.now)
+    (judged_without_table c.args.attempt.now) r f c.in_ok-session.ensures.passes c.in_ok-found.ensures.passes
     c.in_err-check_attestation.field-0.0 c.in_err-check_attestation.ensures.refused)
 
 pub returns-clause-accepted : goal.returns-clause-accepted
 returns-clause-accepted g c =
     let v = c.verified.ensures in (
-      (object_view c.in_ok-found.found.object, data_of c.in_ok-found.found, attested_view c.in_ok-found.found.credential, c.in_ok-found.ensures.found, v.id, v.key, v.sign_count, v.eligible),
-      λ r f. response_passes (g.V.Verifier.valid c.args.verifier.now) (judged c.args.attempt.now) r f c.in_ok-session.ensures.passes c.in_ok-found.ensures.passes c.in_ok-check_attestation.ensures.passes,
+      (
+        object_view c.in_ok-found.found.object,
+        data_of c.in_ok-found.found,
+        attested_view c.in_ok-found.found.credential,
+        c.in_ok-found.ensures.found,
+        v.id,
+        v.key,
+        v.sign_count,
+        v.eligible,
+      ),
+      λ r f. response_passes (g.V.Verifier.valid c.args.verifier.now)
+          (judged_without_table c.args.attempt.now) r f c.in_ok-session.ensures.passes c.in_ok-found.ensures.passes c.in_ok-check_attestation.ensures.passes,
     )

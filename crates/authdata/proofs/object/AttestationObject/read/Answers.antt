@@ -1,3 +1,4 @@
+-- What is owed of `AttestationObject::read`.
 use Rattle.std.proofs.Common.{refl}
 use Rattle.authdata.proofs.Objects.{canonical_first, no_object, not_whole, other_value, shape_first}
 use Rattle.authdata.proofs.object.AttestationObject.read.Goals as goal

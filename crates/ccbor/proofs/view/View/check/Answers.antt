@@ -1,10 +1,12 @@
+-- What is owed of `View::check`.
 use Rattle.std.proofs.Common.{take, drop, sym}
 use Rattle.std.proofs.lemmas.List.{take-append-drop}
 use Rattle.ccbor.proofs.Shows.{shows, front_found, front_only}
 use Rattle.ccbor.proofs.view.View.check.Goals as goal
 
 pub returns-in_default-clause-none : goal.returns-in_default-clause-none
-returns-in_default-clause-none c = λ v n canon. c.in_default.ensures v (take n c.args.bytes.now) (drop n c.args.bytes.now) canon (sym (take-append-drop n c.args.bytes.now))
+returns-in_default-clause-none c =
+    λ v n canon. c.in_default.ensures v (take n c.args.bytes.now) (drop n c.args.bytes.now) canon (sym (take-append-drop n c.args.bytes.now))
 
 pub invariant_of-result : goal.invariant_of-result
 invariant_of-result c = shows c.in-Some.ensures.1 c.in-Some.value.now c.in-Some.ensures.2

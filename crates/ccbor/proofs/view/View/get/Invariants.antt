@@ -1,3 +1,4 @@
+-- What the loop of `View::get` keeps.
 use Rattle.std.proofs.Common.{◌≡◌}
 use Rattle.ccbor.specs.Access.{key_item, member, value_at}
 use Rattle.ccbor.specs.Viewing.{shown, shown_pairs}

@@ -1,3 +1,4 @@
+-- What the loop of `View::item` keeps.
 use Rattle.std.proofs.Common.{◌≡◌, ◌-◌}
 use Rattle.ccbor.specs.Access.{item_at, item_in}
 use Rattle.ccbor.specs.Viewing.{shown, shown_items}

@@ -1,3 +1,4 @@
+-- What the loop of `View::pair` keeps.
 use Rattle.std.proofs.Common.{◌≡◌, ◌-◌}
 use Rattle.ccbor.specs.Access.{pair_at, pair_in}
 use Rattle.ccbor.specs.Viewing.{shown, shown_pairs}

@@ -1,3 +1,4 @@
+-- What is owed of `View::to_value`.
 use Rattle.ccbor.proofs.Shows.{readable}
 use Rattle.ccbor.proofs.view.View.to_value.Goals as goal
 

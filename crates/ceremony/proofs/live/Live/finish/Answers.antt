@@ -1,5 +1,6 @@
+-- What is owed of `Live::finish`.
 use Rattle.std.proofs.Common.{◌∙◌, ℕ, List, sym, subst}
-use Rattle.ctapmsg.specs.Replies.{ReplyOf, assertion_reply}
+use Rattle.ctap_replies.specs.Replies.{ReplyOf, assertion_reply}
 use Rattle.ceremony.proofs.Verdicts.{one_message}
 use Rattle.ceremony.proofs.live.Live.finish.Goals as goal
 

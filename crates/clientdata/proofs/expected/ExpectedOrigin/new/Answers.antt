@@ -1,3 +1,4 @@
+-- What is owed of `ExpectedOrigin::new`.
 use Rattle.std.proofs.Common.{rules}
 use Rattle.clientdata.specs.Expected.{behind_challenge}
 use Rattle.clientdata.proofs.expected.ExpectedOrigin.new.Goals as goal

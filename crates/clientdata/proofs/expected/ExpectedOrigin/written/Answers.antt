@@ -1,3 +1,4 @@
+-- What is owed of `ExpectedOrigin::written`.
 use Rattle.std.proofs.Common.{IsUtf8, subst}
 use Rattle.std.proofs.lemmas.Str.{IsUtf8-string_bytes}
 use Rattle.clientdata.proofs.expected.ExpectedOrigin.written.Goals as goal

@@ -1,3 +1,4 @@
+-- What is owed of `CoseKey::from_value`.
 use Rattle.std.proofs.Common.{◌≡◌, sym, ◌∙◌}
 use Rattle.ccbor.specs.Item.{map}
 use Rattle.ccbor.specs.View.{view, pairs_view}

@@ -1,3 +1,4 @@
+-- What is owed of `CoseKey::from_view`.
 use Rattle.std.proofs.Common.{◌≡◌, sym, ◌∙◌}
 use Rattle.ccbor.specs.Item.{map}
 use Rattle.ccbor.specs.Viewing.{shown, shown_pairs}

@@ -1,3 +1,4 @@
+-- What is owed of `ListSchemeVerifier::verify`.
 use Rattle.std.proofs.Common.{rules}
 use Rattle.cose.specs.Schemes.{joined}
 use Rattle.cose.specs.Listed.{entry_triple}

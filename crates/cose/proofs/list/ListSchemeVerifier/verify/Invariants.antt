@@ -1,3 +1,4 @@
+-- What the loop of `ListSchemeVerifier::verify` keeps.
 use Rattle.std.proofs.Common.{◌≢◌, ◌++◌, ◌<◌, ℕ, slice_index_or}
 use Rattle.cose.specs.Listed.{entry_triple}
 use Rattle.cose.specs.declared.list.Entry.{Entry}

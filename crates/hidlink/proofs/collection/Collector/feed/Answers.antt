@@ -1,3 +1,4 @@
+-- What is owed of `Collector::feed`.
 use Rattle.std.proofs.Common.{refl, sym, ◌∙◌, ap}
 use Rattle.std.proofs.lemmas.Bool.{true≢false}
 use Rattle.hidlink.proofs.Exactly.{got_taken, answers-err, answers-ok}

@@ -1,3 +1,4 @@
+-- What is owed of `Collector::outcome`.
 use Rattle.hidlink.proofs.Exactly.{outcome_gives}
 use Rattle.hidlink.proofs.collection.Collector.outcome.Goals as goal
 

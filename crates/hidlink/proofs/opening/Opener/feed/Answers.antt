@@ -1,3 +1,4 @@
+-- What is owed of `Opener::feed`.
 use Rattle.std.proofs.Common.{◌≡◌, ℕ, [], ◌∷◌, ◌++◌, sym, ap, subst}
 use Rattle.std.specs.Prelude.{Option}
 use Rattle.hidlink.specs.Opens.{Asked, Heard}

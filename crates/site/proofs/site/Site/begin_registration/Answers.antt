@@ -1,3 +1,4 @@
+-- What is owed of `Site::begin_registration`.
 use Rattle.site.proofs.site.Site.begin_registration.Goals as goal
 
 pub returns-clause-refused : goal.returns-clause-refused

@@ -1,3 +1,4 @@
+-- What is owed of `Site::begin_sign_in`.
 use Rattle.site.proofs.site.Site.begin_sign_in.Goals as goal
 
 pub returns-clause-refused : goal.returns-clause-refused

@@ -1,18 +1,21 @@
+-- What is owed of `Site::finish_registration_parts`.
 use Rattle.std.proofs.Common.{◌≡◌, ◌∙◌, ap, sym, subst, ◌++◌, ◌∷◌, []}
 use Rattle.std.specs.Prelude.{None, is_some, option_map}
 use Rattle.std.proofs.lemmas.Result.{err_from_is_err_and}
-use Rattle.verification.specs.Registration.{IsFirstFailing, PassesAll}
+use Rattle.verification.specs.Registration.{IsFirstFailing, PassesRegistration}
 use Rattle.verification.specs.RegistrationAnswers.{IsRefused}
 use Rattle.verification.specs.Views.{registration_view, registration_parts_view}
-use Rattle.credentials.specs.Table.{IsWithin, row_of}
-use Rattle.site.proofs.Judged.{admitted_as, same_row, all_pass, attested_limits, has_room, is_full, no_row, said_full, said_row, same_enrolment, same_state, some_seen, table_fails}
+use Rattle.credential_table.specs.Table.{IsWithin, row_of}
+use Rattle.site.proofs.Judged.{admitted_as, same_row, all_pass, attested_limits, has_room, is_full, no_row, said_full, said_row, same_registration}
+use Rattle.site.proofs.Judged.{same_state, some_seen, table_fails}
 use Rattle.site.proofs.site.Site.finish_registration_parts.Goals as goal
 
 pub returns-in_err-verified-clause-refused : goal.returns-in_err-verified-clause-refused
 returns-in_err-verified-clause-refused g c =
     let p = err_from_is_err_and c.from_residual.result c.from_residual.ensures.1 in
     let table = c.self.inside.table in
-    let same = same_enrolment c.self.inside.party c.self.inside.policy (registration_parts_view c.args.response.now) (λ id. is_some (row_of id table)) (is_full table) _ _ c.registration-expected.ensures.expected in
+    let same = same_registration c.self.inside.party c.self.inside.policy (registration_parts_view c.args.response.now) (λ id. is_some (row_of id table))
+    (is_full table) _ _ c.registration-expected.ensures.expected in
     rw (p.1, p.2, ← c.self.view_is) (subst (λ x. IsRefused (g.V.Verifier.valid c.args.verifier.now) x c.in_err-verified.field-0.0) same
     (c.in_err-verified.ensures.refused (λ id. is_some (row_of id table)) (is_full table)))
 
@@ -21,8 +24,10 @@ returns-in_err-admitted-clause-refused g c =
     let p = err_from_is_err_and c.from_residual-in_err-admitted.result c.from_residual-in_err-admitted.ensures.1 in
     let table = c.self.inside.table in
     let accepted = c.in_ok-verified.ensures.accepted in
-    let same = same_enrolment c.self.inside.party c.self.inside.policy (registration_parts_view c.args.response.now) (λ id. is_some (row_of id table)) (is_full table) _ _ c.registration-expected.ensures.expected in
-    let taken = ap (λ id. is_some (row_of id table)) (sym c.id.ensures) ∙ said_row c.has-is_registered.result (row_of c.id.result.now table) c.has-is_registered.ensures in
+    let same = same_registration c.self.inside.party c.self.inside.policy (registration_parts_view c.args.response.now) (λ id. is_some (row_of id table))
+    (is_full table) _ _ c.registration-expected.ensures.expected in
+    let taken = ap (λ id. is_some (row_of id table)) (sym c.id.ensures)
+    ∙ said_row c.has-is_registered.result (row_of c.id.result.now table) c.has-is_registered.ensures in
     rw (p.1, p.2, ← c.self.view_is) (subst (λ x. IsFirstFailing (g.V.Verifier.valid c.args.verifier.now) x c.in_err-admitted.field-0.0) same
     (table_fails (g.V.Verifier.valid c.args.verifier.now) _ c.in_err-admitted.field-0.0 (accepted.1 (λ id. is_some (row_of id table)) (is_full table))
     (c.in_err-admitted.ensures.refused _ accepted.0 taken (said_full c.is_full.result table c.is_full.ensures))))
@@ -47,17 +52,24 @@ push-requires-clause-absent g c =
     let table = c.self.inside.table in
     let accepted = c.in_ok-verified.ensures.accepted in
     let tells = accepted.0 in
-    let taken = ap (λ id. is_some (row_of id table)) (sym c.id.ensures) ∙ said_row c.has-is_registered.result (row_of c.id.result.now table) c.has-is_registered.ensures in
-    let steps = c.in_ok-admitted.ensures.passes (admitted_as c.self.inside.party c.self.inside.policy (registration_parts_view c.args.response.now) table (option_map (λ s. registration_view s.now) c.registration-expected.result))
+    let taken = ap (λ id. is_some (row_of id table)) (sym c.id.ensures)
+    ∙ said_row c.has-is_registered.result (row_of c.id.result.now table) c.has-is_registered.ensures in
+    let steps = c.in_ok-admitted.ensures.passes
+    (admitted_as c.self.inside.party c.self.inside.policy (registration_parts_view c.args.response.now) table
+    (option_map (λ s. registration_view s.now) c.registration-expected.result))
     tells taken (said_full c.is_full.result table c.is_full.ensures) in
-    subst (λ id. row_of id table ≡ None) (sym (ap (λ v. v.id) c.in_ok-admitted.ensures.admitted ∙ tells.4)) (no_row (row_of tells.2.id table) (steps.0 tells.0 tells.1 tells.2 tells.3))
+    subst (λ id. row_of id table ≡ None) (sym (ap (λ v. v.id) c.in_ok-admitted.ensures.admitted ∙ tells.4))
+    (no_row (row_of tells.2.id table) (steps.0 tells.0 tells.1 tells.2 tells.3))
 
 pub push-requires-clause-room : goal.push-requires-clause-room
 push-requires-clause-room g c =
     let table = c.self.inside.table in
     let accepted = c.in_ok-verified.ensures.accepted in
-    let taken = ap (λ id. is_some (row_of id table)) (sym c.id.ensures) ∙ said_row c.has-is_registered.result (row_of c.id.result.now table) c.has-is_registered.ensures in
-    let steps = c.in_ok-admitted.ensures.passes (admitted_as c.self.inside.party c.self.inside.policy (registration_parts_view c.args.response.now) table (option_map (λ s. registration_view s.now) c.registration-expected.result))
+    let taken = ap (λ id. is_some (row_of id table)) (sym c.id.ensures)
+    ∙ said_row c.has-is_registered.result (row_of c.id.result.now table) c.has-is_registered.ensures in
+    let steps = c.in_ok-admitted.ensures.passes
+    (admitted_as c.self.inside.party c.self.inside.policy (registration_parts_view c.args.response.now) table
+    (option_map (λ s. registration_view s.now) c.registration-expected.result))
     accepted.0 taken (said_full c.is_full.result table c.is_full.ensures) in
     has_room table steps.1.0
 
@@ -66,13 +78,24 @@ returns-clause-accepted g c =
     let table = c.self.inside.table in
     let accepted = c.in_ok-verified.ensures.accepted in
     let tells = accepted.0 in
-    let same = same_enrolment c.self.inside.party c.self.inside.policy (registration_parts_view c.args.response.now) (λ id. is_some (row_of id table)) (is_full table) _ _ c.registration-expected.ensures.expected in
-    let taken = ap (λ id. is_some (row_of id table)) (sym c.id.ensures) ∙ said_row c.has-is_registered.result (row_of c.id.result.now table) c.has-is_registered.ensures in
-    let x = admitted_as c.self.inside.party c.self.inside.policy (registration_parts_view c.args.response.now) table (option_map (λ s. registration_view s.now) c.registration-expected.result) in
+    let same = same_registration c.self.inside.party c.self.inside.policy (registration_parts_view c.args.response.now) (λ id. is_some (row_of id table))
+    (is_full table) _ _ c.registration-expected.ensures.expected in
+    let taken = ap (λ id. is_some (row_of id table)) (sym c.id.ensures)
+    ∙ said_row c.has-is_registered.result (row_of c.id.result.now table) c.has-is_registered.ensures in
+    let x = admitted_as c.self.inside.party c.self.inside.policy (registration_parts_view c.args.response.now) table
+    (option_map (λ s. registration_view s.now) c.registration-expected.result) in
     let steps = c.in_ok-admitted.ensures.passes x accepted.0 taken (said_full c.is_full.result table c.is_full.ensures) in
     rw (← c.self.view_is) (
-      subst (PassesAll (g.V.Verifier.valid c.args.verifier.now)) same (all_pass (g.V.Verifier.valid c.args.verifier.now) x (accepted.1 (λ id. is_some (row_of id table)) (is_full table)) steps),
-      (tells.0, tells.1, tells.2, tells.3, c.in_ok-credential.ensures.items ∙ c.deref-2.ensures.value ∙ ap (λ v. v.id) c.in_ok-admitted.ensures.admitted ∙ tells.4),
+      subst (PassesRegistration (g.V.Verifier.valid c.args.verifier.now)) same
+          (all_pass (g.V.Verifier.valid c.args.verifier.now) x (accepted.1 (λ id. is_some (row_of id table)) (is_full table)) steps),
+      (
+        tells.0,
+        tells.1,
+        tells.2,
+        tells.3,
+        c.in_ok-credential.ensures.items ∙ c.deref-2.ensures.value ∙ ap (λ v. v.id) c.in_ok-admitted.ensures.admitted
+            ∙ tells.4,
+      ),
     )
 
 pub returns-clause-after : goal.returns-clause-after
@@ -89,7 +112,8 @@ returns-clause-after g c =
       open_for,
       tells.3,
       same_state c.self.inside.party c.self.inside.policy c.push.new.self _ c.close.new.self _
-          (c.in_ok-push.ensures.pushed ∙ ap (λ row. c.self.inside.table ++ row ∷ []) (same_row (ap (λ v. v.id) given ∙ tells.4) (c.in_ok-user.ensures.items ∙ c.deref.ensures.value)
+          (c.in_ok-push.ensures.pushed ∙ ap (λ row. c.self.inside.table ++ row ∷ [])
+          (same_row (ap (λ v. v.id) given ∙ tells.4) (c.in_ok-user.ensures.items ∙ c.deref.ensures.value)
           (ap (λ v. v.key) given ∙ tells.5) (ap (λ v. v.sign_count) given ∙ tells.6) (ap (λ v. v.eligible) given ∙ tells.7)))
           c.close.ensures.closed,
     )

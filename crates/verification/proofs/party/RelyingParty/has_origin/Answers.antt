@@ -1,8 +1,9 @@
+-- What is owed of `RelyingParty::has_origin`.
 use Rattle.std.proofs.Common.{rules, Contains, subst, sym, ◌∙◌}
 use Rattle.std.proofs.lemmas.Bool.Decides.{Decides-eqb}
 use Rattle.std.proofs.lemmas.Slice.Eq.{slice_eq-Decides}
 use Rattle.verification.specs.Records.{RelyingParty}
-use Rattle.verification.proofs.Lists.{listed, none_listed}
+use Rattle.clientdata.proofs.Lists.{listed, none_listed}
 use Rattle.verification.proofs.party.RelyingParty.has_origin.Goals as goal
 
 pub returns-then-eq : goal.returns-then-eq

@@ -1,3 +1,4 @@
+-- What the loop of `RelyingParty::has_origin` keeps.
 use Rattle.std.proofs.Common.{◌≢◌, ◌<◌, ℕ, List, slice_index_or}
 use Rattle.verification.proofs.party.RelyingParty.has_origin.Given as goal
 

@@ -1,3 +1,4 @@
+-- What the loop of `RelyingParty::new` keeps.
 use Rattle.std.proofs.Common.{◌≡◌, take}
 use Rattle.verification.specs.Views.{texts_of}
 use Rattle.verification.proofs.party.RelyingParty.new.Given as goal

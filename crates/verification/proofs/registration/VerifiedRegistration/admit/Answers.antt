@@ -1,3 +1,4 @@
+-- What is owed of `VerifiedRegistration::admit`.
 use Rattle.std.proofs.Common.{◌∙◌}
 use Rattle.verification.proofs.Registrations.{registered, full, admitted}
 use Rattle.verification.proofs.registration.VerifiedRegistration.admit.Goals as goal

@@ -1,0 +1,25 @@
+-- What is owed of `Sessions::begin_registration`.
+use Rattle.std.proofs.lemmas.Result.{err_from_is_err_and}
+use Rattle.ceremony_sessions.specs.Sessions.{OpensRegistration}
+use Rattle.ceremony_sessions.proofs.sessions.Sessions.begin_registration.Goals as goal
+
+pub returns-in_err-admit-clause-refused : goal.returns-in_err-admit-clause-refused
+returns-in_err-admit-clause-refused c =
+    let p = err_from_is_err_and c.from_residual.result c.from_residual.ensures.1 in
+    let asked = OpensRegistration c.args.user.now c.args.algorithms.now c.args.uv c.args.words in
+    rw (p.1, p.2) (c.in_err-admit.ensures.refused asked (c.is_registration.ensures c.args.words c.args.uv))
+
+pub add-requires-clause-number : goal.add-requires-clause-number
+add-requires-clause-number c =
+    let asked = OpensRegistration c.args.user.now c.args.algorithms.now c.args.uv c.args.words in
+    (c.in_ok-admit.ensures.passes asked (c.is_registration.ensures c.args.words c.args.uv)).1.1.0
+
+pub add-requires-clause-limits : goal.add-requires-clause-limits
+add-requires-clause-limits c =
+    let asked = OpensRegistration c.args.user.now c.args.algorithms.now c.args.uv c.args.words in
+    rw c.in_ok-from_slice.ensures.items (c.in_ok-admit.ensures.passes asked (c.is_registration.ensures c.args.words c.args.uv)).0.0
+
+pub returns-clause-passes : goal.returns-clause-passes
+returns-clause-passes c =
+    let asked = OpensRegistration c.args.user.now c.args.algorithms.now c.args.uv c.args.words in
+    c.in_ok-admit.ensures.passes asked (c.is_registration.ensures c.args.words c.args.uv)

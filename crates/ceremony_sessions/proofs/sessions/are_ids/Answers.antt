@@ -1,0 +1,12 @@
+-- What is owed of `are_ids`.
+use Rattle.ceremony_sessions.proofs.Limits.{within_at}
+use Rattle.ceremony_sessions.proofs.sessions.are_ids.Goals as goal
+
+pub returns-then-not-is_within : goal.returns-then-not-is_within
+returns-then-not-is_within c = (
+  λ t. absurd cc,
+  λ all.
+      let within = within_at c.args.ids.now c.loop-id.id-index _ c.loop-id-test.true all in
+      let yes = c.is_within.ensures.1 within in
+      let no = c.if-not-is_within.true in absurd cc,
+)

@@ -1,0 +1,55 @@
+//! Why no session begins.
+
+ghost use Rattle.std.specs.Prelude.{◌≡◌};
+ghost use Rattle.ceremony_sessions.specs.Numbers.{refusal_number};
+ghost use Rattle.ceremony_sessions.specs.declared.error.Error.TheVariants as errors;
+
+use std::alloc::{AllocError, AllocFailed};
+
+/// Why no session begins; the first of these that applies.
+#[derive(Clone, Copy, Debug, PartialEq, Eq, Drop, thiserror::Error)]
+pub enum Error {
+    /// 27: a user handle or a credential id is not of 1 to 64 bytes, more than 8 credentials are listed, or no
+    /// algorithm is offered.
+    #[error("what is asked is not within its limits")]
+    BadInput,
+    /// 21: 1,024 sessions are open.
+    #[error("too many sessions are open")]
+    SessionsFull,
+    /// 22: the next session number is the last, 2^64 - 1.
+    #[error("the session numbers are used up")]
+    Exhausted,
+    /// There was no memory; nothing has changed.
+    #[error("out of memory")]
+    Memory,
+}
+
+impl Error {
+    /// The number of the refusal; none for want of memory.
+    pub fn number(self) -> Option<u8>
+        ensures { result ≡ refusal_number self }
+    {
+        match self {
+            Error::BadInput => Some(27),
+            Error::SessionsFull => Some(21),
+            Error::Exhausted => Some(22),
+            Error::Memory => None,
+        }
+    }
+}
+
+impl From<AllocError> for Error {
+    ghost from_gives = { λ _ e. e ≡ errors.Memory };
+
+    fn from(_e: AllocError) -> Error {
+        Error::Memory
+    }
+}
+
+impl<T: Drop> From<AllocFailed<T>> for Error {
+    ghost from_gives = { λ _ e. e ≡ errors.Memory };
+
+    fn from(_e: AllocFailed<T>) -> Error {
+        Error::Memory
+    }
+}

@@ -1,0 +1,279 @@
+//! The open sessions.
+
+ghost use Rattle.std.specs.Prelude.{◌≡◌, ◌≤◌, ◌<◌, ◌-◌, ◌^◌, ◌↔◌, [], ◌∷◌, length, map, IfErr, IfOk, Some, IsSome, IsTrue, OnErr, OnOk, is_some};
+ghost use Rattle.std.specs.Prelude.{option_map, ℕ, List, Bool, ◌+◌};
+ghost use Rattle.std.specs.FinMap as finite;
+ghost use Rattle.std.specs.List.{AllByRecursion};
+ghost use Rattle.std.specs.Option.{ForSome};
+ghost use Rattle.credential_table.specs.Table.{IsWithin};
+ghost use Rattle.verification.specs.Views.{registration_view, sign_in_view};
+ghost use Rattle.ceremony_sessions.specs.Sessions.{AreLimits, Opening, OpensRegistration, OpensSignIn, IsInput, IsRefused, PassesOpeningStep};
+ghost use Rattle.ceremony_sessions.specs.Sessions.{PassesOpening, begun, challenge_of, closed, registration_at, sign_in_at};
+ghost use Rattle.ceremony_sessions.specs.Views.{sessions_view, session_view};
+ghost use Rattle.ceremony_sessions.specs.declared.error.Error.TheVariants as errors;
+
+use crate::error::Error;
+use crate::session::Session;
+use byteorder::{BigEndian, ByteOrder};
+use cose::Alg;
+use credential_table::{MAX_ID, MAX_USER, is_within};
+use std::alloc::{AllocError, Global};
+use std::collections::BTreeMap;
+use std::marker::Model;
+use verification::{RegistrationSession, SignInSession};
+
+/// The most sessions that are open at a time.
+pub const MAX_OPEN: usize = 1_024;
+
+/// The most credentials that a session lists.
+pub const MAX_LISTED: usize = 8;
+
+/// A session that has begun.
+#[derive(Clone, Copy, Debug, PartialEq, Eq, Drop)]
+pub struct Started {
+    /// Its number.
+    pub session: u64,
+    /// The challenge that the client is to answer: the number in 8 big-endian bytes, then the words.
+    pub challenge: [u8; 32],
+}
+
+/// The open sessions of a relying party. A number is given once.
+#[derive(Drop)]
+pub struct Sessions {
+    alloc: Global,
+    by_number: BTreeMap<u64, Session>,
+    next: u64,
+}
+
+impl Model for Sessions {
+    ghost use Rattle.std.specs.Prelude.{◌≡◌, ℕ, length};
+    ghost use Rattle.std.specs.FinMap as finite;
+    ghost use Rattle.ceremony_sessions.specs.Sessions.{AreLimits, OpenSessions};
+    ghost use Rattle.ceremony_sessions.specs.Views.{sessions_view};
+    ghost use Rattle.ceremony_sessions.specs.Codes.{open_code};
+
+    ghost Value = { OpenSessions };
+
+    ghost coded = { open_code };
+
+    ghost view = { λ s. record { expected = sessions_view s.by_number.entries; next = s.next } };
+
+    ghost invariant = { λ s. (finite.len (sessions_view s.by_number.entries) ≡ length s.by_number.entries)
+        × ((n : ℕ) → AreLimits (finite.get (sessions_view s.by_number.entries) n)) };
+}
+
+/// The challenge of a session: its number in 8 big-endian bytes, then the words.
+fn challenge_with(number: u64, words: &[u8; 24]) -> [u8; 32]
+    ensures { result ≡ challenge_of number words.now }
+{
+    let mut challenge = [0; 32];
+    BigEndian::write_u64(&mut challenge, number);
+    challenge[8..].copy_from_slice(words);
+    challenge
+}
+
+/// Whether each id has 1 to 64 bytes.
+fn are_ids(ids: &[&[u8]]) -> bool
+    ensures { IsTrue result ↔ AllByRecursion (IsWithin 64) (map (λ id. id.now) ids.now) }
+{
+    for id in ids {
+        if !is_within(id, MAX_ID) {
+            return false;
+        }
+    }
+    true
+}
+
+/// Whether what a sign-in is asked with is within its limits.
+fn is_sign_in(user: Option<&[u8]>, allow: &[&[u8]]) -> bool
+    ensures { (words : List ℕ) (uv : Bool) → IsTrue result
+        ↔ IsInput (OpensSignIn (option_map (λ u. u.now) user.entry) (map (λ id. id.now) allow.now) uv words) }
+{
+    if let Some(user) = user {
+        if !is_within(user, MAX_USER) {
+            return false;
+        }
+    }
+    allow.len() <= MAX_LISTED && are_ids(allow)
+}
+
+/// Whether what a registration is asked with is within its limits.
+fn is_registration(user: &[u8], algorithms: &[Alg]) -> bool
+    ensures { (words : List ℕ) (uv : Bool) → IsTrue result ↔ IsInput (OpensRegistration user.now algorithms.now uv words) }
+{
+    is_within(user, MAX_USER) && 1 <= algorithms.len()
+}
+
+/// Copies of the ids.
+fn copies(alloc: Global, ids: &[&[u8]]) -> Result<Vec<Vec<u8>>, AllocError>
+    ensures { IfOk result (λ v. map (λ id. id.items) v.items ≡ map (λ id. id.now) ids.now) }
+{
+    let mut copies = Vec::with_capacity(alloc, ids.len())?;
+    for id in ids {
+        copies.push(Vec::from_slice(alloc, id)?)?;
+    }
+    Ok(copies)
+}
+
+/// A copy of a user handle that is named.
+fn copy_of(alloc: Global, user: Option<&[u8]>) -> Result<Option<Vec<u8>>, AllocError>
+    ensures { IfOk result (λ copy. option_map (λ u. u.items) copy ≡ option_map (λ u. u.now) user.entry) }
+{
+    match user {
+        None => Ok(None),
+        Some(user) => Ok(Some(Vec::from_slice(alloc, user)?)),
+    }
+}
+
+impl Sessions {
+    /// No open session, and `next` as the number of the next: 1 at first. It takes no memory.
+    pub fn new(alloc: Global, next: u64) -> Sessions
+        requires { 1 ≤ next }
+        ensures { result ≡ record { expected = finite.empty; next = next } }
+    {
+        Sessions {
+            alloc,
+            by_number: BTreeMap::new(alloc),
+            next,
+        }
+    }
+
+    /// The number of the next session.
+    pub fn next(&self) -> u64
+        ensures { result ≡ self.now.next }
+    {
+        self.next
+    }
+
+    /// Why what is asked may not begin; whether it is within its limits is handed in.
+    fn admit(&self, is_input: bool) -> Result<(), Error>
+        ensures passes { (asked : Opening) → IsTrue is_input ↔ IsInput asked → OnOk result (PassesOpening self.now asked) }
+        ensures refused { (asked : Opening) → IsTrue is_input ↔ IsInput asked → IfErr result (IsRefused self.now asked) }
+    {
+        if !is_input {
+            return Err(Error::BadInput);
+        }
+        if MAX_OPEN <= self.by_number.len() {
+            return Err(Error::SessionsFull);
+        }
+        if self.next == u64::MAX {
+            return Err(Error::Exhausted);
+        }
+        Ok(())
+    }
+
+    /// Opens the next number, which is not the last.
+    fn add(&mut self, session: Session) -> Result<(), Error>
+        requires number { self.old.next < 2 ^ 64 - 1 }
+        requires limits { AreLimits (Some (session_view session)) }
+        ensures opened { OnOk result (self.new
+            ≡ record { expected = finite.insert self.old.expected self.old.next (session_view session); next = self.old.next + 1 }) }
+        ensures unchanged { OnErr result (self.new ≡ self.old) }
+        ensures memory { IfErr result (λ e. e ≡ errors.Memory) }
+    {
+        let number = self.next;
+        self.by_number.insert(number, session)?;
+        self.next = number + 1;
+        Ok(())
+    }
+
+    /// Begins a sign-in: of the account with this user handle, where it is known beforehand; with one of these
+    /// credentials, where any are listed, at most 8; the user is to be verified or not. The words are 24 random
+    /// bytes of the challenge.
+    ///
+    /// `BadInput` where the user handle or an id is not of 1 to 64 bytes or more than 8 ids are listed, then
+    /// `SessionsFull` where 1,024 sessions are open, then `Exhausted` where the next number is the last; `Memory`
+    /// where there was none for the copies or the session. Then nothing has changed.
+    pub fn begin_sign_in(
+        &mut self,
+        user: Option<&[u8]>,
+        allow: &[&[u8]],
+        uv: bool,
+        words: [u8; 24],
+    ) -> Result<Started, Error>
+        ensures passes { OnOk result (PassesOpening self.old (OpensSignIn (option_map (λ u. u.now) user.entry) (map (λ id. id.now) allow.now) uv words)) }
+        ensures started { IfOk result (λ s. (s.session ≡ self.old.next) × (s.challenge ≡ challenge_of self.old.next words)) }
+        ensures begun { OnOk result (self.new ≡ begun self.old (OpensSignIn (option_map (λ u. u.now) user.entry) (map (λ id. id.now) allow.now) uv words)) }
+        ensures refused { IfErr result (IsRefused self.old (OpensSignIn (option_map (λ u. u.now) user.entry) (map (λ id. id.now) allow.now) uv words)) }
+        ensures unchanged { OnErr result (self.new ≡ self.old) }
+    {
+        self.admit(is_sign_in(user, allow))?;
+        let alloc = self.alloc;
+        let session = self.next;
+        let challenge = challenge_with(session, &words);
+        self.add(Session::SignIn(SignInSession {
+            user: copy_of(alloc, user)?,
+            allow: copies(alloc, allow)?,
+            uv,
+            challenge,
+        }))?;
+        Ok(Started { session, challenge })
+    }
+
+    /// Begins a registration for the account with this user handle, with these algorithms offered; the user is
+    /// to be verified or not. The words are 24 random bytes of the challenge.
+    ///
+    /// `BadInput` where the user handle is not of 1 to 64 bytes or no algorithm is offered, then as for a sign-in.
+    pub fn begin_registration(
+        &mut self,
+        user: &[u8],
+        algorithms: &[Alg],
+        uv: bool,
+        words: [u8; 24],
+    ) -> Result<Started, Error>
+        ensures passes { OnOk result (PassesOpening self.old (OpensRegistration user.now algorithms.now uv words)) }
+        ensures started { IfOk result (λ s. (s.session ≡ self.old.next) × (s.challenge ≡ challenge_of self.old.next words)) }
+        ensures begun { OnOk result (self.new ≡ begun self.old (OpensRegistration user.now algorithms.now uv words)) }
+        ensures refused { IfErr result (IsRefused self.old (OpensRegistration user.now algorithms.now uv words)) }
+        ensures unchanged { OnErr result (self.new ≡ self.old) }
+    {
+        self.admit(is_registration(user, algorithms))?;
+        let alloc = self.alloc;
+        let session = self.next;
+        let challenge = challenge_with(session, &words);
+        self.add(Session::Registration(RegistrationSession {
+            user: Vec::from_slice(alloc, user)?,
+            algorithms: Vec::from_slice(alloc, algorithms)?,
+            uv,
+            challenge,
+        }))?;
+        Ok(Started { session, challenge })
+    }
+
+    /// The session of a number.
+    fn get(&self, session: u64) -> Option<&Session>
+        ensures expected { option_map (λ s. session_view s.now) result ≡ finite.get self.now.expected session }
+        ensures limits { AreLimits (finite.get self.now.expected session) }
+    {
+        self.by_number.get(&session)
+    }
+
+    /// What the session of a number expects, where it is open for sign-in.
+    pub fn sign_in(&self, session: u64) -> Option<&SignInSession>
+        ensures { option_map (λ s. sign_in_view s.now) result ≡ sign_in_at session self.now }
+    {
+        match self.get(session)? {
+            Session::SignIn(expected) => Some(expected),
+            Session::Registration(_) => None,
+        }
+    }
+
+    /// What the session of a number expects, where it is open for registration.
+    pub fn registration(&self, session: u64) -> Option<&RegistrationSession>
+        ensures expected { option_map (λ s. registration_view s.now) result ≡ registration_at session self.now }
+        ensures limits { ForSome (registration_at session self.now) (λ e. IsWithin 64 e.user) }
+    {
+        match self.get(session)? {
+            Session::SignIn(_) => None,
+            Session::Registration(expected) => Some(expected),
+        }
+    }
+
+    /// Closes a session: true where it was open. It takes no memory.
+    pub fn close(&mut self, session: u64) -> bool
+        ensures told { result ≡ is_some (finite.get self.old.expected session) }
+        ensures closed { self.new ≡ closed session self.old }
+    {
+        self.by_number.remove(&session).is_some()
+    }
+}

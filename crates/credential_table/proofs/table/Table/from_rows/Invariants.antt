@@ -1,0 +1,11 @@
+-- What the loop of `Table::from_rows` keeps.
+use Rattle.std.proofs.Common.{◌≡◌, ◌++◌}
+use Rattle.credential_table.specs.Views.{rows_view}
+use Rattle.credential_table.proofs.table.Table.from_rows.Given as goal
+
+abbrev pub invariant-loop-row : goal.invariant-loop-row
+invariant-loop-row l =
+    (goal.iterator-loop-row).can_next l.row-iterator ×
+    (goal.iterator-loop-row).is_finite l.row-iterator ×
+    (l.table ≡ rows_view l.yielded) ×
+    (l.fn.rows.items ≡ l.yielded ++ l.row-iterator.rest.items)

@@ -1,5 +1,0 @@
-use Rattle.credentials.proofs.Entries.{has_not}
-use Rattle.credentials.proofs.table.Table.has.Goals as goal
-
-pub returns : goal.returns
-returns c = rw (← c.self.view_is) (has_not c.args.id.now c.self.inside.rows.entries c.contains_key.result c.contains_key.ensures)

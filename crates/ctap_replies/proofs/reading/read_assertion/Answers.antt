@@ -1,0 +1,18 @@
+-- What is owed of `read_assertion`.
+use Rattle.std.proofs.Common.{List, ℕ, sym, subst}
+use Rattle.ctap_replies.specs.Replies.{ReplyRefused}
+use Rattle.ctap_replies.specs.declared.reply.Kind.TheVariants as kinds
+use Rattle.ctap_replies.proofs.Laws.{never_both}
+use Rattle.ctap_replies.proofs.reading.read_assertion.Goals as goal
+
+pub returns-in-Err-clause-refused : goal.returns-in-Err-clause-refused
+returns-in-Err-clause-refused c = c.in-Err.ensures.refused kinds.GetAssertion
+
+pub returns-in-Err-clause-none : goal.returns-in-Err-clause-none
+returns-in-Err-clause-none c = never_both c.args.bytes.now c.in-Err.e (c.in-Err.ensures.refused kinds.GetAssertion) c.in-Err.ensures.no_memory
+
+pub returns-in-Err-assertion_after-clause-none : goal.returns-in-Err-assertion_after-clause-none
+returns-in-Err-assertion_after-clause-none c =
+    let h = c.in-Err-assertion_after in
+    never_both c.args.bytes.now h.e
+    (subst (λ (l : List ℕ). ReplyRefused kinds.GetAssertion l h.e) (sym c.in-Ok.ensures.found) h.ensures.refused) h.ensures.no_memory

@@ -1,7 +1,0 @@
-use Rattle.cbor_map.proofs.Tables.{tables}
-use Rattle.replies.proofs.tables.info_fault.Goals as goal
-
-pub returns : goal.returns
-returns c =
-    let h = simp (tables) at c.gravest.ensures in
-    h

@@ -1,7 +1,0 @@
-use Rattle.std.proofs.Common.{map, take}
-use Rattle.std.specs.List.{AllByRecursion}
-use Rattle.credentials.specs.Table.{IsWithin}
-use Rattle.sessions.proofs.sessions.are_ids.Given as goal
-
-abbrev pub invariant-loop-id : goal.invariant-loop-id
-invariant-loop-id l = AllByRecursion (IsWithin 64) (map (λ id. id.now) (take l.id-index l.ids))
