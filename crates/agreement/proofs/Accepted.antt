@@ -12,6 +12,8 @@ use Rattle.clientdata.specs.declared.seen.Seen.{Seen}
 use Rattle.base64.specs.GeneralPurpose.{IsBytes}
 use Rattle.cose.specs.Schemes.{Validity}
 use Rattle.authdata.specs.Flags.{is_set, UP, UV}
+use Rattle.authdata.specs.declared.profile.Profile.{Profile}
+use Rattle.authdata.specs.declared.profile.Profile.TheVariants.{Strict}
 use Rattle.authdata.specs.Layout.{AttestedCredential, AuthenticatorData, AuthOf}
 use Rattle.authdata.specs.Responses.{AuthenticatorAssertionResponse}
 use Rattle.verification.specs.SignIn.{AreUser, PassesSignIn}
@@ -69,7 +71,7 @@ module _ (valid : Validity) (public : Keys) (b : Below valid public) where
   pub record Accepted (m : Moment) (i n : ℕ) (r : AuthenticatorAssertionResponse) (row : Credential) : Type 0 where
     pub passes : PassesSignIn valid (judged_sign_in (m.old.site i) n r)
     pub auth : AuthenticatorData
-    pub spelled : AuthOf auth r.auth_data
+    pub spelled : AuthOf (m.old.site i).rp.profile auth r.auth_data
     pub bare : auth.attested ≡ None
     pub after : Credential
     pub id : after.id ≡ r.credential
@@ -95,7 +97,7 @@ module _ (valid : Validity) (public : Keys) (b : Below valid public) where
       let passes = x.1.passes in
       let a = passes.1.1.1.1.1.1.1.1.1.0 in
       let stores = b.sites.stores (m.old.site i) n r x.0 row x.1.after acc.tries.found in
-      let same = b.readings.one_value stores.0 a.0 r.auth_data stores.1 a.1 in
+      let same = b.readings.one_value (m.old.site i).rp.profile (m.old.site i).rp.profile stores.0 a.0 r.auth_data stores.1 a.1 in
       record {
         passes = passes;
         auth = a.0;
@@ -114,18 +116,18 @@ module _ (valid : Validity) (public : Keys) (b : Below valid public) where
     pub present : is_set a.flags UP ≡ true → e.consent.present ≡ true
     pub verified : is_set a.flags UV ≡ true → e.consent.verified ≡ true
 
-  matches : (a : AuthenticatorData) (r : AuthenticatorAssertionResponse) (e : Entry) → AuthOf a r.auth_data → a.attested ≡ None → e.message ≡ message_of r
+  matches : (p : Profile) (a : AuthenticatorData) (r : AuthenticatorAssertionResponse) (e : Entry) → AuthOf p a r.auth_data → a.attested ≡ None → e.message ≡ message_of r
       → IsSound e → Matches a r e
-  matches a r e is bare message (inl x) =
-      let s = b.readings.one_front x.auth a x.bytes r.auth_data x.client_data_hash (sha256 r.client_data) x.spelled is (sym x.message ∙ message) in
+  matches p a r e is bare message (inl x) =
+      let s = b.readings.one_front Strict p x.auth a x.bytes r.auth_data x.client_data_hash (sha256 r.client_data) x.spelled is (sym x.message ∙ message) in
       record {
         purpose = x.purpose;
         counts = subst (λ (d : AuthenticatorData). 1 ≤ d.sign_count) s.0 x.counts;
         present = λ f. x.present (ap (λ (d : AuthenticatorData). is_set d.flags UP) s.0 ∙ f);
         verified = λ f. x.verified (ap (λ (d : AuthenticatorData). is_set d.flags UV) s.0 ∙ f);
       }
-  matches a r e is bare message (inr x) =
-      let s = b.readings.one_front x.auth a x.bytes r.auth_data x.client_data_hash (sha256 r.client_data) x.spelled is (sym x.message ∙ message) in
+  matches p a r e is bare message (inr x) =
+      let s = b.readings.one_front Strict p x.auth a x.bytes r.auth_data x.client_data_hash (sha256 r.client_data) x.spelled is (sym x.message ∙ message) in
       let bad : Some x.attested ≡ None = sym x.full ∙ ap (λ (d : AuthenticatorData). d.attested) s.0 ∙ bare in
       absurd cc
 
@@ -167,10 +169,10 @@ module _ (valid : Validity) (public : Keys) (b : Below valid public) where
   agrees m l ideal i n r row acc made =
       let a = accepted m i n r row l acc in
       let found = ideal i n r row acc.tries (a.passes.1.1.1.1.1.1.1.1.1.1.1.1.1.0 row acc.tries.found) made in
-      let matched = matches a.auth r found.entry a.spelled a.bare found.of (sound_at m found.holder found.entry l found.there) in (
+      let matched = matches (m.old.site i).rp.profile a.auth r found.entry a.spelled a.bare found.of (sound_at m found.holder found.entry l found.there) in (
         (found.entry, record { there = (found.holder, found.there); purpose = matched.purpose; key = found.under; message = found.of }),
         λ e rests.
-            let x = matches a.auth r e a.spelled a.bare rests.message (sound_at m rests.there.0 e l rests.there.1) in (
+            let x = matches (m.old.site i).rp.profile a.auth r e a.spelled a.bare rests.message (sound_at m rests.there.0 e l rests.there.1) in (
               record {
                 auth = a.auth;
                 bytes = r.auth_data;
@@ -194,8 +196,9 @@ module _ (valid : Validity) (public : Keys) (b : Below valid public) where
   share_none m l lm s i n k r t row low am al same e rm rl =
       let a = accepted m i n r row lm am in
       let c = accepted l i k t low s.lived al in
-      let x = matches a.auth r e a.spelled a.bare rm.message (sound_at m rm.there.0 e lm rm.there.1) in
-      let one = b.readings.one_front a.auth c.auth r.auth_data t.auth_data (sha256 r.client_data) (sha256 t.client_data) a.spelled c.spelled (sym rm.message
+      let x = matches (m.old.site i).rp.profile a.auth r e a.spelled a.bare rm.message (sound_at m rm.there.0 e lm rm.there.1) in
+      let one = b.readings.one_front (m.old.site i).rp.profile (l.old.site i).rp.profile a.auth c.auth r.auth_data t.auth_data (sha256 r.client_data)
+      (sha256 t.client_data) a.spelled c.spelled (sym rm.message
       ∙ rl.message) in
       let later = (s.goes_on i).rows r.credential a.after a.stored in
       let is : Some later.now ≡ Some low = sym later.found ∙ ap (λ id. row_of id (l.old.site i).rows) (a.id ∙ same) ∙ al.tries.found in
@@ -272,7 +275,8 @@ module _ (valid : Validity) (public : Keys) (b : Below valid public) where
   rests_once m l lm s i j n k r t row low am al apart clear e rm rl =
       let a = accepted m i n r row lm am in
       let c = accepted l j k t low s.lived al in
-      let one = b.readings.one_front a.auth c.auth r.auth_data t.auth_data (sha256 r.client_data) (sha256 t.client_data) a.spelled c.spelled (sym rm.message
+      let one = b.readings.one_front (m.old.site i).rp.profile (l.old.site j).rp.profile a.auth c.auth r.auth_data t.auth_data (sha256 r.client_data)
+      (sha256 t.client_data) a.spelled c.spelled (sym rm.message
       ∙ rl.message) in
       let parties = sym (a.passes.1.1.1.1.1.1.1.1.1.1.0 a.auth a.spelled) ∙ ap (λ (d : AuthenticatorData). d.rp_id_hash) one.0
       ∙ c.passes.1.1.1.1.1.1.1.1.1.1.0 c.auth c.spelled in

@@ -150,8 +150,8 @@ module _ (valid : Validity) (public : Keys) (b : Below valid public) (keeps : Ke
   flags_are : auth.flags ≡ 0x41 + uv_bit x.options.uv
   flags_are = ap (λ b. 0x41 + uv_bit b) (asks_verified x.options.rk x.options.uv)
 
-  attests : steps.Attests (response r t) (object_of r) auth attested
-  attests = record { object = has_object r came.reply creates.reply; auth_data = creates.spelled; attested = refl }
+  attests : steps.Attests x.site.rp.profile (response r t) (object_of r) auth attested
+  attests = record { object = has_object r came.reply creates.reply; auth_data = b.readings.taken x.site.rp.profile auth r.auth_data creates.spelled; attested = refl }
 
   offered : Contains x.expected.algorithms (alg_of key)
   offered =
@@ -212,7 +212,7 @@ module _ (valid : Validity) (public : Keys) (b : Below valid public) (keeps : Ke
       (subst (λ (l : List ℕ). ReplyOf (creation_reply k.2) l) o.2 k.4) creates.reply in
       let after : IsAfterRegistration x.site x.session (response r t) s =
       subst (λ (z : Creation). IsAfterRegistration x.site x.session (response z t) s) one k.5 in
-      let same = one_attested b.readings (response r t) after.1 (object_of r) after.2 auth after.3 attested after.5 attests in
+      let same = one_attested b.readings x.site.rp.profile (response r t) after.1 (object_of r) after.2 auth after.3 attested after.5 attests in
       let some_expected : Some after.0 ≡ Some x.expected = sym after.4 ∙ h.is_open in
       let expected : after.0 ≡ x.expected = cc in
       let rows : s.rows ≡ x.site.rows ++ row ∷ [] =

@@ -3,6 +3,7 @@ use Rattle.std.proofs.Common.{◌≡◌, ◌⊎◌, true, false, Some, refl, sym
 use Rattle.refusal_order.specs.Lines.{Each}
 use Rattle.clientdata.specs.declared.record.CeremonyType.TheVariants.{Create}
 use Rattle.cose.specs.Keys.{alg_of}
+use Rattle.authdata.specs.declared.profile.Profile.{Profile}
 use Rattle.authdata.specs.Layout.{AttestedCredential, AuthenticatorData, AuthOf}
 use Rattle.authdata.specs.Objects.{Attestation}
 use Rattle.authdata.specs.Responses as responses
@@ -24,27 +25,27 @@ pub record Same (o p : Attestation) (a b : AuthenticatorData) (c d : AttestedCre
   pub auth_data : a ≡ b
   pub credential : c ≡ d
 
-pub one_attested : Readings → (r : responses.AuthenticatorAttestationResponse) (o p : Attestation) (a b : AuthenticatorData) (c d : AttestedCredential)
-    → Attests r o a c → Attests r p b d → Same o p a b c d
-one_attested readings r o p a b c d x y =
+pub one_attested : Readings → (q : Profile) (r : responses.AuthenticatorAttestationResponse) (o p : Attestation) (a b : AuthenticatorData) (c d : AttestedCredential)
+    → Attests q r o a c → Attests q r p b d → Same o p a b c d
+one_attested readings q r o p a b c d x y =
     let object = readings.one_object o p r.object x.object y.object in
-    let auth = readings.one_value a b p.auth_data (subst (λ (q : Attestation). AuthOf a q.auth_data) object x.auth_data) y.auth_data in
+    let auth = readings.one_value q q a b p.auth_data (subst (λ (z : Attestation). AuthOf q a z.auth_data) object x.auth_data) y.auth_data in
     let some : Some c ≡ Some d = sym x.attested ∙ ap (λ (e : AuthenticatorData). e.attested) auth ∙ y.attested in
     record { object = object; auth_data = auth; credential = cc }
 
 module _ (readings : Readings) (valid : Validity) (x : JudgedRegistration) (e : ExpectedRegistration) (o : Attestation) (a : AuthenticatorData)
     (c : AttestedCredential) where
   -- what holds of what the response attests
-  all : (P : Attestation → AuthenticatorData → AttestedCredential → Type 0) → Attests x.response o a c → P o a c → Attested x.response P
+  all : (P : Attestation → AuthenticatorData → AttestedCredential → Type 0) → Attests x.rp.profile x.response o a c → P o a c → Attested x.rp.profile x.response P
   all P is h p b d other =
-      let same = one_attested readings x.response o p a b c d is other in
+      let same = one_attested readings x.rp.profile x.response o p a b c d is other in
       subst (λ (k : AttestedCredential). P p b k) same.credential
       (subst (λ (k : AuthenticatorData). P p k c) same.auth_data (subst (λ (k : Attestation). P k a c) same.object h))
 
   pub record MeetsSteps : Type 0 where
     pub is_open : x.session ≡ Some e
     pub says : Each (PassesClientDataStep Create e.challenge x.rp x.response.client_data) client_data_order
-    pub attests : Attests x.response o a c
+    pub attests : Attests x.rp.profile x.response o a c
     pub party : IsFor x.rp a
     pub present : IsPresent a
     pub verified : IsVerifiedAs e.uv a

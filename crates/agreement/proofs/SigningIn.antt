@@ -9,6 +9,7 @@ use Rattle.clientdata.specs.Serialised.{client_data_text, hash_of}
 use Rattle.cose.specs.Schemes.{Validity}
 use Rattle.cose.specs.declared.key.CoseKey.{CoseKey}
 use Rattle.authdata.specs.Flags.{is_set, AT, BE, UP, UV}
+use Rattle.authdata.specs.declared.profile.Profile.TheVariants.{Strict}
 use Rattle.authdata.specs.Layout.{AuthenticatorData, AuthOf}
 use Rattle.ctap_replies.specs.Replies.{Assertion, ReplyOf, assertion_reply}
 use Rattle.ctap_requests.specs.Requests.{AssertionRequest, get_assertion}
@@ -59,8 +60,8 @@ assertion_bits false = record { bare = refl; present = refl; verified = λ e. ab
 -- ---- steps
 
 module _ (readings : Readings) (valid : Validity) (x : JudgedSignIn) (e : expects.ExpectedSignIn) (c : expects.Credential) (a : AuthenticatorData) where
-  all : (P : AuthenticatorData → Type 0) → AuthOf a x.response.auth_data → P a → (b : AuthenticatorData) → AuthOf b x.response.auth_data → P b
-  all P is h b other = subst P (readings.one_value a b x.response.auth_data is other) h
+  all : (P : AuthenticatorData → Type 0) → AuthOf x.rp.profile a x.response.auth_data → P a → (b : AuthenticatorData) → AuthOf x.rp.profile b x.response.auth_data → P b
+  all P is h b other = subst P (readings.one_value x.rp.profile x.rp.profile a b x.response.auth_data is other) h
 
   record Signs : Type 0 where
     pub is_open : x.session ≡ Some e
@@ -70,7 +71,7 @@ module _ (readings : Readings) (valid : Validity) (x : JudgedSignIn) (e : expect
     pub not_retired : c.retired ≡ false
     pub user : AreUser e.user x.response.user c.user
     pub says : Each (PassesClientDataStep Get e.challenge x.rp x.response.client_data) client_data_order
-    pub spelled : AuthOf a x.response.auth_data
+    pub spelled : AuthOf x.rp.profile a x.response.auth_data
     pub bare : is_set a.flags AT ≡ false
     pub party : IsFor x.rp a
     pub present : IsPresent a
@@ -198,8 +199,9 @@ module _ (valid : Validity) (public : Keys) (b : Below valid public) (x : Signin
   abbrev auth : AuthenticatorData
   auth = assertion_data c asked
 
-  spelled : AuthOf auth r.auth_data
-  spelled = subst (λ (d : CredentialSource). AuthOf (assertion_data d asked) r.auth_data) own answers.asserts.spelled
+  spelled : AuthOf x.site.rp.profile auth r.auth_data
+  spelled = b.readings.taken x.site.rp.profile auth r.auth_data
+      (subst (λ (d : CredentialSource). AuthOf Strict (assertion_data d asked) r.auth_data) own answers.asserts.spelled)
 
   flags_are : auth.flags ≡ 0x01 + uv_bit x.options.uv
   flags_are = ap (λ o. up_bit (not (is_false o)) + uv_bit asked.uv) (assertion_up x.options.uv) ∙ ap (λ b. 0x01 + uv_bit b) (asserts_verified x.options.uv)
@@ -276,7 +278,7 @@ module _ (valid : Validity) (public : Keys) (b : Below valid public) (x : Signin
       (subst (λ (l : List ℕ). ReplyOf (assertion_reply k.2) l) o.2 k.4) answers.reply in
       let after : IsAfterSignIn x.site x.session (response_of r t) s = subst (λ (z : Assertion). IsAfterSignIn x.site x.session (response_of z t) s) one k.5 in
       let kept = b.sites.stores x.site x.session (response_of r t) s row after found in
-      let data_is : kept.0 ≡ auth = b.readings.one_value kept.0 auth r.auth_data kept.1 spelled in
+      let data_is : kept.0 ≡ auth = b.readings.one_value x.site.rp.profile x.site.rp.profile kept.0 auth r.auth_data kept.1 spelled in
       record {
         stored = stored;
         sign_count = refl;

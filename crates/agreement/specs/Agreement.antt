@@ -151,7 +151,7 @@ pub record FitsRegistration (valid : Validity) (m : Moment) (i n : ℕ) (r : res
   pub object : Attestation
   pub auth : AuthenticatorData
   pub credential : AttestedCredential
-  pub attests : Attests r object auth credential
+  pub attests : Attests (m.old.site i).rp.profile r object auth credential
   pub rp_id : auth.rp_id_hash ≡ sha256 (m.old.site i).rp.rp_id
   pub present : is_set auth.flags UP ≡ true
   pub verified : expected.uv ≡ true → is_set auth.flags UV ≡ true
@@ -173,7 +173,7 @@ Registered valid m = (i n : ℕ) (r : responses.AuthenticatorAttestationResponse
 pub record Says (m : Moment) (i n : ℕ) (r : AuthenticatorAssertionResponse) (e : Entry) : Type 0 where
   pub auth : AuthenticatorData
   pub bytes : List ℕ
-  pub spelled : AuthOf auth bytes
+  pub spelled : AuthOf (m.old.site i).rp.profile auth bytes
   pub bare : auth.attested ≡ None
   pub message : e.message ≡ bytes ++ sha256 r.client_data
   pub rp_id : auth.rp_id_hash ≡ sha256 (m.old.site i).rp.rp_id

@@ -5,6 +5,8 @@ use Rattle.clientdata.specs.Serialised.{challenge_text_of}
 use Rattle.cose.specs.Keys.{alg_of}
 use Rattle.cose.specs.Schemes.{Validity}
 use Rattle.cose.specs.declared.key.Alg.{Alg}
+use Rattle.authdata.specs.declared.profile.Profile.{Profile}
+use Rattle.authdata.specs.declared.profile.Profile.TheVariants.{Strict}
 use Rattle.authdata.specs.Layout.{AuthenticatorData, AuthOf}
 use Rattle.authdata.specs.Objects.{Attestation, ObjectOf}
 use Rattle.site.specs.Laws.{SiteLaws}
@@ -15,8 +17,11 @@ use Rattle.agreement.specs.Links.{Links}
 -- bytes are one object, and of one authenticator's data
 pub record Readings : Type 0 where
   pub one_object : (o p : Attestation) (bs : List ℕ) → ObjectOf o bs → ObjectOf p bs → o ≡ p
-  pub one_value : (a b : AuthenticatorData) (bs : List ℕ) → AuthOf a bs → AuthOf b bs → a ≡ b
-  pub one_front : (a b : AuthenticatorData) (x y u v : List ℕ) → AuthOf a x → AuthOf b y → x ++ u ≡ y ++ v → (a ≡ b) × (x ≡ y) × (u ≡ v)
+  pub one_value : (p q : Profile) (a b : AuthenticatorData) (bs : List ℕ) → AuthOf p a bs → AuthOf q b bs → a ≡ b
+  pub one_front : (p q : Profile) (a b : AuthenticatorData) (x y u v : List ℕ) → AuthOf p a x → AuthOf q b y → x ++ u ≡ y ++ v
+      → (a ≡ b) × (x ≡ y) × (u ≡ v)
+  -- each profile takes what the strict one takes
+  pub taken : (p : Profile) (a : AuthenticatorData) (bs : List ℕ) → AuthOf Strict a bs → AuthOf p a bs
 
 -- a secret's public key has the algorithm that it was made for
 abbrev pub KeepsAlg : Keys → Type 0

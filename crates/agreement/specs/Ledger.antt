@@ -5,6 +5,7 @@ use Rattle.std.specs.List.{All}
 use Rattle.cose.specs.Schemes.{Validity}
 use Rattle.cose.specs.declared.key.Alg.{Alg}
 use Rattle.cose.specs.declared.key.CoseKey.{CoseKey}
+use Rattle.authdata.specs.declared.profile.Profile.TheVariants.{Strict}
 use Rattle.authdata.specs.Layout.{AuthenticatorData, AuthOf}
 use Rattle.ctap_requests.specs.Requests.{AssertionRequest, CreationRequest, RequestMessage, get_assertion, get_next_assertion, make_credential}
 use Rattle.ctap_requests.specs.Status.{IsRequest}
@@ -48,7 +49,7 @@ pub record Signs (k : ℕ) (purpose : Purpose) (client_data_hash : List ℕ) (e 
   pub key : Contains (m.new.holder k).made e.key
   pub auth : AuthenticatorData
   pub bytes : List ℕ
-  pub spelled : AuthOf auth bytes
+  pub spelled : AuthOf Strict auth bytes
   pub message : e.message ≡ bytes ++ client_data_hash
 
 -- an attestation at a makeCredential: the entry's consent is the one given to it

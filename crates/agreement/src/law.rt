@@ -23,6 +23,7 @@ fn below<V: Verifier>()
     hidlink::one_outcome();
     clientdata::challenge_texts();
     authdata::one_reading();
+    authdata::profiles();
     authdata::one_object();
     authenticator::step_laws::<V>();
     site::site_laws::<V>();

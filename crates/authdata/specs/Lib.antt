@@ -1,4 +1,5 @@
 pub mod Flags
+pub mod Profiles
 pub mod Numbers
 pub mod Layout
 pub mod Refusals

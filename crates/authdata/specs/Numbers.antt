@@ -16,3 +16,4 @@ refusal_number errors.Shape = Some 13
 refusal_number errors.UnknownFormat = Some 14
 refusal_number errors.BadStatement = Some 15
 refusal_number errors.BadBackup = Some 28
+refusal_number errors.BadExtensions = Some 29

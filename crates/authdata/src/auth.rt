@@ -19,8 +19,8 @@ pub struct Attested {
     ghost id_high: { length id.items ≤ 64 },
 }
 
-/// Authenticator data (WebAuthn section 6.1): what an authenticator says of a ceremony. It has no
-/// extensions.
+/// Authenticator data (WebAuthn section 6.1) of the strict profile: what an authenticator says of a ceremony. It has
+/// no extensions.
 #[derive(Debug, PartialEq, Eq, Drop)]
 pub struct AuthData {
     /// SHA-256 of the relying party's id.
@@ -42,21 +42,24 @@ pub struct AuthData {
 pub struct AttestedView<'a> {
     /// The kind of the authenticator.
     pub aaguid: [u8; 16],
-    /// The credential id, of 1 to 64 bytes.
+    /// The credential id, of 1 byte to as many as the profile has.
     pub id: &'a [u8],
     /// The credential's public key.
     pub key: CoseKey,
 }
 
-/// Authenticator data, read where they lie: the members of `AuthData`.
+/// Authenticator data, read where they lie: the members of `AuthData`, and the extensions.
 #[derive(Clone, Copy, Debug, Drop)]
 pub struct AuthView<'a> {
     /// SHA-256 of the relying party's id.
     pub rp_id_hash: [u8; 32],
-    /// The flags, as in `AuthData`.
+    /// The flags, as in `AuthData`; `ED` is set exactly if there are extensions.
     pub flags: u8,
     /// The signature counter.
     pub sign_count: u32,
     /// The attested credential, if there is one.
     pub attested: Option<AttestedView<'a>>,
+    /// The extensions, if there are any: one map of canonical CBOR with text keys, which `ccbor::View` reads. The
+    /// strict profile has none.
+    pub extensions: Option<&'a [u8]>,
 }

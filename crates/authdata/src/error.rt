@@ -21,18 +21,21 @@ pub enum Error {
     /// Bytes are missing.
     #[error("the authenticator data is too short")]
     Short,
-    /// Extension data is included.
+    /// Extension data is included, which the strict profile doesn't take.
     #[error("the authenticator data has extensions")]
     Extensions,
     /// The credential is backed up and may not be (BS without BE).
     #[error("the credential is marked as backed up and not as eligible for it")]
     BadBackup,
-    /// The credential id has no byte or more than 64.
-    #[error("the credential id has no byte or more than 64")]
+    /// The credential id has no byte, or more than the profile has.
+    #[error("the credential id has no byte or too many")]
     BadId,
     /// No encoding of a key follows the credential id.
     #[error("no COSE key follows the credential id")]
     BadKey,
+    /// No map of extensions follows, and the flags say that there is one.
+    #[error("no map of extensions follows the credential")]
+    BadExtensions,
     /// Bytes are left.
     #[error("bytes follow the authenticator data")]
     ExtraBytes,
@@ -65,6 +68,7 @@ impl Error {
             Error::UnknownFormat => Some(14),
             Error::BadStatement => Some(15),
             Error::BadBackup => Some(28),
+            Error::BadExtensions => Some(29),
         }
     }
 }

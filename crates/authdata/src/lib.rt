@@ -8,6 +8,7 @@ mod law;
 mod members;
 mod object;
 mod parts;
+mod profile;
 mod reading;
 mod response;
 mod statement;
@@ -15,8 +16,11 @@ mod writing;
 
 pub use auth::{Attested, AttestedView, AuthData, AuthView};
 pub use error::Error;
-pub use law::{flag_bits, key_inside, one_object, one_reading, one_refusal, one_statement, sizes};
+pub use law::{
+    flag_bits, key_inside, one_object, one_reading, one_refusal, one_statement, profiles, sizes,
+};
 pub use object::AttestationObject;
+pub use profile::Profile;
 pub use reading::{read, read_view};
 pub use response::{AssertionResponse, RegistrationResponse};
 pub use statement::{AttestationType, check_statement};

@@ -3,6 +3,7 @@
 ghost use Rattle.std.specs.Prelude.{◌≡◌, ◌≤◌, ◌+◌, ◌++◌, IfOk, OnOk, length};
 ghost use Rattle.std.specs.Int.{w32, to_be_bytes};
 ghost use Rattle.cose.specs.Keys.{IsKey, encoded_length};
+ghost use Rattle.authdata.specs.declared.profile.Profile.TheVariants.{Strict};
 ghost use Rattle.authdata.specs.Layout.{AuthOf, IsAttestedCredential, auth_view, credential_bytes, attested_view, key_bytes};
 
 use crate::auth::{Attested, AuthData};
@@ -28,7 +29,7 @@ fn put_key(alloc: Global, key: &CoseKey, out: &mut Vec<u8>) -> Result<(), AllocE
 fn put_credential(alloc: Global, credential: &Attested, out: &mut Vec<u8>) -> Result<(), AllocError>
     ensures appended { OnOk result (out.new.items
         ≡ out.old.items ++ credential_bytes (attested_view credential.now)) }
-    ensures is { OnOk result (IsAttestedCredential (attested_view credential.now)) }
+    ensures is { OnOk result (IsAttestedCredential Strict (attested_view credential.now)) }
 {
     let mut id_length = [0; 2];
     BigEndian::write_u16(&mut id_length, credential.id.len() as u16);
@@ -65,10 +66,10 @@ fn count_bytes(sign_count: u32) -> [u8; 4]
     bytes
 }
 
-/// The bytes of authenticator data (WebAuthn section 6.1): 37, and with a credential those of its
+/// The bytes of authenticator data (WebAuthn section 6.1), which have no extensions: 37, and with a credential those of its
 /// id, its key (77 for ES256, 42 for EdDSA) and 18 more.
 pub fn write(alloc: Global, auth: &AuthData) -> Result<Vec<u8>, AllocError>
-    ensures { IfOk result (λ bytes. AuthOf (auth_view auth.now) bytes.items) }
+    ensures { IfOk result (λ bytes. AuthOf Strict (auth_view auth.now) bytes.items) }
 {
     let credential_length = match &auth.attested {
         Some(credential) => credential_length(credential),

@@ -5,6 +5,7 @@ use Rattle.cose.specs.Keys.{alg_of, encoded_length}
 use Rattle.cose.specs.Schemes.{Validity}
 use Rattle.cose.specs.declared.key.CoseKey.{CoseKey}
 use Rattle.cose.specs.declared.key.CoseKey.TheVariants as keys
+use Rattle.authdata.specs.declared.profile.Profile.TheVariants.{Strict}
 use Rattle.authdata.specs.Layout.{AuthOf}
 use Rattle.authdata.specs.Statements.{packed_statement}
 use Rattle.authdata.specs.declared.statement.AttestationType.{AttestationType}
@@ -30,7 +31,7 @@ at_most_77 : (key : CoseKey) → encoded_length key ≤ 77
 at_most_77 (keys.Es256 x y) = omega arith
 at_most_77 (keys.EdDsa x) = omega arith
 
-pub creation_length : (a : AuthenticatorState) (q : CreationRequest) (id : List ℕ) (key : CoseKey) (bs : List ℕ) → AuthOf (creation_data a q id key) bs
+pub creation_length : (a : AuthenticatorState) (q : CreationRequest) (id : List ℕ) (key : CoseKey) (bs : List ℕ) → AuthOf Strict (creation_data a q id key) bs
     → length id ≡ 32 → length bs ≤ 164
 creation_length a q id key bs h l =
     let exact = length-exact (creation_data a q id key) (record { aaguid = a.aaguid; id = id; key = key }) bs h refl in

@@ -8,6 +8,7 @@ use Rattle.ctap_requests.specs.Requests.{AssertionRequest, CreationRequest}
 use Rattle.ctap_replies.specs.Replies.{Assertion, Creation, ReplyMessage, ReplyOf, creation_reply}
 use Rattle.cose.specs.Schemes.{Validity}
 use Rattle.cose.specs.declared.key.Alg.{Alg}
+use Rattle.authdata.specs.declared.profile.Profile.TheVariants.{Strict}
 use Rattle.authdata.specs.Layout.{AuthOf}
 use Rattle.authenticator.specs.State.{Asked, CredentialSource, Remembered, AuthenticatorState, forgotten}
 use Rattle.authenticator.specs.Credentials.{credential_of, with_sign_count}
@@ -69,7 +70,7 @@ answered valid public old new c id asked later message count r reply found is sp
 -- what is shown of a credential, and its bytes
 pub shows : {E : Type 0} (valid : Validity) (public : Keys) (c : CredentialSource) (asked : Asked) (message : Assertion → ReplyMessage) (count : Option ℕ)
     (q : Assertion) (auth_data signature : List ℕ) (r : Result (Vec ℕ Global) E)
-    → AuthOf (assertion_data c asked) auth_data → IsSignature valid (key_of public c) (auth_data ++ asked.client_data_hash) signature
+    → AuthOf Strict (assertion_data c asked) auth_data → IsSignature valid (key_of public c) (auth_data ++ asked.client_data_hash) signature
     → q.credential ≡ c.id → q.auth_data ≡ auth_data → q.signature ≡ signature → q.user ≡ shown_user c → q.number ≡ count
     → IfOk r (λ v. ReplyOf (message q) v.items) → IfOk r (λ v. Shows valid public c asked message count v.items)
 shows valid public c asked message count q auth_data signature (Ok v) spelled signs id a s user number h =
@@ -82,7 +83,7 @@ not_at_end id cs c found lt = search (rules, found, lt)
 
 pub created : (valid : Validity) (public : Keys) (old new : AuthenticatorState) (q : CreationRequest) (consent : Consent) (words : Words) (alg : Alg)
     (r : Creation) (reply : List ℕ)
-    → first_supported q.pub_key_cred_params ≡ Some alg → AuthOf (creation_data old q words.id (public alg words.secret)) r.auth_data
+    → first_supported q.pub_key_cred_params ≡ Some alg → AuthOf Strict (creation_data old q words.id (public alg words.secret)) r.auth_data
     → IsAttested valid (public alg words.secret) q.client_data_hash consent old.attest r → ReplyOf (creation_reply r) reply
     → new ≡ record (forgotten old) { credentials = kept old.credentials q ++ new_credential q alg words ∷ [] }
     → Comes (Creates valid public old q consent words) reply new

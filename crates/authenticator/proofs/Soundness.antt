@@ -10,7 +10,7 @@ use Rattle.authdata.specs.Flags.{is_set, UP, UV}
 use Rattle.authdata.specs.Layout.{AttestedCredential}
 use Rattle.authdata.specs.declared.statement.AttestationType.{AttestationType}
 use Rattle.authdata.specs.declared.statement.AttestationType.TheVariants as types
-use Rattle.authdata.proofs.Unique.{length-bare, length-full}
+use Rattle.authdata.proofs.Unique.{length-bare, length-low}
 use Rattle.ctap_replies.specs.Replies.{Assertion, Creation, ReplyMessage}
 use Rattle.ctap_requests.specs.Requests.{AssertionRequest, CreationRequest, RequestMessage, get_assertion, get_info, get_next_assertion, make_credential, reset}
 use Rattle.ctap_requests.specs.Status.{IsRequest}
@@ -220,7 +220,7 @@ creates valid public old q consent words out s w l none is =
     let e : out.state.credentials ≡ stay ++ new ∷ [] = ap (λ (a : AuthenticatorState). a.credentials) is.state in
     let entry : Entry = record { key = key; message = is.shown.auth_data ++ q.client_data_hash; purpose = attestation; consent = consent } in
     let attested : AttestedCredential = record { aaguid = old.aaguid; id = words.id; key = key } in
-    let full = length-full (creation_data old q words.id key) attested is.shown.auth_data is.spelled refl in
+    let full = length-low (creation_data old q words.id key) attested is.shown.auth_data is.spelled refl in
     let sound : IsSound entry = inr (record {
       purpose = refl;
       auth = creation_data old q words.id key;

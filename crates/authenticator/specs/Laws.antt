@@ -3,6 +3,7 @@ use Rattle.std.specs.Prelude.{◌≡◌, ◌≤◌, ◌⊎◌, ℕ, ◌+◌, Lis
 use Rattle.cose.specs.Schemes.{Validity}
 use Rattle.cose.specs.declared.key.CoseKey.{CoseKey}
 use Rattle.authdata.specs.Flags.{is_set, UP, UV}
+use Rattle.authdata.specs.declared.profile.Profile.TheVariants.{Strict}
 use Rattle.authdata.specs.Layout.{AttestedCredential, AuthenticatorData, AuthOf}
 use Rattle.authdata.specs.declared.statement.AttestationType.{AttestationType}
 use Rattle.authenticator.specs.State.{CredentialSource, Asked, Remembered, AuthenticatorState, new_state}
@@ -46,7 +47,7 @@ pub record SoundAssertion (e : Entry) : Type 0 where
   pub auth : AuthenticatorData
   pub bytes : List ℕ
   pub client_data_hash : List ℕ
-  pub spelled : AuthOf auth bytes
+  pub spelled : AuthOf Strict auth bytes
   pub bare : auth.attested ≡ None
   pub message : e.message ≡ bytes ++ client_data_hash
   pub hash_length : length client_data_hash ≡ 32
@@ -62,7 +63,7 @@ pub record SoundAttestation (e : Entry) : Type 0 where
   pub attested : AttestedCredential
   pub bytes : List ℕ
   pub client_data_hash : List ℕ
-  pub spelled : AuthOf auth bytes
+  pub spelled : AuthOf Strict auth bytes
   pub full : auth.attested ≡ Some attested
   pub message : e.message ≡ bytes ++ client_data_hash
   pub hash_length : length client_data_hash ≡ 32
@@ -79,7 +80,7 @@ pub record Counted (public : Keys) (old new : List CredentialSource) (e : Entry)
   pub auth : AuthenticatorData
   pub bytes : List ℕ
   pub client_data_hash : List ℕ
-  pub spelled : AuthOf auth bytes
+  pub spelled : AuthOf Strict auth bytes
   pub message : e.message ≡ bytes ++ client_data_hash
   pub count : auth.sign_count ≡ credential.sign_count + 1
   pub after : credential_of credential.id new ≡ Some (record credential { sign_count = credential.sign_count + 1 })

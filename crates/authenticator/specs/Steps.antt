@@ -7,6 +7,7 @@ use Rattle.cose.specs.Keys.{alg_of}
 use Rattle.cose.specs.Schemes.{Validity}
 use Rattle.cose.specs.declared.key.Alg.{Alg}
 use Rattle.cose.specs.declared.key.CoseKey.{CoseKey}
+use Rattle.authdata.specs.declared.profile.Profile.TheVariants.{Strict}
 use Rattle.authdata.specs.Layout.{AuthenticatorData, AuthOf}
 use Rattle.authdata.specs.Statements.{none_statement, packed_statement}
 use Rattle.authdata.specs.declared.statement.AttestationType.{AttestationType}
@@ -93,6 +94,7 @@ creation_data a q id key = record {
   flags = 0x41 + uv_bit (is_true (creation_flags q.options).uv);
   sign_count = 0;
   attested = Some (record { aaguid = a.aaguid; id = id; key = key });
+  extensions = None;
 }
 
 -- its statement, and what is signed for it: none (WebAuthn Level 2, section 8.7), or packed self attestation
@@ -112,7 +114,7 @@ pub record Creates (valid : Validity) (public : Keys) (old : AuthenticatorState)
   pub alg : Alg
   pub chosen : first_supported q.pub_key_cred_params ≡ Some alg
   pub shown : Creation
-  pub spelled : AuthOf (creation_data old q words.id (public alg words.secret)) shown.auth_data
+  pub spelled : AuthOf Strict (creation_data old q words.id (public alg words.secret)) shown.auth_data
   pub attested : MakesStatement valid (public alg words.secret) q.client_data_hash consent old.attest shown out.signed
   pub reply : ReplyOf (creation_reply shown) out.reply
   pub state : out.state ≡ record (forgotten old) { credentials = kept old.credentials q ++ new_credential q alg words ∷ [] }
@@ -136,6 +138,7 @@ assertion_data c asked = record {
   flags = up_bit asked.up + uv_bit asked.uv;
   sign_count = c.sign_count + 1;
   attested = None;
+  extensions = None;
 }
 
 -- the user is named exactly for a resident credential
@@ -144,7 +147,7 @@ shown_user c = if c.resident then Some c.user else None
 
 -- what answers it: the authenticator data, a signature over them and then the hash, and the credential
 pub record IsAssertion (valid : Validity) (public : Keys) (c : CredentialSource) (asked : Asked) (count : Option ℕ) (r : Assertion) : Type 0 where
-  pub spelled : AuthOf (assertion_data c asked) r.auth_data
+  pub spelled : AuthOf Strict (assertion_data c asked) r.auth_data
   pub signs : IsSignature valid (key_of public c) (r.auth_data ++ asked.client_data_hash) r.signature
   pub credential : r.credential ≡ c.id
   pub user : r.user ≡ shown_user c

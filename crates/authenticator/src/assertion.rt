@@ -2,6 +2,7 @@
 
 ghost use Rattle.std.specs.Prelude.{◌≡◌, ◌<◌, ◌≤◌, ◌+◌, IfOk, IfSome, None, false, length, option_map};
 ghost use Rattle.authdata.specs.Flags as bits;
+ghost use Rattle.authdata.specs.declared.profile.Profile.TheVariants.{Strict};
 ghost use Rattle.authdata.specs.Layout.{AuthOf};
 ghost use Rattle.ctap_replies.specs.Replies.{assertion_reply, next_reply};
 ghost use Rattle.ctap_replies.specs.ReplyView.{lent_assertion_view};
@@ -41,7 +42,7 @@ fn auth_data(
     asked: &AskedAssertion,
 ) -> Result<Vec<u8>, AllocError>
     requires { credential.now.sign_count < 4294967295 }
-    ensures { IfOk result (λ bytes. AuthOf (assertion_data (credential_source_view credential.now) (asked_view asked.now)) bytes.items) }
+    ensures { IfOk result (λ bytes. AuthOf Strict (assertion_data (credential_source_view credential.now) (asked_view asked.now)) bytes.items) }
 {
     let data = AuthData {
         rp_id_hash: Sha256::digest(credential.rp_id.as_bytes()),

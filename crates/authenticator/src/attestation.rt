@@ -3,6 +3,7 @@
 ghost use Rattle.std.specs.Prelude.{◌≡◌, ◌+◌, ◌++◌, ◌≤◌, IfOk, false, length, true};
 ghost use Rattle.ccbor.specs.View.{view};
 ghost use Rattle.authdata.specs.Flags as bits;
+ghost use Rattle.authdata.specs.declared.profile.Profile.TheVariants.{Strict};
 ghost use Rattle.authdata.specs.Layout.{AuthOf};
 ghost use Rattle.authdata.specs.Statements.{packed_statement};
 ghost use Rattle.ctap_requests.specs.RequestView.{creation_view};
@@ -60,7 +61,7 @@ impl Authenticator {
         uv: bool,
     ) -> Result<Vec<u8>, AllocError>
         requires { uv ≡ asks_verified (creation_view request.now) }
-        ensures { IfOk result (λ bytes. AuthOf (creation_data self.now (creation_view request.now) id.now key) bytes.items) }
+        ensures { IfOk result (λ bytes. AuthOf Strict (creation_data self.now (creation_view request.now) id.now key) bytes.items) }
     {
         let attested = Attested {
             aaguid: self.aaguid,
@@ -87,7 +88,7 @@ impl Authenticator {
     ) -> Result<CreationReply, AllocError>
         requires { choice.uv ≡ asks_verified (creation_view request.now) }
         ensures size { IfOk result (λ r. length r.auth_data.items ≤ 164) }
-        ensures spelled { IfOk result (λ r. AuthOf
+        ensures spelled { IfOk result (λ r. AuthOf Strict
             (creation_data self.now (creation_view request.now) words.now.id (S.public_of scheme.now choice.alg words.now.secret)) r.auth_data.items) }
         ensures attested { IfOk result (λ r. (consent : Consent)
             → IsAttested (S.valid scheme.now) (S.public_of scheme.now choice.alg words.now.secret) request.now.client_data_hash.items consent self.now.attest

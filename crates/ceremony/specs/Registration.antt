@@ -32,7 +32,7 @@ registration valid s session t = record {
 -- the first `used` packets succeed by a reply whose credential is answered
 abbrev pub AcceptsRegistration : Validity → SiteState → ℕ → List ℕ → ℕ → List Packet → Enrolled → Type 0
 AcceptsRegistration valid s session t c ps a =
-    (r : Creation) × Succeeds (registration valid s session t) c ps a.used r × IsRegistered (response r t) (record { credential = a.credential })
+    (r : Creation) × Succeeds (registration valid s session t) c ps a.used r × IsRegistered s (response r t) (record { credential = a.credential })
 
 -- the site afterwards
 abbrev pub IsAfter : SiteState → ℕ → List ℕ → ℕ → List Packet → SiteState → Type 0

@@ -59,7 +59,7 @@ fn judge<V: Verifier>(
 ) -> Result<Registered, Error<RegistrationRefusal>>
     ensures accepted { IfOk result (λ x. (r : Creation) × ReplyOf (creation_reply r) message.now
         × PassesRegistration (V.valid verifier.now) (judged_registration site.old session (response r client_data.now))
-        × IsRegistered (response r client_data.now) x × IsAfterRegistration site.old session (response r client_data.now) site.new) }
+        × IsRegistered site.old (response r client_data.now) x × IsAfterRegistration site.old session (response r client_data.now) site.new) }
     ensures complete { (r : Creation) → ReplyOf (creation_reply r) message.now
         → PassesRegistration (V.valid verifier.now) (judged_registration site.old session (response r client_data.now))
         → IfErr result (λ e. e ≡ errors.Memory) }

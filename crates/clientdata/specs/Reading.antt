@@ -6,7 +6,7 @@ use Rattle.serde_json.specs.Data.{Data}
 use Rattle.serde_json.specs.Read as json
 use Rattle.serde_json.specs.Find.{get, as_str}
 use Rattle.clientdata.specs.declared.seen.Binding.{Binding}
-use Rattle.clientdata.specs.declared.seen.Binding.TheVariants.{Absent, Supported, Other}
+use Rattle.clientdata.specs.declared.seen.Binding.TheVariants.{Absent, Supported, NotSupported, Other}
 use Rattle.clientdata.specs.declared.seen.Seen.{Seen}
 
 -- UTF-8 without a byte order mark
@@ -20,7 +20,10 @@ text_member name value = option_and_then as_str (get name value)
 -- token binding by the text of its status
 abbrev pub status_binding : Option (List ℕ) → Binding
 status_binding None = Other
-status_binding (Some status) = if bytes_eq status (codes "supported") then Supported else Other
+status_binding (Some status) =
+    if bytes_eq status (codes "supported") then Supported
+    else if bytes_eq status (codes "not-supported") then NotSupported
+    else Other
 
 -- token binding by its member
 abbrev pub member_binding : Option Data → Binding

@@ -18,6 +18,9 @@ pub enum Binding {
     Absent,
     /// The member is an object whose `status` is the text `supported`.
     Supported,
+    /// The member is an object whose `status` is the text `not-supported`, which older browsers write (WebAuthn Level 1,
+    /// section 5.8.1).
+    NotSupported,
     /// The member is anything else: `present`, an unknown status, `null`, no object.
     Other,
 }
@@ -119,6 +122,7 @@ fn token_binding(value: &Value) -> Binding
         None => Binding::Absent,
         Some(inner) => match member_text(inner, "status") {
             Some("supported") => Binding::Supported,
+            Some("not-supported") => Binding::NotSupported,
             _ => Binding::Other,
         },
     }

@@ -2,7 +2,7 @@
 //! WebAuthn, sections 6.1 and 6.5.1.
 
 use crate::pieces::{Table, bytes_of, number, part};
-use authdata::{Attested, AuthData, AuthView, Error, flags, read, read_view, write};
+use authdata::{Attested, AuthData, AuthView, Error, Profile, flags, read, read_view, write};
 use cose::CoseKey;
 use std::alloc::{AllocError, Global};
 use std::test::Fail;
@@ -55,6 +55,44 @@ an id of 63 bytes|H Z 003f 07*63 KEY
 an id of 64 bytes, ES256|H Z 0040 07*64 E 00*32 EY 00*32
 x of zeros|H Z ID K 00*32";
 
+/// A name, the bytes, the number of the refusal in the open profile, if they are refused there, and the extensions that
+/// are read, where there are any. Each of them is refused in the strict profile.
+pub const OPEN: Table = "an id of 65 bytes|H Z 0041 07*65 KEY||
+an id of 255 bytes|H Z 00ff 07*255 KEY||
+an id of 256 bytes|H Z 0100 07*256 KEY||
+an id of 1,023 bytes, ES256|H Z 03ff 07*1023 E 11*32 EY 33*32||
+an id of 1,024 bytes|H Z 0400 07*1024 KEY|10|
+no id|H Z 0000 KEY|10|
+ED, bare, and no map|H 8100000001|29|
+ED, bare, and an empty map|H 8100000001 a0||a0
+ED and no credential, credProtect|H 8100000001 a1 6b 6372656450726f74656374 02||a1 6b 6372656450726f74656374 02
+ED and a credential, an empty map|H c100000009 00*16 ID KEY a0||a0
+ED and a credential, credProtect|H c100000009 00*16 ID KEY a1 6b 6372656450726f74656374 02||a1 6b 6372656450726f74656374 02
+a long id and two outputs|H c100000009 00*16 0100 07*256 KEY a2 6161 f5 6162 40||a2 6161 f5 6162 40
+ED and a credential, and no map|H c100000009 00*16 ID KEY|29|
+ED and a credential without its key|H c100000009 00*16 ID a0|11|
+an integer key|H 8100000001 a1 01 f5|29|
+an integer key before a text|H 8100000001 a2 01 f5 6161 f5|29|
+a negative key|H 8100000001 a1 20 f5|29|
+no map but a text|H 8100000001 6161|29|
+an array|H 8100000001 80|29|
+a map with a long head|H 8100000001 b800|29|
+keys out of order|H 8100000001 a2 6162 f5 6161 f5|29|
+a key twice|H 8100000001 a2 6161 f5 6161 f5|29|
+a map that is cut|H 8100000001 a1 6161|29|
+a float as output|H 8100000001 a1 6161 f93c00|29|
+nested to the limit|H 8100000001 a1 6161 a1 6162 a1 6163 a0||a1 6161 a1 6162 a1 6163 a0
+nested one deeper|H 8100000001 a1 6161 a1 6162 a1 6163 a1 6164 a0|29|
+arrays to the limit|H 8100000001 a1 6161 81 81 80||a1 6161 81 81 80
+arrays one deeper|H 8100000001 a1 6161 81 81 81 80|29|
+a byte behind the map|H 8100000001 a0 00|12|
+a map behind the map|H 8100000001 a0 a0|12|
+a byte behind the map of a credential|H c100000009 00*16 ID KEY a0 00|12|
+BS without BE before the map|H 9100000001 00|28|
+a bad id before the map|H c100000009 00*16 0000 KEY 00|10|
+too short, ED|H 81000000|8|
+too short, ED and AT|H c100000009 00*16 00|8|";
+
 /// The same of the hash alone and of long inputs.
 pub const LONG: Table = "the hash alone|H|8
 7,000 bytes behind the key|H Z ID KEY 00*7000|12
@@ -78,7 +116,7 @@ fn number_of(error: Error) -> usize {
 /// The number of the refusal of the bytes, if they are refused; 0 where the two readers differ, or where they are
 /// written otherwise than they were read.
 fn refusal(alloc: Global, bytes: &[u8]) -> Result<Option<usize>, AllocError> {
-    let viewed = match read_view(bytes) {
+    let viewed = match read_view(Profile::Strict, bytes) {
         Ok(_) => None,
         Err(error) => Some(number_of(error)),
     };
@@ -100,7 +138,39 @@ fn refusal(alloc: Global, bytes: &[u8]) -> Result<Option<usize>, AllocError> {
 /// Whether the bytes of a line are refused by its number, or not where it has none.
 pub fn is_reading(alloc: Global, line: &str) -> Result<bool, Fail> {
     let bytes = bytes_of(alloc, part(line, 1))?;
-    Ok(refusal(alloc, &bytes)? == number(line, 2))
+    Ok(refusal(alloc, &bytes)? == number(line, 2) && is_read_alike(&bytes))
+}
+
+/// Whether the bytes of a line are refused by its number in the open profile, or read with its extensions; in the
+/// strict one they are refused.
+pub fn is_open_reading(alloc: Global, line: &str) -> Result<bool, Fail> {
+    let bytes = bytes_of(alloc, part(line, 1))?;
+    if read_view(Profile::Strict, &bytes).is_ok() || read(alloc, &bytes).is_ok() {
+        return Ok(false);
+    }
+    let extensions = bytes_of(alloc, part(line, 3))?;
+    Ok(match read_view(Profile::Open, &bytes) {
+        Ok(view) => {
+            number(line, 2).is_none()
+                && view.extensions.unwrap_or(&[]) == extensions.as_slice()
+                && view.extensions.is_some() == flags::is_set(view.flags, flags::ED)
+        }
+        Err(error) => number(line, 2) == Some(number_of(error)),
+    })
+}
+
+/// Whether the bytes of a line, which the strict profile reads, are read alike in the open one.
+fn is_read_alike(bytes: &[u8]) -> bool {
+    match (read_view(Profile::Strict, bytes), read_view(Profile::Open, bytes)) {
+        (Ok(strict), Ok(open)) => {
+            strict.flags == open.flags
+                && strict.sign_count == open.sign_count
+                && open.extensions.is_none()
+                && strict.attested.is_some() == open.attested.is_some()
+        }
+        (Ok(_), Err(_)) => false,
+        (Err(_), _) => true,
+    }
 }
 
 /// Whether the authenticator data of a line are as long as it says, and no front of them is read.
@@ -166,7 +236,7 @@ fn shows(view: &AuthView<'_>, auth: &AuthData) -> bool {
 /// Whether the bytes are read and viewed as these members, and these written as them.
 fn is_record(alloc: Global, auth: &AuthData, words: &str) -> Result<bool, AllocError> {
     let bytes = bytes_of(alloc, words)?;
-    let Ok(viewed) = read_view(&bytes) else {
+    let Ok(viewed) = read_view(Profile::Strict, &bytes) else {
         return Ok(false);
     };
     let Ok(found) = read(alloc, &bytes) else {
@@ -284,12 +354,17 @@ const REFUSALS: &[(Error, Option<u8>, &str)] = &[
     (
         Error::BadId,
         Some(10),
-        "the credential id has no byte or more than 64",
+        "the credential id has no byte or too many",
     ),
     (
         Error::BadKey,
         Some(11),
         "no COSE key follows the credential id",
+    ),
+    (
+        Error::BadExtensions,
+        Some(29),
+        "no map of extensions follows the credential",
     ),
     (
         Error::ExtraBytes,

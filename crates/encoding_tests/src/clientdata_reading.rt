@@ -33,6 +33,7 @@ a comma at the end|'{"type":"x","challenge":"c","origin":"o",}
 bytes after the object|'{"type":"x","challenge":"c","origin":"o"}x}
 supported|'{"type":"x","challenge":"c","origin":"o","tokenBinding":{"status":"supported"}}|'x|'c|'o|1
 with an id|'{"type":"x","challenge":"c","origin":"o","tokenBinding":{"id":"i","status":"supported"}}|'x|'c|'o|1
+not supported|'{"type":"x","challenge":"c","origin":"o","tokenBinding":{"status":"not-supported"}}|'x|'c|'o|3
 by an escape|'{"type":"x","challenge":"c","origin":"o","tokenBinding":{"status":"support\u0065d"}}|'x|'c|'o|1
 present|'{"type":"x","challenge":"c","origin":"o","tokenBinding":{"status":"present","id":"i"}}|'x|'c|'o|2
 an unknown status|'{"type":"x","challenge":"c","origin":"o","tokenBinding":{"status":"Supported"}}|'x|'c|'o|2
@@ -100,6 +101,7 @@ fn is_seen(alloc: Global, seen: &Seen, line: &str) -> Result<bool, AllocError> {
         Binding::Absent => "0",
         Binding::Supported => "1",
         Binding::Other => "2",
+        Binding::NotSupported => "3",
     };
     Ok(
         says(alloc, part(line, 2), seen.kind.as_str())?

@@ -12,6 +12,7 @@ use std::test::Fail;
 enum DataRow {
     NoKey,
     Reading,
+    OpenReading,
     Cut,
     Object,
     NoObject,
@@ -30,6 +31,7 @@ fn is_so(alloc: Global, kind: &DataRow, line: &str) -> Result<bool, Fail> {
     match kind {
         DataRow::NoKey => cose_keys::is_no_key(alloc, line),
         DataRow::Reading => authdata_bytes::is_reading(alloc, line),
+        DataRow::OpenReading => authdata_bytes::is_open_reading(alloc, line),
         DataRow::Cut => authdata_bytes::is_refused_cut(alloc, line),
         DataRow::Object => attestation_objects::is_object(alloc, line),
         DataRow::NoObject => attestation_objects::is_no_object(alloc, line),
@@ -57,6 +59,7 @@ fn rows(rt: HostRuntime) -> Result<(), Fail> {
         (DataRow::Reading, authdata_bytes::WHOLE),
         (DataRow::Reading, authdata_bytes::LONG),
         (DataRow::Reading, authdata_bytes::SHORTER),
+        (DataRow::OpenReading, authdata_bytes::OPEN),
         (DataRow::Cut, authdata_bytes::CUT),
         (DataRow::Object, attestation_objects::OBJECTS),
         (DataRow::NoObject, attestation_objects::SHAPES),

@@ -187,7 +187,7 @@ fn write_client_data(alloc: Global, seen: &Seen, out: &mut String) -> Result<(),
     out.push_str(match seen.binding {
         Binding::Absent => "binding absent\n",
         Binding::Supported => "binding supported\n",
-        Binding::Other => "binding other\n",
+        Binding::NotSupported | Binding::Other => "binding other\n",
     })
 }
 

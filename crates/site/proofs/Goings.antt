@@ -148,7 +148,7 @@ goes_retired s id = record {
 
 -- what a sign-in that passes stores keeps the credential
 sign_in_keeps : (valid : Validity) (s : SiteState) (n : ℕ) (r : AuthenticatorAssertionResponse) (a : AuthenticatorData)
-    → authentication.PassesSignIn valid (judged_sign_in s n r) → AuthOf a r.auth_data
+    → authentication.PassesSignIn valid (judged_sign_in s n r) → AuthOf s.rp.profile a r.auth_data
     → (x : Credential) → row_of r.credential s.rows ≡ Some x → KeptBy (signed_in a.sign_count (is_set a.flags BE)) x
 sign_in_keeps valid s n r a passes is x there = record {
   id = refl;
@@ -194,7 +194,7 @@ registers s n r t fresh (e, o, a, c, open_for, attests, after) =
 
 stores : (s : SiteState) (n : ℕ) (r : AuthenticatorAssertionResponse) (t : SiteState) (row : Credential) → IsAfterSignIn s n r t
     → row_of r.credential s.rows ≡ Some row
-    → (a : AuthenticatorData) × AuthOf a r.auth_data × (row_of r.credential t.rows ≡ Some (signed_in a.sign_count (is_set a.flags BE) row))
+    → (a : AuthenticatorData) × AuthOf s.rp.profile a r.auth_data × (row_of r.credential t.rows ≡ Some (signed_in a.sign_count (is_set a.flags BE) row))
 stores s n r t row (a, is_auth, after) found = (
   a,
   is_auth,
@@ -218,7 +218,7 @@ retired_refused valid s n r row there is passes = let no : row.retired ≡ false
 
 registered_refused : (valid : Validity) (s : SiteState) (n : ℕ) (r : responses.AuthenticatorAttestationResponse)
     → registration.PassesRegistration valid (judged_registration s n r)
-    → registration.Attested r (λ o a c. row_of c.id s.rows ≡ None)
+    → registration.Attested s.rp.profile r (λ o a c. row_of c.id s.rows ≡ None)
 registered_refused valid s n r passes o a c attests = no_row (row_of c.id s.rows) (passes.1.1.1.1.1.1.1.1.1.1.1.1.1.1.0 o a c attests)
 
 one_table : (s t : SiteState) (v w : ℕ) (bs : List ℕ) → TableOf v (saved_of s) bs → TableOf w (saved_of t) bs → (t.rows ≡ s.rows)

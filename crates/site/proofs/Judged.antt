@@ -5,7 +5,10 @@ use Rattle.std.proofs.lemmas.Bool.{cases_Bool}
 use Rattle.std.specs.Prelude.{Bool, true, false, not, Option, Some, None, IfSome, IsSome, IsTrue, is_some, option_map}
 use Rattle.refusal_order.specs.Lines.{Each, FirstFailing}
 use Rattle.refusal_order.proofs.Laws.{each_joined, first_along, first_behind}
-use Rattle.authdata.specs.Layout.{AuthenticatorData, AttestedCredential, IsAttestedCredential, IsAuthenticatorData}
+use Rattle.authdata.specs.declared.profile.Profile.{Profile}
+use Rattle.authdata.specs.Profiles.{max_id}
+use Rattle.authdata.specs.Layout.{AuthenticatorData, AttestedCredential, IsAuthenticatorData}
+use Rattle.authdata.proofs.Unique.{is_credential}
 use Rattle.authdata.specs.Responses.{AuthenticatorAssertionResponse}
 use Rattle.authdata.specs.Responses as responses
 use Rattle.cose.specs.declared.key.CoseKey.{CoseKey}
@@ -89,8 +92,9 @@ some_seen f None is = is
 some_seen f (Some x) is = refl
 
 -- an attested id is within its limits
-pub attested_limits : (a : AuthenticatorData) (c : AttestedCredential) → IsAuthenticatorData a → a.attested ≡ Some c → IsWithin 64 c.id
-attested_limits a c is e = let l = subst (λ o. IfSome o IsAttestedCredential) e is.attested in (l.id_low, l.id_high)
+pub attested_limits : (p : Profile) (a : AuthenticatorData) (c : AttestedCredential) → IsAuthenticatorData p a → a.attested ≡ Some c
+    → IsWithin (max_id p) c.id
+attested_limits p a c is e = let l = is_credential a c is e in (l.id_low, l.id_high)
 
 abbrev pub admitted_as : RelyingParty → Policy → responses.AuthenticatorAttestationResponse → List Credential → Option ExpectedRegistration → JudgedRegistration
 admitted_as rp policy r rows session = registration_with rp policy r (λ id. is_some (row_of id rows)) (is_full rows) session

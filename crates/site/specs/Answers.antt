@@ -18,9 +18,9 @@ abbrev pub IsSignedIn : SiteState → AuthenticatorAssertionResponse → SignedI
 IsSignedIn s r x =
     ForSome (row_of r.credential s.rows) (λ row. x.user.items ≡ row.user)
     × (x.credential.items ≡ r.credential)
-    × ((a : AuthenticatorData) × AuthOf a r.auth_data × (x.backed_up ≡ is_set a.flags BS))
+    × ((a : AuthenticatorData) × AuthOf s.rp.profile a r.auth_data × (x.backed_up ≡ is_set a.flags BS))
 
 -- the credential that the response attests
-abbrev pub IsRegistered : responses.AuthenticatorAttestationResponse → Registered → Type 0
-IsRegistered r x =
-    (o : Attestation) × (a : AuthenticatorData) × (c : AttestedCredential) × Attests r o a c × (x.credential.items ≡ c.id)
+abbrev pub IsRegistered : SiteState → responses.AuthenticatorAttestationResponse → Registered → Type 0
+IsRegistered s r x =
+    (o : Attestation) × (a : AuthenticatorData) × (c : AttestedCredential) × Attests s.rp.profile r o a c × (x.credential.items ≡ c.id)

@@ -1,6 +1,8 @@
 -- How the state is stored, as the tuple of its fields.
 use Rattle.std.specs.Prelude.{ℕ, List, Bool, Option, refl}
 use Rattle.std.specs.Coded.{Coded, code_by, coded×, coded_ℕ, coded_bool, coded_list, coded_option}
+use Rattle.authdata.specs.declared.profile.Profile.{Profile}
+use Rattle.authdata.specs.contracts.profile.Profile as profile
 use Rattle.cose.specs.declared.key.CoseKey.{CoseKey}
 use Rattle.cose.specs.contracts.key.CoseKey as key
 use Rattle.verification.specs.Records.{RelyingParty, Credential}
@@ -11,8 +13,9 @@ use Rattle.ceremony_sessions.specs.Codes.{Bytes, coded_bytes, open_code}
 use Rattle.site.specs.State.{SiteState}
 
 abbrev party_code : Coded RelyingParty
-party_code = code_by (Bytes × List Bytes) (coded× coded_bytes (coded_list coded_bytes)) (λ p. (p.rp_id, p.origins)) (λ p. record { rp_id = p.0; origins = p.1 })
-    (λ _. refl)
+party_code =
+    code_by (Bytes × (List Bytes × Profile)) (coded× coded_bytes (coded× (coded_list coded_bytes) profile.the_row.coded))
+    (λ p. (p.rp_id, (p.origins, p.profile))) (λ p. record { rp_id = p.0; origins = p.1.0; profile = p.1.1 }) (λ _. refl)
 
 abbrev credential_code : Coded Credential
 credential_code =

@@ -88,7 +88,7 @@ pub record SiteLaws (valid : Validity) : Type 0 where
   -- and stores the counter and the mark of eligibility that came
   pub stores : (s : SiteState) (n : ℕ) (r : AuthenticatorAssertionResponse) (t : SiteState) (row : Credential) → IsAfterSignIn s n r t
       → row_of r.credential s.rows ≡ Some row
-      → (a : AuthenticatorData) × AuthOf a r.auth_data × (row_of r.credential t.rows ≡ Some (signed_in a.sign_count (is_set a.flags BE) row))
+      → (a : AuthenticatorData) × AuthOf s.rp.profile a r.auth_data × (row_of r.credential t.rows ≡ Some (signed_in a.sign_count (is_set a.flags BE) row))
   -- two sessions have two challenges
   pub one_number : (n k : ℕ) (v w : List ℕ) → n < 2 ^ 64 → k < 2 ^ 64 → challenge_of n v ≡ challenge_of k w → (n ≡ k) × (v ≡ w)
   pub is_open : (s : SiteState) (n : ℕ) (e : ExpectedSignIn) → sign_in_at n s.sessions ≡ Some e → finite.get s.sessions.expected n ≡ Some (ForSignIn e)
@@ -101,7 +101,7 @@ pub record SiteLaws (valid : Validity) : Type 0 where
       → authentication.PassesSignIn valid (judged_sign_in s n r) → ⊥
   pub registered_refused : (s : SiteState) (n : ℕ) (r : responses.AuthenticatorAttestationResponse)
       → registration.PassesRegistration valid (judged_registration s n r)
-      → registration.Attested r (λ o a c. row_of c.id s.rows ≡ None)
+      → registration.Attested s.rp.profile r (λ o a c. row_of c.id s.rows ≡ None)
   -- what was saved is loaded: the same bytes are those of one table and one next number
   pub one_saved : (s t : SiteState) (v w : ℕ) (bytes : List ℕ) → TableOf v (saved_of s) bytes → TableOf w (saved_of t) bytes
       → (t.rows ≡ s.rows) × (t.sessions.next ≡ s.sessions.next)

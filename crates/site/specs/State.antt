@@ -43,7 +43,7 @@ judged_sign_in s n r = record { rp = s.rp; session = sign_in_at n s.sessions; cr
 -- the session is closed
 abbrev pub IsAfterSignIn : SiteState → ℕ → AuthenticatorAssertionResponse → SiteState → Type 0
 IsAfterSignIn s n r new =
-    (a : AuthenticatorData) × AuthOf a r.auth_data
+    (a : AuthenticatorData) × AuthOf s.rp.profile a r.auth_data
     × (new ≡ record s { rows = with_row r.credential (signed_in a.sign_count (is_set a.flags BE)) s.rows; sessions = closed n s.sessions })
 
 -- ---- registration
@@ -74,5 +74,5 @@ registered e a c = record {
 abbrev pub IsAfterRegistration : SiteState → ℕ → responses.AuthenticatorAttestationResponse → SiteState → Type 0
 IsAfterRegistration s n r new =
     (e : ExpectedRegistration) × (o : Attestation) × (a : AuthenticatorData) × (c : AttestedCredential)
-    × (registration_at n s.sessions ≡ Some e) × Attests r o a c
+    × (registration_at n s.sessions ≡ Some e) × Attests s.rp.profile r o a c
     × (new ≡ record s { rows = s.rows ++ registered e a c ∷ []; sessions = closed n s.sessions })

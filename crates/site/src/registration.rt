@@ -48,7 +48,7 @@ impl Site {
         // It is accepted only if it passes each step,
         ensures accepted { IfOk result (λ x. PassesRegistration (V.valid verifier.now)
             (judged_registration self.old session (registration_parts_view response.now))
-            × IsRegistered (registration_parts_view response.now) x) }
+            × IsRegistered self.old (registration_parts_view response.now) x) }
         // and refused at the first step that it does not pass.
         ensures refused { IfErr result (IsRefused (V.valid verifier.now) (judged_registration self.old session (registration_parts_view response.now))) }
         ensures after { OnOk result (IsAfterRegistration self.old session (registration_parts_view response.now) self.new) }
@@ -91,7 +91,7 @@ impl Site {
     ) -> Result<Registered, RegistrationError>
         ensures accepted { IfOk result (λ x. PassesRegistration (V.valid verifier.now)
             (judged_registration self.old session (registration_response_view response.now))
-            × IsRegistered (registration_response_view response.now) x) }
+            × IsRegistered self.old (registration_response_view response.now) x) }
         ensures refused { IfErr result (IsRefused (V.valid verifier.now) (judged_registration self.old session (registration_response_view response.now))) }
         ensures after { OnOk result (IsAfterRegistration self.old session (registration_response_view response.now) self.new) }
         ensures unchanged { OnErr result (self.new ≡ self.old) }

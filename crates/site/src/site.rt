@@ -4,6 +4,7 @@ ghost use Rattle.std.specs.Prelude.{◌≡◌, ◌≢◌, ◌↔◌, ◌≤◌, 
 ghost use Rattle.std.specs.Prelude.{length, map, option_map, true};
 ghost use Rattle.std.specs.FinMap as finite;
 ghost use Rattle.std.specs.Option.{ForSome};
+ghost use Rattle.authdata.specs.declared.profile.Profile.TheVariants.{Strict};
 ghost use Rattle.verification.specs.Views.{credential_view, texts_of};
 ghost use Rattle.credential_table.specs.Table.{IsTable, retired, row_of, with_row};
 ghost use Rattle.credential_table.specs.Views.{rows_view, stored_row_view};
@@ -36,7 +37,8 @@ pub struct Site {
 }
 
 impl Model for Site {
-    ghost use Rattle.std.specs.Prelude.{◌≤◌};
+    ghost use Rattle.std.specs.Prelude.{◌≡◌, ◌≤◌};
+    ghost use Rattle.authdata.specs.declared.profile.Profile.TheVariants.{Strict};
     ghost use Rattle.site.specs.State.{SiteState, IsParty};
     ghost use Rattle.site.specs.Codes.{state_code};
 
@@ -46,12 +48,12 @@ impl Model for Site {
 
     ghost view = { λ s. record { rp = s.party; policy = s.policy; rows = s.table; sessions = s.sessions } };
 
-    ghost invariant = { λ s. IsParty s.party × (1 ≤ s.sessions.next) };
+    ghost invariant = { λ s. IsParty s.party × (1 ≤ s.sessions.next) × (s.party.profile ≡ Strict) };
 }
 
 /// Whether an rp id and origins are within their limits.
 fn is_party(rp_id: &str, origins: &[&str]) -> bool
-    ensures { IsTrue result ↔ IsParty (record { rp_id = rp_id.now; origins = texts_of origins.now }) }
+    ensures { IsTrue result ↔ IsParty (record { rp_id = rp_id.now; origins = texts_of origins.now; profile = Strict }) }
 {
     is_within(rp_id.as_bytes(), MAX_RP_ID) && 1 <= origins.len()
 }
@@ -65,10 +67,10 @@ fn site_with(
     table: Table,
     next: u64,
 ) -> Result<Site, AllocError>
-    requires party { IsParty (record { rp_id = rp_id.now; origins = texts_of origins.now }) }
+    requires party { IsParty (record { rp_id = rp_id.now; origins = texts_of origins.now; profile = Strict }) }
     requires next { 1 ≤ next }
     ensures { IfOk result (λ s. s ≡ record {
-      rp = record { rp_id = rp_id.now; origins = texts_of origins.now };
+      rp = record { rp_id = rp_id.now; origins = texts_of origins.now; profile = Strict };
       policy = policy;
       rows = table;
       sessions =
@@ -91,8 +93,8 @@ impl Site {
     /// the copies of the texts. An origin is compared as a text.
     pub fn new(alloc: Global, rp_id: &str, origins: &[&str], policy: Policy) -> Result<Site, Error>
         ensures made { IfOk result (λ s. s
-            ≡ record { rp = record { rp_id = rp_id.now; origins = texts_of origins.now }; policy = policy; rows = []; sessions = none_open 1 }) }
-        ensures input { IsErrOf result Error.BadInput ↔ ¬ IsParty (record { rp_id = rp_id.now; origins = texts_of origins.now }) }
+            ≡ record { rp = record { rp_id = rp_id.now; origins = texts_of origins.now; profile = Strict }; policy = policy; rows = []; sessions = none_open 1 }) }
+        ensures input { IsErrOf result Error.BadInput ↔ ¬ IsParty (record { rp_id = rp_id.now; origins = texts_of origins.now; profile = Strict }) }
         ensures no_table { IfErr result (λ e. e ≢ errors.BadTable) }
     {
         Site::with_table(alloc, rp_id, origins, policy, Table::new(alloc))
@@ -109,8 +111,8 @@ impl Site {
         table: Table,
     ) -> Result<Site, Error>
         ensures made { IfOk result (λ s. s
-            ≡ record { rp = record { rp_id = rp_id.now; origins = texts_of origins.now }; policy = policy; rows = table; sessions = none_open 1 }) }
-        ensures input { IsErrOf result Error.BadInput ↔ ¬ IsParty (record { rp_id = rp_id.now; origins = texts_of origins.now }) }
+            ≡ record { rp = record { rp_id = rp_id.now; origins = texts_of origins.now; profile = Strict }; policy = policy; rows = table; sessions = none_open 1 }) }
+        ensures input { IsErrOf result Error.BadInput ↔ ¬ IsParty (record { rp_id = rp_id.now; origins = texts_of origins.now; profile = Strict }) }
         ensures no_table { IfErr result (λ e. e ≢ errors.BadTable) }
     {
         if !is_party(rp_id, origins) {
@@ -132,13 +134,13 @@ impl Site {
     ) -> Result<Site, Error>
         ensures made { IfOk result (λ s. s
             ≡ record {
-              rp = record { rp_id = rp_id.now; origins = texts_of origins.now };
+              rp = record { rp_id = rp_id.now; origins = texts_of origins.now; profile = Strict };
               policy = policy;
               rows = rows_view rows.items;
               sessions =
                   none_open 1;
             }) }
-        ensures input { IsErrOf result Error.BadInput ↔ ¬ IsParty (record { rp_id = rp_id.now; origins = texts_of origins.now }) }
+        ensures input { IsErrOf result Error.BadInput ↔ ¬ IsParty (record { rp_id = rp_id.now; origins = texts_of origins.now; profile = Strict }) }
         ensures table { IsErrOf result Error.BadTable → IsTable (rows_view rows.items) → ⊥ }
     {
         if !is_party(rp_id, origins) {
@@ -165,13 +167,13 @@ impl Site {
     ) -> Result<Site, Error>
         ensures loaded { IfOk result (λ s. ((version : ℕ) × TableOf version (saved_of s) bytes.now)
             × (s ≡ record {
-              rp = record { rp_id = rp_id.now; origins = texts_of origins.now };
+              rp = record { rp_id = rp_id.now; origins = texts_of origins.now; profile = Strict };
               policy = policy;
               rows = s.rows;
               sessions =
                   none_open s.sessions.next;
             })) }
-        ensures input { IsErrOf result Error.BadInput ↔ ¬ IsParty (record { rp_id = rp_id.now; origins = texts_of origins.now }) }
+        ensures input { IsErrOf result Error.BadInput ↔ ¬ IsParty (record { rp_id = rp_id.now; origins = texts_of origins.now; profile = Strict }) }
         ensures table { IsErrOf result Error.BadTable → (version : ℕ) (saved : Saved) → saved.rp_id ≡ rp_id.now → TableOf version saved bytes.now → ⊥ }
     {
         if !is_party(rp_id, origins) {

@@ -19,6 +19,8 @@ mod limits;
 #[cfg(test)]
 mod lists;
 #[cfg(test)]
+mod open_profile;
+#[cfg(test)]
 mod packets;
 #[cfg(test)]
 mod random;

@@ -104,12 +104,27 @@ fn length(bytes: &[u8]) -> [u8; 1] {
     [u8::try_from(bytes.len()).unwrap_or(0)]
 }
 
-/// A credential: an aaguid of 16 bytes 0, the id, and the key of `SECRET`.
+/// The length in two bytes.
+fn long_length(bytes: &[u8]) -> [u8; 2] {
+    u16::try_from(bytes.len()).unwrap_or(0).to_be_bytes()
+}
+
+/// The head of a byte string.
+fn bytes_head(alloc: Global, bytes: &[u8]) -> Result<Vec<u8>, AllocError> {
+    if bytes.len() < 256 {
+        return joined(alloc, &[b"\x58", &length(bytes)]);
+    }
+    joined(alloc, &[b"\x59", &long_length(bytes)])
+}
+
+/// A credential: an aaguid of 16 bytes 0, the id, the key of `SECRET`, and the extensions, where the line has any.
 fn credential(alloc: Global, line: &str) -> Result<Vec<u8>, AllocError> {
     let id = bytes_of(alloc, value(line, "id", "1a"))?;
     let x = Sha256::digest(&SECRET);
     let front = b"\xa4\x01\x01\x03\x27\x20\x06\x21\x58\x20";
-    joined(alloc, &[&[0; 17], &length(&id), &id, front, &x])
+    let outputs = bytes_of(alloc, value(line, "outputs", ""))?;
+    let parts: [&[u8]; 6] = [&[0; 16], &long_length(&id), &id, front, &x, &outputs];
+    joined(alloc, &parts)
 }
 
 /// The authenticator data of a registration, with the flags UP, UV, BE and AT, and the counter 258; with a credential
@@ -146,14 +161,15 @@ pub(crate) fn object(alloc: Global, line: &str, client_data: &[u8]) -> Result<Ve
     let behind = bytes_of(alloc, value(line, "behind", ""))?;
     let format = value(line, "format", "none").as_bytes();
     let [length_of_format] = length(format);
+    let head = bytes_head(alloc, &auth_data)?;
     let parts: [&[u8]; 9] = [
         b"\xa3\x63fmt",
         &[0x60 | length_of_format],
         format,
         b"\x67attStmt",
         &statement,
-        b"\x68authData\x58",
-        &length(&auth_data),
+        b"\x68authData",
+        &head,
         &auth_data,
         &behind,
     ];

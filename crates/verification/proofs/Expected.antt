@@ -22,7 +22,7 @@ expected_says kind challenge t rp (origin, cross, there, utf8, is) =
         of_some (HasType kind) (seen_of t) seen e refl,
         (
           of_some (HasChallenge challenge) (seen_of t) seen e refl,
-          (of_some (HasOrigin rp) (seen_of t) seen e there, (of_some HasNoBinding (seen_of t) seen e (inl refl), tt)),
+          (of_some (HasOrigin rp) (seen_of t) seen e there, (of_some (HasNoBinding rp.profile) (seen_of t) seen e (inl refl), tt)),
         ),
       ),
     )

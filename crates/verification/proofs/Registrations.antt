@@ -4,6 +4,7 @@ use Rattle.refusal_order.proofs.Laws.{each_joined, first_along, first_at, first_
 use Rattle.refusal_order.specs.Lines.{Each, FirstFailing}
 use Rattle.clientdata.specs.declared.record.CeremonyType.TheVariants.{Create}
 use Rattle.cose.specs.Keys.{alg_of}
+use Rattle.authdata.specs.declared.profile.Profile.{Profile}
 use Rattle.authdata.specs.Layout.{AuthenticatorData, AttestedCredential, AuthOf}
 use Rattle.authdata.specs.Objects.{Attestation, ObjectOf}
 use Rattle.authdata.specs.Statements.{IsKnownFormat, IsNone, IsSelfSigned}
@@ -18,7 +19,7 @@ use Rattle.verification.specs.Registration.{Attested, Attests, JudgedRegistratio
 use Rattle.verification.specs.Registration.{client_data_steps, hash_in, response_steps, table_steps}
 use Rattle.verification.specs.ClientData.{PassesClientDataStep, client_data_order}
 use Rattle.verification.specs.SignInAnswers.{never}
-use Rattle.verification.specs.RegistrationAnswers.{AcceptsAttestation, AttestsNothing, FailsIn, IsNoData, IsRefused, AttestsAs, AttestsAsNothing}
+use Rattle.verification.specs.RegistrationAnswers.{AcceptsAttestation, FailsIn, IsNoObject, IsRefused, AttestsAs, AttestsAsNothing}
 use Rattle.verification.specs.RegistrationAnswers.{IsVerifiedRegistration, step_of}
 use Rattle.verification.specs.declared.client_data.ClientDataStep.{ClientDataStep}
 use Rattle.verification.specs.declared.client_data.ClientDataStep.TheVariants as line
@@ -28,25 +29,6 @@ use Rattle.verification.specs.declared.refusal.RegistrationRefusal.{Registration
 use Rattle.verification.specs.declared.refusal.RegistrationRefusal.TheVariants as step
 use Rattle.verification.specs.Records.{NewCredential}
 use Rattle.verification.proofs.Steps.{of_some}
-
--- ---- what bytes attest
-
--- an object whose authenticator data are none attests nothing
-pub no_data : (bs : List ℕ) (o : Attestation) → ObjectOf o bs → (e : RegistrationError) → IsNoData o.auth_data e → AttestsNothing bs e
-no_data bs o spelled (errors.Refused step.BadAttestationObject) none = λ p a c other read attested.
-    none a (let same : p ≡ o = one_object p o bs other spelled in subst (λ (q : Attestation). AuthOf a q.auth_data) same read)
-no_data bs o spelled (errors.Refused w) none = absurd none
-no_data bs o spelled errors.Memory none = tt
-
--- nor does one whose authenticator data attest nothing
-pub no_credential : (bs : List ℕ) (o : Attestation) (a : AuthenticatorData) → ObjectOf o bs → AuthOf a o.auth_data → a.attested ≡ None
-    → AttestsNothing bs (errors.Refused step.BadAttestationObject)
-no_credential bs o a spelled read bare = λ p b c other read' attested.
-    let same : p ≡ o = one_object p o bs other spelled in
-    let there : AuthOf b o.auth_data = subst (λ (q : Attestation). AuthOf b q.auth_data) same read' in
-    let one : b ≡ a = one_value b a o.auth_data there read in
-    let none : b.attested ≡ None = subst (λ (d : AuthenticatorData). d.attested ≡ None) (sym one) bare in
-    cc
 
 -- ---- client data
 
@@ -77,20 +59,20 @@ client_data_fails x e l is first =
 -- ---- what is attested
 
 -- the response attests just one credential
-one_attested : (x : JudgedRegistration) (o p : Attestation) (a b : AuthenticatorData) (c d : AttestedCredential) → Attests x.response o a c
-    → Attests x.response p b d
+one_attested : (x : JudgedRegistration) (o p : Attestation) (a b : AuthenticatorData) (c d : AttestedCredential) → Attests x.rp.profile x.response o a c
+    → Attests x.rp.profile x.response p b d
     → (o ≡ p) × (a ≡ b) × (c ≡ d)
 one_attested x o p a b c d h k =
     let objects : o ≡ p = one_object o p x.response.object h.object k.object in
-    let here : AuthOf a p.auth_data = subst (λ (q : Attestation). AuthOf a q.auth_data) objects h.auth_data in
-    let readings : a ≡ b = one_value a b p.auth_data here k.auth_data in
+    let here : AuthOf x.rp.profile a p.auth_data = subst (λ (q : Attestation). AuthOf x.rp.profile a q.auth_data) objects h.auth_data in
+    let readings : a ≡ b = one_value x.rp.profile x.rp.profile a b p.auth_data here k.auth_data in
     let first : a.attested ≡ Some c = h.attested in
     let second : b.attested ≡ Some d = k.attested in
     (objects, readings, cc)
 
-module _ (x : JudgedRegistration) (o : Attestation) (a : AuthenticatorData) (c : AttestedCredential) (h : Attests x.response o a c) where
+module _ (x : JudgedRegistration) (o : Attestation) (a : AuthenticatorData) (c : AttestedCredential) (h : Attests x.rp.profile x.response o a c) where
   -- what holds of it holds of whatever the response attests
-  pub of_attested : (P : Attestation → AuthenticatorData → AttestedCredential → Type 0) → P o a c → Attested x.response P
+  pub of_attested : (P : Attestation → AuthenticatorData → AttestedCredential → Type 0) → P o a c → Attested x.rp.profile x.response P
   of_attested P p = λ q b d k.
       let same = one_attested x o q a b c d h k in
       subst (λ (e : AttestedCredential). P q b e) same.2 (subst (λ (e : AuthenticatorData). P q e c) same.1 (subst (λ (e : Attestation). P e a c) same.0 p))
@@ -117,7 +99,7 @@ module _ (x : JudgedRegistration) (o : Attestation) (a : AuthenticatorData) (c :
 
       module _ (verified : IsVerifiedAs e.uv a) where
         abbrev Verified : ExpectedRegistration → Type 0
-        Verified f = Attested x.response (λ q b d. IsVerifiedAs f.uv b)
+        Verified f = Attested x.rp.profile x.response (λ q b d. IsVerifiedAs f.uv b)
 
         is_verified : PassesRegistrationStep never x step.UserNotVerified
         is_verified = of_some Verified x.session e is (of_attested (λ q b d. IsVerifiedAs e.uv b) verified)
@@ -126,7 +108,7 @@ module _ (x : JudgedRegistration) (o : Attestation) (a : AuthenticatorData) (c :
         not_offered other = first_at 4 refl (found, (for_party, (is_present, (is_verified, tt)))) (λ passes. other (passes e is o a c h))
 
         abbrev Offered : ExpectedRegistration → Type 0
-        Offered f = Attested x.response (λ q b d. Contains f.algorithms (alg_of d.key))
+        Offered f = Attested x.rp.profile x.response (λ q b d. Contains f.algorithms (alg_of d.key))
 
         pub data_passes : Contains e.algorithms (alg_of c.key) → Each (PassesRegistrationStep never x) auth_data_steps
         data_passes offered = (
@@ -140,12 +122,24 @@ module _ (x : JudgedRegistration) (o : Attestation) (a : AuthenticatorData) (c :
           ),
         )
 
--- bytes that attest nothing fail at the object
-pub nothing : (x : JudgedRegistration) (e : RegistrationError) → AttestsNothing x.response.object e → FailsIn never x auth_data_steps e
-nothing x (errors.Refused step.BadAttestationObject) none =
-    first_at 0 refl tt (λ passes. none passes.0 passes.1 passes.2 passes.3.object passes.3.auth_data passes.3.attested)
-nothing x (errors.Refused w) none = absurd none
-nothing x errors.Memory none = tt
+-- bytes that are no object fail at the object
+pub no_object : (x : JudgedRegistration) (e : RegistrationError) → IsNoObject x.response.object e → FailsIn never x auth_data_steps e
+no_object x (errors.Refused step.BadAttestationObject) none = first_at 0 refl tt (λ passes. none passes.0 passes.3.object)
+no_object x (errors.Refused w) none = absurd none
+no_object x errors.Memory none = tt
+
+-- so does an object whose authenticator data attest nothing
+pub no_credential : (x : JudgedRegistration) (o : Attestation) → ObjectOf o x.response.object
+    → ((a : AuthenticatorData) (c : AttestedCredential) → AuthOf x.rp.profile a o.auth_data → a.attested ≡ Some c → ⊥)
+    → FirstFailing (PassesRegistrationStep never x) auth_data_steps step.BadAttestationObject
+no_credential x o spelled none = first_at 0 refl tt (λ passes.
+    let same : passes.0 ≡ o = one_object passes.0 o x.response.object passes.3.object spelled in
+    none passes.1 passes.2 (subst (λ (q : Attestation). AuthOf x.rp.profile passes.1 q.auth_data) same passes.3.auth_data) passes.3.attested)
+
+-- authenticator data that attest nothing attest no credential
+pub bare : (p : Profile) (a : AuthenticatorData) (bs : List ℕ) → AuthOf p a bs → a.attested ≡ None
+    → (b : AuthenticatorData) (c : AttestedCredential) → AuthOf p b bs → b.attested ≡ Some c → ⊥
+bare p a bs read none b c other some = let same : a ≡ b = one_value p p a b bs read other in cc
 
 -- ---- the attestation
 
@@ -153,7 +147,7 @@ nothing x errors.Memory none = tt
 two_formats : (fmt : List ℕ) → fmt ≡ codes "none" → fmt ≡ codes "packed" → ⊥
 two_formats fmt none packed = let same : codes "none" ≡ codes "packed" = sym none ∙ packed in cc
 
-module _ (valid : Validity) (x : JudgedRegistration) (o : Attestation) (a : AuthenticatorData) (c : AttestedCredential) (h : Attests x.response o a c) where
+module _ (valid : Validity) (x : JudgedRegistration) (o : Attestation) (a : AuthenticatorData) (c : AttestedCredential) (h : Attests x.rp.profile x.response o a c) where
   abbrev ShownAs : AttestationType → Type 0
   ShownAs kind = AttestsAs valid o c.key (hash_in x.response) kind
 
@@ -249,7 +243,7 @@ module _ (x : JudgedRegistration) (v : NewCredential) (tells : IsVerifiedRegistr
   abbrev IsSaid : Bool → Attestation → AuthenticatorData → AttestedCredential → Type 0
   IsSaid said q b d = x.is_registered d.id ≡ said
 
-  of_id : (said : Bool) → x.is_registered v.id ≡ said → Attested x.response (IsSaid said)
+  of_id : (said : Bool) → x.is_registered v.id ≡ said → Attested x.rp.profile x.response (IsSaid said)
   of_id said e =
       let here : x.is_registered tells.2.id ≡ said = subst (λ (id : List ℕ). x.is_registered id ≡ said) tells.4 e in
       of_attested x tells.0 tells.1 tells.2 tells.3 (IsSaid said) here

@@ -7,6 +7,7 @@ use Rattle.std.specs.Prelude.{Option}
 use Rattle.std.specs.Option.{ForSome}
 use Rattle.sha2.specs.Sha256.{sha256}
 use Rattle.authdata.specs.Flags.{is_set, AT, BE}
+use Rattle.authdata.specs.declared.profile.Profile.{Profile}
 use Rattle.authdata.specs.Layout.{AuthenticatorData, AuthOf}
 use Rattle.authdata.proofs.Unique.{one_value}
 use Rattle.verification.specs.Records.{Credential, ExpectedSignIn}
@@ -46,8 +47,9 @@ pub client_data_fails : (x : JudgedSignIn) (e : ExpectedSignIn) (l : ClientDataS
 client_data_fails x e l is first = first_image step_of (line_passes x e is) (λ m no passes. no (line_says x e is m passes)) first
 
 -- what holds of authenticator data holds of all that the bytes are
-pub of_all : (P : AuthenticatorData → Type 0) (a : AuthenticatorData) (bs : List ℕ) → AuthOf a bs → P a → (b : AuthenticatorData) → AuthOf b bs → P b
-of_all P a bs h p b k = subst P (one_value a b bs h k) p
+pub of_all : {q : Profile} (P : AuthenticatorData → Type 0) (a : AuthenticatorData) (bs : List ℕ) → AuthOf q a bs → P a → (b : AuthenticatorData)
+    → AuthOf q b bs → P b
+of_all {q} P a bs h p b k = subst P (one_value q q a b bs h k) p
 
 -- what holds of a session's expectation holds of whatever is expected
 pub of_some : {A : Type 0} (P : A → Type 0) (o : Option A) (x : A) → o ≡ Some x → P x → (y : A) → o ≡ Some y → P y
@@ -57,10 +59,10 @@ of_some P o x is p y other = let same : x ≡ y = cc in subst P same p
 
 -- the response's authenticator data are these, with AT clear
 pub record HasBare (x : JudgedSignIn) (a : AuthenticatorData) : Type 0 where
-  pub spelled : AuthOf a x.response.auth_data
+  pub spelled : AuthOf x.rp.profile a x.response.auth_data
   pub bare : is_set a.flags AT ≡ false
 
-pub unbare : (x : JudgedSignIn) → ((a : AuthenticatorData) → AuthOf a x.response.auth_data → is_set a.flags AT ≡ false → ⊥)
+pub unbare : (x : JudgedSignIn) → ((a : AuthenticatorData) → AuthOf x.rp.profile a x.response.auth_data → is_set a.flags AT ≡ false → ⊥)
     → FirstFailing (PassesSignInStep never x) auth_data_steps step.BadAuthenticatorData
 unbare x none = first_at 0 refl tt (λ passes. none passes.0 passes.1 passes.2)
 
@@ -84,7 +86,7 @@ pub data_passes : (x : JudgedSignIn) (e : ExpectedSignIn) (a : AuthenticatorData
     → IsVerifiedAs e.uv a
     → Each (PassesSignInStep never x) auth_data_steps
 data_passes x e a is has party present verified =
-    let Verified : ExpectedSignIn → Type 0 = λ f. (b : AuthenticatorData) → AuthOf b x.response.auth_data → IsVerifiedAs f.uv b in (
+    let Verified : ExpectedSignIn → Type 0 = λ f. (b : AuthenticatorData) → AuthOf x.rp.profile b x.response.auth_data → IsVerifiedAs f.uv b in (
       (a, has.spelled, has.bare),
       (
         of_all (IsFor x.rp) a _ has.spelled party,
@@ -100,7 +102,7 @@ data_passes x e a is has party present verified =
 -- the credential that the response is judged by, and the authenticator data
 pub record HasBoth (x : JudgedSignIn) (c : Credential) (a : AuthenticatorData) : Type 0 where
   pub credential : x.credential ≡ Some c
-  pub spelled : AuthOf a x.response.auth_data
+  pub spelled : AuthOf x.rp.profile a x.response.auth_data
 
 -- the message that is signed
 abbrev pub message_of : JudgedSignIn → List ℕ
@@ -111,10 +113,10 @@ module _ (valid : Validity) (x : JudgedSignIn) (c : Credential) (a : Authenticat
   IsValid d = valid d.key (message_of x) x.response.signature
 
   abbrev IsCountedFor : Credential → Type 0
-  IsCountedFor d = (b : AuthenticatorData) → AuthOf b x.response.auth_data → IsCounted d.sign_count b.sign_count
+  IsCountedFor d = (b : AuthenticatorData) → AuthOf x.rp.profile b x.response.auth_data → IsCounted d.sign_count b.sign_count
 
   abbrev IsEligibleFor : Credential → Type 0
-  IsEligibleFor d = ForSome d.eligible (λ e. (b : AuthenticatorData) → AuthOf b x.response.auth_data → is_set b.flags BE ≡ e)
+  IsEligibleFor d = ForSome d.eligible (λ e. (b : AuthenticatorData) → AuthOf x.rp.profile b x.response.auth_data → is_set b.flags BE ≡ e)
 
   signed : IsValid c → PassesSignInStep valid x step.BadSignature
   signed v = of_some IsValid x.credential c has.credential v

@@ -18,7 +18,7 @@ PassesClientDataStep kind challenge rp t line.Readable = IsSome (seen_of t)
 PassesClientDataStep kind challenge rp t line.Type = ForSome (seen_of t) (HasType kind)
 PassesClientDataStep kind challenge rp t line.Challenge = ForSome (seen_of t) (HasChallenge challenge)
 PassesClientDataStep kind challenge rp t line.Origin = ForSome (seen_of t) (HasOrigin rp)
-PassesClientDataStep kind challenge rp t line.TokenBinding = ForSome (seen_of t) HasNoBinding
+PassesClientDataStep kind challenge rp t line.TokenBinding = ForSome (seen_of t) (HasNoBinding rp.profile)
 
 abbrev pub client_data_order : List ClientDataStep
 client_data_order = line.Readable ∷ line.Type ∷ line.Challenge ∷ line.Origin ∷ line.TokenBinding ∷ []

@@ -1,12 +1,14 @@
 -- What a relying party is, keeps of a credential, and expects of a ceremony (WebAuthn Level 2, section 7).
 use Rattle.std.specs.Prelude.{ℕ, List, Bool, Option}
+use Rattle.authdata.specs.declared.profile.Profile.{Profile}
 use Rattle.cose.specs.declared.key.Alg.{Alg}
 use Rattle.cose.specs.declared.key.CoseKey.{CoseKey}
 
--- its rp id, and the origins that its pages have
+-- its rp id, the origins that its pages have, and which responses it takes
 pub record RelyingParty : Type 0 where
   pub rp_id : List ℕ
   pub origins : List (List ℕ)
+  pub profile : Profile
 
 -- a registered credential: its id, the user handle, the public key, the signature counter last received,
 -- whether it is eligible for backup, where that is known, and whether it is retired

@@ -6,6 +6,7 @@ use Rattle.refusal_order.specs.Lines.{Each, FirstFailing}
 use Rattle.cose.specs.Keys.{alg_of}
 use Rattle.clientdata.specs.Reading.{seen_of}
 use Rattle.clientdata.specs.declared.record.CeremonyType.TheVariants.{Create}
+use Rattle.authdata.specs.declared.profile.Profile.{Profile}
 use Rattle.authdata.specs.Layout.{AuthenticatorData, AttestedCredential, AuthOf}
 use Rattle.authdata.specs.Objects.{Attestation, ObjectOf}
 use Rattle.authdata.specs.Responses as responses
@@ -28,15 +29,16 @@ pub record JudgedRegistration : Type 0 where
   pub is_registered : List ℕ → Bool
   pub is_full : Bool
 
--- the response's attestation object, its authenticator data, and the credential that they attest
-pub record Attests (r : responses.AuthenticatorAttestationResponse) (o : Attestation) (a : AuthenticatorData) (c : AttestedCredential) : Type 0 where
+-- the response's attestation object, its authenticator data, and the credential that they attest, as the profile
+-- has them
+pub record Attests (profile : Profile) (r : responses.AuthenticatorAttestationResponse) (o : Attestation) (a : AuthenticatorData) (c : AttestedCredential) : Type 0 where
   pub object : ObjectOf o r.object
-  pub auth_data : AuthOf a o.auth_data
+  pub auth_data : AuthOf profile a o.auth_data
   pub attested : a.attested ≡ Some c
 
 -- whatever the response attests has this property
-abbrev pub Attested : responses.AuthenticatorAttestationResponse → (Attestation → AuthenticatorData → AttestedCredential → Type 0) → Type 0
-Attested r P = (o : Attestation) (a : AuthenticatorData) (c : AttestedCredential) → Attests r o a c → P o a c
+abbrev pub Attested : Profile → responses.AuthenticatorAttestationResponse → (Attestation → AuthenticatorData → AttestedCredential → Type 0) → Type 0
+Attested profile r P = (o : Attestation) (a : AuthenticatorData) (c : AttestedCredential) → Attests profile r o a c → P o a c
 
 -- the hash of the client data
 abbrev pub hash_in : responses.AuthenticatorAttestationResponse → List ℕ
@@ -55,26 +57,26 @@ PassesRegistrationStep valid x step.WrongChallenge = ForSome x.session (λ e. Fo
 -- their origin is one of the relying party's
 PassesRegistrationStep valid x step.WrongOrigin = ForSome (seen_of x.response.client_data) (HasOrigin x.rp)
 -- token binding is not used
-PassesRegistrationStep valid x step.TokenBinding = ForSome (seen_of x.response.client_data) HasNoBinding
+PassesRegistrationStep valid x step.TokenBinding = ForSome (seen_of x.response.client_data) (HasNoBinding x.rp.profile)
 -- the bytes are an attestation object, whose authenticator data attest a credential
-PassesRegistrationStep valid x step.BadAttestationObject = (o : Attestation) × (a : AuthenticatorData) × (c : AttestedCredential) × Attests x.response o a c
+PassesRegistrationStep valid x step.BadAttestationObject = (o : Attestation) × (a : AuthenticatorData) × (c : AttestedCredential) × Attests x.rp.profile x.response o a c
 -- rpIdHash is the hash of the rp id
-PassesRegistrationStep valid x step.WrongRelyingParty = Attested x.response (λ o a c. IsFor x.rp a)
+PassesRegistrationStep valid x step.WrongRelyingParty = Attested x.rp.profile x.response (λ o a c. IsFor x.rp a)
 -- UP is set
-PassesRegistrationStep valid x step.UserNotPresent = Attested x.response (λ o a c. IsPresent a)
+PassesRegistrationStep valid x step.UserNotPresent = Attested x.rp.profile x.response (λ o a c. IsPresent a)
 -- UV is set, where the session requires it
-PassesRegistrationStep valid x step.UserNotVerified = ForSome x.session (λ e. Attested x.response (λ o a c. IsVerifiedAs e.uv a))
+PassesRegistrationStep valid x step.UserNotVerified = ForSome x.session (λ e. Attested x.rp.profile x.response (λ o a c. IsVerifiedAs e.uv a))
 -- the key's algorithm is one of those offered
-PassesRegistrationStep valid x step.AlgorithmNotOffered = ForSome x.session (λ e. Attested x.response (λ o a c. Contains e.algorithms (alg_of c.key)))
+PassesRegistrationStep valid x step.AlgorithmNotOffered = ForSome x.session (λ e. Attested x.rp.profile x.response (λ o a c. Contains e.algorithms (alg_of c.key)))
 -- the statement's format is known
-PassesRegistrationStep valid x step.UnknownFormat = Attested x.response (λ o a c. IsKnownFormat o.fmt)
+PassesRegistrationStep valid x step.UnknownFormat = Attested x.rp.profile x.response (λ o a c. IsKnownFormat o.fmt)
 -- the statement shows no attestation, or self attestation
-PassesRegistrationStep valid x step.BadStatement = Attested x.response (λ o a c. IsNone o ⊎ IsSelfSigned valid o c.key (hash_in x.response))
+PassesRegistrationStep valid x step.BadStatement = Attested x.rp.profile x.response (λ o a c. IsNone o ⊎ IsSelfSigned valid o c.key (hash_in x.response))
 -- the relying party accepts that
-PassesRegistrationStep valid x step.AttestationNotAccepted = Attested x.response (λ o a c.
+PassesRegistrationStep valid x step.AttestationNotAccepted = Attested x.rp.profile x.response (λ o a c.
     (IsNone o → x.policy.accept_none ≡ true) × (IsSelfSigned valid o c.key (hash_in x.response) → x.policy.accept_self ≡ true))
 -- the credential is not registered, to anyone
-PassesRegistrationStep valid x step.CredentialRegistered = Attested x.response (λ o a c. x.is_registered c.id ≡ false)
+PassesRegistrationStep valid x step.CredentialRegistered = Attested x.rp.profile x.response (λ o a c. x.is_registered c.id ≡ false)
 -- there is room for it
 PassesRegistrationStep valid x step.TableFull = x.is_full ≡ false
 

@@ -2,7 +2,7 @@
 use Rattle.std.specs.Prelude.{◌≡◌, ℕ, List, Some, true}
 use Rattle.refusal_order.specs.Lines.{FirstFailing}
 use Rattle.authdata.specs.Flags.{is_set, BE}
-use Rattle.authdata.specs.Layout.{AttestedCredential, AuthenticatorData, AuthOf}
+use Rattle.authdata.specs.Layout.{AttestedCredential, AuthenticatorData}
 use Rattle.authdata.specs.Objects.{Attestation, ObjectOf}
 use Rattle.authdata.specs.Statements.{IsKnownFormat, IsNone, IsSelfSigned}
 use Rattle.authdata.specs.declared.statement.AttestationType.{AttestationType}
@@ -22,7 +22,7 @@ use Rattle.verification.specs.declared.refusal.RegistrationRefusal.TheVariants a
 -- the credential that the response attests, with its counter and the mark of eligibility
 abbrev pub IsVerifiedRegistration : JudgedRegistration → NewCredential → Type 0
 IsVerifiedRegistration x v =
-    (o : Attestation) × (a : AuthenticatorData) × (c : AttestedCredential) × Attests x.response o a c
+    (o : Attestation) × (a : AuthenticatorData) × (c : AttestedCredential) × Attests x.rp.profile x.response o a c
     × (v.id ≡ c.id) × (v.key ≡ c.key) × (v.sign_count ≡ a.sign_count) × (v.eligible ≡ is_set a.flags BE)
 
 -- the first step that fails is named; want of memory says nothing
@@ -43,18 +43,11 @@ step_of line.Challenge = step.WrongChallenge
 step_of line.Origin = step.WrongOrigin
 step_of line.TokenBinding = step.TokenBinding
 
--- the bytes are no attestation object whose authenticator data attest a credential; want of memory says nothing
-abbrev pub AttestsNothing : List ℕ → RegistrationError → Type 0
-AttestsNothing bs (errors.Refused step.BadAttestationObject) =
-    (o : Attestation) (a : AuthenticatorData) (c : AttestedCredential) → ObjectOf o bs → AuthOf a o.auth_data → a.attested ≡ Some c → ⊥
-AttestsNothing bs (errors.Refused w) = ⊥
-AttestsNothing bs errors.Memory = Unit {0}
-
--- the bytes are no authenticator data; want of memory says nothing
-abbrev pub IsNoData : List ℕ → RegistrationError → Type 0
-IsNoData bs (errors.Refused step.BadAttestationObject) = (a : AuthenticatorData) → AuthOf a bs → ⊥
-IsNoData bs (errors.Refused w) = ⊥
-IsNoData bs errors.Memory = Unit {0}
+-- the bytes are no attestation object; want of memory says nothing
+abbrev pub IsNoObject : List ℕ → RegistrationError → Type 0
+IsNoObject bs (errors.Refused step.BadAttestationObject) = (o : Attestation) → ObjectOf o bs → ⊥
+IsNoObject bs (errors.Refused w) = ⊥
+IsNoObject bs errors.Memory = Unit {0}
 
 -- how the statement attests the credential
 abbrev pub AttestsAs : Validity → Attestation → CoseKey → List ℕ → AttestationType → Type 0

@@ -5,8 +5,10 @@ use Rattle.sha2.specs.Sha256.{sha256}
 use Rattle.cose.specs.declared.key.CoseKey.{CoseKey}
 use Rattle.clientdata.specs.Serialised.{challenge_text_of, type_of}
 use Rattle.clientdata.specs.declared.record.CeremonyType.{CeremonyType}
-use Rattle.clientdata.specs.declared.seen.Binding.TheVariants.{Absent, Supported}
+use Rattle.clientdata.specs.declared.seen.Binding.TheVariants.{Absent, Supported, NotSupported}
 use Rattle.clientdata.specs.declared.seen.Seen.{Seen}
+use Rattle.authdata.specs.declared.profile.Profile.{Profile}
+use Rattle.authdata.specs.declared.profile.Profile.TheVariants.{Open}
 use Rattle.authdata.specs.Flags.{is_set, UP, UV}
 use Rattle.authdata.specs.Layout.{AuthenticatorData}
 use Rattle.verification.specs.Records.{RelyingParty}
@@ -23,9 +25,9 @@ HasChallenge challenge seen = seen.challenge ≡ challenge_text_of challenge
 abbrev pub HasOrigin : RelyingParty → Seen → Type 0
 HasOrigin rp seen = Contains rp.origins seen.origin
 
--- token binding is absent, or supported and not used
-abbrev pub HasNoBinding : Seen → Type 0
-HasNoBinding seen = (seen.binding ≡ Absent) ⊎ (seen.binding ≡ Supported)
+-- token binding is absent, or supported and not used; in the open profile, or not supported
+abbrev pub HasNoBinding : Profile → Seen → Type 0
+HasNoBinding profile seen = (seen.binding ≡ Absent) ⊎ (seen.binding ≡ Supported) ⊎ ((profile ≡ Open) × (seen.binding ≡ NotSupported))
 
 -- rpIdHash is the hash of the rp id
 abbrev pub IsFor : RelyingParty → AuthenticatorData → Type 0

@@ -53,24 +53,24 @@ PassesSignInStep valid x step.WrongChallenge = ForSome x.session (λ e. ForSome 
 -- their origin is one of the relying party's
 PassesSignInStep valid x step.WrongOrigin = ForSome (seen_of x.response.client_data) (HasOrigin x.rp)
 -- token binding is not used
-PassesSignInStep valid x step.TokenBinding = ForSome (seen_of x.response.client_data) HasNoBinding
+PassesSignInStep valid x step.TokenBinding = ForSome (seen_of x.response.client_data) (HasNoBinding x.rp.profile)
 -- the bytes are authenticator data with AT clear
-PassesSignInStep valid x step.BadAuthenticatorData = (a : AuthenticatorData) × AuthOf a x.response.auth_data × (is_set a.flags AT ≡ false)
+PassesSignInStep valid x step.BadAuthenticatorData = (a : AuthenticatorData) × AuthOf x.rp.profile a x.response.auth_data × (is_set a.flags AT ≡ false)
 -- rpIdHash is the hash of the rp id
-PassesSignInStep valid x step.WrongRelyingParty = (a : AuthenticatorData) → AuthOf a x.response.auth_data → IsFor x.rp a
+PassesSignInStep valid x step.WrongRelyingParty = (a : AuthenticatorData) → AuthOf x.rp.profile a x.response.auth_data → IsFor x.rp a
 -- UP is set
-PassesSignInStep valid x step.UserNotPresent = (a : AuthenticatorData) → AuthOf a x.response.auth_data → IsPresent a
+PassesSignInStep valid x step.UserNotPresent = (a : AuthenticatorData) → AuthOf x.rp.profile a x.response.auth_data → IsPresent a
 -- UV is set, where the session requires it
-PassesSignInStep valid x step.UserNotVerified = ForSome x.session (λ e. (a : AuthenticatorData) → AuthOf a x.response.auth_data → IsVerifiedAs e.uv a)
+PassesSignInStep valid x step.UserNotVerified = ForSome x.session (λ e. (a : AuthenticatorData) → AuthOf x.rp.profile a x.response.auth_data → IsVerifiedAs e.uv a)
 -- the signature is valid over the authenticator data as they came, then the hash of the client data
 PassesSignInStep valid x step.BadSignature =
     ForSome x.credential (λ c. valid c.key (x.response.auth_data ++ sha256 x.response.client_data) x.response.signature)
 -- the counter has grown
 PassesSignInStep valid x step.CounterNotGreater =
-    ForSome x.credential (λ c. (a : AuthenticatorData) → AuthOf a x.response.auth_data → IsCounted c.sign_count a.sign_count)
+    ForSome x.credential (λ c. (a : AuthenticatorData) → AuthOf x.rp.profile a x.response.auth_data → IsCounted c.sign_count a.sign_count)
 -- BE is what it was, where that is known
 PassesSignInStep valid x step.EligibilityChanged =
-    ForSome x.credential (λ c. ForSome c.eligible (λ e. (a : AuthenticatorData) → AuthOf a x.response.auth_data → is_set a.flags BE ≡ e))
+    ForSome x.credential (λ c. ForSome c.eligible (λ e. (a : AuthenticatorData) → AuthOf x.rp.profile a x.response.auth_data → is_set a.flags BE ≡ e))
 
 -- the steps in their order: on the session and the credential; on the client data; on the authenticator data;
 -- on the signature, the counter and the mark of eligibility

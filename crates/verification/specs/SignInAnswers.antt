@@ -19,7 +19,7 @@ use Rattle.verification.specs.declared.refusal.SignInRefusal.TheVariants as step
 -- the counter and the marks of backup that the authenticator data say
 abbrev pub IsVerifiedSignIn : JudgedSignIn → VerifiedAssertion → Type 0
 IsVerifiedSignIn x v =
-    (a : AuthenticatorData) × AuthOf a x.response.auth_data
+    (a : AuthenticatorData) × AuthOf x.rp.profile a x.response.auth_data
     × (v.sign_count ≡ a.sign_count) × (v.eligible ≡ is_set a.flags BE) × (v.backed_up ≡ is_set a.flags BS)
 
 -- the first step that fails is named; want of memory comes only where the steps on the session and the

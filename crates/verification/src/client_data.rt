@@ -5,7 +5,7 @@ ghost use Rattle.refusal_order.specs.Lines.{Each};
 ghost use Rattle.verification.specs.ClientData.{Fails, IsSerialised, PassesClientDataStep, client_data_order};
 
 use crate::party::RelyingParty;
-use clientdata::{Binding, CeremonyType, is_challenge_text, read};
+use clientdata::{CeremonyType, is_challenge_text, read};
 use std::alloc::Global;
 
 /// The step on client data that fails.
@@ -57,7 +57,7 @@ pub(crate) fn check_client_data(
     if !party.has_origin(seen.origin.as_str()) {
         return Err(ClientDataError::Fails(ClientDataStep::Origin));
     }
-    if let Binding::Other = seen.binding {
+    if !party.has_no_binding(&seen) {
         return Err(ClientDataError::Fails(ClientDataStep::TokenBinding));
     }
     Ok(())

@@ -11,6 +11,7 @@ mod refusal;
 mod registration;
 mod signing_in;
 
+pub use authdata::Profile;
 pub use party::{Policy, RelyingParty};
 pub use record::{AssertionParts, RegistrationParts, RegistrationSession, RowView, SignInSession};
 pub use refusal::{RegistrationError, RegistrationRefusal, SignInError, SignInRefusal};

@@ -2,10 +2,13 @@
 
 ghost use Rattle.std.specs.Prelude.{◌≡◌, ◌↔◌, Contains, IfOk, IsTrue, string_bytes};
 ghost use Rattle.sha2.specs.Sha256.{sha256};
+ghost use Rattle.authdata.specs.declared.profile.Profile.TheVariants.{Open, Strict};
 ghost use Rattle.verification.specs.ClientData.{IsSerialised};
+ghost use Rattle.verification.specs.Shared.{HasNoBinding};
 ghost use Rattle.verification.specs.Views.{texts_of};
 
-use clientdata::{CeremonyType, ExpectedOrigin, is_serialised_for_any};
+use authdata::Profile;
+use clientdata::{Binding, CeremonyType, ExpectedOrigin, Seen, is_serialised_for_any};
 use sha2::{Digest, Sha256};
 use std::alloc::{AllocError, Global};
 use std::marker::Model;
@@ -19,9 +22,10 @@ pub struct Policy {
     pub accept_self: bool,
 }
 
-/// A relying party: its rp id with the hash of it, which is made once, and its origins.
+/// A relying party: its rp id with the hash of it, which is made once, its origins, and which responses it takes.
 #[derive(Drop)]
 pub struct RelyingParty {
+    profile: Profile,
     rp_id: String,
     rp_id_hash: [u8; 32],
     origins: Vec<ExpectedOrigin>,
@@ -34,24 +38,51 @@ impl Model for RelyingParty {
 
     ghost Value = { Party };
 
-    ghost view = { λ p. record { rp_id = string_bytes p.rp_id; origins = p.origins.items } };
+    ghost view = { λ p. record { rp_id = string_bytes p.rp_id; origins = p.origins.items; profile = p.profile } };
 }
 
 impl RelyingParty {
-    /// A relying party of this rp id and these origins, of which each is compared as a text. Nothing is asked of
-    /// their lengths.
+    /// A relying party of the strict profile, of this rp id and these origins, of which each is compared as a text.
+    /// Nothing is asked of their lengths.
     pub fn new(alloc: Global, rp_id: &str, origins: &[&str]) -> Result<RelyingParty, AllocError>
-        ensures { IfOk result (λ p. p ≡ record { rp_id = rp_id.now; origins = texts_of origins.now }) }
+        ensures { IfOk result (λ p. p ≡ record { rp_id = rp_id.now; origins = texts_of origins.now; profile = Strict }) }
+    {
+        RelyingParty::with_profile(alloc, Profile::Strict, rp_id, origins)
+    }
+
+    /// A relying party of the open profile, which takes what real keys and browsers send; else as `new`.
+    pub fn open(alloc: Global, rp_id: &str, origins: &[&str]) -> Result<RelyingParty, AllocError>
+        ensures { IfOk result (λ p. p ≡ record { rp_id = rp_id.now; origins = texts_of origins.now; profile = Open }) }
+    {
+        RelyingParty::with_profile(alloc, Profile::Open, rp_id, origins)
+    }
+
+    /// A relying party of this profile, as `new` and `open` make one.
+    pub fn with_profile(
+        alloc: Global,
+        profile: Profile,
+        rp_id: &str,
+        origins: &[&str],
+    ) -> Result<RelyingParty, AllocError>
+        ensures { IfOk result (λ p. p ≡ record { rp_id = rp_id.now; origins = texts_of origins.now; profile = profile }) }
     {
         let mut expected = Vec::with_capacity(alloc, origins.len())?;
         for origin in origins {
             expected.push(ExpectedOrigin::new(alloc, origin)?)?;
         }
         Ok(RelyingParty {
+            profile,
             rp_id: String::from_str(alloc, rp_id)?,
             rp_id_hash: Sha256::digest(rp_id),
             origins: expected,
         })
+    }
+
+    /// Which responses it takes.
+    pub fn profile(&self) -> Profile
+        ensures { result ≡ self.now.profile }
+    {
+        self.profile
     }
 
     /// The rp id.
@@ -78,6 +109,17 @@ impl RelyingParty {
             }
         }
         false
+    }
+
+    /// Whether token binding is absent or not used, as the profile has it.
+    pub(crate) fn has_no_binding(&self, seen: &Seen) -> bool
+        ensures { IsTrue result ↔ HasNoBinding self.now.profile seen.now }
+    {
+        match seen.binding {
+            Binding::Absent | Binding::Supported => true,
+            Binding::NotSupported => self.profile == Profile::Open,
+            Binding::Other => false,
+        }
     }
 
     /// Whether the bytes are the serialised client data of this ceremony and challenge for one of the origins, which

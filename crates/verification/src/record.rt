@@ -5,7 +5,7 @@ use cose::{Alg, CoseKey};
 /// A registered credential, lent.
 #[derive(Clone, Copy, Debug, Drop)]
 pub struct RowView<'a> {
-    /// The credential id: 1 to 64 bytes.
+    /// The credential id: 1 to 64 bytes, in the open profile to 1,023.
     pub id: &'a [u8],
     /// The user handle: 1 to 64 bytes.
     pub user: &'a [u8],

@@ -1,16 +1,16 @@
 //! Judging a registration (WebAuthn Level 2, section 7.1).
 
-ghost use Rattle.std.specs.Prelude.{◌≡◌, ◌↔◌, Bool, Contains, IfErr, IfOk, IsTrue, List, OnOk, Some, ℕ};
+ghost use Rattle.std.specs.Prelude.{◌≡◌, ◌↔◌, Bool, Contains, IfErr, IfOk, IfSome, IsTrue, List, None, OnOk, Some, ℕ};
 ghost use Rattle.refusal_order.specs.Lines.{Each, FirstFailing};
 ghost use Rattle.cose.specs.Keys.{alg_of};
 ghost use Rattle.authdata.specs.Objects.{ObjectOf, object_view};
-ghost use Rattle.authdata.specs.Layout.{AuthOf, auth_view, attested_view};
+ghost use Rattle.authdata.specs.Layout.{AttestedCredential, AuthOf, AuthenticatorData, lent_attested_view, lent_auth_view};
 ghost use Rattle.verification.specs.Registration.{Attests, JudgedRegistration, PassesRegistrationStep, attestation_steps, auth_data_steps};
 ghost use Rattle.verification.specs.Registration.{client_data_steps, response_steps, table_steps};
-ghost use Rattle.verification.specs.RegistrationAnswers.{AcceptsAttestation, AttestsNothing, FailsIn, IsNoData, IsRefused, AttestsAs};
+ghost use Rattle.verification.specs.RegistrationAnswers.{AcceptsAttestation, FailsIn, IsNoObject, IsRefused, AttestsAs};
 ghost use Rattle.verification.specs.RegistrationAnswers.{AttestsAsNothing, IsVerifiedRegistration, step_of};
 ghost use Rattle.verification.specs.SignInAnswers.{never};
-ghost use Rattle.verification.specs.Attested.{IsOf, data_of};
+ghost use Rattle.verification.specs.Attested.{IsOf};
 ghost use Rattle.verification.specs.Views.{admitted_view, judged_registration_view, judged_without_table, registration_view, registration_parts_view};
 
 use crate::client_data::{ClientDataError, ClientDataStep, check_client_data};
@@ -19,11 +19,12 @@ use crate::party::{Policy, RelyingParty};
 use crate::record::{RegistrationParts, RegistrationSession};
 use crate::refusal::{RegistrationError, RegistrationRefusal};
 use authdata::{
-    AttestationObject, AttestationType, Attested, AuthData, check_statement, flags, read,
+    AttestationObject, AttestationType, AttestedView, AuthView, Profile, check_statement, flags,
+    read_view,
 };
 use clientdata::{CeremonyType, hash};
 use cose::{Alg, CoseKey, Verifier};
-use std::alloc::Global;
+use std::alloc::{AllocError, Global};
 use std::marker::Model;
 
 /// A registration to be judged.
@@ -42,7 +43,7 @@ pub struct RegistrationAttempt<'a> {
 /// A credential that may be stored: its registration passes each step.
 #[derive(Debug, Drop)]
 pub struct AdmittedCredential {
-    /// The credential id: 1 to 64 bytes.
+    /// The credential id: 1 to 64 bytes, in the open profile to 1,023.
     pub id: Vec<u8>,
     /// The public key.
     pub key: CoseKey,
@@ -67,16 +68,6 @@ impl Model for VerifiedRegistration {
     ghost Value = { NewCredential };
 
     ghost view = { λ v. admitted_view v.credential };
-}
-
-/// What a response attests: the object, its authenticator data, and the credential in them.
-#[derive(Drop)]
-struct Attestation {
-    object: AttestationObject,
-    rp_id_hash: [u8; 32],
-    flags: u8,
-    sign_count: u32,
-    credential: Attested,
 }
 
 /// What the step on client data is, of those of a registration.
@@ -138,56 +129,31 @@ fn is_accepted(policy: Policy, kind: AttestationType) -> bool
     }
 }
 
-/// The credential that authenticator data attest.
-fn credential_in(auth_data: AuthData) -> Option<Attested>
-    ensures { result ≡ auth_data.attested }
+/// The attestation object that the bytes are.
+fn object_in(alloc: Global, bytes: &[u8]) -> Result<AttestationObject, RegistrationError>
+    ensures found { IfOk result (λ o. ObjectOf (object_view o) bytes.now) }
+    ensures refused { IfErr result (IsNoObject bytes.now) }
 {
-    let AuthData {
-        rp_id_hash: _,
-        flags: _,
-        sign_count: _,
-        attested,
-    } = auth_data;
-    attested
-}
-
-/// The authenticator data that the bytes of an attestation object's member are.
-fn data_from(alloc: Global, bytes: &[u8]) -> Result<AuthData, RegistrationError>
-    ensures found { IfOk result (λ a. AuthOf (auth_view a) bytes.now) }
-    ensures refused { IfErr result (IsNoData bytes.now) }
-{
-    match read(alloc, bytes) {
-        Ok(auth_data) => Ok(auth_data),
+    match AttestationObject::read(alloc, bytes) {
+        Ok(object) => Ok(object),
         Err(authdata::Error::Memory) => Err(RegistrationError::Memory),
         Err(_) => Err(RegistrationError::Refused(RegistrationRefusal::BadAttestationObject)),
     }
 }
 
-/// What the bytes attest, as an attestation object.
-fn attested_by(alloc: Global, bytes: &[u8]) -> Result<Attestation, RegistrationError>
-    ensures found { IfOk result (λ x. ObjectOf (object_view x.object) bytes.now × AuthOf (data_of x) x.object.auth_data.items) }
-    ensures refused { IfErr result (AttestsNothing bytes.now) }
+/// The authenticator data that the bytes are, and the credential that they attest.
+fn attested_in(profile: Profile, bytes: &[u8]) -> Option<(AuthView<'_>, AttestedView<'_>)>
+    ensures found { IfSome result (λ x. AuthOf profile (lent_auth_view x.0) bytes.now
+        × ((lent_auth_view x.0).attested ≡ Some (lent_attested_view x.1))) }
+    ensures none { result ≡ None
+        → (a : AuthenticatorData) (c : AttestedCredential) → AuthOf profile a bytes.now → a.attested ≡ Some c → ⊥ }
 {
-    let object = match AttestationObject::read(alloc, bytes) {
-        Ok(object) => object,
-        Err(authdata::Error::Memory) => return Err(RegistrationError::Memory),
-        Err(_) => return Err(RegistrationError::Refused(RegistrationRefusal::BadAttestationObject)),
+    let Ok(auth_data) = read_view(profile, bytes) else {
+        return None;
     };
-    let auth_data = match data_from(alloc, &object.auth_data) {
-        Ok(auth_data) => auth_data,
-        Err(error) => return Err(error),
-    };
-    let rp_id_hash = auth_data.rp_id_hash;
-    let (flags, sign_count) = (auth_data.flags, auth_data.sign_count);
-    match credential_in(auth_data) {
-        Some(credential) => Ok(Attestation {
-            object,
-            rp_id_hash,
-            flags,
-            sign_count,
-            credential,
-        }),
-        None => Err(RegistrationError::Refused(RegistrationRefusal::BadAttestationObject)),
+    match auth_data.attested {
+        Some(credential) => Some((auth_data, credential)),
+        None => None,
     }
 }
 
@@ -214,48 +180,53 @@ impl<'a> RegistrationAttempt<'a> {
         }
     }
 
-    /// What the response attests, where the steps on authenticator data are passed.
-    fn attestation(
+    /// What the response attests, where the steps on authenticator data are passed, by its attestation object.
+    fn attested<'o>(
         &self,
-        alloc: Global,
+        object: &'o AttestationObject,
         session: &RegistrationSession,
-    ) -> Result<Attestation, RegistrationError>
-        requires { (judged_without_table self.now).session ≡ Some (registration_view session.now) }
+    ) -> Result<(AuthView<'o>, AttestedView<'o>), RegistrationRefusal>
+        requires object { ObjectOf (object_view object.now) self.now.response.object.now }
+        requires session { (judged_without_table self.now).session ≡ Some (registration_view session.now) }
         ensures passes { OnOk result (Each (PassesRegistrationStep never (judged_without_table self.now)) auth_data_steps) }
-        ensures found { IfOk result (λ x. Attests (judged_without_table self.now).response (object_view x.object) (data_of x) (attested_view x.credential)) }
-        ensures refused { IfErr result (FailsIn never (judged_without_table self.now) auth_data_steps) }
+        ensures found { IfOk result (λ x. Attests (judged_without_table self.now).rp.profile (judged_without_table self.now).response
+            (object_view object.now) (lent_auth_view x.0) (lent_attested_view x.1)) }
+        ensures refused { IfErr result (FirstFailing (PassesRegistrationStep never (judged_without_table self.now)) auth_data_steps) }
     {
-        let found = match attested_by(alloc, self.response.object) {
-            Ok(found) => found,
-            Err(error) => return Err(error),
+        let Some((auth_data, credential)) = attested_in(self.party.profile(), &object.auth_data)
+        else {
+            return Err(RegistrationRefusal::BadAttestationObject);
         };
-        if !self.party.is_hash(&found.rp_id_hash) {
-            return Err(RegistrationError::Refused(RegistrationRefusal::WrongRelyingParty));
+        if !self.party.is_hash(&auth_data.rp_id_hash) {
+            return Err(RegistrationRefusal::WrongRelyingParty);
         }
-        if !flags::is_set(found.flags, flags::UP) {
-            return Err(RegistrationError::Refused(RegistrationRefusal::UserNotPresent));
+        if !flags::is_set(auth_data.flags, flags::UP) {
+            return Err(RegistrationRefusal::UserNotPresent);
         }
-        if !is_verified_as(session.uv, found.flags) {
-            return Err(RegistrationError::Refused(RegistrationRefusal::UserNotVerified));
+        if !is_verified_as(session.uv, auth_data.flags) {
+            return Err(RegistrationRefusal::UserNotVerified);
         }
-        if !offers(session, &found.credential.key) {
-            return Err(RegistrationError::Refused(RegistrationRefusal::AlgorithmNotOffered));
+        if !offers(session, &credential.key) {
+            return Err(RegistrationRefusal::AlgorithmNotOffered);
         }
-        Ok(found)
+        Ok((auth_data, credential))
     }
 
     /// Whether the steps on the attestation statement are passed.
     fn check_attestation<V: Verifier>(
         &self,
         verifier: &V,
-        found: &Attestation,
+        object: &AttestationObject,
+        auth_data: &AuthView<'_>,
+        credential: &AttestedView<'_>,
     ) -> Result<(), RegistrationRefusal>
-        requires { Attests (judged_without_table self.now).response (object_view found.now.object) (data_of found.now) (attested_view found.now.credential) }
+        requires { Attests (judged_without_table self.now).rp.profile (judged_without_table self.now).response (object_view object.now)
+            (lent_auth_view auth_data.now) (lent_attested_view credential.now) }
         ensures passes { OnOk result (Each (PassesRegistrationStep (V.valid verifier.now) (judged_without_table self.now)) attestation_steps) }
         ensures refused { IfErr result (FirstFailing (PassesRegistrationStep (V.valid verifier.now) (judged_without_table self.now)) attestation_steps) }
     {
         let hash = hash(self.response.client_data);
-        let kind = match statement(verifier, &found.object, &found.credential.key, &hash) {
+        let kind = match statement(verifier, object, &credential.key, &hash) {
             Ok(kind) => kind,
             Err(refusal) => return Err(refusal),
         };
@@ -266,26 +237,22 @@ impl<'a> RegistrationAttempt<'a> {
     }
 }
 
-/// The credential that an attestation is of.
-fn verified(found: Attestation) -> VerifiedRegistration
-    ensures { IsOf found result }
+/// The credential that authenticator data attest, copied out.
+fn verified(
+    alloc: Global,
+    auth_data: &AuthView<'_>,
+    credential: &AttestedView<'_>,
+) -> Result<VerifiedRegistration, AllocError>
+    ensures { IfOk result (IsOf (lent_auth_view auth_data.now) (lent_attested_view credential.now)) }
 {
-    let Attestation {
-        object: _,
-        rp_id_hash: _,
-        flags,
-        sign_count,
-        credential,
-    } = found;
-    let Attested { aaguid: _, id, key } = credential;
-    VerifiedRegistration {
+    Ok(VerifiedRegistration {
         credential: AdmittedCredential {
-            id,
-            key,
-            sign_count,
-            eligible: flags::is_set(flags, flags::BE),
+            id: Vec::from_slice(alloc, credential.id)?,
+            key: credential.key,
+            sign_count: auth_data.sign_count,
+            eligible: flags::is_set(auth_data.flags, flags::BE),
         },
-    }
+    })
 }
 
 /// Judges a registration by its response: it is verified where it passes each step of section 7.1 on the response;
@@ -305,9 +272,10 @@ pub fn verify_registration<V: Verifier>(
         → IsRefused (V.valid verifier.now) (judged_registration_view attempt.now is_registered is_full) e) }
 {
     let session = attempt.check_client_data(alloc)?;
-    let found = attempt.attestation(alloc, session)?;
-    attempt.check_attestation(verifier, &found)?;
-    Ok(verified(found))
+    let object = object_in(alloc, attempt.response.object)?;
+    let (auth_data, credential) = attempt.attested(&object, session)?;
+    attempt.check_attestation(verifier, &object, &auth_data, &credential)?;
+    Ok(verified(alloc, &auth_data, &credential)?)
 }
 
 impl VerifiedRegistration {

@@ -16,7 +16,7 @@ use crate::flag::is_verified_as;
 use crate::party::RelyingParty;
 use crate::record::{AssertionParts, RowView, SignInSession};
 use crate::refusal::{SignInError, SignInRefusal};
-use authdata::{AuthView, flags, read_view};
+use authdata::{AuthView, Profile, flags, read_view};
 use clientdata::{CeremonyType, hash};
 use cose::{CoseKey, Verifier};
 use std::alloc::Global;
@@ -113,11 +113,11 @@ fn is_eligible_as(known: Option<bool>, flags: u8) -> bool
 }
 
 /// The authenticator data that the bytes are, which attest no credential.
-fn bare_data(bytes: &[u8]) -> Option<AuthView<'_>>
-    ensures found { IfSome result (λ a. AuthOf (lent_auth_view a) bytes.now × (is_set a.flags AT ≡ false)) }
-    ensures none { result ≡ None → (a : AuthenticatorData) → AuthOf a bytes.now → is_set a.flags AT ≡ false → ⊥ }
+fn bare_data(profile: Profile, bytes: &[u8]) -> Option<AuthView<'_>>
+    ensures found { IfSome result (λ a. AuthOf profile (lent_auth_view a) bytes.now × (is_set a.flags AT ≡ false)) }
+    ensures none { result ≡ None → (a : AuthenticatorData) → AuthOf profile a bytes.now → is_set a.flags AT ≡ false → ⊥ }
 {
-    let Ok(data) = read_view(bytes) else {
+    let Ok(data) = read_view(profile, bytes) else {
         return None;
     };
     if flags::is_set(data.flags, flags::AT) {
@@ -176,10 +176,10 @@ impl<'a> SignInAttempt<'a> {
     fn auth_data(&self, session: &SignInSession) -> Result<AuthView<'a>, SignInRefusal>
         requires { (judged_sign_in_view self.now).session ≡ Some (sign_in_view session.now) }
         ensures passes { OnOk result (Each (PassesSignInStep never (judged_sign_in_view self.now)) auth_data_steps) }
-        ensures found { IfOk result (λ a. AuthOf (lent_auth_view a) self.now.response.auth_data.now) }
+        ensures found { IfOk result (λ a. AuthOf self.now.party.now.profile (lent_auth_view a) self.now.response.auth_data.now) }
         ensures refused { IfErr result (FirstFailing (PassesSignInStep never (judged_sign_in_view self.now)) auth_data_steps) }
     {
-        let Some(data) = bare_data(self.response.auth_data) else {
+        let Some(data) = bare_data(self.party.profile(), self.response.auth_data) else {
             return Err(SignInRefusal::BadAuthenticatorData);
         };
         if !self.party.is_hash(&data.rp_id_hash) {
@@ -202,7 +202,7 @@ impl<'a> SignInAttempt<'a> {
         auth_data: &AuthView<'_>,
     ) -> Result<(), SignInRefusal>
         requires credential { (judged_sign_in_view self.now).credential ≡ Some (credential_view credential.now) }
-        requires auth_data { AuthOf (lent_auth_view auth_data.now) self.now.response.auth_data.now }
+        requires auth_data { AuthOf self.now.party.now.profile (lent_auth_view auth_data.now) self.now.response.auth_data.now }
         ensures passes { OnOk result (Each (PassesSignInStep (V.valid verifier.now) (judged_sign_in_view self.now)) signature_steps) }
         ensures refused { IfErr result (FirstFailing (PassesSignInStep (V.valid verifier.now) (judged_sign_in_view self.now)) signature_steps) }
     {

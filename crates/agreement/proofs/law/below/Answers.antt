@@ -17,6 +17,7 @@ returns g c = λ verifier public. record {
     one_object = c.one_object.ensures;
     one_value = c.one_reading.ensures.one_value;
     one_front = c.one_reading.ensures.one_front;
+    taken = c.profiles.ensures.taken;
   };
   challenge_texts = c.challenge_texts.ensures;
   sites = c.site_laws.ensures verifier;

@@ -8,4 +8,4 @@ pub returns-clause-none : goal.returns-clause-none
 returns-clause-none c = none_applies
 
 pub returns-clause-one : goal.returns-clause-one
-returns-clause-one c = λ bs. one_first (λ e out applies. out applies) order
+returns-clause-one c = λ p bs. one_first (λ e out applies. out applies) order

@@ -1,53 +1,119 @@
 -- What is owed of `read_view`.
-use Rattle.std.proofs.Common.{◌≡◌, ◌<◌, ◌^◌, length, option_map, ap, subst, sym, ◌∙◌, arith, rules}
+use Rattle.std.proofs.Common.{option_map, ◌≡◌, ◌<◌, ◌^◌, true, false, length, ap, subst, sym, ◌∙◌, inl, arith, rules, refl}
 use Rattle.authdata.specs.Flags.{is_set, HasBackup, ED}
-use Rattle.authdata.specs.Layout.{lent_attested_view, IsAuthenticatorData}
-use Rattle.authdata.proofs.Firsts.{lifted, short_first, extensions_first, backup_first, extra_first, auth_from, auth_is, extra_applies}
-use Rattle.authdata.proofs.NoRefusal.{not_refused}
+use Rattle.authdata.specs.declared.error.Error.TheVariants as errors
+use Rattle.authdata.specs.Refusals.{Applies}
+use Rattle.authdata.proofs.Firsts.{WasRead, auth_is, backup_first, extensions_first, extra_applies, extra_first, lifted}
+use Rattle.authdata.proofs.Firsts.{is_some-map, no_map_applies, no_map_first, out, parts_join, parts_whole, short_first}
+use Rattle.authdata.proofs.NoRefusal.{none_applies, not_refused}
 use Rattle.authdata.proofs.reading.read_view.Goals as goal
 
 pub returns-then-is_short-clause-refused : goal.returns-then-is_short-clause-refused
-returns-then-is_short-clause-refused c = short_first c.args.bytes.now (c.is_short.ensures.0 c.if-is_short.true)
+returns-then-is_short-clause-refused c = short_first c.args.profile c.args.bytes.now ((c.is_short.ensures c.args.profile).0 c.if-is_short.true)
 
-pub returns-then-is_set-clause-refused : goal.returns-then-is_set-clause-refused
-returns-then-is_set-clause-refused c =
-    extensions_first c.args.bytes.now (λ s. let t = c.is_short.ensures.1 s in let f = c.if-is_short.false in absurd cc)
-    (ap (λ n. is_set n ED) (sym c.in-Some.ensures.flags) ∙ sym c.if-is_set.ensures)
+pub returns-then-is_short-clause-none : goal.returns-then-is_short-clause-none
+returns-then-is_short-clause-none c = λ a h. not_refused c.args.profile a c.args.bytes.now _ (returns-then-is_short-clause-refused c) h
+
+pub returns-in_default-clause-refused : goal.returns-in_default-clause-refused
+returns-in_default-clause-refused c = short_first c.args.profile c.args.bytes.now (inl c.in_default.ensures.rest)
+
+pub returns-then-bars_extensions-clause-refused : goal.returns-then-bars_extensions-clause-refused
+returns-then-bars_extensions-clause-refused c =
+    let p = c.args.profile in let bs = c.args.bytes.now in
+    let bars = c.bars_extensions.ensures.0 c.if-bars_extensions.true in
+    extensions_first p bs (out (c.is_short.ensures p) c.if-is_short.false)
+    (bars.0, ap (λ n. is_set n ED) (sym c.in-Some.ensures.flags) ∙ bars.1)
+
+pub returns-then-bars_extensions-clause-none : goal.returns-then-bars_extensions-clause-none
+returns-then-bars_extensions-clause-none c = λ a h. not_refused c.args.profile a c.args.bytes.now _ (returns-then-bars_extensions-clause-refused c) h
 
 pub returns-then-not-has_backup-clause-refused : goal.returns-then-not-has_backup-clause-refused
 returns-then-not-has_backup-clause-refused c =
-    backup_first c.args.bytes.now (λ s. let t = c.is_short.ensures.1 s in let f = c.if-is_short.false in absurd cc)
-    (λ s. let t = ap (λ n. is_set n ED) c.in-Some.ensures.flags ∙ s in let f = c.if-is_set.ensures in absurd cc)
-    (λ h. let t = c.has_backup.ensures.1 (subst HasBackup (sym c.in-Some.ensures.flags) h) in search rules)
+    let p = c.args.profile in let bs = c.args.bytes.now in let s = c.in-Some in
+    backup_first p bs (out (c.is_short.ensures p) c.if-is_short.false)
+    (λ x. out c.bars_extensions.ensures c.if-bars_extensions.false (x.0, ap (λ n. is_set n ED) s.ensures.flags ∙ x.1))
+    (λ h. let t = c.has_backup.ensures.1 (subst HasBackup (sym s.ensures.flags) h) in search rules)
+
+pub returns-then-not-has_backup-clause-none : goal.returns-then-not-has_backup-clause-none
+returns-then-not-has_backup-clause-none c = λ a h. not_refused c.args.profile a c.args.bytes.now _ (returns-then-not-has_backup-clause-refused c) h
+
+pub attested_at-requires : goal.attested_at-requires
+attested_at-requires c = out (c.is_short.ensures c.args.profile) c.if-is_short.false
 
 pub returns-in-Err-clause-refused : goal.returns-in-Err-clause-refused
 returns-in-Err-clause-refused c =
-    lifted c.args.bytes.now _ (λ s. let t = c.is_short.ensures.1 s in let f = c.if-is_short.false in absurd cc)
-    (λ s. let t = ap (λ n. is_set n ED) c.in-Some.ensures.flags ∙ s in let f = c.if-is_set.ensures in absurd cc)
+    let p = c.args.profile in let bs = c.args.bytes.now in let s = c.in-Some in
+    lifted p bs _ (out (c.is_short.ensures p) c.if-is_short.false)
+    (λ x. out c.bars_extensions.ensures c.if-bars_extensions.false (x.0, ap (λ n. is_set n ED) s.ensures.flags ∙ x.1))
     (λ b. b (search rules)) c.in-Err.ensures.refused
+
+pub returns-in-Err-clause-none : goal.returns-in-Err-clause-none
+returns-in-Err-clause-none c = λ a h. not_refused c.args.profile a c.args.bytes.now _ (returns-in-Err-clause-refused c) h
+
+pub returns-in_default-extensions_at-clause-refused : goal.returns-in_default-extensions_at-clause-refused
+returns-in_default-extensions_at-clause-refused c =
+    let p = c.args.profile in let bs = c.args.bytes.now in let s = c.in-Some in let k = c.in-Ok in
+    let w : WasRead p bs s.hash.now s.flags s.sign_count k.attested k.rest.now = record {
+      hash_length = s.ensures.hash;
+      flags_low = search rules;
+      count_low = search rules;
+      flags_same = s.ensures.flags;
+      at = k.ensures.flag;
+      backup = search rules;
+      attested = k.ensures.is;
+      behind = s.field-0-3.now;
+      parts = s.ensures.parts;
+      credential = s.ensures.rest ∙ k.ensures.found;
+    } in
+    let none = c.in_default-extensions_at.ensures.none refl in
+    no_map_first p bs (out (c.is_short.ensures p) c.if-is_short.false)
+    (λ x. out c.bars_extensions.ensures c.if-bars_extensions.false (x.0, ap (λ n. is_set n ED) s.ensures.flags ∙ x.1))
+    (λ b. b (subst HasBackup s.ensures.flags w.backup)) k.ensures.good_id k.ensures.good_key (no_map_applies w none.0 none.1)
+
+pub returns-in_default-extensions_at-clause-none : goal.returns-in_default-extensions_at-clause-none
+returns-in_default-extensions_at-clause-none c =
+    λ a h. not_refused c.args.profile a c.args.bytes.now _ (returns-in_default-extensions_at-clause-refused c) h
 
 pub returns-then-rest-gt0-clause-refused : goal.returns-then-rest-gt0-clause-refused
 returns-then-rest-gt0-clause-refused c =
-    let bs = c.args.bytes.now in
-    let k = c.in-Ok.ensures in
-    let len : length c.in-Some.hash.now ≡ 32 = c.in-Some.ensures.hash in
-    let count : c.in-Some.sign_count < 2 ^ 32 = search rules in
-    let flags : c.in-Some.flags < 256 = search rules in
-    let backup : HasBackup c.in-Some.flags = search rules in
-    let is : IsAuthenticatorData (auth_from c.in-Some.hash.now c.in-Some.flags c.in-Some.sign_count (option_map lent_attested_view c.in-Ok.attested)) =
-    auth_is bs c.in-Some.hash.now c.in-Some.flags c.in-Some.sign_count c.in-Ok.attested len flags count c.in-Some.ensures.flags k.flag
-    (sym c.if-is_set.ensures) backup k.is in
-    let some : 0 < length c.in-Ok.rest.now = omega arith in
-    extra_first bs (λ s. let t = c.is_short.ensures.1 s in let f = c.if-is_short.false in absurd cc)
-    (λ s. let t = ap (λ n. is_set n ED) c.in-Some.ensures.flags ∙ s in let f = c.if-is_set.ensures in absurd cc)
-    (λ b. b (subst HasBackup c.in-Some.ensures.flags backup)) k.good_id k.good_key
-    (extra_applies bs c.in-Some.field-0-3.now c.in-Ok.rest.now _ is c.in-Some.ensures.parts c.in-Some.ensures.rest k.found some)
-
-pub returns-then-is_short-clause-none : goal.returns-then-is_short-clause-none
-returns-then-is_short-clause-none c = λ a h. not_refused a c.args.bytes.now _ (returns-then-is_short-clause-refused c) h
+    let p = c.args.profile in let bs = c.args.bytes.now in let s = c.in-Some in let k = c.in-Ok in let x = c.in-Some-extensions_at in
+    let w : WasRead p bs s.hash.now s.flags s.sign_count k.attested k.rest.now = record {
+      hash_length = s.ensures.hash;
+      flags_low = search rules;
+      count_low = search rules;
+      flags_same = s.ensures.flags;
+      at = k.ensures.flag;
+      backup = search rules;
+      attested = k.ensures.is;
+      behind = s.field-0-3.now;
+      parts = s.ensures.parts;
+      credential = s.ensures.rest ∙ k.ensures.found;
+    } in
+    let is = auth_is (option_map (λ b. b.now) x.extensions) w (x.ensures.flag ∙ sym (is_some-map (λ b. b.now) x.extensions)) (out c.bars_extensions.ensures c.if-bars_extensions.false) x.ensures.is in
+    let some : 0 < length x.rest.now = omega arith in
+    let extra = extra_applies (option_map (λ b. b.now) x.extensions) x.rest.now w is x.ensures.found some in
+    extra_first p bs (out (c.is_short.ensures p) c.if-is_short.false)
+    (λ e. out c.bars_extensions.ensures c.if-bars_extensions.false (e.0, ap (λ n. is_set n ED) s.ensures.flags ∙ e.1))
+    (λ b. b (subst HasBackup s.ensures.flags w.backup)) k.ensures.good_id k.ensures.good_key
+    (λ m. m.1 _ _ x.rest.now (is, refl) (parts_join (option_map (λ b. b.now) x.extensions) x.rest.now w x.ensures.found)) extra
 
 pub returns-then-rest-gt0-clause-none : goal.returns-then-rest-gt0-clause-none
-returns-then-rest-gt0-clause-none c = λ a h. not_refused a c.args.bytes.now _ (returns-then-rest-gt0-clause-refused c) h
+returns-then-rest-gt0-clause-none c = λ a h. not_refused c.args.profile a c.args.bytes.now _ (returns-then-rest-gt0-clause-refused c) h
 
-pub returns-in-Err-clause-none : goal.returns-in-Err-clause-none
-returns-in-Err-clause-none c = λ a h. not_refused a c.args.bytes.now _ (returns-in-Err-clause-refused c) h
+pub returns-clause-found : goal.returns-clause-found
+returns-clause-found c =
+    let p = c.args.profile in let bs = c.args.bytes.now in let s = c.in-Some in let k = c.in-Ok in let x = c.in-Some-extensions_at in
+    let w : WasRead p bs s.hash.now s.flags s.sign_count k.attested k.rest.now = record {
+      hash_length = s.ensures.hash;
+      flags_low = search rules;
+      count_low = search rules;
+      flags_same = s.ensures.flags;
+      at = k.ensures.flag;
+      backup = search rules;
+      attested = k.ensures.is;
+      behind = s.field-0-3.now;
+      parts = s.ensures.parts;
+      credential = s.ensures.rest ∙ k.ensures.found;
+    } in
+    let is = auth_is (option_map (λ b. b.now) x.extensions) w (x.ensures.flag ∙ sym (is_some-map (λ b. b.now) x.extensions)) (out c.bars_extensions.ensures c.if-bars_extensions.false) x.ensures.is in
+    (is, parts_whole (option_map (λ b. b.now) x.extensions) x.rest.now w x.ensures.found (λ some. omega (arith, some)))

@@ -29,7 +29,7 @@ returns-in-Ok-finish_registration_parts-clause-accepted g c =
       c.in-Ok.ensures.found.spelled,
       subst (λ (r : responses.AuthenticatorAttestationResponse). PassesRegistration (g.V.Verifier.valid c.args.verifier.now)
           (judged_registration s c.args.session r)) e k.accepted.0,
-      subst (λ (r : responses.AuthenticatorAttestationResponse). IsRegistered r c.in-Ok-finish_registration_parts.registered) e k.accepted.1,
+      subst (λ (r : responses.AuthenticatorAttestationResponse). IsRegistered c.args.site.now r c.in-Ok-finish_registration_parts.registered) e k.accepted.1,
       subst (λ (r : responses.AuthenticatorAttestationResponse). IsAfterRegistration s c.args.session r c.finish_registration_parts.new.self) e k.after,
     )
 

@@ -25,7 +25,7 @@ returns g c =
     let x = ceremony.registration valid s session t in
     let r = c.finish_registration.result in
     record {
-      accepted = accepts_more x (λ (a : Enrolled). a.used) (λ q a. IsRegistered (response q t) (record { credential = a.credential })) c.args.cid k ps r
+      accepted = accepts_more x (λ (a : Enrolled). a.used) (λ q a. IsRegistered c.args.site.now (response q t) (record { credential = a.credential })) c.args.cid k ps r
           (subst (λ (i : ℕ). IfOk r (AcceptsRegistration valid s session t i (take k ps))) channel (c.finish_registration.ensures.accepted (take k ps) got));
       complete = λ n q succeeds. c.finish_registration.ensures.complete (take k ps) n q got
           (subst (λ (i : ℕ). Succeeds x i (take k ps) n q) (sym channel) (succeeds_less x c.args.cid k ps n q enough succeeds));

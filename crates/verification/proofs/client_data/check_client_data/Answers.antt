@@ -16,8 +16,8 @@ returns-then-not-is_challenge_text-clause-refused c = first_at 2 refl (search ru
 pub returns-then-not-has_origin-clause-refused : goal.returns-then-not-has_origin-clause-refused
 returns-then-not-has_origin-clause-refused c = first_at 3 refl (search rules) (search rules)
 
-pub returns-in-Other-clause-refused : goal.returns-in-Other-clause-refused
-returns-in-Other-clause-refused c = first_at 4 refl (search rules) (search rules)
+pub returns-then-not-has_no_binding-clause-refused : goal.returns-then-not-has_no_binding-clause-refused
+returns-then-not-has_no_binding-clause-refused c = first_at 4 refl (search rules) (search rules)
 
 pub returns-then-expects-clause-passes : goal.returns-then-expects-clause-passes
 returns-then-expects-clause-passes c = expected_says c.args.kind c.args.challenge.now c.args.bytes.now c.args.party.now (c.expects.ensures.0 c.if-expects.true)

@@ -1,0 +1,41 @@
+//! What a relying party takes of authenticator data.
+
+ghost use Rattle.std.specs.Prelude.{◌≡◌, ◌↔◌, IsTrue, true};
+ghost use Rattle.authdata.specs.Flags.{is_set, ED};
+ghost use Rattle.authdata.specs.Profiles.{max_id};
+ghost use Rattle.authdata.specs.declared.profile.Profile.TheVariants.{Strict};
+
+use crate::flags;
+
+/// Which responses a relying party takes. Of the steps that it verifies none differs.
+#[derive(Clone, Copy, Debug, PartialEq, Eq, Drop)]
+pub enum Profile {
+    /// No extension data, credential ids of 1 to 64 bytes, no token binding but `supported`.
+    Strict,
+    /// What real keys and browsers send besides: extension data, which are not looked at (WebAuthn Level 2, sections
+    /// 7.1, step 18, and 7.2, step 18), credential ids of 1 to 1,023 bytes (section 6.1), and the status
+    /// `not-supported` of token binding, which older browsers write.
+    Open,
+}
+
+impl Profile {
+    /// The most bytes of a credential id.
+    pub fn max_id(self) -> usize
+        ensures { result ≡ max_id self }
+    {
+        match self {
+            Profile::Strict => 64,
+            Profile::Open => 1023,
+        }
+    }
+
+    /// Whether it has no extension data, and the flags say that there are any.
+    pub(crate) fn bars_extensions(self, flags: u8) -> bool
+        ensures { IsTrue result ↔ ((self ≡ Strict) × (is_set flags ED ≡ true)) }
+    {
+        match self {
+            Profile::Strict => flags::is_set(flags, flags::ED),
+            Profile::Open => false,
+        }
+    }
+}
