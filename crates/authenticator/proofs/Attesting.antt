@@ -1,6 +1,6 @@
 -- Attestations of new credentials.
-use Rattle.std.proofs.Common.{◌≡◌, ◌≤◌, ◌++◌, ℕ, List, [], ◌∷◌, length, refl, sym, subst, arith}
-use Rattle.std.specs.Prelude.{codes}
+use Rattle.std.proofs.Common.{◌≡◌, ◌≤◌, ◌++◌, ℕ, List, [], ◌∷◌, length, refl, sym, subst, arith, Vec, Global}
+use Rattle.std.specs.Prelude.{Result, Ok, Err, IfOk, codes}
 use Rattle.cose.specs.Keys.{alg_of, encoded_length}
 use Rattle.cose.specs.Schemes.{Validity}
 use Rattle.cose.specs.declared.key.CoseKey.{CoseKey}
@@ -36,3 +36,8 @@ pub creation_length : (a : AuthenticatorState) (q : CreationRequest) (id : List 
 creation_length a q id key bs h l =
     let exact = length-exact (creation_data a q id key) (record { aaguid = a.aaguid; id = id; key = key }) bs h refl in
     omega (arith, exact, at_most_77 key, l)
+
+pub creation_size : {E : Type 0} (a : AuthenticatorState) (q : CreationRequest) (id : List ℕ) (key : CoseKey) (r : Result (Vec ℕ Global) E)
+    → length id ≡ 32 → IfOk r (λ v. AuthOf (creation_data a q id key) v.items) → IfOk r (λ v. length v.items ≤ 164)
+creation_size a q id key (Ok v) l h = creation_length a q id key v.items h l
+creation_size a q id key (Err e) l h = tt

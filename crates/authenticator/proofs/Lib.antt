@@ -4,6 +4,8 @@ pub mod Replies
 pub mod Attesting
 pub mod Refusing
 pub mod Asked
+pub mod Wider
+pub mod Waiting
 pub mod Calls
 pub mod Stored
 pub mod Soundness

@@ -1,7 +1,7 @@
 -- Orders of refusals, line by line; and what a refusal comes to.
-use Rattle.std.proofs.Common.{◌≡◌, ◌<◌, ◌+◌, ◌++◌, ℕ, List, [], ◌∷◌, Bool, true, false, not, ◌&&◌, ◌||◌, Option, Some, None, Vec, Global, refl, sym}
+use Rattle.std.proofs.Common.{◌≡◌, ◌<◌, ◌+◌, ◌++◌, ℕ, List, [], ◌∷◌, Bool, true, false, not, ◌&&◌, ◌||◌, Option, Some, None, refl, sym}
 use Rattle.std.proofs.Common.{ap, ◌∙◌, subst, arith, rules}
-use Rattle.std.specs.Prelude.{Result, Ok, Err, IfOk, OnOk}
+use Rattle.std.specs.Prelude.{Result, Ok, Err, IfOk}
 use Rattle.std.proofs.lemmas.Grind.{common_steps}
 use Rattle.refusal_order.specs.Lines.{first_true}
 use Rattle.ctap_requests.specs.Requests.{AssertionRequest, CreationRequest}
@@ -14,9 +14,11 @@ use Rattle.authenticator.specs.State.{Asked, CredentialSource, Remembered, Authe
 use Rattle.authenticator.specs.Credentials.{credential_of, with_sign_count}
 use Rattle.authenticator.specs.Orders.{assertion_flags, assertion_order, candidates, first_is_at_end, first_supported, is_at_end, is_empty, is_false}
 use Rattle.authenticator.specs.Orders.{is_true, kept, next_order, remembered_on}
-use Rattle.authenticator.specs.Private.{Comes, FirstHappens, AssertionHappens, IsAttested, Shows, consent_order}
-use Rattle.authenticator.specs.Steps.{AnswersWith, Creates, Entry, FirstAnswers, IsAssertion, IsSignature, Keys, Outcome, Unless, asked_by}
-use Rattle.authenticator.specs.Steps.{assertion, assertion_data, creation_data, key_of, new_credential, refusal, remembering, shown_user}
+use Rattle.authenticator.specs.Private.{FirstBegins, AssertionBegins, IsAttested, consent_order}
+use Rattle.authenticator.specs.Signing.{BeginsBy}
+use Rattle.authenticator.specs.declared.pending.Begun.{Begun}
+use Rattle.authenticator.specs.Steps.{AnswersWith, Comes, Creates, Entry, FirstAnswers, IsAssertion, Keys, Outcome, Unless, asked_by}
+use Rattle.authenticator.specs.Steps.{assertion, creation_data, key_of, new_credential, refusal, remembering}
 use Rattle.authenticator.specs.declared.consent.Consent.{Consent}
 use Rattle.authenticator.specs.declared.consent.Words.{Words}
 
@@ -44,11 +46,6 @@ refused old new status reply o X due r n =
     let same : out ≡ refusal old status = cc in
     ([], [], subst (λ (p : Option ℕ). Unless p old out (X out)) (sym due) same)
 
-pub refuses : {E : Type 0} (old new : AuthenticatorState) (status : ℕ) (o : Option ℕ) (X : Outcome → Type 0) (r : Result (Vec ℕ Global) E) → o ≡ Some status
-    → IfOk r (λ v. v.items ≡ status ∷ []) → OnOk r (new ≡ forgotten old) → IfOk r (λ v. Comes (λ out. Unless o old out (X out)) v.items new)
-refuses old new status o X (Ok v) due is forgets = refused old new status v.items o X due is forgets
-refuses old new status o X (Err e) due is forgets = tt
-
 -- no refusal is due
 pub allowed : (old new : AuthenticatorState) (reply : List ℕ) (o : Option ℕ) (X : Outcome → Type 0) → o ≡ None → Comes X reply new
     → Comes (λ out. Unless o old out (X out)) reply new
@@ -67,16 +64,6 @@ answered valid public old new c id asked later message count r reply found is sp
     let entry : Entry = record { key = key_of public c; message = r.auth_data ++ asked.client_data_hash; purpose = assertion; consent = asked.consent } in
     (entry ∷ [], [], record { credential = c; found = found; shown = r; asserts = is; reply = spelled; state = state; signed = refl; made = refl })
 
--- what is shown of a credential, and its bytes
-pub shows : {E : Type 0} (valid : Validity) (public : Keys) (c : CredentialSource) (asked : Asked) (message : Assertion → ReplyMessage) (count : Option ℕ)
-    (q : Assertion) (auth_data signature : List ℕ) (r : Result (Vec ℕ Global) E)
-    → AuthOf Strict (assertion_data c asked) auth_data → IsSignature valid (key_of public c) (auth_data ++ asked.client_data_hash) signature
-    → q.credential ≡ c.id → q.auth_data ≡ auth_data → q.signature ≡ signature → q.user ≡ shown_user c → q.number ≡ count
-    → IfOk r (λ v. ReplyOf (message q) v.items) → IfOk r (λ v. Shows valid public c asked message count v.items)
-shows valid public c asked message count q auth_data signature (Ok v) spelled signs id a s user number h =
-    record { shown = q; asserts = record { spelled = rw a spelled; signs = rw (a, s) signs; credential = id; user = user; number = number }; reply = h }
-shows valid public c asked message count q auth_data signature (Err e) spelled signs id a s user number h = tt
-
 pub not_at_end : (id : List ℕ) (cs : List CredentialSource) (c : CredentialSource) → credential_of id cs ≡ Some c → c.sign_count < 4294967295
     → is_at_end (credential_of id cs) ≡ false
 not_at_end id cs c found lt = search (rules, found, lt)
@@ -92,12 +79,6 @@ created valid public old new q consent words alg r reply chosen spelled attested
   public alg words.secret ∷ [],
   record { alg = alg; chosen = chosen; shown = r; spelled = spelled; attested = attested.1; reply = bytes; state = state; made = refl },
 )
-
--- what signs and makes nothing
-pub alone : {E : Type 0} (P : Outcome → Type 0) (new : AuthenticatorState) (r : Result (Vec ℕ Global) E)
-    → IfOk r (λ v. P (record { reply = v.items; state = new; signed = []; made = [] })) → IfOk r (λ v. Comes P v.items new)
-alone P new (Ok v) h = ([], [], h)
-alone P new (Err e) h = tt
 
 -- ---- getAssertion
 
@@ -128,18 +109,19 @@ end_due a q consent id ids e some =
     ap (λ ids. first_true (others a ids)) some
     ∙ sym (two_none (unmet a q) (denied q consent) 0x2C 0x27 (others a (candidates a.credentials q.rp_id q.allow_list)) e)
 
-pub first_happens : {E : Type 0} (valid : Validity) (public : Keys) (old new : AuthenticatorState) (channel : ℕ) (consent : Consent) (q : AssertionRequest)
-    (id : List ℕ) (ids : List (List ℕ)) (asked : Asked) (r : Result (Vec ℕ Global) E)
+pub first_begins : {E : Type 0} (public : Keys) (old new : AuthenticatorState) (channel : ℕ) (consent : Consent) (q : AssertionRequest)
+    (id : List ℕ) (ids : List (List ℕ)) (asked : Asked) (r : Result Begun E)
     → first_true (consent_order old q consent) ≡ None → id ∷ ids ≡ candidates old.credentials q.rp_id q.allow_list → asked ≡ asked_by channel q consent
-    → IfOk r (λ v. FirstHappens valid public old (id ∷ ids) asked v.items new) → IfOk r (λ v. AssertionHappens valid public old channel q consent v.items new)
-first_happens valid public old new channel consent q id ids asked (Ok v) none some is h =
-    let P : Option ℕ → List (List ℕ) → Asked → Type 0 = λ o l a. Comes (λ out. Unless o old out (FirstAnswers valid public old l a out)) v.items new in
+    → IfOk r (λ b. FirstBegins public old (id ∷ ids) asked b new) → IfOk r (λ b. AssertionBegins public old channel q consent b new)
+first_begins public old new channel consent q id ids asked (Ok b) none some is h =
+    let P : Option ℕ → List (List ℕ) → Asked → Type 0 =
+    λ o l a. BeginsBy (λ valid out. Unless o old out (FirstAnswers valid public old l a out)) public old b new in
     let one : P (first_true (assertion_order old q consent)) (id ∷ ids) asked =
     subst (λ (o : Option ℕ). P o (id ∷ ids) asked) (end_due old q consent id ids none some) h in
     let two : P (first_true (assertion_order old q consent)) (candidates old.credentials q.rp_id q.allow_list) asked =
     subst (λ (l : List (List ℕ)). P (first_true (assertion_order old q consent)) l asked) some one in
     subst (λ (a : Asked). P (first_true (assertion_order old q consent)) (candidates old.credentials q.rp_id q.allow_list) a) is two
-first_happens valid public old new channel consent q id ids asked (Err e) none some is h = tt
+first_begins public old new channel consent q id ids asked (Err e) none some is h = tt
 
 -- ---- getNextAssertion
 

@@ -9,18 +9,15 @@ use Rattle.ctap_replies.proofs.Texts.{plain}
 use Rattle.ccbor.specs.Item as of
 use Rattle.ccbor.specs.Item.{Item, Items, Pairs, no_items, item, no_pairs, pair}
 use Rattle.ccbor.specs.Canon.{head, before, spelling, spelling_of_items, spelling_of_pairs, count_of_items, count_of_pairs, Fits}
-use Rattle.cose.specs.Keys.{alg_of, alg_item}
-use Rattle.cose.specs.declared.key.CoseKey.{CoseKey}
-use Rattle.cose.specs.Schemes.{Validity}
-use Rattle.authdata.specs.Statements.{packed_statement}
-use Rattle.authdata.specs.declared.statement.AttestationType.{AttestationType}
-use Rattle.authdata.specs.declared.statement.AttestationType.TheVariants as types
+use Rattle.cose.specs.Keys.{alg_item}
+use Rattle.cose.specs.declared.key.Alg.{Alg}
+use Rattle.cose.specs.declared.key.Alg.TheVariants as algs
+use Rattle.authdata.specs.Statements.{none_statement, packed_statement}
 use Rattle.cbor_map.specs.Table.{gravest, record_of}
 use Rattle.ctap_replies.specs.Replies.{Creation, Assertion, Info, ReplyMessage, ReplyOf, creation_reply, assertion_reply, info_reply}
 use Rattle.ctap_replies.specs.Replies.{creation_reply_item, creation_reply_members, assertion_reply_item, info_item}
 use Rattle.authenticator.specs.Private.{IsMessage, FitsReply, IsUser}
-use Rattle.authenticator.specs.Steps.{MakesStatement, Entry, info_of}
-use Rattle.authenticator.specs.declared.consent.Consent.{Consent}
+use Rattle.authenticator.specs.Steps.{info_of}
 
 -- ---- at most so many bytes
 
@@ -99,27 +96,28 @@ creation_with r ps e s u f a le =
     message (creation_reply r) (creation_reply_item r) (spelling (creation_reply_item r), refl, (creation_fits r ps e s u f a, refl), creation_clean r ps e)
     (omega arith)
 
-packed_fits : (key : CoseKey) (signature : List ℕ) → length signature ≤ 128 → Fits 3 (packed_statement (alg_of key) signature)
+packed_fits : (alg : Alg) (signature : List ℕ) → length signature ≤ 128 → Fits 3 (packed_statement alg signature)
 unfolding head before
-packed_fits key signature le = search (rules, arith, le, plain)
+packed_fits algs.Es256 signature le = search (rules, arith, le, plain)
+packed_fits algs.EdDsa signature le = search (rules, arith, le, plain)
 
 named : (fmt : List ℕ) (name : List ℕ) → fmt ≡ name → IsUtf8 name → IsUtf8 fmt
 named fmt name e u = subst IsUtf8 (sym e) u
 
-pub creation_message : (valid : Validity) (key : CoseKey) (client_data_hash : List ℕ) (consent : Consent) (attest : AttestationType) (r : Creation)
-    (signed : List Entry)
-    → MakesStatement valid key client_data_hash consent attest r signed → length r.auth_data ≤ 164 → IsMessage (creation_reply r)
-creation_message valid key client_data_hash consent types.None r signed h a =
-    creation_with r no_pairs h.1 (omega arith, tt) (named r.fmt (codes "none") h.0 (plain (codes "none") refl))
-    (let l : length r.fmt ≡ 4 = ap length h.0 in omega arith) a (let l : cost r.statement ≡ 9 = ap cost h.1 in omega arith)
-creation_message valid key client_data_hash consent types.SelfSigned r signed h a =
-    let signature = h.1.0 in
-    let le : length signature ≤ 128 = h.1.1.1 in
-    let l : cost r.statement ≡ 9 + (12 + (9 + (12 + (9 + length signature)))) = ap cost h.1.2 ∙ omega arith in
-    creation_with r (pair (of.text (codes "alg")) (alg_item (alg_of key)) (pair (of.text (codes "sig")) (of.bytes signature) no_pairs)) h.1.2
-    (packed_fits key signature le)
-    (named r.fmt (codes "packed") h.0 (plain (codes "packed") refl))
-    (let m : length r.fmt ≡ 6 = ap length h.0 in omega arith) a (omega arith)
+pub plain_message : (r : Creation) → r.fmt ≡ codes "none" → r.statement ≡ none_statement → length r.auth_data ≤ 164 → IsMessage (creation_reply r)
+plain_message r f s a =
+    creation_with r no_pairs s (omega arith, tt) (named r.fmt (codes "none") f (plain (codes "none") refl))
+    (let l : length r.fmt ≡ 4 = ap length f in omega arith) a (let l : cost r.statement ≡ 9 = ap cost s in omega arith)
+
+pub packed_message : (r : Creation) (alg : Alg) (signature : List ℕ) → r.fmt ≡ codes "packed" → r.statement ≡ packed_statement alg signature
+    → length signature ≤ 128 → length r.auth_data ≤ 164
+    → IsMessage (creation_reply r)
+packed_message r alg signature f s le a =
+    let l : cost r.statement ≡ 9 + (12 + (9 + (12 + (9 + length signature)))) = ap cost s ∙ omega arith in
+    creation_with r (pair (of.text (codes "alg")) (alg_item alg) (pair (of.text (codes "sig")) (of.bytes signature) no_pairs)) s
+    (packed_fits alg signature le)
+    (named r.fmt (codes "packed") f (plain (codes "packed") refl))
+    (let m : length r.fmt ≡ 6 = ap length f in omega arith) a (omega arith)
 
 -- ---- getAssertion and getNextAssertion
 

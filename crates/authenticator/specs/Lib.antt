@@ -5,3 +5,5 @@ pub mod Steps
 pub mod Private
 pub mod Views
 pub mod Laws
+pub mod Handed
+pub mod Signing

@@ -15,10 +15,12 @@ use Rattle.authenticator.specs.Credentials.{credential_of}
 use Rattle.authenticator.specs.State.{Asked, CredentialSource, AuthenticatorState}
 use Rattle.authenticator.specs.Orders.{assertion_flags, creation_flags, assertion_order, candidates, creation_order, first_is_at_end, is_false}
 use Rattle.authenticator.specs.Orders.{is_stored_for, is_true, first_supported, kept, next_order, remembered_on}
-use Rattle.authenticator.specs.Steps.{MakesStatement, CarriesOut, Creates, Entry, FirstAnswers, IsAssertion, Keys, NextAnswers, Outcome, Unless, asked_by}
+use Rattle.authenticator.specs.Steps.{MakesStatement, CarriesOut, Creates, Entry, FirstAnswers, Keys, NextAnswers, Unless, asked_by}
+use Rattle.authenticator.specs.Signing.{BeginsBy}
 use Rattle.authenticator.specs.declared.consent.Consent.{Consent}
 use Rattle.authenticator.specs.declared.consent.Words.{Words}
 use Rattle.authenticator.specs.declared.make_credential.Choice.{Choice}
+use Rattle.authenticator.specs.declared.pending.Begun.{Begun}
 
 -- the reply has bytes, at most 7,609
 pub record IsMessage (r : ReplyMessage) : Type 0 where
@@ -41,13 +43,6 @@ pub record FitsReply (r : Assertion) : Type 0 where
   pub signature : length r.signature ≤ 128
   pub user : IfSome r.user IsUser
   pub number : IfSome r.number IsCount
-
--- the bytes of a reply that shows a credential's next assertion
-pub record Shows (valid : Validity) (public : Keys) (c : CredentialSource) (asked : Asked) (message : Assertion → ReplyMessage) (count : Option ℕ)
-    (bytes : List ℕ) : Type 0 where
-  pub shown : Assertion
-  pub asserts : IsAssertion valid public c asked count shown
-  pub reply : ReplyOf (message shown) bytes
 
 -- with some signing or none
 abbrev pub IsAttested : Validity → CoseKey → List ℕ → Consent → AttestationType → Creation → Type 0
@@ -90,16 +85,10 @@ IsChoice a q consent words (Ok choice) =
     × Overwrites a.credentials q choice.overwritten
 IsChoice a q consent words (Err status) = first_true (creation_order a q consent words) ≡ Some status
 
--- some outcome with this reply and state
-abbrev pub Comes : (Outcome → Type 0) → List ℕ → AuthenticatorState → Type 0
-Comes P reply new =
-    (signed : List Entry) × (made : List CoseKey)
-    × P (record { reply = reply; state = new; signed = signed; made = made })
-
--- a request that was read has this reply and state
-abbrev pub Happens : Validity → Keys → AuthenticatorState → ℕ → Consent → Words → RequestMessage → List ℕ → AuthenticatorState → Type 0
-Happens valid public old channel consent words q reply new =
-    Comes (CarriesOut valid public old channel consent words q) reply new
+-- a request that was read begins
+abbrev pub RequestBegins : Keys → AuthenticatorState → ℕ → Consent → Words → RequestMessage → Begun → AuthenticatorState → Type 0
+RequestBegins public old channel consent words q b new =
+    BeginsBy (λ valid out. CarriesOut valid public old channel consent words q out) public old b new
 
 abbrev pub HasUser : RequestMessage → Type 0
 HasUser (make_credential q) = IsUser q.user.id
@@ -119,23 +108,27 @@ IsGranted a q consent (Ok options) =
     (first_true (consent_order a q consent) ≡ None) × (assertion_options_view options ≡ assertion_flags q.options)
 IsGranted a q consent (Err status) = first_true (consent_order a q consent) ≡ Some status
 
--- the first of the candidates has answered, or its counter is at its end
-abbrev pub FirstHappens : Validity → Keys → AuthenticatorState → List (List ℕ) → Asked → List ℕ → AuthenticatorState → Type 0
-FirstHappens valid public old ids asked reply new =
-    Comes (λ out. Unless (first_true ((first_is_at_end old.credentials ids, 0x7F) ∷ [])) old out (FirstAnswers valid public old ids asked out)) reply new
+-- the first of the candidates is to answer, or its counter is at its end
+abbrev pub FirstBegins : Keys → AuthenticatorState → List (List ℕ) → Asked → Begun → AuthenticatorState → Type 0
+FirstBegins public old ids asked b new =
+    BeginsBy (λ valid out. Unless (first_true ((first_is_at_end old.credentials ids, 0x7F) ∷ [])) old out (FirstAnswers valid public old ids asked out))
+    public old b new
 
 -- a makeCredential
-abbrev pub CreationHappens : Validity → Keys → AuthenticatorState → CreationRequest → Consent → Words → List ℕ → AuthenticatorState → Type 0
-CreationHappens valid public old q consent words reply new =
-    Comes (λ out. Unless (first_true (creation_order old q consent words)) old out (Creates valid public old q consent words out)) reply new
+abbrev pub CreationBegins : Keys → AuthenticatorState → CreationRequest → Consent → Words → Begun → AuthenticatorState → Type 0
+CreationBegins public old q consent words b new =
+    BeginsBy (λ valid out. Unless (first_true (creation_order old q consent words)) old out (Creates valid public old q consent words out))
+    public old b new
 
 -- a getAssertion
-abbrev pub AssertionHappens : Validity → Keys → AuthenticatorState → ℕ → AssertionRequest → Consent → List ℕ → AuthenticatorState → Type 0
-AssertionHappens valid public old channel q consent reply new =
-    Comes (λ out. Unless (first_true (assertion_order old q consent)) old out
-    (FirstAnswers valid public old (candidates old.credentials q.rp_id q.allow_list) (asked_by channel q consent) out)) reply new
+abbrev pub AssertionBegins : Keys → AuthenticatorState → ℕ → AssertionRequest → Consent → Begun → AuthenticatorState → Type 0
+AssertionBegins public old channel q consent b new =
+    BeginsBy (λ valid out. Unless (first_true (assertion_order old q consent)) old out
+    (FirstAnswers valid public old (candidates old.credentials q.rp_id q.allow_list) (asked_by channel q consent) out))
+    public old b new
 
 -- a getNextAssertion
-abbrev pub NextHappens : Validity → Keys → AuthenticatorState → ℕ → List ℕ → AuthenticatorState → Type 0
-NextHappens valid public old channel reply new =
-    Comes (λ out. Unless (first_true (next_order old channel)) old out (NextAnswers valid public old (remembered_on channel old.remembered) out)) reply new
+abbrev pub NextBegins : Keys → AuthenticatorState → ℕ → Begun → AuthenticatorState → Type 0
+NextBegins public old channel b new =
+    BeginsBy (λ valid out. Unless (first_true (next_order old channel)) old out (NextAnswers valid public old (remembered_on channel old.remembered) out))
+    public old b new

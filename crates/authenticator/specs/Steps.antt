@@ -239,6 +239,12 @@ Step valid public old channel bs consent words out =
     ((rank : Rank) × First (Applies bs) ranks rank × (out ≡ refusal old (status_of rank)))
     ⊎ ((q : RequestMessage) × IsRequest q bs × CarriesOut valid public old channel consent words q out)
 
+-- some outcome with this reply and state
+abbrev pub Comes : (Outcome → Type 0) → List ℕ → AuthenticatorState → Type 0
+Comes P reply new =
+    (signed : List Entry) × (made : List CoseKey)
+    × P (record { reply = reply; state = new; signed = signed; made = made })
+
 -- some step of the code: its reply and the state afterwards, with what is signed and made
 abbrev pub Steps : Validity → Keys → AuthenticatorState → ℕ → List ℕ → Consent → Words → List ℕ → AuthenticatorState → Type 0
 Steps valid public old channel bs consent words reply new =

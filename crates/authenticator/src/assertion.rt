@@ -1,22 +1,18 @@
 //! Assertions (WebAuthn Level 2, section 6.3.3).
 
-ghost use Rattle.std.specs.Prelude.{◌≡◌, ◌<◌, ◌≤◌, ◌+◌, IfOk, IfSome, None, false, length, option_map};
+ghost use Rattle.std.specs.Prelude.{◌≡◌, ◌<◌, ◌≤◌, ◌+◌, IfOk, IfSome, false, length, option_map};
 ghost use Rattle.authdata.specs.Flags as bits;
 ghost use Rattle.authdata.specs.declared.profile.Profile.TheVariants.{Strict};
 ghost use Rattle.authdata.specs.Layout.{AuthOf};
-ghost use Rattle.ctap_replies.specs.Replies.{assertion_reply, next_reply};
 ghost use Rattle.ctap_replies.specs.ReplyView.{lent_assertion_view};
-ghost use Rattle.authenticator.specs.Private.{FitsReply, IsCount, Shows};
+ghost use Rattle.authenticator.specs.Private.{FitsReply, IsCount};
 ghost use Rattle.authenticator.specs.Steps.{assertion_data, shown_user, up_bit, uv_bit};
 ghost use Rattle.authenticator.specs.Views.{asked_view, credential_source_view};
 
 use crate::credential::StoredCredential;
 use crate::remembered::AskedAssertion;
-use crate::reply::written_assertion;
-use crate::signing::signature;
 use authdata::AuthData;
 use authdata::flags::{UP, UV};
-use cose::Signer;
 use ctap_replies::AssertionView;
 use sha2::{Digest, Sha256};
 use std::alloc::{AllocError, Global};
@@ -36,13 +32,14 @@ fn flags(up: bool, uv: bool) -> u8
 }
 
 /// The bytes of the authenticator data of a credential's next assertion.
-fn auth_data(
+pub(crate) fn auth_data(
     alloc: Global,
     credential: &StoredCredential,
     asked: &AskedAssertion,
 ) -> Result<Vec<u8>, AllocError>
     requires { credential.now.sign_count < 4294967295 }
-    ensures { IfOk result (λ bytes. AuthOf Strict (assertion_data (credential_source_view credential.now) (asked_view asked.now)) bytes.items) }
+    ensures spelled { IfOk result (λ bytes. AuthOf Strict (assertion_data (credential_source_view credential.now) (asked_view asked.now)) bytes.items) }
+    ensures size { IfOk result (λ bytes. length bytes.items ≡ 37) }
 {
     let data = AuthData {
         rp_id_hash: Sha256::digest(credential.rp_id.as_bytes()),
@@ -64,7 +61,7 @@ fn shown_user(credential: &StoredCredential) -> Option<&[u8]>
 }
 
 /// A credential's next assertion: 32 bytes of id, and the user handle where it is resident.
-fn shown<'a>(
+pub(crate) fn shown<'a>(
     credential: &'a StoredCredential,
     auth_data: &'a [u8],
     signature: &'a [u8],
@@ -87,40 +84,4 @@ fn shown<'a>(
         user: shown_user(credential),
         number,
     }
-}
-
-/// The bytes of the reply that shows a credential's next assertion, at most 7,609; without a number of credentials
-/// they answer a getNextAssertion too.
-pub(crate) fn assertion<S: Signer>(
-    alloc: Global,
-    scheme: &S,
-    credential: &StoredCredential,
-    asked: &AskedAssertion,
-    number: Option<u64>,
-) -> Result<Vec<u8>, AllocError>
-    requires sign_count { credential.now.sign_count < 4294967295 }
-    requires number { IfSome number IsCount }
-    ensures first { IfOk result (λ bytes. Shows (S.valid scheme.now) (S.public_of scheme.now) (credential_source_view credential.now)
-        (asked_view asked.now) assertion_reply number bytes.items) }
-    ensures next { number ≡ None → IfOk result
-        (λ bytes. Shows (S.valid scheme.now) (S.public_of scheme.now) (credential_source_view credential.now)
-        (asked_view asked.now) next_reply number bytes.items) }
-    ensures size { IfOk result (λ bytes. length bytes.items ≤ 7609) }
-{
-    let auth_data = auth_data(alloc, credential, asked)?;
-    let signature = signature(
-        alloc,
-        scheme,
-        credential.alg,
-        &credential.secret,
-        auth_data.as_slice(),
-        asked.client_data_hash.as_slice(),
-    )?;
-    let shown = shown(
-        credential,
-        auth_data.as_slice(),
-        signature.as_slice(),
-        number,
-    );
-    written_assertion(alloc, &shown)
 }

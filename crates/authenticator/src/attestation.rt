@@ -5,22 +5,16 @@ ghost use Rattle.ccbor.specs.View.{view};
 ghost use Rattle.authdata.specs.Flags as bits;
 ghost use Rattle.authdata.specs.declared.profile.Profile.TheVariants.{Strict};
 ghost use Rattle.authdata.specs.Layout.{AuthOf};
-ghost use Rattle.authdata.specs.Statements.{packed_statement};
+ghost use Rattle.authdata.specs.Statements.{none_statement, packed_statement};
 ghost use Rattle.ctap_requests.specs.RequestView.{creation_view};
-ghost use Rattle.ctap_replies.specs.ReplyView.{creation_reply_view};
-ghost use Rattle.authenticator.specs.Private.{IsAttested, asks_verified};
+ghost use Rattle.authenticator.specs.Private.{asks_verified};
 ghost use Rattle.authenticator.specs.Steps.{creation_data, uv_bit};
-ghost use Rattle.authenticator.specs.declared.consent.Consent.{Consent};
 
 use crate::authenticator::Authenticator;
-use crate::consent::Words;
-use crate::make_credential::Choice;
-use crate::signing::signature;
 use authdata::flags::{AT, UP, UV};
-use authdata::{AttestationType, Attested, AuthData};
+use authdata::{Attested, AuthData};
 use ccbor::Value;
-use cose::{Alg, CoseKey, Signer};
-use ctap_replies::CreationReply;
+use cose::{Alg, CoseKey};
 use ctap_requests::MakeCredential;
 use sha2::{Digest, Sha256};
 use std::alloc::{AllocError, Global};
@@ -34,8 +28,15 @@ fn flags(uv: bool) -> u8
     if uv { UP | UV | AT } else { UP | AT }
 }
 
+/// The statement of no attestation (WebAuthn Level 2, section 8.7).
+pub(crate) fn no_statement(alloc: Global) -> Value
+    ensures { view result ≡ none_statement }
+{
+    Value::Map(Vec::new(alloc))
+}
+
 /// The statement of packed self attestation (WebAuthn Level 2, section 8.2).
-fn packed(alloc: Global, alg: Alg, signature: Vec<u8>) -> Result<Value, AllocError>
+pub(crate) fn packed(alloc: Global, alg: Alg, signature: Vec<u8>) -> Result<Value, AllocError>
     ensures { IfOk result (λ v. view v ≡ packed_statement alg signature.items) }
 {
     let mut members = Vec::with_capacity(alloc, 2)?;
@@ -52,7 +53,7 @@ fn packed(alloc: Global, alg: Alg, signature: Vec<u8>) -> Result<Value, AllocErr
 
 impl Authenticator {
     /// The bytes of a new credential's authenticator data.
-    fn creation_data(
+    pub(crate) fn creation_data(
         &self,
         alloc: Global,
         request: &MakeCredential,
@@ -61,7 +62,8 @@ impl Authenticator {
         uv: bool,
     ) -> Result<Vec<u8>, AllocError>
         requires { uv ≡ asks_verified (creation_view request.now) }
-        ensures { IfOk result (λ bytes. AuthOf Strict (creation_data self.now (creation_view request.now) id.now key) bytes.items) }
+        ensures spelled { IfOk result (λ bytes. AuthOf Strict (creation_data self.now (creation_view request.now) id.now key) bytes.items) }
+        ensures size { IfOk result (λ bytes. length bytes.items ≤ 164) }
     {
         let attested = Attested {
             aaguid: self.aaguid,
@@ -75,49 +77,5 @@ impl Authenticator {
             attested: Some(attested),
         };
         authdata::write(alloc, &data)
-    }
-
-    /// The reply to a makeCredential, with the statement that this authenticator makes.
-    pub(crate) fn creation_reply<S: Signer>(
-        &self,
-        alloc: Global,
-        scheme: &S,
-        request: &MakeCredential,
-        choice: Choice,
-        words: &Words,
-    ) -> Result<CreationReply, AllocError>
-        requires { choice.uv ≡ asks_verified (creation_view request.now) }
-        ensures size { IfOk result (λ r. length r.auth_data.items ≤ 164) }
-        ensures spelled { IfOk result (λ r. AuthOf Strict
-            (creation_data self.now (creation_view request.now) words.now.id (S.public_of scheme.now choice.alg words.now.secret)) r.auth_data.items) }
-        ensures attested { IfOk result (λ r. (consent : Consent)
-            → IsAttested (S.valid scheme.now) (S.public_of scheme.now choice.alg words.now.secret) request.now.client_data_hash.items consent self.now.attest
-            (creation_reply_view r)) }
-    {
-        let key = scheme.public(choice.alg, &words.secret);
-        let auth_data = self.creation_data(alloc, request, &words.id, key, choice.uv)?;
-        match self.attest {
-            AttestationType::None => Ok(CreationReply {
-                fmt: String::from_str(alloc, "none")?,
-                auth_data,
-                statement: Value::Map(Vec::new(alloc)),
-            }),
-            AttestationType::SelfSigned => {
-                let client_data_hash = request.client_data_hash.as_slice();
-                let signature = signature(
-                    alloc,
-                    scheme,
-                    choice.alg,
-                    &words.secret,
-                    auth_data.as_slice(),
-                    client_data_hash,
-                )?;
-                Ok(CreationReply {
-                    fmt: String::from_str(alloc, "packed")?,
-                    auth_data,
-                    statement: packed(alloc, key.alg(), signature)?,
-                })
-            }
-        }
     }
 }

@@ -3,7 +3,8 @@
 ghost use Rattle.std.specs.Prelude.{◌≡◌, ◌≤◌, ◌∷◌, [], IfOk, OnErr, OnOk, length};
 ghost use Rattle.ctap_requests.specs.RequestView.{lent_request_view};
 ghost use Rattle.ctap_requests.specs.Requests as requests;
-ghost use Rattle.authenticator.specs.Private.{Happens, HasUser};
+ghost use Rattle.authenticator.specs.Private.{HasUser, RequestBegins};
+ghost use Rattle.authenticator.specs.Signing.{Begins, Finishes, HasSize};
 ghost use Rattle.authenticator.specs.State.{forgotten, new_state};
 ghost use Rattle.authenticator.specs.Steps.{Informs, Resets, Steps, Unless};
 ghost use Rattle.authenticator.specs.Orders.{reset_order};
@@ -11,6 +12,8 @@ ghost use Rattle.refusal_order.specs.Lines.{first_true};
 
 use crate::consent::{Consent, Words};
 use crate::credential::StoredCredential;
+use crate::keys::{PublicKeys, SchemeKeys};
+use crate::pending::{Begun, Pending, Work};
 use crate::remembered::RememberedAssertion;
 use crate::reply::{info_bytes, status_alone, written};
 use authdata::AttestationType;
@@ -117,31 +120,73 @@ impl Authenticator {
         Ok(reply)
     }
 
-    /// Carries out a request that was read.
-    fn carry_out<S: Signer>(
+    /// Begins a request that was read.
+    fn carry_out<K: PublicKeys>(
         &mut self,
-        scheme: &S,
+        keys: &K,
         channel: u32,
         request: RequestView<'_>,
         consent: Consent,
         words: Words,
-    ) -> Result<Vec<u8>, AllocError>
+    ) -> Result<Begun, AllocError>
         requires { HasUser (lent_request_view request) }
-        ensures done { IfOk result (λ reply. Happens (S.valid scheme.now) (S.public_of scheme.now) self.old channel consent words
-            (lent_request_view request.entry) reply.items self.new) }
-        ensures size { IfOk result (λ reply. length reply.items ≤ 7609) }
+        ensures done { IfOk result (λ begun. RequestBegins (K.public_of keys.now) self.old channel consent words (lent_request_view request.entry)
+            begun self.new) }
+        ensures size { IfOk result HasSize }
         ensures err { OnErr result (self.new ≡ self.old) }
     {
         match request {
             RequestView::MakeCredential(request) => {
-                self.make_credential(scheme, request, consent, words)
+                self.begin_creation(keys, request, consent, words)
             }
-            RequestView::GetAssertion(request) => {
-                self.get_assertion(scheme, channel, &request, consent)
-            }
-            RequestView::GetNextAssertion => self.get_next_assertion(scheme, channel),
-            RequestView::GetInfo => self.get_info(),
-            RequestView::Reset => self.reset(consent),
+            RequestView::GetAssertion(request) => self.begin_assertion(channel, &request, consent),
+            RequestView::GetNextAssertion => self.begin_next(channel),
+            RequestView::GetInfo => Ok(Begun::Replied(self.get_info()?)),
+            RequestView::Reset => Ok(Begun::Replied(self.reset(consent)?)),
+        }
+    }
+
+    /// The first of two steps, for a host that signs elsewhere: answers a request as [`Authenticator::handle`] does, or
+    /// tells what is to be signed. Until [`Authenticator::finish`] takes the signature the authenticator is as it was:
+    /// no counter has grown, and no credential was made. So what waits may be dropped.
+    ///
+    /// Presence and verification are asked for here, in the orders of `handle`. The keys are asked for the public key of
+    /// the secret that is handed in, where a credential is to be made.
+    pub fn begin<K: PublicKeys>(
+        &mut self,
+        keys: &K,
+        channel: u32,
+        request: &[u8],
+        consent: Consent,
+        words: Words,
+    ) -> Result<Begun, AllocError>
+        ensures begun { IfOk result (λ begun. Begins (K.public_of keys.now) self.old channel request.now consent words begun self.new) }
+        ensures size { IfOk result HasSize }
+        ensures memory { OnErr result (self.new ≡ self.old) }
+    {
+        match view_request(self.allocator(), request) {
+            Ok(request) => self.carry_out(keys, channel, request, consent, words),
+            Err(Error::Status(status)) => Ok(Begun::Replied(self.refuse(status)?)),
+            Err(_) => Err(AllocError),
+        }
+    }
+
+    /// The second step: takes the signature, of 1 to 128 bytes, of what [`Authenticator::begin`] told, and answers the
+    /// request. The counter grows here, or the credential is stored.
+    ///
+    /// The authenticator is to be as `begin` left it. Where memory is wanting, nothing has changed.
+    pub fn finish(&mut self, pending: Pending, signature: &[u8]) -> Result<Vec<u8>, AllocError>
+        requires low { 1 ≤ length signature.now }
+        requires high { length signature.now ≤ 128 }
+        ensures finished { IfOk result (λ reply. Finishes self.old pending signature.now reply.items self.new) }
+        ensures size { IfOk result (λ reply. length reply.items ≤ 7609) }
+        ensures memory { OnErr result (self.new ≡ self.old) }
+    {
+        let Pending { alg, work, .. } = pending;
+        match work {
+            Work::Creation(creation) => self.finish_creation(alg, creation, signature),
+            Work::Assertion(assertion) => self.finish_assertion(assertion, signature),
+            Work::Next(next) => self.finish_next(next, signature),
         }
     }
 
@@ -180,10 +225,15 @@ impl Authenticator {
         ensures size { IfOk result (λ reply. length reply.items ≤ 7609) }
         ensures memory { OnErr result (self.new ≡ self.old) }
     {
-        match view_request(self.allocator(), request) {
-            Ok(request) => self.carry_out(scheme, channel, request, consent, words),
-            Err(Error::Status(status)) => self.refuse(status),
-            Err(_) => Err(AllocError),
+        let keys = SchemeKeys { scheme };
+        let begun = self.begin(&keys, channel, request, consent, words);
+        let SchemeKeys { scheme } = keys;
+        match begun? {
+            Begun::Replied(reply) => Ok(reply),
+            Begun::Signs(pending) => {
+                let signature = pending.signature(self.allocator(), scheme)?;
+                self.finish(pending, signature.as_slice())
+            }
         }
     }
 }

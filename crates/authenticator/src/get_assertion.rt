@@ -1,21 +1,24 @@
 //! authenticatorGetAssertion (CTAP 2.1, section 6.2) and authenticatorGetNextAssertion (section 6.3).
 
-ghost use Rattle.std.specs.Prelude.{◌≡◌, ◌<◌, ◌≤◌, ◌∷◌, IfOk, IfSome, List, MatchOption, OnErr, length, option_map, reverse, true, ℕ};
+ghost use Rattle.std.specs.Prelude.{◌≡◌, ◌<◌, ◌≤◌, ◌∷◌, IfOk, IfSome, List, MatchOption, OnErr, None, Some, length, option_map, reverse, true, ℕ};
 ghost use Rattle.ctap_requests.specs.RequestView.{assertion_options_view, lent_get_assertion_view};
+ghost use Rattle.ctap_replies.specs.Replies.{assertion_reply, next_reply};
 ghost use Rattle.authenticator.specs.Credentials.{credential_of, with_sign_count};
 ghost use Rattle.authenticator.specs.Orders.{assertion_flags, candidates, is_at_end, remembered_on};
-ghost use Rattle.authenticator.specs.Private.{AssertionHappens, FirstHappens, IsCount, IsGranted, NextHappens, StandsAt};
+ghost use Rattle.authenticator.specs.Private.{AssertionBegins, FirstBegins, IsCount, IsGranted, NextBegins, StandsAt};
+ghost use Rattle.authenticator.specs.Signing.{AnswersBy, HasSize};
 ghost use Rattle.authenticator.specs.State.{Remembered};
-ghost use Rattle.authenticator.specs.Steps.{asked_by, number_with, remembering};
+ghost use Rattle.authenticator.specs.Steps.{Keys, asked_by, number_with, remembering};
 ghost use Rattle.authenticator.specs.Views.{asked_view, credential_source_view, credential_sources_view, candidates_view, remembered_view};
 
-use crate::assertion::assertion;
+use crate::assertion::{auth_data, shown};
 use crate::authenticator::Authenticator;
 use crate::consent::Consent;
 use crate::credentials::{PlacedCredential, candidates_for, placed, set_sign_count};
 use crate::options::{assertion_options, is_denied, is_false, is_true, is_unmet};
+use crate::pending::{Begun, Pending, PendingAssertion, PendingNext, Work};
 use crate::remembered::{AskedAssertion, Candidates, RememberedAssertion, remember};
-use cose::Signer;
+use crate::reply::written_assertion;
 use ctap_requests::{AssertionOptions, GetAssertionView};
 use ctap_status::status::{INVALID_OPTION, NO_CREDENTIALS, NOT_ALLOWED, OPERATION_DENIED, OTHER};
 use std::alloc::{AllocError, Global};
@@ -117,54 +120,55 @@ impl Authenticator {
         self.remembered = remembered;
     }
 
-    /// The first candidate answers.
-    fn answer_first<S: Signer>(
+    /// Asks for the signature with which the first candidate answers.
+    fn begin_first(
         &mut self,
-        scheme: &S,
         asked: AskedAssertion,
         candidates: Candidates,
-    ) -> Result<Vec<u8>, AllocError>
-        ensures done { IfOk result (λ reply. FirstHappens (S.valid scheme.now) (S.public_of scheme.now) self.old (candidates_view (Some candidates))
-            (asked_view asked) reply.items self.new) }
-        ensures size { IfOk result (λ reply. length reply.items ≤ 7609) }
+    ) -> Result<Begun, AllocError>
+        ensures done { (public : Keys) → IfOk result (λ begun. FirstBegins public self.old (candidates_view (Some candidates)) (asked_view asked) begun self.new) }
+        ensures size { IfOk result HasSize }
         ensures err { OnErr result (self.new ≡ self.old) }
     {
         let alloc = self.allocator();
         let Some(found) = self.countable(&candidates.first) else {
-            return self.refuse(OTHER);
+            return Ok(Begun::Replied(self.refuse(OTHER)?));
         };
-        let number = number_with(&candidates.later);
-        let place = found.place;
-        let sign_count = found.credential.sign_count + 1;
-        let reply = assertion(alloc, scheme, found.credential, &asked, number)?;
-        self.settle(place, sign_count, remember(asked, candidates.later));
-        Ok(reply)
+        let auth_data = auth_data(alloc, found.credential, &asked)?;
+        Ok(Begun::Signs(Pending {
+            alg: found.credential.alg,
+            secret: found.credential.secret,
+            work: Work::Assertion(PendingAssertion {
+                asked,
+                candidates,
+                auth_data,
+            }),
+        }))
     }
 
-    /// Answers a getAssertion.
-    pub(crate) fn get_assertion<S: Signer>(
+    /// Begins a getAssertion.
+    pub(crate) fn begin_assertion(
         &mut self,
-        scheme: &S,
         channel: u32,
         request: &GetAssertionView<'_>,
         consent: Consent,
-    ) -> Result<Vec<u8>, AllocError>
-        ensures done { IfOk result (λ reply. AssertionHappens (S.valid scheme.now) (S.public_of scheme.now) self.old channel
-            (lent_get_assertion_view request.now) consent reply.items self.new) }
-        ensures size { IfOk result (λ reply. length reply.items ≤ 7609) }
+    ) -> Result<Begun, AllocError>
+        ensures done { (public : Keys) → IfOk result (λ begun. AssertionBegins public self.old channel
+            (lent_get_assertion_view request.now) consent begun self.new) }
+        ensures size { IfOk result HasSize }
         ensures err { OnErr result (self.new ≡ self.old) }
     {
         let options = match self.options_granted(request, consent) {
             Ok(options) => options,
-            Err(status) => return self.refuse(status),
+            Err(status) => return Ok(Begun::Replied(self.refuse(status)?)),
         };
         let alloc = self.allocator();
         let found = self.candidates(alloc, request)?;
         let Some(candidates) = found else {
-            return self.refuse(NO_CREDENTIALS);
+            return Ok(Begun::Replied(self.refuse(NO_CREDENTIALS)?));
         };
         let asked = asked_by(alloc, channel, request, options, consent)?;
-        self.answer_first(scheme, asked, candidates)
+        self.begin_first(asked, candidates)
     }
 
     /// Stores the counter of the next candidate, which stands at a place and has answered, and remembers the later ones.
@@ -179,18 +183,75 @@ impl Authenticator {
         }
     }
 
-    /// Answers a getNextAssertion.
-    pub(crate) fn get_next_assertion<S: Signer>(
-        &mut self,
-        scheme: &S,
-        channel: u32,
-    ) -> Result<Vec<u8>, AllocError>
-        ensures done { IfOk result (λ reply. NextHappens (S.valid scheme.now) (S.public_of scheme.now) self.old channel reply.items self.new) }
-        ensures size { IfOk result (λ reply. length reply.items ≤ 7609) }
+    /// Begins a getNextAssertion.
+    pub(crate) fn begin_next(&mut self, channel: u32) -> Result<Begun, AllocError>
+        ensures done { (public : Keys) → IfOk result (λ begun. NextBegins public self.old channel begun self.new) }
+        ensures size { IfOk result HasSize }
         ensures err { OnErr result (self.new ≡ self.old) }
     {
         let alloc = self.allocator();
         let Some(remembered) = self.remembered_on(channel) else {
+            return Ok(Begun::Replied(self.refuse(NOT_ALLOWED)?));
+        };
+        let Some(found) = self.countable(&remembered.candidates.first) else {
+            return Ok(Begun::Replied(self.refuse(OTHER)?));
+        };
+        let auth_data = auth_data(alloc, found.credential, &remembered.asked)?;
+        let client_data_hash = Vec::from_slice(alloc, &remembered.asked.client_data_hash)?;
+        Ok(Begun::Signs(Pending {
+            alg: found.credential.alg,
+            secret: found.credential.secret,
+            work: Work::Next(PendingNext {
+                client_data_hash,
+                auth_data,
+            }),
+        }))
+    }
+
+    /// The first candidate answers, with its signature.
+    pub(crate) fn finish_assertion(
+        &mut self,
+        pending: PendingAssertion,
+        signature: &[u8],
+    ) -> Result<Vec<u8>, AllocError>
+        requires { length signature.now ≤ 128 }
+        ensures done { IfOk result (λ reply. AnswersBy self.old pending.candidates.first (asked_view pending.asked) (reverse pending.candidates.later.items)
+            assertion_reply (number_with (reverse pending.candidates.later.items)) pending.auth_data.items signature.now reply.items self.new) }
+        ensures size { IfOk result (λ reply. length reply.items ≤ 7609) }
+        ensures err { OnErr result (self.new ≡ self.old) }
+    {
+        let alloc = self.allocator();
+        let PendingAssertion {
+            asked,
+            candidates,
+            auth_data,
+        } = pending;
+        let Some(found) = self.countable(&candidates.first) else {
+            return self.refuse(OTHER);
+        };
+        let number = number_with(&candidates.later);
+        let place = found.place;
+        let sign_count = found.credential.sign_count + 1;
+        let shown = shown(found.credential, auth_data.as_slice(), signature, number);
+        let reply = written_assertion(alloc, &shown)?;
+        self.settle(place, sign_count, remember(asked, candidates.later));
+        Ok(reply)
+    }
+
+    /// The next candidate answers, with its signature.
+    pub(crate) fn finish_next(
+        &mut self,
+        pending: PendingNext,
+        signature: &[u8],
+    ) -> Result<Vec<u8>, AllocError>
+        requires { length signature.now ≤ 128 }
+        ensures done { IfOk result (λ reply. (r : Remembered) → self.old.remembered ≡ Some r
+            → AnswersBy self.old r.next r.asked r.later next_reply None pending.auth_data.items signature.now reply.items self.new) }
+        ensures size { IfOk result (λ reply. length reply.items ≤ 7609) }
+        ensures err { OnErr result (self.new ≡ self.old) }
+    {
+        let alloc = self.allocator();
+        let Some(remembered) = &self.remembered else {
             return self.refuse(NOT_ALLOWED);
         };
         let Some(found) = self.countable(&remembered.candidates.first) else {
@@ -198,7 +259,13 @@ impl Authenticator {
         };
         let place = found.place;
         let sign_count = found.credential.sign_count + 1;
-        let reply = assertion(alloc, scheme, found.credential, &remembered.asked, None)?;
+        let shown = shown(
+            found.credential,
+            pending.auth_data.as_slice(),
+            signature,
+            None,
+        );
+        let reply = written_assertion(alloc, &shown)?;
         self.advance(place, sign_count);
         Ok(reply)
     }

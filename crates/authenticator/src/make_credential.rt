@@ -1,21 +1,28 @@
 //! authenticatorMakeCredential (CTAP 2.1, section 6.1).
 
-ghost use Rattle.std.specs.Prelude.{◌≡◌, ◌<◌, ◌≤◌, ◌++◌, ◌∷◌, ◌||◌, [], IfOk, IfSome, OnErr, OnOk, ℤ, length, map, nat_le, option_map};
+ghost use Rattle.std.specs.Prelude.{◌≡◌, ◌<◌, ◌≤◌, ◌++◌, ◌∷◌, ◌||◌, [], IfOk, IfSome, OnErr, OnOk, ℤ, codes, length, map, nat_le, option_map};
 ghost use Rattle.ctap_requests.specs.RequestView.{creation_view, parameters_view};
+ghost use Rattle.ctap_replies.specs.Replies.{ReplyOf, creation_reply};
+ghost use Rattle.authdata.specs.Statements.{none_statement, packed_statement};
 ghost use Rattle.authenticator.specs.Orders.{creation_flags, first_supported, is_false, is_true, kept, supported, supported_by};
-ghost use Rattle.authenticator.specs.Private.{CreationHappens, IsChoice, IsUser, Overwrites, asks_resident, without};
+ghost use Rattle.authenticator.specs.Private.{CreationBegins, IsChoice, IsUser, Overwrites, asks_resident, without};
+ghost use Rattle.authenticator.specs.Signing.{HasSize};
 ghost use Rattle.authenticator.specs.State.{forgotten};
 ghost use Rattle.authenticator.specs.Steps.{new_credential};
 ghost use Rattle.authenticator.specs.Views.{credential_source_view, credential_sources_view};
 
+use crate::attestation::{no_statement, packed};
 use crate::authenticator::Authenticator;
 use crate::consent::{Consent, Words};
 use crate::credential::StoredCredential;
 use crate::credentials::{find, is_excluded, is_public_key, resident_place, store};
+use crate::keys::PublicKeys;
 use crate::options::{creation_options, is_denied, is_false, is_true, is_unmet};
+use crate::pending::{Begun, Pending, PendingCreation, Work};
 use crate::reply::written;
-use cose::{Alg, Signer};
-use ctap_replies::Reply;
+use authdata::AttestationType;
+use cose::Alg;
+use ctap_replies::{CreationReply, Reply};
 use ctap_requests::{MakeCredential, Parameters, RelyingParty, User};
 use ctap_status::status::{
     CREDENTIAL_EXCLUDED, INVALID_OPTION, KEY_STORE_FULL, OPERATION_DENIED, OTHER,
@@ -193,26 +200,111 @@ impl Authenticator {
         Ok(())
     }
 
-    /// Makes a credential.
-    pub(crate) fn make_credential<S: Signer>(
+    /// Makes a credential without an attestation.
+    fn create(
         &mut self,
-        scheme: &S,
+        request: MakeCredential,
+        choice: Choice,
+        words: &Words,
+        auth_data: Vec<u8>,
+    ) -> Result<Vec<u8>, AllocError>
+        requires user { IsUser request.user.id.items }
+        requires resident { choice.resident ≡ asks_resident (creation_view request) }
+        requires overwritten { Overwrites self.old.credentials (creation_view request) choice.overwritten }
+        requires size { length auth_data.items ≤ 164 }
+        ensures reply { IfOk result (λ reply. ReplyOf (creation_reply (record { fmt = codes "none"; auth_data = auth_data.items; statement = none_statement }))
+            reply.items) }
+        ensures ok { OnOk result (self.new ≡ record (forgotten self.old)
+            { credentials = kept self.old.credentials (creation_view request) ++ new_credential (creation_view request) choice.alg words.now ∷ [] }) }
+        ensures size { IfOk result (λ reply. length reply.items ≤ 7609) }
+        ensures err { OnErr result (self.new ≡ self.old) }
+    {
+        let alloc = self.allocator();
+        let shown = CreationReply {
+            fmt: String::from_str(alloc, "none")?,
+            auth_data,
+            statement: no_statement(alloc),
+        };
+        let reply = written(alloc, Reply::MakeCredential(shown))?;
+        self.add(request, choice, words)?;
+        Ok(reply)
+    }
+
+    /// Begins a makeCredential.
+    pub(crate) fn begin_creation<K: PublicKeys>(
+        &mut self,
+        keys: &K,
         request: MakeCredential,
         consent: Consent,
         words: Words,
-    ) -> Result<Vec<u8>, AllocError>
+    ) -> Result<Begun, AllocError>
         requires { IsUser request.user.id.items }
-        ensures done { IfOk result (λ reply. CreationHappens (S.valid scheme.now) (S.public_of scheme.now) self.old
-            (creation_view request) consent words reply.items self.new) }
-        ensures size { IfOk result (λ reply. length reply.items ≤ 7609) }
+        ensures done { IfOk result (λ begun. CreationBegins (K.public_of keys.now) self.old (creation_view request) consent words begun self.new) }
+        ensures size { IfOk result HasSize }
         ensures err { OnErr result (self.new ≡ self.old) }
     {
         let alloc = self.allocator();
         let choice = match self.creation_choice(&request, consent, &words) {
             Ok(choice) => choice,
-            Err(status) => return self.refuse(status),
+            Err(status) => return Ok(Begun::Replied(self.refuse(status)?)),
         };
-        let shown = self.creation_reply(alloc, scheme, &request, choice, &words)?;
+        let key = keys.public(choice.alg, &words.secret);
+        let auth_data = self.creation_data(alloc, &request, &words.id, key, choice.uv)?;
+        match self.attest {
+            AttestationType::None => Ok(Begun::Replied(self.create(
+                request, choice, &words, auth_data,
+            )?)),
+            AttestationType::SelfSigned => Ok(Begun::Signs(Pending {
+                alg: choice.alg,
+                secret: words.secret,
+                work: Work::Creation(PendingCreation {
+                    request,
+                    words,
+                    auth_data,
+                }),
+            })),
+        }
+    }
+
+    /// Makes a credential, with the signature of its attestation.
+    pub(crate) fn finish_creation(
+        &mut self,
+        alg: Alg,
+        pending: PendingCreation,
+        signature: &[u8],
+    ) -> Result<Vec<u8>, AllocError>
+        requires low { 1 ≤ length signature.now }
+        requires high { length signature.now ≤ 128 }
+        ensures reply { IfOk result (λ reply. ReplyOf (creation_reply (record {
+          fmt = codes "packed";
+          auth_data = pending.auth_data.items;
+          statement = packed_statement alg signature.now;
+        })) reply.items) }
+        ensures ok { OnOk result (self.new ≡ record (forgotten self.old)
+            { credentials = kept self.old.credentials (creation_view pending.request) ++ new_credential (creation_view pending.request) alg pending.words ∷ [] }) }
+        ensures size { IfOk result (λ reply. length reply.items ≤ 7609) }
+        ensures err { OnErr result (self.new ≡ self.old) }
+    {
+        let alloc = self.allocator();
+        let PendingCreation {
+            request,
+            words,
+            auth_data,
+        } = pending;
+        let options = creation_options(request.options);
+        let resident = is_true(options.rk);
+        let choice = Choice {
+            alg,
+            uv: is_true(options.uv),
+            resident,
+            overwritten: overwritten(&self.credentials, &request, resident),
+        };
+        let signature = Vec::from_slice(alloc, signature)?;
+        let shown = CreationReply {
+            fmt: String::from_str(alloc, "packed")?,
+            auth_data,
+            statement: packed(alloc, alg, signature)?,
+        };
         let reply = written(alloc, Reply::MakeCredential(shown))?;
         self.add(request, choice, &words)?;
         Ok(reply)

@@ -1,22 +1,22 @@
 -- What is owed of `Authenticator::handle`.
-use Rattle.ctap_requests.specs.RequestView.{lent_request_view}
-use Rattle.authenticator.proofs.Asked.{has_user}
-use Rattle.authenticator.proofs.Calls.{stepped, unread}
+use Rattle.std.proofs.Common.{List, ℕ, subst, sym}
+use Rattle.authenticator.specs.Signing.{message_of}
+use Rattle.authenticator.specs.Steps.{IsSignature}
+use Rattle.authenticator.proofs.Waiting.{composed_ok, replied}
 use Rattle.authenticator.proofs.authenticator.Authenticator.handle.Goals as goal
 
-pub carry_out-requires : goal.carry_out-requires
-carry_out-requires g c = has_user (lent_request_view c.in-Ok.request) c.args.request.now c.in-Ok.ensures.found
+pub returns-in-Replied-clause-stepped : goal.returns-in-Replied-clause-stepped
+returns-in-Replied-clause-stepped g c =
+    replied (g.S.Verifier.valid c.args.scheme.now) (g.S.Signer.public_of c.args.scheme.now) c.args.self.now c.begin-begun.new.self c.args.channel
+    c.args.request.now c.args.consent c.args.words c.in-Replied.reply.items (rw c.in-Replied.is at c.in_ok-reply.ensures.begun)
 
-pub returns-in-Ok-clause-stepped : goal.returns-in-Ok-clause-stepped
-returns-in-Ok-clause-stepped g c =
-    stepped (g.S.Verifier.valid c.args.scheme.now)
-    (g.S.Signer.public_of c.args.scheme.now) c.args.self.now c.carry_out.new.self c.args.channel c.args.request.now c.args.consent c.args.words
-    (lent_request_view c.in-Ok.request) c.carry_out.result
-    c.in-Ok.ensures.found c.carry_out.ensures.done
-
-pub returns-in-Err-Status-clause-stepped : goal.returns-in-Err-Status-clause-stepped
-returns-in-Err-Status-clause-stepped g c =
-    unread (g.S.Verifier.valid c.args.scheme.now)
-    (g.S.Signer.public_of c.args.scheme.now) c.args.self.now c.refuse.new.self c.args.channel c.args.request.now c.args.consent c.args.words
-    c.in-Err-Status.status c.refuse.result
-    (rw c.in-Err-Status.field-0-is at c.in-Err-Status.ensures.refused) (rw c.in-Err-Status.field-0-is at c.refuse.ensures.reply) c.refuse.ensures.ok
+pub returns-in_ok-signature-in-Signs-clause-stepped : goal.returns-in_ok-signature-in-Signs-clause-stepped
+returns-in_ok-signature-in-Signs-clause-stepped g c =
+    let valid = g.S.Verifier.valid c.args.scheme.now in
+    let public = g.S.Signer.public_of c.args.scheme.now in
+    let p = c.in-Signs.pending in
+    composed_ok valid public c.args.self.now c.begin-begun.new.self c.finish.new.self c.args.channel
+    c.args.request.now c.args.consent c.args.words p c.as_slice.result.now c.finish.result (rw c.in-Signs.is at c.in_ok-reply.ensures.begun)
+    (subst (λ (s : List ℕ). IsSignature valid (public p.alg p.secret) (message_of p) s) (sym c.as_slice.ensures.value)
+    c.in_ok-signature-in-Signs.ensures)
+    c.finish.ensures.finished

@@ -1,0 +1,7 @@
+-- What is owed of `Authenticator::finish_assertion`.
+use Rattle.ctap_replies.specs.ReplyView.{lent_assertion_view}
+use Rattle.authenticator.proofs.Replies.{assertion_message}
+use Rattle.authenticator.proofs.authenticator.Authenticator.finish_assertion.Goals as goal
+
+pub written_assertion-requires : goal.written_assertion-requires
+written_assertion-requires c = assertion_message (lent_assertion_view c.shown-shown.result) c.shown-shown.ensures.fits

@@ -1,0 +1,67 @@
+//! The public keys of new credentials.
+
+ghost use Rattle.std.specs.Prelude.{◌≡◌, ℕ, List};
+ghost use Rattle.cose.specs.Keys.{alg_of};
+ghost use Rattle.cose.specs.declared.key.Alg.{Alg};
+ghost use Rattle.cose.specs.declared.key.CoseKey.{CoseKey};
+
+use cose::{Alg, CoseKey, Signer};
+
+/// Tells the public key of a new credential's secret.
+pub trait PublicKeys {
+    /// The public key of a secret.
+    ghost public_of: { Self → Alg → List ℕ → CoseKey };
+
+    /// The public key of a secret, which has this algorithm. It takes no memory.
+    fn public(&self, alg: Alg, secret: &[u8; 32]) -> CoseKey
+        ensures { result ≡ public_of self.now alg secret.now };
+
+    /// The public key has the algorithm.
+    ghost keeps_alg: { (s : Self) (alg : Alg) (secret : List ℕ)
+        → alg_of (public_of s alg secret) ≡ alg };
+}
+
+/// The public keys of a scheme.
+pub(crate) struct SchemeKeys<'a, S> {
+    pub scheme: &'a S,
+}
+
+impl<S: Signer> PublicKeys for SchemeKeys<'_, S> {
+    ghost public_of = { λ k alg secret. S.public_of k.scheme.now alg secret };
+
+    fn public(&self, alg: Alg, secret: &[u8; 32]) -> CoseKey {
+        self.scheme.public(alg, secret)
+    }
+
+    ghost keeps_alg = { λ k alg secret. S.keeps_alg k.scheme.now alg secret };
+}
+
+/// The public keys of one secret, made elsewhere: that of ES256 by its coordinates, and that of EdDSA. Both are those
+/// of the secret that is handed in with them.
+#[derive(Clone, Copy, Debug, PartialEq, Eq, Drop)]
+pub struct HandedKeys {
+    /// The x coordinate of the key of ES256.
+    pub es256_x: [u8; 32],
+    /// Its y coordinate.
+    pub es256_y: [u8; 32],
+    /// The key of EdDSA.
+    pub eddsa_x: [u8; 32],
+}
+
+impl PublicKeys for HandedKeys {
+    ghost use Rattle.authenticator.specs.Handed.{handed_key, handed_keeps_alg};
+
+    ghost public_of = { λ k alg secret. handed_key k alg };
+
+    fn public(&self, alg: Alg, _secret: &[u8; 32]) -> CoseKey {
+        match alg {
+            Alg::Es256 => CoseKey::Es256 {
+                x: self.es256_x,
+                y: self.es256_y,
+            },
+            Alg::EdDsa => CoseKey::EdDsa { x: self.eddsa_x },
+        }
+    }
+
+    ghost keeps_alg = { λ k alg secret. handed_keeps_alg k alg };
+}
