@@ -38,6 +38,6 @@ creation_length a q id key bs h l =
     omega (arith, exact, at_most_77 key, l)
 
 pub creation_size : {E : Type 0} (a : AuthenticatorState) (q : CreationRequest) (id : List ℕ) (key : CoseKey) (r : Result (Vec ℕ Global) E)
-    → length id ≡ 32 → IfOk r (λ v. AuthOf (creation_data a q id key) v.items) → IfOk r (λ v. length v.items ≤ 164)
+    → length id ≡ 32 → IfOk r (λ v. AuthOf Strict (creation_data a q id key) v.items) → IfOk r (λ v. length v.items ≤ 164)
 creation_size a q id key (Ok v) l h = creation_length a q id key v.items h l
 creation_size a q id key (Err e) l h = tt

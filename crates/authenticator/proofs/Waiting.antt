@@ -5,6 +5,7 @@ use Rattle.cose.specs.Keys.{alg_of}
 use Rattle.cose.specs.Schemes.{Validity}
 use Rattle.cose.specs.declared.key.Alg.{Alg}
 use Rattle.cose.specs.declared.key.CoseKey.{CoseKey}
+use Rattle.authdata.specs.declared.profile.Profile.TheVariants.{Strict}
 use Rattle.authdata.specs.Layout.{AuthOf}
 use Rattle.authdata.specs.Statements.{none_statement, packed_statement}
 use Rattle.authdata.specs.declared.statement.AttestationType.{AttestationType}
@@ -31,7 +32,7 @@ use Rattle.authenticator.proofs.Wider.{step}
 
 pub answers : (public : Keys) (old new : AuthenticatorState) (c : CredentialSource) (id : List ℕ) (asked : Asked) (later : List (List ℕ))
     (message : Assertion → ReplyMessage) (count : Option ℕ) (auth signature reply : List ℕ)
-    → credential_of id old.credentials ≡ Some c → c.sign_count < 4294967295 → AuthOf (assertion_data c asked) auth
+    → credential_of id old.credentials ≡ Some c → c.sign_count < 4294967295 → AuthOf Strict (assertion_data c asked) auth
     → 1 ≤ length signature → length signature ≤ 128
     → AnswersBy old id asked later message count auth signature reply new
     → Comes (AnswersWith (only (key_of public c) (auth ++ asked.client_data_hash) signature) public old id asked later message count) reply new
@@ -51,7 +52,7 @@ ended id cs end c found lt = search (rules, end, found, lt)
 pub creates_packed : (public : Keys) (old new : AuthenticatorState) (q : CreationRequest) (consent : Consent) (words : Words) (alg : Alg)
     (auth signature reply : List ℕ)
     → old.attest ≡ types.SelfSigned → first_supported q.pub_key_cred_params ≡ Some alg
-    → AuthOf (creation_data old q words.id (public alg words.secret)) auth
+    → AuthOf Strict (creation_data old q words.id (public alg words.secret)) auth
     → alg_of (public alg words.secret) ≡ alg → 1 ≤ length signature → length signature ≤ 128
     → ReplyOf (creation_reply (record { fmt = codes "packed"; auth_data = auth; statement = packed_statement alg signature })) reply
     → new ≡ record (forgotten old) { credentials = kept old.credentials q ++ new_credential q alg words ∷ [] }
@@ -68,7 +69,7 @@ creates_packed public old new q consent words alg auth signature reply attest ch
 pub creates_plain : (public : Keys) (old new : AuthenticatorState) (q : CreationRequest) (consent : Consent) (words : Words) (alg : Alg)
     (auth reply : List ℕ)
     → old.attest ≡ types.None → first_supported q.pub_key_cred_params ≡ Some alg
-    → AuthOf (creation_data old q words.id (public alg words.secret)) auth
+    → AuthOf Strict (creation_data old q words.id (public alg words.secret)) auth
     → ReplyOf (creation_reply (record { fmt = codes "none"; auth_data = auth; statement = none_statement })) reply
     → new ≡ record (forgotten old) { credentials = kept old.credentials q ++ new_credential q alg words ∷ [] }
     → Comes (Creates no_signature public old q consent words) reply new

@@ -2,6 +2,7 @@
 use Rattle.std.proofs.Common.{◌++◌, ap, refl, subst, sym, ◌∙◌}
 use Rattle.refusal_order.specs.Lines.{first_true}
 use Rattle.cose.specs.declared.key.CoseKey.{CoseKey}
+use Rattle.authdata.specs.declared.profile.Profile.TheVariants.{Strict}
 use Rattle.authdata.specs.Layout.{AuthOf}
 use Rattle.ctap_requests.specs.RequestView.{creation_view}
 use Rattle.authenticator.specs.State.{AuthenticatorState}
@@ -29,7 +30,7 @@ returns-in_ok-create-in-None-clause-done g c =
     c.in-Ok.ensures.0
     (creates_plain public c.args.self.now c.create.new.self q c.args.consent c.args.words c.in-Ok.choice.alg auth _
     (sym (ap (λ (s : AuthenticatorState). s.attest) c.self.view_is) ∙ c.in-None.is) c.in-Ok.ensures.1
-    (subst (λ (k : CoseKey). AuthOf (creation_data c.args.self.now q c.args.words.id k) auth) c.public-key.ensures c.in_ok-auth_data.ensures.spelled)
+    (subst (λ (k : CoseKey). AuthOf Strict (creation_data c.args.self.now q c.args.words.id k) auth) c.public-key.ensures c.in_ok-auth_data.ensures.spelled)
     c.in_ok-create-in-None.ensures.reply c.in_ok-create-in-None.ensures.ok)
 
 pub returns-in-SelfSigned-clause-done : goal.returns-in-SelfSigned-clause-done
@@ -45,6 +46,6 @@ returns-in-SelfSigned-clause-done g c =
           c.in-Ok.ensures.0
           (creates_packed public c.args.self.now new q c.args.consent c.args.words alg auth signature reply
           (sym (ap (λ (s : AuthenticatorState). s.attest) c.self.view_is) ∙ c.in-SelfSigned.is) c.in-Ok.ensures.1
-          (subst (λ (k : CoseKey). AuthOf (creation_data c.args.self.now q c.args.words.id k) auth) c.public-key.ensures c.in_ok-auth_data.ensures.spelled)
+          (subst (λ (k : CoseKey). AuthOf Strict (creation_data c.args.self.now q c.args.words.id k) auth) c.public-key.ensures c.in_ok-auth_data.ensures.spelled)
           (g.met.K.PublicKeys.keeps_alg c.args.keys.now alg c.args.words.secret) low high f.0 f.1),
     )
