@@ -11,33 +11,8 @@ use Rattle.cose.specs.Keys.{item_of, IsKey, KeyOf, encoded_length}
 -- a key's map has no arrays or maps inside it
 pub key_fits : (k : CoseKey) → IsKey k → Fits 1 (item_of k)
 unfolding head before
-key_fits (keys.Es256 x y) h =
-    let a = h.0 in let b = h.1 in (
-      omega arith,
-      (
-        refl,
-        refl,
-        omega arith,
-        omega arith,
-        (
-          refl,
-          refl,
-          omega arith,
-          omega arith,
-          (refl, refl, omega arith, omega arith, (refl, refl, omega arith, omega arith, (refl, refl, omega arith, omega arith, tt))),
-        ),
-      ),
-    )
-key_fits (keys.EdDsa x) h = (
-  omega arith,
-  (
-    refl,
-    refl,
-    omega arith,
-    omega arith,
-    (refl, refl, omega arith, omega arith, (refl, refl, omega arith, omega arith, (refl, refl, omega arith, omega arith, tt))),
-  ),
-)
+key_fits (keys.Es256 x y) h = grind arith
+key_fits (keys.EdDsa x) h = grind arith
 
 -- a key's value has its spelling in canonical CBOR
 pub key_canon : (k : CoseKey) → IsKey k → Canon (item_of k) (spelling (item_of k))
