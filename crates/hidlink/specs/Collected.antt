@@ -30,9 +30,9 @@ Fits phase.Whole bytes = Unit {0}
 Fits (phase.Fault code) bytes = Unit {0}
 Fits (phase.Over kind) bytes = Unit {0}
 
--- what an answer after the packet at i says of what is shown
-abbrev pub ShowsAt : Shown → ℕ → Received → Type 0
-ShowsAt s i (Message message used) = (s ≡ Replied message.now) × (used ≡ i + 1)
-ShowsAt s i (DeviceError code used) = (s ≡ Failed code) × (used ≡ i + 1)
-ShowsAt s i (Dead index kind) = (s ≡ Died kind) × (index ≡ i)
-ShowsAt s i Incomplete = IsEnded s → ⊥
+-- what an answer after n packets says of what is shown
+abbrev pub ShowsAfter : Shown → ℕ → Received → Type 0
+ShowsAfter s n (Message message used) = (s ≡ Replied message.now) × (used ≡ n)
+ShowsAfter s n (DeviceError code used) = (s ≡ Failed code) × (used ≡ n)
+ShowsAfter s n (Dead index kind) = (s ≡ Died kind) × (index + 1 ≡ n)
+ShowsAfter s n Incomplete = IsEnded s → ⊥

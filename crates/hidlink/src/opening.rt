@@ -44,17 +44,12 @@ fn response(nonce: &[u8; 8], packet: &Packet) -> Option<u32>
 {
     match packet.read() {
         Head::Init {
-            cid,
-            cmd,
-            len,
+            cid: CTAPHID_BROADCAST_CID,
+            cmd: CTAPHID_INIT,
+            len: 17,
             bytes,
-        } => {
-            if cid != CTAPHID_BROADCAST_CID || cmd != CTAPHID_INIT || len != 17 {
-                return None;
-            }
-            assigned(nonce, bytes)
-        }
-        Head::Cont { .. } => None,
+        } => assigned(nonce, bytes),
+        Head::Init { .. } | Head::Cont { .. } => None,
     }
 }
 

@@ -200,16 +200,15 @@ fn is_of_options(read: &GetAssertion, options: &RequestOptions<'_>, hash: &[u8])
         && read.client_data_hash.as_slice() == hash
 }
 
-#[test]
-fn sign_ins(rt: HostRuntime) -> Result<(), Fail> {
-    let alloc = rt.alloc();
-    for row in SIGN_INS {
-        let message = joined(alloc, &row.message)?;
-        let out = assertion_request(alloc, row.origin, &row.options, 2)?;
-        let is_read = is_sign_in(alloc, &message, &row.options, row.message[1]);
-        assert!(rt; is_read && goes_out(alloc, &out, row.client_data, &message)?);
-    }
-    Ok(())
+/// Whether the request of a sign-in's row goes out as it says.
+fn sign_in_goes_out(
+    alloc: Global,
+    row: &RequestRow<RequestOptions<'static>>,
+) -> Result<bool, Fail> {
+    let message = joined(alloc, &row.message)?;
+    let out = assertion_request(alloc, row.origin, &row.options, 2)?;
+    let is_read = is_sign_in(alloc, &message, &row.options, row.message[1]);
+    Ok(is_read && goes_out(alloc, &out, row.client_data, &message)?)
 }
 
 /// Whether an authenticator reads the request of these options from the message.
@@ -248,8 +247,11 @@ fn is_of_creation_options(
 }
 
 #[test]
-fn registrations(rt: HostRuntime) -> Result<(), Fail> {
+fn requests(rt: HostRuntime) -> Result<(), Fail> {
     let alloc = rt.alloc();
+    for row in SIGN_INS {
+        assert!(rt; sign_in_goes_out(alloc, row)?);
+    }
     for row in REGISTRATIONS {
         let message = joined(alloc, &row.message)?;
         let out = creation_request(alloc, row.origin, &row.options, 2)?;

@@ -69,13 +69,13 @@ const HEADS: &[(&[u8], Said, usize, u8)] = &[
 /// What a packet says, its data's length and first byte.
 fn head_of(packet: &Packet) -> (Said, usize, u8) {
     match packet.read() {
+        Head::Cont { cid, seq, bytes } => (Said::Cont(cid, seq), bytes.len(), bytes[0]),
         Head::Init {
             cid,
             cmd,
             len,
             bytes,
         } => (Said::Init(cid, cmd, len), bytes.len(), bytes[0]),
-        Head::Cont { cid, seq, bytes } => (Said::Cont(cid, seq), bytes.len(), bytes[0]),
     }
 }
 

@@ -39,6 +39,15 @@ struct Ceremony {
     refused: &'static str,
 }
 
+/// What the answer of a verdict on packets says.
+fn told<T: Drop, W: Drop>(answer: Result<T, ceremony::Error<W>>) -> Answer {
+    match answer {
+        Ok(_) => Answer::Done,
+        Err(ceremony::Error::Memory) => Answer::Memory,
+        Err(_) => Answer::Wrong,
+    }
+}
+
 impl Ceremony {
     fn new(alloc: Global) -> Option<Ceremony> {
         let mut end = End::new(alloc)?;
@@ -137,37 +146,15 @@ impl Ceremony {
     }
 
     fn register(&mut self, alloc: Global) -> Answer {
-        let (session, client_data) = (self.session, self.client_data.as_slice());
-        match register(
-            alloc,
-            &mut self.site,
-            &BenchScheme,
-            session,
-            1,
-            client_data,
-            &self.sent,
-        ) {
-            Ok(_) => Answer::Done,
-            Err(ceremony::Error::Memory) => Answer::Memory,
-            Err(_) => Answer::Wrong,
-        }
+        let (site, session) = (&mut self.site, self.session);
+        let data = self.client_data.as_slice();
+        told(register(alloc, site, &BenchScheme, session, 1, data, &self.sent))
     }
 
     fn sign_in(&mut self, alloc: Global) -> Answer {
-        let (session, client_data) = (self.session, self.client_data.as_slice());
-        match sign_in(
-            alloc,
-            &mut self.site,
-            &BenchScheme,
-            session,
-            1,
-            client_data,
-            &self.sent,
-        ) {
-            Ok(_) => Answer::Done,
-            Err(ceremony::Error::Memory) => Answer::Memory,
-            Err(_) => Answer::Wrong,
-        }
+        let (site, session) = (&mut self.site, self.session);
+        let data = self.client_data.as_slice();
+        told(sign_in(alloc, site, &BenchScheme, session, 1, data, &self.sent))
     }
 
     fn save(&mut self, alloc: Global) -> Answer {

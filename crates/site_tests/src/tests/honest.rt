@@ -60,18 +60,10 @@ fn registers(
     let request = creation(alloc, manner, &started.challenge, key.channel)?;
     let packets = key.answer(alloc, &request.packets)?;
     let (session, channel) = (started.session, key.channel);
-    let client_data = request.client_data.as_slice();
-    register(
-        alloc,
-        site,
-        &BenchScheme,
-        session,
-        channel,
-        client_data,
-        &packets,
-    )
-    .ok()
-    .map(|new| new.credential)
+    let data = request.client_data.as_slice();
+    register(alloc, site, &BenchScheme, session, channel, data, &packets)
+        .ok()
+        .map(|new| new.credential)
 }
 
 /// What a client asks of the key for a sign-in, in a session with this challenge.
@@ -101,18 +93,10 @@ fn signs_in(
     let request = assertion(alloc, &started.challenge, listed, key.channel)?;
     let packets = key.answer(alloc, &request.packets)?;
     let (session, channel) = (started.session, key.channel);
-    let client_data = request.client_data.as_slice();
-    sign_in(
-        alloc,
-        site,
-        &BenchScheme,
-        session,
-        channel,
-        client_data,
-        &packets,
-    )
-    .ok()
-    .map(|accepted| accepted.user.as_slice() == USER)
+    let data = request.client_data.as_slice();
+    sign_in(alloc, site, &BenchScheme, session, channel, data, &packets)
+        .ok()
+        .map(|accepted| accepted.user.as_slice() == USER)
 }
 
 /// The counter of a credential at the site.
