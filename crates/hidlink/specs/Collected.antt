@@ -1,6 +1,7 @@
 -- How a collector's fields are seen, and what private functions keep of them.
 use Rattle.std.specs.Prelude.{◌≡◌, ℕ, ◌+◌, ◌*◌, ◌<◌, ◌≤◌, List, length}
 use Rattle.hidframe.specs.Frames.{continuation_count}
+use Rattle.hidframe.specs.declared.ctaphid.TheConstants.{CONT_DATA_SIZE, INIT_DATA_SIZE, MAX_PAYLOAD_SIZE}
 use Rattle.hidlink.specs.Wire.{Shown, Waiting, Receiving, Replied, Failed, Died}
 use Rattle.hidlink.specs.Steps.{IsEnded}
 use Rattle.hidlink.specs.declared.collection.Received.{Received}
@@ -25,7 +26,7 @@ shown_view (phase.Over kind) bytes = Died kind
 abbrev pub Fits : Phase → List ℕ → Type 0
 Fits phase.Idle bytes = Unit {0}
 Fits (phase.Within len next) bytes =
-    (length bytes ≡ 57 + 59 * next) × (next < continuation_count len) × (len ≤ 7609)
+    (length bytes ≡ INIT_DATA_SIZE + CONT_DATA_SIZE * next) × (next < continuation_count len) × (len ≤ MAX_PAYLOAD_SIZE)
 Fits phase.Whole bytes = Unit {0}
 Fits (phase.Fault code) bytes = Unit {0}
 Fits (phase.Over kind) bytes = Unit {0}

@@ -1,5 +1,6 @@
 //! The client's end: packets in, one reply out.
 
+ghost use Rattle.hidframe.specs.declared.ctaphid.TheConstants.{CONT_DATA_SIZE, INIT_DATA_SIZE, MAX_PAYLOAD_SIZE};
 ghost use Rattle.std.specs.Prelude.{◌≡◌, ◌≤◌, ◌<◌, ◌+◌, ◌*◌, ◌++◌, [], ◌∷◌, List, ℕ, length, take, IfOk, IfSome};
 ghost use Rattle.hidlink.specs.Steps.{opened, received};
 ghost use Rattle.hidlink.specs.Collected.{Fits, ShowsAfter, shown_view};
@@ -69,9 +70,9 @@ enum Phase {
 
 /// Takes a data area of a message of `len` bytes, with which `next` continuations are there.
 fn store_data(inbox: &mut Inbox, len: u16, next: u8, bytes: &[u8]) -> Phase
-    requires len { len ≤ 7609 }
+    requires len { len ≤ MAX_PAYLOAD_SIZE }
     requires held { length inbox.old ≤ len }
-    requires number { length inbox.old + length bytes.now ≡ 57 + 59 * next }
+    requires number { length inbox.old + length bytes.now ≡ INIT_DATA_SIZE + CONT_DATA_SIZE * next }
     ensures shown { shown_view result inbox.new ≡ received len next (inbox.old ++ bytes.now) }
     ensures fits { Fits result inbox.new }
 {
@@ -85,7 +86,7 @@ fn store_data(inbox: &mut Inbox, len: u16, next: u8, bytes: &[u8]) -> Phase
 
 /// Takes a packet that begins a message where none is open.
 fn open_message(inbox: &mut Inbox, cmd: u8, len: u16, bytes: &[u8]) -> Phase
-    requires { length bytes.now ≡ 57 }
+    requires { length bytes.now ≡ INIT_DATA_SIZE }
     ensures shown { shown_view result inbox.new ≡ opened cmd len bytes.now }
     ensures fits { Fits result inbox.new }
 {
@@ -266,7 +267,7 @@ impl Collector {
     /// A packet that begins a message, on the channel.
     #[tactic(auto, unfolding(crate::specs::Steps::on_channel))]
     fn take_initial(&mut self, cmd: u8, len: u16, bytes: &[u8])
-        requires { length bytes.now ≡ 57 }
+        requires { length bytes.now ≡ INIT_DATA_SIZE }
         ensures { (cid : ℕ) → self.new ≡ record self.old { shown = on_channel self.old.shown (Initial cid cmd len bytes.now) } }
     {
         match self.phase {
@@ -283,7 +284,7 @@ impl Collector {
     /// A continuation, on the channel.
     #[tactic(auto, unfolding(crate::specs::Steps::on_channel))]
     fn take_continuation(&mut self, seq: u8, bytes: &[u8])
-        requires { length bytes.now ≡ 59 }
+        requires { length bytes.now ≡ CONT_DATA_SIZE }
         ensures { (cid : ℕ) → self.new ≡ record self.old { shown = on_channel self.old.shown (Continuation cid seq bytes.now) } }
     {
         match self.phase {
