@@ -35,10 +35,7 @@ fn creation_reply_after(alloc: Global, rest: &[u8]) -> Result<CreationReply, Err
         IsReply kinds.MakeCredential (creation_reply (creation_reply_view r)) (0 ∷ rest.now)) }
     ensures refused { IfErr result (λ e. ReplyRefused kinds.MakeCredential (0 ∷ rest.now) e) }
 {
-    let value = match whole(rest) {
-        Ok(value) => value,
-        Err(e) => return Err(e),
-    };
+    let value = whole(rest)?;
     match creation_reply(alloc, &value) {
         Ok(reply) => Ok(reply),
         Err(e) => Err(Error::from(e)),
@@ -55,10 +52,7 @@ fn assertion_after(rest: &[u8]) -> Result<AssertionView<'_>, Error>
     if let Some(reply) = usual_assertion(rest) {
         return Ok(reply);
     }
-    let value = match whole(rest) {
-        Ok(value) => value,
-        Err(e) => return Err(e),
-    };
+    let value = whole(rest)?;
     match assertion_reply(&value) {
         Ok(reply) => Ok(reply),
         Err(_) => Err(Error::Shape),
@@ -71,10 +65,7 @@ fn next_after(rest: &[u8]) -> Result<AssertionView<'_>, Error>
         IsReply kinds.GetNextAssertion (next_reply (lent_assertion_view r)) (0 ∷ rest.now)) }
     ensures refused { IfErr result (λ e. ReplyRefused kinds.GetNextAssertion (0 ∷ rest.now) e) }
 {
-    let value = match whole(rest) {
-        Ok(value) => value,
-        Err(e) => return Err(e),
-    };
+    let value = whole(rest)?;
     match assertion_reply(&value) {
         Ok(reply) => match reply.number {
             None => Ok(reply),
@@ -112,10 +103,7 @@ fn info_reply_after(alloc: Global, rest: &[u8]) -> Result<InfoReply, Error>
         IsReply kinds.GetInfo (info_reply (info_view r)) (0 ∷ rest.now)) }
     ensures refused { IfErr result (λ e. ReplyRefused kinds.GetInfo (0 ∷ rest.now) e) }
 {
-    let value = match whole(rest) {
-        Ok(value) => value,
-        Err(e) => return Err(e),
-    };
+    let value = whole(rest)?;
     match info(alloc, &value) {
         Ok(reply) => Ok(reply),
         Err(e) => Err(Error::from(e)),
@@ -138,22 +126,10 @@ fn reply_after(alloc: Global, kind: Kind, rest: &[u8]) -> Result<Reply, Error>
     ensures refused { IfErr result (λ e. ReplyRefused kind (0 ∷ rest.now) e) }
 {
     match kind {
-        Kind::MakeCredential => match creation_reply_after(alloc, rest) {
-            Ok(reply) => Ok(Reply::MakeCredential(reply)),
-            Err(e) => Err(e),
-        },
-        Kind::GetAssertion => match assertion_after(rest) {
-            Ok(reply) => Ok(Reply::GetAssertion(owned(alloc, &reply)?)),
-            Err(e) => Err(e),
-        },
-        Kind::GetNextAssertion => match next_after(rest) {
-            Ok(reply) => Ok(Reply::GetNextAssertion(owned(alloc, &reply)?)),
-            Err(e) => Err(e),
-        },
-        Kind::GetInfo => match info_reply_after(alloc, rest) {
-            Ok(reply) => Ok(Reply::GetInfo(reply)),
-            Err(e) => Err(e),
-        },
+        Kind::MakeCredential => Ok(Reply::MakeCredential(creation_reply_after(alloc, rest)?)),
+        Kind::GetAssertion => Ok(Reply::GetAssertion(owned(alloc, &assertion_after(rest)?)?)),
+        Kind::GetNextAssertion => Ok(Reply::GetNextAssertion(owned(alloc, &next_after(rest)?)?)),
+        Kind::GetInfo => Ok(Reply::GetInfo(info_reply_after(alloc, rest)?)),
         Kind::Reset => reset_reply_after(rest),
     }
 }
@@ -185,6 +161,7 @@ pub fn read_assertion(bytes: &[u8]) -> Result<AssertionView<'_>, Error>
     // So bytes that are refused are no such reply.
     ensures none { IfErr result (λ _. (q : Assertion) → ReplyOf (assertion_reply q) bytes.now → ⊥) }
 {
+    // A `match` where the proof speaks of the error: `?` hides it behind its conversion.
     let rest = match behind_status(bytes) {
         Ok(rest) => rest,
         Err(e) => return Err(e),
@@ -206,6 +183,7 @@ pub fn read_creation(alloc: Global, bytes: &[u8]) -> Result<CreationReply, Error
     ensures none { IfErr result (λ e. e ≢ errors.Memory
         → (q : Creation) → ReplyOf (creation_reply q) bytes.now → ⊥) }
 {
+    // As in `read_assertion`.
     let rest = match behind_status(bytes) {
         Ok(rest) => rest,
         Err(e) => return Err(e),
@@ -226,6 +204,7 @@ pub fn read_reply(alloc: Global, kind: Kind, bytes: &[u8]) -> Result<Reply, Erro
     ensures found { IfOk result (λ r. IsReply kind (reply_view r) bytes.now) }
     ensures refused { IfErr result (λ e. ReplyRefused kind bytes.now e) }
 {
+    // As in `read_assertion`.
     match behind_status(bytes) {
         Ok(rest) => reply_after(alloc, kind, rest),
         Err(e) => Err(e),

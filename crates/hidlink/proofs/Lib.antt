@@ -4,6 +4,7 @@ pub mod SoFar
 pub mod Shows
 pub mod Exactly
 pub mod Laws
+pub mod Taken
 pub mod Reception
 pub mod Left
 pub mod Readings

@@ -1,6 +1,7 @@
 -- How a collector's fields are seen, and what private functions keep of them.
 use Rattle.std.specs.Prelude.{◌≡◌, ℕ, ◌+◌, ◌*◌, ◌<◌, ◌≤◌, List, length}
 use Rattle.hidframe.specs.Frames.{continuation_count}
+use Rattle.hidframe.specs.declared.ctaphid.TheConstants.{CONT_DATA_SIZE, INIT_DATA_SIZE, MAX_PAYLOAD_SIZE}
 use Rattle.hidlink.specs.Wire.{Shown, Waiting, Receiving, Replied, Failed, Died}
 use Rattle.hidlink.specs.Steps.{IsEnded}
 use Rattle.hidlink.specs.declared.collection.Received.{Received}
@@ -25,14 +26,14 @@ shown_view (phase.Over kind) bytes = Died kind
 abbrev pub Fits : Phase → List ℕ → Type 0
 Fits phase.Idle bytes = Unit {0}
 Fits (phase.Within len next) bytes =
-    (length bytes ≡ 57 + 59 * next) × (next < continuation_count len) × (len ≤ 7609)
+    (length bytes ≡ INIT_DATA_SIZE + CONT_DATA_SIZE * next) × (next < continuation_count len) × (len ≤ MAX_PAYLOAD_SIZE)
 Fits phase.Whole bytes = Unit {0}
 Fits (phase.Fault code) bytes = Unit {0}
 Fits (phase.Over kind) bytes = Unit {0}
 
--- what an answer after the packet at i says of what is shown
-abbrev pub ShowsAt : Shown → ℕ → Received → Type 0
-ShowsAt s i (Message message used) = (s ≡ Replied message.now) × (used ≡ i + 1)
-ShowsAt s i (DeviceError code used) = (s ≡ Failed code) × (used ≡ i + 1)
-ShowsAt s i (Dead index kind) = (s ≡ Died kind) × (index ≡ i)
-ShowsAt s i Incomplete = IsEnded s → ⊥
+-- what an answer after n packets says of what is shown
+abbrev pub ShowsAfter : Shown → ℕ → Received → Type 0
+ShowsAfter s n (Message message used) = (s ≡ Replied message.now) × (used ≡ n)
+ShowsAfter s n (DeviceError code used) = (s ≡ Failed code) × (used ≡ n)
+ShowsAfter s n (Dead index kind) = (s ≡ Died kind) × (index + 1 ≡ n)
+ShowsAfter s n Incomplete = IsEnded s → ⊥

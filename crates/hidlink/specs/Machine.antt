@@ -3,6 +3,8 @@
 use Rattle.std.specs.Prelude.{◌≡◌, ◌<◌, ◌≤◌, ◌*◌, ℕ, ◌+◌, ◌==◌, nat_lt, List, ◌++◌, length, take, if◌then◌else◌}
 use Rattle.hidframe.specs.Packets.{Fields, Initial, Continuation, fields}
 use Rattle.hidframe.specs.Frames.{continuation_count}
+use Rattle.hidframe.specs.declared.ctaphid.TheConstants.{CONT_DATA_SIZE, CTAPHID_CBOR, INIT_DATA_SIZE, MAX_PAYLOAD_SIZE}
+use Rattle.hidlink.specs.declared.arbitration.TheConstants.{MAX_CHANNELS}
 use Rattle.hidlink.specs.Ranks.{TransactionState, Idle, Receiving, Working, IsWorking, Response, DeviceState, chosen, packets_of}
 use Rattle.hidlink.specs.declared.arbitration.Arbitration.{Arbitration}
 use Rattle.hidlink.specs.declared.arbitration.Arbitration.TheVariants.{Refused, NewChannel, ChannelAnew, Interrupted, Cancelled, Ignored, Begins}
@@ -22,7 +24,7 @@ to n s = record { channels = n; after = s }
 abbrev pub came : ℕ → ℕ → ℕ → ℕ → ℕ → List ℕ → Effect
 came n c cmd len next bytes =
     if nat_lt next (continuation_count len) then to n (Receiving c cmd len next bytes)
-    else (if cmd == 16 then to n (Working c (take len bytes)) else to n Idle)
+    else (if cmd == CTAPHID_CBOR then to n (Working c (take len bytes)) else to n Idle)
 
 -- what a choice does
 abbrev pub chosen_effect : ℕ → TransactionState → ℕ → ℕ → ℕ → List ℕ → Arbitration → Effect
@@ -48,7 +50,7 @@ abbrev pub effect : ℕ → TransactionState → DeviceCall → Effect
 effect n s (Took p) = packet_effect n s (fields p)
 effect n Idle (Answered m) = to n Idle
 effect n (Receiving cid cmd len next bytes) (Answered m) = to n (Receiving cid cmd len next bytes)
-effect n (Working cid payload) (Answered m) = if nat_lt 7609 (length m) then to n (Working cid payload) else to n Idle
+effect n (Working cid payload) (Answered m) = if nat_lt MAX_PAYLOAD_SIZE (length m) then to n (Working cid payload) else to n Idle
 effect n s (Kept status) = to n s
 effect n Idle Expired = to n Idle
 effect n (Working cid payload) Expired = to n (Working cid payload)
@@ -57,12 +59,12 @@ effect n (Receiving cid cmd len next bytes) Expired = to n Idle
 -- what a choice may rest on
 abbrev pub MayChoose : ℕ → TransactionState → ℕ → ℕ → Arbitration → Type 0
 MayChoose n s cmd len (Refused code) = Unit {0}
-MayChoose n s cmd len NewChannel = n < 65535
+MayChoose n s cmd len NewChannel = n < MAX_CHANNELS
 MayChoose n s cmd len ChannelAnew = Unit {0}
 MayChoose n s cmd len Interrupted = Unit {0}
 MayChoose n s cmd len Cancelled = IsWorking s
 MayChoose n s cmd len Ignored = Unit {0}
-MayChoose n s cmd len Begins = (len ≤ 7609) × (s ≡ Idle)
+MayChoose n s cmd len Begins = (len ≤ MAX_PAYLOAD_SIZE) × (s ≡ Idle)
 
 -- what it shows in this phase with these bytes
 abbrev pub state_view : Phase → List ℕ → TransactionState
@@ -72,8 +74,9 @@ state_view (phase.Working cid) bytes = Working cid bytes
 
 abbrev pub PhaseFits : Phase → List ℕ → Type 0
 PhaseFits phase.Idle bytes = Unit {0}
-PhaseFits (phase.Receiving cid cmd len next) bytes = (length bytes ≡ 57 + 59 * next) × (next < continuation_count len) × (len ≤ 7609)
-PhaseFits (phase.Working cid) bytes = length bytes ≤ 7609
+PhaseFits (phase.Receiving cid cmd len next) bytes = (length bytes ≡ INIT_DATA_SIZE + CONT_DATA_SIZE * next) × (next < continuation_count len)
+    × (len ≤ MAX_PAYLOAD_SIZE)
+PhaseFits (phase.Working cid) bytes = length bytes ≤ MAX_PAYLOAD_SIZE
 
 -- what a packet made of a device, and what the call told
 abbrev pub Does : DeviceState → DeviceEvent → Effect → Response → Type 0

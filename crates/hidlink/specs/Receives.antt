@@ -1,11 +1,17 @@
 -- What a whole list of packets gives: CTAP 2.1 sections 11.2.3 to 11.2.5, for the reply to one request.
-use Rattle.std.specs.Prelude.{◌≡◌, ℕ, ◌+◌, ◌<◌, ◌≤◌, ◌↔◌, List, [], ◌∷◌, length, take}
+use Rattle.std.specs.Prelude.{◌≡◌, ℕ, ◌+◌, ◌<◌, ◌≤◌, ◌↔◌, ◌⊎◌, List, [], ◌∷◌, length, take}
 use Rattle.hidframe.specs.declared.Packet.{Packet}
 use Rattle.hidframe.specs.declared.ctaphid.TheConstants.{CTAPHID_CBOR, CTAPHID_ERROR}
 use Rattle.hidlink.specs.declared.collection.DeadKind.{DeadKind}
 use Rattle.hidlink.specs.declared.collection.Received.{Received}
 use Rattle.hidlink.specs.declared.collection.Received.TheVariants.{Message, DeviceError, Dead, Incomplete}
 use Rattle.hidlink.specs.Wire.{Carries, Dies, HasEnded}
+
+-- n is the length of the shortest beginning of ps with which all has ended, else of ps
+pub record IsTaken (c : ℕ) (ps : List Packet) (n : ℕ) : Type 0 where
+  pub within : n ≤ length ps
+  pub shortest : (j : ℕ) → j < n → HasEnded c (take j ps) → ⊥
+  pub ended : HasEnded c (take n ps) ⊎ (n ≡ length ps)
 
 -- the answer is the message m after n packets
 abbrev pub IsMessage : Received → List ℕ → ℕ → Type 0

@@ -4,6 +4,7 @@ use Rattle.std.specs.Prelude.{ℕ, ◌+◌, ◌==◌, ◌||◌, nat_lt, nat_le, 
 use Rattle.hidframe.specs.declared.Packet.{Packet}
 use Rattle.hidframe.specs.Packets.{Fields, Initial, Continuation, fields}
 use Rattle.hidframe.specs.Frames.{continuation_count}
+use Rattle.hidframe.specs.declared.ctaphid.TheConstants.{CTAPHID_CBOR, CTAPHID_ERROR, CTAPHID_KEEPALIVE, MAX_PAYLOAD_SIZE, STATUS_PROCESSING, STATUS_UPNEEDED}
 use Rattle.hidlink.specs.declared.collection.DeadKind.TheVariants.{WrongCommand, BadLength, BadKeepalive, StrayContinuation, WrongSequence, Interrupted}
 use Rattle.hidlink.specs.Wire.{Shown, Waiting, Receiving, Replied, Failed, Died, on, channel_of}
 
@@ -12,9 +13,10 @@ received len next bytes = if nat_lt next (continuation_count len) then Receiving
 
 abbrev pub opened : ℕ → ℕ → List ℕ → Shown
 opened cmd len area =
-    if cmd == 16 then (if nat_le len 7609 then received len 0 area else Died BadLength)
-    else (if cmd == 63 then (if len == 1 then Failed (slice_index area 0) else Died BadLength)
-    else (if cmd == 59 then (if len == 1 then (if slice_index area 0 == 1 || slice_index area 0 == 2 then Waiting else Died BadKeepalive) else Died BadLength)
+    if cmd == CTAPHID_CBOR then (if nat_le len MAX_PAYLOAD_SIZE then received len 0 area else Died BadLength)
+    else (if cmd == CTAPHID_ERROR then (if len == 1 then Failed (slice_index area 0) else Died BadLength)
+    else (if cmd == CTAPHID_KEEPALIVE then (if len == 1
+    then (if slice_index area 0 == STATUS_PROCESSING || slice_index area 0 == STATUS_UPNEEDED then Waiting else Died BadKeepalive) else Died BadLength)
     else Died WrongCommand))
 
 unfoldable pub on_channel : Shown → Fields → Shown

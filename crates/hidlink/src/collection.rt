@@ -1,15 +1,16 @@
 //! The client's end: packets in, one reply out.
 
+ghost use Rattle.hidframe.specs.declared.ctaphid.TheConstants.{CONT_DATA_SIZE, INIT_DATA_SIZE, MAX_PAYLOAD_SIZE};
 ghost use Rattle.std.specs.Prelude.{◌≡◌, ◌≤◌, ◌<◌, ◌+◌, ◌*◌, ◌++◌, [], ◌∷◌, List, ℕ, length, take, IfOk, IfSome};
 ghost use Rattle.hidlink.specs.Steps.{opened, received};
-ghost use Rattle.hidlink.specs.Collected.{Fits, ShowsAt, shown_view};
+ghost use Rattle.hidlink.specs.Collected.{Fits, ShowsAfter, shown_view};
 ghost use Rattle.std.specs.Prelude.{◌⊎◌, ◌^◌, ◌↔◌, IsTrue};
 ghost use Rattle.std.specs.List.{AllByRecursion};
 ghost use Rattle.hidframe.specs.declared.Packet.{Packet};
 ghost use Rattle.hidframe.specs.Packets.{IsPacket};
 ghost use Rattle.hidlink.specs.declared.collection.DeadKind.{DeadKind};
-ghost use Rattle.hidlink.specs.Wire.{Carries, Dies, Got, HasEnded, IsBeginning, IsDead};
-ghost use Rattle.hidlink.specs.Receives.{Receives};
+ghost use Rattle.hidlink.specs.Wire.{Carries, Died, Dies, Got, HasEnded, IsBeginning, IsDead};
+ghost use Rattle.hidlink.specs.Receives.{IsTaken, Receives};
 
 use crate::room::Inbox;
 use hidframe::ctaphid::{
@@ -43,8 +44,8 @@ impl DeadKind {
     ghost use Rattle.hidlink.specs.Wire.{number_of};
 
     /// The number of the kind, 1 to 6 in the order of the variants.
-    pub fn number(self) -> u8
-        ensures { result ≡ number_of self }
+    pub fn number(&self) -> u8
+        ensures { result ≡ number_of self.now }
     {
         match self {
             DeadKind::WrongCommand => 1,
@@ -69,9 +70,9 @@ enum Phase {
 
 /// Takes a data area of a message of `len` bytes, with which `next` continuations are there.
 fn store_data(inbox: &mut Inbox, len: u16, next: u8, bytes: &[u8]) -> Phase
-    requires len { len ≤ 7609 }
+    requires len { len ≤ MAX_PAYLOAD_SIZE }
     requires held { length inbox.old ≤ len }
-    requires number { length inbox.old + length bytes.now ≡ 57 + 59 * next }
+    requires number { length inbox.old + length bytes.now ≡ INIT_DATA_SIZE + CONT_DATA_SIZE * next }
     ensures shown { shown_view result inbox.new ≡ received len next (inbox.old ++ bytes.now) }
     ensures fits { Fits result inbox.new }
 {
@@ -85,7 +86,7 @@ fn store_data(inbox: &mut Inbox, len: u16, next: u8, bytes: &[u8]) -> Phase
 
 /// Takes a packet that begins a message where none is open.
 fn open_message(inbox: &mut Inbox, cmd: u8, len: u16, bytes: &[u8]) -> Phase
-    requires { length bytes.now ≡ 57 }
+    requires { length bytes.now ≡ INIT_DATA_SIZE }
     ensures shown { shown_view result inbox.new ≡ opened cmd len bytes.now }
     ensures fits { Fits result inbox.new }
 {
@@ -266,7 +267,7 @@ impl Collector {
     /// A packet that begins a message, on the channel.
     #[tactic(auto, unfolding(crate::specs::Steps::on_channel))]
     fn take_initial(&mut self, cmd: u8, len: u16, bytes: &[u8])
-        requires { length bytes.now ≡ 57 }
+        requires { length bytes.now ≡ INIT_DATA_SIZE }
         ensures { (cid : ℕ) → self.new ≡ record self.old { shown = on_channel self.old.shown (Initial cid cmd len bytes.now) } }
     {
         match self.phase {
@@ -283,7 +284,7 @@ impl Collector {
     /// A continuation, on the channel.
     #[tactic(auto, unfolding(crate::specs::Steps::on_channel))]
     fn take_continuation(&mut self, seq: u8, bytes: &[u8])
-        requires { length bytes.now ≡ 59 }
+        requires { length bytes.now ≡ CONT_DATA_SIZE }
         ensures { (cid : ℕ) → self.new ≡ record self.old { shown = on_channel self.old.shown (Continuation cid seq bytes.now) } }
     {
         match self.phase {
@@ -315,47 +316,56 @@ pub enum Received<'a> {
     Incomplete,
 }
 
-/// Feeds a new collector the packets until one of them gives the reply, the device's error or the
-/// death; what follows it is not looked at. Takes no memory.
+/// Feeds a new collector the packets, and says how many it took until one of them gave the reply, the
+/// device's error or the death: all of them, where none did. Those behind change nothing. Takes no memory.
+pub fn feed_all(collector: &mut Collector, packets: &[Packet]) -> usize
+    requires { Got collector.old.cid [] collector.old.shown }
+    ensures channel { collector.new.cid ≡ collector.old.cid }
+    ensures got { Got collector.old.cid packets.now collector.new.shown }
+    ensures taken { IsTaken collector.old.cid packets.now result }
+{
+    let mut used = 0;
+    for packet in packets {
+        if !is_late(collector, packet) {
+            used += 1;
+        }
+    }
+    used
+}
+
+/// What the packets give on the channel of a new collector, which is fed them. Takes no memory.
 pub fn receive<'a>(collector: &'a mut Collector, packets: &[Packet]) -> Received<'a>
     requires { Got collector.old.cid [] collector.old.shown }
     ensures { Receives collector.entry.now.cid packets.now result }
 {
-    for (i, packet) in packets.iter().enumerate() {
-        if !wants_more(collector, packet) {
-            return received_at(collector, i);
-        }
-    }
-    Received::Incomplete
+    let used = feed_all(collector, packets);
+    received_after(collector, used)
 }
 
-/// Whether a collector that is fed this packet wants more.
-fn wants_more(collector: &mut Collector, packet: &Packet) -> bool
+/// Feeds a collector a packet, and says whether all had ended before it.
+fn is_late(collector: &mut Collector, packet: &Packet) -> bool
     ensures channel { collector.new.cid ≡ collector.old.cid }
     ensures got { (ps : List Packet) → Got collector.old.cid ps collector.old.shown
         → Got collector.old.cid (ps ++ packet.now ∷ []) collector.new.shown }
-    ensures more { (ps : List Packet) → Got collector.old.cid ps collector.old.shown
-        → (IsTrue result ↔ (HasEnded collector.old.cid (ps ++ packet.now ∷ []) → ⊥)) }
+    ensures late { (ps : List Packet) → Got collector.old.cid ps collector.old.shown
+        → (IsTrue result ↔ HasEnded collector.old.cid ps) }
 {
-    matches!(collector.feed(packet), Ok(Outcome::More))
+    matches!(collector.feed(packet), Err(_))
 }
 
-/// What a collector gave with the packet at `index`.
-fn received_at(collector: &Collector, index: usize) -> Received<'_>
-    requires { index + 1 < 2 ^ 64 }
-    ensures { ShowsAt collector.now.shown index result }
+/// What a collector gave with the packet number `used`, from 1.
+fn received_after(collector: &Collector, used: usize) -> Received<'_>
+    requires { (kind : DeadKind) → collector.now.shown ≡ Died kind → 1 ≤ used }
+    ensures { ShowsAfter collector.now.shown used result }
 {
     match collector.shown() {
         Outcome::More => Received::Incomplete,
-        Outcome::Reply(message) => Received::Message {
-            message,
-            used: index + 1,
+        Outcome::Reply(message) => Received::Message { message, used },
+        Outcome::DeviceError(code) => Received::DeviceError { code, used },
+        Outcome::Dead(kind) => Received::Dead {
+            index: used - 1,
+            kind,
         },
-        Outcome::DeviceError(code) => Received::DeviceError {
-            code,
-            used: index + 1,
-        },
-        Outcome::Dead(kind) => Received::Dead { index, kind },
     }
 }
 

@@ -1,5 +1,6 @@
 //! The client's way to a channel: CTAP 2.1 section 11.2.9.1.3.
 
+ghost use Rattle.hidframe.specs.declared.ctaphid.TheConstants.{INIT_DATA_SIZE};
 ghost use Rattle.std.specs.Prelude.{◌≡◌, ◌++◌, [], ◌∷◌, List, ℕ, length, MatchOption};
 ghost use Rattle.hidframe.specs.declared.Packet.{Packet};
 ghost use Rattle.hidframe.specs.Pieces.{frame_list};
@@ -22,7 +23,7 @@ pub enum Opening {
 
 /// The channel that these data bytes assign in response to the nonce.
 fn assigned(nonce: &[u8; 8], bytes: &[u8]) -> Option<u32>
-    requires { length bytes.now ≡ 57 }
+    requires { length bytes.now ≡ INIT_DATA_SIZE }
     ensures { MatchOption result ((c : ℕ) → Assigns nonce.now bytes.now c → ⊥) (λ c. Assigns nonce.now bytes.now c) }
 {
     let cid = u32::from_be_bytes([bytes[8], bytes[9], bytes[10], bytes[11]]);
@@ -44,17 +45,12 @@ fn response(nonce: &[u8; 8], packet: &Packet) -> Option<u32>
 {
     match packet.read() {
         Head::Init {
-            cid,
-            cmd,
-            len,
+            cid: CTAPHID_BROADCAST_CID,
+            cmd: CTAPHID_INIT,
+            len: 17,
             bytes,
-        } => {
-            if cid != CTAPHID_BROADCAST_CID || cmd != CTAPHID_INIT || len != 17 {
-                return None;
-            }
-            assigned(nonce, bytes)
-        }
-        Head::Cont { .. } => None,
+        } => assigned(nonce, bytes),
+        Head::Init { .. } | Head::Cont { .. } => None,
     }
 }
 

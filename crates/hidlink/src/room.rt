@@ -1,6 +1,7 @@
 //! Room for the bytes of one message each way, made once. What is put into it fits, so that no memory is
 //! taken later, and it is never cleared as a whole.
 
+ghost use Rattle.hidframe.specs.declared.ctaphid.TheConstants.{MAX_PAYLOAD_SIZE};
 ghost use Rattle.std.specs.Prelude.{◌≡◌, ◌≤◌, ◌<◌, ◌++◌, ◌↔◌, [], ◌∷◌, length, take, IfOk, IsTrue, MatchOption};
 ghost use Rattle.hidframe.specs.declared.Packet.{Packet};
 ghost use Rattle.hidframe.specs.Pieces.{frame_list};
@@ -44,7 +45,7 @@ impl Inbox {
 
     /// Takes bytes of a message of `len` bytes, as many as it lacks.
     pub fn append(&mut self, len: u16, bytes: &[u8])
-        requires len { len ≤ 7609 }
+        requires len { len ≤ MAX_PAYLOAD_SIZE }
         requires held { length self.old ≤ len }
         ensures { self.new ≡ take len (self.old ++ bytes.now) }
     {
@@ -102,7 +103,7 @@ impl Outbox {
     /// A message to send, in place of what was left.
     pub fn send(&mut self, cid: u32, cmd: u8, payload: &[u8])
         requires cmd { cmd < 128 }
-        requires len { length payload.now ≤ 7609 }
+        requires len { length payload.now ≤ MAX_PAYLOAD_SIZE }
         ensures { self.new ≡ frame_list cid cmd payload.now }
     {
         self.payload.clear();

@@ -1,6 +1,7 @@
 //! The authenticator's end: transactions on the channels of one device, CTAP 2.1 sections 11.2.3,
 //! 11.2.5 and 11.2.9.
 
+ghost use Rattle.hidframe.specs.declared.ctaphid.TheConstants.{CONT_DATA_SIZE, INIT_DATA_SIZE, MAX_PAYLOAD_SIZE};
 ghost use Rattle.std.specs.Prelude.{◌≡◌, ◌⊎◌, ◌≤◌, ◌<◌, ◌+◌, ◌++◌, ◌↔◌, [], ◌∷◌, List, ℕ, Bool, length, take, IfOk, IsErrOf, IsTrue, OnErr, OnOk, Some};
 ghost use Rattle.hidframe.specs.Packets.{Continuation, Fields, Initial, fields, IsPacket};
 ghost use Rattle.hidlink.specs.declared.transaction.DeviceEvent.{DeviceEvent};
@@ -93,9 +94,9 @@ fn advance(
     next: u8,
     bytes: &[u8],
 ) -> (Phase, DeviceEvent)
-    requires len { len ≤ 7609 }
+    requires len { len ≤ MAX_PAYLOAD_SIZE }
     requires held { length inbox.old ≤ len }
-    requires number { length inbox.old + length bytes.now ≡ 57 + 59 * next }
+    requires number { length inbox.old + length bytes.now ≡ INIT_DATA_SIZE + CONT_DATA_SIZE * next }
     requires drained { outbox.old ≡ [] }
     ensures state { state_view result.0 inbox.new ≡ (came 0 cid cmd len next (inbox.old ++ bytes.now)).after }
     ensures fits { PhaseFits result.0 inbox.new }
@@ -251,7 +252,7 @@ impl Device {
     /// Takes an initial packet.
     fn initial(&mut self, cid: u32, cmd: u8, len: u16, bytes: &[u8]) -> DeviceEvent
         requires drained { self.old.left ≡ [] }
-        requires bytes { length bytes.now ≡ 57 }
+        requires bytes { length bytes.now ≡ INIT_DATA_SIZE }
         ensures does { Does self.new result (packet_effect self.old.channels self.old.state (Initial cid cmd len bytes.now))
             (response self.old.channels self.old.state (Initial cid cmd len bytes.now)) }
         ensures cancelled { result ≡ step.Cancelled → IsWorking self.old.state × (self.new ≡ self.old) }
@@ -273,7 +274,7 @@ impl Device {
     /// Does what was chosen for an initial packet.
     fn act(&mut self, choice: Arbitration, cid: u32, cmd: u8, len: u16, bytes: &[u8]) -> DeviceEvent
         requires drained { self.old.left ≡ [] }
-        requires bytes { length bytes.now ≡ 57 }
+        requires bytes { length bytes.now ≡ INIT_DATA_SIZE }
         requires may { MayChoose self.old.channels self.old.state cmd len choice }
         ensures does { Does self.new result (chosen_effect self.old.channels self.old.state cid cmd len bytes.now choice)
             (chosen_response self.old.channels self.old.state cid cmd len bytes.now choice) }
@@ -326,7 +327,7 @@ impl Device {
     /// Takes a continuation.
     fn continuation(&mut self, cid: u32, seq: u8, bytes: &[u8]) -> DeviceEvent
         requires drained { self.old.left ≡ [] }
-        requires bytes { length bytes.now ≡ 59 }
+        requires bytes { length bytes.now ≡ CONT_DATA_SIZE }
         ensures does { Does self.new result (packet_effect self.old.channels self.old.state (Continuation cid seq bytes.now))
             (response self.old.channels self.old.state (Continuation cid seq bytes.now)) }
         ensures cancelled { result ≡ step.Cancelled → IsWorking self.old.state × (self.new ≡ self.old) }

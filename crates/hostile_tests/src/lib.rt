@@ -3,16 +3,4 @@
 #![tactic(auto)]
 
 #[cfg(test)]
-mod adversary;
-#[cfg(test)]
-mod bytes;
-#[cfg(test)]
-mod channels;
-#[cfg(test)]
-mod random;
-#[cfg(test)]
-mod refused;
-#[cfg(test)]
-mod security_key;
-#[cfg(test)]
-mod wire;
+mod tests;

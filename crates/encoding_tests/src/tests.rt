@@ -1,0 +1,33 @@
+//! The tests, a module for each subject.
+
+mod attestation_objects;
+mod attestation_statements;
+mod authdata_bytes;
+mod cbor_decoding;
+mod cbor_encoding;
+mod cbor_rows;
+mod cbor_sizes;
+mod cbor_values;
+mod clientdata_expected;
+mod clientdata_reading;
+mod clientdata_writing;
+mod cose_keys;
+mod cose_schemes;
+mod data_rows;
+mod made;
+mod message_answers;
+mod message_commands;
+mod message_creation_maps;
+mod message_extensions;
+mod message_information;
+mod message_large;
+mod message_maps;
+mod message_names;
+mod message_pairs;
+mod message_parts;
+mod message_reply_records;
+mod message_reply_rows;
+mod message_request_records;
+mod message_request_rows;
+mod message_rows;
+mod pieces;

@@ -1,0 +1,169 @@
+//! COSE keys and their values. The expected bytes are worked by hand from RFC 9052, section 7, and
+//! RFC 9053, sections 2 and 7.
+
+use super::made::made_value;
+use super::pieces::{Table, bytes_of, part};
+use ccbor::{decode_all, encode};
+use cose::{Alg, CoseKey, NotAKey};
+use std::alloc::{AllocError, Global};
+use std::test::Fail;
+
+/// Each byte from 0 to 31, and 16 bytes from 128 and from 240 on.
+const LOW: [u8; 32] = [
+    0, 1, 2, 3, 4, 5, 6, 7, 8, 9, 10, 11, 12, 13, 14, 15, 16, 17, 18, 19, 20, 21, 22, 23, 24, 25,
+    26, 27, 28, 29, 30, 31,
+];
+
+const HIGH: [u8; 32] = [
+    128, 129, 130, 131, 132, 133, 134, 135, 136, 137, 138, 139, 140, 141, 142, 143, 240, 241, 242,
+    243, 244, 245, 246, 247, 248, 249, 250, 251, 252, 253, 254, 255,
+];
+
+/// An encoding, the key, and how many bytes the encoding has.
+const KEYS: &[(&str, CoseKey, usize)] = &[
+    (
+        "a5010203262001215820 22*32 225820 33*32",
+        CoseKey::Es256 {
+            x: [0x22; 32],
+            y: [0x33; 32],
+        },
+        77,
+    ),
+    (
+        "a4010103272006215820 11*32",
+        CoseKey::EdDsa { x: [0x11; 32] },
+        42,
+    ),
+    (
+        "a5010203262001215820 00*32 225820 00*32",
+        CoseKey::Es256 {
+            x: [0; 32],
+            y: [0; 32],
+        },
+        77,
+    ),
+    (
+        "a4010103272006215820 00*32",
+        CoseKey::EdDsa { x: [0; 32] },
+        42,
+    ),
+    (
+        "a5010203262001215820 000102030405060708090a0b0c0d0e0f101112131415161718191a1b1c1d1e1f 225820 \
+            808182838485868788898a8b8c8d8e8ff0f1f2f3f4f5f6f7f8f9fafbfcfdfeff",
+        CoseKey::Es256 { x: LOW, y: HIGH },
+        77,
+    ),
+];
+
+/// What an encoding is for that is the value of no key.
+pub const MISSING: Table = "a number|01
+an array|80
+no members|a0
+EdDSA without kty|a303272006215820 02*32
+EdDSA without alg|a301012006215820 02*32
+EdDSA without crv|a301010327215820 02*32
+EdDSA without x|a3010103272006
+ES256 without x|a4010203262001225820 03*32
+ES256 without y|a4010203262001215820 02*32";
+
+/// The same with more members, and with members of other kinds.
+pub const OTHER_MEMBERS: Table = "EdDSA with a key id|a5010102410003272006215820 02*32
+EdDSA with y|a5010103272006215820 02*32 225820 03*32
+EdDSA with a text key|a5010103272006215820 02*32 616100
+ES256 with a secret|a6010203262001215820 02*32 225820 03*32 235820 04*32
+kty a text|a401634f4b5003272006215820 02*32
+alg a text|a40101036545644453412006215820 02*32
+alg 7|a4010103072006215820 02*32
+crv -7|a4010103272026215820 02*32
+x a text|a4010103272006217820 61*32
+y true|a5010203262001215820 02*32 22f5";
+
+/// The same with other lengths and numbers.
+pub const OTHER_VALUES: Table = "x of 31 bytes|a401010327200621581f 11*31
+x of 33 bytes|a4010103272006215821 11*33
+ES256, x of 31 bytes|a501020326200121581f 02*31 225820 03*32
+ES256, y of 31 bytes|a5010203262001215820 02*32 22581f 03*31
+ES256, y of 33 bytes|a5010203262001215820 02*32 225821 03*33
+ES256 with alg -8|a5010203272001215820 02*32 225820 03*32
+EdDSA with alg -7|a4010103262006215820 02*32
+alg -257|a40101033901002006215820 02*32
+EdDSA, kty and crv exchanged|a4010603272001215820 02*32
+ES256, kty and crv exchanged|a5010103262002215820 02*32 225820 03*32
+EdDSA with kty 2|a4010203272006215820 02*32
+EdDSA with crv 1|a4010103272001215820 02*32
+ES256 with crv 6|a5010203262006215820 02*32 225820 03*32";
+
+/// The same of other values, and with y missing or other labels.
+pub const MORE: Table = "bytes|5820 11*32
+a text|7820 61*32
+true|f5
+x of no byte|a40101032720062140
+x of 256 bytes|a401010327200621590100 11*256
+ES256 without kty|a403262001215820 02*32 225820 03*32
+ES256 without alg|a401022001215820 02*32 225820 03*32
+ES256 without crv|a401020326215820 02*32 225820 03*32
+labels -3 and -4 for x and y|a5010203262001225820 02*32 235820 03*32";
+
+/// Whether the bytes decode to the value of this key, and the key's value is encoded as them; for none, whether they
+/// decode to a value that is no key's.
+fn is_key(alloc: Global, bytes: &[u8], key: Option<&CoseKey>) -> Result<bool, AllocError> {
+    let Ok(value) = decode_all(alloc, bytes) else {
+        return Ok(false);
+    };
+    let found = CoseKey::from_value(&value);
+    let Some(key) = key else {
+        return Ok(found == Err(NotAKey));
+    };
+    let mut out = Vec::new(alloc);
+    let encoded = encode(&key.to_value(alloc)?, &mut out);
+    Ok(found == Ok(*key) && encoded.is_ok() && out.as_slice() == bytes)
+}
+
+/// Whether the bytes of a line decode to a value that is no key's.
+pub fn is_no_key(alloc: Global, line: &str) -> Result<bool, Fail> {
+    Ok(is_key(alloc, &bytes_of(alloc, part(line, 1))?, None)?)
+}
+
+/// The members of a key in another order, which no encoding has.
+const OTHER_ORDER: &str =
+    "uint:3=nint:7 uint:1=uint:1 nint:0=uint:6 nint:1=bytes:1111111111111111111111111111111111111111111111111111111111111111";
+
+#[test]
+fn keys(rt: HostRuntime) -> Result<(), Fail> {
+    let alloc = rt.alloc();
+    for (words, key, len) in KEYS {
+        let bytes = bytes_of(alloc, words)?;
+        assert!(rt;
+            bytes.len() == *len && is_key(alloc, &bytes, Some(key))?,
+            "{words}"
+        );
+    }
+    let value = made_value(alloc, OTHER_ORDER)?;
+    assert!(rt; CoseKey::from_value(&value) == Err(NotAKey));
+    Ok(())
+}
+
+/// An algorithm, its number, the argument of that number, and a key of it.
+const ALGORITHMS: &[(Alg, i64, u64, CoseKey)] = &[
+    (
+        Alg::Es256,
+        -7,
+        6,
+        CoseKey::Es256 {
+            x: [0x22; 32],
+            y: [0x33; 32],
+        },
+    ),
+    (Alg::EdDsa, -8, 7, CoseKey::EdDsa { x: [0x11; 32] }),
+];
+
+#[test]
+fn numbers(rt: HostRuntime) -> Result<(), Fail> {
+    for (alg, number, argument, key) in ALGORITHMS {
+        let is_alg = alg.number() == *number && alg.argument() == *argument && key.alg() == *alg;
+        assert!(rt; is_alg, "{number}");
+    }
+    let printed = format!(in rt.alloc(); "{NotAKey}")?;
+    assert!(rt; NotAKey.number() == 7 && printed.as_str() == "not the value of a COSE key");
+    Ok(())
+}
