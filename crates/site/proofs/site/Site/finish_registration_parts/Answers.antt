@@ -1,7 +1,9 @@
 -- What is owed of `Site::finish_registration_parts`.
-use Rattle.std.proofs.Common.{◌≡◌, ◌∙◌, ap, sym, subst, ◌++◌, ◌∷◌, []}
+use Rattle.std.proofs.Common.{rules, ◌≡◌, ◌∙◌, ap, sym, subst, ◌++◌, ◌∷◌, []}
 use Rattle.std.specs.Prelude.{None, is_some, option_map}
 use Rattle.std.proofs.lemmas.Result.{err_from_is_err_and}
+use Rattle.authdata.specs.Profiles.{max_id}
+use Rattle.authdata.specs.declared.profile.Profile.TheVariants.{Strict}
 use Rattle.verification.specs.Registration.{IsFirstFailing, PassesRegistration}
 use Rattle.verification.specs.RegistrationAnswers.{IsRefused}
 use Rattle.verification.specs.Views.{registration_view, registration_parts_view}
@@ -42,7 +44,9 @@ pub push-requires-clause-limits : goal.push-requires-clause-limits
 push-requires-clause-limits g c =
     let tells = c.in_ok-verified.ensures.accepted.0 in
     let brought = ap (λ v. v.id) c.in_ok-admitted.ensures.admitted ∙ tells.4 in
-    let id = subst (IsWithin 64) (sym brought) (attested_limits tells.1 tells.2 tells.3.auth_data.0 tells.3.attested) in
+    let strict : c.self.inside.party.profile ≡ Strict = search rules in
+    let low = attested_limits c.self.inside.party.profile tells.1 tells.2 tells.3.auth_data.0 tells.3.attested in
+    let id = subst (IsWithin 64) (sym brought) (subst (λ p. IsWithin (max_id p) tells.2.id) strict low) in
     let open_for = sym c.registration-expected.ensures.expected ∙ ap (option_map (λ s. registration_view s.now)) c.unwrap.ensures in
     let user = c.registration-expected.ensures.limits (registration_view c.unwrap.result.now) open_for in
     (id, subst (IsWithin 64) (sym (c.in_ok-user.ensures.items ∙ c.deref.ensures.value)) user)
