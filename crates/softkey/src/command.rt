@@ -1,0 +1,104 @@
+//! The lines that are read.
+
+use authenticator::{Consent, HandedKeys, Words};
+use hidframe::Packet;
+use std::alloc::{AllocError, Global};
+
+/// What the user decided on the request that waits, and what a credential that it may make is made of.
+#[derive(Clone, Copy, Drop)]
+pub(crate) struct Decision {
+    pub consent: Consent,
+    pub words: Words,
+    pub keys: HandedKeys,
+}
+
+/// A line.
+#[derive(Drop)]
+pub(crate) enum LineCommand {
+    /// `packet <128 hex>`
+    Packet(Packet),
+    /// `decide <present> <verified> <id> <secret> <es256 x> <es256 y> <eddsa x>`
+    Decide(Decision),
+    /// `wait`
+    Wait,
+    /// `expire`
+    Expire,
+    /// `signature <hex>`
+    Signature(Vec<u8>),
+}
+
+/// 32 bytes, as 64 digits.
+fn word_of_32(word: Option<&str>) -> Option<[u8; 32]> {
+    let mut bytes = [0u8; 32];
+    hex::decode_to_slice(word?, &mut bytes).ok()?;
+    Some(bytes)
+}
+
+/// 64 bytes, as 128 digits.
+fn word_of_64(word: Option<&str>) -> Option<[u8; 64]> {
+    let mut bytes = [0u8; 64];
+    hex::decode_to_slice(word?, &mut bytes).ok()?;
+    Some(bytes)
+}
+
+/// 1 for yes, 0 for no.
+fn flag(word: Option<&str>) -> Option<bool> {
+    let word = word?;
+    if word == "1" {
+        Some(true)
+    } else if word == "0" {
+        Some(false)
+    } else {
+        None
+    }
+}
+
+/// The word of a number from 0 on.
+fn word<'a>(words: &[&'a str], number: usize) -> Option<&'a str> {
+    words.get(number).copied()
+}
+
+/// The words of a decision, behind its name.
+fn read_decision(words: &[&str]) -> Option<Decision> {
+    Some(Decision {
+        consent: Consent {
+            present: flag(word(words, 1))?,
+            verified: flag(word(words, 2))?,
+        },
+        words: Words {
+            id: word_of_32(word(words, 3))?,
+            secret: word_of_32(word(words, 4))?,
+        },
+        keys: HandedKeys {
+            es256_x: word_of_32(word(words, 5))?,
+            es256_y: word_of_32(word(words, 6))?,
+            eddsa_x: word_of_32(word(words, 7))?,
+        },
+    })
+}
+
+/// The words of a line, with a space between each two.
+fn words_of(alloc: Global, line: &str) -> Result<Vec<&str>, AllocError> {
+    let mut words = Vec::with_capacity(alloc, 8)?;
+    for word in line.split(' ') {
+        words.push(word)?;
+    }
+    Ok(words)
+}
+
+/// What a line says; nothing where it has none of the forms, or where there was no memory to read it.
+pub(crate) fn line_command(alloc: Global, line: &str) -> Option<LineCommand> {
+    let words = words_of(alloc, line).ok()?;
+    let name = word(&words, 0)?;
+    match words.len() {
+        1 if name == "wait" => Some(LineCommand::Wait),
+        1 if name == "expire" => Some(LineCommand::Expire),
+        2 if name == "packet" => Some(LineCommand::Packet(Packet(word_of_64(word(&words, 1))?))),
+        2 if name == "signature" => {
+            let signature = hex::decode(alloc, word(&words, 1)?).ok()?;
+            Some(LineCommand::Signature(signature))
+        }
+        8 if name == "decide" => Some(LineCommand::Decide(read_decision(&words)?)),
+        _ => None,
+    }
+}
