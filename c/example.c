@@ -1,0 +1,262 @@
+/* A registration and a sign-in by passkey.h, with OpenSSL's signatures. The browser and its authenticator are played
+ * here too, so that the example runs by itself: see device_..; all else is what a site does.
+ *
+ *   gcc -std=c11 example.c libpasskey.a -lcrypto -o example && ./example */
+#include "passkey.h"
+
+#include <openssl/core_names.h>
+#include <openssl/ec.h>
+#include <openssl/evp.h>
+#include <openssl/rand.h>
+#include <openssl/sha.h>
+#include <stdio.h>
+#include <stdlib.h>
+#include <string.h>
+
+#define MUST(what) ((what) ? (void)0 : fail(#what, __LINE__))
+
+static void fail(const char *what, int line)
+{
+    fprintf(stderr, "example.c:%d: %s\n", line, what);
+    exit(1);
+}
+
+static passkey_bytes bytes(const void *data, size_t size)
+{
+    passkey_bytes lent = { data, size };
+    return lent;
+}
+
+static passkey_bytes text(const char *chars)
+{
+    return bytes(chars, strlen(chars));
+}
+
+/* ---- the site: whether a signature is valid, by OpenSSL (ES256 or EdDSA) */
+
+static EVP_PKEY *public_key(const passkey_key *key)
+{
+    if (key->algorithm == PASSKEY_EDDSA)
+        return EVP_PKEY_new_raw_public_key(EVP_PKEY_ED25519, NULL, key->x.data, key->x.size);
+    uint8_t point[65] = { 4 };
+    memcpy(point + 1, key->x.data, 32);
+    memcpy(point + 33, key->y.data, 32);
+    OSSL_PARAM params[] = {
+        OSSL_PARAM_construct_utf8_string(OSSL_PKEY_PARAM_GROUP_NAME, (char *)"prime256v1", 0),
+        OSSL_PARAM_construct_octet_string(OSSL_PKEY_PARAM_PUB_KEY, point, sizeof point),
+        OSSL_PARAM_construct_end(),
+    };
+    EVP_PKEY *made = NULL;
+    EVP_PKEY_CTX *context = EVP_PKEY_CTX_new_from_name(NULL, "EC", NULL);
+    if (context == NULL || EVP_PKEY_fromdata_init(context) != 1 ||
+        EVP_PKEY_fromdata(context, &made, EVP_PKEY_PUBLIC_KEY, params) != 1)
+        made = NULL; /* not a point of the curve */
+    EVP_PKEY_CTX_free(context);
+    return made;
+}
+
+static bool is_valid(const passkey_verified *triple)
+{
+    EVP_PKEY *key = public_key(&triple->key);
+    EVP_MD_CTX *context = EVP_MD_CTX_new();
+    const EVP_MD *hash = triple->key.algorithm == PASSKEY_ES256 ? EVP_sha256() : NULL;
+    bool valid = key != NULL && context != NULL && EVP_DigestVerifyInit(context, NULL, hash, NULL, key) == 1 &&
+                 EVP_DigestVerify(context, triple->signature.data, triple->signature.size, triple->message.data,
+                                  triple->message.size) == 1;
+    EVP_MD_CTX_free(context);
+    EVP_PKEY_free(key);
+    return valid;
+}
+
+/* ---- the site: a sign-in, whose signature is verified between two calls */
+
+static uint32_t sign_in(passkey_assertion_call *call, passkey_assertion_out *out)
+{
+    call->has_verified = false;
+    uint32_t answer = passkey_assertion(call, out);
+    if (answer != PASSKEY_BAD_SIGNATURE)
+        return answer;
+
+    size_t size = call->response.auth_data.size + 32;
+    uint8_t *message = malloc(size);
+    MUST(message != NULL);
+    MUST(passkey_assertion_message(call->response.auth_data.data, call->response.auth_data.size,
+                                   call->response.client_data.data, call->response.client_data.size, message, size));
+    passkey_verified verified = { call->credential.key, bytes(message, size), call->response.signature };
+    if (is_valid(&verified)) {
+        call->has_verified = true;
+        call->verified = verified;
+        answer = passkey_assertion(call, out);
+    }
+    free(message);
+    return answer;
+}
+
+/* ---- the device: a key of P-256, authenticator data, client data */
+
+static EVP_PKEY *device_key;
+static uint8_t device_x[32], device_y[32];
+static uint8_t device_id[16];
+
+static void device_make(void)
+{
+    uint8_t point[65];
+    size_t size;
+    MUST((device_key = EVP_EC_gen("prime256v1")) != NULL);
+    MUST(EVP_PKEY_get_octet_string_param(device_key, OSSL_PKEY_PARAM_PUB_KEY, point, sizeof point, &size) == 1);
+    MUST(size == sizeof point);
+    memcpy(device_x, point + 1, 32);
+    memcpy(device_y, point + 33, 32);
+    MUST(RAND_bytes(device_id, sizeof device_id) == 1);
+}
+
+static size_t device_data(uint8_t *data, uint8_t flags, uint8_t count)
+{
+    uint8_t front[5] = { flags, 0, 0, 0, count };
+    SHA256((const uint8_t *)"example.com", 11, data);
+    memcpy(data + 32, front, sizeof front);
+    return 37;
+}
+
+static size_t device_object(uint8_t *object)
+{
+    static const uint8_t head[] = "\xa3\x63" "fmt\x64none\x67" "attStmt\xa0\x68" "authData\x58\x94";
+    static const uint8_t key_front[] = { 0xa5, 1, 2, 3, 0x26, 0x20, 1, 0x21, 0x58, 0x20 };
+    static const uint8_t key_back[] = { 0x22, 0x58, 0x20 };
+    uint8_t *at = object;
+    memcpy(at, head, sizeof head - 1);
+    at += sizeof head - 1;
+    at += device_data(at, 0x45, 0);
+    memset(at, 0, 18);
+    at[17] = sizeof device_id;
+    at += 18;
+    memcpy(at, device_id, sizeof device_id);
+    at += sizeof device_id;
+    memcpy(at, key_front, sizeof key_front);
+    at += sizeof key_front;
+    memcpy(at, device_x, 32);
+    at += 32;
+    memcpy(at, key_back, sizeof key_back);
+    at += sizeof key_back;
+    memcpy(at, device_y, 32);
+    at += 32;
+    return (size_t)(at - object);
+}
+
+static size_t device_client_data(char *data, const char *type, const uint8_t *challenge)
+{
+    uint8_t made[43];
+    MUST(passkey_challenge_text(challenge, 32, made, sizeof made));
+    return (size_t)sprintf(data,
+                           "{\"type\":\"%s\",\"challenge\":\"%.43s\",\"origin\":\"https://example.com\","
+                           "\"crossOrigin\":false}",
+                           type, (const char *)made);
+}
+
+static size_t device_sign(const uint8_t *message, size_t size, uint8_t *signature)
+{
+    size_t length = 128;
+    EVP_MD_CTX *context = EVP_MD_CTX_new();
+    MUST(EVP_DigestSignInit(context, NULL, EVP_sha256(), NULL, device_key) == 1);
+    MUST(EVP_DigestSign(context, signature, &length, message, size) == 1);
+    EVP_MD_CTX_free(context);
+    return length;
+}
+
+/* ---- both */
+
+static void show(const char *what, bool is_registration, uint32_t answer)
+{
+    uint8_t line[128];
+    size_t size = passkey_refusal_text(is_registration, answer, line, sizeof line);
+    printf("%s: %u, %.*s\n", what, (unsigned)answer, (int)size, (const char *)line);
+}
+
+static void new_challenge(uint64_t session, uint8_t *challenge)
+{
+    uint8_t words[24];
+    MUST(RAND_bytes(words, sizeof words) == 1);
+    MUST(passkey_challenge(session, words, sizeof words, challenge, 32));
+}
+
+int main(void)
+{
+    MUST(passkey_abi_version() == PASSKEY_ABI_VERSION);
+    const passkey_bytes origins[] = { text("https://example.com") };
+    const passkey_party party = { text("example.com"), origins, 1, false };
+    uint8_t challenge[32], object[256], data[64], message[96], signature[128];
+    char client_data[256];
+    device_make();
+
+    /* a registration */
+    new_challenge(1, challenge);
+    passkey_registration_call registration = {
+        .party = party,
+        .accept_none = true,
+        .has_session = true,
+        .session = { .challenge = bytes(challenge, 32), .user = text("account 7"), .offers_es256 = true, .offers_eddsa = true },
+        .has_free_id = true, /* the site looked rawId up in its table, and found none */
+        .free_id = bytes(device_id, sizeof device_id),
+    };
+    registration.response.object = bytes(object, device_object(object));
+    registration.response.client_data = bytes(client_data, device_client_data(client_data, "webauthn.create", challenge));
+    passkey_registration_out credential;
+    uint32_t answer = passkey_registration(&registration, &credential);
+    show("registration", true, answer);
+    MUST(answer == PASSKEY_ACCEPTED && credential.id_size == sizeof device_id);
+
+    /* a sign-in with it */
+    new_challenge(2, challenge);
+    size_t data_size = device_data(data, 0x05, 1);
+    size_t client_size = device_client_data(client_data, "webauthn.get", challenge);
+    memcpy(message, data, data_size);
+    SHA256((const uint8_t *)client_data, client_size, message + data_size);
+    size_t signature_size = device_sign(message, data_size + 32, signature);
+    passkey_assertion_call call = {
+        .party = party,
+        .has_session = true,
+        .session = { .challenge = bytes(challenge, 32), .user_verification = true },
+        .has_credential = true, /* the site found the row by rawId */
+        .credential = { .id = bytes(credential.id, credential.id_size),
+                        .user = text("account 7"),
+                        .key = { credential.algorithm, bytes(credential.x, 32), bytes(credential.y, 32) },
+                        .sign_count = credential.sign_count,
+                        .is_eligibility_known = true,
+                        .eligible = credential.eligible },
+        .response = { .credential = bytes(device_id, sizeof device_id),
+                      .has_user = true,
+                      .user = text("account 7"),
+                      .auth_data = bytes(data, data_size),
+                      .signature = bytes(signature, signature_size),
+                      .client_data = bytes(client_data, client_size) },
+    };
+    passkey_assertion_out out = { 99, false, false };
+    answer = sign_in(&call, &out);
+    show("sign-in", false, answer);
+    MUST(answer == PASSKEY_ACCEPTED && out.sign_count == 1);
+
+    /* the same response again: its counter is not greater */
+    call.credential.sign_count = out.sign_count;
+    answer = sign_in(&call, &out);
+    show("the same again", false, answer);
+    MUST(answer == PASSKEY_COUNTER_NOT_GREATER);
+
+    /* a signature that is not valid, and one of another message that the host verified by mistake */
+    call.credential.sign_count = 0;
+    signature[signature_size - 1] ^= 1;
+    answer = sign_in(&call, &out);
+    show("a signature that was changed", false, answer);
+    MUST(answer == PASSKEY_BAD_SIGNATURE);
+    signature_size = device_sign((const uint8_t *)"another message", 15, signature);
+    call.response.signature = bytes(signature, signature_size);
+    call.has_verified = true;
+    call.verified.key = call.credential.key;
+    call.verified.message = text("another message");
+    call.verified.signature = call.response.signature;
+    MUST(is_valid(&call.verified));
+    answer = passkey_assertion(&call, &out);
+    show("a signature of another message", false, answer);
+    MUST(answer == PASSKEY_BAD_SIGNATURE);
+    EVP_PKEY_free(device_key);
+    return 0;
+}

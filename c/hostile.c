@@ -1,0 +1,243 @@
+/* Hostile calls of passkey.h: nulls with no bytes, members that point anywhere where their flag is clear, misaligned
+ * and unterminated bytes, rooms that are too small, large sizes, random bytes. Built with the sanitizers, and run under
+ * valgrind too; each buffer is of its own malloc, so a read or a write beside it is seen. Prints one line. */
+#include "passkey.h"
+
+#include <stdio.h>
+#include <stdlib.h>
+#include <string.h>
+
+#define MUST(what) ((what) ? (void)0 : fail(#what, __LINE__))
+
+static void fail(const char *what, int line)
+{
+    fprintf(stderr, "hostile.c:%d: %s\n", line, what);
+    exit(1);
+}
+
+static unsigned calls;
+static uint64_t seed = 1;
+
+static uint32_t draw(uint32_t below)
+{
+    seed = seed * 6364136223846793005u + 1442695040888963407u;
+    return (uint32_t)(seed >> 33) % below;
+}
+
+/* bytes of their own, at an odd address; of size 0 null */
+static passkey_bytes random_bytes(size_t size)
+{
+    passkey_bytes lent = { NULL, size };
+    if (size != 0) {
+        uint8_t *block = malloc(size + 1);
+        MUST(block != NULL);
+        for (size_t i = 0; i <= size; i++)
+            block[i] = (uint8_t)draw(256);
+        lent.data = block + 1;
+    }
+    return lent;
+}
+
+static passkey_bytes copy(const void *data, size_t size)
+{
+    passkey_bytes lent = random_bytes(size);
+    if (size != 0)
+        memcpy((uint8_t *)lent.data, data, size);
+    return lent;
+}
+
+static void drop(passkey_bytes lent)
+{
+    if (lent.data != NULL)
+        free((uint8_t *)lent.data - 1);
+}
+
+/* a pointer that no one may read */
+static const passkey_bytes nowhere = { (const uint8_t *)(uintptr_t)16, (size_t)1 << 62 };
+
+static uint32_t assertion(const passkey_assertion_call *call)
+{
+    passkey_assertion_out out, before;
+    memset(&out, 0x5a, sizeof out);
+    out.eligible = out.backed_up = true;
+    before = out;
+    uint32_t answer = passkey_assertion(call, &out);
+    calls++;
+    MUST(answer <= 16 || (answer >= 100 && answer <= 127));
+    MUST(answer == PASSKEY_ACCEPTED || memcmp(&out, &before, sizeof out) == 0);
+    return answer;
+}
+
+static uint32_t registration(const passkey_registration_call *call)
+{
+    passkey_registration_out *out = malloc(sizeof *out), *before = malloc(sizeof *before);
+    MUST(out != NULL && before != NULL);
+    memset(out, 0x5a, sizeof *out);
+    out->eligible = true;
+    *before = *out;
+    uint32_t answer = passkey_registration(call, out);
+    calls++;
+    MUST(answer <= 16 || (answer >= 100 && answer <= 127));
+    MUST(answer == PASSKEY_ACCEPTED || memcmp(out, before, sizeof *out) == 0);
+    free(out);
+    free(before);
+    return answer;
+}
+
+static void nothing_at_all(void)
+{
+    passkey_assertion_call sign_in;
+    memset(&sign_in, 0, sizeof sign_in);
+    MUST(assertion(&sign_in) == PASSKEY_SESSION_NOT_OPEN);
+    sign_in.has_session = true;
+    MUST(assertion(&sign_in) == PASSKEY_LIMIT_CHALLENGE);
+    sign_in.has_session = false;
+    sign_in.has_credential = true;
+    MUST(assertion(&sign_in) == PASSKEY_LIMIT_KEY_ALGORITHM);
+    sign_in.credential.key.algorithm = PASSKEY_ES256;
+    MUST(assertion(&sign_in) == PASSKEY_LIMIT_KEY_X);
+    sign_in.has_credential = false;
+    sign_in.has_verified = true;
+    MUST(assertion(&sign_in) == PASSKEY_LIMIT_VERIFIED_ALGORITHM);
+    sign_in.verified.key.algorithm = PASSKEY_EDDSA;
+    MUST(assertion(&sign_in) == PASSKEY_LIMIT_VERIFIED_X);
+
+    passkey_registration_call enrol;
+    memset(&enrol, 0, sizeof enrol);
+    MUST(registration(&enrol) == PASSKEY_REGISTRATION_SESSION_NOT_OPEN);
+    enrol.has_session = true;
+    MUST(registration(&enrol) == PASSKEY_LIMIT_CHALLENGE);
+
+    passkey_signature_out out;
+    MUST(passkey_registration_asked(false, &enrol.response, NULL, 0, NULL, 0, &out) ==
+         PASSKEY_REGISTRATION_BAD_ATTESTATION_OBJECT);
+    MUST(!passkey_assertion_message(NULL, 0, NULL, 0, NULL, 0));
+    MUST(!passkey_challenge(1, NULL, 0, NULL, 0));
+    MUST(!passkey_challenge_text(NULL, 0, NULL, 0));
+    MUST(!passkey_is_canonical(NULL, 0));
+    MUST(passkey_refusal_text(false, 14, NULL, 0) == 0);
+    calls += 6;
+}
+
+/* members behind a clear flag point nowhere */
+static void flags_clear(void)
+{
+    passkey_assertion_call call;
+    memset(&call, 0, sizeof call);
+    call.session.challenge = call.session.user = call.credential.id = call.credential.user = nowhere;
+    call.session.allow = (const passkey_bytes *)nowhere.data;
+    call.session.allow_count = (size_t)1 << 50;
+    call.credential.key.x = call.credential.key.y = call.response.user = nowhere;
+    call.verified.key.x = call.verified.key.y = call.verified.message = call.verified.signature = nowhere;
+    MUST(assertion(&call) == PASSKEY_SESSION_NOT_OPEN);
+    passkey_registration_call enrol;
+    memset(&enrol, 0, sizeof enrol);
+    enrol.session.challenge = enrol.session.user = enrol.free_id = nowhere;
+    enrol.party.origins = NULL;
+    enrol.verified.key.x = enrol.verified.message = enrol.verified.signature = nowhere;
+    MUST(registration(&enrol) == PASSKEY_REGISTRATION_SESSION_NOT_OPEN);
+}
+
+/* sizes just beside what is asked, each in a block of its own */
+static void limits(void)
+{
+    static const size_t sizes[] = { 0, 1, 31, 33, 64, 65, 1023, 1024, 65536 };
+    for (size_t i = 0; i < sizeof sizes / sizeof *sizes; i++) {
+        passkey_assertion_call call;
+        memset(&call, 0, sizeof call);
+        passkey_bytes some = random_bytes(sizes[i]), good = random_bytes(32), bad_text = copy("\xff", 1);
+        call.has_session = true;
+        call.session.challenge = some;
+        MUST(assertion(&call) == PASSKEY_LIMIT_CHALLENGE);
+        call.session.challenge = good;
+        call.has_credential = true;
+        call.credential.key = (passkey_key){ PASSKEY_ES256, some, good };
+        MUST(assertion(&call) == PASSKEY_LIMIT_KEY_X);
+        call.credential.key = (passkey_key){ PASSKEY_ES256, good, some };
+        MUST(assertion(&call) == PASSKEY_LIMIT_KEY_Y);
+        call.credential.key = (passkey_key){ PASSKEY_EDDSA, good, some };
+        call.credential.id = call.credential.user = call.response.credential = call.response.user = some;
+        call.response.auth_data = call.response.client_data = call.response.signature = some;
+        call.response.has_user = true;
+        MUST(assertion(&call) == PASSKEY_UNREADABLE_CLIENT_DATA);
+        call.party.origins = &bad_text;
+        call.party.origin_count = 1;
+        MUST(assertion(&call) == PASSKEY_LIMIT_ORIGIN);
+        call.party.rp_id = bad_text;
+        MUST(assertion(&call) == PASSKEY_LIMIT_RP_ID);
+        call.party.open_profile = true;
+        MUST(assertion(&call) == PASSKEY_LIMIT_PROFILE);
+        drop(some), drop(good), drop(bad_text);
+    }
+}
+
+/* an attestation object that asks for a signature, with rooms of each size */
+static void rooms(void)
+{
+    static const char front[] = "\xa3\x63" "fmt\x66packed\x67" "attStmt\xa2\x63" "alg\x26\x63sig\x43\x01\x02\x03\x68"
+                                "authData\x58\x84";
+    uint8_t object[256];
+    memset(object, 0, sizeof object);
+    memcpy(object, front, sizeof front - 1);
+    uint8_t *data = object + sizeof front - 1;
+    data[32] = 0x41;
+    data[54] = 1;
+    static const uint8_t key_front[] = { 0xa5, 1, 2, 3, 0x26, 0x20, 1, 0x21, 0x58, 0x20 };
+    memcpy(data + 55, "\0", 1);
+    memcpy(data + 55 + 1, key_front, sizeof key_front);
+    data[56 + 10 + 32] = 0x22, data[56 + 11 + 32] = 0x58, data[56 + 12 + 32] = 0x20;
+    size_t data_size = 56 + 10 + 32 + 3 + 32;
+    data[-1] = (uint8_t)data_size;
+    passkey_registration_response response = { copy(object, sizeof front - 1 + data_size), copy("{}", 2) };
+    for (size_t size = 0; size < 200; size++) {
+        passkey_bytes message = random_bytes(size), signature = random_bytes(size % 7);
+        passkey_signature_out out;
+        uint32_t answer = passkey_registration_asked(false, &response, (uint8_t *)message.data, size,
+                                                     (uint8_t *)signature.data, size % 7, &out);
+        calls++;
+        if (size < data_size + 32)
+            MUST(answer == PASSKEY_LIMIT_MESSAGE_ROOM);
+        else if (size % 7 < 3)
+            MUST(answer == PASSKEY_LIMIT_SIGNATURE_ROOM);
+        else
+            MUST(answer == PASSKEY_ACCEPTED && out.is_asked && out.algorithm == PASSKEY_ES256 &&
+                 out.message_size == data_size + 32 && out.signature_size == 3);
+        drop(message), drop(signature);
+    }
+    drop(response.object), drop(response.client_data);
+}
+
+static void random_responses(unsigned count)
+{
+    for (unsigned i = 0; i < count; i++) {
+        passkey_bytes object = random_bytes(draw(300)), client_data = random_bytes(draw(300)), key = random_bytes(32);
+        passkey_assertion_call call;
+        memset(&call, 0, sizeof call);
+        call.has_session = call.has_credential = call.has_verified = true;
+        call.session.challenge = key;
+        call.credential.key = call.verified.key = (passkey_key){ PASSKEY_ES256, key, key };
+        call.response.has_user = true;
+        call.response.auth_data = object;
+        call.response.client_data = client_data;
+        MUST(assertion(&call) != PASSKEY_ACCEPTED);
+        passkey_registration_call enrol;
+        memset(&enrol, 0, sizeof enrol);
+        enrol.has_session = true;
+        enrol.session.challenge = key;
+        enrol.response = (passkey_registration_response){ object, client_data };
+        MUST(registration(&enrol) != PASSKEY_ACCEPTED);
+        (void)passkey_is_canonical(object.data, object.size);
+        drop(object), drop(client_data), drop(key);
+    }
+}
+
+int main(void)
+{
+    nothing_at_all();
+    flags_clear();
+    limits();
+    rooms();
+    random_responses(2000);
+    printf("hostile: %u calls\n", calls);
+    return 0;
+}

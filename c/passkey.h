@@ -1,0 +1,263 @@
+/* passkey.h: the steps by which a relying party verifies a passkey's sign-in and registration (WebAuthn Level 2,
+ * sections 7.2 and 7.1), as proved code. C11 and C++.
+ *
+ * Each call judges one response by what it is handed, and keeps nothing: sessions, credentials and the mathematics of
+ * signatures are the host's. No call changes anything but what it tells, which it writes with the answer 0 alone.
+ *
+ * A sign-in takes two calls of passkey_assertion:
+ *   1. without a verified signature: PASSKEY_BAD_SIGNATURE then means that each step before the signature's is passed;
+ *   2. with the key, the message and the signature that the host verified by its own library, for a last answer.
+ * The host hands in the three byte strings, and never a flag: a signature of anything else is refused. The message is
+ * made by passkey_assertion_message. A registration by self attestation goes the same way, by
+ * PASSKEY_REGISTRATION_BAD_STATEMENT and passkey_registration_asked; one without attestation takes one call.
+ *
+ * The calls may be made from several threads at once, and not from a signal handler. They take memory from malloc.
+ * A pointer may be null only where its size or count is 0. Texts are not terminated. A bool is 0 or 1.
+ */
+#ifndef PASSKEY_H
+#define PASSKEY_H
+
+#include <stdbool.h>
+#include <stddef.h>
+#include <stdint.h>
+
+#ifdef __cplusplus
+extern "C" {
+#endif
+
+#define PASSKEY_ABI_VERSION 1
+
+#define PASSKEY_ES256 (-7) /* ECDSA over P-256 with SHA-256 */
+#define PASSKEY_EDDSA (-8) /* EdDSA over Ed25519 */
+
+/* Answers. 1 to 16 are the steps, in their order. */
+enum {
+    PASSKEY_ACCEPTED = 0,
+
+    /* of a sign-in */
+    PASSKEY_SESSION_NOT_OPEN = 1,
+    PASSKEY_CREDENTIAL_NOT_ALLOWED = 2,
+    PASSKEY_UNKNOWN_CREDENTIAL = 3,
+    PASSKEY_OTHER_USER = 4,
+    PASSKEY_UNREADABLE_CLIENT_DATA = 5,
+    PASSKEY_WRONG_TYPE = 6,
+    PASSKEY_WRONG_CHALLENGE = 7,
+    PASSKEY_WRONG_ORIGIN = 8,
+    PASSKEY_TOKEN_BINDING = 9,
+    PASSKEY_BAD_AUTHENTICATOR_DATA = 10,
+    PASSKEY_WRONG_RELYING_PARTY = 11,
+    PASSKEY_USER_NOT_PRESENT = 12,
+    PASSKEY_USER_NOT_VERIFIED = 13,
+    PASSKEY_BAD_SIGNATURE = 14,
+    PASSKEY_COUNTER_NOT_GREATER = 15,
+    PASSKEY_ELIGIBILITY_CHANGED = 16,
+
+    /* of a registration */
+    PASSKEY_REGISTRATION_SESSION_NOT_OPEN = 1,
+    PASSKEY_REGISTRATION_UNREADABLE_CLIENT_DATA = 2,
+    PASSKEY_REGISTRATION_WRONG_TYPE = 3,
+    PASSKEY_REGISTRATION_WRONG_CHALLENGE = 4,
+    PASSKEY_REGISTRATION_WRONG_ORIGIN = 5,
+    PASSKEY_REGISTRATION_TOKEN_BINDING = 6,
+    PASSKEY_REGISTRATION_BAD_ATTESTATION_OBJECT = 7,
+    PASSKEY_REGISTRATION_WRONG_RELYING_PARTY = 8,
+    PASSKEY_REGISTRATION_USER_NOT_PRESENT = 9,
+    PASSKEY_REGISTRATION_USER_NOT_VERIFIED = 10,
+    PASSKEY_REGISTRATION_ALGORITHM_NOT_OFFERED = 11,
+    PASSKEY_REGISTRATION_UNKNOWN_FORMAT = 12,
+    PASSKEY_REGISTRATION_BAD_STATEMENT = 13,
+    PASSKEY_REGISTRATION_ATTESTATION_NOT_ACCEPTED = 14,
+    PASSKEY_REGISTRATION_CREDENTIAL_REGISTERED = 15,
+    PASSKEY_REGISTRATION_NO_ROOM = 16,
+
+    /* a member that is out of its limits */
+    PASSKEY_LIMIT_PROFILE = 100,           /* open_profile: not there yet */
+    PASSKEY_LIMIT_RP_ID = 101,             /* party.rp_id: UTF-8 */
+    PASSKEY_LIMIT_ORIGIN = 102,            /* party.origins: each in UTF-8 */
+    PASSKEY_LIMIT_CHALLENGE = 103,         /* challenge: 32 bytes */
+    PASSKEY_LIMIT_KEY_ALGORITHM = 104,     /* credential.key.algorithm: -7 or -8 */
+    PASSKEY_LIMIT_KEY_X = 105,             /* credential.key.x: 32 bytes */
+    PASSKEY_LIMIT_KEY_Y = 106,             /* credential.key.y: 32 bytes, of ES256 */
+    PASSKEY_LIMIT_VERIFIED_ALGORITHM = 107, /* verified.key.algorithm: -7 or -8 */
+    PASSKEY_LIMIT_VERIFIED_X = 108,        /* verified.key.x: 32 bytes */
+    PASSKEY_LIMIT_VERIFIED_Y = 109,        /* verified.key.y: 32 bytes, of ES256 */
+    PASSKEY_LIMIT_MESSAGE_ROOM = 110,      /* the room for a message is too small */
+    PASSKEY_LIMIT_SIGNATURE_ROOM = 111,    /* the room for a signature is too small */
+
+    PASSKEY_NO_MEMORY = 127
+};
+
+/* Bytes, lent for the time of the call. */
+typedef struct passkey_bytes {
+    const uint8_t *data;
+    size_t size; /* in bytes, below 2^63 */
+} passkey_bytes;
+
+/* A public key by its coordinates (RFC 9053, section 7). */
+typedef struct passkey_key {
+    int32_t algorithm; /* PASSKEY_ES256 or PASSKEY_EDDSA */
+    passkey_bytes x;   /* 32 bytes: of P-256 big-endian; of Ed25519 the public key */
+    passkey_bytes y;   /* 32 bytes, big-endian, of P-256; of Ed25519 not looked at */
+} passkey_key;
+
+/* A relying party. */
+typedef struct passkey_party {
+    passkey_bytes rp_id; /* UTF-8, as "example.com" */
+    const passkey_bytes *origins; /* each UTF-8, as "https://example.com"; compared as texts */
+    size_t origin_count;
+    bool open_profile; /* must be false: the open profile is not there yet */
+} passkey_party;
+
+/* A public key, a message and a signature that the host's own library found to be valid. */
+typedef struct passkey_verified {
+    passkey_key key;
+    passkey_bytes message;
+    passkey_bytes signature;
+} passkey_verified;
+
+/* What a sign-in that has begun expects. */
+typedef struct passkey_sign_in_session {
+    passkey_bytes challenge; /* 32 bytes, which no other session has */
+    bool user_verification;  /* UV is required */
+    bool has_user;           /* the account is known beforehand */
+    passkey_bytes user;      /* its user handle; where has_user is false not looked at */
+    const passkey_bytes *allow; /* the ids of the credentials that may answer; none for any */
+    size_t allow_count;
+} passkey_sign_in_session;
+
+/* A registered credential. */
+typedef struct passkey_credential {
+    passkey_bytes id;
+    passkey_bytes user; /* the user handle */
+    passkey_key key;
+    uint32_t sign_count; /* the signature counter last received */
+    bool is_eligibility_known;
+    bool eligible; /* for backup (BE); where it is not known not looked at */
+    bool retired;  /* it signs in no more */
+} passkey_credential;
+
+/* A client's answer to a sign-in. */
+typedef struct passkey_assertion_response {
+    passkey_bytes credential; /* rawId */
+    bool has_user;
+    passkey_bytes user;      /* response.userHandle; where has_user is false not looked at */
+    passkey_bytes auth_data; /* response.authenticatorData */
+    passkey_bytes signature; /* response.signature */
+    passkey_bytes client_data; /* response.clientDataJSON */
+} passkey_assertion_response;
+
+/* A sign-in to be judged. Where a flag is false, the member behind it is not looked at. */
+typedef struct passkey_assertion_call {
+    passkey_party party;
+    bool has_session; /* a session is open for sign-in */
+    passkey_sign_in_session session;
+    bool has_credential; /* a credential was found for the response; one of another id is refused */
+    passkey_credential credential;
+    passkey_assertion_response response;
+    bool has_verified; /* the host verified a signature */
+    passkey_verified verified;
+} passkey_assertion_call;
+
+/* What a sign-in that is accepted says. */
+typedef struct passkey_assertion_out {
+    uint32_t sign_count; /* to be stored in place of the credential's */
+    bool eligible;       /* for backup (BE), to be stored where it was not known */
+    bool backed_up;      /* now (BS) */
+} passkey_assertion_out;
+
+/* Judges a sign-in: PASSKEY_ACCEPTED, or the first step that is not passed (1 to 16), or a member that is out of its
+ * limits, or PASSKEY_NO_MEMORY. */
+uint32_t passkey_assertion(const passkey_assertion_call *call, passkey_assertion_out *out);
+
+/* Writes the message of a sign-in's signature: the authenticator data, then SHA-256 of the client data. The room must
+ * have auth_data_size + 32 bytes, no more and no less; else false is answered, and nothing is written. The key is the
+ * credential's, and the signature the response's. */
+bool passkey_assertion_message(const uint8_t *auth_data, size_t auth_data_size, const uint8_t *client_data,
+                               size_t client_data_size, uint8_t *message, size_t message_size);
+
+/* What a registration that has begun expects. */
+typedef struct passkey_registration_session {
+    passkey_bytes challenge; /* 32 bytes, which no other session has */
+    passkey_bytes user;      /* the user handle of the account */
+    bool user_verification;  /* UV is required */
+    bool offers_es256;       /* PASSKEY_ES256 was offered */
+    bool offers_eddsa;       /* PASSKEY_EDDSA was offered */
+} passkey_registration_session;
+
+/* A client's answer to a registration. */
+typedef struct passkey_registration_response {
+    passkey_bytes object;      /* response.attestationObject */
+    passkey_bytes client_data; /* response.clientDataJSON */
+} passkey_registration_response;
+
+/* A registration to be judged. Where a flag is false, the member behind it is not looked at. */
+typedef struct passkey_registration_call {
+    passkey_party party;
+    bool accept_none; /* no attestation is accepted */
+    bool accept_self; /* self attestation is accepted */
+    bool has_session; /* a session is open for registration */
+    passkey_registration_session session;
+    passkey_registration_response response;
+    bool has_free_id;      /* the host looked an id up, and no credential has it, retired or not */
+    passkey_bytes free_id; /* that id: rawId of the answer; each other id counts as registered */
+    bool is_full;          /* there is no room for another credential */
+    bool has_verified;     /* the host verified a signature, of self attestation */
+    passkey_verified verified;
+} passkey_registration_call;
+
+/* The credential of a registration that is accepted. */
+typedef struct passkey_registration_out {
+    size_t id_size;   /* in bytes */
+    uint8_t id[1023]; /* the first id_size bytes are the credential id */
+    int32_t algorithm; /* PASSKEY_ES256 or PASSKEY_EDDSA */
+    uint8_t x[32];
+    uint8_t y[32]; /* zeros of PASSKEY_EDDSA */
+    uint32_t sign_count;
+    bool eligible; /* for backup (BE) */
+} passkey_registration_out;
+
+/* Judges a registration, as passkey_assertion a sign-in. */
+uint32_t passkey_registration(const passkey_registration_call *call, passkey_registration_out *out);
+
+/* Which signature a registration's self attestation asks for. */
+typedef struct passkey_signature_out {
+    bool is_asked;     /* false: there is nothing to verify, and the other members say nothing */
+    int32_t algorithm; /* of the key: PASSKEY_ES256 or PASSKEY_EDDSA */
+    uint8_t x[32];
+    uint8_t y[32];       /* zeros of PASSKEY_EDDSA */
+    size_t message_size; /* the first bytes of the room */
+    size_t signature_size;
+} passkey_signature_out;
+
+/* Tells which signature the host is to verify of a registration. A message has at most object.size + 32 bytes, a
+ * signature at most object.size: rooms of these sizes are always enough. Answers PASSKEY_ACCEPTED,
+ * PASSKEY_REGISTRATION_BAD_ATTESTATION_OBJECT, PASSKEY_LIMIT_PROFILE, PASSKEY_LIMIT_MESSAGE_ROOM,
+ * PASSKEY_LIMIT_SIGNATURE_ROOM or PASSKEY_NO_MEMORY. */
+uint32_t passkey_registration_asked(bool open_profile, const passkey_registration_response *response,
+                                    uint8_t *message, size_t message_room, uint8_t *signature,
+                                    size_t signature_room, passkey_signature_out *out);
+
+/* Makes a challenge: the session's number in 8 big-endian bytes, then 24 random bytes, which are the host's. False
+ * where words are not 24 bytes or the challenge is not 32, and then nothing is written. */
+bool passkey_challenge(uint64_t session, const uint8_t *words, size_t words_size, uint8_t *challenge,
+                       size_t challenge_size);
+
+/* Writes a challenge of 32 bytes as client data have it, base64url: 43 characters, not terminated. False where the
+ * challenge is not 32 bytes, the room not 43, or there was no memory. */
+bool passkey_challenge_text(const uint8_t *challenge, size_t challenge_size, uint8_t *text, size_t text_size);
+
+/* Whether the bytes are one value of canonical CBOR (CTAP 2.1), and no more. */
+bool passkey_is_canonical(const uint8_t *bytes, size_t size);
+
+/* Writes the text of an answer, of a registration or a sign-in, not terminated: how many bytes were written; 0 where
+ * the answer has none, the room is too small (128 bytes are enough), or there was no memory. */
+size_t passkey_refusal_text(bool is_registration, uint32_t answer, uint8_t *text, size_t text_room);
+
+/* PASSKEY_ABI_VERSION of the library. */
+uint32_t passkey_abi_version(void);
+
+#ifdef __cplusplus
+}
+#endif
+
+#endif

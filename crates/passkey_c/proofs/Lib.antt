@@ -1,0 +1,5 @@
+pub mod Numbers
+pub mod Faults
+pub mod Moved
+pub mod Told
+pub mod Canonical

@@ -1,0 +1,81 @@
+-- A verdict on what is judged holds of what it stands for.
+use Rattle.std.proofs.Common.{◌≡◌, ◌∙◌, ℕ, Bool, List, Option, ap, subst}
+use Rattle.refusal_order.specs.Lines.{Each, FirstFailing}
+use Rattle.refusal_order.proofs.Laws.{each_joined, first_along, first_behind}
+use Rattle.authdata.specs.Responses as responses
+use Rattle.cose.specs.Schemes.{Validity}
+use Rattle.verification.specs.Records.{Credential, ExpectedRegistration, ExpectedSignIn, RelyingParty}
+use Rattle.verification.specs.Registration as registrations
+use Rattle.verification.specs.Registration.{JudgedRegistration, PassesRegistration, PassesRegistrationStep, response_steps, table_steps}
+use Rattle.verification.specs.SignIn as sign_ins
+use Rattle.verification.specs.SignIn.{JudgedSignIn, PassesSignIn}
+use Rattle.verification.specs.SignInAnswers.{never}
+use Rattle.verification.specs.declared.party.Policy.{Policy}
+use Rattle.verification.specs.declared.refusal.RegistrationRefusal.{RegistrationRefusal}
+use Rattle.verification.specs.declared.refusal.SignInRefusal.{SignInRefusal}
+use Rattle.passkey_c.specs.declared.parts.TripleParts.{TripleParts}
+use Rattle.passkey_c.specs.Parts.{verified}
+
+-- ---- sign-in
+
+abbrev sign_in_with : RelyingParty → Option ExpectedSignIn → Option Credential → responses.AuthenticatorAssertionResponse → JudgedSignIn
+sign_in_with rp session credential r = record { rp = rp; session = session; credential = credential; response = r }
+
+pub same_sign_in : (p q : RelyingParty) (s t : Option ExpectedSignIn) (c d : Option Credential) (r u : responses.AuthenticatorAssertionResponse)
+    → p ≡ q → s ≡ t → c ≡ d → r ≡ u → sign_in_with p s c r ≡ sign_in_with q t d u
+same_sign_in p q s t c d r u parties sessions credentials answers =
+    ap (λ x. sign_in_with x s c r) parties ∙ ap (λ x. sign_in_with q x c r) sessions ∙ ap (λ x. sign_in_with q t x r) credentials
+    ∙ ap (λ x. sign_in_with q t d x) answers
+
+pub sign_in_passes : (h k : Bool) (t u : TripleParts) (x y : JudgedSignIn) → h ≡ k → t ≡ u → x ≡ y
+    → PassesSignIn (verified h t) x → PassesSignIn (verified k u) y
+sign_in_passes h k t u x y flags triples same passes =
+    subst (PassesSignIn (verified k u)) same (subst (λ v. PassesSignIn (verified k v) x) triples (subst (λ g. PassesSignIn (verified g t) x) flags passes))
+
+pub sign_in_fails : (h k : Bool) (t u : TripleParts) (x y : JudgedSignIn) (w : SignInRefusal) → h ≡ k → t ≡ u → x ≡ y
+    → sign_ins.IsFirstFailing (verified h t) x w → sign_ins.IsFirstFailing (verified k u) y w
+sign_in_fails h k t u x y w flags triples same fails =
+    subst (λ z. sign_ins.IsFirstFailing (verified k u) z w) same (subst (λ v. sign_ins.IsFirstFailing (verified k v) x w) triples
+    (subst (λ g. sign_ins.IsFirstFailing (verified g t) x w) flags fails))
+
+-- ---- registration
+
+abbrev registration_with : RelyingParty → Policy → Option ExpectedRegistration → responses.AuthenticatorAttestationResponse → (List ℕ → Bool) → Bool
+    → JudgedRegistration
+registration_with rp policy session r is_registered is_full =
+    record { rp = rp; policy = policy; session = session; response = r; is_registered = is_registered; is_full = is_full }
+
+pub same_registration : (p q : RelyingParty) (policy : Policy) (s t : Option ExpectedRegistration) (r : responses.AuthenticatorAttestationResponse)
+    (is_registered : List ℕ → Bool) (is_full : Bool) → p ≡ q → s ≡ t
+    → registration_with p policy s r is_registered is_full ≡ registration_with q policy t r is_registered is_full
+same_registration p q policy s t r is_registered is_full parties sessions =
+    ap (λ x. registration_with x policy s r is_registered is_full) parties ∙ ap (λ x. registration_with q policy x r is_registered is_full) sessions
+
+pub response_passes : (h k : Bool) (t u : TripleParts) (x y : JudgedRegistration) → h ≡ k → t ≡ u → x ≡ y
+    → Each (PassesRegistrationStep (verified h t) x) response_steps → Each (PassesRegistrationStep (verified k u) y) response_steps
+response_passes h k t u x y flags triples same passes =
+    subst (λ z. Each (PassesRegistrationStep (verified k u) z) response_steps) same
+    (subst (λ v. Each (PassesRegistrationStep (verified k v) x) response_steps) triples
+    (subst (λ g. Each (PassesRegistrationStep (verified g t) x) response_steps) flags passes))
+
+pub registration_fails : (h k : Bool) (t u : TripleParts) (x y : JudgedRegistration) (w : RegistrationRefusal) → h ≡ k → t ≡ u → x ≡ y
+    → registrations.IsFirstFailing (verified h t) x w → registrations.IsFirstFailing (verified k u) y w
+registration_fails h k t u x y w flags triples same fails =
+    subst (λ z. registrations.IsFirstFailing (verified k u) z w) same (subst (λ v. registrations.IsFirstFailing (verified k v) x w) triples
+    (subst (λ g. registrations.IsFirstFailing (verified g t) x w) flags fails))
+
+-- the steps on the table do not look at signatures
+abbrev Same : Validity → JudgedRegistration → RegistrationRefusal → Type 0
+Same valid x w = (PassesRegistrationStep never x w → PassesRegistrationStep valid x w)
+    × ((PassesRegistrationStep never x w → ⊥) → PassesRegistrationStep valid x w → ⊥)
+
+table_same : (valid : Validity) (x : JudgedRegistration) → Each (Same valid x) table_steps
+table_same valid x = ((λ h. h, λ h. h), ((λ h. h, λ h. h), tt))
+
+pub table_fails : (valid : Validity) (x : JudgedRegistration) (w : RegistrationRefusal) → Each (PassesRegistrationStep valid x) response_steps
+    → FirstFailing (PassesRegistrationStep never x) table_steps w → registrations.IsFirstFailing valid x w
+table_fails valid x w passes first = first_behind response_steps passes (first_along (table_same valid x) first)
+
+pub all_pass : (valid : Validity) (x : JudgedRegistration) → Each (PassesRegistrationStep valid x) response_steps
+    → Each (PassesRegistrationStep never x) table_steps → PassesRegistration valid x
+all_pass valid x passes table = each_joined (PassesRegistrationStep valid x) response_steps table_steps passes table

@@ -1,0 +1,26 @@
+-- What is owed of `judge`.
+use Rattle.std.proofs.Common.{◌≡◌, ◌∙◌, ap, refl, subst, sym}
+use Rattle.verification.specs.RegistrationAnswers.{IsVerifiedRegistration}
+use Rattle.passkey_c.specs.Registrations.{judged_registration, registration_validity}
+use Rattle.passkey_c.proofs.Moved.{all_pass, table_fails}
+use Rattle.passkey_c.proofs.registration.judge.Goals as goal
+
+pub returns-in-Ok-clause-accepted : goal.returns-in-Ok-clause-accepted
+returns-in-Ok-clause-accepted c =
+    let x = judged_registration c.args.call.now in
+    let accepted = c.in_ok-verified.ensures.accepted in
+    let taken = ap (λ id. x.is_registered id) (sym c.id.ensures) ∙ c.is_registered-is_registered.ensures in
+    let steps = c.in-Ok.ensures.passes x accepted.0 taken refl in
+    (all_pass (registration_validity c.args.call.now) x accepted.1 steps, subst (IsVerifiedRegistration x) (sym c.in-Ok.ensures.admitted) accepted.0)
+
+pub returns-clause-refused : goal.returns-clause-refused
+returns-clause-refused c =
+    let x = judged_registration c.args.call.now in
+    let accepted = c.in_ok-verified.ensures.accepted in
+    let taken = ap (λ id. x.is_registered id) (sym c.id.ensures) ∙ c.is_registered-is_registered.ensures in
+    let kept = c.in_ok-party.ensures.kept in
+    let session = c.in_ok-session.ensures in
+    let triple = c.in_ok-triple.ensures in (
+      table_fails (registration_validity c.args.call.now) x c.in-Err.step accepted.1 (c.in-Err.ensures.refused x accepted.0 taken refl),
+      (kept.0, (kept.1.0, (kept.1.1.0, (session.challenge, (triple.algorithm, (triple.x, (triple.y, tt))))))),
+    )

@@ -1,0 +1,214 @@
+//! Sign-ins (WebAuthn Level 2, section 7.2).
+
+ghost use Rattle.std.specs.Prelude.{◌≡◌, ◌≢◌, ◌<◌, IfErr, IfOk, OnOk, option_map};
+ghost use Rattle.refusal_order.specs.Lines.{Each};
+ghost use Rattle.verification.specs.Numbers.{sign_in_number};
+ghost use Rattle.verification.specs.SignIn.{IsFirstFailing, PassesSignIn};
+ghost use Rattle.verification.specs.SignInAnswers.{IsVerifiedSignIn};
+ghost use Rattle.verification.specs.Views.{assertion_parts_view, credential_view, judged_sign_in_view, sign_in_view};
+ghost use Rattle.verification.specs.declared.refusal.SignInRefusal.{SignInRefusal};
+ghost use Rattle.passkey_c.specs.declared.assertion.Refusal.TheVariants as refusals;
+ghost use Rattle.passkey_c.specs.Limits.{IsFault, SignInKeeps, sign_in_limits};
+ghost use Rattle.passkey_c.specs.Numbers.{limit_number};
+ghost use Rattle.passkey_c.specs.Parts.{given, key_of, party_of};
+ghost use Rattle.passkey_c.specs.SignIns.{IsRefused, IsSignInAnswer, judged_sign_in, sign_in_validity, told_sign_in};
+
+use crate::answers::{ACCEPTED, InputFault, Limit};
+use crate::input::{KeyLimit, copies, copy_of, exactly_32, key_from, party_from};
+use crate::parts::{AnswerParts, AssertionCall, AssertionOut};
+use crate::triple::{OneTriple, triple_from};
+use cose::CoseKey;
+use std::alloc::Global;
+use verification::{
+    AssertionParts, RelyingParty, RowView, SignInAttempt, SignInError, SignInRefusal,
+    SignInSession, VerifiedAssertion, verify_assertion,
+};
+
+/// Why a sign-in is not accepted.
+#[derive(Clone, Copy, Debug, PartialEq, Eq, Drop)]
+enum Refusal {
+    Input(InputFault),
+    Step(SignInRefusal),
+}
+
+impl From<InputFault> for Refusal {
+    ghost from_gives = { λ fault e. e ≡ refusals.Input fault };
+
+    fn from(fault: InputFault) -> Refusal {
+        Refusal::Input(fault)
+    }
+}
+
+/// The session that is handed in.
+fn expected(alloc: Global, call: &AssertionCall<'_>) -> Result<Option<SignInSession>, InputFault>
+    ensures found { IfOk result (λ session. option_map sign_in_view session ≡ (judged_sign_in call.now).session) }
+    ensures kept { OnOk result (SignInKeeps call.now Limit.Challenge) }
+    ensures refused { IfErr result (IsFault (SignInKeeps call.now)) }
+{
+    if !call.has_session {
+        return Ok(None);
+    }
+    let Some(challenge) = exactly_32(call.session.challenge) else {
+        return Err(InputFault::Limit(Limit::Challenge));
+    };
+    let user = copy_of(alloc, call.session.has_user, call.session.user)?;
+    let allow = copies(alloc, call.session.allow)?;
+    Ok(Some(SignInSession {
+        user,
+        allow,
+        uv: call.session.user_verification,
+        challenge,
+    }))
+}
+
+/// The key of the credential that is handed in.
+fn credential_key(call: &AssertionCall<'_>) -> Result<Option<CoseKey>, InputFault>
+    ensures found { IfOk result (λ key. key ≡ given call.now.has_credential (key_of call.now.credential.key)) }
+    ensures algorithm { OnOk result (SignInKeeps call.now Limit.KeyAlgorithm) }
+    ensures x { OnOk result (SignInKeeps call.now Limit.KeyX) }
+    ensures y { OnOk result (SignInKeeps call.now Limit.KeyY) }
+    ensures refused { IfErr result (IsFault (SignInKeeps call.now)) }
+{
+    if !call.has_credential {
+        return Ok(None);
+    }
+    match key_from(&call.credential.key) {
+        Ok(key) => Ok(Some(key)),
+        Err(KeyLimit::Algorithm) => Err(InputFault::Limit(Limit::KeyAlgorithm)),
+        Err(KeyLimit::X) => Err(InputFault::Limit(Limit::KeyX)),
+        Err(KeyLimit::Y) => Err(InputFault::Limit(Limit::KeyY)),
+    }
+}
+
+/// The signature that the host verified.
+fn sign_in_triple<'a>(call: &AssertionCall<'a>) -> Result<OneTriple<'a>, InputFault>
+    ensures found { IfOk result (λ triple. (triple.has_triple ≡ call.now.has_triple) × (triple.parts ≡ call.now.triple)) }
+    ensures algorithm { OnOk result (SignInKeeps call.now Limit.TripleAlgorithm) }
+    ensures x { OnOk result (SignInKeeps call.now Limit.TripleX) }
+    ensures y { OnOk result (SignInKeeps call.now Limit.TripleY) }
+    ensures refused { IfErr result (IsFault (SignInKeeps call.now)) }
+{
+    match triple_from(call.has_triple, call.triple) {
+        Ok(triple) => Ok(triple),
+        Err(KeyLimit::Algorithm) => Err(InputFault::Limit(Limit::TripleAlgorithm)),
+        Err(KeyLimit::X) => Err(InputFault::Limit(Limit::TripleX)),
+        Err(KeyLimit::Y) => Err(InputFault::Limit(Limit::TripleY)),
+    }
+}
+
+/// The credential that is handed in, with its key.
+fn row<'a, 'b: 'a>(call: &AssertionCall<'b>, key: &'a Option<CoseKey>) -> Option<RowView<'a>>
+    requires { key.now ≡ given call.now.has_credential (key_of call.now.credential.key) }
+    ensures { option_map credential_view result ≡ (judged_sign_in call.now).credential }
+{
+    let credential = &call.credential;
+    let eligible = if credential.is_eligibility_known {
+        Some(credential.eligible)
+    } else {
+        None
+    };
+    match key {
+        Some(key) => Some(RowView {
+            id: credential.id,
+            user: credential.user,
+            key,
+            sign_count: credential.sign_count,
+            eligible,
+            retired: credential.retired,
+        }),
+        None => None,
+    }
+}
+
+/// The client's answer.
+fn response<'a, 'b: 'a>(call: &AssertionCall<'b>) -> AssertionParts<'a>
+    ensures { assertion_parts_view result ≡ (judged_sign_in call.now).response }
+{
+    let parts = &call.response;
+    AssertionParts {
+        credential: parts.credential,
+        user: if parts.has_user {
+            Some(parts.user)
+        } else {
+            None
+        },
+        auth_data: parts.auth_data,
+        signature: parts.signature,
+        client_data: parts.client_data,
+    }
+}
+
+/// Judges a sign-in by what was handed in.
+fn verified(
+    alloc: Global,
+    call: &AssertionCall<'_>,
+    party: &RelyingParty,
+    session: Option<&SignInSession>,
+    key: &Option<CoseKey>,
+    triple: &OneTriple<'_>,
+) -> Result<VerifiedAssertion, Refusal>
+    requires party { party.now ≡ party_of call.now.party }
+    requires session { option_map (λ s. sign_in_view s.now) session ≡ (judged_sign_in call.now).session }
+    requires key { key.now ≡ given call.now.has_credential (key_of call.now.credential.key) }
+    requires flag { triple.now.has_triple ≡ call.now.has_triple }
+    requires parts { triple.now.parts ≡ call.now.triple }
+    requires limits { Each (SignInKeeps call.now) sign_in_limits }
+    ensures accepted { IfOk result (λ v. PassesSignIn (sign_in_validity call.now) (judged_sign_in call.now)
+        × IsVerifiedSignIn (judged_sign_in call.now) v) }
+    ensures refused { IfErr result (IsRefused call.now) }
+{
+    let attempt = SignInAttempt {
+        party,
+        session,
+        credential: row(call, key),
+        response: response(call),
+    };
+    match verify_assertion(alloc, triple, &attempt) {
+        Ok(verified) => Ok(verified),
+        Err(SignInError::Refused(step)) => Err(Refusal::Step(step)),
+        Err(SignInError::Memory) => Err(Refusal::Input(InputFault::Memory)),
+    }
+}
+
+/// Judges a sign-in.
+fn judge(alloc: Global, call: &AssertionCall<'_>) -> Result<VerifiedAssertion, Refusal>
+    ensures accepted { IfOk result (λ v. PassesSignIn (sign_in_validity call.now) (judged_sign_in call.now)
+        × IsVerifiedSignIn (judged_sign_in call.now) v) }
+    ensures limits { OnOk result (Each (SignInKeeps call.now) sign_in_limits) }
+    ensures refused { IfErr result (IsRefused call.now) }
+{
+    let party = party_from(alloc, &call.party)?;
+    let session = expected(alloc, call)?;
+    let key = credential_key(call)?;
+    let triple = sign_in_triple(call)?;
+    verified(alloc, call, &party, session.as_ref(), &key, &triple)
+}
+
+/// Judges a sign-in: 0 where each step of section 7.2 is passed, the only valid signature being the one that the host
+/// verified, and then what it says is written; else 1 to 16 for the first step that is not passed, 100 and up for a
+/// member that is out of its limits, 127 where there was no memory, and nothing is written.
+#[unsafe(no_mangle)]
+pub extern "C" fn passkey_assertion(
+    alloc: Global,
+    call: &AssertionCall<'_>,
+    out: &mut AssertionOut,
+) -> u32
+    ensures accepted { result ≡ 0 → PassesSignIn (sign_in_validity call.now) (judged_sign_in call.now) }
+    ensures told { result ≡ 0 → IsVerifiedSignIn (judged_sign_in call.now) (told_sign_in out.new) }
+    ensures refused { (step : SignInRefusal) → result ≡ sign_in_number step → IsFirstFailing (sign_in_validity call.now) (judged_sign_in call.now) step }
+    ensures limit { (limit : Limit) → result ≡ limit_number limit → SignInKeeps call.now limit → ⊥ }
+    ensures within { result < 100 → Each (SignInKeeps call.now) sign_in_limits }
+    ensures answer { IsSignInAnswer result }
+    ensures untouched { result ≢ 0 → out.new ≡ out.old }
+{
+    match judge(alloc, call) {
+        Ok(verified) => {
+            out.sign_count = verified.sign_count;
+            out.eligible = verified.eligible;
+            out.backed_up = verified.backed_up;
+            ACCEPTED
+        }
+        Err(Refusal::Step(step)) => u32::from(step.number()),
+        Err(Refusal::Input(fault)) => fault.number(),
+    }
+}

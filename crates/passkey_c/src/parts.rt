@@ -1,0 +1,226 @@
+//! What a host hands in, lent, and what it is told. Presence is told by flags, never by emptiness: where a flag is
+//! clear, the members that go with it are not looked at.
+
+/// Bytes: where they begin, and how many they are.
+#[repr(C)]
+#[derive(Clone, Copy, Drop)]
+pub struct Bytes<'a> {
+    /// The bytes.
+    pub bytes: &'a [u8],
+}
+
+/// A public key by its coordinates (RFC 9053, section 7).
+#[repr(C)]
+#[derive(Clone, Copy, Drop)]
+pub struct KeyParts<'a> {
+    /// The algorithm's COSE number: -7, ES256 over P-256, or -8, EdDSA over Ed25519.
+    pub algorithm: i32,
+    /// Of P-256 the coordinate x, big-endian; of Ed25519 the public key: 32 bytes.
+    pub x: &'a [u8],
+    /// Of P-256 the coordinate y, big-endian: 32 bytes. Of Ed25519 it is not looked at.
+    pub y: &'a [u8],
+}
+
+/// A relying party.
+#[repr(C)]
+#[derive(Clone, Copy, Drop)]
+pub struct PartyParts<'a> {
+    /// The rp id: UTF-8.
+    pub rp_id: &'a [u8],
+    /// The origins of its pages, each in UTF-8.
+    pub origins: &'a [Bytes<'a>],
+    /// Whether responses are read by the open profile; else by the strict one.
+    pub open_profile: bool,
+}
+
+/// A public key, a message and a signature, of which the host found that the signature is valid.
+#[repr(C)]
+#[derive(Clone, Copy, Drop)]
+pub struct TripleParts<'a> {
+    /// The public key.
+    pub key: KeyParts<'a>,
+    /// The message.
+    pub message: &'a [u8],
+    /// The signature.
+    pub signature: &'a [u8],
+}
+
+/// What a sign-in that has begun expects.
+#[repr(C)]
+#[derive(Clone, Copy, Drop)]
+pub struct SignInParts<'a> {
+    /// The challenge: 32 bytes.
+    pub challenge: &'a [u8],
+    /// Whether user verification (UV) is required.
+    pub user_verification: bool,
+    /// Whether the account that signs in is known beforehand.
+    pub has_user: bool,
+    /// Its user handle.
+    pub user: &'a [u8],
+    /// The ids of the credentials that may answer; none for any.
+    pub allow: &'a [Bytes<'a>],
+}
+
+/// A registered credential.
+#[repr(C)]
+#[derive(Clone, Copy, Drop)]
+pub struct CredentialParts<'a> {
+    /// The credential id.
+    pub id: &'a [u8],
+    /// The user handle.
+    pub user: &'a [u8],
+    /// The public key.
+    pub key: KeyParts<'a>,
+    /// The signature counter last received.
+    pub sign_count: u32,
+    /// Whether it is known if the credential is eligible for backup.
+    pub is_eligibility_known: bool,
+    /// Whether the credential is eligible for backup (BE).
+    pub eligible: bool,
+    /// Whether the credential is retired: it signs in no more.
+    pub retired: bool,
+}
+
+/// A client's answer to a sign-in.
+#[repr(C)]
+#[derive(Clone, Copy, Drop)]
+pub struct AnswerParts<'a> {
+    /// The credential id.
+    pub credential: &'a [u8],
+    /// Whether the authenticator sent a user handle.
+    pub has_user: bool,
+    /// The user handle.
+    pub user: &'a [u8],
+    /// The authenticator data as they came.
+    pub auth_data: &'a [u8],
+    /// The signature.
+    pub signature: &'a [u8],
+    /// The client data as they came.
+    pub client_data: &'a [u8],
+}
+
+/// A sign-in to be judged.
+#[repr(C)]
+#[derive(Clone, Copy, Drop)]
+pub struct AssertionCall<'a> {
+    /// The relying party.
+    pub party: PartyParts<'a>,
+    /// Whether a session is open for sign-in.
+    pub has_session: bool,
+    /// What it expects.
+    pub session: SignInParts<'a>,
+    /// Whether a credential was found for the response.
+    pub has_credential: bool,
+    /// The credential.
+    pub credential: CredentialParts<'a>,
+    /// The client's answer.
+    pub response: AnswerParts<'a>,
+    /// Whether the host verified a signature.
+    pub has_triple: bool,
+    /// The signature that it verified, with key and message.
+    pub triple: TripleParts<'a>,
+}
+
+/// What a sign-in that is accepted says.
+#[repr(C)]
+#[derive(Clone, Copy, Debug, PartialEq, Eq, Drop)]
+pub struct AssertionOut {
+    /// The signature counter that was received: the credential's from now on.
+    pub sign_count: u32,
+    /// Whether the credential is eligible for backup (BE), to be stored where it was unknown.
+    pub eligible: bool,
+    /// Whether the credential is backed up now (BS).
+    pub backed_up: bool,
+}
+
+/// What a registration that has begun expects.
+#[repr(C)]
+#[derive(Clone, Copy, Drop)]
+pub struct RegisterParts<'a> {
+    /// The challenge: 32 bytes.
+    pub challenge: &'a [u8],
+    /// The user handle of the account.
+    pub user: &'a [u8],
+    /// Whether user verification (UV) is required.
+    pub user_verification: bool,
+    /// Whether ES256 was offered (-7).
+    pub offers_es256: bool,
+    /// Whether EdDSA was offered (-8).
+    pub offers_eddsa: bool,
+}
+
+/// A client's answer to a registration.
+#[repr(C)]
+#[derive(Clone, Copy, Drop)]
+pub struct AttestationParts<'a> {
+    /// The attestation object as it came.
+    pub object: &'a [u8],
+    /// The client data as they came.
+    pub client_data: &'a [u8],
+}
+
+/// A registration to be judged.
+#[repr(C)]
+#[derive(Clone, Copy, Drop)]
+pub struct RegistrationCall<'a> {
+    /// The relying party.
+    pub party: PartyParts<'a>,
+    /// Whether no attestation is accepted.
+    pub accept_none: bool,
+    /// Whether self attestation is accepted.
+    pub accept_self: bool,
+    /// Whether a session is open for registration.
+    pub has_session: bool,
+    /// What it expects.
+    pub session: RegisterParts<'a>,
+    /// The client's answer.
+    pub response: AttestationParts<'a>,
+    /// Whether the host found that no credential has the id that follows, retired or not.
+    pub has_free_id: bool,
+    /// The id of which it found that. Each other id counts as registered.
+    pub free_id: &'a [u8],
+    /// Whether there is no room for another credential.
+    pub is_full: bool,
+    /// Whether the host verified a signature.
+    pub has_triple: bool,
+    /// The signature that it verified, with key and message.
+    pub triple: TripleParts<'a>,
+}
+
+/// The credential of a registration that is accepted.
+#[repr(C)]
+#[derive(Drop)]
+pub struct RegistrationOut {
+    /// How many bytes the credential id has.
+    pub id_length: usize,
+    /// The credential id, and behind it what was there.
+    pub id: [u8; 1023],
+    /// The key's algorithm: -7, ES256, or -8, EdDSA.
+    pub algorithm: i32,
+    /// The key's x.
+    pub x: [u8; 32],
+    /// The key's y; zeros of EdDSA.
+    pub y: [u8; 32],
+    /// The signature counter that was received.
+    pub sign_count: u32,
+    /// Whether the credential is eligible for backup (BE).
+    pub eligible: bool,
+}
+
+/// Which signature the host is to verify.
+#[repr(C)]
+#[derive(Drop)]
+pub struct SignatureOut {
+    /// Whether there is one; else the other members say nothing.
+    pub is_asked: bool,
+    /// The key's algorithm: -7, ES256, or -8, EdDSA.
+    pub algorithm: i32,
+    /// The key's x.
+    pub x: [u8; 32],
+    /// The key's y; zeros of EdDSA.
+    pub y: [u8; 32],
+    /// How many bytes of the room are the message.
+    pub message_length: usize,
+    /// How many bytes of the room are the signature.
+    pub signature_length: usize,
+}

@@ -1,0 +1,208 @@
+//! Registrations (WebAuthn Level 2, section 7.1).
+
+ghost use Rattle.std.specs.Prelude.{◌≡◌, ◌≢◌, ◌<◌, ◌≤◌, IfErr, IfOk, OnOk, length, option_map};
+ghost use Rattle.refusal_order.specs.Lines.{Each};
+ghost use Rattle.verification.specs.Numbers.{registration_number};
+ghost use Rattle.verification.specs.Registration.{IsFirstFailing, PassesRegistration, PassesRegistrationStep, response_steps};
+ghost use Rattle.verification.specs.RegistrationAnswers.{IsVerifiedRegistration};
+ghost use Rattle.verification.specs.Views.{admitted_view, registration_parts_view, registration_view};
+ghost use Rattle.verification.specs.declared.refusal.RegistrationRefusal.{RegistrationRefusal};
+ghost use Rattle.passkey_c.specs.declared.registration.Refusal.TheVariants as refusals;
+ghost use Rattle.passkey_c.specs.Limits.{IsFault, RegistrationKeeps, registration_limits};
+ghost use Rattle.passkey_c.specs.Numbers.{limit_number};
+ghost use Rattle.passkey_c.specs.Parts.{offered, party_of};
+ghost use Rattle.passkey_c.specs.Registrations.{IsRefused, IsRegistrationAnswer, judged_registration, registration_validity, told_registration};
+
+use crate::answers::{ACCEPTED, InputFault, Limit};
+use crate::input::{KeyLimit, exactly_32, party_from};
+use crate::parts::{RegistrationCall, RegistrationOut};
+use crate::triple::{OneTriple, triple_from};
+use cose::{Alg, CoseKey};
+use std::alloc::{AllocError, Global};
+use verification::{
+    AdmittedCredential, Policy, RegistrationAttempt, RegistrationError, RegistrationParts,
+    RegistrationRefusal, RegistrationSession, RelyingParty, VerifiedRegistration,
+    verify_registration,
+};
+
+/// Why a registration is not accepted.
+#[derive(Clone, Copy, Debug, PartialEq, Eq, Drop)]
+enum Refusal {
+    Input(InputFault),
+    Step(RegistrationRefusal),
+}
+
+impl From<InputFault> for Refusal {
+    ghost from_gives = { λ fault e. e ≡ refusals.Input fault };
+
+    fn from(fault: InputFault) -> Refusal {
+        Refusal::Input(fault)
+    }
+}
+
+/// The algorithms that were offered.
+fn algorithms(alloc: Global, es256: bool, eddsa: bool) -> Result<Vec<Alg>, AllocError>
+    ensures { IfOk result (λ algorithms. algorithms.items ≡ offered es256 eddsa) }
+{
+    match (es256, eddsa) {
+        (true, true) => Vec::from_slice(alloc, &[Alg::Es256, Alg::EdDsa]),
+        (true, false) => Vec::from_slice(alloc, &[Alg::Es256]),
+        (false, true) => Vec::from_slice(alloc, &[Alg::EdDsa]),
+        (false, false) => Ok(Vec::new(alloc)),
+    }
+}
+
+/// The session that is handed in.
+fn expected(
+    alloc: Global,
+    call: &RegistrationCall<'_>,
+) -> Result<Option<RegistrationSession>, InputFault>
+    ensures found { IfOk result (λ session. option_map registration_view session ≡ (judged_registration call.now).session) }
+    ensures challenge { OnOk result (RegistrationKeeps call.now Limit.Challenge) }
+    ensures refused { IfErr result (IsFault (RegistrationKeeps call.now)) }
+{
+    if !call.has_session {
+        return Ok(None);
+    }
+    let Some(challenge) = exactly_32(call.session.challenge) else {
+        return Err(InputFault::Limit(Limit::Challenge));
+    };
+    let algorithms = algorithms(alloc, call.session.offers_es256, call.session.offers_eddsa)?;
+    let user = Vec::from_slice(alloc, call.session.user)?;
+    Ok(Some(RegistrationSession {
+        user,
+        algorithms,
+        uv: call.session.user_verification,
+        challenge,
+    }))
+}
+
+/// The signature that the host verified.
+fn registration_triple<'a>(call: &RegistrationCall<'a>) -> Result<OneTriple<'a>, InputFault>
+    ensures found { IfOk result (λ triple. (triple.has_triple ≡ call.now.has_triple) × (triple.parts ≡ call.now.triple)) }
+    ensures algorithm { OnOk result (RegistrationKeeps call.now Limit.TripleAlgorithm) }
+    ensures x { OnOk result (RegistrationKeeps call.now Limit.TripleX) }
+    ensures y { OnOk result (RegistrationKeeps call.now Limit.TripleY) }
+    ensures refused { IfErr result (IsFault (RegistrationKeeps call.now)) }
+{
+    match triple_from(call.has_triple, call.triple) {
+        Ok(triple) => Ok(triple),
+        Err(KeyLimit::Algorithm) => Err(InputFault::Limit(Limit::TripleAlgorithm)),
+        Err(KeyLimit::X) => Err(InputFault::Limit(Limit::TripleX)),
+        Err(KeyLimit::Y) => Err(InputFault::Limit(Limit::TripleY)),
+    }
+}
+
+/// Judges a registration by its response.
+fn verified(
+    alloc: Global,
+    call: &RegistrationCall<'_>,
+    party: &RelyingParty,
+    session: Option<&RegistrationSession>,
+    triple: &OneTriple<'_>,
+) -> Result<VerifiedRegistration, Refusal>
+    requires party { party.now ≡ party_of call.now.party }
+    requires session { option_map (λ s. registration_view s.now) session ≡ (judged_registration call.now).session }
+    requires flag { triple.now.has_triple ≡ call.now.has_triple }
+    requires parts { triple.now.parts ≡ call.now.triple }
+    requires limits { Each (RegistrationKeeps call.now) registration_limits }
+    ensures accepted { IfOk result (λ v. IsVerifiedRegistration (judged_registration call.now) v
+        × Each (PassesRegistrationStep (registration_validity call.now) (judged_registration call.now)) response_steps) }
+    ensures refused { IfErr result (IsRefused call.now) }
+{
+    let attempt = RegistrationAttempt {
+        party,
+        policy: Policy {
+            accept_none: call.accept_none,
+            accept_self: call.accept_self,
+        },
+        session,
+        response: RegistrationParts {
+            object: call.response.object,
+            client_data: call.response.client_data,
+        },
+    };
+    match verify_registration(alloc, triple, &attempt) {
+        Ok(verified) => Ok(verified),
+        Err(RegistrationError::Refused(step)) => Err(Refusal::Step(step)),
+        Err(RegistrationError::Memory) => Err(Refusal::Input(InputFault::Memory)),
+    }
+}
+
+/// Whether a credential of this id counts as registered.
+fn is_registered(call: &RegistrationCall<'_>, id: &[u8]) -> bool
+    ensures { (judged_registration call.now).is_registered id.now ≡ result }
+{
+    !(call.has_free_id && call.free_id == id)
+}
+
+/// Judges a registration.
+fn judge(alloc: Global, call: &RegistrationCall<'_>) -> Result<AdmittedCredential, Refusal>
+    ensures accepted { IfOk result (λ c. PassesRegistration (registration_validity call.now) (judged_registration call.now)
+        × IsVerifiedRegistration (judged_registration call.now) (admitted_view c)) }
+    ensures limits { OnOk result (Each (RegistrationKeeps call.now) registration_limits) }
+    ensures refused { IfErr result (IsRefused call.now) }
+{
+    let party = party_from(alloc, &call.party)?;
+    let session = expected(alloc, call)?;
+    let triple = registration_triple(call)?;
+    let verified = verified(alloc, call, &party, session.as_ref(), &triple)?;
+    let is_registered = is_registered(call, verified.id());
+    match verified.admit(is_registered, call.is_full) {
+        Ok(credential) => Ok(credential),
+        Err(step) => Err(Refusal::Step(step)),
+    }
+}
+
+/// Tells the credential that was admitted.
+fn tell(credential: &AdmittedCredential, out: &mut RegistrationOut)
+    requires { length credential.now.id.items ≤ 1023 }
+    ensures { told_registration out.new ≡ admitted_view credential.now }
+{
+    let length = credential.id.len();
+    out.id_length = length;
+    out.id[..length].copy_from_slice(&credential.id);
+    match &credential.key {
+        CoseKey::Es256 { x, y } => {
+            out.algorithm = -7;
+            out.x = *x;
+            out.y = *y;
+        }
+        CoseKey::EdDsa { x } => {
+            out.algorithm = -8;
+            out.x = *x;
+            out.y = [0; 32];
+        }
+    }
+    out.sign_count = credential.sign_count;
+    out.eligible = credential.eligible;
+}
+
+/// Judges a registration: 0 where each step of section 7.1 is passed, the only valid signature being the one that the
+/// host verified and the only id that is not registered the one that it found to be free, and then the credential is
+/// written; else 1 to 16 for the first step that is not passed, 100 and up for a member that is out of its limits, 127
+/// where there was no memory, and nothing is written.
+#[unsafe(no_mangle)]
+pub extern "C" fn passkey_registration(
+    alloc: Global,
+    call: &RegistrationCall<'_>,
+    out: &mut RegistrationOut,
+) -> u32
+    ensures accepted { result ≡ 0 → PassesRegistration (registration_validity call.now) (judged_registration call.now) }
+    ensures told { result ≡ 0 → IsVerifiedRegistration (judged_registration call.now) (told_registration out.new) }
+    ensures refused { (step : RegistrationRefusal) → result ≡ registration_number step
+        → IsFirstFailing (registration_validity call.now) (judged_registration call.now) step }
+    ensures limit { (limit : Limit) → result ≡ limit_number limit → RegistrationKeeps call.now limit → ⊥ }
+    ensures within { result < 100 → Each (RegistrationKeeps call.now) registration_limits }
+    ensures answer { IsRegistrationAnswer result }
+    ensures untouched { result ≢ 0 → out.new ≡ out.old }
+{
+    match judge(alloc, call) {
+        Ok(credential) => {
+            tell(&credential, out);
+            ACCEPTED
+        }
+        Err(Refusal::Step(step)) => u32::from(step.number()),
+        Err(Refusal::Input(fault)) => fault.number(),
+    }
+}

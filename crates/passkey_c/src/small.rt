@@ -1,0 +1,211 @@
+//! Challenges, canonical CBOR, texts and the version.
+
+ghost use Rattle.std.specs.Prelude.{◌≡◌, ◌↔◌, ◌≤◌, ◌+◌, ◌++◌, IsTrue, length, true, false};
+ghost use Rattle.std.specs.Int.{to_be_bytes, w64};
+ghost use Rattle.sha2.specs.Sha256.{sha256};
+ghost use Rattle.ccbor.specs.Canon.{Canon};
+ghost use Rattle.ccbor.specs.Item.{Item};
+ghost use Rattle.clientdata.specs.Serialised.{challenge_text_of};
+
+use crate::answers::Limit;
+use ccbor::View;
+use clientdata::{challenge_text, hash};
+use std::alloc::{AllocError, Global};
+use verification::{RegistrationRefusal, SignInRefusal};
+
+/// The version of these calls.
+#[unsafe(no_mangle)]
+pub extern "C" fn passkey_abi_version() -> u32
+    ensures { result ≡ 1 }
+{
+    1
+}
+
+/// Whether the bytes are one value of canonical CBOR, and no more.
+#[unsafe(no_mangle)]
+pub extern "C" fn passkey_is_canonical(bytes: &[u8]) -> bool
+    ensures { IsTrue result ↔ ((v : Item) × Canon v bytes.now) }
+{
+    match View::check_all(bytes) {
+        Ok(_) => true,
+        Err(_) => false,
+    }
+}
+
+/// Writes the message of a sign-in's signature: the authenticator data, then the hash of the client data. The room
+/// must have as many bytes; else nothing is written.
+#[unsafe(no_mangle)]
+pub extern "C" fn passkey_assertion_message(
+    auth_data: &[u8],
+    client_data: &[u8],
+    message: &mut [u8],
+) -> bool
+    ensures fits { IsTrue result ↔ (length message.old ≡ length auth_data.now + 32) }
+    ensures written { result ≡ true → message.new ≡ auth_data.now ++ sha256 client_data.now }
+    ensures untouched { result ≡ false → message.new ≡ message.old }
+{
+    if auth_data.len() > message.len() || message.len() - auth_data.len() != 32 {
+        return false;
+    }
+    let (front, back) = message.split_at_mut(auth_data.len());
+    front.copy_from_slice(auth_data);
+    back.copy_from_slice(&hash(client_data));
+    true
+}
+
+/// Makes a challenge: the session's number in 8 big-endian bytes, then 24 random bytes.
+#[unsafe(no_mangle)]
+pub extern "C" fn passkey_challenge(session: u64, words: &[u8], challenge: &mut [u8]) -> bool
+    ensures fits { IsTrue result ↔ ((length words.now ≡ 24) × (length challenge.old ≡ 32)) }
+    ensures made { result ≡ true → challenge.new ≡ to_be_bytes w64 session ++ words.now }
+    ensures untouched { result ≡ false → challenge.new ≡ challenge.old }
+{
+    if words.len() != 24 || challenge.len() != 32 {
+        return false;
+    }
+    let (front, back) = challenge.split_at_mut(8);
+    front.copy_from_slice(&session.to_be_bytes());
+    back.copy_from_slice(words);
+    true
+}
+
+/// Writes a challenge of 32 bytes as client data have it: 43 characters.
+#[unsafe(no_mangle)]
+pub extern "C" fn passkey_challenge_text(alloc: Global, challenge: &[u8], text: &mut [u8]) -> bool
+    ensures written { result ≡ true → text.new ≡ challenge_text_of challenge.now }
+    ensures fits { result ≡ true → (length challenge.now ≡ 32) × (length text.old ≡ 43) }
+    ensures untouched { result ≡ false → text.new ≡ text.old }
+{
+    if challenge.len() != 32 || text.len() != 43 {
+        return false;
+    }
+    let Ok(made) = challenge_text(alloc, challenge) else {
+        return false;
+    };
+    let bytes = made.as_bytes();
+    if bytes.len() != text.len() {
+        return false;
+    }
+    text.copy_from_slice(bytes);
+    true
+}
+
+/// Each step of a sign-in.
+const SIGN_IN_STEPS: [SignInRefusal; 16] = [
+    SignInRefusal::SessionNotOpen,
+    SignInRefusal::CredentialNotAllowed,
+    SignInRefusal::UnknownCredential,
+    SignInRefusal::OtherUser,
+    SignInRefusal::UnreadableClientData,
+    SignInRefusal::WrongType,
+    SignInRefusal::WrongChallenge,
+    SignInRefusal::WrongOrigin,
+    SignInRefusal::TokenBinding,
+    SignInRefusal::BadAuthenticatorData,
+    SignInRefusal::WrongRelyingParty,
+    SignInRefusal::UserNotPresent,
+    SignInRefusal::UserNotVerified,
+    SignInRefusal::BadSignature,
+    SignInRefusal::CounterNotGreater,
+    SignInRefusal::EligibilityChanged,
+];
+
+/// Each step of a registration.
+const REGISTRATION_STEPS: [RegistrationRefusal; 16] = [
+    RegistrationRefusal::SessionNotOpen,
+    RegistrationRefusal::UnreadableClientData,
+    RegistrationRefusal::WrongType,
+    RegistrationRefusal::WrongChallenge,
+    RegistrationRefusal::WrongOrigin,
+    RegistrationRefusal::TokenBinding,
+    RegistrationRefusal::BadAttestationObject,
+    RegistrationRefusal::WrongRelyingParty,
+    RegistrationRefusal::UserNotPresent,
+    RegistrationRefusal::UserNotVerified,
+    RegistrationRefusal::AlgorithmNotOffered,
+    RegistrationRefusal::UnknownFormat,
+    RegistrationRefusal::BadStatement,
+    RegistrationRefusal::AttestationNotAccepted,
+    RegistrationRefusal::CredentialRegistered,
+    RegistrationRefusal::TableFull,
+];
+
+/// Each limit.
+const LIMITS: [Limit; 12] = [
+    Limit::Profile,
+    Limit::RpId,
+    Limit::Origin,
+    Limit::Challenge,
+    Limit::KeyAlgorithm,
+    Limit::KeyX,
+    Limit::KeyY,
+    Limit::TripleAlgorithm,
+    Limit::TripleX,
+    Limit::TripleY,
+    Limit::MessageRoom,
+    Limit::SignatureRoom,
+];
+
+/// The text of a step of a sign-in; empty where none has this number.
+fn sign_in_text(alloc: Global, answer: u32) -> Result<String, AllocError> {
+    for step in SIGN_IN_STEPS {
+        if u32::from(step.number()) == answer {
+            return format!(in alloc; "{step}");
+        }
+    }
+    Ok(String::new(alloc))
+}
+
+/// The text of a step of a registration; empty where none has this number.
+fn registration_text(alloc: Global, answer: u32) -> Result<String, AllocError> {
+    for step in REGISTRATION_STEPS {
+        if u32::from(step.number()) == answer {
+            return format!(in alloc; "{step}");
+        }
+    }
+    Ok(String::new(alloc))
+}
+
+/// The text of another answer; empty where there is none.
+fn other_text(alloc: Global, answer: u32) -> Result<String, AllocError> {
+    for limit in LIMITS {
+        if limit.number() == answer {
+            return format!(in alloc; "{limit}");
+        }
+    }
+    match answer {
+        0 => String::from_str(alloc, "accepted"),
+        127 => String::from_str(alloc, "out of memory"),
+        _ => Ok(String::new(alloc)),
+    }
+}
+
+/// Writes the text of an answer, and tells how many bytes it has; none where the answer has no text, the room is too
+/// small, or there was no memory.
+#[unsafe(no_mangle)]
+pub extern "C" fn passkey_refusal_text(
+    alloc: Global,
+    is_registration: bool,
+    answer: u32,
+    text: &mut [u8],
+) -> usize
+    ensures { result ≤ length text.old }
+{
+    let found = if answer == 0 || answer >= 100 {
+        other_text(alloc, answer)
+    } else if is_registration {
+        registration_text(alloc, answer)
+    } else {
+        sign_in_text(alloc, answer)
+    };
+    let Ok(found) = found else {
+        return 0;
+    };
+    let bytes = found.as_bytes();
+    if bytes.len() > text.len() {
+        return 0;
+    }
+    let (front, _) = text.split_at_mut(bytes.len());
+    front.copy_from_slice(bytes);
+    bytes.len()
+}

@@ -1,0 +1,73 @@
+//! The verifier of one signature.
+
+ghost use Rattle.std.specs.Prelude.{◌≡◌, ◌↔◌, ◌++◌, IfErr, IfOk, IsTrue, OnOk, true};
+ghost use Rattle.refusal_order.specs.Lines.{Each};
+ghost use Rattle.passkey_c.specs.Limits.{KeyKeeps, key_order};
+ghost use Rattle.passkey_c.specs.Parts.{given, key_of};
+
+use crate::input::{KeyLimit, key_from};
+use crate::parts::TripleParts;
+use cose::{CoseKey, Verifier};
+
+/// A verifier to which one signature is valid, the one that the host verified, or none.
+#[derive(Drop)]
+pub(crate) struct OneTriple<'a> {
+    pub(crate) has_triple: bool,
+    pub(crate) parts: TripleParts<'a>,
+    pub(crate) key: Option<CoseKey>,
+    ghost is_key: { key ≡ given has_triple (key_of parts.key) },
+}
+
+/// Whether the text is these two parts, one after the other.
+fn is_joined(text: &[u8], first: &[u8], second: &[u8]) -> bool
+    ensures { IsTrue result ↔ (text.now ≡ first.now ++ second.now) }
+{
+    match text.strip_prefix(first) {
+        Some(back) => back == second,
+        None => false,
+    }
+}
+
+impl Verifier for OneTriple<'_> {
+    ghost use Rattle.passkey_c.specs.Parts.{verified};
+
+    ghost valid = { λ s key message signature. verified s.has_triple s.parts key message signature };
+
+    fn verify(&self, key: &CoseKey, parts: [&[u8]; 2], sig: &[u8]) -> bool {
+        let [first, second] = parts;
+        match &self.key {
+            Some(own) => {
+                *own == *key
+                    && is_joined(self.parts.message, first, second)
+                    && self.parts.signature == sig
+            }
+            None => false,
+        }
+    }
+}
+
+/// The verifier of the signature that the host verified, where it says that it did.
+pub(crate) fn triple_from<'a>(
+    has_triple: bool,
+    parts: TripleParts<'a>,
+) -> Result<OneTriple<'a>, KeyLimit>
+    ensures same { IfOk result (λ triple. (triple.has_triple ≡ has_triple) × (triple.parts ≡ parts.entry)) }
+    ensures kept { OnOk result (has_triple ≡ true → Each (KeyKeeps parts.entry.key) key_order) }
+    ensures refused { IfErr result (λ limit. (has_triple ≡ true) × (KeyKeeps parts.entry.key limit → ⊥)) }
+{
+    if !has_triple {
+        return Ok(OneTriple {
+            has_triple,
+            parts,
+            key: None,
+        });
+    }
+    match key_from(&parts.key) {
+        Ok(key) => Ok(OneTriple {
+            has_triple,
+            parts,
+            key: Some(key),
+        }),
+        Err(limit) => Err(limit),
+    }
+}

@@ -1,0 +1,15 @@
+"""A passkey relying party (WebAuthn Level 2, sections 7.1 and 7.2) whose steps are proved code, in a shared object that
+is part of this package. Signatures are verified by `cryptography`.
+
+    server = Server("example.com", ["https://example.com"])
+    options, session = server.register_begin(b"handle of the account", "name")
+    credential = server.register_complete(session, response, is_registered=has)
+    options, session = server.authenticate_begin()
+    signed_in = server.authenticate_complete(session, response, credential=find)
+"""
+from .library import EDDSA, ES256, is_canonical
+from .records import BadInput, Credential, Refused, RegistrationSession, SignedIn, SignInSession
+from .server import Server
+
+__all__ = ["EDDSA", "ES256", "BadInput", "Credential", "Refused", "RegistrationSession", "Server", "SignInSession",
+           "SignedIn", "is_canonical"]

@@ -1,0 +1,204 @@
+"""The shared object of `c/passkey.h`, by ctypes: structs as there, and a function for each call."""
+from __future__ import annotations
+
+import ctypes
+from ctypes import POINTER, Structure, c_bool, c_int32, c_size_t, c_uint8, c_uint32, c_uint64, c_void_p
+from pathlib import Path
+from typing import Sequence
+
+ABI_VERSION = 1
+ES256 = -7
+EDDSA = -8
+MAX_ID = 1023
+
+
+class Bytes(Structure):
+    _fields_ = [("data", c_void_p), ("size", c_size_t)]
+
+
+class Key(Structure):
+    _fields_ = [("algorithm", c_int32), ("x", Bytes), ("y", Bytes)]
+
+
+class Party(Structure):
+    _fields_ = [("rp_id", Bytes), ("origins", POINTER(Bytes)), ("origin_count", c_size_t), ("open_profile", c_bool)]
+
+
+class Verified(Structure):
+    _fields_ = [("key", Key), ("message", Bytes), ("signature", Bytes)]
+
+
+class SignInParts(Structure):
+    _fields_ = [
+        ("challenge", Bytes),
+        ("user_verification", c_bool),
+        ("has_user", c_bool),
+        ("user", Bytes),
+        ("allow", POINTER(Bytes)),
+        ("allow_count", c_size_t),
+    ]
+
+
+class CredentialParts(Structure):
+    _fields_ = [
+        ("id", Bytes),
+        ("user", Bytes),
+        ("key", Key),
+        ("sign_count", c_uint32),
+        ("is_eligibility_known", c_bool),
+        ("eligible", c_bool),
+        ("retired", c_bool),
+    ]
+
+
+class AssertionResponse(Structure):
+    _fields_ = [
+        ("credential", Bytes),
+        ("has_user", c_bool),
+        ("user", Bytes),
+        ("auth_data", Bytes),
+        ("signature", Bytes),
+        ("client_data", Bytes),
+    ]
+
+
+class AssertionCall(Structure):
+    _fields_ = [
+        ("party", Party),
+        ("has_session", c_bool),
+        ("session", SignInParts),
+        ("has_credential", c_bool),
+        ("credential", CredentialParts),
+        ("response", AssertionResponse),
+        ("has_verified", c_bool),
+        ("verified", Verified),
+    ]
+
+
+class AssertionOut(Structure):
+    _fields_ = [("sign_count", c_uint32), ("eligible", c_bool), ("backed_up", c_bool)]
+
+
+class RegisterParts(Structure):
+    _fields_ = [
+        ("challenge", Bytes),
+        ("user", Bytes),
+        ("user_verification", c_bool),
+        ("offers_es256", c_bool),
+        ("offers_eddsa", c_bool),
+    ]
+
+
+class RegistrationResponse(Structure):
+    _fields_ = [("object", Bytes), ("client_data", Bytes)]
+
+
+class RegistrationCall(Structure):
+    _fields_ = [
+        ("party", Party),
+        ("accept_none", c_bool),
+        ("accept_self", c_bool),
+        ("has_session", c_bool),
+        ("session", RegisterParts),
+        ("response", RegistrationResponse),
+        ("has_free_id", c_bool),
+        ("free_id", Bytes),
+        ("is_full", c_bool),
+        ("has_verified", c_bool),
+        ("verified", Verified),
+    ]
+
+
+class RegistrationOut(Structure):
+    _fields_ = [
+        ("id_size", c_size_t),
+        ("id", c_uint8 * MAX_ID),
+        ("algorithm", c_int32),
+        ("x", c_uint8 * 32),
+        ("y", c_uint8 * 32),
+        ("sign_count", c_uint32),
+        ("eligible", c_bool),
+    ]
+
+
+class SignatureOut(Structure):
+    _fields_ = [
+        ("is_asked", c_bool),
+        ("algorithm", c_int32),
+        ("x", c_uint8 * 32),
+        ("y", c_uint8 * 32),
+        ("message_size", c_size_t),
+        ("signature_size", c_size_t),
+    ]
+
+
+class Lender:
+    """Lends bytes to a call, and holds them until it is dropped."""
+
+    def __init__(self) -> None:
+        self._held: list[object] = []
+
+    def bytes(self, value: bytes) -> Bytes:
+        """The bytes, where they lie; null where there are none."""
+        value = bytes(value)
+        self._held.append(value)
+        return Bytes(ctypes.cast(ctypes.c_char_p(value), c_void_p) if value else None, len(value))
+
+    def list(self, values: Sequence[bytes]) -> "ctypes.Array[Bytes]":
+        array = (Bytes * len(values))(*[self.bytes(value) for value in values])
+        self._held.append(array)
+        return array
+
+
+def _load() -> ctypes.CDLL:
+    made = ctypes.CDLL(str(Path(__file__).with_name("libpasskey.so")))
+    made.passkey_abi_version.restype = c_uint32
+    made.passkey_abi_version.argtypes = []
+    if made.passkey_abi_version() != ABI_VERSION:
+        raise ImportError("libpasskey.so has another version than this package")
+    room = [c_void_p, c_size_t]
+    for name, result, arguments in (
+        ("passkey_assertion", c_uint32, [POINTER(AssertionCall), POINTER(AssertionOut)]),
+        ("passkey_assertion_message", c_bool, room * 3),
+        ("passkey_registration", c_uint32, [POINTER(RegistrationCall), POINTER(RegistrationOut)]),
+        ("passkey_registration_asked", c_uint32,
+         [c_bool, POINTER(RegistrationResponse), *room, *room, POINTER(SignatureOut)]),
+        ("passkey_challenge", c_bool, [c_uint64, *room, *room]),
+        ("passkey_challenge_text", c_bool, room * 2),
+        ("passkey_is_canonical", c_bool, room),
+        ("passkey_refusal_text", c_size_t, [c_bool, c_uint32, *room]),
+    ):
+        function = getattr(made, name)
+        function.restype = result
+        function.argtypes = arguments
+    return made
+
+
+passkey = _load()
+
+
+def refusal_text(is_registration: bool, answer: int) -> str:
+    """The text of an answer; empty where it has none."""
+    room = ctypes.create_string_buffer(128)
+    size = passkey.passkey_refusal_text(is_registration, answer, room, len(room))
+    return room.raw[:size].decode()
+
+
+def is_canonical(value: bytes) -> bool:
+    """Whether the bytes are one value of canonical CBOR (CTAP 2.1), and no more."""
+    return bool(passkey.passkey_is_canonical(value, len(value)))
+
+
+def challenge(session: int, words: bytes) -> bytes:
+    """A challenge: the session's number in 8 bytes, then 24 random bytes."""
+    room = ctypes.create_string_buffer(32)
+    if not passkey.passkey_challenge(session, words, len(words), room, len(room)):
+        raise ValueError("24 random bytes are wanted")
+    return room.raw
+
+
+def assertion_message(auth_data: bytes, client_data: bytes) -> bytes:
+    """What a sign-in's signature is of: the authenticator data, then SHA-256 of the client data."""
+    room = ctypes.create_string_buffer(len(auth_data) + 32)
+    passkey.passkey_assertion_message(auth_data, len(auth_data), client_data, len(client_data), room, len(room))
+    return room.raw

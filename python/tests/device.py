@@ -1,0 +1,79 @@
+"""A browser and its authenticator, played by `cryptography`."""
+import hashlib
+import json
+import struct
+
+from cryptography.hazmat.primitives import hashes, serialization
+from cryptography.hazmat.primitives.asymmetric import ec, ed25519
+
+from garvoeng import EDDSA, ES256
+from garvoeng.forms import from_text, to_text
+
+UP, UV, BE, BS, AT = 1, 4, 8, 16, 64
+
+
+class Device:
+    def __init__(self, algorithm=ES256, credential=b"credential of 22 bytes", rp_id="example.com",
+                 origin="https://example.com"):
+        self.algorithm, self.id, self.rp_id, self.origin, self.count = algorithm, credential, rp_id, origin, 0
+        if algorithm == ES256:
+            self.key = ec.generate_private_key(ec.SECP256R1())
+            numbers = self.key.public_key().public_numbers()
+            self.x, self.y = numbers.x.to_bytes(32, "big"), numbers.y.to_bytes(32, "big")
+        else:
+            self.key = ed25519.Ed25519PrivateKey.generate()
+            self.x = self.key.public_key().public_bytes(serialization.Encoding.Raw, serialization.PublicFormat.Raw)
+            self.y = bytes(32)
+
+    def sign(self, message):
+        if self.algorithm == EDDSA:
+            return self.key.sign(message)
+        return self.key.sign(message, ec.ECDSA(hashes.SHA256()))
+
+    def cose_key(self):
+        if self.algorithm == EDDSA:
+            return bytes.fromhex("a4010103272006215820") + self.x
+        return bytes.fromhex("a5010203262001215820") + self.x + bytes.fromhex("225820") + self.y
+
+    def auth_data(self, flags, count, attested=False):
+        data = hashlib.sha256(self.rp_id.encode()).digest() + struct.pack(">BI", flags, count)
+        if attested:
+            data += bytes(16) + struct.pack(">H", len(self.id)) + self.id + self.cose_key()
+        return data
+
+    def client_data(self, kind, challenge):
+        return json.dumps({"type": kind, "challenge": challenge, "origin": self.origin, "crossOrigin": False},
+                          separators=(",", ":")).encode()
+
+    def register(self, options, flags=UP | UV | AT, packed=False, message=None):
+        client_data = self.client_data("webauthn.create", options["challenge"])
+        data = self.auth_data(flags, 0, attested=True)
+        if packed:
+            signature = self.sign(message or data + hashlib.sha256(client_data).digest())
+            statement = b"\xa2\x63alg" + bytes([0x20 - 1 - self.algorithm]) + b"\x63sig\x58" + bytes([len(signature)]) + signature
+            front = b"\xa3\x63fmt\x66packed\x67attStmt" + statement
+        else:
+            front = b"\xa3\x63fmt\x64none\x67attStmt\xa0"
+        head = bytes([0x58, len(data)]) if len(data) < 256 else b"\x59" + struct.pack(">H", len(data))
+        made = front + b"\x68authData" + head + data
+        return {"id": to_text(self.id), "rawId": to_text(self.id), "type": "public-key", "clientExtensionResults": {},
+                "response": {"attestationObject": to_text(made), "clientDataJSON": to_text(client_data)}}
+
+    def sign_in(self, options, user=None, flags=UP | UV, message=None):
+        self.count += 1
+        client_data = self.client_data("webauthn.get", options["challenge"])
+        data = self.auth_data(flags, self.count)
+        signature = self.sign(message or data + hashlib.sha256(client_data).digest())
+        response = {"authenticatorData": to_text(data), "clientDataJSON": to_text(client_data),
+                    "signature": to_text(signature)}
+        if user is not None:
+            response["userHandle"] = to_text(user)
+        return {"id": to_text(self.id), "rawId": to_text(self.id), "type": "public-key", "clientExtensionResults": {},
+                "response": response}
+
+
+def changed(response, name, change):
+    """The response with a member of bytes changed."""
+    inner = dict(response["response"])
+    inner[name] = to_text(change(from_text(inner[name], name)))
+    return {**response, "response": inner}
