@@ -183,7 +183,7 @@ int main(void)
 {
     MUST(passkey_abi_version() == PASSKEY_ABI_VERSION);
     const passkey_bytes origins[] = { text("https://example.com") };
-    const passkey_party party = { text("example.com"), origins, 1, false };
+    const passkey_party party = { text("example.com"), origins, 1, true };
     uint8_t challenge[32], object[256], data[64], message[96], signature[128];
     char client_data[256];
     device_make();

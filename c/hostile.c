@@ -166,7 +166,7 @@ static void limits(void)
         call.party.rp_id = bad_text;
         MUST(assertion(&call) == PASSKEY_LIMIT_RP_ID);
         call.party.open_profile = true;
-        MUST(assertion(&call) == PASSKEY_LIMIT_PROFILE);
+        MUST(assertion(&call) == PASSKEY_LIMIT_RP_ID);
         drop(some), drop(good), drop(bad_text);
     }
 }

@@ -71,7 +71,6 @@ enum {
     PASSKEY_REGISTRATION_NO_ROOM = 16,
 
     /* a member that is out of its limits */
-    PASSKEY_LIMIT_PROFILE = 100,           /* open_profile: not there yet */
     PASSKEY_LIMIT_RP_ID = 101,             /* party.rp_id: UTF-8 */
     PASSKEY_LIMIT_ORIGIN = 102,            /* party.origins: each in UTF-8 */
     PASSKEY_LIMIT_CHALLENGE = 103,         /* challenge: 32 bytes */
@@ -105,7 +104,8 @@ typedef struct passkey_party {
     passkey_bytes rp_id; /* UTF-8, as "example.com" */
     const passkey_bytes *origins; /* each UTF-8, as "https://example.com"; compared as texts */
     size_t origin_count;
-    bool open_profile; /* must be false: the open profile is not there yet */
+    bool open_profile; /* whether extension data, ids of up to 1,023 bytes and the status not-supported of token
+                          binding are taken, as real keys and browsers send them */
 } passkey_party;
 
 /* A public key, a message and a signature that the host's own library found to be valid. */

@@ -32,7 +32,7 @@ class Server:
     """
 
     def __init__(self, rp_id: str, origins: Sequence[str], rp_name: Optional[str] = None, *, accept_none: bool = True,
-                 accept_self: bool = True, open_profile: bool = False, verify: Verify = signatures.is_valid) -> None:
+                 accept_self: bool = True, open_profile: bool = True, verify: Verify = signatures.is_valid) -> None:
         if isinstance(origins, str):
             raise BadInput("origins is a list of texts")
         self.rp_id = rp_id

@@ -8,7 +8,6 @@ use Rattle.passkey_c.specs.declared.parts.RegistrationCall.{RegistrationCall}
 use Rattle.passkey_c.specs.Limits.{IsFault, PartyKeeps, RegistrationKeeps, SignInKeeps}
 
 pub sign_in_fault : (call : AssertionCall) (fault : InputFault) → IsFault (PartyKeeps call.party) fault → IsFault (SignInKeeps call) fault
-sign_in_fault call (faults.Limit limits.Profile) broken = broken
 sign_in_fault call (faults.Limit limits.RpId) broken = broken
 sign_in_fault call (faults.Limit limits.Origin) broken = broken
 sign_in_fault call (faults.Limit limits.Challenge) broken = absurd (broken tt)
@@ -23,7 +22,6 @@ sign_in_fault call (faults.Limit limits.SignatureRoom) broken = absurd (broken t
 sign_in_fault call faults.Memory broken = tt
 
 pub registration_fault : (call : RegistrationCall) (fault : InputFault) → IsFault (PartyKeeps call.party) fault → IsFault (RegistrationKeeps call) fault
-registration_fault call (faults.Limit limits.Profile) broken = broken
 registration_fault call (faults.Limit limits.RpId) broken = broken
 registration_fault call (faults.Limit limits.Origin) broken = broken
 registration_fault call (faults.Limit limits.Challenge) broken = absurd (broken tt)

@@ -57,14 +57,13 @@ step_range sign_in.EligibilityChanged = (omega arith, omega arith)
 
 abbrev limits_all : List Limit
 limits_all =
-    limits.Profile ∷ limits.RpId ∷ limits.Origin ∷ limits.Challenge ∷ limits.KeyAlgorithm ∷ limits.KeyX ∷ limits.KeyY
+    limits.RpId ∷ limits.Origin ∷ limits.Challenge ∷ limits.KeyAlgorithm ∷ limits.KeyX ∷ limits.KeyY
     ∷ limits.TripleAlgorithm ∷ limits.TripleX ∷ limits.TripleY ∷ limits.MessageRoom ∷ limits.SignatureRoom ∷ []
 
 abbrev limit_at : ℕ → Option Limit
 limit_at n = find (λ limit. limit_number limit == n) limits_all
 
 limit_back : (limit : Limit) → limit_at (limit_number limit) ≡ Some limit
-limit_back limits.Profile = refl
 limit_back limits.RpId = refl
 limit_back limits.Origin = refl
 limit_back limits.Challenge = refl
@@ -82,7 +81,6 @@ same_limit l m e =
     let there : Some l ≡ Some m = sym (limit_back l) ∙ (ap limit_at e ∙ limit_back m) in cc
 
 pub limit_range : (limit : Limit) → (100 ≤ limit_number limit) × (limit_number limit ≤ 126)
-limit_range limits.Profile = (omega arith, omega arith)
 limit_range limits.RpId = (omega arith, omega arith)
 limit_range limits.Origin = (omega arith, omega arith)
 limit_range limits.Challenge = (omega arith, omega arith)

@@ -24,15 +24,14 @@ KeyKeeps key key_limits.Y = alg_in key.algorithm ≡ algs.Es256 → length key.y
 abbrev pub key_order : List KeyLimit
 key_order = key_limits.Algorithm ∷ key_limits.X ∷ key_limits.Y ∷ []
 
--- a relying party: texts of UTF-8, in the strict profile
+-- a relying party: texts of UTF-8
 abbrev pub PartyKeeps : PartyParts → Limit → Type 0
-PartyKeeps party limits.Profile = party.open_profile ≡ false
 PartyKeeps party limits.RpId = IsUtf8 party.rp_id.now
 PartyKeeps party limits.Origin = Each (λ origin. IsUtf8 origin.bytes.now) party.origins.now
 PartyKeeps party _ = Unit {0}
 
 abbrev pub party_limits : List Limit
-party_limits = limits.Profile ∷ limits.RpId ∷ limits.Origin ∷ []
+party_limits = limits.RpId ∷ limits.Origin ∷ []
 
 -- a sign-in: those of the relying party; and of what its flags say is there, a challenge of 32 bytes, the
 -- credential's key, and the key that the host verified with

@@ -7,7 +7,6 @@ use Rattle.passkey_c.specs.declared.answers.InputFault.{InputFault}
 use Rattle.passkey_c.specs.declared.answers.InputFault.TheVariants as faults
 
 abbrev pub limit_number : Limit → ℕ
-limit_number limits.Profile = 100
 limit_number limits.RpId = 101
 limit_number limits.Origin = 102
 limit_number limits.Challenge = 103

@@ -6,6 +6,8 @@ use Rattle.cose.specs.declared.key.CoseKey.{CoseKey}
 use Rattle.cose.specs.declared.key.CoseKey.TheVariants as keys
 use Rattle.cose.specs.Keys.{alg_of, number_of}
 use Rattle.cose.specs.Schemes.{Validity}
+use Rattle.authdata.specs.declared.profile.Profile.{Profile}
+use Rattle.authdata.specs.declared.profile.Profile.TheVariants.{Open, Strict}
 use Rattle.verification.specs.Records.{RelyingParty}
 use Rattle.passkey_c.specs.declared.parts.Bytes.{Bytes}
 use Rattle.passkey_c.specs.declared.parts.KeyParts.{KeyParts}
@@ -45,8 +47,12 @@ key_with algs.EdDsa x y = keys.EdDsa x
 abbrev pub key_of : KeyParts → CoseKey
 key_of key = key_with (alg_in key.algorithm) key.x.now key.y.now
 
+-- the profile of its flag
+abbrev pub profile_of : Bool → Profile
+profile_of open_profile = if open_profile then Open else Strict
+
 abbrev pub party_of : PartyParts → RelyingParty
-party_of party = record { rp_id = party.rp_id.now; origins = lent party.origins.now }
+party_of party = record { rp_id = party.rp_id.now; origins = lent party.origins.now; profile = profile_of party.open_profile }
 
 -- the only valid signature is the one that the host verified, where it says that it did: of this key, this message,
 -- this signature

@@ -13,9 +13,6 @@ pub const ACCEPTED: u32 = 0;
 /// A member that is out of its limits.
 #[derive(Clone, Copy, Debug, PartialEq, Eq, Drop, ErrorType)]
 pub enum Limit {
-    /// 100: the open profile is asked for, which is not there yet.
-    #[error("the open profile is not there yet")]
-    Profile,
     /// 101: the rp id is not UTF-8.
     #[error("the rp id is not UTF-8")]
     RpId,
@@ -57,7 +54,6 @@ impl Limit {
         ensures { result ≡ limit_number self }
     {
         match self {
-            Limit::Profile => 100,
             Limit::RpId => 101,
             Limit::Origin => 102,
             Limit::Challenge => 103,

@@ -6,11 +6,13 @@ ghost use Rattle.authdata.specs.Objects.{ObjectOf, object_view};
 ghost use Rattle.authdata.specs.Statements.{packed_statement};
 ghost use Rattle.passkey_c.specs.Asked.{AsksAs, Asks, AsksNothing, AttestsKey, AttestsNoKey, IsNoObject, IsNotSelfSigned, IsRoom};
 ghost use Rattle.passkey_c.specs.Asked.{IsSelfSignedBy, IsUnread, Tells, key_told, response_of};
+ghost use Rattle.passkey_c.specs.Parts.{profile_of};
 ghost use Rattle.passkey_c.specs.declared.asked.AskError.TheVariants as errors;
 
 use crate::answers::{ACCEPTED, Limit};
+use crate::input::profile_from;
 use crate::parts::{AttestationParts, SignatureOut};
-use authdata::{AttestationObject, read_view};
+use authdata::{AttestationObject, Profile, read_view};
 use ccbor::{MapKey, Value, is_end, split_key};
 use clientdata::hash;
 use cose::{Alg, CoseKey};
@@ -67,10 +69,10 @@ fn self_signature<'a>(object: &'a AttestationObject, key: &CoseKey) -> Option<&'
 }
 
 /// The public key that authenticator data attest.
-fn attested_key(auth_data: &[u8]) -> Option<CoseKey>
-    ensures { MatchOption result (AttestsNoKey auth_data.now) (AttestsKey auth_data.now) }
+fn attested_key(profile: Profile, auth_data: &[u8]) -> Option<CoseKey>
+    ensures { MatchOption result (AttestsNoKey profile auth_data.now) (AttestsKey profile auth_data.now) }
 {
-    let Ok(data) = read_view(auth_data) else {
+    let Ok(data) = read_view(profile, auth_data) else {
         return None;
     };
     match data.attested {
@@ -103,13 +105,14 @@ fn joined(alloc: Global, first: &[u8], second: &[u8]) -> Result<Vec<u8>, AllocEr
 /// The signature that is asked of a response; none where it does not attest its key by itself.
 fn signature_asked(
     alloc: Global,
+    profile: Profile,
     response: &AttestationParts<'_>,
 ) -> Result<Option<AskedSignature>, AskError>
-    ensures found { IfOk result (AsksAs (response_of response.now)) }
-    ensures refused { IfErr result (IsUnread (response_of response.now)) }
+    ensures found { IfOk result (AsksAs profile (response_of response.now)) }
+    ensures refused { IfErr result (IsUnread profile (response_of response.now)) }
 {
     let object = object_of(alloc, response.object)?;
-    let Some(key) = attested_key(&object.auth_data) else {
+    let Some(key) = attested_key(profile, &object.auth_data) else {
         return Err(AskError::Unreadable);
     };
     let Some(signature) = self_signature(&object, &key) else {
@@ -165,16 +168,13 @@ pub extern "C" fn passkey_registration_asked(
     signature: &mut [u8],
     out: &mut SignatureOut,
 ) -> u32
-    ensures told { result ≡ 0 → Tells (response_of response.now) out.new message.new signature.new out.new.is_asked }
-    ensures unread { result ≡ 7 → IsUnread (response_of response.now) errors.Unreadable }
-    ensures message_room { result ≡ 110 → IsRoom (λ key message' signature'. length message.old < length message') (response_of response.now) }
-    ensures signature_room { result ≡ 111 → IsRoom (λ key message' signature'. length signature.old < length signature') (response_of response.now) }
+    ensures told { result ≡ 0 → Tells (profile_of open_profile) (response_of response.now) out.new message.new signature.new out.new.is_asked }
+    ensures unread { result ≡ 7 → IsUnread (profile_of open_profile) (response_of response.now) errors.Unreadable }
+    ensures message_room { result ≡ 110 → IsRoom (λ key message' signature'. length message.old < length message') (profile_of open_profile) (response_of response.now) }
+    ensures signature_room { result ≡ 111 → IsRoom (λ key message' signature'. length signature.old < length signature') (profile_of open_profile) (response_of response.now) }
     ensures untouched { result ≢ 0 → (out.new ≡ out.old) × (message.new ≡ message.old) × (signature.new ≡ signature.old) }
 {
-    if open_profile {
-        return Limit::Profile.number();
-    }
-    let asked = match signature_asked(alloc, response) {
+    let asked = match signature_asked(alloc, profile_from(open_profile), response) {
         Ok(Some(asked)) => asked,
         Ok(None) => {
             out.is_asked = false;

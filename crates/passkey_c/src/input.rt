@@ -3,14 +3,14 @@
 ghost use Rattle.std.specs.Prelude.{◌≡◌, ◌≢◌, IfErr, IfOk, IfSome, None, OnOk, length, map, option_map};
 ghost use Rattle.refusal_order.specs.Lines.{Each};
 ghost use Rattle.passkey_c.specs.Limits.{IsFault, KeyKeeps, PartyKeeps, key_order, party_limits};
-ghost use Rattle.passkey_c.specs.Parts.{IsAlg, alg_in, given, key_of, lent, party_of};
+ghost use Rattle.passkey_c.specs.Parts.{IsAlg, alg_in, given, key_of, lent, party_of, profile_of};
 
 use crate::answers::{InputFault, Limit};
 use crate::parts::{Bytes, KeyParts, PartyParts};
 use cose::{Alg, CoseKey};
 use std::alloc::{AllocError, Global};
 use std::str;
-use verification::RelyingParty;
+use verification::{Profile, RelyingParty};
 
 /// A member of a key that is out of its limits.
 #[derive(Clone, Copy, Debug, PartialEq, Eq, Drop)]
@@ -112,20 +112,29 @@ fn origins<'a>(alloc: Global, party: &PartyParts<'a>) -> Result<Vec<&'a str>, In
     Ok(texts)
 }
 
+/// The profile of its flag.
+pub(crate) fn profile_from(open_profile: bool) -> Profile
+    ensures { result ≡ profile_of open_profile }
+{
+    if open_profile {
+        Profile::Open
+    } else {
+        Profile::Strict
+    }
+}
+
 /// The relying party that is handed in.
 pub(crate) fn party_from(alloc: Global, parts: &PartyParts<'_>) -> Result<RelyingParty, InputFault>
     ensures found { IfOk result (λ party. party ≡ party_of parts.now) }
     ensures kept { OnOk result (Each (PartyKeeps parts.now) party_limits) }
     ensures refused { IfErr result (IsFault (PartyKeeps parts.now)) }
 {
-    if parts.open_profile {
-        return Err(InputFault::Limit(Limit::Profile));
-    }
     let Ok(rp_id) = str::from_utf8(parts.rp_id) else {
         return Err(InputFault::Limit(Limit::RpId));
     };
     let origins = origins(alloc, parts)?;
-    match RelyingParty::new(alloc, rp_id, &origins) {
+    let profile = profile_from(parts.open_profile);
+    match RelyingParty::with_profile(alloc, profile, rp_id, &origins) {
         Ok(party) => Ok(party),
         Err(_) => Err(InputFault::Memory),
     }

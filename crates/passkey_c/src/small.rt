@@ -132,7 +132,6 @@ const REGISTRATION_STEPS: [RegistrationRefusal; 16] = [
 
 /// Each limit.
 const LIMITS: [Limit; 12] = [
-    Limit::Profile,
     Limit::RpId,
     Limit::Origin,
     Limit::Challenge,
