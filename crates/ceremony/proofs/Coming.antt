@@ -10,7 +10,7 @@ use Rattle.hidlink.specs.Wire.{Carries, Dies, Got, HasEnded}
 use Rattle.hidlink.proofs.Beginnings.{taken}
 use Rattle.ceremony.specs.Packets.{LiveState, HasGot}
 use Rattle.ceremony.specs.Verdict.{Delivers}
-use Rattle.ceremony.proofs.Taken.{carried, died, died_at}
+use Rattle.hidlink.proofs.Taken.{carried, died, died_at}
 
 -- what the collector gives, of all packets that it got
 abbrev pub TellsLive : LiveState → Outcome → Type 0

@@ -9,7 +9,6 @@ use Rattle.hidlink.specs.Wire.{HasEnded}
 use Rattle.hidlink.proofs.Beginnings.{has_ended_later}
 use Rattle.hidlink.proofs.Laws.{carried_ends, death_ends}
 use Rattle.ceremony.specs.Packets as packets
-use Rattle.ceremony.specs.declared.live.Fed.{Fed}
 use Rattle.ceremony.specs.declared.live.Fed.TheVariants as fed
 
 over : (c : ℕ) (ps : List Packet) (p : Packet) (f : Outcome) → CollectorAnswers c ps p (Ok f) → (f ≡ More → ⊥) → HasEnded c (ps ++ p ∷ [])
@@ -31,8 +30,3 @@ ended c ps p e a = record {
   ready = (λ x. absurd x, λ x. absurd (x.0 (a.ended.0 tt)));
   more = (λ x. absurd x, λ x. absurd (x (has_ended_later ps (ps ++ p ∷ []) (p ∷ [], refl) (a.ended.0 tt))));
 }
-
--- where it is ready all has ended
-pub over_ready : (c : ℕ) (ps : List Packet) (p : Packet) (f : Fed) → f ≡ fed.Ready → packets.LiveAnswers c ps p (Ok f) → HasEnded c (ps ++ p ∷ [])
-over_ready c ps p fed.Ready e a = (a.ready.0 tt).1
-over_ready c ps p fed.More e a = absurd (cc)

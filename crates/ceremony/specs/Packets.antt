@@ -1,16 +1,11 @@
 -- What a ceremony has taken of the packets that it got.
-use Rattle.std.specs.Prelude.{◌≡◌, ◌<◌, ◌≤◌, ◌⊎◌, ◌↔◌, ℕ, List, [], ◌∷◌, ◌++◌, length, take, Result, Ok, Err}
+use Rattle.std.specs.Prelude.{◌↔◌, ℕ, List, [], ◌∷◌, ◌++◌, Result, Ok, Err}
 use Rattle.hidframe.specs.declared.Packet.{Packet}
+use Rattle.hidlink.specs.Receives.{IsTaken}
 use Rattle.hidlink.specs.Wire.{Got, HasEnded, Shown}
 use Rattle.hidlink.specs.declared.collection.Ended.{Ended}
 use Rattle.ceremony.specs.declared.live.Fed.{Fed}
 use Rattle.ceremony.specs.declared.live.Fed.TheVariants as fed
-
--- n is the length of the shortest beginning of ps with which all has ended, else of ps
-pub record IsTaken (c : ℕ) (ps : List Packet) (n : ℕ) : Type 0 where
-  pub within : n ≤ length ps
-  pub shortest : (j : ℕ) → j < n → HasEnded c (take j ps) → ⊥
-  pub ended : HasEnded c (take n ps) ⊎ (n ≡ length ps)
 
 -- what a ceremony's callers see of its packets: the channel, what its collector shows, and how many it has taken
 pub record LiveState : Type 0 where

@@ -1,16 +1,16 @@
 //! A ceremony's packets, one at a time.
 
-ghost use Rattle.std.specs.Prelude.{◌≡◌, ◌≤◌, ◌<◌, ◌+◌, ◌^◌, ◌++◌, ◌⊎◌, [], ◌∷◌, List, ℕ, length, take, IfErr, IfOk, OnErr};
+ghost use Rattle.std.specs.Prelude.{◌≡◌, ◌<◌, ◌+◌, ◌^◌, ◌++◌, [], ◌∷◌, List, ℕ, IfErr, IfOk, OnErr};
 ghost use Rattle.hidframe.specs.declared.Packet.{Packet};
 ghost use Rattle.hidlink.specs.Feeds.{CollectorAnswers};
-ghost use Rattle.hidlink.specs.Wire.{Got, HasEnded};
+ghost use Rattle.hidlink.specs.Wire.{Got};
 ghost use Rattle.ceremony.specs.Packets as packets;
 ghost use Rattle.ceremony.specs.Packets.{HasGot};
 ghost use Rattle.ceremony.specs.Verdict.{Delivers, Undelivered};
 
 use crate::error::Error;
 use hidframe::Packet;
-use hidlink::{Collector, Ended, Outcome};
+use hidlink::{Collector, Ended, Outcome, feed_all};
 use std::alloc::{AllocError, Global};
 use std::marker::Model;
 
@@ -115,26 +115,19 @@ impl Live {
         }
     }
 
+    /// Takes the packets, where none was taken before. Those behind the message change nothing.
+    pub(crate) fn feed_all(&mut self, packets: &[Packet])
+        requires { HasGot self.old [] }
+        ensures channel { self.new.cid ≡ self.old.cid }
+        ensures got { HasGot self.new packets.now }
+    {
+        self.taken = feed_all(&mut self.collector, packets) as u64;
+    }
+
     /// How many packets it has taken: those up to the one that was answered `Ready`. Takes no memory.
     pub fn fed(&self) -> u64
         ensures { result ≡ self.now.taken }
     {
         self.taken
-    }
-}
-
-/// Feeds a new ceremony the packets, until one is answered `Ready`.
-pub(crate) fn feed_all(live: &mut Live, packets: &[Packet])
-    requires { HasGot live.old [] }
-    ensures channel { live.new.cid ≡ live.old.cid }
-    ensures got { (k : ℕ) × HasGot live.new (take k packets.now)
-        × (HasEnded live.old.cid (take k packets.now) ⊎ (length packets.now ≤ k)) }
-{
-    for packet in packets {
-        match live.feed(packet) {
-            Ok(Fed::More) => {}
-            Ok(Fed::Ready) => return,
-            Err(_) => return,
-        }
     }
 }

@@ -16,7 +16,7 @@ ghost use Rattle.ceremony.specs.Verdict.{Refused, RefusedMessage, Succeeds};
 ghost use Rattle.ceremony.specs.declared.error.Error.TheVariants as errors;
 
 use crate::error::Error;
-use crate::live::{Live, feed_all};
+use crate::live::Live;
 use client::{ResponseError, attestation_object};
 use cose::Verifier;
 use ctap_replies::{CreationReply, read_creation};
@@ -29,7 +29,7 @@ use std::alloc::{AllocError, Global};
 pub struct Enrolled {
     /// The credential id: 1 to 64 bytes.
     pub credential: Vec<u8>,
-    /// How many packets were used. Later ones are not looked at.
+    /// How many packets were used. Later ones change nothing.
     pub used: u64,
 }
 
@@ -136,7 +136,7 @@ impl Live {
 ///
 /// The packets are those that came from the device after the request was sent, on channel `cid` and on others.
 /// Refusals are those of [`Live::finish_registration`]; `Memory` also where there was none for the packets' message.
-/// Packets behind the message are not looked at.
+/// Packets behind the message change nothing.
 pub fn register<V: Verifier>(
     alloc: Global,
     site: &mut Site,
@@ -162,6 +162,6 @@ pub fn register<V: Verifier>(
     ensures unchanged { OnErr result (site.new ≡ site.old) }
 {
     let mut live = Live::new(alloc, cid)?;
-    feed_all(&mut live, packets);
+    live.feed_all(packets);
     live.finish_registration(alloc, site, verifier, session, client_data)
 }

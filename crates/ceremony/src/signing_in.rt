@@ -16,7 +16,7 @@ ghost use Rattle.ceremony.specs.Verdict.{Refused, RefusedMessage, Succeeds};
 ghost use Rattle.ceremony.specs.declared.error.Error.TheVariants as errors;
 
 use crate::error::Error;
-use crate::live::{Live, feed_all};
+use crate::live::Live;
 use cose::Verifier;
 use ctap_replies::{AssertionView, read_assertion};
 use hidframe::Packet;
@@ -32,7 +32,7 @@ pub struct Accepted {
     pub credential: Vec<u8>,
     /// Whether the credential is backed up now (BS).
     pub backed_up: bool,
-    /// How many packets were used. Later ones are not looked at.
+    /// How many packets were used. Later ones change nothing.
     pub used: u64,
 }
 
@@ -139,7 +139,7 @@ impl Live {
 ///
 /// The packets are those that came from the device after the request was sent, on channel `cid` and on others.
 /// Refusals are those of [`Live::finish`]; `Memory` also where there was none for the packets' message. Packets behind
-/// the message are not looked at.
+/// the message change nothing.
 pub fn sign_in<V: Verifier>(
     alloc: Global,
     site: &mut Site,
@@ -166,6 +166,6 @@ pub fn sign_in<V: Verifier>(
     ensures unchanged { OnErr result (site.new ≡ site.old) }
 {
     let mut live = Live::new(alloc, cid)?;
-    feed_all(&mut live, packets);
+    live.feed_all(packets);
     live.finish(site, verifier, session, client_data)
 }

@@ -1,39 +1,19 @@
 -- What is owed of `sign_in`.
-use Rattle.std.proofs.Common.{◌≡◌, ◌∙◌, ℕ, sym, subst, take}
-use Rattle.std.specs.Prelude.{IfErr, IfOk, OnOk}
-use Rattle.ctap_replies.specs.Replies.{ReplyOf, assertion_reply}
-use Rattle.client.specs.Responses.{response_of}
-use Rattle.site.specs.Answers.{IsSignedIn}
-use Rattle.site.specs.State.{IsAfterSignIn}
+use Rattle.std.proofs.Common.{◌≡◌, ◌∙◌, ℕ, sym, subst}
+use Rattle.std.specs.Prelude.{OnOk}
 use Rattle.ceremony.specs.SignIn as ceremony
-use Rattle.ceremony.specs.SignIn.{AcceptsSignIn, IsAfter}
-use Rattle.ceremony.specs.Verdict.{Refused, Succeeds}
-use Rattle.ceremony.specs.declared.signing_in.Accepted.{Accepted}
-use Rattle.ceremony.proofs.Verdicts.{AreEnough, accepts_more, carries_more, refuses_more, succeeds_less}
+use Rattle.ceremony.specs.SignIn.{IsAfter}
+use Rattle.ceremony.specs.Verdict.{Succeeds}
 use Rattle.ceremony.proofs.signing_in.sign_in.Goals as goal
 
-pub returns : goal.returns
-returns g c =
-    let valid = g.V.Verifier.valid c.args.verifier.now in
-    let s = c.args.site.now in
-    let session = c.args.session in
-    let t = c.args.client_data.now in
-    let k = c.feed_all.ensures.got.0 in
-    let ps = c.args.packets.now in
-    let got = c.feed_all.ensures.got.1 in
-    let channel : c.feed_all.new.live.cid ≡ c.args.cid = c.feed_all.ensures.channel ∙ c.in_ok-live.ensures.channel in
-    let enough = subst (λ (i : ℕ). AreEnough i k ps) c.in_ok-live.ensures.channel c.feed_all.ensures.got.2 in
-    let x = ceremony.sign_in valid s session t in
-    let r = c.finish.result in
-    record {
-      accepted = accepts_more x (λ (a : Accepted). a.used)
-          (λ q a. IsSignedIn s (response_of q t) (record { user = a.user; credential = a.credential; backed_up = a.backed_up })) c.args.cid k ps r
-          (subst (λ (i : ℕ). IfOk r (AcceptsSignIn valid s session t i (take k ps))) channel (c.finish.ensures.accepted (take k ps) got));
-      complete = λ n q succeeds. c.finish.ensures.complete (take k ps) n q got
-          (subst (λ (i : ℕ). Succeeds x i (take k ps) n q) (sym channel) (succeeds_less x c.args.cid k ps n q enough succeeds));
-      refused = refuses_more x c.args.cid k ps r enough
-          (subst (λ (i : ℕ). IfErr r (Refused x i (take k ps))) channel (c.finish.ensures.refused (take k ps) got));
-      after = carries_more (λ q m. ReplyOf (assertion_reply q) m) (λ q. IsAfterSignIn s session (response_of q t) c.finish.new.site) c.args.cid k ps r
-          (subst (λ (i : ℕ). OnOk r (IsAfter s session t i (take k ps) c.finish.new.site)) channel (c.finish.ensures.after (take k ps) got));
-      unchanged = c.finish.ensures.unchanged;
-    }
+pub returns-clause-complete : goal.returns-clause-complete
+returns-clause-complete g c = λ n r s.
+    let channel : c.feed_all.new.self.cid ≡ c.args.cid = c.feed_all.ensures.channel ∙ c.in_ok-live.ensures.channel in
+    let x = ceremony.sign_in (g.V.Verifier.valid c.args.verifier.now) c.args.site.now c.args.session c.args.client_data.now in
+    c.finish.ensures.complete c.args.packets.now n r c.feed_all.ensures.got (subst (λ (i : ℕ). Succeeds x i c.args.packets.now n r) (sym channel) s)
+
+pub returns-clause-after : goal.returns-clause-after
+returns-clause-after g c =
+    let channel : c.feed_all.new.self.cid ≡ c.args.cid = c.feed_all.ensures.channel ∙ c.in_ok-live.ensures.channel in
+    subst (λ (i : ℕ). OnOk c.finish.result (IsAfter c.args.site.now c.args.session c.args.client_data.now i c.args.packets.now c.finish.new.site)) channel
+    (c.finish.ensures.after c.args.packets.now c.feed_all.ensures.got)
