@@ -16,7 +16,7 @@ use Rattle.authenticator.specs.State.{Asked, AuthenticatorState, CredentialSourc
 use Rattle.authenticator.specs.Credentials.{credential_of}
 use Rattle.authenticator.specs.Orders.{first_supported, is_at_end, kept}
 use Rattle.authenticator.specs.Private.{IsAttested}
-use Rattle.authenticator.specs.Signing.{AnswersBy, Begins, BeginsBy, Finishes, message_of, no_signature, only}
+use Rattle.authenticator.specs.Signing.{SigningLaws, AnswersBy, Begins, BeginsBy, Finishes, message_of, no_signature, only}
 use Rattle.authenticator.specs.Steps.{AnswersWith, Comes, Creates, IsSignature, Keys, Outcome, Step, Steps, assertion_data, creation_data, key_of}
 use Rattle.authenticator.specs.Steps.{new_credential, shown_user}
 use Rattle.authenticator.specs.declared.consent.Consent.{Consent}
@@ -126,3 +126,10 @@ pub composed_ok : {E : Type 0} (valid : Validity) (public : Keys) (old middle ne
 composed_ok valid public old middle new channel bs consent words p signature (Ok v) h is f =
     composed valid public old middle new channel bs consent words p signature v.items h is f
 composed_ok valid public old middle new channel bs consent words p signature (Err e) h is f = tt
+
+pub laws : (valid : Validity) (public : Keys) → SigningLaws valid public
+laws valid public = record {
+  replied = λ old new channel bs consent words reply h. replied valid public old new channel bs consent words reply.items h;
+  signed = λ old middle new channel bs consent words p signature reply h is f.
+      (h.0, composed valid public old middle new channel bs consent words p signature reply h is f);
+}

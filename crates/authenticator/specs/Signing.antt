@@ -1,6 +1,7 @@
 -- Signing in two steps, for a host that signs elsewhere. The first step answers the request, or tells what is to be
 -- signed and leaves the authenticator as it was. The second takes the signature.
-use Rattle.std.specs.Prelude.{◌≡◌, ◌≤◌, ◌<◌, ℕ, ◌+◌, List, [], ◌∷◌, ◌++◌, length, Option, Some, None, codes, reverse}
+use Rattle.std.specs.Prelude.{◌≡◌, ◌≤◌, ◌<◌, ℕ, ◌+◌, List, [], ◌∷◌, ◌++◌, length, Option, Some, None, codes, reverse, Vec}
+use Rattle.std.specs.Global.{Global}
 use Rattle.cose.specs.Schemes.{Validity}
 use Rattle.cose.specs.declared.key.Alg.{Alg}
 use Rattle.cose.specs.declared.key.CoseKey.{CoseKey}
@@ -10,7 +11,7 @@ use Rattle.ctap_replies.specs.Replies.{Assertion, ReplyMessage, assertion_reply,
 use Rattle.authenticator.specs.State.{Asked, AuthenticatorState, CredentialSource, Remembered, forgotten}
 use Rattle.authenticator.specs.Credentials.{credential_of, with_sign_count}
 use Rattle.authenticator.specs.Orders.{kept}
-use Rattle.authenticator.specs.Steps.{Comes, Keys, Outcome, Step, new_credential, number_with, remembering, shown_user}
+use Rattle.authenticator.specs.Steps.{Comes, IsSignature, Keys, Outcome, Step, Steps, new_credential, number_with, remembering, shown_user}
 use Rattle.authenticator.specs.Views.{asked_view}
 use Rattle.authenticator.specs.declared.consent.Consent.{Consent}
 use Rattle.authenticator.specs.declared.consent.Words.{Words}
@@ -96,3 +97,18 @@ Begins public old channel bs consent words b new =
 abbrev pub HasSize : Begun → Type 0
 HasSize (begun.Replied reply) = length reply.items ≤ 7609
 HasSize (begun.Signs p) = Unit {0}
+
+-- ---- both steps are one step of the authenticator
+
+pub record SigningLaws (valid : Validity) (public : Keys) : Type 0 where
+  -- what is answered at once is a step
+  pub replied : (old new : AuthenticatorState) (channel : ℕ) (bs : List ℕ) (consent : Consent) (words : Words) (reply : Vec ℕ Global)
+      → Begins public old channel bs consent words (begun.Replied reply) new
+      → Steps valid public old channel bs consent words reply.items new
+  -- what waits has changed nothing, and with a signature that is valid the two calls are a step
+  pub signed : (old middle new : AuthenticatorState) (channel : ℕ) (bs : List ℕ) (consent : Consent) (words : Words) (p : Pending)
+      (signature reply : List ℕ)
+      → Begins public old channel bs consent words (begun.Signs p) middle
+      → IsSignature valid (public p.alg p.secret) (message_of p) signature
+      → Finishes middle p signature reply new
+      → (middle ≡ old) × Steps valid public old channel bs consent words reply new

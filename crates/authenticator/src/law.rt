@@ -1,6 +1,7 @@
 //! The laws of an authenticator's steps.
 
 ghost use Rattle.authenticator.specs.Laws.{StepLaws};
+ghost use Rattle.authenticator.specs.Signing.{SigningLaws};
 ghost use Rattle.authenticator.specs.Steps.{Keys};
 
 use cose::Verifier;
@@ -18,4 +19,11 @@ use cose::Verifier;
 /// It is so whatever the scheme calls valid, and whichever key is a secret's.
 pub fn step_laws<V: Verifier>()
     ensures { (verifier : V) (public : Keys) → StepLaws (V.valid verifier) public }
+{}
+
+/// Signing in two steps is signing in one: what [`Authenticator::begin`](crate::Authenticator::begin) answers is a step; where
+/// it tells what is to be signed, nothing has changed, and with a signature that is valid what
+/// [`Authenticator::finish`](crate::Authenticator::finish) answers is the step that the request asked for.
+pub fn signing_laws<V: Verifier>()
+    ensures { (verifier : V) (public : Keys) → SigningLaws (V.valid verifier) public }
 {}

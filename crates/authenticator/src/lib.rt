@@ -20,7 +20,7 @@ mod signing;
 pub use authenticator::Authenticator;
 pub use consent::{Consent, Words};
 pub use keys::{HandedKeys, PublicKeys};
-pub use law::step_laws;
+pub use law::{signing_laws, step_laws};
 pub use make_credential::MAX_CREDENTIALS;
 pub use pending::{Begun, Pending};
 pub use signing::MAX_SIGNATURE;
