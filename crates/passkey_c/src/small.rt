@@ -131,7 +131,7 @@ const REGISTRATION_STEPS: [RegistrationRefusal; 16] = [
 ];
 
 /// Each limit.
-const LIMITS: [Limit; 12] = [
+const LIMITS: [Limit; 11] = [
     Limit::RpId,
     Limit::Origin,
     Limit::Challenge,
