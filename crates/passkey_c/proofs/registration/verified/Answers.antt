@@ -1,5 +1,8 @@
 -- What is owed of `verified`.
-use Rattle.passkey_c.specs.Registrations.{registered_but}
+use Rattle.std.proofs.Common.{subst}
+use Rattle.verification.specs.Records.{RelyingParty}
+use Rattle.verification.specs.RegistrationAnswers.{IsVerifiedRegistration}
+use Rattle.passkey_c.specs.Registrations.{judged_registration, registered_but}
 use Rattle.passkey_c.proofs.Moved.{registration_fails, response_passes, same_registration}
 use Rattle.passkey_c.proofs.registration.verified.Goals as goal
 
@@ -8,7 +11,10 @@ returns-in-Ok-clause-accepted c =
     let table = registered_but c.args.call.now.has_free_id c.args.call.now.free_id.now in
     let full = c.args.call.now.is_full in
     let same = same_registration _ _ _ _ _ _ table full c.requires.party c.requires.session in
-    (c.in-Ok.ensures.accepted.0, response_passes _ _ _ _ _ _ c.requires.flag c.requires.parts same (c.in-Ok.ensures.accepted.1 table full))
+    let call = c.args.call.now in
+    let moved = subst (λ (rp : RelyingParty). IsVerifiedRegistration (record (judged_registration call) { rp = rp }) c.in-Ok.verified)
+    c.requires.party c.in-Ok.ensures.accepted.0 in
+    (moved, response_passes _ _ _ _ _ _ c.requires.flag c.requires.parts same (c.in-Ok.ensures.accepted.1 table full))
 
 pub returns-in-Err-Refused-clause-refused : goal.returns-in-Err-Refused-clause-refused
 returns-in-Err-Refused-clause-refused c =
