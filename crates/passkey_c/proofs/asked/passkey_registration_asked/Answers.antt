@@ -8,12 +8,12 @@ pub returns-then-len-message-clause-message_room : goal.returns-then-len-message
 returns-then-len-message-clause-message_room c = λ _.
     let asked = c.in-Ok-Some.asked in
     let asks : Asks (profile_of c.args.open_profile) (response_of c.args.response.now) asked.key asked.message.items asked.signature.items =
-    rw (c.profile_from.ensures) (rw c.in-Ok-Some.field-0-is at c.in-Ok-Some.ensures.found) in
+    rw (← c.profile_from.ensures) (rw c.in-Ok-Some.field-0-is at c.in-Ok-Some.ensures.found) in
     (asked.key, asked.message.items, asked.signature.items, asks, omega (arith, c.if-len-message.true))
 
 pub returns-then-len-signature-clause-signature_room : goal.returns-then-len-signature-clause-signature_room
 returns-then-len-signature-clause-signature_room c = λ _.
     let asked = c.in-Ok-Some.asked in
     let asks : Asks (profile_of c.args.open_profile) (response_of c.args.response.now) asked.key asked.message.items asked.signature.items =
-    rw (c.profile_from.ensures) (rw c.in-Ok-Some.field-0-is at c.in-Ok-Some.ensures.found) in
+    rw (← c.profile_from.ensures) (rw c.in-Ok-Some.field-0-is at c.in-Ok-Some.ensures.found) in
     (asked.key, asked.message.items, asked.signature.items, asks, omega (arith, c.if-len-signature.true))

@@ -22,5 +22,5 @@ returns-clause-refused c =
     let session = c.in_ok-session.ensures in
     let triple = c.in_ok-triple.ensures in (
       table_fails (registration_validity c.args.call.now) x c.in-Err.step accepted.1 (c.in-Err.ensures.refused x accepted.0 taken refl),
-      (kept.0, (kept.1.0, (kept.1.1.0, (session.challenge, (triple.algorithm, (triple.x, (triple.y, tt))))))),
+      (kept.0, (kept.1.0, (session.challenge, (triple.algorithm, (triple.x, (triple.y, tt)))))),
     )
