@@ -22,5 +22,5 @@ returns-in_default-self_signature-clause-found c =
 pub returns-clause-found : goal.returns-clause-found
 returns-clause-found c =
     let key : AttestsKey c.in_ok-object.object.auth_data.items c.in-Some.key = rw (← c.deref.ensures.value) c.in-Some.ensures in
-    asked_as (response_of c.args.response.now) _ _ _ _ _ c.in_ok-object.ensures.found key c.in-Some-self_signature.ensures c.in_ok-signature.ensures.items
-    (rw (← c.deref-2.ensures.value, ← c.hash.ensures) c.in_ok-message.ensures)
+    asked_as (response_of c.args.response.now) _ _ _ _ _ c.in_ok-object.ensures.found key c.in-Some-self_signature.ensures
+    c.in_ok-signature.ensures.items (rw (← c.deref-2.ensures.value, ← c.hash.ensures) c.in_ok-message.ensures)
