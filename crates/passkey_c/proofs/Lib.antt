@@ -1,5 +1,4 @@
 pub mod Numbers
-pub mod Faults
 pub mod Moved
 pub mod Told
 pub mod Canonical

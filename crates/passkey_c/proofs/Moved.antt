@@ -30,7 +30,8 @@ same_sign_in p q s t c d r u parties sessions credentials answers =
 pub sign_in_passes : (h k : Bool) (t u : TripleParts) (x y : JudgedSignIn) → h ≡ k → t ≡ u → x ≡ y
     → PassesSignIn (verified h t) x → PassesSignIn (verified k u) y
 sign_in_passes h k t u x y flags triples same passes =
-    subst (PassesSignIn (verified k u)) same (subst (λ v. PassesSignIn (verified k v) x) triples (subst (λ g. PassesSignIn (verified g t) x) flags passes))
+    subst (PassesSignIn (verified k u)) same (subst (λ v. PassesSignIn (verified k v) x) triples
+    (subst (λ g. PassesSignIn (verified g t) x) flags passes))
 
 pub sign_in_fails : (h k : Bool) (t u : TripleParts) (x y : JudgedSignIn) (w : SignInRefusal) → h ≡ k → t ≡ u → x ≡ y
     → sign_ins.IsFirstFailing (verified h t) x w → sign_ins.IsFirstFailing (verified k u) y w

@@ -195,7 +195,8 @@ pub extern "C" fn passkey_assertion(
 ) -> u32
     ensures accepted { result ≡ 0 → PassesSignIn (sign_in_validity call.now) (judged_sign_in call.now) }
     ensures told { result ≡ 0 → IsVerifiedSignIn (judged_sign_in call.now) (told_sign_in out.new) }
-    ensures refused { (step : SignInRefusal) → result ≡ sign_in_number step → IsFirstFailing (sign_in_validity call.now) (judged_sign_in call.now) step }
+    ensures refused { (step : SignInRefusal) → result ≡ sign_in_number step
+        → IsFirstFailing (sign_in_validity call.now) (judged_sign_in call.now) step }
     ensures limit { (limit : Limit) → result ≡ limit_number limit → SignInKeeps call.now limit → ⊥ }
     ensures within { result < 100 → Each (SignInKeeps call.now) sign_in_limits }
     ensures answer { IsSignInAnswer result }
