@@ -9,7 +9,7 @@ from cryptography.hazmat.primitives.asymmetric import ec, ed25519
 from garvoeng import EDDSA, ES256
 from garvoeng.forms import from_text, to_text
 
-UP, UV, BE, BS, AT = 1, 4, 8, 16, 64
+UP, UV, BE, BS, AT, ED = 1, 4, 8, 16, 64, 128
 
 
 class Device:
@@ -35,19 +35,19 @@ class Device:
             return bytes.fromhex("a4010103272006215820") + self.x
         return bytes.fromhex("a5010203262001215820") + self.x + bytes.fromhex("225820") + self.y
 
-    def auth_data(self, flags, count, attested=False):
+    def auth_data(self, flags, count, attested=False, outputs=b""):
         data = hashlib.sha256(self.rp_id.encode()).digest() + struct.pack(">BI", flags, count)
         if attested:
             data += bytes(16) + struct.pack(">H", len(self.id)) + self.id + self.cose_key()
-        return data
+        return data + outputs
 
     def client_data(self, kind, challenge):
         return json.dumps({"type": kind, "challenge": challenge, "origin": self.origin, "crossOrigin": False},
                           separators=(",", ":")).encode()
 
-    def register(self, options, flags=UP | UV | AT, packed=False, message=None):
+    def register(self, options, flags=UP | UV | AT, packed=False, message=None, outputs=b""):
         client_data = self.client_data("webauthn.create", options["challenge"])
-        data = self.auth_data(flags, 0, attested=True)
+        data = self.auth_data(flags, 0, attested=True, outputs=outputs)
         if packed:
             signature = self.sign(message or data + hashlib.sha256(client_data).digest())
             statement = b"\xa2\x63alg" + bytes([0x20 - 1 - self.algorithm]) + b"\x63sig\x58" + bytes([len(signature)]) + signature
@@ -59,10 +59,10 @@ class Device:
         return {"id": to_text(self.id), "rawId": to_text(self.id), "type": "public-key", "clientExtensionResults": {},
                 "response": {"attestationObject": to_text(made), "clientDataJSON": to_text(client_data)}}
 
-    def sign_in(self, options, user=None, flags=UP | UV, message=None):
+    def sign_in(self, options, user=None, flags=UP | UV, message=None, outputs=b""):
         self.count += 1
         client_data = self.client_data("webauthn.get", options["challenge"])
-        data = self.auth_data(flags, self.count)
+        data = self.auth_data(flags, self.count, outputs=outputs)
         signature = self.sign(message or data + hashlib.sha256(client_data).digest())
         response = {"authenticatorData": to_text(data), "clientDataJSON": to_text(client_data),
                     "signature": to_text(signature)}

@@ -3,7 +3,7 @@ import random
 from dataclasses import replace
 
 import pytest
-from device import AT, BE, BS, UP, UV, Device, changed
+from device import AT, BE, BS, ED, UP, UV, Device, changed
 
 from garvoeng import EDDSA, ES256, BadInput, Credential, Refused, Server, is_canonical, library
 from garvoeng.forms import to_text
@@ -43,6 +43,37 @@ def test_registration_and_sign_ins(server, algorithm, packed):
         signed_in = server.authenticate_complete(session, device.sign_in(options), credential={device.id: credential}.get)
         credential = signed_in.credential
         assert credential.sign_count == count and not signed_in.backed_up
+
+
+CRED_PROTECT = b"\xa1\x6bcredProtect\x02"
+
+
+@pytest.mark.parametrize("packed", [False, True])
+@pytest.mark.parametrize("size", [22, 65, 300, 1023])
+def test_open_profile(packed, size):
+    strict = Server("example.com", ["https://example.com"], open_profile=False)
+    server = Server("example.com", ["https://example.com"])
+    device = Device(credential=bytes(range(1, 94)) * 11 if size == 1023 else bytes(size))
+    assert len(device.id) == size
+    made = {"flags": UP | UV | AT | ED, "packed": packed, "outputs": CRED_PROTECT}
+    assert refusal(lambda: registered(strict, device, **made)) == "G7"
+    credential = registered(server, device, **made)
+    options, session = server.authenticate_begin(user=USER, allow=[credential.id])
+    response = device.sign_in(options, flags=UP | ED, outputs=CRED_PROTECT)
+    find = {device.id: credential}.get
+    assert refusal(lambda: strict.authenticate_complete(session, response, credential=find)) == "W10"
+    cut = changed(response, "authenticatorData", lambda data: data[:-1])
+    assert refusal(lambda: server.authenticate_complete(session, cut, credential=find)) == "W10"
+    other = changed(response, "authenticatorData", lambda data: data[:-1] + b"\x03")
+    assert refusal(lambda: server.authenticate_complete(session, other, credential=find)) == "W14"
+    assert server.authenticate_complete(session, response, credential=find).credential.sign_count == 1
+
+
+def test_open_profile_ends(server):
+    long = Device(credential=bytes(1024))
+    assert refusal(lambda: registered(server, long)) == "G7"
+    for outputs in (b"", b"\xa0\x00", b"\xa1\x01\xf5", b"\xb8\x00"):
+        assert refusal(lambda: registered(server, Device(), flags=UP | UV | AT | ED, outputs=outputs)) == "G7"
 
 
 def test_options(server):
@@ -170,7 +201,7 @@ def test_small():
     assert not is_canonical(bytes.fromhex("1801"))
     texts = [library.refusal_text(False, n) for n in range(17)] + [library.refusal_text(True, n) for n in range(1, 17)]
     assert all(texts) and texts[0] == "accepted" and library.refusal_text(False, 127) == "out of memory"
-    assert all(library.refusal_text(False, n) for n in range(100, 112)) and library.refusal_text(False, 50) == ""
+    assert all(library.refusal_text(False, n) for n in range(101, 112)) and library.refusal_text(False, 50) == ""
 
 
 def test_malformed_responses(server):
