@@ -1,0 +1,116 @@
+"""Registrations and sign-ins that a real browser made (python/record): accepted with the verdict of `cryptography`, and
+never without it, nor with another message, key or signature than those that were verified."""
+import json
+from pathlib import Path
+
+import pytest
+
+from garvoeng import Refused, RegistrationSession, Server, SignInSession
+from garvoeng.forms import from_text
+
+RECORDED = json.loads((Path(__file__).parent / "recorded.json").read_text())
+VISITS = RECORDED["visits"]
+
+
+def server(**more):
+    return Server("localhost", [RECORDED["origin"]], **more)
+
+
+def bytes_of(value, name):
+    return None if value is None else from_text(value, name)
+
+
+def registration_session(line):
+    return RegistrationSession(bytes_of(line["challenge"], "challenge"), bytes_of(line["user"], "user"),
+                               line["user_verification"], tuple(line["algorithms"]))
+
+
+def sign_in_session(line):
+    return SignInSession(bytes_of(line["challenge"], "challenge"), bytes_of(line["user"], "user"),
+                         tuple(bytes_of(one, "allow") for one in line["allow"]), line["user_verification"])
+
+
+def registered(relying_party, visit):
+    line = visit["registration"]
+    return relying_party.register_complete(registration_session(line["session"]), line["response"],
+                                           is_registered=lambda _: False)
+
+
+def sign_in(relying_party, line, credential):
+    return relying_party.authenticate_complete(sign_in_session(line["session"]), line["response"],
+                                               credential={credential.id: credential}.get)
+
+
+def has_extensions(data):
+    return data[32] & 0x80 != 0
+
+
+def flipped(data):
+    return data[:-1] + bytes([data[-1] ^ 1])
+
+
+# what a host might hand in by mistake: another key, message or signature than the one that was to be verified
+CHANGES = (
+    lambda algorithm, x, y, message, signature: (algorithm, flipped(x), y, message, signature),
+    lambda algorithm, x, y, message, signature: (algorithm, x, y, flipped(message), signature),
+    lambda algorithm, x, y, message, signature: (algorithm, x, y, message + b"\x00", signature),
+    lambda algorithm, x, y, message, signature: (algorithm, x, y, message, flipped(signature)),
+    lambda algorithm, x, y, message, signature: (algorithm, x, y, b"", b""),
+)
+
+
+def test_there_are_enough():
+    assert len(VISITS) == 32 and sum(len(visit["sign_ins"]) for visit in VISITS) == 64
+
+
+@pytest.mark.parametrize("visit", VISITS, ids=lambda visit: "-".join(map(str, visit["kind"])))
+def test_visit(visit):
+    credential = registered(server(), visit)
+    for line in visit["sign_ins"]:
+        with pytest.raises(Refused) as caught:
+            sign_in(server(verify=lambda *asked: False), line, credential)
+        assert caught.value.name == "W14"
+        for change in CHANGES:
+            assert misled(line, credential, change) == 14
+        signed_in = sign_in(server(), line, credential)
+        assert signed_in.credential.sign_count > credential.sign_count
+        with pytest.raises(Refused) as caught:
+            sign_in(server(), line, signed_in.credential)
+        assert caught.value.name == "W15"
+        credential = signed_in.credential
+
+
+def misled(line, credential, changed):
+    """The answer where the host hands in something else than it had to verify."""
+    class Misled(Server):
+        def _hand_in(self, lender, call, asked):
+            return super()._hand_in(lender, call, changed(*asked))
+
+    try:
+        sign_in(Misled("localhost", [RECORDED["origin"]], verify=lambda *asked: True), line, credential)
+    except Refused as refused:
+        return refused.number
+    return 0
+
+
+def data_of(line):
+    return from_text(line["response"]["response"]["authenticatorData"], "authenticatorData")
+
+
+def test_extensions_are_refused_by_the_strict_profile():
+    """The browser adds `credProtect` to resident credentials, and what the page asks for: the strict profile refuses
+    those responses and no other."""
+    counts = {True: 0, False: 0}
+    for visit in VISITS:
+        credential = registered(server(), visit)
+        for line, call in [(visit["registration"], lambda party: registered(party, visit))] + [
+                (line, lambda party, line=line: sign_in(party, line, credential)) for line in visit["sign_ins"]]:
+            is_refused = False
+            try:
+                call(server(open_profile=False))
+            except Refused as caught:
+                assert caught.name in ("G7", "W10")
+                is_refused = True
+            assert is_refused == has_extensions(data_of(line))
+            counts[is_refused] += 1
+    assert counts == {True: 56, False: 40}
