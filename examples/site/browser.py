@@ -1,0 +1,50 @@
+"""Headless Chromium with virtual authenticators, by its WebDriver (Debian's chromium and chromium-driver)."""
+import base64
+import json
+import subprocess
+import urllib.request
+from pathlib import Path
+
+
+class Browser:
+    def __init__(self, port: int) -> None:
+        self.port = port
+        self.driver = subprocess.Popen(["chromedriver", f"--port={port}"], stdout=subprocess.PIPE, text=True)
+        for line in self.driver.stdout:
+            if "started successfully" in line:
+                break
+        begun = self.ask("/session", {"capabilities": {"alwaysMatch": {"browserName": "chrome", "goog:chromeOptions": {
+            "args": ["--headless=new", "--no-sandbox", "--window-size=800,500"]}}}})
+        self.path = "/session/" + begun["sessionId"]
+
+    def ask(self, path, body=None, method="POST"):
+        data = None if body is None else json.dumps(body).encode()
+        url = f"http://localhost:{self.port}{path}"
+        with urllib.request.urlopen(urllib.request.Request(url, data, {"Content-Type": "application/json"}, method=method), timeout=60) as answer:
+            return json.load(answer)["value"]
+
+    def open(self, url):
+        self.ask(self.path + "/url", {"url": url})
+
+    def run(self, script):
+        """The value of a JavaScript expression, awaited; an error's text where it throws."""
+        return self.ask(self.path + "/execute/async", {"args": [], "script": "const done = arguments[0];"
+                        f"(async () => {script})().then(done, error => done({{error: error.error || String(error)}}));"})
+
+    def authenticator(self, **more):
+        return self.ask(self.path + "/webauthn/authenticator", {
+            "protocol": "ctap2_1", "transport": "usb", "hasResidentKey": True, "hasUserVerification": True,
+            "isUserVerified": True, **more})
+
+    def without(self, authenticator):
+        self.ask(f"{self.path}/webauthn/authenticator/{authenticator}", method="DELETE")
+
+    def picture(self, file: Path):
+        file.write_bytes(base64.b64decode(self.ask(self.path + "/screenshot", method="GET")))
+
+    def close(self):
+        try:
+            self.ask(self.path, method="DELETE")
+        finally:
+            self.driver.kill()
+            self.driver.wait()

@@ -1,0 +1,140 @@
+"""What `load` does: visitors whose devices `cryptography` plays, as in the tests of python/."""
+import http.client
+import json
+import os
+import random
+import signal
+import subprocess
+import sys
+import threading
+import time
+from pathlib import Path
+from statistics import quantiles
+
+HERE = Path(__file__).resolve().parent
+sys.path.insert(0, str(HERE.parents[1] / "python" / "tests"))
+import psycopg2  # noqa: E402
+from device import UP, UV, Device  # noqa: E402
+from garvoeng.forms import from_text  # noqa: E402
+
+ORIGIN = "http://localhost:8080"
+PORTS = [8771, 8772, 8773, 8774]
+VISITORS = 64
+
+
+def started(address, port):
+    code = f"from app import site; site({address!r}, {ORIGIN!r}, b'the same in each process').run('localhost', {port}, threaded=True)"
+    return subprocess.Popen([sys.executable, "-c", code], cwd=HERE, stderr=subprocess.DEVNULL, stdout=subprocess.DEVNULL)
+
+
+class Visitor:
+    """A visitor with one device and one cookie; `counts` are the counters of the sign-ins that were told as accepted."""
+
+    def __init__(self, number):
+        self.name, self.cookie, self.counts = f"visitor {number}", None, []
+        self.device = Device(rp_id="localhost", origin=ORIGIN, credential=b"credential %d" % number)
+        self.user = None
+
+    def post(self, port, path, body, cookie=None):
+        connection = http.client.HTTPConnection("localhost", port, timeout=30)
+        headers = {"Content-Type": "application/json"}
+        if cookie or self.cookie:
+            headers["Cookie"] = cookie or self.cookie
+        connection.request("POST", path, json.dumps(body), headers)
+        answer = connection.getresponse()
+        said = json.loads(answer.read())
+        given = answer.headers.get("Set-Cookie")
+        connection.close()
+        return answer.status, said, given.split(";")[0] if given else None
+
+    def registers(self, port):
+        _, options, self.cookie = self.post(port, "/register/begin", {"name": self.name})
+        status, _, cookie = self.post(port, "/register/finish", self.device.register(options))
+        self.user, self.cookie = from_text(options["user"]["id"], "user"), cookie
+        assert status == 200
+
+    def signs_in(self, ports, told):
+        """One sign-in, whose response is sent three times at once; how often it was accepted, and how often not answered."""
+        try:
+            _, options, cookie = self.post(random.choice(ports), "/sign-in/begin", {"name": self.name})
+            response = self.device.sign_in(options, self.user)
+        except (OSError, http.client.HTTPException, ValueError):
+            return
+        answers = []
+
+        def send():
+            begun = time.perf_counter()
+            try:
+                status, said, _ = self.post(random.choice(ports), "/sign-in/finish", response, cookie)
+            except (OSError, http.client.HTTPException, ValueError):
+                status, said = 0, {}
+            answers.append((status, said, time.perf_counter() - begun))
+
+        threads = [threading.Thread(target=send) for _ in range(3)]
+        for thread in threads:
+            thread.start()
+        for thread in threads:
+            thread.join()
+        accepted = [answer for answer in answers if answer[0] == 200]
+        lost = any(answer[0] == 0 for answer in answers)
+        told.append((len(accepted), lost, [answer[2] for answer in accepted]))
+        self.counts += [answer[1]["count"] for answer in accepted]
+
+
+def visits(visitors, ports, until, told):
+    def visit(visitor):
+        while time.time() < until:
+            visitor.signs_in(ports, told)
+
+    threads = [threading.Thread(target=visit, args=(visitor,)) for visitor in visitors]
+    for thread in threads:
+        thread.start()
+    return threads
+
+
+def main(address, seconds):
+    sites = {port: started(address, port) for port in PORTS}
+    time.sleep(4)
+    visitors = [Visitor(number) for number in range(VISITORS)]
+    for visitor in visitors:
+        visitor.registers(PORTS[0])
+    rows, is_good = [], True
+    for ports, kills in ((PORTS[:1], False), (PORTS, False), (PORTS, True)):
+        told, begun = [], time.time()
+        threads = visits(visitors, ports, begun + seconds, told)
+        while kills and time.time() < begun + seconds - 2:
+            time.sleep(1)
+            port = random.choice(PORTS)
+            sites[port].send_signal(signal.SIGKILL)
+            sites[port].wait()
+            sites[port] = started(address, port)
+        for thread in threads:
+            thread.join()
+        times = sorted(one for _, _, accepted in told for one in accepted)
+        parts = quantiles(times, n=100)
+        rows.append((len(ports), kills, len(told), sum(count for count, _, _ in told), len(times) / seconds, parts[49], parts[98]))
+        twice = sum(count > 1 for count, _, _ in told)
+        none = sum(count == 0 and not lost for count, lost, _ in told)
+        print(f"{len(ports)} processes{', killed each second' if kills else ''}: {len(told)} responses, each sent three times; "
+              f"{twice} accepted twice, {none} not at all though each was answered", flush=True)
+        is_good = is_good and twice == 0 and (kills or none == 0)
+    connection = psycopg2.connect(address)
+    cursor = connection.cursor()
+    lower = lost = 0
+    for visitor in visitors:
+        cursor.execute("select sign_count from credentials where id = %s", (visitor.device.id,))
+        stored = cursor.fetchone()[0]
+        lower += any(later <= earlier for earlier, later in zip(visitor.counts, visitor.counts[1:]))
+        lost += stored < max(visitor.counts, default=0)
+    print(f"{lower} visitors whose counter fell, {lost} whose accepted sign-in was lost")
+    print("| Processes | Killed | Responses | Accepted | Sign-ins a second | p50 | p99 |")
+    for line in rows:
+        print(f"| {line[0]} | {'yes' if line[1] else 'no'} | {line[2]} | {line[3]} | {line[4]:.0f} | {line[5] * 1000:.0f} ms | {line[6] * 1000:.0f} ms |")
+    for site in sites.values():
+        site.kill()
+    is_good = is_good and lower == 0 and lost == 0
+    print(f"{int(is_good)} passed, {int(not is_good)} failed")
+    sys.exit(not is_good)
+
+
+main(sys.argv[1], float(sys.argv[2]))

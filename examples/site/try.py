@@ -1,0 +1,109 @@
+"""What `try` does in the browser, over each storage that it is given."""
+import json
+import os
+import subprocess
+import sys
+import time
+import urllib.request
+from pathlib import Path
+
+from browser import Browser
+
+HERE = Path(__file__).resolve().parent
+PORT, DRIVER = 8766, 8767
+ORIGIN = f"http://localhost:{PORT}"
+passed = failed = 0
+
+
+def see(what, is_so):
+    global passed, failed
+    passed, failed = passed + bool(is_so), failed + (not is_so)
+    print(("ok      " if is_so else "FAILED  ") + what, flush=True)
+
+
+def started(address, port=PORT):
+    site = subprocess.Popen([sys.executable, str(HERE / "app.py"), address], stderr=subprocess.DEVNULL, stdout=subprocess.DEVNULL,
+                            env={**os.environ, "PORT": str(port), "SECRET": "the same in each process"})
+    for _ in range(100):
+        try:
+            urllib.request.urlopen(f"http://localhost:{port}/").close()
+            return site
+        except OSError:
+            time.sleep(0.1)
+    raise SystemExit("the site did not start")
+
+
+def ended(site):
+    site.kill()
+    site.wait()
+
+
+def tries(browser, address, name):
+    def run(script):
+        return browser.run(script)
+
+    def named(user):
+        run(f"document.getElementById('name').value = '{user}'")
+
+    site = started(address)
+    browser.open(ORIGIN)
+    key = browser.authenticator()
+    named("ada")
+    made = run("register()")
+    see(f"{name}: registered", made.get("passkey"))
+    run("post('/sign-out')")
+    see(f"{name}: signed in by name", run("signIn()").get("count", 0) > 0)
+    see(f"{name}: signed in without a name", run("signIn({name: ''})").get("user"))
+    see(f"{name}: signed in with verification required", run("signIn({verified: true})").get("user"))
+    browser.picture(HERE / "picture.png") if name == "SQLite" else None
+    again = run("register()")
+    see(f"{name}: the same key not a second time", "InvalidStateError" in again.get("error", ""))
+    run("(async () => { window.kept = await assertion(); window.first = await post('/sign-in/finish', window.kept); })()")
+    see(f"{name}: accepted once", run("window.first").get("user"))
+    see(f"{name}: replayed, refused by the session (W1)", run("post('/sign-in/finish', window.kept)").get("refusal") == "W1")
+    run("post('/sign-in/begin', {name: 'ada'})")
+    see(f"{name}: replayed in another session (W7)", run("post('/sign-in/finish', window.kept)").get("refusal") == "W7")
+    run("(async () => { window.kept = await assertion({name: ''}); })()")
+    old = run("assertion({name: ''})")
+    see(f"{name}: an older challenge than the session's (W7)", run("post('/sign-in/finish', window.kept)").get("refusal") == "W7")
+    see(f"{name}: and the session is as it was", old.get("rawId"))
+    ended(site)
+    site = started(address)
+    see(f"{name}: restarted, still signed in", run("fetch('/passkeys').then(answer => answer.json())")[0]["count"] > 0)
+    see(f"{name}: restarted, signed in", run("signIn()").get("user"))
+    browser.without(key)
+    second = browser.authenticator(transport="internal")
+    added = run("register()").get("passkey")
+    see(f"{name}: a second passkey", added not in (None, made["passkey"]))
+    see(f"{name}: signed in with it", run("signIn()").get("user"))
+    see(f"{name}: retired", run(f"post('/passkeys/retire', {{id: '{added}'}})").get("retired") is True)
+    see(f"{name}: listed as retired", [line["retired"] for line in run("fetch('/passkeys').then(answer => answer.json())")].count(True) == 1)
+    run("post('/sign-out')")
+    see(f"{name}: a retired one signs in no more (W3)", run("signIn({name: ''})").get("refusal") == "W3")
+    see(f"{name}: nobody is signed in", run("fetch('/passkeys').then(answer => answer.status)") == 401)
+    named("eve")
+    see(f"{name}: another account", run("register()").get("passkey"))
+    see(f"{name}: no other's name is taken", "another" in run("register({name: 'ada'})").get("error", ""))
+    run("(async () => { window.kept = await assertion({name: 'eve'}); await post('/sign-in/begin', {name: 'ada'}); })()")
+    see(f"{name}: another user's response", run("post('/sign-in/finish', window.kept)").get("refusal") in ("W2", "W4"))
+    other = started(address, PORT + 3)
+    browser.open(f"http://localhost:{PORT + 3}")
+    named("eve")
+    see(f"{name}: at another origin, accepted there", run("signIn()").get("user"))
+    run("(async () => { window.kept = await assertion({name: 'eve'}); })()")
+    moved = run("window.kept")
+    browser.open(ORIGIN)
+    see(f"{name}: and its response refused here (W8)", run(f"post('/sign-in/finish', {json.dumps(moved)})").get("refusal") == "W8")
+    browser.without(second)
+    ended(other)
+    ended(site)
+
+
+browser = Browser(DRIVER)
+try:
+    for address in sys.argv[1:]:
+        tries(browser, address, "PostgreSQL" if address.startswith("postgres") else "SQLite")
+finally:
+    browser.close()
+print(f"{passed} passed, {failed} failed")
+sys.exit(failed != 0)
