@@ -161,7 +161,10 @@ pub fn is_open_reading(alloc: Global, line: &str) -> Result<bool, Fail> {
 
 /// Whether the bytes of a line, which the strict profile reads, are read alike in the open one.
 fn is_read_alike(bytes: &[u8]) -> bool {
-    match (read_view(Profile::Strict, bytes), read_view(Profile::Open, bytes)) {
+    match (
+        read_view(Profile::Strict, bytes),
+        read_view(Profile::Open, bytes),
+    ) {
         (Ok(strict), Ok(open)) => {
             strict.flags == open.flags
                 && strict.sign_count == open.sign_count
