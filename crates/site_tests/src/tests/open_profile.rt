@@ -83,6 +83,34 @@ fn party(alloc: Global, profile: Profile) -> Result<RelyingParty, AllocError> {
     }
 }
 
+/// A sign-in of the user 01, whose credential was never used.
+fn attempt<'a>(
+    party: &'a RelyingParty,
+    session: &'a SignInSession,
+    auth_data: &'a [u8],
+    client_data: &'a [u8],
+) -> SignInAttempt<'a> {
+    SignInAttempt {
+        party,
+        session: Some(session),
+        credential: Some(RowView {
+            id: &[10],
+            user: &[1],
+            key: &KEY,
+            sign_count: 0,
+            eligible: None,
+            retired: false,
+        }),
+        response: AssertionParts {
+            credential: &[10],
+            user: Some(&[1]),
+            auth_data,
+            signature: &[0x5a],
+            client_data,
+        },
+    }
+}
+
 /// The number of the step that refuses the sign-in of a line, 0 for none.
 fn sign_in(alloc: Global, profile: Profile, line: &str) -> Result<u8, AllocError> {
     let client_data = client_data(alloc, line, "get")?;
@@ -99,25 +127,8 @@ fn sign_in(alloc: Global, profile: Profile, line: &str) -> Result<u8, AllocError
         uv: false,
         challenge: challenge(),
     };
-    let attempt = SignInAttempt {
-        party: &party(alloc, profile)?,
-        session: Some(&session),
-        credential: Some(RowView {
-            id: &[10],
-            user: &[1],
-            key: &KEY,
-            sign_count: 0,
-            eligible: None,
-            retired: false,
-        }),
-        response: AssertionParts {
-            credential: &[10],
-            user: Some(&[1]),
-            auth_data: &auth_data,
-            signature: &[0x5a],
-            client_data: &client_data,
-        },
-    };
+    let party = party(alloc, profile)?;
+    let attempt = attempt(&party, &session, &auth_data, &client_data);
     match verify_assertion(alloc, &scheme, &attempt) {
         Ok(_) => Ok(0),
         Err(SignInError::Refused(step)) => Ok(step.number()),
@@ -140,8 +151,9 @@ fn registration(alloc: Global, profile: Profile, line: &str) -> Result<u8, Alloc
         uv: false,
         challenge: challenge(),
     };
+    let party = party(alloc, profile)?;
     let attempt = RegistrationAttempt {
-        party: &party(alloc, profile)?,
+        party: &party,
         policy: Policy {
             accept_none: true,
             accept_self: true,

@@ -122,9 +122,10 @@ fn credential(alloc: Global, line: &str) -> Result<Vec<u8>, AllocError> {
     let id = bytes_of(alloc, value(line, "id", "1a"))?;
     let x = Sha256::digest(&SECRET);
     let front = b"\xa4\x01\x01\x03\x27\x20\x06\x21\x58\x20";
-    let outputs = bytes_of(alloc, value(line, "outputs", ""))?;
-    let parts: [&[u8]; 6] = [&[0; 16], &long_length(&id), &id, front, &x, &outputs];
-    joined(alloc, &parts)
+    let size = long_length(&id);
+    let mut bytes = joined(alloc, &[&[0; 16], &size, &id, front, &x])?;
+    bytes.extend_from_slice(&bytes_of(alloc, value(line, "outputs", ""))?)?;
+    Ok(bytes)
 }
 
 /// The authenticator data of a registration, with the flags UP, UV, BE and AT, and the counter 258; with a credential
