@@ -32,23 +32,23 @@ def site(address: str, origin: str, secret: bytes) -> Flask:
     @app.post("/register/begin")
     def register_begin():
         name = str(request.json["name"])[:64]
-        known, ids = storage.user_of(name)
-        user = signed_in_user()
-        if known is not None and known != user:
-            return jsonify(error="the name is another account's"), 409
-        options, began = server.register_begin(known or secrets.token_bytes(32), name, exclude=ids,
-                                               user_verification=bool(request.json.get("verified")),
-                                               resident=bool(request.json.get("resident", True)))
-        cookie["registration"], cookie["name"] = storage.begun(began), name
+        with storage.transaction() as rows:
+            user, ids = rows.user_of(name)
+            if user is not None and user != signed_in_user():
+                raise Taken("the name is another account's")
+            options, began = server.register_begin(user or secrets.token_bytes(32), name, exclude=ids,
+                                                   user_verification=bool(request.json.get("verified")),
+                                                   resident=bool(request.json.get("resident", True)))
+            number = rows.begin(began)
+        cookie["registration"], cookie["name"] = number, name
         return jsonify(options)
 
     @app.post("/register/finish")
     def register_finish():
-        with storage.transaction() as run:
-            began = storage.take(run, "registration", cookie.get("registration"))
-            made = server.register_complete(began, request.json,
-                                            is_registered=lambda id: storage.credential(run, id) is not None)
-            storage.add(run, cookie["name"], made)
+        with storage.transaction() as rows:
+            began = rows.take("registration", cookie.get("registration"))
+            made = server.register_complete(began, request.json, is_registered=lambda id: rows.credential(id) is not None)
+            rows.add(cookie["name"], made)
         cookie.pop("registration")
         cookie["user"] = to_text(made.user)
         return jsonify(passkey=to_text(made.id))
@@ -56,27 +56,23 @@ def site(address: str, origin: str, secret: bytes) -> Flask:
     @app.post("/sign-in/begin")
     def sign_in_begin():
         user, ids = None, []
-        if request.json.get("name"):
-            user, ids = storage.user_of(str(request.json["name"])[:64])
-            if user is None:
-                return jsonify(error="no account has this name"), 404
-        options, began = server.authenticate_begin(user=user, allow=ids,
-                                                   user_verification=bool(request.json.get("verified")))
-        cookie["sign-in"] = storage.begun(began)
+        with storage.transaction() as rows:
+            if request.json.get("name"):
+                user, ids = rows.user_of(str(request.json["name"])[:64])
+                if user is None:
+                    return jsonify(error="no account has this name"), 404
+            options, began = server.authenticate_begin(user=user, allow=ids,
+                                                       user_verification=bool(request.json.get("verified")))
+            number = rows.begin(began)
+        cookie["sign-in"] = number
         return jsonify(options)
 
     @app.post("/sign-in/finish")
     def sign_in_finish():
-        with storage.transaction() as run:
-            began = storage.take(run, "sign-in", cookie.get("sign-in"))
-            found = []
-
-            def credential(id):
-                found.append(storage.credential(run, id))
-                return found[0]
-
-            signed_in = server.authenticate_complete(began, request.json, credential=credential)
-            storage.count(run, found[0], signed_in.credential)
+        with storage.transaction() as rows:
+            began = rows.take("sign-in", cookie.get("sign-in"))
+            signed_in = server.authenticate_complete(began, request.json, credential=rows.credential)
+            rows.count(signed_in)
         cookie["user"] = to_text(signed_in.credential.user)
         return jsonify(user=cookie["user"], count=signed_in.credential.sign_count)
 
@@ -85,15 +81,18 @@ def site(address: str, origin: str, secret: bytes) -> Flask:
         user = signed_in_user()
         if user is None:
             return jsonify(error="nobody is signed in"), 401
-        return jsonify([{"id": to_text(id), "count": count, "retired": retired}
-                        for id, count, retired in storage.passkeys(user)])
+        with storage.transaction() as rows:
+            passkeys = rows.passkeys(user)
+        return jsonify([{"id": to_text(id), "count": count, "retired": retired} for id, count, retired in passkeys])
 
     @app.post("/passkeys/retire")
     def retire():
         user = signed_in_user()
         if user is None:
             return jsonify(error="nobody is signed in"), 401
-        return jsonify(retired=storage.retired(user, from_text(request.json["id"], "id")))
+        with storage.transaction() as rows:
+            retired = rows.retire(user, from_text(request.json["id"], "id"))
+        return jsonify(retired=retired)
 
     @app.post("/sign-out")
     def sign_out():
@@ -120,4 +119,5 @@ if __name__ == "__main__":
     port = int(os.environ.get("PORT", "8080"))
     address = sys.argv[1] if len(sys.argv) > 1 else os.path.join(HERE, "site.sqlite")
     key = os.environ.get("SECRET", "").encode() or secrets.token_bytes(32)
-    site(address, f"http://localhost:{port}", key).run("localhost", port, threaded=True)
+    origin = os.environ.get("ORIGIN", f"http://localhost:{port}")
+    site(address, origin, key).run("localhost", port, threaded=True)

@@ -16,6 +16,7 @@ class Browser:
         begun = self.ask("/session", {"capabilities": {"alwaysMatch": {"browserName": "chrome", "goog:chromeOptions": {
             "args": ["--headless=new", "--no-sandbox", "--window-size=800,500"]}}}})
         self.path = "/session/" + begun["sessionId"]
+        self.version = begun["capabilities"]["browserVersion"]
 
     def ask(self, path, body=None, method="POST"):
         data = None if body is None else json.dumps(body).encode()
@@ -26,9 +27,9 @@ class Browser:
     def open(self, url):
         self.ask(self.path + "/url", {"url": url})
 
-    def run(self, script):
-        """The value of a JavaScript expression, awaited; an error's text where it throws."""
-        return self.ask(self.path + "/execute/async", {"args": [], "script": "const done = arguments[0];"
+    def run(self, script, *values):
+        """The value of a JavaScript expression, awaited; an error's text where it throws. The values are its `values`."""
+        return self.ask(self.path + "/execute/async", {"args": [list(values)], "script": "const [values, done] = arguments;"
                         f"(async () => {script})().then(done, error => done({{error: error.error || String(error)}}));"})
 
     def authenticator(self, **more):

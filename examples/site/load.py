@@ -1,10 +1,7 @@
 """What `load` does: visitors whose devices `cryptography` plays, as in the tests of python/."""
 import http.client
 import json
-import os
 import random
-import signal
-import subprocess
 import sys
 import threading
 import time
@@ -16,15 +13,11 @@ sys.path.insert(0, str(HERE.parents[1] / "python" / "tests"))
 import psycopg2  # noqa: E402
 from device import UP, UV, Device  # noqa: E402
 from garvoeng.forms import from_text  # noqa: E402
+from servers import ended, started  # noqa: E402
 
 ORIGIN = "http://localhost:8080"
 PORTS = [8771, 8772, 8773, 8774]
 VISITORS = 64
-
-
-def started(address, port):
-    code = f"from app import site; site({address!r}, {ORIGIN!r}, b'the same in each process').run('localhost', {port}, threaded=True)"
-    return subprocess.Popen([sys.executable, "-c", code], cwd=HERE, stderr=subprocess.DEVNULL, stdout=subprocess.DEVNULL)
 
 
 class Visitor:
@@ -93,8 +86,7 @@ def visits(visitors, ports, until, told):
 
 
 def main(address, seconds):
-    sites = {port: started(address, port) for port in PORTS}
-    time.sleep(4)
+    sites = {port: started(address, port, ORIGIN) for port in PORTS}
     visitors = [Visitor(number) for number in range(VISITORS)]
     for visitor in visitors:
         visitor.registers(PORTS[0])
@@ -105,9 +97,8 @@ def main(address, seconds):
         while kills and time.time() < begun + seconds - 2:
             time.sleep(1)
             port = random.choice(PORTS)
-            sites[port].send_signal(signal.SIGKILL)
-            sites[port].wait()
-            sites[port] = started(address, port)
+            ended(sites[port])
+            sites[port] = started(address, port, ORIGIN)
         for thread in threads:
             thread.join()
         times = sorted(one for _, _, accepted in told for one in accepted)
@@ -131,7 +122,7 @@ def main(address, seconds):
     for line in rows:
         print(f"| {line[0]} | {'yes' if line[1] else 'no'} | {line[2]} | {line[3]} | {line[4]:.0f} | {line[5] * 1000:.0f} ms | {line[6] * 1000:.0f} ms |")
     for site in sites.values():
-        site.kill()
+        ended(site)
     is_good = is_good and lower == 0 and lost == 0
     print(f"{int(is_good)} passed, {int(not is_good)} failed")
     sys.exit(not is_good)

@@ -1,16 +1,15 @@
-"""Sessions and credentials as rows, in SQLite or PostgreSQL. Each act of a visitor is one transaction: `begun`, `accepted`
-and `retired` each commit once. Of two sign-ins over one counter, or in one session, at most one is accepted, whatever the
-number of server processes: the session's row is deleted and the counter is written `where sign_count = old` in the
-transaction of the verdict."""
+"""Sessions and credentials as rows, in SQLite or PostgreSQL. Each act of a visitor is one transaction. Of two sign-ins over
+one counter, or in one session, at most one is accepted, whatever the number of server processes: the session's row is
+deleted and the counter is written `where sign_count = old` in the transaction of the verdict."""
 from __future__ import annotations
 
 import json
 import sqlite3
 import time
-from contextlib import contextmanager
-from typing import Iterator, List, Optional, Tuple, Union
+from contextlib import closing, contextmanager
+from typing import Callable, Iterator, List, Optional, Tuple, Union
 
-from garvoeng import Credential, RegistrationSession, SignInSession
+from garvoeng import Credential, RegistrationSession, SignedIn, SignInSession
 from garvoeng.forms import from_text, to_text
 
 Session = Union[RegistrationSession, SignInSession]
@@ -56,14 +55,17 @@ class Storage:
         self.is_postgres = address.startswith(("postgres:", "postgresql:"))
         words = {"number": "bigserial primary key", "bytes": "bytea"} if self.is_postgres else \
             {"number": "integer primary key autoincrement", "bytes": "blob"}
-        with self.transaction() as run:
+        if not self.is_postgres:
+            with closing(sqlite3.connect(address)) as connection:
+                connection.execute("pragma journal_mode = wal")
+        with self.transaction() as rows:
             for statement in TABLES.format(**words).split(";"):
                 if statement.strip():
-                    run(statement)
+                    rows.run(statement)
 
     @contextmanager
-    def transaction(self) -> Iterator:
-        """Commits at the end, and rolls back at an exception. `run(statement, *values)` answers a cursor."""
+    def transaction(self) -> Iterator[Rows]:
+        """The rows. Commits at the end, and rolls back at an exception."""
         if self.is_postgres:
             import psycopg2
             connection = psycopg2.connect(self.address)
@@ -74,11 +76,12 @@ class Storage:
                 return cursor
         else:
             connection = sqlite3.connect(self.address, isolation_level=None, timeout=30)
-            connection.execute("pragma journal_mode = wal")
             connection.execute("begin immediate")
-            run = lambda statement, *values: connection.execute(statement, values)  # noqa: E731
+
+            def run(statement: str, *values):
+                return connection.execute(statement, values)
         try:
-            yield run
+            yield Rows(run)
             connection.commit()
         except BaseException:
             connection.rollback()
@@ -86,66 +89,71 @@ class Storage:
         finally:
             connection.close()
 
+
+class Rows:
+    """The rows within one transaction. `run(statement, *values)` answers a cursor."""
+
+    def __init__(self, run: Callable) -> None:
+        self.run = run
+
     # ---- sessions
 
-    def begun(self, session: Session) -> int:
+    def begin(self, session: Session) -> int:
         """Stores a session; those that have ended go. Its number never comes again."""
         kind = "registration" if isinstance(session, RegistrationSession) else "sign-in"
-        with self.transaction() as run:
-            run("delete from sessions where begun_at < ?", time.time() - LIFETIME)
-            return run("insert into sessions (kind, challenge, expects, begun_at) values (?, ?, ?, ?) returning number",
-                       kind, session.challenge, _shown(session), time.time()).fetchone()[0]
+        self.run("delete from sessions where begun_at < ?", time.time() - LIFETIME)
+        return self.run("insert into sessions (kind, challenge, expects, begun_at) values (?, ?, ?, ?) returning number",
+                        kind, session.challenge, _shown(session), time.time()).fetchone()[0]
 
-    @staticmethod
-    def take(run, kind: str, number: Optional[int]) -> Optional[Session]:
+    def take(self, kind: str, number: Optional[int]) -> Optional[Session]:
         """The open session of this number, whose row is deleted: it answers one response, if this transaction commits."""
-        row = run("delete from sessions where number = ? and kind = ? and begun_at >= ? returning challenge, expects",
-                  number, kind, time.time() - LIFETIME).fetchone()
+        row = self.run("delete from sessions where number = ? and kind = ? and begun_at >= ? returning challenge, expects",
+                       number, kind, time.time() - LIFETIME).fetchone()
         return None if row is None else _session(kind, bytes(row[0]), row[1])
 
     # ---- credentials
 
-    @staticmethod
-    def credential(run, id: bytes) -> Optional[Credential]:
-        row = run("select id, user_handle, algorithm, x, y, sign_count, eligible, retired from credentials where id = ?", id).fetchone()
+    def credential(self, id: bytes) -> Optional[Credential]:
+        row = self.run("select id, user_handle, algorithm, x, y, sign_count, eligible, retired from credentials where id = ?",
+                       id).fetchone()
         if row is None:
             return None
         return Credential(bytes(row[0]), bytes(row[1]), row[2], bytes(row[3]), bytes(row[4]), row[5],
                           None if row[6] is None else bool(row[6]), bool(row[7]))
 
-    @staticmethod
-    def add(run, name: str, credential: Credential) -> None:
-        run("insert into accounts values (?, ?) on conflict (user_name) do nothing", name, credential.user)
-        if bytes(run("select user_handle from accounts where user_name = ?", name).fetchone()[0]) != credential.user:
+    def add(self, name: str, credential: Credential) -> None:
+        """Stores a credential that was registered; its account is made where there is none."""
+        self.run("insert into accounts values (?, ?) on conflict (user_name) do nothing", name, credential.user)
+        account = self.run("select user_handle from accounts where user_name = ?", name).fetchone()
+        if bytes(account[0]) != credential.user:
             raise Taken("the name is another account's")
-        added = run("insert into credentials values (?, ?, ?, ?, ?, ?, ?, ?) on conflict (id) do nothing", credential.id,
-                    credential.user, credential.algorithm, credential.x, credential.y, credential.sign_count,
-                    credential.eligible, credential.retired)
+        added = self.run("insert into credentials values (?, ?, ?, ?, ?, ?, ?, ?) on conflict (id) do nothing", credential.id,
+                         credential.user, credential.algorithm, credential.x, credential.y, credential.sign_count,
+                         credential.eligible, credential.retired)
         if added.rowcount != 1:
             raise Taken("the id was registered meanwhile")
 
-    @staticmethod
-    def count(run, old: Credential, new: Credential) -> None:
+    def count(self, signed_in: SignedIn) -> None:
         """Writes the counter that was received, where the stored one is that for which the verdict was given."""
-        written = run("update credentials set sign_count = ?, eligible = ? where id = ? and sign_count = ? and not retired",
-                      new.sign_count, new.eligible, old.id, old.sign_count)
+        new, old = signed_in.credential, signed_in.before
+        written = self.run("update credentials set sign_count = ?, eligible = ? where id = ? and sign_count = ? and not retired",
+                           new.sign_count, new.eligible, old.id, old.sign_count)
         if written.rowcount != 1:
             raise Taken("another sign-in of this passkey was accepted meanwhile")
 
-    def retired(self, user: bytes, id: bytes) -> bool:
-        with self.transaction() as run:
-            return run("update credentials set retired = true where id = ? and user_handle = ?", id, user).rowcount == 1
+    def retire(self, user: bytes, id: bytes) -> bool:
+        """Retires a passkey of this user; whether there is one of this id."""
+        return self.run("update credentials set retired = true where id = ? and user_handle = ?", id, user).rowcount == 1
 
     def passkeys(self, user: bytes) -> List[Tuple[bytes, int, bool]]:
-        with self.transaction() as run:
-            rows = run("select id, sign_count, retired from credentials where user_handle = ? order by id", user).fetchall()
+        """Id, counter and whether it is retired, of each passkey of a user."""
+        rows = self.run("select id, sign_count, retired from credentials where user_handle = ? order by id", user).fetchall()
         return [(bytes(row[0]), row[1], bool(row[2])) for row in rows]
 
     def user_of(self, name: str) -> Tuple[Optional[bytes], List[bytes]]:
         """The user handle of a name, and the ids of its passkeys that sign in."""
-        with self.transaction() as run:
-            account = run("select user_handle from accounts where user_name = ?", name).fetchone()
-            if account is None:
-                return None, []
-            rows = run("select id from credentials where user_handle = ? and not retired", account[0]).fetchall()
+        account = self.run("select user_handle from accounts where user_name = ?", name).fetchone()
+        if account is None:
+            return None, []
+        rows = self.run("select id from credentials where user_handle = ? and not retired", account[0]).fetchall()
         return bytes(account[0]), [bytes(row[0]) for row in rows]

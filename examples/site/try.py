@@ -1,13 +1,10 @@
 """What `try` does in the browser, over each storage that it is given."""
 import json
-import os
-import subprocess
 import sys
-import time
-import urllib.request
 from pathlib import Path
 
 from browser import Browser
+from servers import ended, started
 
 HERE = Path(__file__).resolve().parent
 PORT, DRIVER = 8766, 8767
@@ -21,23 +18,6 @@ def see(what, is_so):
     print(("ok      " if is_so else "FAILED  ") + what, flush=True)
 
 
-def started(address, port=PORT):
-    site = subprocess.Popen([sys.executable, str(HERE / "app.py"), address], stderr=subprocess.DEVNULL, stdout=subprocess.DEVNULL,
-                            env={**os.environ, "PORT": str(port), "SECRET": "the same in each process"})
-    for _ in range(100):
-        try:
-            urllib.request.urlopen(f"http://localhost:{port}/").close()
-            return site
-        except OSError:
-            time.sleep(0.1)
-    raise SystemExit("the site did not start")
-
-
-def ended(site):
-    site.kill()
-    site.wait()
-
-
 def tries(browser, address, name):
     def run(script):
         return browser.run(script)
@@ -45,7 +25,7 @@ def tries(browser, address, name):
     def named(user):
         run(f"document.getElementById('name').value = '{user}'")
 
-    site = started(address)
+    site = started(address, PORT)
     browser.open(ORIGIN)
     key = browser.authenticator()
     named("ada")
@@ -68,7 +48,7 @@ def tries(browser, address, name):
     see(f"{name}: an older challenge than the session's (W7)", run("post('/sign-in/finish', window.kept)").get("refusal") == "W7")
     see(f"{name}: and the session is as it was", old.get("rawId"))
     ended(site)
-    site = started(address)
+    site = started(address, PORT)
     see(f"{name}: restarted, still signed in", run("fetch('/passkeys').then(answer => answer.json())")[0]["count"] > 0)
     see(f"{name}: restarted, signed in", run("signIn()").get("user"))
     browser.without(key)

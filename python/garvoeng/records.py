@@ -73,6 +73,9 @@ class SignedIn:
 
     credential: Credential
     """The credential as it is to be stored from now on: with the counter that was received."""
+    before: Credential
+    """The credential that the verdict was given for. Store the new one only where the stored one still has this counter
+    and isn't retired, in one transaction with the end of the session."""
     backed_up: bool
     """Whether it is backed up now."""
 

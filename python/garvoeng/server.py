@@ -205,4 +205,4 @@ class Server:
         _answer(False, answer)
         assert credential is not None
         eligible = credential.eligible if credential.eligible is not None else out.eligible
-        return SignedIn(replace(credential, sign_count=out.sign_count, eligible=eligible), out.backed_up)
+        return SignedIn(replace(credential, sign_count=out.sign_count, eligible=eligible), credential, out.backed_up)

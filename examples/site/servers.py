@@ -1,0 +1,28 @@
+"""Server processes of the site, for `try` and `load`."""
+import os
+import subprocess
+import sys
+import time
+import urllib.request
+from pathlib import Path
+
+APP = Path(__file__).resolve().parent / "app.py"
+
+
+def started(address, port, origin=None):
+    """A process that answers on this port."""
+    words = {"PORT": str(port), "SECRET": "the same in each process", **({"ORIGIN": origin} if origin else {})}
+    site = subprocess.Popen([sys.executable, str(APP), address], stderr=subprocess.DEVNULL, stdout=subprocess.DEVNULL,
+                            env={**os.environ, **words})
+    for _ in range(100):
+        try:
+            urllib.request.urlopen(f"http://localhost:{port}/").close()
+            return site
+        except OSError:
+            time.sleep(0.1)
+    raise SystemExit("the site did not start")
+
+
+def ended(site):
+    site.kill()
+    site.wait()
