@@ -77,18 +77,24 @@ static uint32_t sign_in(passkey_assertion_call *call, passkey_assertion_out *out
     if (answer != PASSKEY_BAD_SIGNATURE)
         return answer;
 
-    size_t size = call->response.auth_data.size + 32;
-    uint8_t *message = malloc(size);
-    MUST(message != NULL);
-    MUST(passkey_assertion_message(call->response.auth_data.data, call->response.auth_data.size,
-                                   call->response.client_data.data, call->response.client_data.size, message, size));
-    passkey_verified verified = { call->credential.key, bytes(message, size), call->response.signature };
+    size_t message_room = call->response.auth_data.size + 32, signature_room = call->response.signature.size;
+    uint8_t *message = malloc(message_room), *signature = malloc(signature_room + 1);
+    MUST(message != NULL && signature != NULL);
+    passkey_signature_call asked = { .assertion = call->response, .key = call->credential.key };
+    passkey_signature_out told;
+    MUST(passkey_signature_asked(&asked, message, message_room, signature, signature_room, &told) == PASSKEY_ACCEPTED);
+    passkey_verified verified = {
+        .key = { told.algorithm, bytes(told.x, 32), bytes(told.y, 32) },
+        .message = bytes(message, told.message_size),
+        .signature = bytes(signature, told.signature_size),
+    };
     if (is_valid(&verified)) {
         call->has_verified = true;
         call->verified = verified;
         answer = passkey_assertion(call, out);
     }
     free(message);
+    free(signature);
     return answer;
 }
 

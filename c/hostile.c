@@ -84,6 +84,24 @@ static uint32_t registration(const passkey_registration_call *call)
     return answer;
 }
 
+/* A signature is asked with rooms of these sizes, for a message and a signature of those. */
+static void asks(const passkey_signature_call *call, size_t size, size_t message_size, size_t signature_size)
+{
+    passkey_bytes message = random_bytes(size), signature = random_bytes(size % 7);
+    passkey_signature_out out;
+    uint32_t answer =
+        passkey_signature_asked(call, (uint8_t *)message.data, size, (uint8_t *)signature.data, size % 7, &out);
+    calls++;
+    if (size < message_size)
+        MUST(answer == PASSKEY_LIMIT_MESSAGE_ROOM);
+    else if (size % 7 < signature_size)
+        MUST(answer == PASSKEY_LIMIT_SIGNATURE_ROOM);
+    else
+        MUST(answer == PASSKEY_ACCEPTED && out.is_asked && out.algorithm == PASSKEY_ES256 &&
+             out.message_size == message_size && out.signature_size == signature_size);
+    drop(message), drop(signature);
+}
+
 static void nothing_at_all(void)
 {
     passkey_assertion_call sign_in;
@@ -109,9 +127,11 @@ static void nothing_at_all(void)
     MUST(registration(&enrol) == PASSKEY_LIMIT_CHALLENGE);
 
     passkey_signature_out out;
-    MUST(passkey_registration_asked(false, &enrol.response, NULL, 0, NULL, 0, &out) ==
-         PASSKEY_REGISTRATION_BAD_ATTESTATION_OBJECT);
-    MUST(!passkey_assertion_message(NULL, 0, NULL, 0, NULL, 0));
+    passkey_signature_call asked;
+    memset(&asked, 0, sizeof asked);
+    MUST(passkey_signature_asked(&asked, NULL, 0, NULL, 0, &out) == PASSKEY_LIMIT_KEY_ALGORITHM);
+    asked.is_registration = true;
+    MUST(passkey_signature_asked(&asked, NULL, 0, NULL, 0, &out) == PASSKEY_REGISTRATION_BAD_ATTESTATION_OBJECT);
     MUST(!passkey_challenge(1, NULL, 0, NULL, 0));
     MUST(!passkey_challenge_text(NULL, 0, NULL, 0));
     MUST(!passkey_is_canonical(NULL, 0));
@@ -188,23 +208,32 @@ static void rooms(void)
     data[56 + 10 + 32] = 0x22, data[56 + 11 + 32] = 0x58, data[56 + 12 + 32] = 0x20;
     size_t data_size = 56 + 10 + 32 + 3 + 32;
     data[-1] = (uint8_t)data_size;
-    passkey_registration_response response = { copy(object, sizeof front - 1 + data_size), copy("{}", 2) };
-    for (size_t size = 0; size < 200; size++) {
-        passkey_bytes message = random_bytes(size), signature = random_bytes(size % 7);
-        passkey_signature_out out;
-        uint32_t answer = passkey_registration_asked(false, &response, (uint8_t *)message.data, size,
-                                                     (uint8_t *)signature.data, size % 7, &out);
-        calls++;
-        if (size < data_size + 32)
-            MUST(answer == PASSKEY_LIMIT_MESSAGE_ROOM);
-        else if (size % 7 < 3)
-            MUST(answer == PASSKEY_LIMIT_SIGNATURE_ROOM);
-        else
-            MUST(answer == PASSKEY_ACCEPTED && out.is_asked && out.algorithm == PASSKEY_ES256 &&
-                 out.message_size == data_size + 32 && out.signature_size == 3);
-        drop(message), drop(signature);
-    }
-    drop(response.object), drop(response.client_data);
+    passkey_signature_call call;
+    memset(&call, 0, sizeof call);
+    call.is_registration = true;
+    call.registration = (passkey_registration_response){ copy(object, sizeof front - 1 + data_size), copy("{}", 2) };
+    call.assertion.auth_data.data = call.assertion.signature.data = call.key.x.data = nowhere.data;
+    for (size_t size = 0; size < 200; size++)
+        asks(&call, size, data_size + 32, 3);
+    drop(call.registration.object), drop(call.registration.client_data);
+
+    memset(&call, 0, sizeof call);
+    call.registration = (passkey_registration_response){ nowhere, nowhere };
+    call.assertion.auth_data = random_bytes(37), call.assertion.signature = random_bytes(3);
+    call.assertion.client_data = random_bytes(50);
+    call.key = (passkey_key){ PASSKEY_ES256, random_bytes(32), random_bytes(32) };
+    for (size_t size = 0; size < 100; size++)
+        asks(&call, size, 37 + 32, 3);
+    passkey_signature_out out;
+    call.key.y.size = 31;
+    MUST(passkey_signature_asked(&call, NULL, 0, NULL, 0, &out) == PASSKEY_LIMIT_KEY_Y);
+    call.key.x.size = 33;
+    MUST(passkey_signature_asked(&call, NULL, 0, NULL, 0, &out) == PASSKEY_LIMIT_KEY_X);
+    call.key.algorithm = -257;
+    MUST(passkey_signature_asked(&call, NULL, 0, NULL, 0, &out) == PASSKEY_LIMIT_KEY_ALGORITHM);
+    drop(call.assertion.auth_data), drop(call.assertion.signature), drop(call.assertion.client_data);
+    drop(call.key.x), drop(call.key.y);
+    calls += 3;
 }
 
 static void random_responses(unsigned count)

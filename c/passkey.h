@@ -7,9 +7,9 @@
  * A sign-in takes two calls of passkey_assertion:
  *   1. without a verified signature: PASSKEY_BAD_SIGNATURE then means that each step before the signature's is passed;
  *   2. with the key, the message and the signature that the host verified by its own library, for a last answer.
- * The host hands in the three byte strings, and never a flag: a signature of anything else is refused. The message is
- * made by passkey_assertion_message. A registration by self attestation goes the same way, by
- * PASSKEY_REGISTRATION_BAD_STATEMENT and passkey_registration_asked; one without attestation takes one call.
+ * The host hands in the three byte strings, and never a flag: a signature of anything else is refused.
+ * passkey_signature_asked tells the three that it is to verify. A registration by self attestation goes the same way, by
+ * PASSKEY_REGISTRATION_BAD_STATEMENT; one without attestation takes one call.
  *
  * The calls may be made from several threads at once, and not from a signal handler. They take memory from malloc.
  * A pointer may be null only where its size or count is 0. Texts are not terminated. A bool is 0 or 1.
@@ -169,12 +169,6 @@ typedef struct passkey_assertion_out {
  * limits, or PASSKEY_NO_MEMORY. */
 uint32_t passkey_assertion(const passkey_assertion_call *call, passkey_assertion_out *out);
 
-/* Writes the message of a sign-in's signature: the authenticator data, then SHA-256 of the client data. The room must
- * have auth_data_size + 32 bytes, no more and no less; else false is answered, and nothing is written. The key is the
- * credential's, and the signature the response's. */
-bool passkey_assertion_message(const uint8_t *auth_data, size_t auth_data_size, const uint8_t *client_data,
-                               size_t client_data_size, uint8_t *message, size_t message_size);
-
 /* What a registration that has begun expects. */
 typedef struct passkey_registration_session {
     passkey_bytes challenge; /* 32 bytes, which no other session has */
@@ -219,7 +213,16 @@ typedef struct passkey_registration_out {
 /* Judges a registration, as passkey_assertion a sign-in. */
 uint32_t passkey_registration(const passkey_registration_call *call, passkey_registration_out *out);
 
-/* Which signature a registration's self attestation asks for. */
+/* A response whose signature is to be verified. */
+typedef struct passkey_signature_call {
+    bool is_registration;
+    bool open_profile;                          /* of a registration: as party.open_profile */
+    passkey_registration_response registration; /* of a registration */
+    passkey_assertion_response assertion;       /* of a sign-in */
+    passkey_key key;                            /* of a sign-in: the credential's */
+} passkey_signature_call;
+
+/* Which signature the host is to verify. */
 typedef struct passkey_signature_out {
     bool is_asked;     /* false: there is nothing to verify, and the other members say nothing */
     int32_t algorithm; /* of the key: PASSKEY_ES256 or PASSKEY_EDDSA */
@@ -229,13 +232,13 @@ typedef struct passkey_signature_out {
     size_t signature_size;
 } passkey_signature_out;
 
-/* Tells which signature the host is to verify of a registration. A message has at most object.size + 32 bytes, a
- * signature at most object.size: rooms of these sizes are always enough. Answers PASSKEY_ACCEPTED,
- * PASSKEY_REGISTRATION_BAD_ATTESTATION_OBJECT, PASSKEY_LIMIT_PROFILE, PASSKEY_LIMIT_MESSAGE_ROOM,
- * PASSKEY_LIMIT_SIGNATURE_ROOM or PASSKEY_NO_MEMORY. */
-uint32_t passkey_registration_asked(bool open_profile, const passkey_registration_response *response,
-                                    uint8_t *message, size_t message_room, uint8_t *signature,
-                                    size_t signature_room, passkey_signature_out *out);
+/* Tells which key, message and signature the host is to verify: of a sign-in those of the response, of a registration
+ * those of self attestation, or that there is none. A sign-in's message has auth_data.size + 32 bytes, a registration's at
+ * most object.size + 32, its signature at most object.size: rooms of these sizes are always enough. Answers
+ * PASSKEY_ACCEPTED, PASSKEY_REGISTRATION_BAD_ATTESTATION_OBJECT, PASSKEY_LIMIT_KEY_ALGORITHM, PASSKEY_LIMIT_KEY_X,
+ * PASSKEY_LIMIT_KEY_Y, PASSKEY_LIMIT_MESSAGE_ROOM, PASSKEY_LIMIT_SIGNATURE_ROOM or PASSKEY_NO_MEMORY. */
+uint32_t passkey_signature_asked(const passkey_signature_call *call, uint8_t *message, size_t message_room,
+                                 uint8_t *signature, size_t signature_room, passkey_signature_out *out);
 
 /* Makes a challenge: the session's number in 8 big-endian bytes, then 24 random bytes, which are the host's. False
  * where words are not 24 bytes or the challenge is not 32, and then nothing is written. */

@@ -121,6 +121,16 @@ class RegistrationOut(Structure):
     ]
 
 
+class SignatureCall(Structure):
+    _fields_ = [
+        ("is_registration", c_bool),
+        ("open_profile", c_bool),
+        ("registration", RegistrationResponse),
+        ("assertion", AssertionResponse),
+        ("key", Key),
+    ]
+
+
 class SignatureOut(Structure):
     _fields_ = [
         ("is_asked", c_bool),
@@ -159,10 +169,8 @@ def _load() -> ctypes.CDLL:
     room = [c_void_p, c_size_t]
     for name, result, arguments in (
         ("passkey_assertion", c_uint32, [POINTER(AssertionCall), POINTER(AssertionOut)]),
-        ("passkey_assertion_message", c_bool, room * 3),
         ("passkey_registration", c_uint32, [POINTER(RegistrationCall), POINTER(RegistrationOut)]),
-        ("passkey_registration_asked", c_uint32,
-         [c_bool, POINTER(RegistrationResponse), *room, *room, POINTER(SignatureOut)]),
+        ("passkey_signature_asked", c_uint32, [POINTER(SignatureCall), *room, *room, POINTER(SignatureOut)]),
         ("passkey_challenge", c_bool, [c_uint64, *room, *room]),
         ("passkey_challenge_text", c_bool, room * 2),
         ("passkey_is_canonical", c_bool, room),
@@ -194,11 +202,4 @@ def challenge(session: int, words: bytes) -> bytes:
     room = ctypes.create_string_buffer(32)
     if not passkey.passkey_challenge(session, words, len(words), room, len(room)):
         raise ValueError("24 random bytes are wanted")
-    return room.raw
-
-
-def assertion_message(auth_data: bytes, client_data: bytes) -> bytes:
-    """What a sign-in's signature is of: the authenticator data, then SHA-256 of the client data."""
-    room = ctypes.create_string_buffer(len(auth_data) + 32)
-    passkey.passkey_assertion_message(auth_data, len(auth_data), client_data, len(client_data), room, len(room))
     return room.raw

@@ -109,27 +109,24 @@ class Server:
         call.is_full = is_full
         out = library.RegistrationOut()
         answer = passkey.passkey_registration(ctypes.byref(call), ctypes.byref(out))
-        if answer == 13 and self._verify_asked(lender, call):
+        asked = library.SignatureCall(True, self.open_profile, registration=call.response)
+        if answer == 13 and self._verify_asked(lender, call, asked, len(attestation_object)):
             answer = passkey.passkey_registration(ctypes.byref(call), ctypes.byref(out))
         _answer(True, answer)
         assert session is not None
         return Credential(bytes(out.id[:out.id_size]), session.user, out.algorithm, bytes(out.x), bytes(out.y),
                           out.sign_count, out.eligible)
 
-    def _verify_asked(self, lender: Lender, call: library.RegistrationCall) -> bool:
-        """Verifies the signature that the response asks for, and hands it in; False where there is none or it is not
-        valid."""
-        size = call.response.object.size
+    def _verify_asked(self, lender: Lender, call: Any, asked: library.SignatureCall, size: int) -> bool:
+        """Verifies the signature that a response asks for, and where it is valid hands in what was verified. `size` is
+        that of the response's part with message and signature. False where there is none or it is not valid."""
         message = ctypes.create_string_buffer(size + 32)
         signature = ctypes.create_string_buffer(size)
         out = library.SignatureOut()
-        _answer(True, passkey.passkey_registration_asked(
-            self.open_profile, ctypes.byref(call.response), message, size + 32, signature, size, ctypes.byref(out)))
-        if not out.is_asked:
-            return False
-        x, y = bytes(out.x), bytes(out.y)
-        asked = (out.algorithm, x, y, message.raw[:out.message_size], signature.raw[:out.signature_size])
-        return self._hand_in(lender, call, asked)
+        _answer(asked.is_registration, passkey.passkey_signature_asked(
+            ctypes.byref(asked), message, size + 32, signature, size, ctypes.byref(out)))
+        return bool(out.is_asked) and self._hand_in(lender, call, (
+            out.algorithm, bytes(out.x), bytes(out.y), message.raw[:out.message_size], signature.raw[:out.signature_size]))
 
     def _hand_in(self, lender: Lender, call: Any, asked: Tuple[int, bytes, bytes, bytes, bytes]) -> bool:
         """Verifies a signature, and where it is valid hands in what was verified."""
@@ -197,11 +194,9 @@ class Server:
             lender.bytes(signature), lender.bytes(client_data))
         out = library.AssertionOut()
         answer = passkey.passkey_assertion(ctypes.byref(call), ctypes.byref(out))
-        if answer == 14 and credential is not None:
-            asked = (credential.algorithm, credential.x, credential.y,
-                     library.assertion_message(auth_data, client_data), signature)
-            if self._hand_in(lender, call, asked):
-                answer = passkey.passkey_assertion(ctypes.byref(call), ctypes.byref(out))
+        asked = library.SignatureCall(False, assertion=call.response, key=call.credential.key)
+        if answer == 14 and self._verify_asked(lender, call, asked, max(len(auth_data), len(signature))):
+            answer = passkey.passkey_assertion(ctypes.byref(call), ctypes.byref(out))
         _answer(False, answer)
         assert credential is not None
         eligible = credential.eligible if credential.eligible is not None else out.eligible

@@ -25,6 +25,10 @@ packed_statement alg sig =
 abbrev pub IsNone : Attestation → Type 0
 IsNone o = (o.fmt ≡ codes "none") × (o.statement ≡ none_statement)
 
+-- the statement is a signature by the key itself: alg is the key's algorithm, and sig this signature
+abbrev pub IsSelfSignedBy : Attestation → CoseKey → List ℕ → Type 0
+IsSelfSignedBy o key sig = (o.fmt ≡ codes "packed") × (o.statement ≡ packed_statement (alg_of key) sig)
+
 -- alg is the key's algorithm, and sig is valid under the key for the authenticator data and then
 -- the hash of the client data
 abbrev pub IsSelfSigned : Validity → Attestation → CoseKey → List ℕ → Type 0

@@ -23,5 +23,5 @@ pub use object::AttestationObject;
 pub use profile::Profile;
 pub use reading::{read, read_view};
 pub use response::{AssertionResponse, RegistrationResponse};
-pub use statement::{AttestationType, check_statement};
+pub use statement::{AttestationType, check_statement, self_signature};
 pub use writing::write;

@@ -4,7 +4,7 @@ ghost use Rattle.std.specs.Prelude.{◌≡◌, ◌↔◌, ℕ, List, MatchOption
 ghost use Rattle.ccbor.specs.View.{view};
 ghost use Rattle.cose.specs.declared.key.Alg.{Alg};
 ghost use Rattle.authdata.specs.Objects.{object_view};
-ghost use Rattle.authdata.specs.Statements.{Statement, none_statement, packed_statement};
+ghost use Rattle.authdata.specs.Statements.{IsSelfSignedBy, Statement, none_statement, packed_statement};
 
 use crate::error::Error;
 use crate::object::AttestationObject;
@@ -44,6 +44,19 @@ fn packed_signature(statement: &Value, alg: Alg) -> Option<&[u8]>
     } else {
         None
     }
+}
+
+/// The signature by which an object attests this key itself: that of a `packed` statement of exactly `alg`, the key's
+/// algorithm number, and `sig` (WebAuthn section 8.2); none of any other statement. Whether it is valid is not looked at.
+pub fn self_signature<'a>(object: &'a AttestationObject, key: &CoseKey) -> Option<&'a [u8]>
+    ensures { MatchOption result
+        ((sig : List ℕ) → IsSelfSignedBy (object_view object.now) key.now sig → ⊥)
+        (λ sig. IsSelfSignedBy (object_view object.now) key.now sig.now) }
+{
+    if object.fmt.as_str() != "packed" {
+        return None;
+    }
+    packed_signature(&object.statement, key.alg())
 }
 
 /// How the object attests a credential of this key, given SHA-256 of the client data. It takes no

@@ -1,5 +1,5 @@
 -- Reading finds the key whose value the pairs are, and no other.
-use Rattle.std.proofs.Common.{◌≡◌, ℕ, cond, eqb, List, length, Option, Some, None, refl, ap, ◌∙◌, subst}
+use Rattle.std.proofs.Common.{◌≡◌, ℕ, cond, eqb, List, length, Some, None, refl, ap, ◌∙◌, subst}
 use Rattle.std.proofs.lemmas.Bool.{eqb-true, eq-eqb}
 use Rattle.std.proofs.lemmas.Option.{cond_some}
 use Rattle.ccbor.specs.Item.{Item, uint, nint, bytes, map, Pairs, no_pairs, pair}

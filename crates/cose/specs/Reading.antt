@@ -3,9 +3,18 @@
 use Rattle.std.specs.Prelude.{ℕ, List, length, Option, Some, None, ◌==◌, if◌then◌else◌}
 use Rattle.ccbor.specs.Item.{Item, uint, nint, Pairs}
 use Rattle.ccbor.specs.Reading.{◌>>=◌}
+use Rattle.ccbor.specs.View.{pairs_view}
+use Rattle.ccbor.specs.Viewing.{shown_pairs}
 use Rattle.ccbor.specs.Access.{split_key, is_same_key, is_end, bytes_in}
 use Rattle.cose.specs.declared.key.CoseKey.{CoseKey}
 use Rattle.cose.specs.declared.key.CoseKey.TheVariants as keys
+use Rattle.cose.specs.declared.reading.Members.{Members}
+use Rattle.cose.specs.declared.reading.Members.TheVariants as members
+
+-- the members, wherever they lie
+abbrev pub members_view : Members → Pairs
+members_view (members.Made pairs) = pairs_view pairs.now
+members_view (members.Lent pairs) = shown_pairs pairs
 
 unfoldable pub constant_at : Item → Item → Pairs → Option Pairs
 constant_at k v ps = do

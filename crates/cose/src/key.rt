@@ -1,11 +1,13 @@
 //! Public keys, and the CBOR value of each.
 
 ghost use Rattle.std.specs.Prelude.{◌≡◌, IfOk, IsErr};
+ghost use Rattle.ccbor.specs.Item.{map};
 ghost use Rattle.ccbor.specs.View.{view};
 ghost use Rattle.ccbor.specs.Viewing.{shown};
 ghost use Rattle.cose.specs.Keys.{alg_of, argument_of, number_of, x_of, KeyOf};
+ghost use Rattle.cose.specs.Reading.{members_view};
 
-use crate::{reading, viewing};
+use crate::reading::{Members, eddsa, es256};
 use ccbor::{Value, View};
 use std::alloc::{AllocError, Global};
 use thiserror::Error;
@@ -65,6 +67,20 @@ impl Alg {
     }
 }
 
+/// The key that has these members.
+fn key_of(members: &Members<'_>) -> Result<CoseKey, NotAKey>
+    ensures found { IfOk result (λ k. KeyOf k (map (members_view members.now))) }
+    ensures none { IsErr result → (k : CoseKey) → KeyOf k (map (members_view members.now)) → ⊥ }
+{
+    if let Some(key) = es256(members) {
+        return Ok(key);
+    }
+    match eddsa(members) {
+        Some(key) => Ok(key),
+        None => Err(NotAKey),
+    }
+}
+
 impl CoseKey {
     /// The key's algorithm.
     pub fn alg(&self) -> Alg
@@ -120,13 +136,7 @@ impl CoseKey {
         let Some(pairs) = value.as_map() else {
             return Err(NotAKey);
         };
-        if let Some(key) = reading::es256(pairs) {
-            return Ok(key);
-        }
-        match reading::eddsa(pairs) {
-            Some(key) => Ok(key),
-            None => Err(NotAKey),
-        }
+        key_of(&Members::Made(pairs))
     }
 
     /// The key that has this value, read where its encoding lies: as `from_value`.
@@ -138,12 +148,6 @@ impl CoseKey {
         let Some(pairs) = value.as_map() else {
             return Err(NotAKey);
         };
-        if let Some(key) = viewing::es256(&pairs) {
-            return Ok(key);
-        }
-        match viewing::eddsa(&pairs) {
-            Some(key) => Ok(key),
-            None => Err(NotAKey),
-        }
+        key_of(&Members::Lent(pairs))
     }
 }

@@ -8,10 +8,9 @@ mod law;
 mod list;
 mod reading;
 mod scheme;
-mod viewing;
 
 pub use bench::BenchScheme;
 pub use key::{Alg, CoseKey, NotAKey};
 pub use law::{one_key_each, sizes_of_keys};
-pub use list::ListScheme;
+pub use list::{ListScheme, is_joined};
 pub use scheme::{Signer, Verifier};

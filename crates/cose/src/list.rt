@@ -58,7 +58,7 @@ impl ListScheme {
 }
 
 /// Whether the text is these two parts, one after the other.
-fn is_joined(text: &[u8], first: &[u8], second: &[u8]) -> bool
+pub fn is_joined(text: &[u8], first: &[u8], second: &[u8]) -> bool
     ensures { IsTrue result ↔ (text.now ≡ first.now ++ second.now) }
 {
     match text.strip_prefix(first) {

@@ -2,7 +2,7 @@
 use Rattle.std.specs.Prelude.{find, ◌==◌}
 use Rattle.verification.specs.SignIn as sign_ins
 use Rattle.verification.specs.Registration as registrations
-use Rattle.std.proofs.Common.{◌≡◌, ◌<◌, ◌≤◌, ℕ, List, [], ◌∷◌, Option, Some, None, refl, ap, sym, ◌∙◌, arith}
+use Rattle.std.proofs.Common.{◌≡◌, ◌≤◌, ℕ, List, [], ◌∷◌, Option, Some, refl, ap, sym, ◌∙◌, arith}
 use Rattle.verification.specs.Numbers.{registration_number, sign_in_number}
 use Rattle.verification.specs.declared.refusal.RegistrationRefusal.{RegistrationRefusal}
 use Rattle.verification.specs.declared.refusal.RegistrationRefusal.TheVariants as registration

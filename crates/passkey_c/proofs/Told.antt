@@ -1,11 +1,19 @@
--- Which signature a response asks for, by its parts.
-use Rattle.std.proofs.Common.{◌≡◌, ◌++◌, ℕ, List, ap, subst, sym, ◌∙◌}
+-- Which signature a registration asks for, by its parts.
+use Rattle.std.proofs.Common.{◌≡◌, ◌++◌, ℕ, List, subst, sym}
 use Rattle.authdata.specs.declared.profile.Profile.{Profile}
+use Rattle.authdata.specs.Layout.{AuthOf}
 use Rattle.authdata.specs.Objects.{Attestation, ObjectOf}
 use Rattle.authdata.specs.Responses.{AuthenticatorAttestationResponse}
+use Rattle.authdata.specs.Statements.{IsSelfSignedBy}
+use Rattle.authdata.proofs.Objects.{one_object}
 use Rattle.cose.specs.declared.key.CoseKey.{CoseKey}
 use Rattle.verification.specs.Registration.{hash_in}
-use Rattle.passkey_c.specs.Asked.{Asks, AsksNothing, AttestsKey, IsNotSelfSigned, IsSelfSignedBy}
+use Rattle.passkey_c.specs.Asked.{Asks, AsksNothing, AttestsKey, AttestsNoKey, IsBroken, IsNotSelfSigned, IsSmall, IsUnread, SelfAsks, Tells, TellsAs}
+use Rattle.passkey_c.specs.declared.answers.Limit.{Limit}
+use Rattle.passkey_c.specs.declared.answers.Limit.TheVariants as limits
+use Rattle.passkey_c.specs.declared.asked.AskedSignature.{AskedSignature}
+use Rattle.passkey_c.specs.declared.parts.SignatureCall.{SignatureCall}
+use Rattle.passkey_c.specs.declared.parts.SignatureOut.{SignatureOut}
 
 pub asks_nothing : (p : Profile) (r : AuthenticatorAttestationResponse) (o : Attestation) (key : CoseKey) → ObjectOf o r.object → AttestsKey p o.auth_data key
     → IsNotSelfSigned o key → AsksNothing p r
@@ -17,15 +25,40 @@ asks_nothing p r o key spelled attests none = (
   subst (IsNotSelfSigned o) (sym attests.4) none,
 )
 
-pub asked_as : (p : Profile) (r : AuthenticatorAttestationResponse) (o : Attestation) (key : CoseKey) (found signature message : List ℕ) → ObjectOf o r.object
-    → AttestsKey p o.auth_data key → IsSelfSignedBy o key found → signature ≡ found → message ≡ o.auth_data ++ hash_in r
-    → Asks p r key message signature
-asked_as p r o key found signature message spelled attests signed same joined = (
+pub self_asks : (p : Profile) (r : AuthenticatorAttestationResponse) (o : Attestation) (key : CoseKey) (message signature : List ℕ) → ObjectOf o r.object
+    → AttestsKey p o.auth_data key → IsSelfSignedBy o key signature → message ≡ o.auth_data ++ hash_in r → SelfAsks p r key message signature
+self_asks p r o key message signature spelled attests signed joined = (
   o,
   attests.0,
   attests.1,
   record { object = spelled; auth_data = attests.2; attested = attests.3 },
   attests.4,
-  subst (λ k. IsSelfSignedBy o k signature) (sym attests.4) (subst (IsSelfSignedBy o key) (sym same) signed),
+  subst (λ k. IsSelfSignedBy o k signature) (sym attests.4) signed,
   joined,
 )
+
+pub is_unread : (p : Profile) (r : AuthenticatorAttestationResponse) (o : Attestation) → ObjectOf o r.object → AttestsNoKey p o.auth_data → IsUnread p r
+is_unread p r o spelled none = λ other a c attests.
+    let same : other ≡ o = one_object other o r.object attests.object spelled in
+    none a c (subst (λ (x : Attestation). AuthOf p a x.auth_data) same attests.auth_data) attests.attested
+
+-- what is told is what was asked
+pub tells : (call : SignatureCall) (out : SignatureOut) (message signature : List ℕ) (asked : AskedSignature)
+    → Asks call.is_registration call asked.key (asked.auth_data.now ++ asked.hash) asked.signature.now → TellsAs out message signature asked
+    → Tells call out message signature out.is_asked
+tells call out message signature asked asks told = rw (told.0, told.1, told.2, told.3) asks
+
+-- a room that is too small for it
+pub broken : (call : SignatureCall) (m s : ℕ) (asked : AskedSignature) (limit : Limit)
+    → Asks call.is_registration call asked.key (asked.auth_data.now ++ asked.hash) asked.signature.now → IsSmall m s asked limit → IsBroken call m s limit
+broken call m s asked limits.MessageRoom asks small = (asked.key, asked.auth_data.now ++ asked.hash, asked.signature.now, asks, small)
+broken call m s asked limits.SignatureRoom asks small = (asked.key, asked.auth_data.now ++ asked.hash, asked.signature.now, asks, small)
+broken call m s asked limits.RpId asks small = absurd small
+broken call m s asked limits.Origin asks small = absurd small
+broken call m s asked limits.Challenge asks small = absurd small
+broken call m s asked limits.KeyAlgorithm asks small = absurd small
+broken call m s asked limits.KeyX asks small = absurd small
+broken call m s asked limits.KeyY asks small = absurd small
+broken call m s asked limits.TripleAlgorithm asks small = absurd small
+broken call m s asked limits.TripleX asks small = absurd small
+broken call m s asked limits.TripleY asks small = absurd small

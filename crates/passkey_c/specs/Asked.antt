@@ -1,34 +1,36 @@
--- Which signature a host is to verify of a registration: that of self attestation (WebAuthn Level 2, section 8.2).
-use Rattle.std.specs.Prelude.{◌≡◌, ◌++◌, ◌<◌, ℕ, Bool, true, false, List, Option, Some, None, codes, length, take}
+-- Which signature a host is to verify: of a sign-in the response's own (WebAuthn Level 2, section 7.2, step 20), of a
+-- registration that of self attestation (section 8.2).
+use Rattle.std.specs.Prelude.{◌≡◌, ◌++◌, ◌<◌, ℕ, Bool, true, false, List, Some, length, take}
+use Rattle.sha2.specs.Sha256.{sha256}
 use Rattle.cose.specs.declared.key.CoseKey.{CoseKey}
-use Rattle.cose.specs.Keys.{alg_of}
 use Rattle.authdata.specs.declared.profile.Profile.{Profile}
 use Rattle.authdata.specs.Layout.{AttestedCredential, AuthenticatorData, AuthOf}
-use Rattle.authdata.specs.Objects.{Attestation, ObjectOf}
+use Rattle.authdata.specs.Objects.{Attestation}
 use Rattle.authdata.specs.Responses.{AuthenticatorAttestationResponse}
-use Rattle.authdata.specs.Statements.{packed_statement}
+use Rattle.authdata.specs.Statements.{IsSelfSignedBy}
 use Rattle.verification.specs.Registration.{Attests, hash_in}
+use Rattle.passkey_c.specs.declared.answers.Limit.{Limit}
+use Rattle.passkey_c.specs.declared.answers.Limit.TheVariants as limits
 use Rattle.passkey_c.specs.declared.asked.AskedSignature.{AskedSignature}
 use Rattle.passkey_c.specs.declared.asked.AskError.{AskError}
 use Rattle.passkey_c.specs.declared.asked.AskError.TheVariants as errors
+use Rattle.passkey_c.specs.declared.input.KeyLimit.TheVariants as key_limits
 use Rattle.passkey_c.specs.declared.parts.AttestationParts.{AttestationParts}
+use Rattle.passkey_c.specs.declared.parts.SignatureCall.{SignatureCall}
 use Rattle.passkey_c.specs.declared.parts.SignatureOut.{SignatureOut}
-use Rattle.passkey_c.specs.Parts.{alg_in, key_with}
+use Rattle.passkey_c.specs.Limits.{KeyKeeps}
+use Rattle.passkey_c.specs.Parts.{alg_in, key_of, key_with, profile_of}
 
 abbrev pub response_of : AttestationParts → AuthenticatorAttestationResponse
 response_of parts = record { object = parts.object.now; client_data = parts.client_data.now }
 
--- the statement is a signature by the credential's own key: alg is the key's algorithm, and sig this signature
-abbrev pub IsSelfSignedBy : Attestation → CoseKey → List ℕ → Type 0
-IsSelfSignedBy o key signature = (o.fmt ≡ codes "packed") × (o.statement ≡ packed_statement (alg_of key) signature)
-
 abbrev pub IsNotSelfSigned : Attestation → CoseKey → Type 0
 IsNotSelfSigned o key = (signature : List ℕ) → IsSelfSignedBy o key signature → ⊥
 
--- the response asks for this signature: of the authenticator data as they came, then the hash of the client data,
+-- a registration asks for this signature: of the authenticator data as they came, then the hash of the client data,
 -- under the key that they attest
-abbrev pub Asks : Profile → AuthenticatorAttestationResponse → CoseKey → List ℕ → List ℕ → Type 0
-Asks profile r key message signature =
+abbrev pub SelfAsks : Profile → AuthenticatorAttestationResponse → CoseKey → List ℕ → List ℕ → Type 0
+SelfAsks profile r key message signature =
     (o : Attestation) × (a : AuthenticatorData) × (c : AttestedCredential) × Attests profile r o a c
     × (c.key ≡ key) × IsSelfSignedBy o c.key signature × (message ≡ o.auth_data ++ hash_in r)
 
@@ -37,18 +39,48 @@ abbrev pub AsksNothing : Profile → AuthenticatorAttestationResponse → Type 0
 AsksNothing profile r =
     (o : Attestation) × (a : AuthenticatorData) × (c : AttestedCredential) × Attests profile r o a c × IsNotSelfSigned o c.key
 
-abbrev pub AsksAs : Profile → AuthenticatorAttestationResponse → Option AskedSignature → Type 0
-AsksAs profile r None = AsksNothing profile r
-AsksAs profile r (Some x) = Asks profile r x.key x.message.items x.signature.items
+-- it attests nothing
+abbrev pub IsUnread : Profile → AuthenticatorAttestationResponse → Type 0
+IsUnread profile r = (o : Attestation) (a : AuthenticatorData) (c : AttestedCredential) → Attests profile r o a c → ⊥
 
--- it attests nothing; want of memory says nothing
-abbrev pub IsUnread : Profile → AuthenticatorAttestationResponse → AskError → Type 0
-IsUnread profile r errors.Unreadable = (o : Attestation) (a : AuthenticatorData) (c : AttestedCredential) → Attests profile r o a c → ⊥
-IsUnread profile r errors.Memory = Unit {0}
+-- a sign-in asks for the response's signature, of the authenticator data as they came, then the hash of the client data,
+-- under the credential's key
+abbrev pub Asks : Bool → SignatureCall → CoseKey → List ℕ → List ℕ → Type 0
+Asks true call = SelfAsks (profile_of call.open_profile) (response_of call.registration)
+Asks false call = λ key message signature.
+    (key ≡ key_of call.key) × (message ≡ call.assertion.auth_data.now ++ sha256 call.assertion.client_data.now)
+    × (signature ≡ call.assertion.signature.now)
 
-abbrev pub IsNoObject : List ℕ → AskError → Type 0
-IsNoObject bs errors.Unreadable = (o : Attestation) → ObjectOf o bs → ⊥
-IsNoObject bs errors.Memory = Unit {0}
+-- what the host is told: this signature, or that there is none
+abbrev pub key_told : SignatureOut → CoseKey
+key_told out = key_with (alg_in out.algorithm) out.x out.y
+
+abbrev pub Tells : SignatureCall → SignatureOut → List ℕ → List ℕ → Bool → Type 0
+Tells call out message signature true =
+    Asks call.is_registration call (key_told out) (take out.message_length message) (take out.signature_length signature)
+Tells call out message signature false =
+    (call.is_registration ≡ true) × AsksNothing (profile_of call.open_profile) (response_of call.registration)
+
+-- the signature that is asked does not fit
+abbrev pub IsRoom : SignatureCall → (List ℕ → List ℕ → Type 0) → Type 0
+IsRoom call P = (key : CoseKey) × (message : List ℕ) × (signature : List ℕ) × Asks call.is_registration call key message signature × P message signature
+
+-- a limit that is not kept, with rooms of these lengths: of a sign-in's key, or of a room
+abbrev pub IsBroken : SignatureCall → ℕ → ℕ → Limit → Type 0
+IsBroken call m s limits.KeyAlgorithm = (call.is_registration ≡ false) × (KeyKeeps call.key key_limits.Algorithm → ⊥)
+IsBroken call m s limits.KeyX = (call.is_registration ≡ false) × (KeyKeeps call.key key_limits.X → ⊥)
+IsBroken call m s limits.KeyY = (call.is_registration ≡ false) × (KeyKeeps call.key key_limits.Y → ⊥)
+IsBroken call m s limits.MessageRoom = IsRoom call (λ message _. m < length message)
+IsBroken call m s limits.SignatureRoom = IsRoom call (λ _ signature. s < length signature)
+IsBroken call m s _ = ⊥
+
+-- why nothing is told: a registration attests nothing, or a limit is not kept; want of memory says nothing
+abbrev pub IsUntold : SignatureCall → ℕ → ℕ → AskError → Type 0
+IsUntold call m s errors.Unreadable = (call.is_registration ≡ true) × IsUnread (profile_of call.open_profile) (response_of call.registration)
+IsUntold call m s (errors.Limit limit) = IsBroken call m s limit
+IsUntold call m s errors.Memory = Unit {0}
+
+-- what private functions are proved against
 
 abbrev pub AttestsKey : Profile → List ℕ → CoseKey → Type 0
 AttestsKey profile bs key = (a : AuthenticatorData) × (c : AttestedCredential) × AuthOf profile a bs × (a.attested ≡ Some c) × (c.key ≡ key)
@@ -56,14 +88,12 @@ AttestsKey profile bs key = (a : AuthenticatorData) × (c : AttestedCredential) 
 abbrev pub AttestsNoKey : Profile → List ℕ → Type 0
 AttestsNoKey profile bs = (a : AuthenticatorData) (c : AttestedCredential) → AuthOf profile a bs → a.attested ≡ Some c → ⊥
 
--- what the host is told
-abbrev pub key_told : SignatureOut → CoseKey
-key_told out = key_with (alg_in out.algorithm) out.x out.y
+abbrev pub TellsAs : SignatureOut → List ℕ → List ℕ → AskedSignature → Type 0
+TellsAs out message signature asked =
+    (out.is_asked ≡ true) × (key_told out ≡ asked.key) × (take out.message_length message ≡ asked.auth_data.now ++ asked.hash)
+    × (take out.signature_length signature ≡ asked.signature.now)
 
-abbrev pub Tells : Profile → AuthenticatorAttestationResponse → SignatureOut → List ℕ → List ℕ → Bool → Type 0
-Tells profile r out message signature true = Asks profile r (key_told out) (take out.message_length message) (take out.signature_length signature)
-Tells profile r out message signature false = AsksNothing profile r
-
--- the signature that is asked of a response does not fit
-abbrev pub IsRoom : (CoseKey → List ℕ → List ℕ → Type 0) → Profile → AuthenticatorAttestationResponse → Type 0
-IsRoom P profile r = (key : CoseKey) × (message : List ℕ) × (signature : List ℕ) × Asks profile r key message signature × P key message signature
+abbrev pub IsSmall : ℕ → ℕ → AskedSignature → Limit → Type 0
+IsSmall m s asked limits.MessageRoom = m < length (asked.auth_data.now ++ asked.hash)
+IsSmall m s asked limits.SignatureRoom = s < length asked.signature.now
+IsSmall m s asked _ = ⊥

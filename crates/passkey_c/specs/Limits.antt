@@ -1,5 +1,5 @@
 -- The limits of what a host hands in.
-use Rattle.std.specs.Prelude.{◌≡◌, ℕ, Bool, true, false, List, [], ◌∷◌, ◌++◌, length}
+use Rattle.std.specs.Prelude.{◌≡◌, true, List, [], ◌∷◌, ◌++◌, length}
 use Rattle.std.specs.Str.{IsUtf8}
 use Rattle.refusal_order.specs.Lines.{Each}
 use Rattle.cose.specs.declared.key.Alg.TheVariants as algs

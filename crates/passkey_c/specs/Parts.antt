@@ -4,7 +4,7 @@ use Rattle.cose.specs.declared.key.Alg.{Alg}
 use Rattle.cose.specs.declared.key.Alg.TheVariants as algs
 use Rattle.cose.specs.declared.key.CoseKey.{CoseKey}
 use Rattle.cose.specs.declared.key.CoseKey.TheVariants as keys
-use Rattle.cose.specs.Keys.{alg_of, number_of}
+use Rattle.cose.specs.Keys.{number_of}
 use Rattle.cose.specs.Schemes.{Validity}
 use Rattle.authdata.specs.declared.profile.Profile.{Profile}
 use Rattle.authdata.specs.declared.profile.Profile.TheVariants.{Open, Strict}

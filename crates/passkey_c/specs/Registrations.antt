@@ -5,7 +5,7 @@ use Rattle.refusal_order.specs.Lines.{Each}
 use Rattle.cose.specs.Schemes.{Validity}
 use Rattle.verification.specs.Numbers.{registration_number}
 use Rattle.verification.specs.Records.{NewCredential}
-use Rattle.verification.specs.Registration.{JudgedRegistration, IsFirstFailing, PassesRegistration}
+use Rattle.verification.specs.Registration.{JudgedRegistration, IsFirstFailing}
 use Rattle.verification.specs.declared.refusal.RegistrationRefusal.{RegistrationRefusal}
 use Rattle.passkey_c.specs.declared.answers.InputFault.{InputFault}
 use Rattle.passkey_c.specs.declared.parts.RegistrationCall.{RegistrationCall}

@@ -2,8 +2,7 @@
 use Rattle.std.specs.Prelude.{◌≡◌, ◌⊎◌, ℕ}
 use Rattle.refusal_order.specs.Lines.{Each}
 use Rattle.cose.specs.Schemes.{Validity}
-use Rattle.verification.specs.SignIn.{JudgedSignIn, IsFirstFailing, PassesSignIn}
-use Rattle.verification.specs.SignInAnswers.{IsVerifiedSignIn}
+use Rattle.verification.specs.SignIn.{JudgedSignIn, IsFirstFailing}
 use Rattle.verification.specs.Numbers.{sign_in_number}
 use Rattle.verification.specs.declared.refusal.SignInRefusal.{SignInRefusal}
 use Rattle.verification.specs.declared.signing_in.VerifiedAssertion.{VerifiedAssertion}

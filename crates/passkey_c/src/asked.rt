@@ -1,71 +1,36 @@
 //! Which signature a host is to verify.
 
-ghost use Rattle.std.specs.Prelude.{◌≡◌, ◌≢◌, ◌<◌, ◌++◌, ℕ, List, IfErr, IfOk, MatchOption, length, take, true, ◌≤◌};
-ghost use Rattle.ccbor.specs.View.{view};
+ghost use Rattle.std.specs.Prelude.{◌≡◌, ◌≢◌, ◌+◌, ◌++◌, ◌≤◌, IfErr, MatchOption, OnErr, OnOk, false, length, take, true};
 ghost use Rattle.authdata.specs.Objects.{ObjectOf, object_view};
-ghost use Rattle.authdata.specs.Statements.{packed_statement};
-ghost use Rattle.passkey_c.specs.Asked.{AsksAs, Asks, AsksNothing, AttestsKey, AttestsNoKey, IsNoObject, IsNotSelfSigned, IsRoom};
-ghost use Rattle.passkey_c.specs.Asked.{IsSelfSignedBy, IsUnread, Tells, key_told, response_of};
+ghost use Rattle.passkey_c.specs.Asked.{AttestsKey, AttestsNoKey, IsBroken, IsSmall, IsUnread, IsUntold, Tells, TellsAs};
+ghost use Rattle.passkey_c.specs.Asked.{key_told, response_of};
+ghost use Rattle.passkey_c.specs.Numbers.{limit_number};
 ghost use Rattle.passkey_c.specs.Parts.{profile_of};
-ghost use Rattle.passkey_c.specs.declared.asked.AskError.TheVariants as errors;
+ghost use Rattle.passkey_c.specs.declared.answers.Limit.{Limit};
 
 use crate::answers::{ACCEPTED, Limit};
-use crate::input::profile_from;
-use crate::parts::{AttestationParts, SignatureOut};
-use authdata::{AttestationObject, Profile, read_view};
-use ccbor::{MapKey, Value, is_end, split_key};
+use crate::input::{KeyLimit, key_from, profile_from};
+use crate::parts::{SignatureCall, SignatureOut};
+use authdata::{AttestationObject, Profile, read_view, self_signature};
 use clientdata::hash;
-use cose::{Alg, CoseKey};
-use std::alloc::{AllocError, Global};
+use cose::CoseKey;
+use std::alloc::Global;
 
-/// A signature that is to be verified.
+/// A signature that is to be verified, of the authenticator data and then the hash of the client data.
 #[derive(Drop)]
-pub struct AskedSignature {
+pub struct AskedSignature<'a> {
     pub key: CoseKey,
-    pub message: Vec<u8>,
-    pub signature: Vec<u8>,
+    pub auth_data: &'a [u8],
+    pub hash: [u8; 32],
+    pub signature: &'a [u8],
 }
 
 /// Why it cannot be told.
 #[derive(Clone, Copy, Debug, PartialEq, Eq, Drop)]
 pub enum AskError {
     Unreadable,
+    Limit(Limit),
     Memory,
-}
-
-impl From<AllocError> for AskError {
-    ghost from_gives = { λ _ e. e ≡ errors.Memory };
-
-    fn from(_e: AllocError) -> AskError {
-        AskError::Memory
-    }
-}
-
-/// The signature of a packed statement of this algorithm.
-fn packed_signature(statement: &Value, alg: Alg) -> Option<&[u8]>
-    ensures { MatchOption result
-        ((sig : List ℕ) → view statement.now ≡ packed_statement alg sig → ⊥)
-        (λ sig. view statement.now ≡ packed_statement alg sig.now) }
-{
-    let members = statement.as_map()?;
-    let (number, members) = split_key(members, MapKey::Text("alg"))?;
-    let (sig, members) = split_key(members, MapKey::Text("sig"))?;
-    if number.is_key(MapKey::Nint(alg.argument())) && is_end(members) {
-        sig.as_bytes()
-    } else {
-        None
-    }
-}
-
-/// The signature of an object that attests a key by itself.
-fn self_signature<'a>(object: &'a AttestationObject, key: &CoseKey) -> Option<&'a [u8]>
-    ensures { MatchOption result (IsNotSelfSigned (object_view object.now) key.now)
-        (λ sig. IsSelfSignedBy (object_view object.now) key.now sig.now) }
-{
-    if object.fmt.as_str() != "packed" {
-        return None;
-    }
-    packed_signature(&object.statement, key.alg())
 }
 
 /// The public key that authenticator data attest.
@@ -81,68 +46,26 @@ fn attested_key(profile: Profile, auth_data: &[u8]) -> Option<CoseKey>
     }
 }
 
-/// The attestation object.
-fn object_of(alloc: Global, bytes: &[u8]) -> Result<AttestationObject, AskError>
-    ensures found { IfOk result (λ o. ObjectOf (object_view o) bytes.now) }
-    ensures refused { IfErr result (IsNoObject bytes.now) }
+/// Writes two parts, one after the other, to the front of a room.
+fn write_joined(room: &mut [u8], first: &[u8], second: &[u8; 32])
+    requires { length first.now + 32 ≤ length room.old }
+    ensures { take (length first.now + 32) room.new ≡ first.now ++ second.now }
 {
-    match AttestationObject::read(alloc, bytes) {
-        Ok(object) => Ok(object),
-        Err(authdata::Error::Memory) => Err(AskError::Memory),
-        Err(_) => Err(AskError::Unreadable),
-    }
+    let size = first.len();
+    let (whole, _) = room.split_at_mut(size + 32);
+    let (front, back) = whole.split_at_mut(size);
+    front.copy_from_slice(first);
+    back.copy_from_slice(second);
 }
 
-/// The two parts, one after the other.
-fn joined(alloc: Global, first: &[u8], second: &[u8]) -> Result<Vec<u8>, AllocError>
-    ensures { IfOk result (λ whole. whole.items ≡ first.now ++ second.now) }
-{
-    let mut whole = Vec::from_slice(alloc, first)?;
-    whole.extend_from_slice(second)?;
-    Ok(whole)
-}
-
-/// The signature that is asked of a response; none where it does not attest its key by itself.
-fn signature_asked(
-    alloc: Global,
-    profile: Profile,
-    response: &AttestationParts<'_>,
-) -> Result<Option<AskedSignature>, AskError>
-    ensures found { IfOk result (AsksAs profile (response_of response.now)) }
-    ensures refused { IfErr result (IsUnread profile (response_of response.now)) }
-{
-    let object = object_of(alloc, response.object)?;
-    let Some(key) = attested_key(profile, &object.auth_data) else {
-        return Err(AskError::Unreadable);
-    };
-    let Some(signature) = self_signature(&object, &key) else {
-        return Ok(None);
-    };
-    let signature = Vec::from_slice(alloc, signature)?;
-    let message = joined(alloc, &object.auth_data, &hash(response.client_data))?;
-    Ok(Some(AskedSignature {
-        key,
-        message,
-        signature,
-    }))
-}
-
-/// Tells the signature that is asked, where there is room for it.
-fn tell(asked: &AskedSignature, message: &mut [u8], signature: &mut [u8], out: &mut SignatureOut)
-    requires message { length asked.now.message.items ≤ length message.old }
-    requires signature { length asked.now.signature.items ≤ length signature.old }
+/// Tells the key.
+fn tell_key(key: &CoseKey, out: &mut SignatureOut)
+    ensures key { key_told out.new ≡ key.now }
+    ensures message { out.new.message_length ≡ out.old.message_length }
+    ensures signature { out.new.signature_length ≡ out.old.signature_length }
     ensures is { out.new.is_asked ≡ true }
-    ensures key { key_told out.new ≡ asked.now.key }
-    ensures message { take out.new.message_length message.new ≡ asked.now.message.items }
-    ensures signature { take out.new.signature_length signature.new ≡ asked.now.signature.items }
 {
-    let size = asked.message.len();
-    message[..size].copy_from_slice(&asked.message);
-    out.message_length = size;
-    let size = asked.signature.len();
-    signature[..size].copy_from_slice(&asked.signature);
-    out.signature_length = size;
-    match &asked.key {
+    match key {
         CoseKey::Es256 { x, y } => {
             out.algorithm = -7;
             out.x = *x;
@@ -157,38 +80,145 @@ fn tell(asked: &AskedSignature, message: &mut [u8], signature: &mut [u8], out: &
     out.is_asked = true;
 }
 
-/// Tells which signature the host is to verify of a registration: 0 where it is told, or that there is none; 7 where
-/// the response attests nothing; 110 or 111 where a room is too small; 127 where there was no memory.
-#[unsafe(no_mangle)]
-pub extern "C" fn passkey_registration_asked(
+/// Tells the signature that is asked, where there is room for it.
+fn tell(
+    asked: &AskedSignature<'_>,
+    message: &mut [u8],
+    signature: &mut [u8],
+    out: &mut SignatureOut,
+) -> Result<(), Limit>
+    ensures told { OnOk result (TellsAs out.new message.new signature.new asked.now) }
+    ensures refused { IfErr result (IsSmall (length message.old) (length signature.old) asked.now) }
+    ensures untouched { OnErr result ((out.new ≡ out.old) × (message.new ≡ message.old) × (signature.new ≡ signature.old)) }
+{
+    let front = asked.auth_data.len();
+    if message.len() < 32 || message.len() - 32 < front {
+        return Err(Limit::MessageRoom);
+    }
+    let size = asked.signature.len();
+    if signature.len() < size {
+        return Err(Limit::SignatureRoom);
+    }
+    write_joined(message, asked.auth_data, &asked.hash);
+    out.message_length = front + 32;
+    signature[..size].copy_from_slice(asked.signature);
+    out.signature_length = size;
+    tell_key(&asked.key, out);
+    Ok(())
+}
+
+/// Tells the signature that an object asks for, or that it asks for none.
+fn tell_object(
+    call: &SignatureCall<'_>,
+    object: &AttestationObject,
+    message: &mut [u8],
+    signature: &mut [u8],
+    out: &mut SignatureOut,
+) -> Result<(), AskError>
+    requires registration { call.now.is_registration ≡ true }
+    requires object { ObjectOf (object_view object.now) call.now.registration.object.now }
+    ensures told { OnOk result (Tells call.now out.new message.new signature.new out.new.is_asked) }
+    ensures refused { IfErr result (IsUntold call.now (length message.old) (length signature.old)) }
+    ensures untouched { OnErr result ((out.new ≡ out.old) × (message.new ≡ message.old) × (signature.new ≡ signature.old)) }
+{
+    let Some(key) = attested_key(profile_from(call.open_profile), &object.auth_data) else {
+        return Err(AskError::Unreadable);
+    };
+    let Some(self_signature) = self_signature(object, &key) else {
+        out.is_asked = false;
+        return Ok(());
+    };
+    let asked = AskedSignature {
+        key,
+        auth_data: &object.auth_data,
+        hash: hash(call.registration.client_data),
+        signature: self_signature,
+    };
+    match tell(&asked, message, signature, out) {
+        Ok(()) => Ok(()),
+        Err(limit) => Err(AskError::Limit(limit)),
+    }
+}
+
+/// Tells the signature that a registration asks for, or that it asks for none.
+fn tell_registration(
     alloc: Global,
-    open_profile: bool,
-    response: &AttestationParts<'_>,
+    call: &SignatureCall<'_>,
+    message: &mut [u8],
+    signature: &mut [u8],
+    out: &mut SignatureOut,
+) -> Result<(), AskError>
+    requires { call.now.is_registration ≡ true }
+    ensures told { OnOk result (Tells call.now out.new message.new signature.new out.new.is_asked) }
+    ensures refused { IfErr result (IsUntold call.now (length message.old) (length signature.old)) }
+    ensures untouched { OnErr result ((out.new ≡ out.old) × (message.new ≡ message.old) × (signature.new ≡ signature.old)) }
+{
+    match AttestationObject::read(alloc, call.registration.object) {
+        Ok(object) => tell_object(call, &object, message, signature, out),
+        Err(authdata::Error::Memory) => Err(AskError::Memory),
+        Err(_) => Err(AskError::Unreadable),
+    }
+}
+
+/// Tells the signature that a sign-in asks for.
+fn tell_sign_in(
+    call: &SignatureCall<'_>,
+    message: &mut [u8],
+    signature: &mut [u8],
+    out: &mut SignatureOut,
+) -> Result<(), Limit>
+    requires { call.now.is_registration ≡ false }
+    ensures told { OnOk result (Tells call.now out.new message.new signature.new out.new.is_asked) }
+    ensures refused { IfErr result (IsBroken call.now (length message.old) (length signature.old)) }
+    ensures untouched { OnErr result ((out.new ≡ out.old) × (message.new ≡ message.old) × (signature.new ≡ signature.old)) }
+{
+    match key_from(&call.key) {
+        Ok(key) => {
+            let asked = AskedSignature {
+                key,
+                auth_data: call.assertion.auth_data,
+                hash: hash(call.assertion.client_data),
+                signature: call.assertion.signature,
+            };
+            match tell(&asked, message, signature, out) {
+                Ok(()) => Ok(()),
+                Err(limit) => Err(limit),
+            }
+        }
+        Err(KeyLimit::Algorithm) => Err(Limit::KeyAlgorithm),
+        Err(KeyLimit::X) => Err(Limit::KeyX),
+        Err(KeyLimit::Y) => Err(Limit::KeyY),
+    }
+}
+
+/// Tells which signature the host is to verify: 0 where it is told, or that there is none; 7 where a registration attests
+/// nothing; 104 to 106 where a sign-in's key is out of its limits; 110 or 111 where a room is too small; 127 where there
+/// was no memory.
+#[unsafe(no_mangle)]
+pub extern "C" fn passkey_signature_asked(
+    alloc: Global,
+    call: &SignatureCall<'_>,
     message: &mut [u8],
     signature: &mut [u8],
     out: &mut SignatureOut,
 ) -> u32
-    ensures told { result ≡ 0 → Tells (profile_of open_profile) (response_of response.now) out.new message.new signature.new out.new.is_asked }
-    ensures unread { result ≡ 7 → IsUnread (profile_of open_profile) (response_of response.now) errors.Unreadable }
-    ensures message_room { result ≡ 110 → IsRoom (λ key message' signature'. length message.old < length message') (profile_of open_profile) (response_of response.now) }
-    ensures signature_room { result ≡ 111 → IsRoom (λ key message' signature'. length signature.old < length signature') (profile_of open_profile) (response_of response.now) }
+    ensures told { result ≡ 0 → Tells call.now out.new message.new signature.new out.new.is_asked }
+    ensures unread { result ≡ 7 → (call.now.is_registration ≡ true) × IsUnread (profile_of call.now.open_profile) (response_of call.now.registration) }
+    ensures limit { (limit : Limit) → result ≡ limit_number limit → IsBroken call.now (length message.old) (length signature.old) limit }
     ensures untouched { result ≢ 0 → (out.new ≡ out.old) × (message.new ≡ message.old) × (signature.new ≡ signature.old) }
 {
-    let asked = match signature_asked(alloc, profile_from(open_profile), response) {
-        Ok(Some(asked)) => asked,
-        Ok(None) => {
-            out.is_asked = false;
-            return ACCEPTED;
+    let told = if call.is_registration {
+        tell_registration(alloc, call, message, signature, out)
+    } else {
+        match tell_sign_in(call, message, signature, out) {
+            Ok(()) => Ok(()),
+            Err(limit) => Err(AskError::Limit(limit)),
         }
-        Err(AskError::Unreadable) => return 7,
-        Err(AskError::Memory) => return 127,
     };
-    if asked.message.len() > message.len() {
-        return Limit::MessageRoom.number();
+    match told {
+        Ok(()) => ACCEPTED,
+        Err(AskError::Unreadable) => 7,
+        Err(AskError::Limit(limit)) => limit.number(),
+        Err(AskError::Memory) => 127,
     }
-    if asked.signature.len() > signature.len() {
-        return Limit::SignatureRoom.number();
-    }
-    tell(&asked, message, signature, out);
-    ACCEPTED
 }

@@ -207,6 +207,22 @@ pub struct RegistrationOut {
     pub eligible: bool,
 }
 
+/// A response whose signature is to be verified.
+#[repr(C)]
+#[derive(Clone, Copy, Drop)]
+pub struct SignatureCall<'a> {
+    /// Whether it answers a registration; else a sign-in.
+    pub is_registration: bool,
+    /// Of a registration: whether the response is read by the open profile; else by the strict one.
+    pub open_profile: bool,
+    /// Of a registration: the client's answer.
+    pub registration: AttestationParts<'a>,
+    /// Of a sign-in: the client's answer.
+    pub assertion: AnswerParts<'a>,
+    /// Of a sign-in: the public key of the credential.
+    pub key: KeyParts<'a>,
+}
+
 /// Which signature the host is to verify.
 #[repr(C)]
 #[derive(Drop)]

@@ -1,15 +1,14 @@
 //! Challenges, canonical CBOR, texts and the version.
 
-ghost use Rattle.std.specs.Prelude.{◌≡◌, ◌↔◌, ◌≤◌, ◌+◌, ◌++◌, IsTrue, length, true, false};
+ghost use Rattle.std.specs.Prelude.{◌≡◌, ◌↔◌, ◌≤◌, ◌++◌, IsTrue, length, true, false};
 ghost use Rattle.std.specs.Int.{to_be_bytes, w64};
-ghost use Rattle.sha2.specs.Sha256.{sha256};
 ghost use Rattle.ccbor.specs.Canon.{Canon};
 ghost use Rattle.ccbor.specs.Item.{Item};
 ghost use Rattle.clientdata.specs.Serialised.{challenge_text_of};
 
 use crate::answers::Limit;
 use ccbor::View;
-use clientdata::{challenge_text, hash};
+use clientdata::challenge_text;
 use std::alloc::{AllocError, Global};
 use verification::{RegistrationRefusal, SignInRefusal};
 
@@ -30,27 +29,6 @@ pub extern "C" fn passkey_is_canonical(bytes: &[u8]) -> bool
         Ok(_) => true,
         Err(_) => false,
     }
-}
-
-/// Writes the message of a sign-in's signature: the authenticator data, then the hash of the client data. The room
-/// must have as many bytes; else nothing is written.
-#[unsafe(no_mangle)]
-pub extern "C" fn passkey_assertion_message(
-    auth_data: &[u8],
-    client_data: &[u8],
-    message: &mut [u8],
-) -> bool
-    ensures fits { IsTrue result ↔ (length message.old ≡ length auth_data.now + 32) }
-    ensures written { result ≡ true → message.new ≡ auth_data.now ++ sha256 client_data.now }
-    ensures untouched { result ≡ false → message.new ≡ message.old }
-{
-    if auth_data.len() > message.len() || message.len() - auth_data.len() != 32 {
-        return false;
-    }
-    let (front, back) = message.split_at_mut(auth_data.len());
-    front.copy_from_slice(auth_data);
-    back.copy_from_slice(&hash(client_data));
-    true
 }
 
 /// Makes a challenge: the session's number in 8 big-endian bytes, then 24 random bytes.
@@ -90,46 +68,6 @@ pub extern "C" fn passkey_challenge_text(alloc: Global, challenge: &[u8], text: 
     true
 }
 
-/// Each step of a sign-in.
-const SIGN_IN_STEPS: [SignInRefusal; 16] = [
-    SignInRefusal::SessionNotOpen,
-    SignInRefusal::CredentialNotAllowed,
-    SignInRefusal::UnknownCredential,
-    SignInRefusal::OtherUser,
-    SignInRefusal::UnreadableClientData,
-    SignInRefusal::WrongType,
-    SignInRefusal::WrongChallenge,
-    SignInRefusal::WrongOrigin,
-    SignInRefusal::TokenBinding,
-    SignInRefusal::BadAuthenticatorData,
-    SignInRefusal::WrongRelyingParty,
-    SignInRefusal::UserNotPresent,
-    SignInRefusal::UserNotVerified,
-    SignInRefusal::BadSignature,
-    SignInRefusal::CounterNotGreater,
-    SignInRefusal::EligibilityChanged,
-];
-
-/// Each step of a registration.
-const REGISTRATION_STEPS: [RegistrationRefusal; 16] = [
-    RegistrationRefusal::SessionNotOpen,
-    RegistrationRefusal::UnreadableClientData,
-    RegistrationRefusal::WrongType,
-    RegistrationRefusal::WrongChallenge,
-    RegistrationRefusal::WrongOrigin,
-    RegistrationRefusal::TokenBinding,
-    RegistrationRefusal::BadAttestationObject,
-    RegistrationRefusal::WrongRelyingParty,
-    RegistrationRefusal::UserNotPresent,
-    RegistrationRefusal::UserNotVerified,
-    RegistrationRefusal::AlgorithmNotOffered,
-    RegistrationRefusal::UnknownFormat,
-    RegistrationRefusal::BadStatement,
-    RegistrationRefusal::AttestationNotAccepted,
-    RegistrationRefusal::CredentialRegistered,
-    RegistrationRefusal::TableFull,
-];
-
 /// Each limit.
 const LIMITS: [Limit; 11] = [
     Limit::RpId,
@@ -145,22 +83,14 @@ const LIMITS: [Limit; 11] = [
     Limit::SignatureRoom,
 ];
 
-/// The text of a step of a sign-in; empty where none has this number.
-fn sign_in_text(alloc: Global, answer: u32) -> Result<String, AllocError> {
-    for step in SIGN_IN_STEPS {
-        if u32::from(step.number()) == answer {
+/// The text of a step; empty where none has this number.
+fn step_text(alloc: Global, is_registration: bool, number: u8) -> Result<String, AllocError> {
+    if is_registration {
+        if let Some(step) = RegistrationRefusal::from_number(number) {
             return format!(in alloc; "{step}");
         }
-    }
-    Ok(String::new(alloc))
-}
-
-/// The text of a step of a registration; empty where none has this number.
-fn registration_text(alloc: Global, answer: u32) -> Result<String, AllocError> {
-    for step in REGISTRATION_STEPS {
-        if u32::from(step.number()) == answer {
-            return format!(in alloc; "{step}");
-        }
+    } else if let Some(step) = SignInRefusal::from_number(number) {
+        return format!(in alloc; "{step}");
     }
     Ok(String::new(alloc))
 }
@@ -190,12 +120,9 @@ pub extern "C" fn passkey_refusal_text(
 ) -> usize
     ensures { result ≤ length text.old }
 {
-    let found = if answer == 0 || answer >= 100 {
-        other_text(alloc, answer)
-    } else if is_registration {
-        registration_text(alloc, answer)
-    } else {
-        sign_in_text(alloc, answer)
+    let found = match u8::try_from(answer) {
+        Ok(number) if 1 <= number && number <= 16 => step_text(alloc, is_registration, number),
+        _ => other_text(alloc, answer),
     };
     let Ok(found) = found else {
         return 0;

@@ -1,13 +1,13 @@
 //! The verifier of one signature.
 
-ghost use Rattle.std.specs.Prelude.{◌≡◌, ◌↔◌, ◌++◌, IfErr, IfOk, IsTrue, OnOk, true};
+ghost use Rattle.std.specs.Prelude.{◌≡◌, IfErr, IfOk, OnOk, true};
 ghost use Rattle.refusal_order.specs.Lines.{Each};
 ghost use Rattle.passkey_c.specs.Limits.{KeyKeeps, key_order};
 ghost use Rattle.passkey_c.specs.Parts.{given, key_of};
 
 use crate::input::{KeyLimit, key_from};
 use crate::parts::TripleParts;
-use cose::{CoseKey, Verifier};
+use cose::{CoseKey, Verifier, is_joined};
 
 /// A verifier to which one signature is valid, the one that the host verified, or none.
 #[derive(Drop)]
@@ -16,16 +16,6 @@ pub(crate) struct OneTriple<'a> {
     pub(crate) parts: TripleParts<'a>,
     pub(crate) key: Option<CoseKey>,
     ghost is_key: { key ≡ given has_triple (key_of parts.key) },
-}
-
-/// Whether the text is these two parts, one after the other.
-fn is_joined(text: &[u8], first: &[u8], second: &[u8]) -> bool
-    ensures { IsTrue result ↔ (text.now ≡ first.now ++ second.now) }
-{
-    match text.strip_prefix(first) {
-        Some(back) => back == second,
-        None => false,
-    }
 }
 
 impl Verifier for OneTriple<'_> {

@@ -8,6 +8,7 @@ mod honest;
 mod kept;
 mod limits;
 mod lists;
+mod malformed;
 mod open_profile;
 mod packets;
 mod random;

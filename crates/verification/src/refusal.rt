@@ -1,7 +1,9 @@
 //! Why a response is refused.
 
-ghost use Rattle.std.specs.Prelude.{◌≡◌};
+ghost use Rattle.std.specs.Prelude.{◌≡◌, ◌≢◌, MatchOption};
 ghost use Rattle.verification.specs.Numbers.{sign_in_number, registration_number};
+ghost use Rattle.verification.specs.declared.refusal.RegistrationRefusal.{RegistrationRefusal};
+ghost use Rattle.verification.specs.declared.refusal.SignInRefusal.{SignInRefusal};
 ghost use Rattle.verification.specs.declared.refusal.SignInError.TheVariants as sign_ins;
 ghost use Rattle.verification.specs.declared.refusal.RegistrationError.TheVariants as registrations;
 
@@ -87,6 +89,31 @@ impl SignInRefusal {
             SignInRefusal::EligibilityChanged => 16,
         }
     }
+
+    /// The step of this number: 1 to 16.
+    pub fn from_number(number: u8) -> Option<SignInRefusal>
+        ensures { MatchOption result ((step : SignInRefusal) → sign_in_number step ≢ number) (λ step. sign_in_number step ≡ number) }
+    {
+        match number {
+            1 => Some(SignInRefusal::SessionNotOpen),
+            2 => Some(SignInRefusal::CredentialNotAllowed),
+            3 => Some(SignInRefusal::UnknownCredential),
+            4 => Some(SignInRefusal::OtherUser),
+            5 => Some(SignInRefusal::UnreadableClientData),
+            6 => Some(SignInRefusal::WrongType),
+            7 => Some(SignInRefusal::WrongChallenge),
+            8 => Some(SignInRefusal::WrongOrigin),
+            9 => Some(SignInRefusal::TokenBinding),
+            10 => Some(SignInRefusal::BadAuthenticatorData),
+            11 => Some(SignInRefusal::WrongRelyingParty),
+            12 => Some(SignInRefusal::UserNotPresent),
+            13 => Some(SignInRefusal::UserNotVerified),
+            14 => Some(SignInRefusal::BadSignature),
+            15 => Some(SignInRefusal::CounterNotGreater),
+            16 => Some(SignInRefusal::EligibilityChanged),
+            _ => None,
+        }
+    }
 }
 
 /// The step of section 7.1 at which a registration is refused, the first that fails. The program prints `G`
@@ -166,6 +193,31 @@ impl RegistrationRefusal {
             RegistrationRefusal::AttestationNotAccepted => 14,
             RegistrationRefusal::CredentialRegistered => 15,
             RegistrationRefusal::TableFull => 16,
+        }
+    }
+
+    /// The step of this number: 1 to 16.
+    pub fn from_number(number: u8) -> Option<RegistrationRefusal>
+        ensures { MatchOption result ((step : RegistrationRefusal) → registration_number step ≢ number) (λ step. registration_number step ≡ number) }
+    {
+        match number {
+            1 => Some(RegistrationRefusal::SessionNotOpen),
+            2 => Some(RegistrationRefusal::UnreadableClientData),
+            3 => Some(RegistrationRefusal::WrongType),
+            4 => Some(RegistrationRefusal::WrongChallenge),
+            5 => Some(RegistrationRefusal::WrongOrigin),
+            6 => Some(RegistrationRefusal::TokenBinding),
+            7 => Some(RegistrationRefusal::BadAttestationObject),
+            8 => Some(RegistrationRefusal::WrongRelyingParty),
+            9 => Some(RegistrationRefusal::UserNotPresent),
+            10 => Some(RegistrationRefusal::UserNotVerified),
+            11 => Some(RegistrationRefusal::AlgorithmNotOffered),
+            12 => Some(RegistrationRefusal::UnknownFormat),
+            13 => Some(RegistrationRefusal::BadStatement),
+            14 => Some(RegistrationRefusal::AttestationNotAccepted),
+            15 => Some(RegistrationRefusal::CredentialRegistered),
+            16 => Some(RegistrationRefusal::TableFull),
+            _ => None,
         }
     }
 }

@@ -70,7 +70,7 @@ const REGISTRATIONS: Table = r#"0 0 format=packed secret=7
 6 6 rest=,"tokenBinding":{"status":"present"}"#;
 
 /// The challenge of session 1.
-fn challenge() -> [u8; 32] {
+pub(super) fn challenge() -> [u8; 32] {
     let mut challenge = [0; 32];
     challenge[7] = 1;
     challenge

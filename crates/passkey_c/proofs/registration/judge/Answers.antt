@@ -1,5 +1,5 @@
 -- What is owed of `judge`.
-use Rattle.std.proofs.Common.{◌≡◌, ◌∙◌, ap, refl, subst, sym}
+use Rattle.std.proofs.Common.{◌∙◌, ap, refl, subst, sym}
 use Rattle.verification.specs.RegistrationAnswers.{IsVerifiedRegistration}
 use Rattle.passkey_c.specs.Registrations.{judged_registration, registration_validity}
 use Rattle.passkey_c.proofs.Moved.{all_pass, table_fails}
