@@ -14,6 +14,7 @@ use Rattle.ctap_replies.specs.Replies.{Assertion, Creation, ReplyOf, assertion_r
 use Rattle.verification.specs.SignIn as authentication
 use Rattle.verification.specs.Registration as registration
 use Rattle.ceremony_sessions.specs.Sessions.{Expected, Opening, OpensRegistration, OpensSignIn, expected_of}
+use Rattle.saved_table.specs.Saved.{version_of}
 use Rattle.site.specs.State.{IsAfterRegistration, IsAfterSignIn, SiteState, judged_sign_in, judged_registration, none_open}
 use Rattle.site.specs.Laws.{IsFresh, Keeps, Takes, after_begin, after_restart, challenge_in}
 use Rattle.site.proofs.Goings.{begun_or, still}
@@ -171,7 +172,7 @@ module _ (valid : Validity) (public : Keys) (b : Below valid public) where
 
   loaded : (s t : SiteState) → Loads s t → t ≡ after_restart s
   loaded s t l =
-      let same = b.sites.one_saved s t 3 l.version l.bytes l.saved l.loaded in
+      let same = b.sites.one_saved s t (version_of s.rows) l.version l.bytes l.saved l.loaded in
       let rp = l.rp in
       let policy = l.policy in
       let rows = same.0 in

@@ -10,7 +10,7 @@ use Rattle.authdata.specs.Responses as responses
 use Rattle.ctap_replies.specs.Replies as replies
 use Rattle.verification.specs.SignIn as authentication
 use Rattle.verification.specs.Registration as registration
-use Rattle.saved_table.specs.Saved.{TableOf}
+use Rattle.saved_table.specs.Saved.{TableOf, version_of}
 use Rattle.ceremony_sessions.specs.Sessions.{Opening, OpensRegistration, OpensSignIn}
 use Rattle.site.specs.State as site
 use Rattle.site.specs.State.{IsAfterRegistration, IsAfterSignIn, judged_sign_in, judged_registration, none_open, saved_of}
@@ -62,7 +62,7 @@ words_of (OpensRegistration user algorithms uv words) = words
 -- what is loaded of what was saved, for the same relying party
 pub record Loads (s t : site.SiteState) : Type 0 where
   pub bytes : List ℕ
-  pub saved : TableOf 3 (saved_of s) bytes
+  pub saved : TableOf (version_of s.rows) (saved_of s) bytes
   pub version : ℕ
   pub loaded : TableOf version (saved_of t) bytes
   pub rp : t.rp ≡ s.rp

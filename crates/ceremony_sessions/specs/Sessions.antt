@@ -8,6 +8,8 @@ use Rattle.std.specs.Ordering.{nat_cmp}
 use Rattle.std.specs.FinMap as finite
 use Rattle.refusal_order.specs.Lines.{Each, FirstFailing}
 use Rattle.cose.specs.declared.key.Alg.{Alg}
+use Rattle.authdata.specs.declared.profile.Profile.{Profile}
+use Rattle.authdata.specs.Profiles.{max_id}
 use Rattle.verification.specs.Records.{ExpectedSignIn, ExpectedRegistration}
 use Rattle.credential_table.specs.Table.{IsWithin}
 use Rattle.ceremony_sessions.specs.declared.error.Error.{Error}
@@ -74,27 +76,28 @@ closed n s = record s { expected = finite.remove s.expected n }
 
 -- ---- what may begin
 
--- user handles and credential ids have 1 to 64 bytes; at most 8 credentials may answer; an algorithm is offered
-abbrev pub IsInput : Opening → Type 0
-IsInput (OpensSignIn user allow uv words) =
-    ForSome user (IsWithin 64) × (length allow ≤ 8) × AllByRecursion (IsWithin 64) allow
-IsInput (OpensRegistration user algorithms uv words) = IsWithin 64 user × (1 ≤ length algorithms)
+-- user handles have 1 to 64 bytes, and credential ids 1 to those of the profile; at most 8 credentials may answer;
+-- an algorithm is offered
+abbrev pub IsInput : Profile → Opening → Type 0
+IsInput profile (OpensSignIn user allow uv words) =
+    ForSome user (IsWithin 64) × (length allow ≤ 8) × AllByRecursion (IsWithin (max_id profile)) allow
+IsInput profile (OpensRegistration user algorithms uv words) = IsWithin 64 user × (1 ≤ length algorithms)
 
 -- there is no reason to refuse it: what is asked is within its limits; fewer than 1,024 sessions are open; the
 -- next number is not the last
-abbrev pub PassesOpeningStep : OpenSessions → Opening → Error → Type 0
-PassesOpeningStep s o errors.BadInput = IsInput o
-PassesOpeningStep s o errors.SessionsFull = finite.len s.expected < 1024
-PassesOpeningStep s o errors.Exhausted = s.next < 2 ^ 64 - 1
-PassesOpeningStep s o errors.Memory = Unit {0}
+abbrev pub PassesOpeningStep : Profile → OpenSessions → Opening → Error → Type 0
+PassesOpeningStep profile s o errors.BadInput = IsInput profile o
+PassesOpeningStep profile s o errors.SessionsFull = finite.len s.expected < 1024
+PassesOpeningStep profile s o errors.Exhausted = s.next < 2 ^ 64 - 1
+PassesOpeningStep profile s o errors.Memory = Unit {0}
 
 abbrev pub refusals_in_order : List Error
 refusals_in_order = errors.BadInput ∷ errors.SessionsFull ∷ errors.Exhausted ∷ []
 
-abbrev pub PassesOpening : OpenSessions → Opening → Type 0
-PassesOpening s o = Each (PassesOpeningStep s o) refusals_in_order
+abbrev pub PassesOpening : Profile → OpenSessions → Opening → Type 0
+PassesOpening profile s o = Each (PassesOpeningStep profile s o) refusals_in_order
 
 -- the first reason is named; want of memory says nothing
-abbrev pub IsRefused : OpenSessions → Opening → Error → Type 0
-IsRefused s o errors.Memory = Unit {0}
-IsRefused s o e = FirstFailing (PassesOpeningStep s o) refusals_in_order e
+abbrev pub IsRefused : Profile → OpenSessions → Opening → Error → Type 0
+IsRefused profile s o errors.Memory = Unit {0}
+IsRefused profile s o e = FirstFailing (PassesOpeningStep profile s o) refusals_in_order e

@@ -9,8 +9,8 @@ use std::alloc::{AllocError, AllocFailed};
 /// Why no session begins; the first of these that applies.
 #[derive(Clone, Copy, Debug, PartialEq, Eq, Drop, thiserror::Error)]
 pub enum Error {
-    /// 27: a user handle or a credential id is not of 1 to 64 bytes, more than 8 credentials are listed, or no
-    /// algorithm is offered.
+    /// 27: a user handle is not of 1 to 64 bytes, a credential id not of 1 byte to those of the profile, more than 8
+    /// credentials are listed, or no algorithm is offered.
     #[error("what is asked is not within its limits")]
     BadInput,
     /// 21: 1,024 sessions are open.

@@ -5,6 +5,8 @@ ghost use Rattle.std.specs.Prelude.{option_map, ℕ, List, Bool, ◌+◌};
 ghost use Rattle.std.specs.FinMap as finite;
 ghost use Rattle.std.specs.List.{AllByRecursion};
 ghost use Rattle.std.specs.Option.{ForSome};
+ghost use Rattle.authdata.specs.declared.profile.Profile.{Profile as IdProfile};
+ghost use Rattle.authdata.specs.Profiles.{max_id};
 ghost use Rattle.credential_table.specs.Table.{IsWithin};
 ghost use Rattle.verification.specs.Views.{registration_view, sign_in_view};
 ghost use Rattle.ceremony_sessions.specs.Sessions.{AreLimits, Opening, OpensRegistration, OpensSignIn, IsInput, IsRefused, PassesOpeningStep};
@@ -14,9 +16,10 @@ ghost use Rattle.ceremony_sessions.specs.declared.error.Error.TheVariants as err
 
 use crate::error::Error;
 use crate::session::Session;
+use authdata::Profile;
 use byteorder::{BigEndian, ByteOrder};
 use cose::Alg;
-use credential_table::{MAX_ID, MAX_USER, is_within};
+use credential_table::{MAX_USER, is_within};
 use std::alloc::{AllocError, Global};
 use std::collections::BTreeMap;
 use std::marker::Model;
@@ -72,12 +75,13 @@ fn challenge_with(number: u64, words: &[u8; 24]) -> [u8; 32]
     challenge
 }
 
-/// Whether each id has 1 to 64 bytes.
-fn are_ids(ids: &[&[u8]]) -> bool
-    ensures { IsTrue result ↔ AllByRecursion (IsWithin 64) (map (λ id. id.now) ids.now) }
+/// Whether each id has 1 byte to those of the profile.
+fn are_ids(profile: Profile, ids: &[&[u8]]) -> bool
+    ensures { IsTrue result ↔ AllByRecursion (IsWithin (max_id profile)) (map (λ id. id.now) ids.now) }
 {
+    let most = profile.max_id();
     for id in ids {
-        if !is_within(id, MAX_ID) {
+        if !is_within(id, most) {
             return false;
         }
     }
@@ -85,21 +89,21 @@ fn are_ids(ids: &[&[u8]]) -> bool
 }
 
 /// Whether what a sign-in is asked with is within its limits.
-fn is_sign_in(user: Option<&[u8]>, allow: &[&[u8]]) -> bool
+fn is_sign_in(profile: Profile, user: Option<&[u8]>, allow: &[&[u8]]) -> bool
     ensures { (words : List ℕ) (uv : Bool) → IsTrue result
-        ↔ IsInput (OpensSignIn (option_map (λ u. u.now) user.entry) (map (λ id. id.now) allow.now) uv words) }
+        ↔ IsInput profile (OpensSignIn (option_map (λ u. u.now) user.entry) (map (λ id. id.now) allow.now) uv words) }
 {
     if let Some(user) = user {
         if !is_within(user, MAX_USER) {
             return false;
         }
     }
-    allow.len() <= MAX_LISTED && are_ids(allow)
+    allow.len() <= MAX_LISTED && are_ids(profile, allow)
 }
 
 /// Whether what a registration is asked with is within its limits.
 fn is_registration(user: &[u8], algorithms: &[Alg]) -> bool
-    ensures { (words : List ℕ) (uv : Bool) → IsTrue result ↔ IsInput (OpensRegistration user.now algorithms.now uv words) }
+    ensures { (profile : IdProfile) (words : List ℕ) (uv : Bool) → IsTrue result ↔ IsInput profile (OpensRegistration user.now algorithms.now uv words) }
 {
     is_within(user, MAX_USER) && 1 <= algorithms.len()
 }
@@ -147,8 +151,10 @@ impl Sessions {
 
     /// Why what is asked may not begin; whether it is within its limits is handed in.
     fn admit(&self, is_input: bool) -> Result<(), Error>
-        ensures passes { (asked : Opening) → IsTrue is_input ↔ IsInput asked → OnOk result (PassesOpening self.now asked) }
-        ensures refused { (asked : Opening) → IsTrue is_input ↔ IsInput asked → IfErr result (IsRefused self.now asked) }
+        ensures passes { (profile : IdProfile) (asked : Opening) → IsTrue is_input ↔ IsInput profile asked
+            → OnOk result (PassesOpening profile self.now asked) }
+        ensures refused { (profile : IdProfile) (asked : Opening) → IsTrue is_input ↔ IsInput profile asked
+            → IfErr result (IsRefused profile self.now asked) }
     {
         if !is_input {
             return Err(Error::BadInput);
@@ -181,23 +187,24 @@ impl Sessions {
     /// credentials, where any are listed, at most 8; the user is to be verified or not. The words are 24 random
     /// bytes of the challenge.
     ///
-    /// `BadInput` where the user handle or an id is not of 1 to 64 bytes or more than 8 ids are listed, then
-    /// `SessionsFull` where 1,024 sessions are open, then `Exhausted` where the next number is the last; `Memory`
-    /// where there was none for the copies or the session. Then nothing has changed.
+    /// `BadInput` where the user handle is not of 1 to 64 bytes, an id not of 1 byte to those of the profile, or more
+    /// than 8 ids are listed, then `SessionsFull` where 1,024 sessions are open, then `Exhausted` where the next
+    /// number is the last; `Memory` where there was none for the copies or the session. Then nothing has changed.
     pub fn begin_sign_in(
         &mut self,
+        profile: Profile,
         user: Option<&[u8]>,
         allow: &[&[u8]],
         uv: bool,
         words: [u8; 24],
     ) -> Result<Started, Error>
-        ensures passes { OnOk result (PassesOpening self.old (OpensSignIn (option_map (λ u. u.now) user.entry) (map (λ id. id.now) allow.now) uv words)) }
+        ensures passes { OnOk result (PassesOpening profile self.old (OpensSignIn (option_map (λ u. u.now) user.entry) (map (λ id. id.now) allow.now) uv words)) }
         ensures started { IfOk result (λ s. (s.session ≡ self.old.next) × (s.challenge ≡ challenge_of self.old.next words)) }
         ensures begun { OnOk result (self.new ≡ begun self.old (OpensSignIn (option_map (λ u. u.now) user.entry) (map (λ id. id.now) allow.now) uv words)) }
-        ensures refused { IfErr result (IsRefused self.old (OpensSignIn (option_map (λ u. u.now) user.entry) (map (λ id. id.now) allow.now) uv words)) }
+        ensures refused { IfErr result (IsRefused profile self.old (OpensSignIn (option_map (λ u. u.now) user.entry) (map (λ id. id.now) allow.now) uv words)) }
         ensures unchanged { OnErr result (self.new ≡ self.old) }
     {
-        self.admit(is_sign_in(user, allow))?;
+        self.admit(is_sign_in(profile, user, allow))?;
         let alloc = self.alloc;
         let session = self.next;
         let challenge = challenge_with(session, &words);
@@ -221,10 +228,11 @@ impl Sessions {
         uv: bool,
         words: [u8; 24],
     ) -> Result<Started, Error>
-        ensures passes { OnOk result (PassesOpening self.old (OpensRegistration user.now algorithms.now uv words)) }
+        // No profile differs in it.
+        ensures passes { (profile : IdProfile) → OnOk result (PassesOpening profile self.old (OpensRegistration user.now algorithms.now uv words)) }
         ensures started { IfOk result (λ s. (s.session ≡ self.old.next) × (s.challenge ≡ challenge_of self.old.next words)) }
         ensures begun { OnOk result (self.new ≡ begun self.old (OpensRegistration user.now algorithms.now uv words)) }
-        ensures refused { IfErr result (IsRefused self.old (OpensRegistration user.now algorithms.now uv words)) }
+        ensures refused { (profile : IdProfile) → IfErr result (IsRefused profile self.old (OpensRegistration user.now algorithms.now uv words)) }
         ensures unchanged { OnErr result (self.new ≡ self.old) }
     {
         self.admit(is_registration(user, algorithms))?;

@@ -6,6 +6,7 @@ use Rattle.std.proofs.lemmas.List.{map-append}
 use Rattle.std.specs.Str.{bytes_eq}
 use Rattle.std.specs.Map.{lookup, lookup_key, values_of}
 use Rattle.indexmap.specs.Layout.{set_value_at}
+use Rattle.authdata.specs.declared.profile.Profile.{Profile}
 use Rattle.verification.specs.Records.{Credential}
 use Rattle.credential_table.specs.Table.{row_of, with_row, IsTable}
 use Rattle.credential_table.specs.Views.{stored_row_view}
@@ -63,7 +64,7 @@ entry_of (x ∷ es) (suc i) v is = entry_of es i v is
 abbrev pub Makes : (Credential → Credential) → StoredRow → StoredRow → Type 0
 Makes change old new = (id : List ℕ) → stored_row_view id new ≡ change (stored_row_view id old)
 
-module _ (change : Credential → Credential) (es : List Entry) (i : ℕ) (old new : StoredRow) (are : IsTable (map entry_view es))
+module _ (p : Profile) (change : Credential → Credential) (es : List Entry) (i : ℕ) (old new : StoredRow) (are : IsTable p (map entry_view es))
     (there : slice_get (values_of es) i ≡ Some old) (makes : Makes change old new) where
   pub stored : (row : Credential) → slice_get (map entry_view es) i ≡ Some row
       → map entry_view (set_value_at es i new) ≡ with_row row.id change (map entry_view es)
@@ -72,15 +73,15 @@ module _ (change : Credential → Credential) (es : List Entry) (i : ℕ) (old n
       let same : entry_view e.0 ≡ row = let at = at_place es i e.0 e.1 in cc in
       let changed : entry_view (e.0.0, new) ≡ change row = makes e.0.0.items ∙ ap (λ (v : StoredRow). change (stored_row_view e.0.0.items v)) (sym e.2)
       ∙ ap change same in
-      set_value es i e.0 new e.1 ∙ ap (set_at (map entry_view es) i) changed ∙ changed_at change (map entry_view es) i row are.1 is
+      set_value es i e.0 new e.1 ∙ ap (set_at (map entry_view es) i) changed ∙ changed_at p change (map entry_view es) i row are.1 is
 
-  pub limits_stored : Keeps change → IsTable (map entry_view (set_value_at es i new))
+  pub limits_stored : Keeps change → IsTable p (map entry_view (set_value_at es i new))
   limits_stored keeps =
       let e = entry_of es i old there in
       let is = stored (entry_view e.0) (at_place es i e.0 e.1) in
-      let limits : IsTable (with_row (entry_view e.0).id change (map entry_view es)) =
-      (rw (length-changed (entry_view e.0).id change (map entry_view es)) are.0, rows_changed (entry_view e.0).id change keeps (map entry_view es) are.1) in
-      subst IsTable (sym is) limits
+      let limits : IsTable p (with_row (entry_view e.0).id change (map entry_view es)) =
+      (rw (length-changed (entry_view e.0).id change (map entry_view es)) are.0, rows_changed (entry_view e.0).id change keeps p (map entry_view es) are.1) in
+      subst (IsTable p) (sym is) limits
 
 -- beyond the last entry there is no credential
 pub beyond : (es : List Entry) (i : ℕ) (row : Credential) → slice_get (values_of es) i ≡ None → slice_get (map entry_view es) i ≡ Some row → ⊥

@@ -6,4 +6,4 @@ mod row;
 mod table;
 
 pub use row::Row;
-pub use table::{Error, MAX_ID, MAX_ROWS, MAX_USER, Rows, Table, is_within};
+pub use table::{Error, MAX_ROWS, MAX_USER, Rows, Table, is_within};

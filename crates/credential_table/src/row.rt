@@ -5,7 +5,7 @@ use cose::CoseKey;
 /// A registered credential.
 #[derive(Debug, Drop)]
 pub struct Row {
-    /// The credential id: 1 to 64 bytes.
+    /// The credential id: 1 to 64 bytes, or in the open profile to 1,023.
     pub id: Vec<u8>,
     /// The user handle, which names the account: 1 to 64 bytes.
     pub user: Vec<u8>,

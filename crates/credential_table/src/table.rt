@@ -6,19 +6,19 @@ ghost use Rattle.std.specs.Option.{ForSome};
 ghost use Rattle.std.specs.Iterator.{YieldsFirstBy, item_count};
 ghost use Rattle.verification.specs.Records.{Credential};
 ghost use Rattle.verification.specs.Views.{credential_view};
-ghost use Rattle.credential_table.specs.Table.{IsRow, IsTable, IsWithin, row_of, retired, signed_in, with_row};
+ghost use Rattle.authdata.specs.declared.profile.Profile.{Profile as IdProfile};
+ghost use Rattle.authdata.specs.declared.profile.Profile.TheVariants.{Open, Strict};
+ghost use Rattle.credential_table.specs.Table.{IsRow, IsTable, IsWithin, has_long, row_of, retired, signed_in, with_row};
 ghost use Rattle.credential_table.specs.Views.{row_view, rows_view, stored_row_view};
 ghost use Rattle.credential_table.specs.declared.table.Error.TheVariants as errors;
 
 use crate::row::{Row, StoredRow};
+use authdata::Profile;
 use indexmap::IndexMap;
 use indexmap::map::Iter;
 use std::alloc::{AllocError, Global};
 use std::marker::Model;
 use verification::RowView;
-
-/// The most bytes of a credential id.
-pub const MAX_ID: usize = 64;
 
 /// The most bytes of a user handle.
 pub const MAX_USER: usize = 64;
@@ -29,7 +29,8 @@ pub const MAX_ROWS: usize = 65_536;
 /// Why rows are no table.
 #[derive(Clone, Copy, Debug, PartialEq, Eq, Drop, thiserror::Error)]
 pub enum Error {
-    /// 23: an id or a user handle is not of 1 to 64 bytes, an id stands twice, or there are more than 65,536 rows.
+    /// 23: an id is not of 1 byte to those of the profile, a user handle not of 1 to 64 bytes, an id stands twice, or
+    /// there are more than 65,536 rows.
     #[error("the credentials are not a table that a site can have")]
     BadTable,
     /// There was no memory.
@@ -45,7 +46,7 @@ impl From<AllocError> for Error {
     }
 }
 
-/// The registered credentials, in order of registration. A contract sees their list.
+/// The registered credentials, in order of registration, with ids of 1 to 1,023 bytes. A contract sees their list.
 #[derive(Drop)]
 pub struct Table {
     rows: IndexMap<Vec<u8>, StoredRow>,
@@ -53,6 +54,7 @@ pub struct Table {
 
 impl Model for Table {
     ghost use Rattle.std.specs.Prelude.{List, map};
+    ghost use Rattle.authdata.specs.declared.profile.Profile.TheVariants.{Open};
     ghost use Rattle.verification.specs.Records.{Credential};
     ghost use Rattle.credential_table.specs.Table.{IsTable};
     ghost use Rattle.credential_table.specs.Views.{stored_row_view};
@@ -61,7 +63,7 @@ impl Model for Table {
 
     ghost view = { λ t. map (λ e. stored_row_view e.0.items e.1) t.rows.entries };
 
-    ghost invariant = { λ t. IsTable (map (λ e. stored_row_view e.0.items e.1) t.rows.entries) };
+    ghost invariant = { λ t. IsTable Open (map (λ e. stored_row_view e.0.items e.1) t.rows.entries) };
 }
 
 /// Whether an id or a user handle has 1 to `most` bytes.
@@ -73,10 +75,10 @@ pub fn is_within(bytes: &[u8], most: usize) -> bool
 
 impl Row {
     /// Whether the id and the user handle are within their limits.
-    pub fn is_within_limits(&self) -> bool
-        ensures { IsTrue result ↔ IsRow (row_view self.now) }
+    pub fn is_within_limits(&self, profile: Profile) -> bool
+        ensures { IsTrue result ↔ IsRow profile (row_view self.now) }
     {
-        is_within(&self.id, MAX_ID) && is_within(&self.user, MAX_USER)
+        is_within(&self.id, profile.max_id()) && is_within(&self.user, MAX_USER)
     }
 }
 
@@ -147,6 +149,7 @@ impl Table {
     pub fn store(&mut self, place: usize, sign_count: u32, eligible: bool)
         ensures stored { (row : Credential) → slice_get self.old place ≡ Some row
             → self.new ≡ with_row row.id (signed_in sign_count eligible) self.old }
+        ensures limits { (profile : IdProfile) → IsTable profile self.old → IsTable profile self.new }
         ensures unchanged { slice_get self.old place ≡ None → self.new ≡ self.old }
     {
         if let Some(kept) = self.rows.get_index_mut(place) {
@@ -157,8 +160,9 @@ impl Table {
 
     /// Retires the credential at a place.
     fn retire_at(&mut self, place: usize)
-        ensures { (row : Credential) → slice_get self.old place ≡ Some row
+        ensures retired { (row : Credential) → slice_get self.old place ≡ Some row
             → self.new ≡ with_row row.id retired self.old }
+        ensures limits { (profile : IdProfile) → IsTable profile self.old → IsTable profile self.new }
     {
         if let Some(kept) = self.rows.get_index_mut(place) {
             kept.retired = true;
@@ -169,6 +173,7 @@ impl Table {
     pub fn retire(&mut self, id: &[u8]) -> bool
         ensures told { IsTrue result ↔ IsSome (row_of id.now self.old) × ForSome (row_of id.now self.old) (λ row. row.retired ≡ false) }
         ensures after { result ≡ true → self.new ≡ with_row id.now retired self.old }
+        ensures limits { (profile : IdProfile) → IsTable profile self.old → IsTable profile self.new }
         ensures unchanged { result ≡ false → self.new ≡ self.old }
     {
         let place = match self.find(id) {
@@ -186,21 +191,22 @@ impl Table {
 
     /// Whether a credential may stand behind the others: it is within its limits, its id is not taken, and there is
     /// room.
-    pub fn admits(&self, row: &Row) -> bool
-        ensures { IsTrue result ↔ IsRow (row_view row.now) × (row_of row.now.id.items self.now ≡ None) × (length self.now < 65536) }
+    pub fn admits(&self, profile: Profile, row: &Row) -> bool
+        ensures { IsTrue result ↔ IsRow profile (row_view row.now) × (row_of row.now.id.items self.now ≡ None) × (length self.now < 65536) }
     {
         if self.has(&row.id) {
             return false;
         }
-        row.is_within_limits() && !self.is_full()
+        row.is_within_limits(profile) && !self.is_full()
     }
 
     /// Adds a credential behind the others. Where there is no memory nothing has changed.
     pub fn push(&mut self, row: Row) -> Result<(), AllocError>
-        requires limits { IsRow (row_view row) }
+        requires limits { IsRow Open (row_view row) }
         requires absent { row_of row.id.items self.old ≡ None }
         requires room { length self.old < 65536 }
         ensures pushed { OnOk result (self.new ≡ self.old ++ row_view row ∷ []) }
+        ensures limits { OnOk result ((profile : IdProfile) → IsTable profile self.old → IsRow profile (row_view row) → IsTable profile self.new) }
         ensures unchanged { OnErr result (self.new ≡ self.old) }
     {
         let Row {
@@ -222,16 +228,26 @@ impl Table {
         Ok(())
     }
 
-    /// The table of these credentials, in this order.
+    /// The table of these credentials, in this order, with ids of 1 to 64 bytes.
     ///
     /// `BadTable` is answered only where they are none, and `Memory` only where there was none.
     pub fn from_rows(alloc: Global, rows: Vec<Row>) -> Result<Table, Error>
         ensures made { IfOk result (λ t. t ≡ rows_view rows.items) }
-        ensures bad { IsErrOf result Error.BadTable → IsTable (rows_view rows.items) → ⊥ }
+        ensures limits { IfOk result (IsTable Strict) }
+        ensures bad { IsErrOf result Error.BadTable → IsTable Strict (rows_view rows.items) → ⊥ }
+    {
+        Table::with_profile(alloc, Profile::Strict, rows)
+    }
+
+    /// The table of these credentials, in this order, with ids as the profile has them; else as `from_rows`.
+    pub fn with_profile(alloc: Global, profile: Profile, rows: Vec<Row>) -> Result<Table, Error>
+        ensures made { IfOk result (λ t. t ≡ rows_view rows.items) }
+        ensures limits { IfOk result (IsTable profile) }
+        ensures bad { IsErrOf result Error.BadTable → IsTable profile (rows_view rows.items) → ⊥ }
     {
         let mut table = Table::new(alloc);
         for row in rows {
-            if !table.admits(&row) {
+            if !table.admits(profile, &row) {
                 return Err(Error::BadTable);
             }
             table.push(row)?;
@@ -239,10 +255,37 @@ impl Table {
         Ok(table)
     }
 
+    /// Whether an id of more than 64 bytes stands in it.
+    pub fn has_long_id(&self) -> bool
+        ensures told { result ≡ has_long self.now }
+        ensures strict { result ≡ false ↔ IsTable Strict self.now }
+    {
+        for row in self.rows() {
+            if Profile::Strict.max_id() < row.id.len() {
+                return true;
+            }
+        }
+        false
+    }
+
+    /// Whether each id is as the profile has it.
+    pub fn is_of(&self, profile: Profile) -> bool
+        ensures { IsTrue result ↔ IsTable profile self.now }
+    {
+        match profile {
+            Profile::Strict => !self.has_long_id(),
+            Profile::Open => {
+                // The table's own limits are these.
+                let _ = &self.rows;
+                true
+            }
+        }
+    }
+
     /// The credentials in order of registration.
     pub fn rows(&self) -> Rows<'_>
         ensures rows { map (λ e. stored_row_view e.0.items e.1) result.0 ≡ self.now }
-        ensures limits { IsTable self.now }
+        ensures limits { IsTable Open self.now }
     {
         Rows(self.rows.iter())
     }

@@ -1,6 +1,7 @@
 //! Running a script: `passkey replay`.
 
 use crate::script::{Fault, Line, parse_line};
+use authdata::Profile;
 use ceremony::{Error, sign_in};
 use clientdata::{challenge_text, hash};
 use cose::{CoseKey, ListScheme};
@@ -64,7 +65,7 @@ fn add_row(rows: &mut Option<Table>, row: Row) -> Result<(), Fault> {
     let Some(table) = rows else {
         return Err(Fault::BadScript);
     };
-    if !table.admits(&row) {
+    if !table.admits(Profile::Strict, &row) {
         return Err(Fault::BadScript);
     }
     table.push(row)?;

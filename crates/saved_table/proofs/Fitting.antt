@@ -8,11 +8,12 @@ use Rattle.ccbor.specs.View.{items_of}
 use Rattle.cbor_map.specs.Content.{optional}
 use Rattle.cose.specs.Keys.{item_of as key_item}
 use Rattle.cose.proofs.KeyLemmas.{key_fits}
+use Rattle.authdata.specs.declared.profile.Profile.TheVariants.{Open}
 use Rattle.verification.specs.Records.{Credential}
 use Rattle.credential_table.specs.Table.{IsRow, AreRows, IsTable}
 use Rattle.saved_table.specs.Saved.{Saved, FitsVersion, credential_item, table_item, true_if}
 
-members_fit : (id user : List ℕ) (k : Item) (n : ℕ) (eligible : Option Bool) (retired : Bool) → length id ≤ 64 → length user ≤ 64 → Fits 1 k → n < 2 ^ 32
+members_fit : (id user : List ℕ) (k : Item) (n : ℕ) (eligible : Option Bool) (retired : Bool) → length id ≤ 1023 → length user ≤ 64 → Fits 1 k → n < 2 ^ 32
     → Fits 2 (map (pair (uint 1) (bytes id)
     (pair (uint 2) (bytes user) (pair (uint 3) k
     (pair (uint 4) (uint n) (optional (uint 5) (option_map boolean eligible) (optional (uint 6) (true_if retired) no_pairs)))))))
@@ -64,11 +65,11 @@ members_fit id user k n None false a b c d = (
   ),
 )
 
-credential_fits : (version : ℕ) (c : Credential) → IsRow c → FitsVersion version c → Fits 2 (credential_item c)
+credential_fits : (version : ℕ) (c : Credential) → IsRow Open c → FitsVersion version c → Fits 2 (credential_item c)
 credential_fits version c is fits =
     members_fit c.id c.user (key_item c.key) c.sign_count c.eligible c.retired is.0.1 is.1.1 (key_fits c.key fits.key) fits.sign_count
 
-credentials_fit : (version : ℕ) (rows : List Credential) → AreRows rows → Each (FitsVersion version) rows → ItemsFit 2 (items_of (each credential_item rows))
+credentials_fit : (version : ℕ) (rows : List Credential) → AreRows Open rows → Each (FitsVersion version) rows → ItemsFit 2 (items_of (each credential_item rows))
 credentials_fit version [] are fit = tt
 credentials_fit version (c ∷ rows) are fit = (credential_fits version c are.0 fit.0, credentials_fit version rows are.2 fit.1)
 
@@ -76,7 +77,7 @@ count : (rows : List Credential) → count_of_items (items_of (each credential_i
 count [] = refl
 count (c ∷ rows) = ap suc (count rows)
 
-pub table_fits : (version : ℕ) (saved : Saved) → version < 2 ^ 64 → saved.next < 2 ^ 64 → length saved.rp_id < 2 ^ 64 → IsUtf8 saved.rp_id → IsTable saved.rows
+pub table_fits : (version : ℕ) (saved : Saved) → version < 2 ^ 64 → saved.next < 2 ^ 64 → length saved.rp_id < 2 ^ 64 → IsUtf8 saved.rp_id → IsTable Open saved.rows
     → Each (FitsVersion version) saved.rows → Fits 4 (table_item version saved)
 unfolding head before
 table_fits version saved small numbered short utf8 table fit =

@@ -1,3 +1,4 @@
 pub mod Credentials
 pub mod Tables
 pub mod Fitting
+pub mod Versions

@@ -6,7 +6,8 @@ ghost use Rattle.ccbor.specs.Item.{boolean};
 ghost use Rattle.ccbor.specs.View.{items_of, items_view, view};
 ghost use Rattle.verification.specs.Views.{credential_view};
 ghost use Rattle.credential_table.specs.Table.{IsTable};
-ghost use Rattle.saved_table.specs.Saved.{AppendsTable, FitsVersion, credential_item, table_item, true_if};
+ghost use Rattle.authdata.specs.declared.profile.Profile.TheVariants.{Open};
+ghost use Rattle.saved_table.specs.Saved.{AppendsTable, FitsVersion, credential_item, table_item, true_if, version_of};
 
 use cbor_map::{bytes_value, push_if_there, push_member, text_value};
 use ccbor::{MapKey, Value, encode};
@@ -14,8 +15,12 @@ use credential_table::Table;
 use std::alloc::{AllocError, Global};
 use verification::RowView;
 
-/// The version that is written.
-const VERSION: u64 = 3;
+/// The version that is written: the last where an id of more than 64 bytes stands in the table.
+fn version_of(table: &Table) -> u64
+    ensures { result ≡ version_of table.now }
+{
+    if table.has_long_id() { 4 } else { 3 }
+}
 
 /// The value of a truth value that may be absent.
 fn truth_value(truth: Option<bool>) -> Option<Value>
@@ -73,7 +78,7 @@ fn credential_value(alloc: Global, row: &RowView<'_>) -> Result<Value, AllocErro
 
 /// The values of the credentials' maps, in their order.
 fn credential_values(alloc: Global, table: &Table) -> Result<Vec<Value>, AllocError>
-    ensures fit { OnOk result (IsTable table.now × Each (FitsVersion 3) table.now) }
+    ensures fit { OnOk result (IsTable Open table.now × Each (FitsVersion 3) table.now) }
     ensures values { IfOk result (λ vs. items_view vs.items ≡ items_of (map credential_item table.now)) }
 {
     let mut values = Vec::new(alloc);
@@ -85,14 +90,19 @@ fn credential_values(alloc: Global, table: &Table) -> Result<Vec<Value>, AllocEr
 
 /// The value of the whole table.
 fn table_value(alloc: Global, rp_id: &str, next: u64, table: &Table) -> Result<Value, AllocError>
-    ensures fit { OnOk result (IsTable table.now × Each (FitsVersion 3) table.now) }
+    ensures fit { OnOk result (IsTable Open table.now × Each (FitsVersion 3) table.now) }
     ensures value { IfOk result (λ v. view v
-        ≡ table_item 3 (record { rp_id = rp_id.now; next = next; rows = table.now })) }
+        ≡ table_item (version_of table.now) (record { rp_id = rp_id.now; next = next; rows = table.now })) }
 {
     let credentials = credential_values(alloc, table)?;
     let rp_id = text_value(alloc, rp_id)?;
     let mut pairs = Vec::new(alloc);
-    push_member(alloc, &mut pairs, MapKey::Uint(1), Value::Uint(VERSION))?;
+    push_member(
+        alloc,
+        &mut pairs,
+        MapKey::Uint(1),
+        Value::Uint(version_of(table)),
+    )?;
     push_member(alloc, &mut pairs, MapKey::Uint(2), rp_id)?;
     push_member(alloc, &mut pairs, MapKey::Uint(3), Value::Uint(next))?;
     push_member(
@@ -104,8 +114,8 @@ fn table_value(alloc: Global, rp_id: &str, next: u64, table: &Table) -> Result<V
     Ok(Value::Map(pairs))
 }
 
-/// Appends the bytes of a relying party's rp id, the number of its next session and its credentials, in version 3.
-/// The number is at least 1. Where there is no memory the output's bytes are as they were.
+/// Appends the bytes of a relying party's rp id, the number of its next session and its credentials, in version 3,
+/// or in version 4 where an id of more than 64 bytes stands in the table. The number is at least 1. Where there is no memory the output's bytes are as they were.
 pub fn save(rp_id: &str, next: u64, table: &Table, out: &mut Vec<u8>) -> Result<(), AllocError>
     requires { 1 ≤ next }
     ensures saved { OnOk result (AppendsTable

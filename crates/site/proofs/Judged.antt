@@ -6,6 +6,7 @@ use Rattle.std.specs.Prelude.{Bool, true, false, not, Option, Some, None, IfSome
 use Rattle.refusal_order.specs.Lines.{Each, FirstFailing}
 use Rattle.refusal_order.proofs.Laws.{each_joined, first_along, first_behind}
 use Rattle.authdata.specs.declared.profile.Profile.{Profile}
+use Rattle.authdata.specs.declared.profile.Profile.TheVariants.{Open, Strict}
 use Rattle.authdata.specs.Profiles.{max_id}
 use Rattle.authdata.specs.Layout.{AuthenticatorData, AttestedCredential, IsAuthenticatorData}
 use Rattle.authdata.proofs.Unique.{is_credential}
@@ -95,6 +96,10 @@ some_seen f (Some x) is = refl
 pub attested_limits : (p : Profile) (a : AuthenticatorData) (c : AttestedCredential) → IsAuthenticatorData p a → a.attested ≡ Some c
     → IsWithin (max_id p) c.id
 attested_limits p a c is e = let l = is_credential a c is e in (l.id_low, l.id_high)
+
+pub looser_id : (p : Profile) (id : List ℕ) → IsWithin (max_id p) id → IsWithin 1023 id
+looser_id Strict id is = (is.0, omega (arith, is.1))
+looser_id Open id is = is
 
 abbrev pub admitted_as : RelyingParty → Policy → responses.AuthenticatorAttestationResponse → List Credential → Option ExpectedRegistration → JudgedRegistration
 admitted_as rp policy r rows session = registration_with rp policy r (λ id. is_some (row_of id rows)) (is_full rows) session

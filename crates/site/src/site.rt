@@ -4,16 +4,17 @@ ghost use Rattle.std.specs.Prelude.{◌≡◌, ◌≢◌, ◌↔◌, ◌≤◌, 
 ghost use Rattle.std.specs.Prelude.{length, map, option_map, true};
 ghost use Rattle.std.specs.FinMap as finite;
 ghost use Rattle.std.specs.Option.{ForSome};
-ghost use Rattle.authdata.specs.declared.profile.Profile.TheVariants.{Strict};
+ghost use Rattle.authdata.specs.declared.profile.Profile.TheVariants.{Open, Strict};
 ghost use Rattle.verification.specs.Views.{credential_view, texts_of};
-ghost use Rattle.credential_table.specs.Table.{IsTable, retired, row_of, with_row};
+ghost use Rattle.credential_table.specs.Table.{IsTable, IsWithin, retired, row_of, with_row};
 ghost use Rattle.credential_table.specs.Views.{rows_view, stored_row_view};
 ghost use Rattle.ceremony_sessions.specs.Sessions.{IsRefused, OpensRegistration, OpensSignIn, PassesOpening, begun, challenge_of, closed};
-ghost use Rattle.saved_table.specs.Saved.{AppendsTable, Saved, TableOf};
+ghost use Rattle.saved_table.specs.Saved.{AppendsTable, Saved, TableOf, last_version};
 ghost use Rattle.site.specs.State.{IsParty, none_open, saved_of};
 ghost use Rattle.site.specs.declared.error.Error.TheVariants as errors;
 
 use crate::error::Error;
+use authdata::Profile;
 use ceremony_sessions::{Sessions, Started};
 use cose::Alg;
 use credential_table::{Row, Rows, Table, is_within};
@@ -38,7 +39,7 @@ pub struct Site {
 
 impl Model for Site {
     ghost use Rattle.std.specs.Prelude.{◌≡◌, ◌≤◌};
-    ghost use Rattle.authdata.specs.declared.profile.Profile.TheVariants.{Strict};
+    ghost use Rattle.credential_table.specs.Table.{IsTable};
     ghost use Rattle.site.specs.State.{SiteState, IsParty};
     ghost use Rattle.site.specs.Codes.{state_code};
 
@@ -48,12 +49,12 @@ impl Model for Site {
 
     ghost view = { λ s. record { rp = s.party; policy = s.policy; rows = s.table; sessions = s.sessions } };
 
-    ghost invariant = { λ s. IsParty s.party × (1 ≤ s.sessions.next) × (s.party.profile ≡ Strict) };
+    ghost invariant = { λ s. IsTable s.party.profile s.table × IsParty s.party × (1 ≤ s.sessions.next) };
 }
 
-/// Whether an rp id and origins are within their limits.
+/// Whether an rp id and origins are within their limits, which no profile changes.
 fn is_party(rp_id: &str, origins: &[&str]) -> bool
-    ensures { IsTrue result ↔ IsParty (record { rp_id = rp_id.now; origins = texts_of origins.now; profile = Strict }) }
+    ensures { IsTrue result ↔ IsWithin 253 rp_id.now × (1 ≤ length (texts_of origins.now)) }
 {
     is_within(rp_id.as_bytes(), MAX_RP_ID) && 1 <= origins.len()
 }
@@ -61,16 +62,18 @@ fn is_party(rp_id: &str, origins: &[&str]) -> bool
 /// A site of a relying party that is within its limits, with this table and this next session number.
 fn site_with(
     alloc: Global,
+    profile: Profile,
     rp_id: &str,
     origins: &[&str],
     policy: Policy,
     table: Table,
     next: u64,
 ) -> Result<Site, AllocError>
-    requires party { IsParty (record { rp_id = rp_id.now; origins = texts_of origins.now; profile = Strict }) }
+    requires party { IsParty (record { rp_id = rp_id.now; origins = texts_of origins.now; profile = profile }) }
+    requires table { IsTable profile table }
     requires next { 1 ≤ next }
     ensures { IfOk result (λ s. s ≡ record {
-      rp = record { rp_id = rp_id.now; origins = texts_of origins.now; profile = Strict };
+      rp = record { rp_id = rp_id.now; origins = texts_of origins.now; profile = profile };
       policy = policy;
       rows = table;
       sessions =
@@ -79,15 +82,120 @@ fn site_with(
 {
     Ok(Site {
         alloc,
-        party: RelyingParty::new(alloc, rp_id, origins)?,
+        party: RelyingParty::with_profile(alloc, profile, rp_id, origins)?,
         policy,
         table,
         sessions: Sessions::new(alloc, next),
     })
 }
 
+/// A site without credentials, of this profile.
+fn empty_site(
+    alloc: Global,
+    profile: Profile,
+    rp_id: &str,
+    origins: &[&str],
+    policy: Policy,
+) -> Result<Site, Error>
+    ensures made { IfOk result (λ s. s
+        ≡ record { rp = record { rp_id = rp_id.now; origins = texts_of origins.now; profile = profile }; policy = policy; rows = []; sessions = none_open 1 }) }
+    ensures input { IsErrOf result Error.BadInput ↔ ¬ IsParty (record { rp_id = rp_id.now; origins = texts_of origins.now; profile = profile }) }
+    ensures no_table { IfErr result (λ e. e ≢ errors.BadTable) }
+{
+    if !is_party(rp_id, origins) {
+        return Err(Error::BadInput);
+    }
+    Ok(site_with(alloc, profile, rp_id, origins, policy, Table::new(alloc), 1)?)
+}
+
+/// A site with a table, of this profile.
+fn site_of_table(
+    alloc: Global,
+    profile: Profile,
+    rp_id: &str,
+    origins: &[&str],
+    policy: Policy,
+    table: Table,
+) -> Result<Site, Error>
+    ensures made { IfOk result (λ s. s
+        ≡ record { rp = record { rp_id = rp_id.now; origins = texts_of origins.now; profile = profile }; policy = policy; rows = table; sessions = none_open 1 }) }
+    ensures input { IsErrOf result Error.BadInput ↔ ¬ IsParty (record { rp_id = rp_id.now; origins = texts_of origins.now; profile = profile }) }
+    ensures table { IsErrOf result Error.BadTable → IsTable profile table → ⊥ }
+{
+    if !is_party(rp_id, origins) {
+        return Err(Error::BadInput);
+    }
+    if !table.is_of(profile) {
+        return Err(Error::BadTable);
+    }
+    Ok(site_with(alloc, profile, rp_id, origins, policy, table, 1)?)
+}
+
+/// A site with these credentials, of this profile.
+fn site_of_rows(
+    alloc: Global,
+    profile: Profile,
+    rp_id: &str,
+    origins: &[&str],
+    policy: Policy,
+    rows: Vec<Row>,
+) -> Result<Site, Error>
+    ensures made { IfOk result (λ s. s
+        ≡ record {
+          rp = record { rp_id = rp_id.now; origins = texts_of origins.now; profile = profile };
+          policy = policy;
+          rows = rows_view rows.items;
+          sessions =
+              none_open 1;
+        }) }
+    ensures input { IsErrOf result Error.BadInput ↔ ¬ IsParty (record { rp_id = rp_id.now; origins = texts_of origins.now; profile = profile }) }
+    ensures table { IsErrOf result Error.BadTable → IsTable profile (rows_view rows.items) → ⊥ }
+{
+    if !is_party(rp_id, origins) {
+        return Err(Error::BadInput);
+    }
+    match Table::with_profile(alloc, profile, rows) {
+        Ok(table) => Ok(site_with(alloc, profile, rp_id, origins, policy, table, 1)?),
+        Err(credential_table::Error::BadTable) => Err(Error::BadTable),
+        Err(credential_table::Error::Memory) => Err(Error::Memory),
+    }
+}
+
+/// The site that was saved, of this profile.
+fn loaded_site(
+    alloc: Global,
+    profile: Profile,
+    bytes: &[u8],
+    rp_id: &str,
+    origins: &[&str],
+    policy: Policy,
+) -> Result<Site, Error>
+    ensures loaded { IfOk result (λ s. ((version : ℕ) × (version ≤ last_version profile) × TableOf version (saved_of s) bytes.now)
+        × (s ≡ record {
+          rp = record { rp_id = rp_id.now; origins = texts_of origins.now; profile = profile };
+          policy = policy;
+          rows = s.rows;
+          sessions =
+              none_open s.sessions.next;
+        })) }
+    ensures input { IsErrOf result Error.BadInput ↔ ¬ IsParty (record { rp_id = rp_id.now; origins = texts_of origins.now; profile = profile }) }
+    ensures table { IsErrOf result Error.BadTable → (version : ℕ) (saved : Saved) → saved.rp_id ≡ rp_id.now
+        → version ≤ last_version profile → TableOf version saved bytes.now → ⊥ }
+{
+    if !is_party(rp_id, origins) {
+        return Err(Error::BadInput);
+    }
+    match saved_table::load(alloc, profile, bytes, rp_id) {
+        Ok(Loaded { table, next }) => Ok(site_with(
+            alloc, profile, rp_id, origins, policy, table, next,
+        )?),
+        Err(saved_table::Error::BadTable) => Err(Error::BadTable),
+        Err(saved_table::Error::Memory) => Err(Error::Memory),
+    }
+}
+
 impl Site {
-    /// A site without credentials.
+    /// A site without credentials, of the strict profile.
     ///
     /// `BadInput` where the rp id is not of 1 to 253 bytes or there is no origin; `Memory` where there was none for
     /// the copies of the texts. An origin is compared as a text.
@@ -97,12 +205,22 @@ impl Site {
         ensures input { IsErrOf result Error.BadInput ↔ ¬ IsParty (record { rp_id = rp_id.now; origins = texts_of origins.now; profile = Strict }) }
         ensures no_table { IfErr result (λ e. e ≢ errors.BadTable) }
     {
-        Site::with_table(alloc, rp_id, origins, policy, Table::new(alloc))
+        empty_site(alloc, Profile::Strict, rp_id, origins, policy)
     }
 
-    /// A site with a table of credentials that is made.
+    /// A site without credentials, of the open profile, which takes what real keys and browsers send; else as `new`.
+    pub fn open(alloc: Global, rp_id: &str, origins: &[&str], policy: Policy) -> Result<Site, Error>
+        ensures made { IfOk result (λ s. s
+            ≡ record { rp = record { rp_id = rp_id.now; origins = texts_of origins.now; profile = Open }; policy = policy; rows = []; sessions = none_open 1 }) }
+        ensures input { IsErrOf result Error.BadInput ↔ ¬ IsParty (record { rp_id = rp_id.now; origins = texts_of origins.now; profile = Open }) }
+        ensures no_table { IfErr result (λ e. e ≢ errors.BadTable) }
+    {
+        empty_site(alloc, Profile::Open, rp_id, origins, policy)
+    }
+
+    /// A site with a table of credentials that is made, of the strict profile.
     ///
-    /// `BadInput` and `Memory` as for `new`.
+    /// `BadInput` and `Memory` as for `new`; `BadTable` where an id of more than 64 bytes stands in the table.
     pub fn with_table(
         alloc: Global,
         rp_id: &str,
@@ -113,15 +231,30 @@ impl Site {
         ensures made { IfOk result (λ s. s
             ≡ record { rp = record { rp_id = rp_id.now; origins = texts_of origins.now; profile = Strict }; policy = policy; rows = table; sessions = none_open 1 }) }
         ensures input { IsErrOf result Error.BadInput ↔ ¬ IsParty (record { rp_id = rp_id.now; origins = texts_of origins.now; profile = Strict }) }
-        ensures no_table { IfErr result (λ e. e ≢ errors.BadTable) }
+        ensures table { IsErrOf result Error.BadTable → IsTable Strict table → ⊥ }
     {
-        if !is_party(rp_id, origins) {
-            return Err(Error::BadInput);
-        }
-        Ok(site_with(alloc, rp_id, origins, policy, table, 1)?)
+        site_of_table(alloc, Profile::Strict, rp_id, origins, policy, table)
     }
 
-    /// A site with these credentials, in order of registration.
+    /// A site with a table of credentials that is made, of the open profile: each table is one that it can have.
+    ///
+    /// `BadInput` and `Memory` as for `new`.
+    pub fn open_with_table(
+        alloc: Global,
+        rp_id: &str,
+        origins: &[&str],
+        policy: Policy,
+        table: Table,
+    ) -> Result<Site, Error>
+        ensures made { IfOk result (λ s. s
+            ≡ record { rp = record { rp_id = rp_id.now; origins = texts_of origins.now; profile = Open }; policy = policy; rows = table; sessions = none_open 1 }) }
+        ensures input { IsErrOf result Error.BadInput ↔ ¬ IsParty (record { rp_id = rp_id.now; origins = texts_of origins.now; profile = Open }) }
+        ensures table { IsErrOf result Error.BadTable → IsTable Open table → ⊥ }
+    {
+        site_of_table(alloc, Profile::Open, rp_id, origins, policy, table)
+    }
+
+    /// A site with these credentials, in order of registration, of the strict profile.
     ///
     /// `BadInput` as for `new`; then `BadTable` where an id or a user handle is not of 1 to 64 bytes, an id stands
     /// twice, or there are more than 65,536 credentials.
@@ -141,20 +274,35 @@ impl Site {
                   none_open 1;
             }) }
         ensures input { IsErrOf result Error.BadInput ↔ ¬ IsParty (record { rp_id = rp_id.now; origins = texts_of origins.now; profile = Strict }) }
-        ensures table { IsErrOf result Error.BadTable → IsTable (rows_view rows.items) → ⊥ }
+        ensures table { IsErrOf result Error.BadTable → IsTable Strict (rows_view rows.items) → ⊥ }
     {
-        if !is_party(rp_id, origins) {
-            return Err(Error::BadInput);
-        }
-        match Table::from_rows(alloc, rows) {
-            Ok(table) => Ok(site_with(alloc, rp_id, origins, policy, table, 1)?),
-            Err(credential_table::Error::BadTable) => Err(Error::BadTable),
-            Err(credential_table::Error::Memory) => Err(Error::Memory),
-        }
+        site_of_rows(alloc, Profile::Strict, rp_id, origins, policy, rows)
+    }
+
+    /// A site with these credentials, of the open profile: an id has 1 to 1,023 bytes; else as `with_rows`.
+    pub fn open_with_rows(
+        alloc: Global,
+        rp_id: &str,
+        origins: &[&str],
+        policy: Policy,
+        rows: Vec<Row>,
+    ) -> Result<Site, Error>
+        ensures made { IfOk result (λ s. s
+            ≡ record {
+              rp = record { rp_id = rp_id.now; origins = texts_of origins.now; profile = Open };
+              policy = policy;
+              rows = rows_view rows.items;
+              sessions =
+                  none_open 1;
+            }) }
+        ensures input { IsErrOf result Error.BadInput ↔ ¬ IsParty (record { rp_id = rp_id.now; origins = texts_of origins.now; profile = Open }) }
+        ensures table { IsErrOf result Error.BadTable → IsTable Open (rows_view rows.items) → ⊥ }
+    {
+        site_of_rows(alloc, Profile::Open, rp_id, origins, policy, rows)
     }
 
     /// The site that was saved, by `save` or in an earlier version of its bytes, without open sessions; the session
-    /// numbers go on.
+    /// numbers go on. It is of the strict profile.
     ///
     /// `BadInput` as for `new`; then `BadTable` where the bytes are not what is saved of a site with this rp id, in
     /// version 1, 2 or 3.
@@ -165,7 +313,7 @@ impl Site {
         origins: &[&str],
         policy: Policy,
     ) -> Result<Site, Error>
-        ensures loaded { IfOk result (λ s. ((version : ℕ) × TableOf version (saved_of s) bytes.now)
+        ensures loaded { IfOk result (λ s. ((version : ℕ) × (version ≤ last_version Strict) × TableOf version (saved_of s) bytes.now)
             × (s ≡ record {
               rp = record { rp_id = rp_id.now; origins = texts_of origins.now; profile = Strict };
               policy = policy;
@@ -174,18 +322,41 @@ impl Site {
                   none_open s.sessions.next;
             })) }
         ensures input { IsErrOf result Error.BadInput ↔ ¬ IsParty (record { rp_id = rp_id.now; origins = texts_of origins.now; profile = Strict }) }
-        ensures table { IsErrOf result Error.BadTable → (version : ℕ) (saved : Saved) → saved.rp_id ≡ rp_id.now → TableOf version saved bytes.now → ⊥ }
+        ensures table { IsErrOf result Error.BadTable → (version : ℕ) (saved : Saved) → saved.rp_id ≡ rp_id.now
+            → version ≤ last_version Strict → TableOf version saved bytes.now → ⊥ }
     {
-        if !is_party(rp_id, origins) {
-            return Err(Error::BadInput);
-        }
-        match saved_table::load(alloc, bytes, rp_id) {
-            Ok(Loaded { table, next }) => {
-                Ok(site_with(alloc, rp_id, origins, policy, table, next)?)
-            }
-            Err(saved_table::Error::BadTable) => Err(Error::BadTable),
-            Err(saved_table::Error::Memory) => Err(Error::Memory),
-        }
+        loaded_site(alloc, Profile::Strict, bytes, rp_id, origins, policy)
+    }
+
+    /// The site that was saved, of the open profile: version 4, with ids of up to 1,023 bytes, is loaded too; else as
+    /// `load`. What a strict site saved may be loaded as an open one.
+    pub fn open_load(
+        alloc: Global,
+        bytes: &[u8],
+        rp_id: &str,
+        origins: &[&str],
+        policy: Policy,
+    ) -> Result<Site, Error>
+        ensures loaded { IfOk result (λ s. ((version : ℕ) × (version ≤ last_version Open) × TableOf version (saved_of s) bytes.now)
+            × (s ≡ record {
+              rp = record { rp_id = rp_id.now; origins = texts_of origins.now; profile = Open };
+              policy = policy;
+              rows = s.rows;
+              sessions =
+                  none_open s.sessions.next;
+            })) }
+        ensures input { IsErrOf result Error.BadInput ↔ ¬ IsParty (record { rp_id = rp_id.now; origins = texts_of origins.now; profile = Open }) }
+        ensures table { IsErrOf result Error.BadTable → (version : ℕ) (saved : Saved) → saved.rp_id ≡ rp_id.now
+            → version ≤ last_version Open → TableOf version saved bytes.now → ⊥ }
+    {
+        loaded_site(alloc, Profile::Open, bytes, rp_id, origins, policy)
+    }
+
+    /// Which responses, and which ids, it takes.
+    pub fn profile(&self) -> Profile
+        ensures { result ≡ self.now.rp.profile }
+    {
+        self.party.profile()
     }
 
     /// Appends what is kept of the site over a restart: its rp id, the number of the next session, and the
@@ -201,9 +372,9 @@ impl Site {
     /// credentials, where any are listed, at most 8; with the user verified or not. The words are 24 random bytes,
     /// never used before.
     ///
-    /// `BadInput` where the user handle or an id is not of 1 to 64 bytes or more than 8 ids are listed, then
-    /// `SessionsFull` where 1,024 sessions are open, then `Exhausted` where the next number is 2^64 - 1; `Memory`
-    /// where there was none for the copies or the session. Then nothing has changed.
+    /// `BadInput` where the user handle is not of 1 to 64 bytes, an id not of 1 to 64 or in the open profile to 1,023,
+    /// or more than 8 ids are listed, then `SessionsFull` where 1,024 sessions are open, then `Exhausted` where the
+    /// next number is 2^64 - 1; `Memory` where there was none for the copies or the session. Then nothing has changed.
     pub fn begin_sign_in(
         &mut self,
         user: Option<&[u8]>,
@@ -211,16 +382,17 @@ impl Site {
         uv: bool,
         words: [u8; 24],
     ) -> Result<Started, ceremony_sessions::Error>
-        ensures passes { OnOk result (PassesOpening self.old.sessions
+        ensures passes { OnOk result (PassesOpening self.old.rp.profile self.old.sessions
             (OpensSignIn (option_map (λ u. u.now) user.entry) (map (λ id. id.now) allow.now) uv words)) }
         ensures started { IfOk result (λ s. (s.session ≡ self.old.sessions.next) × (s.challenge ≡ challenge_of self.old.sessions.next words)) }
         ensures begun { OnOk result (self.new ≡ record self.old
             { sessions = begun self.old.sessions (OpensSignIn (option_map (λ u. u.now) user.entry) (map (λ id. id.now) allow.now) uv words) }) }
-        ensures refused { IfErr result (IsRefused self.old.sessions
+        ensures refused { IfErr result (IsRefused self.old.rp.profile self.old.sessions
             (OpensSignIn (option_map (λ u. u.now) user.entry) (map (λ id. id.now) allow.now) uv words)) }
         ensures unchanged { OnErr result (self.new ≡ self.old) }
     {
-        self.sessions.begin_sign_in(user, allow, uv, words)
+        self.sessions
+            .begin_sign_in(self.party.profile(), user, allow, uv, words)
     }
 
     /// Begins a registration for the account with this user handle, with these algorithms offered, and with the user
@@ -234,10 +406,10 @@ impl Site {
         uv: bool,
         words: [u8; 24],
     ) -> Result<Started, ceremony_sessions::Error>
-        ensures passes { OnOk result (PassesOpening self.old.sessions (OpensRegistration user.now algorithms.now uv words)) }
+        ensures passes { OnOk result (PassesOpening self.old.rp.profile self.old.sessions (OpensRegistration user.now algorithms.now uv words)) }
         ensures started { IfOk result (λ s. (s.session ≡ self.old.sessions.next) × (s.challenge ≡ challenge_of self.old.sessions.next words)) }
         ensures begun { OnOk result (self.new ≡ record self.old { sessions = begun self.old.sessions (OpensRegistration user.now algorithms.now uv words) }) }
-        ensures refused { IfErr result (IsRefused self.old.sessions (OpensRegistration user.now algorithms.now uv words)) }
+        ensures refused { IfErr result (IsRefused self.old.rp.profile self.old.sessions (OpensRegistration user.now algorithms.now uv words)) }
         ensures unchanged { OnErr result (self.new ≡ self.old) }
     {
         self.sessions

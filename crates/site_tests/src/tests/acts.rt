@@ -7,7 +7,7 @@
 use super::responses::{SECRET, auth_data, client_data, object, scheme};
 use super::stored::{policy, rows};
 use super::values::{bytes_if_there, bytes_of, is_set, list_of, number, value};
-use authdata::RegistrationResponse;
+use authdata::{Profile, RegistrationResponse};
 use cose::{Alg, BenchScheme, Signer};
 use site::{
     AssertionParts, BeginError, Error, Registered, RegistrationError, RowView, SignInError,
@@ -231,7 +231,11 @@ fn rp_id(alloc: Global, line: &str) -> Result<String, AllocError> {
 /// Puts what is loaded of these bytes in the site's place: 0, or the number of the refusal.
 fn load(alloc: Global, site: &mut Site, act: &str, bytes: &[u8]) -> Result<u64, AllocError> {
     let rp_id = rp_id(alloc, act)?;
-    match Site::load(alloc, bytes, rp_id.as_str(), &["https://abc"], policy(act)) {
+    let loaded = match site.profile() {
+        Profile::Strict => Site::load(alloc, bytes, &rp_id, &["https://abc"], policy(act)),
+        Profile::Open => Site::open_load(alloc, bytes, &rp_id, &["https://abc"], policy(act)),
+    };
+    match loaded {
         Ok(loaded) => {
             *site = loaded;
             Ok(0)
@@ -299,6 +303,9 @@ fn made(alloc: Global, line: &str) -> Result<Site, Error> {
     let rp_id = value(line, "site", "abc");
     let origins = [value(line, "at", "https://abc"), "https://def"];
     let rows = rows(alloc, value(line, "rows", "five"))?;
+    if value(line, "profile", "strict") == "open" {
+        return Site::open_with_rows(alloc, rp_id, &origins, policy(line), rows);
+    }
     Site::with_rows(alloc, rp_id, &origins, policy(line), rows)
 }
 

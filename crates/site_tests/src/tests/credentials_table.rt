@@ -1,5 +1,6 @@
 //! The table of credentials, by public calls only.
 
+use authdata::Profile;
 use cose::CoseKey;
 use credential_table::{Error, Row, Table};
 use std::alloc::{AllocError, Global};
@@ -75,6 +76,43 @@ fn is_made(alloc: Global, stored: &[Stored]) -> Result<bool, AllocError> {
 fn made(rt: HostRuntime) -> Result<(), Fail> {
     for (name, stored, wanted) in TABLES {
         assert!(rt; is_made(rt.alloc(), stored)? == *wanted, "{name}");
+    }
+    Ok(())
+}
+
+/// The length of an id, and whether a table of the strict profile has one, and one of the open profile.
+const LENGTHS: &[(usize, bool, bool)] = &[
+    (0, false, false),
+    (1, true, true),
+    (64, true, true),
+    (65, false, true),
+    (1_023, false, true),
+    (1_024, false, false),
+];
+
+/// Whether there is a table of this profile with an id of so many bytes.
+fn has_length(alloc: Global, profile: Profile, length: usize) -> Result<bool, AllocError> {
+    let mut id = Vec::new(alloc);
+    for _ in 0..length {
+        id.push(7)?;
+    }
+    let mut rows = Vec::new(alloc);
+    rows.push(row(alloc, &id, &[1])?)?;
+    match Table::with_profile(alloc, profile, rows) {
+        Ok(table) => Ok(
+            table.is_of(profile) && table.has_long_id() != table.is_of(Profile::Strict),
+        ),
+        Err(Error::BadTable) => Ok(false),
+        Err(Error::Memory) => Err(AllocError),
+    }
+}
+
+#[test]
+fn lengths(rt: HostRuntime) -> Result<(), Fail> {
+    for (length, strict, open) in LENGTHS {
+        let by_strict = has_length(rt.alloc(), Profile::Strict, *length)?;
+        let by_open = has_length(rt.alloc(), Profile::Open, *length)?;
+        assert!(rt; by_strict == *strict && by_open == *open, "{length}");
     }
     Ok(())
 }

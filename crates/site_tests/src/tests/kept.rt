@@ -24,6 +24,15 @@ an id and a user of 64 bytes|rows=one;1 register uv=1 account=07*64;0 attest id=
     user=07*64 count=259 eligible=1
 the last but one of many|rows=full;1 sign-in account=01;0 answer id=0000fffe count=65535;1 row id=0000fffe count=65535;1 row id=0000ffff count=65535 \
     eligible=-
+an id of 65 bytes|rows=one;1 register uv=1;7 attest id=1a*65;27 sign-in allow=1a*65;1 rows
+an id of 64 bytes, open|rows=one profile=open;1 register uv=1;0 attest id=1a*64;2 rows;1 row id=1a*64 count=258 eligible=1;0 restart;2 rows
+an id of 65 bytes, open|rows=one profile=open;1 register uv=1;0 attest id=1a*65;2 sign-in account=01 allow=01*1023,1a*65;0 answer session=2 challenge=IA \
+    id=1a*65 flip=8 count=259 registered=1;1 row id=1a*65 count=259 eligible=1;0 restart;3 sign-in allow=1a*65;0 answer session=3 challenge=MA \
+    id=1a*65 flip=8 count=260 registered=1;1 row id=1a*65 count=260 eligible=1
+an id of 1,023 bytes, open|rows=one profile=open;1 register uv=1;0 attest id=1a*1023;2 sign-in account=01 allow=1a*1023;0 answer session=2 challenge=IA \
+    id=1a*1023 flip=8 count=259 registered=1;1 retire bytes=1a*1023;0 restart;1 row id=1a*1023 count=259 eligible=1 retired=1;3 sign-in account=01;3 \
+    answer session=3 challenge=MA id=1a*1023 flip=8 count=260 registered=1
+an id of 1,024 bytes, open|rows=one profile=open;1 register uv=1;7 attest id=1a*1024;27 sign-in allow=1a*1024;1 rows
 another site's response, and its own|rows=one;1 sign-in account=01;11 answer rp=abd flip=4 count=1;0 answer flip=4 count=1
 the same at the other site|rows=one site=abd at=https://abd;1 sign-in account=01;11 answer origin=https://abd flip=4 count=1;0 answer origin=https://abd \
     rp=abd flip=4 count=1";
@@ -36,6 +45,11 @@ version 3, retired|rows=one;0 load bytes=a40103026361626303020481a601410a0241010
     bytes=a40103026361626303020481a601410a02410103+K+040105f406f5
 version 1|rows=one;0 load bytes=a40101026361626303020481a401410a02410103+K+0401;1 saved bytes=a40103026361626303020481a401410a02410103+K+0401
 version 2|rows=one;0 load bytes=a40102026361626303020481a501410a02410103+K+040105f5;1 saved bytes=a40103026361626303020481a501410a02410103+K+040105f5
+version 4|rows=one;23 load bytes=a40104026361626303020481a4015841+0a*65+02410103+K+0401;1 rows
+version 4, open|rows=one profile=open;0 load bytes=a40104026361626303020481a4015841+0a*65+02410103+K+0401;1 saved \
+    bytes=a40104026361626303020481a4015841+0a*65+02410103+K+0401;1 row id=0a*65 count=1 eligible=-
+version 3, open|rows=one profile=open;0 load bytes=a40103026361626303020481a501410a02410103+K+040105f4;1 saved \
+    bytes=a40103026361626303020481a501410a02410103+K+040105f4
 the last session number but one|rows=one;0 load bytes=a401030263616263031b+ff*7+fe0480;1 saved bytes=a401030263616263031b+ff*7+fe0480;18446744073709551614 \
     sign-in;22 sign-in;22 register;27 sign-in account=;27 register algs=;0 restart;22 sign-in
 no more sessions and no more numbers|rows=one;0 load bytes=a401030263616263031b+ff*6+fbff0480;18446744073709551614 all-sign-ins;21 sign-in;21 register;27 \

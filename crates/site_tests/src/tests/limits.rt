@@ -1,7 +1,9 @@
-//! The limits of a site's rp id and origins, in each way to make one.
+//! The limits of a site's rp id and origins, in each way to make one; the profile of each, and the tables that it takes.
 
+use super::responses::KEY;
 use super::stored::policy;
-use site::{Error, Site, Table};
+use authdata::Profile;
+use site::{Error, Row, Site, Table};
 use std::alloc::{AllocError, Global};
 use std::test::Fail;
 
@@ -25,6 +27,46 @@ fn are_made(alloc: Global, rp_id: &str, origins: &[&str], wanted: bool) -> bool 
             Site::with_rows(alloc, rp_id, origins, policy, Vec::new(alloc)),
             wanted,
         )
+}
+
+/// A table of the open profile, with an id of 65 bytes.
+fn long_table(alloc: Global) -> Result<Table, credential_table::Error> {
+    let mut rows = Vec::new(alloc);
+    let row = Row {
+        id: Vec::from_slice(alloc, &[7; 65])?,
+        user: Vec::from_slice(alloc, &[1])?,
+        key: KEY,
+        sign_count: 0,
+        eligible: None,
+        retired: false,
+    };
+    if rows.push(row).is_err() {
+        return Err(credential_table::Error::Memory);
+    }
+    Table::with_profile(alloc, Profile::Open, rows)
+}
+
+/// Whether a site is made of this profile, or else refused for its table.
+fn is_of(made: Result<Site, Error>, profile: Option<Profile>) -> bool {
+    match made {
+        Ok(site) => profile == Some(site.profile()),
+        Err(error) => profile.is_none() && error == Error::BadTable,
+    }
+}
+
+#[test]
+fn profiles(rt: HostRuntime) -> Result<(), Fail> {
+    let (alloc, policy) = (rt.alloc(), policy(""));
+    let (strict, open) = (long_table(alloc)?, long_table(alloc)?);
+    let strict = Site::with_table(alloc, "abc", &["https://abc"], policy, strict);
+    let open = Site::open_with_table(alloc, "abc", &["https://abc"], policy, open);
+    assert!(rt; is_of(strict, None));
+    assert!(rt; is_of(open, Some(Profile::Open)));
+    let strict = Site::new(alloc, "abc", &["https://abc"], policy);
+    let open = Site::open(alloc, "abc", &["https://abc"], policy);
+    assert!(rt; is_of(strict, Some(Profile::Strict)));
+    assert!(rt; is_of(open, Some(Profile::Open)));
+    Ok(())
 }
 
 /// A text of so many letters.

@@ -1,6 +1,7 @@
 //! Saved tables: which are loaded, and what is saved of them then.
 
 use super::values::bytes_of;
+use authdata::Profile;
 use saved_table::{Error, load, save};
 use std::alloc::Global;
 use std::test::Fail;
@@ -15,6 +16,26 @@ no credentials|a40103026361626303010480|0
 the longest id|a40103026361626303020481a4015840+61*64+02410103+K+0400|1
 the greatest counter|a40103026361626303020481a401410a02410103+K+041affffffff|1
 two|a40103026361626303020482a401410a02410103+K+0400a4015840+61*64+02410103+K+0400|2";
+
+/// Tables of the open profile alone.
+const OPEN_TABLES: Table =
+    "an id of 65 bytes|a40104026361626303020481a4015841+61*65+02410103+K+0400|1
+an id of 255 bytes|a40104026361626303020481a40158ff+61*255+02410103+K+0400|1
+an id of 1,023 bytes|a40104026361626303020481a4015903ff+61*1023+02410103+K+0400|1
+a longer one behind a shorter|a40104026361626303020482a501410a02410103+K+040006f5a4015841+61*65+02410103+K+0400|2
+a longer one first, and eligible|a40104026361626303020482a5015841+61*65+02410103+K+040005f4a401410a02410103+K+0400|2";
+
+/// No tables in either profile, for the lengths of their ids.
+const OF_IDS: Table =
+    "an id of 1,024 bytes|a40104026361626303020481a401590400+61*1024+02410103+K+0400
+an id of 65 bytes in version 3|a40103026361626303020481a4015841+61*65+02410103+K+0400
+the same in version 2|a40102026361626303020481a4015841+61*65+02410103+K+0400
+the same in version 1|a40101026361626303020481a4015841+61*65+02410103+K+0400
+the same in version 5|a40105026361626303020481a4015841+61*65+02410103+K+0400
+no longer id in version 4|a40104026361626303020481a4015840+61*64+02410103+K+0400
+no credential in version 4|a40104026361626303020480
+no id in version 4|a40104026361626303020482a4014002410103+K+0400a4015841+61*65+02410103+K+0400
+an id of 65 bytes twice|a40104026361626303020482a4015841+61*65+02410103+K+0400a4015841+61*65+02410103+K+0400";
 
 /// No tables, for what is around the credentials.
 const OF_TABLES: Table = "no bytes|
@@ -36,7 +57,6 @@ fewer credentials than told|a40103026361626303020482a401410a02410103+K+0401";
 const OF_CREDENTIALS: Table =
     "an id twice|a40103026361626303020482a401410a02410103+K+0401a501410a02410103+K+040006f5
 no id|a40103026361626303020481a4014002410103+K+0401
-an id of 65 bytes|a40103026361626303020481a4015841+61*65+02410103+K+0401
 no user|a40103026361626303020481a401410a024003+K+0401
 a user of 65 bytes|a40103026361626303020481a401410a025841+61*65+03+K+0401
 a key of 31 bytes|a40103026361626303020481a401410a02410103a401010327200621581f+11*31+0401
@@ -50,14 +70,24 @@ retired false|a40103026361626303020481a501410a02410103+K+040106f4
 a seventh member|a40103026361626303020481a501410a02410103+K+040107f5";
 
 /// Whether as many credentials are loaded as the line says, or, where it says nothing, the bytes are no table.
-fn is_loaded(alloc: Global, line: &str) -> Result<bool, Error> {
+fn is_loaded(alloc: Global, profile: Profile, line: &str) -> Result<bool, Error> {
     let bytes = bytes_of(alloc, part(line, 1))?;
-    let count = match load(alloc, &bytes, "abc") {
+    let count = match load(alloc, profile, &bytes, "abc") {
         Ok(loaded) => Some(loaded.table.len()),
         Err(Error::BadTable) => None,
         Err(Error::Memory) => return Err(Error::Memory),
     };
     Ok(count == part(line, 2).parse().ok())
+}
+
+/// Whether the strict profile has no table of these bytes.
+fn is_open_alone(alloc: Global, line: &str) -> Result<bool, Error> {
+    let bytes = bytes_of(alloc, part(line, 1))?;
+    match load(alloc, Profile::Strict, &bytes, "abc") {
+        Ok(_) => Ok(false),
+        Err(Error::BadTable) => Ok(true),
+        Err(Error::Memory) => Err(Error::Memory),
+    }
 }
 
 /// What is loaded, and what is saved then, always of version 3.
@@ -67,23 +97,32 @@ a40102026361626303020481a501410a02410103+K+040105f5|a40103026361626303020481a501
 a40103026361626303020481a601410a02410103+K+040105f406f5|a40103026361626303020481a601410a02410103+K+040105f406f5";
 
 /// Whether this is saved of what is loaded of these bytes, and its next session's number is not 0.
-fn is_saved(alloc: Global, line: &str) -> Result<bool, Error> {
-    let bytes = bytes_of(alloc, part(line, 0))?;
-    let loaded = load(alloc, &bytes, "abc")?;
+fn is_saved(alloc: Global, profile: Profile, from: &str, to: &str) -> Result<bool, Error> {
+    let bytes = bytes_of(alloc, from)?;
+    let loaded = load(alloc, profile, &bytes, "abc")?;
     let mut out = Vec::new(alloc);
     save("abc", loaded.next, &loaded.table, &mut out)?;
-    Ok(loaded.next != 0 && out.as_slice() == bytes_of(alloc, part(line, 1))?.as_slice())
+    Ok(loaded.next != 0 && out.as_slice() == bytes_of(alloc, to)?.as_slice())
 }
 
 #[test]
 fn tables(rt: HostRuntime) -> Result<(), Fail> {
-    for table in [TABLES, OF_TABLES, OF_CREDENTIALS] {
-        for line in table.lines() {
-            assert!(rt; is_loaded(rt.alloc(), line)?, "{line}");
+    for profile in [Profile::Strict, Profile::Open] {
+        for table in [TABLES, OF_TABLES, OF_CREDENTIALS, OF_IDS] {
+            for line in table.lines() {
+                assert!(rt; is_loaded(rt.alloc(), profile, line)?, "{line}");
+            }
+        }
+        for line in SAVED.lines() {
+            let is_saved = is_saved(rt.alloc(), profile, part(line, 0), part(line, 1))?;
+            assert!(rt; is_saved, "{line}");
         }
     }
-    for line in SAVED.lines() {
-        assert!(rt; is_saved(rt.alloc(), line)?, "{line}");
+    for line in OPEN_TABLES.lines() {
+        assert!(rt; is_open_alone(rt.alloc(), line)?, "{line}");
+        assert!(rt; is_loaded(rt.alloc(), Profile::Open, line)?, "{line}");
+        let is_saved = is_saved(rt.alloc(), Profile::Open, part(line, 1), part(line, 1))?;
+        assert!(rt; is_saved, "{line}");
     }
     Ok(())
 }

@@ -3,6 +3,7 @@ use Rattle.std.proofs.Common.{◌≡◌, ◌++◌, map}
 use Rattle.refusal_order.specs.Lines.{Each}
 use Rattle.ccbor.specs.View.{view}
 use Rattle.verification.specs.Views.{credential_view}
+use Rattle.authdata.specs.declared.profile.Profile.TheVariants.{Open}
 use Rattle.credential_table.specs.Table.{IsTable}
 use Rattle.credential_table.specs.Views.{stored_row_view}
 use Rattle.saved_table.specs.Saved.{FitsVersion, credential_item}
@@ -12,7 +13,7 @@ abbrev pub invariant-loop-row : goal.invariant-loop-row
 invariant-loop-row l =
     (goal.iterator-loop-row).can_next l.row-iterator ×
     (goal.iterator-loop-row).is_finite l.row-iterator ×
-    IsTable l.table ×
+    IsTable Open l.table ×
     Each (FitsVersion 3) (map credential_view l.yielded) ×
     (map view l.values.items ≡ map credential_item (map credential_view l.yielded)) ×
     (l.table ≡ map credential_view l.yielded ++ map (λ e. stored_row_view e.0.items e.1) l.row-iterator.0)

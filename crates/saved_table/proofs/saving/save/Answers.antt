@@ -2,20 +2,32 @@
 use Rattle.std.proofs.Common.{◌<◌, ◌^◌, length, Err, refl, ap, subst, arith}
 use Rattle.ccbor.specs.Item.{Item}
 use Rattle.ccbor.specs.Canon.{AppendsCanon, spelling}
-use Rattle.saved_table.specs.Saved.{Saved, table_item}
+use Rattle.saved_table.specs.Saved.{Saved, table_item, version_of}
 use Rattle.saved_table.proofs.Fitting.{table_fits}
+use Rattle.saved_table.proofs.Versions.{fits_written, ids_of, is_long, known_version, small_version}
 use Rattle.saved_table.proofs.saving.save.Goals as goal
 
 pub returns-in-Ok-clause-saved : goal.returns-in-Ok-clause-saved
 returns-in-Ok-clause-saved c =
     let v = c.in_ok-value.ensures in
     let a = subst (λ (x : Item). AppendsCanon x c.args.out.now.items c.encode.new.out.items) v.value c.in-Ok.ensures.ok in
-    (a.0, record { known = (omega arith, omega arith); next = c.requires; rows = v.fit.0; each = v.fit.1; spelled = a.1 }, a.2)
+    let rows = c.args.table.now in (
+      a.0,
+      record {
+        known = known_version rows;
+        next = c.requires;
+        rows = (v.fit.0.0, ids_of rows v.fit.0.1);
+        each = fits_written rows v.fit.1;
+        long = is_long rows;
+        spelled = a.1;
+      },
+      a.2,
+    )
 
 pub unreachable-requires : goal.unreachable-requires
 unreachable-requires c =
     let v = c.in_ok-value.ensures in
     let saved : Saved = record { rp_id = c.args.rp_id.now; next = c.args.next; rows = c.args.table.now } in
     let short : length c.args.rp_id.now < 2 ^ 64 = omega arith in
-    let fits = table_fits 3 saved (omega arith) (omega arith) short c.utf8.rp_id v.fit.0 v.fit.1 in
-    c.in-Err-Unfit.ensures.unfit (ap Err c.in-Err-Unfit.field-0-is) (spelling (table_item 3 saved)) (rw v.value (fits, refl))
+    let fits = table_fits (version_of saved.rows) saved (small_version saved.rows) (omega arith) short c.utf8.rp_id v.fit.0 (fits_written saved.rows v.fit.1) in
+    c.in-Err-Unfit.ensures.unfit (ap Err c.in-Err-Unfit.field-0-is) (spelling (table_item (version_of saved.rows) saved)) (rw v.value (fits, refl))

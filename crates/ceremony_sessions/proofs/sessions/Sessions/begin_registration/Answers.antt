@@ -1,25 +1,26 @@
 -- What is owed of `Sessions::begin_registration`.
 use Rattle.std.proofs.lemmas.Result.{err_from_is_err_and}
+use Rattle.authdata.specs.declared.profile.Profile.TheVariants.{Strict}
 use Rattle.ceremony_sessions.specs.Sessions.{OpensRegistration}
 use Rattle.ceremony_sessions.proofs.sessions.Sessions.begin_registration.Goals as goal
 
 pub returns-in_err-admit-clause-refused : goal.returns-in_err-admit-clause-refused
-returns-in_err-admit-clause-refused c =
+returns-in_err-admit-clause-refused c = λ profile.
     let p = err_from_is_err_and c.from_residual.result c.from_residual.ensures.1 in
     let asked = OpensRegistration c.args.user.now c.args.algorithms.now c.args.uv c.args.words in
-    rw (p.1, p.2) (c.in_err-admit.ensures.refused asked (c.is_registration.ensures c.args.words c.args.uv))
+    rw (p.1, p.2) (c.in_err-admit.ensures.refused profile asked (c.is_registration.ensures profile c.args.words c.args.uv))
 
 pub add-requires-clause-number : goal.add-requires-clause-number
 add-requires-clause-number c =
     let asked = OpensRegistration c.args.user.now c.args.algorithms.now c.args.uv c.args.words in
-    (c.in_ok-admit.ensures.passes asked (c.is_registration.ensures c.args.words c.args.uv)).1.1.0
+    (c.in_ok-admit.ensures.passes Strict asked (c.is_registration.ensures Strict c.args.words c.args.uv)).1.1.0
 
 pub add-requires-clause-limits : goal.add-requires-clause-limits
 add-requires-clause-limits c =
     let asked = OpensRegistration c.args.user.now c.args.algorithms.now c.args.uv c.args.words in
-    rw c.in_ok-from_slice.ensures.items (c.in_ok-admit.ensures.passes asked (c.is_registration.ensures c.args.words c.args.uv)).0.0
+    rw c.in_ok-from_slice.ensures.items (c.in_ok-admit.ensures.passes Strict asked (c.is_registration.ensures Strict c.args.words c.args.uv)).0.0
 
 pub returns-clause-passes : goal.returns-clause-passes
-returns-clause-passes c =
+returns-clause-passes c = λ profile.
     let asked = OpensRegistration c.args.user.now c.args.algorithms.now c.args.uv c.args.words in
-    c.in_ok-admit.ensures.passes asked (c.is_registration.ensures c.args.words c.args.uv)
+    c.in_ok-admit.ensures.passes profile asked (c.is_registration.ensures profile c.args.words c.args.uv)

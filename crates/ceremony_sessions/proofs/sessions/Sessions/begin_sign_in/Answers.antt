@@ -9,14 +9,14 @@ pub returns-in_err-admit-clause-refused : goal.returns-in_err-admit-clause-refus
 returns-in_err-admit-clause-refused c =
     let p = err_from_is_err_and c.from_residual.result c.from_residual.ensures.1 in
     let asked = OpensSignIn (option_map (λ u. u.now) c.args.user) (map (λ id. id.now) c.args.allow.now) c.args.uv c.args.words in
-    rw (p.1, p.2) (c.in_err-admit.ensures.refused asked (c.is_sign_in.ensures c.args.words c.args.uv))
+    rw (p.1, p.2) (c.in_err-admit.ensures.refused c.args.profile asked (c.is_sign_in.ensures c.args.words c.args.uv))
 
 pub add-requires-clause-number : goal.add-requires-clause-number
 add-requires-clause-number c =
     let asked = OpensSignIn (option_map (λ u. u.now) c.args.user) (map (λ id. id.now) c.args.allow.now) c.args.uv c.args.words in
-    (c.in_ok-admit.ensures.passes asked (c.is_sign_in.ensures c.args.words c.args.uv)).1.1.0
+    (c.in_ok-admit.ensures.passes c.args.profile asked (c.is_sign_in.ensures c.args.words c.args.uv)).1.1.0
 
 pub returns-clause-passes : goal.returns-clause-passes
 returns-clause-passes c =
     let asked = OpensSignIn (option_map (λ u. u.now) c.args.user) (map (λ id. id.now) c.args.allow.now) c.args.uv c.args.words in
-    c.in_ok-admit.ensures.passes asked (c.is_sign_in.ensures c.args.words c.args.uv)
+    c.in_ok-admit.ensures.passes c.args.profile asked (c.is_sign_in.ensures c.args.words c.args.uv)

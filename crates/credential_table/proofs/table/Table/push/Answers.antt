@@ -2,6 +2,7 @@
 use Rattle.std.proofs.Common.{◌≡◌, ◌≤◌, ◌+◌, ◌++◌, [], ◌∷◌, length, map, None, sym, ◌∙◌, subst, arith}
 use Rattle.std.proofs.lemmas.List.{length-append}
 use Rattle.indexmap.proofs.CallerLemmas.{insert_entry-new}
+use Rattle.authdata.specs.declared.profile.Profile.TheVariants.{Open}
 use Rattle.credential_table.proofs.Entries.{entry_view, none_kept, one_entry_more}
 use Rattle.credential_table.proofs.RowLemmas.{one_more}
 use Rattle.credential_table.specs.Table.{row_of, IsTable}
@@ -25,4 +26,10 @@ invariant_of-self-2 c =
     let room : length (map entry_view rows.entries) + 1 ≤ 65536 = let r = c.requires.room in rw c.self.view_is (omega (arith, r)) in
     let len : length (map entry_view rows.entries ++ row_view c.args.row ∷ []) ≤ 65536 =
     omega (arith, room, length-append (map entry_view rows.entries) (row_view c.args.row ∷ [])) in
-    subst IsTable (sym pushed) (len, one_more (map entry_view rows.entries) (row_view c.args.row) c.self.invariant.1 c.requires.limits absent)
+    subst (IsTable Open) (sym pushed) (len, one_more Open (map entry_view rows.entries) (row_view c.args.row) c.self.invariant.1 c.requires.limits absent)
+
+pub returns-clause-limits : goal.returns-clause-limits
+returns-clause-limits c = λ p table limits.
+    let room = c.requires.room in
+    let longer = length-append c.args.self.now (row_view c.args.row ∷ []) in
+    subst (IsTable p) (sym (returns-clause-pushed c)) (omega (arith, room, longer), one_more p c.args.self.now (row_view c.args.row) table.1 limits c.requires.absent)

@@ -10,4 +10,4 @@ pub returns-clause-after : goal.returns-clause-after
 returns-clause-after c = λ _.
     let row : Credential = credential_view c.in-Some.row in
     let same = found_id c.args.id.now c.args.self.now row (sym c.in-Some.ensures.row) in
-    c.retire_at.ensures row c.in-Some.ensures.place ∙ ap (λ id. with_row id retired c.args.self.now) same
+    c.retire_at.ensures.retired row c.in-Some.ensures.place ∙ ap (λ id. with_row id retired c.args.self.now) same

@@ -1,5 +1,6 @@
 -- What is owed of `Table::store`.
 use Rattle.std.proofs.Common.{◌≡◌, map, Some, slice_get, refl, sym, ap, ◌∙◌, subst}
+use Rattle.authdata.specs.declared.profile.Profile.TheVariants.{Open}
 use Rattle.credential_table.specs.Table.{IsTable, signed_in}
 use Rattle.credential_table.proofs.Entries.{entry_view, stored, limits_stored, beyond, within}
 use Rattle.credential_table.proofs.table.Table.store.Goals.{in-Some, in_default}
@@ -10,7 +11,7 @@ returns-clause-stored c = elim c.match-get_index_mut.branch [
   | in-Some w ↦ λ row is.
       let here : slice_get (map entry_view c.self.inside.rows.entries) c.args.place ≡ Some row = rw c.self.view_is is in
       rw (← c.self.view_is) (ap (λ x. map entry_view x.rows.entries) w.self-inside-is
-      ∙ stored (signed_in c.args.sign_count c.args.eligible) c.self.inside.rows.entries c.args.place w.in-Some.kept.now _ c.self.invariant
+      ∙ stored Open (signed_in c.args.sign_count c.args.eligible) c.self.inside.rows.entries c.args.place w.in-Some.kept.now _ c.self.invariant
       (sym w.in-Some.ensures.value) (λ id. refl) row here)
   | in_default w ↦ λ row is. absurd (beyond c.self.inside.rows.entries c.args.place row (sym w.in_default.ensures.value) (rw c.self.view_is is))
 ]
@@ -23,9 +24,20 @@ returns-clause-unchanged c = elim c.match-get_index_mut.branch [
 
 pub invariant_of-self : goal.invariant_of-self
 invariant_of-self c = elim c.match-get_index_mut.branch [
-  | in-Some w ↦ subst (λ x. IsTable (map entry_view x.rows.entries)) (sym w.self-inside-is)
-      (limits_stored (signed_in c.args.sign_count c.args.eligible) c.self.inside.rows.entries c.args.place w.in-Some.kept.now _ c.self.invariant
+  | in-Some w ↦ subst (λ x. IsTable Open (map entry_view x.rows.entries)) (sym w.self-inside-is)
+      (limits_stored Open (signed_in c.args.sign_count c.args.eligible) c.self.inside.rows.entries c.args.place w.in-Some.kept.now _ c.self.invariant
       (sym w.in-Some.ensures.value) (λ id. refl)
       (record { id = λ r. refl; user = λ r. refl }))
-  | in_default w ↦ subst (λ x. IsTable (map entry_view x.rows.entries)) (sym w.self-inside-is) c.self.invariant
+  | in_default w ↦ subst (λ x. IsTable Open (map entry_view x.rows.entries)) (sym w.self-inside-is) c.self.invariant
 ]
+
+pub returns-clause-limits : goal.returns-clause-limits
+returns-clause-limits c = λ p table.
+    let here : IsTable p (map entry_view c.self.inside.rows.entries) = rw c.self.view_is table in
+    elim c.match-get_index_mut.branch [
+      | in-Some w ↦ subst (λ x. IsTable p (map entry_view x.rows.entries)) (sym w.self-inside-is)
+          (limits_stored p (signed_in c.args.sign_count c.args.eligible) c.self.inside.rows.entries c.args.place w.in-Some.kept.now _ here
+          (sym w.in-Some.ensures.value) (λ id. refl)
+          (record { id = λ r. refl; user = λ r. refl }))
+      | in_default w ↦ subst (λ x. IsTable p (map entry_view x.rows.entries)) (sym w.self-inside-is) here
+    ]

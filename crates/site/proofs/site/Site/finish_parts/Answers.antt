@@ -1,5 +1,5 @@
 -- What is owed of `Site::finish_parts`.
-use Rattle.std.proofs.Common.{◌≡◌, ◌∙◌, ap, sym, subst}
+use Rattle.std.proofs.Common.{◌≡◌, ◌≤◌, ◌∙◌, ap, sym, subst}
 use Rattle.std.specs.Prelude.{IfSome, Some, option_map, slice_get}
 use Rattle.std.proofs.lemmas.Option.{same_Some}
 use Rattle.std.proofs.lemmas.Result.{err_from_is_err_and}
@@ -49,3 +49,10 @@ returns-clause-after g c =
           c.in_ok-verified.verified.eligible _ id tells.2 tells.3)
           c.close.ensures.closed,
     )
+
+pub invariant_of-self : goal.invariant_of-self
+invariant_of-self g c = (
+  c.store.ensures.limits c.self.inside.party.profile c.self.invariant.0,
+  c.self.invariant.1,
+  subst (λ s. 1 ≤ s.next) (sym c.close.ensures.closed) c.self.invariant.2,
+)

@@ -1,15 +1,14 @@
 -- What is owed of `Site::finish_registration_parts`.
-use Rattle.std.proofs.Common.{rules, ◌≡◌, ◌∙◌, ap, sym, subst, ◌++◌, ◌∷◌, []}
+use Rattle.std.proofs.Common.{◌≡◌, ◌≤◌, ◌∙◌, ap, sym, subst, ◌++◌, ◌∷◌, []}
 use Rattle.std.specs.Prelude.{None, is_some, option_map}
 use Rattle.std.proofs.lemmas.Result.{err_from_is_err_and}
 use Rattle.authdata.specs.Profiles.{max_id}
-use Rattle.authdata.specs.declared.profile.Profile.TheVariants.{Strict}
 use Rattle.verification.specs.Registration.{IsFirstFailing, PassesRegistration}
 use Rattle.verification.specs.RegistrationAnswers.{IsRefused}
 use Rattle.verification.specs.Views.{registration_view, registration_parts_view}
 use Rattle.credential_table.specs.Table.{IsWithin, row_of}
 use Rattle.site.proofs.Judged.{admitted_as, same_row, all_pass, attested_limits, has_room, is_full, no_row, said_full, said_row, same_registration}
-use Rattle.site.proofs.Judged.{same_state, some_seen, table_fails}
+use Rattle.site.proofs.Judged.{looser_id, same_state, some_seen, table_fails}
 use Rattle.site.proofs.site.Site.finish_registration_parts.Goals as goal
 
 pub returns-in_err-verified-clause-refused : goal.returns-in_err-verified-clause-refused
@@ -44,12 +43,11 @@ pub push-requires-clause-limits : goal.push-requires-clause-limits
 push-requires-clause-limits g c =
     let tells = c.in_ok-verified.ensures.accepted.0 in
     let brought = ap (λ v. v.id) c.in_ok-admitted.ensures.admitted ∙ tells.4 in
-    let strict : c.self.inside.party.profile ≡ Strict = search rules in
     let low = attested_limits c.self.inside.party.profile tells.1 tells.2 tells.3.auth_data.0 tells.3.attested in
-    let id = subst (IsWithin 64) (sym brought) (subst (λ p. IsWithin (max_id p) tells.2.id) strict low) in
+    let id = subst (IsWithin (max_id c.self.inside.party.profile)) (sym brought) low in
     let open_for = sym c.registration-expected.ensures.expected ∙ ap (option_map (λ s. registration_view s.now)) c.unwrap.ensures in
     let user = c.registration-expected.ensures.limits (registration_view c.unwrap.result.now) open_for in
-    (id, subst (IsWithin 64) (sym (c.in_ok-user.ensures.items ∙ c.deref.ensures.value)) user)
+    (looser_id c.self.inside.party.profile _ id, subst (IsWithin 64) (sym (c.in_ok-user.ensures.items ∙ c.deref.ensures.value)) user)
 
 pub push-requires-clause-absent : goal.push-requires-clause-absent
 push-requires-clause-absent g c =
@@ -120,4 +118,18 @@ returns-clause-after g c =
           (same_row (ap (λ v. v.id) given ∙ tells.4) (c.in_ok-user.ensures.items ∙ c.deref.ensures.value)
           (ap (λ v. v.key) given ∙ tells.5) (ap (λ v. v.sign_count) given ∙ tells.6) (ap (λ v. v.eligible) given ∙ tells.7)))
           c.close.ensures.closed,
+    )
+
+pub invariant_of-self-2 : goal.invariant_of-self-2
+invariant_of-self-2 g c =
+    let tells = c.in_ok-verified.ensures.accepted.0 in
+    let brought = ap (λ v. v.id) c.in_ok-admitted.ensures.admitted ∙ tells.4 in
+    let low = attested_limits c.self.inside.party.profile tells.1 tells.2 tells.3.auth_data.0 tells.3.attested in
+    let id = subst (IsWithin (max_id c.self.inside.party.profile)) (sym brought) low in
+    let open_for = sym c.registration-expected.ensures.expected ∙ ap (option_map (λ s. registration_view s.now)) c.unwrap.ensures in
+    let user = c.registration-expected.ensures.limits (registration_view c.unwrap.result.now) open_for in
+    let handle = subst (IsWithin 64) (sym (c.in_ok-user.ensures.items ∙ c.deref.ensures.value)) user in (
+      c.in_ok-push.ensures.limits c.self.inside.party.profile c.self.invariant.0 (id, handle),
+      c.self.invariant.1,
+      subst (λ s. 1 ≤ s.next) (sym c.close.ensures.closed) c.self.invariant.2,
     )
