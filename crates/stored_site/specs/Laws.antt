@@ -1,0 +1,27 @@
+-- What holds of the rows, as relations between them and what they stand for.
+use Rattle.std.specs.Prelude.{◌≡◌, ◌+◌, ◌++◌, ℕ, pos, List, [], ◌∷◌, length, Some, slice_get}
+use Rattle.std.specs.FinMap as finite
+use Rattle.std.specs.Ordering.{nat_cmp}
+use Rattle.sqlite_trees.specs.Tree.{put_row, without_rowid}
+use Rattle.authdata.specs.declared.profile.Profile.{Profile}
+use Rattle.verification.specs.Records.{Credential}
+use Rattle.credential_table.specs.Table.{AreRows, with_row}
+use Rattle.ceremony_sessions.specs.Sessions.{Expected}
+use Rattle.stored_site.specs.Rows.{credential_row, credential_rows}
+use Rattle.stored_site.specs.SessionRows.{session_row, session_rows}
+
+pub record RowLaws : Type 0 where
+  -- a row is one credential's, at one place
+  pub one_credential : (p q : ℕ) (c d : Credential) → credential_row p c ≡ credential_row q d → (p ≡ q) × (c ≡ d)
+  -- the row that is written at a place changes the credential that stands there, and no other
+  pub written : (profile : Profile) (rows : List Credential) (i : ℕ) (row : Credential) (change : Credential → Credential) → AreRows profile rows
+      → slice_get rows i ≡ Some row
+      → put_row (credential_row (i + 1) (change row)) (credential_rows 1 rows) ≡ credential_rows 1 (with_row row.id change rows)
+  -- the row behind the last is one more credential
+  pub pushed : (rows : List Credential) (row : Credential)
+      → put_row (credential_row (length rows + 1) row) (credential_rows 1 rows) ≡ credential_rows 1 (rows ++ row ∷ [])
+  -- a session's row that is written opens it, and one that is deleted closes it
+  pub opened : (sessions : finite.FinMap nat_cmp Expected) (n : ℕ) (e : Expected)
+      → put_row (session_row n e) (session_rows sessions) ≡ session_rows (finite.insert sessions n e)
+  pub closed : (sessions : finite.FinMap nat_cmp Expected) (n : ℕ)
+      → without_rowid (pos n) (session_rows sessions) ≡ session_rows (finite.remove sessions n)

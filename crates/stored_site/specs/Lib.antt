@@ -1,0 +1,4 @@
+pub mod Rows
+pub mod SessionRows
+pub mod Laws
+pub mod Private

@@ -1,0 +1,37 @@
+-- A relying party's open sessions as rows of a table of a SQLite file.
+use Rattle.std.specs.Prelude.{ℕ, pos, Option, Some, None, List, [], ◌∷◌, map, slice_get, codes}
+use Rattle.std.specs.List.{flat_map}
+use Rattle.std.specs.FinMap as finite
+use Rattle.std.specs.Ordering.{nat_cmp}
+use Rattle.sqlite_value.specs.Order.{Row}
+use Rattle.sqlite_value.specs.declared.value.Value.{Value}
+use Rattle.sqlite_value.specs.declared.value.Value.TheVariants.{Null, Int, Blob, Text}
+use Rattle.cose.specs.declared.key.Alg.{Alg}
+use Rattle.cose.specs.declared.key.Alg.TheVariants as algs
+use Rattle.ceremony_sessions.specs.Sessions.{Expected, ForSignIn, ForRegistration}
+use Rattle.stored_site.specs.Rows.{truth_value}
+
+abbrev pub blob_or_null : Option (List ℕ) → Value
+blob_or_null None = Null
+blob_or_null (Some bytes) = Blob bytes
+
+-- the numbers of the algorithms offered (RFC 9053, section 2), one behind the other
+abbrev pub number_text : Alg → List ℕ
+number_text algs.Es256 = codes "-7"
+number_text algs.EdDsa = codes "-8"
+
+-- the columns of the credentials that may answer: allow_1 to allow_8
+abbrev pub listed : List (List ℕ) → Row
+listed allow = map (λ i. blob_or_null (slice_get allow i)) (0 ∷ 1 ∷ 2 ∷ 3 ∷ 4 ∷ 5 ∷ 6 ∷ 7 ∷ [])
+
+-- the columns: number, ceremony, challenge, user_handle, user_verification, algorithms, began_at, allow_1 to allow_8
+abbrev pub session_row : ℕ → Expected → Row
+session_row number (ForSignIn e) =
+    Int (pos number) ∷ Null ∷ Text (codes "sign-in") ∷ Blob e.challenge ∷ blob_or_null e.user ∷ truth_value e.uv ∷ Null ∷ Null ∷ listed e.allow
+session_row number (ForRegistration e) =
+    Int (pos number) ∷ Null ∷ Text (codes "registration") ∷ Blob e.challenge ∷ Blob e.user ∷ truth_value e.uv
+    ∷ Text (flat_map number_text e.algorithms) ∷ Null ∷ listed []
+
+-- the rows of the open sessions, in the order of their numbers
+abbrev pub session_rows : finite.FinMap nat_cmp Expected → List Row
+session_rows sessions = map (λ e. session_row e.0 e.1) (finite.entries sessions)
