@@ -199,5 +199,5 @@ class Server:
             answer = passkey.passkey_assertion(ctypes.byref(call), ctypes.byref(out))
         _answer(False, answer)
         assert credential is not None
-        eligible = credential.eligible if credential.eligible is not None else out.eligible
-        return SignedIn(replace(credential, sign_count=out.sign_count, eligible=eligible), credential, out.backed_up)
+        now = replace(credential, sign_count=out.sign_count, eligible=out.eligible)
+        return SignedIn(now, credential, out.backed_up)

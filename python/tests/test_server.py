@@ -41,6 +41,7 @@ def test_registration_and_sign_ins(server, algorithm, packed):
     for count in (1, 2, 3):
         options, session = server.authenticate_begin(user=USER, allow=[credential.id], user_verification=True)
         signed_in = server.authenticate_complete(session, device.sign_in(options), credential={device.id: credential}.get)
+        assert signed_in.before == credential
         credential = signed_in.credential
         assert credential.sign_count == count and not signed_in.backed_up
 
