@@ -109,8 +109,9 @@ class Server:
         call.is_full = is_full
         out = library.RegistrationOut()
         answer = passkey.passkey_registration(ctypes.byref(call), ctypes.byref(out))
-        asked = library.SignatureCall(True, self.open_profile, registration=call.response)
-        if answer == 13 and self._verify_asked(lender, call, asked, len(attestation_object)):
+        if answer == 13 and self._verify_asked(
+                lender, call, library.SignatureCall(True, self.open_profile, registration=call.response),
+                len(attestation_object)):
             answer = passkey.passkey_registration(ctypes.byref(call), ctypes.byref(out))
         _answer(True, answer)
         assert session is not None
@@ -194,8 +195,9 @@ class Server:
             lender.bytes(signature), lender.bytes(client_data))
         out = library.AssertionOut()
         answer = passkey.passkey_assertion(ctypes.byref(call), ctypes.byref(out))
-        asked = library.SignatureCall(False, assertion=call.response, key=call.credential.key)
-        if answer == 14 and self._verify_asked(lender, call, asked, max(len(auth_data), len(signature))):
+        if answer == 14 and self._verify_asked(
+                lender, call, library.SignatureCall(False, assertion=call.response, key=call.credential.key),
+                max(len(auth_data), len(signature))):
             answer = passkey.passkey_assertion(ctypes.byref(call), ctypes.byref(out))
         _answer(False, answer)
         assert credential is not None
