@@ -12,7 +12,6 @@ use Rattle.verification.specs.Records as registered
 use Rattle.ceremony_sessions.specs.Sessions.{Opening}
 use Rattle.site.specs.State as site
 use Rattle.site.specs.Laws.{after_begin}
-use Rattle.authenticator.specs.State.{CredentialSource}
 use Rattle.authenticator.specs.Steps.{Entry, Keys, assertion, attestation, key_of}
 use Rattle.client.specs.Responses.{response_of}
 use Rattle.ceremony.specs.SignIn as sign_in

@@ -6,7 +6,7 @@ use Rattle.std.proofs.lemmas.Grind.{common_steps}
 use Rattle.authdata.specs.declared.profile.Profile.{Profile}
 use Rattle.authdata.specs.declared.profile.Profile.TheVariants.{Open, Strict}
 use Rattle.verification.specs.Records.{Credential}
-use Rattle.credential_table.specs.Table.{row_of, has_long, with_row, IsRow, AreRows, IsTable}
+use Rattle.credential_table.specs.Table.{row_of, has_long, with_row, IsRow, AreRows}
 
 own_id : (id : List ℕ) → bytes_eq id id ≡ true
 own_id id = (bytes_decides id id).1 refl

@@ -16,7 +16,6 @@ use Rattle.cose.specs.Schemes.{Validity}
 use Rattle.verification.specs.SignIn as authentication
 use Rattle.verification.specs.SignIn.{IsCounted}
 use Rattle.verification.specs.Registration as registration
-use Rattle.verification.specs.Registration.{Attests}
 use Rattle.credential_table.specs.Table.{row_of, with_row, signed_in, retired}
 use Rattle.credential_table.proofs.RowLemmas.{found_id}
 use Rattle.saved_table.specs.Saved.{TableOf}

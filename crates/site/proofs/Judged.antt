@@ -1,8 +1,8 @@
 -- A response as it is judged, by what the table and the sessions answer.
-use Rattle.std.proofs.Common.{◌≡◌, ◌<◌, ◌≤◌, ◌↔◌, ℕ, List, ◌∙◌, ap, refl, subst, inl, inr, arith, nat_lt, length}
+use Rattle.std.proofs.Common.{◌≡◌, ◌<◌, ◌≤◌, ◌↔◌, ℕ, List, ◌∙◌, ap, refl, inl, inr, arith, nat_lt, length}
 use Rattle.std.proofs.lemmas.Grind.{common_steps}
 use Rattle.std.proofs.lemmas.Bool.{cases_Bool}
-use Rattle.std.specs.Prelude.{Bool, true, false, not, Option, Some, None, IfSome, IsSome, IsTrue, is_some, option_map}
+use Rattle.std.specs.Prelude.{Bool, true, false, not, Option, Some, None, IsSome, IsTrue, is_some, option_map}
 use Rattle.refusal_order.specs.Lines.{Each, FirstFailing}
 use Rattle.refusal_order.proofs.Laws.{each_joined, first_along, first_behind}
 use Rattle.authdata.specs.declared.profile.Profile.{Profile}

@@ -1,5 +1,5 @@
 -- What the judgement of a registration answers.
-use Rattle.std.specs.Prelude.{◌≡◌, ℕ, List, Some, true}
+use Rattle.std.specs.Prelude.{◌≡◌, ℕ, List, true}
 use Rattle.refusal_order.specs.Lines.{FirstFailing}
 use Rattle.authdata.specs.Flags.{is_set, BE}
 use Rattle.authdata.specs.Layout.{AttestedCredential, AuthenticatorData}

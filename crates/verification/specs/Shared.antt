@@ -2,7 +2,6 @@
 -- authenticator data (6.1).
 use Rattle.std.specs.Prelude.{◌≡◌, ◌⊎◌, ℕ, List, Bool, true, Contains}
 use Rattle.sha2.specs.Sha256.{sha256}
-use Rattle.cose.specs.declared.key.CoseKey.{CoseKey}
 use Rattle.clientdata.specs.Serialised.{challenge_text_of, type_of}
 use Rattle.clientdata.specs.declared.record.CeremonyType.{CeremonyType}
 use Rattle.clientdata.specs.declared.seen.Binding.TheVariants.{Absent, Supported, NotSupported}

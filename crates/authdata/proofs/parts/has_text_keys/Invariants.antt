@@ -1,5 +1,5 @@
 -- What the loop of `has_text_keys` keeps.
-use Rattle.std.proofs.Common.{◌≡◌, ◌↔◌}
+use Rattle.std.proofs.Common.{◌↔◌}
 use Rattle.ccbor.specs.Viewing.{shown_pairs}
 use Rattle.authdata.specs.Layout.{HasTextKeys}
 use Rattle.authdata.proofs.parts.has_text_keys.Given as goal

@@ -1,5 +1,5 @@
 -- What is owed of `is_serialised_for_any`.
-use Rattle.std.proofs.Common.{◌≡◌, Bool, List, ℕ, rules}
+use Rattle.std.proofs.Common.{Bool, List, ℕ, rules}
 use Rattle.clientdata.specs.Expected.{IsBehindChallenge}
 use Rattle.clientdata.proofs.Lists.{none_such, none_yet}
 use Rattle.clientdata.proofs.expected.is_serialised_for_any.Goals as goal

@@ -3,7 +3,6 @@ use Rattle.std.proofs.Common.{◌≡◌, ◌≤◌, ◌<◌, ◌∙◌, ◌++◌
 use Rattle.std.proofs.lemmas.List.{map-append}
 use Rattle.verification.specs.Views.{credential_view}
 use Rattle.credential_table.specs.Table.{has_long}
-use Rattle.credential_table.specs.Views.{stored_row_view}
 use Rattle.credential_table.proofs.Entries.{entry_view}
 use Rattle.credential_table.proofs.RowLemmas.{all_short, long_there, none_long, short_behind}
 use Rattle.credential_table.proofs.table.Table.has_long_id.Goals as goal
