@@ -28,7 +28,7 @@ use Rattle.authenticator.specs.declared.consent.Consent.{Consent}
 use Rattle.authenticator.specs.declared.consent.Words.{Words}
 use Rattle.authenticator.proofs.Stored.{each_weaker}
 use Rattle.agreement.specs.World.{Asks, AtSite, Done, EventEffect, EventEnd, Event, Happens, Holder, IsNew, IsRun, Moment, Nothing, World, after_call}
-use Rattle.agreement.specs.Ledger.{IsAsked, IsAsserted, IsAttested, IsBetween, IsElsewhere, IsMadeIn, IsNextAsserted, IsSignedInRun, LedgerOfAllRuns}
+use Rattle.agreement.specs.Ledger.{IsAsked, IsBetween, IsElsewhere, IsMadeIn, IsNextAsserted, IsSignedAt, IsSignedInRun, LedgerOfAllRuns}
 use Rattle.agreement.specs.Ledger.{Signs, world_after}
 
 -- ---- one more moment
@@ -37,28 +37,15 @@ longer : (before later : List Moment) (moment m : Moment) (past : List Moment) �
     → past ++ m ∷ [] ≡ before ++ moment ∷ (later ++ m ∷ [])
 longer before later moment m past here = ap (λ ms. ms ++ m ∷ []) here ∙ append_assoc before (moment ∷ later) (m ∷ [])
 
-still_attested : (k : ℕ) (past : List Moment) (m : Moment) (e : Entry) → IsAttested k past e → IsAttested k (past ++ m ∷ []) e
-still_attested k past m e x = record {
+still_signed_at : (k : ℕ) (purpose : Purpose) (q : RequestMessage) (hash : List ℕ) (past : List Moment) (m : Moment) (e : Entry)
+    → IsSignedAt k purpose q hash past e → IsSignedAt k purpose q hash (past ++ m ∷ []) e
+still_signed_at k purpose q hash past m e x = record {
   before = x.before;
   moment = x.moment;
   later = x.later ++ m ∷ [];
   here = longer x.before x.later x.moment m past x.here;
   channel = x.channel;
   words = x.words;
-  request = x.request;
-  asked = x.asked;
-  signs = x.signs;
-}
-
-still_asserted : (k : ℕ) (past : List Moment) (m : Moment) (e : Entry) → IsAsserted k past e → IsAsserted k (past ++ m ∷ []) e
-still_asserted k past m e x = record {
-  before = x.before;
-  moment = x.moment;
-  later = x.later ++ m ∷ [];
-  here = longer x.before x.later x.moment m past x.here;
-  channel = x.channel;
-  words = x.words;
-  request = x.request;
   asked = x.asked;
   signs = x.signs;
 }
@@ -85,8 +72,8 @@ still_next k past m e x = record {
 }
 
 still_signed : (k : ℕ) (past : List Moment) (m : Moment) (e : Entry) → IsSignedInRun k past e → IsSignedInRun k (past ++ m ∷ []) e
-still_signed k past m e (inl x) = inl (still_attested k past m e x)
-still_signed k past m e (inr (inl x)) = inr (inl (still_asserted k past m e x))
+still_signed k past m e (inl x) = inl (x.0, still_signed_at k attestation (make_credential x.0) x.0.client_data_hash past m e x.1)
+still_signed k past m e (inr (inl x)) = inr (inl (x.0, still_signed_at k assertion (get_assertion x.0) x.0.client_data_hash past m e x.1))
 still_signed k past m e (inr (inr x)) = inr (inr (still_next k past m e x))
 
 still_made : (public : Keys) (k : ℕ) (past : List Moment) (m : Moment) (key : CoseKey) → IsMadeIn public k past key → IsMadeIn public k (past ++ m ∷ []) key
@@ -286,14 +273,13 @@ module _ (valid : Validity) (public : Keys) where
               purpose = attestation;
               consent = consent;
             } in
-            let entry : IsAttested k all e = record {
+            let entry : IsSignedAt k attestation (make_credential q) q.client_data_hash all e = record {
               before = past;
               moment = m;
               later = [];
               here = refl;
               channel = channel;
               words = words;
-              request = q;
               asked = asked (make_credential q) is;
               signs = record {
                 signed = ap (λ (h : Holder). h.signed) now ∙ ap (λ l. (m.old.holder k).signed ++ l) h.2;
@@ -305,7 +291,7 @@ module _ (valid : Validity) (public : Keys) where
                 message = refl;
               };
             } in
-            All-same (IsSignedInRun k all) out.signed (e ∷ []) h.2 (All-cons (IsSignedInRun k all) e [] (inl entry) (All-nil (IsSignedInRun k all)))
+            All-same (IsSignedInRun k all) out.signed (e ∷ []) h.2 (All-cons (IsSignedInRun k all) e [] (inl (q, entry)) (All-nil (IsSignedInRun k all)))
 
     -- ---- a credential answers
 
@@ -345,17 +331,19 @@ module _ (valid : Validity) (public : Keys) where
     first_answered q [] is h = absurd h
     first_answered q (id ∷ ids) is h =
         answered id (asked_by channel q consent) ids _ _ q.client_data_hash refl
-        (λ e given signs. inr (inl (record {
-          before = past;
-          moment = m;
-          later = [];
-          here = refl;
-          channel = channel;
-          words = words;
-          request = q;
-          asked = subst (λ (c : Consent). IsAsked k channel c words (get_assertion q) m) (sym given) (asked (get_assertion q) is);
-          signs = signs;
-        })))
+        (λ e given signs. inr (inl (
+          q,
+          record {
+            before = past;
+            moment = m;
+            later = [];
+            here = refl;
+            channel = channel;
+            words = words;
+            asked = subst (λ (c : Consent). IsAsked k channel c words (get_assertion q) m) (sym given) (asked (get_assertion q) is);
+            signs = signs;
+          },
+        )))
         (record {
           before = past;
           first = m;

@@ -52,29 +52,24 @@ pub record Signs (k : ℕ) (purpose : Purpose) (client_data_hash : List ℕ) (e 
   pub spelled : AuthOf Strict auth bytes
   pub message : e.message ≡ bytes ++ client_data_hash
 
--- an attestation at a makeCredential: the entry's consent is the one given to it
-pub record IsAttested (k : ℕ) (past : List Moment) (e : Entry) : Type 0 where
+-- at one of these moments authenticator k signed the entry, asked this and given the entry's consent
+pub record IsSignedAt (k : ℕ) (purpose : Purpose) (q : RequestMessage) (client_data_hash : List ℕ) (past : List Moment) (e : Entry) : Type 0 where
   pub before : List Moment
   pub moment : Moment
   pub later : List Moment
   pub here : past ≡ before ++ moment ∷ later
   pub channel : ℕ
   pub words : Words
-  pub request : CreationRequest
-  pub asked : IsAsked k channel e.consent words (make_credential request) moment
-  pub signs : Signs k attestation request.client_data_hash e moment
+  pub asked : IsAsked k channel e.consent words q moment
+  pub signs : Signs k purpose client_data_hash e moment
 
--- an assertion at a getAssertion: the entry's consent is the one given to it
-pub record IsAsserted (k : ℕ) (past : List Moment) (e : Entry) : Type 0 where
-  pub before : List Moment
-  pub moment : Moment
-  pub later : List Moment
-  pub here : past ≡ before ++ moment ∷ later
-  pub channel : ℕ
-  pub words : Words
-  pub request : AssertionRequest
-  pub asked : IsAsked k channel e.consent words (get_assertion request) moment
-  pub signs : Signs k assertion request.client_data_hash e moment
+-- an attestation at a makeCredential
+abbrev pub IsAttested : ℕ → List Moment → Entry → Type 0
+IsAttested k past e = (q : CreationRequest) × IsSignedAt k attestation (make_credential q) q.client_data_hash past e
+
+-- an assertion at a getAssertion
+abbrev pub IsAsserted : ℕ → List Moment → Entry → Type 0
+IsAsserted k past e = (q : AssertionRequest) × IsSignedAt k assertion (get_assertion q) q.client_data_hash past e
 
 -- an assertion at a getNextAssertion: the entry's consent is the one given to the getAssertion that it goes on with, on the
 -- same channel, with nothing between the two but other getNextAssertions of this channel

@@ -129,41 +129,30 @@ no_memory p bs e first is = subst (λ (x : Error). Applies p bs x) is (stops_at 
 
 -- ---- the profiles
 
+-- what is authenticator data in one profile is in another whose rules it meets
+of_profile : (p q : Profile) (a : AuthenticatorData) → IsAuthenticatorData p a → (q ≡ Strict → a.extensions ≡ None)
+    → IfSome a.attested (IsAttestedCredential q) → IsAuthenticatorData q a
+of_profile p q a is none attested = record {
+  rp_id_hash = is.rp_id_hash;
+  flags = is.flags;
+  sign_count = is.sign_count;
+  attested_flag = is.attested_flag;
+  extensions_flag = is.extensions_flag;
+  no_extensions = none;
+  backup = is.backup;
+  attested = attested;
+  extensions = is.extensions;
+}
+
 pub opened : (p : Profile) (a : AuthenticatorData) (bs : List ℕ) → AuthOf Strict a bs → AuthOf p a bs
 opened Strict a bs h = h
-opened Open a bs h = (
-  record {
-    rp_id_hash = h.0.rp_id_hash;
-    flags = h.0.flags;
-    sign_count = h.0.sign_count;
-    attested_flag = h.0.attested_flag;
-    extensions_flag = h.0.extensions_flag;
-    no_extensions = λ bad. absurd cc;
-    backup = h.0.backup;
-    attested = of a.attested h.0.attested;
-    extensions = h.0.extensions;
-  },
-  h.1,
-) where
+opened Open a bs h = (of_profile Strict Open a h.0 (λ bad. absurd cc) (of a.attested h.0.attested), h.1) where
   of : (o : Option AttestedCredential) → IfSome o (IsAttestedCredential Strict) → IfSome o (IsAttestedCredential Open)
   of None is = is
   of (Some c) is = record { aaguid = is.aaguid; id_low = is.id_low; id_high = omega (arith, is.id_high); key = is.key }
 
 pub closed : (a : AuthenticatorData) (bs : List ℕ) → AuthOf Open a bs → a.extensions ≡ None → IfSome a.attested (λ c. length c.id ≤ 64) → AuthOf Strict a bs
-closed a bs h none low = (
-  record {
-    rp_id_hash = h.0.rp_id_hash;
-    flags = h.0.flags;
-    sign_count = h.0.sign_count;
-    attested_flag = h.0.attested_flag;
-    extensions_flag = h.0.extensions_flag;
-    no_extensions = λ _. none;
-    backup = h.0.backup;
-    attested = of a.attested h.0.attested low;
-    extensions = h.0.extensions;
-  },
-  h.1,
-) where
+closed a bs h none low = (of_profile Open Strict a h.0 (λ _. none) (of a.attested h.0.attested low), h.1) where
   of : (o : Option AttestedCredential) → IfSome o (IsAttestedCredential Open) → IfSome o (λ c. length c.id ≤ 64) → IfSome o (IsAttestedCredential Strict)
   of None is low = is
   of (Some c) is low = record { aaguid = is.aaguid; id_low = is.id_low; id_high = low; key = is.key }

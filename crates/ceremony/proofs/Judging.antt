@@ -11,14 +11,12 @@ use Rattle.verification.specs.SignInAnswers.{IsRefused}
 use Rattle.verification.specs.Registration as registration
 use Rattle.verification.specs.Registration.{JudgedRegistration}
 use Rattle.verification.specs.RegistrationAnswers as registration_answers
-use Rattle.verification.specs.declared.refusal.RegistrationError.{RegistrationError}
-use Rattle.verification.specs.declared.refusal.RegistrationError.TheVariants as registrations
 use Rattle.verification.specs.declared.refusal.RegistrationRefusal.{RegistrationRefusal}
 use Rattle.authdata.specs.Objects.{ObjectOf}
 use Rattle.ceremony.specs.Registration as ceremony
 use Rattle.client.specs.Responses.{object_of}
-use Rattle.verification.specs.declared.refusal.SignInError.{SignInError}
-use Rattle.verification.specs.declared.refusal.SignInError.TheVariants as sign_ins
+use Rattle.verification.specs.declared.refusal.VerificationError.{VerificationError}
+use Rattle.verification.specs.declared.refusal.VerificationError.TheVariants as errors
 use Rattle.verification.specs.declared.refusal.SignInRefusal.{SignInRefusal}
 
 -- the one reply that was read
@@ -26,13 +24,13 @@ pub one_assertion : (r q : Assertion) (m : List ℕ) → IsReply GetAssertion (a
 one_assertion r q m k h = let e : assertion_reply q ≡ assertion_reply r = k.only (assertion_reply q) refl h in cc
 
 -- what the site refuses is refused at a step, and what passes each step is not
-pub sign_in_step : (valid : Validity) (x : JudgedSignIn) (e : SignInError) (w : SignInRefusal) → e ≡ sign_ins.Refused w → IsRefused valid x e
+pub sign_in_step : (valid : Validity) (x : JudgedSignIn) (e : VerificationError SignInRefusal) (w : SignInRefusal) → e ≡ errors.Refused w → IsRefused valid x e
     → authentication.IsFirstFailing valid x w
-sign_in_step valid x e w is h = subst (λ (k : SignInError). IsRefused valid x k) is h
+sign_in_step valid x e w is h = subst (λ (k : VerificationError SignInRefusal). IsRefused valid x k) is h
 
-pub sign_in_memory : (valid : Validity) (x : JudgedSignIn) (e : SignInError) → e ≡ sign_ins.Memory → IsRefused valid x e
+pub sign_in_memory : (valid : Validity) (x : JudgedSignIn) (e : VerificationError SignInRefusal) → e ≡ errors.Memory → IsRefused valid x e
     → Each (PassesSignInStep valid x) credential_steps
-sign_in_memory valid x e is h = subst (λ (k : SignInError). IsRefused valid x k) is h
+sign_in_memory valid x e is h = subst (λ (k : VerificationError SignInRefusal). IsRefused valid x k) is h
 
 pub not_both : {L : Type 0} (P : L → Type 0) (steps : List L) (w : L) → Each P steps → FirstFailing P steps w → ⊥
 not_both P steps w all fails = none_first (λ step passed failed. failed passed) steps w all fails
@@ -42,10 +40,10 @@ not_both P steps w all fails = none_first (λ step passed failed. failed passed)
 pub one_creation : (r q : Creation) (m : List ℕ) → IsReply MakeCredential (creation_reply r) m → ReplyOf (creation_reply q) m → q ≡ r
 one_creation r q m k h = let e : creation_reply q ≡ creation_reply r = k.only (creation_reply q) refl h in cc
 
-pub registration_step : (valid : Validity) (x : JudgedRegistration) (e : RegistrationError) (w : RegistrationRefusal) → e ≡ registrations.Refused w
+pub registration_step : (valid : Validity) (x : JudgedRegistration) (e : VerificationError RegistrationRefusal) (w : RegistrationRefusal) → e ≡ errors.Refused w
     → registration_answers.IsRefused valid x e
     → registration.IsFirstFailing valid x w
-registration_step valid x e w is h = subst (λ (k : RegistrationError). registration_answers.IsRefused valid x k) is h
+registration_step valid x e w is h = subst (λ (k : VerificationError RegistrationRefusal). registration_answers.IsRefused valid x k) is h
 
 -- the response that is judged is the one of the object's encoding
 pub response_is : (r : Creation) (object bytes t : List ℕ) → object ≡ bytes → ObjectOf (object_of r) bytes

@@ -21,7 +21,7 @@ use client::{ResponseError, attestation_object};
 use cose::Verifier;
 use ctap_replies::{CreationReply, read_creation};
 use hidframe::Packet;
-use site::{Registered, RegistrationError, RegistrationParts, RegistrationRefusal, Site};
+use site::{Registered, RegistrationParts, RegistrationRefusal, Site, VerificationError};
 use std::alloc::{AllocError, Global};
 
 /// Which credential was registered, and how many packets it took.
@@ -80,8 +80,8 @@ fn judge<V: Verifier>(
     };
     match site.finish_registration_parts(verifier, session, &response) {
         Ok(registered) => Ok(registered),
-        Err(RegistrationError::Refused(step)) => Err(Error::Refused(step)),
-        Err(RegistrationError::Memory) => Err(Error::Memory),
+        Err(VerificationError::Refused(step)) => Err(Error::Refused(step)),
+        Err(VerificationError::Memory) => Err(Error::Memory),
     }
 }
 

@@ -48,8 +48,8 @@ impl ServeError {
     ghost use Rattle.ceremony.specs.Numbers.{serve_number};
 
     /// The number of the refusal; none for want of memory.
-    pub fn number(self) -> Option<u8>
-        ensures { result ≡ serve_number self }
+    pub fn number(&self) -> Option<u8>
+        ensures { result ≡ serve_number self.now }
     {
         match self {
             ServeError::NotWorking => Some(6),

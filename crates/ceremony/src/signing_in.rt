@@ -20,7 +20,7 @@ use crate::live::Live;
 use cose::Verifier;
 use ctap_replies::{AssertionView, read_assertion};
 use hidframe::Packet;
-use site::{AssertionParts, SignInError, SignInRefusal, SignedIn, Site};
+use site::{AssertionParts, SignInRefusal, SignedIn, Site, VerificationError};
 use std::alloc::Global;
 
 /// Who signed in, with which credential, and how many packets it took.
@@ -73,8 +73,8 @@ fn judge<V: Verifier>(
     };
     match site.finish_parts(verifier, session, &parts(&reply, client_data)) {
         Ok(signed_in) => Ok(signed_in),
-        Err(SignInError::Refused(step)) => Err(Error::Refused(step)),
-        Err(SignInError::Memory) => Err(Error::Memory),
+        Err(VerificationError::Refused(step)) => Err(Error::Refused(step)),
+        Err(VerificationError::Memory) => Err(Error::Memory),
     }
 }
 

@@ -26,8 +26,8 @@ pub enum Error {
 
 impl Error {
     /// The number of the refusal; none for want of memory.
-    pub fn number(self) -> Option<u8>
-        ensures { result ≡ refusal_number self }
+    pub fn number(&self) -> Option<u8>
+        ensures { result ≡ refusal_number self.now }
     {
         match self {
             Error::BadInput => Some(27),

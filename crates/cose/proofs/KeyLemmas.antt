@@ -1,42 +1,35 @@
 -- Each key has one value, and an encoding of a fixed length.
-use Rattle.std.proofs.Common.{◌≡◌, length, refl, sym, ◌∙◌, arith}
+use Rattle.std.proofs.Common.{◌≡◌, ℕ, List, length, refl, sym, ◌∙◌, arith}
 use Rattle.std.proofs.lemmas.List.{length-append}
-use Rattle.ccbor.specs.Item.{Item}
-use Rattle.ccbor.specs.Canon.{head, before, spelling, Fits, Canon}
+use Rattle.ccbor.specs.Item.{Item, Pairs, nint, bytes, pair, no_pairs}
+use Rattle.ccbor.specs.Canon.{head, before, spelling, Fits, PairsFit, Canon}
 use Rattle.ccbor.proofs.Shows.{wider}
 use Rattle.cose.specs.declared.key.CoseKey.{CoseKey}
 use Rattle.cose.specs.declared.key.CoseKey.TheVariants as keys
 use Rattle.cose.specs.Keys.{item_of, IsKey, KeyOf, encoded_length}
 
+-- behind the first three members, the coordinates
+abbrev y_of : List ℕ → Pairs
+y_of y = pair (nint 2) (bytes y) no_pairs
+
+y_fits : (y : List ℕ) → length y ≡ 32 → PairsFit 0 (spelling (nint 1)) (y_of y)
+unfolding head before
+y_fits y is = (refl, refl, omega arith, omega arith, tt)
+
+x_fits : (x : List ℕ) (ps : Pairs) → length x ≡ 32 → PairsFit 0 (spelling (nint 1)) ps → PairsFit 0 (spelling (nint 0)) (pair (nint 1) (bytes x) ps)
+unfolding head before
+x_fits x ps is h = (refl, refl, omega arith, omega arith, h)
+
 -- a key's map has no arrays or maps inside it
 pub key_fits : (k : CoseKey) → IsKey k → Fits 1 (item_of k)
 unfolding head before
-key_fits (keys.Es256 x y) h =
-    let a = h.0 in let b = h.1 in (
-      omega arith,
-      (
-        refl,
-        refl,
-        omega arith,
-        omega arith,
-        (
-          refl,
-          refl,
-          omega arith,
-          omega arith,
-          (refl, refl, omega arith, omega arith, (refl, refl, omega arith, omega arith, (refl, refl, omega arith, omega arith, tt))),
-        ),
-      ),
-    )
+key_fits (keys.Es256 x y) h = (
+  omega arith,
+  (refl, refl, omega arith, omega arith, (refl, refl, omega arith, omega arith, (refl, refl, omega arith, omega arith, x_fits x (y_of y) h.0 (y_fits y h.1)))),
+)
 key_fits (keys.EdDsa x) h = (
   omega arith,
-  (
-    refl,
-    refl,
-    omega arith,
-    omega arith,
-    (refl, refl, omega arith, omega arith, (refl, refl, omega arith, omega arith, (refl, refl, omega arith, omega arith, tt))),
-  ),
+  (refl, refl, omega arith, omega arith, (refl, refl, omega arith, omega arith, (refl, refl, omega arith, omega arith, x_fits x no_pairs h tt))),
 )
 
 -- a key's value has its spelling in canonical CBOR

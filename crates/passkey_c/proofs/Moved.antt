@@ -9,7 +9,7 @@ use Rattle.verification.specs.Registration as registrations
 use Rattle.verification.specs.Registration.{JudgedRegistration, PassesRegistration, PassesRegistrationStep, response_steps, table_steps}
 use Rattle.verification.specs.SignIn as sign_ins
 use Rattle.verification.specs.SignIn.{JudgedSignIn, PassesSignIn}
-use Rattle.verification.specs.SignInAnswers.{never}
+use Rattle.verification.specs.Shared.{never}
 use Rattle.verification.specs.declared.party.Policy.{Policy}
 use Rattle.verification.specs.declared.refusal.RegistrationRefusal.{RegistrationRefusal}
 use Rattle.verification.specs.declared.refusal.SignInRefusal.{SignInRefusal}

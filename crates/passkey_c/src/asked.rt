@@ -3,13 +3,13 @@
 ghost use Rattle.std.specs.Prelude.{◌≡◌, ◌≢◌, ◌+◌, ◌++◌, ◌≤◌, IfErr, MatchOption, OnErr, OnOk, false, length, take, true};
 ghost use Rattle.authdata.specs.Objects.{ObjectOf, object_view};
 ghost use Rattle.passkey_c.specs.Asked.{AttestsKey, AttestsNoKey, IsBroken, IsSmall, IsUnread, IsUntold, Tells, TellsAs};
-ghost use Rattle.passkey_c.specs.Asked.{key_told, response_of};
+ghost use Rattle.passkey_c.specs.Asked.{response_of};
 ghost use Rattle.passkey_c.specs.Numbers.{limit_number};
 ghost use Rattle.passkey_c.specs.Parts.{profile_of};
 ghost use Rattle.passkey_c.specs.declared.answers.Limit.{Limit};
 
 use crate::answers::{ACCEPTED, Limit};
-use crate::input::{KeyLimit, key_from, profile_from};
+use crate::input::{KeyLimit, key_from, profile_from, write_key};
 use crate::parts::{SignatureCall, SignatureOut};
 use authdata::{AttestationObject, Profile, read_view, self_signature};
 use clientdata::hash;
@@ -58,28 +58,6 @@ fn write_joined(room: &mut [u8], first: &[u8], second: &[u8; 32])
     back.copy_from_slice(second);
 }
 
-/// Tells the key.
-fn tell_key(key: &CoseKey, out: &mut SignatureOut)
-    ensures key { key_told out.new ≡ key.now }
-    ensures message { out.new.message_length ≡ out.old.message_length }
-    ensures signature { out.new.signature_length ≡ out.old.signature_length }
-    ensures is { out.new.is_asked ≡ true }
-{
-    match key {
-        CoseKey::Es256 { x, y } => {
-            out.algorithm = -7;
-            out.x = *x;
-            out.y = *y;
-        }
-        CoseKey::EdDsa { x } => {
-            out.algorithm = -8;
-            out.x = *x;
-            out.y = [0; 32];
-        }
-    }
-    out.is_asked = true;
-}
-
 /// Tells the signature that is asked, where there is room for it.
 fn tell(
     asked: &AskedSignature<'_>,
@@ -103,7 +81,8 @@ fn tell(
     out.message_length = front + 32;
     signature[..size].copy_from_slice(asked.signature);
     out.signature_length = size;
-    tell_key(&asked.key, out);
+    write_key(&asked.key, &mut out.algorithm, &mut out.x, &mut out.y);
+    out.is_asked = true;
     Ok(())
 }
 

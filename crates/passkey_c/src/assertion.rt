@@ -20,8 +20,8 @@ use crate::triple::{OneTriple, triple_from};
 use cose::CoseKey;
 use std::alloc::Global;
 use verification::{
-    AssertionParts, RelyingParty, RowView, SignInAttempt, SignInError, SignInRefusal,
-    SignInSession, VerifiedAssertion, verify_assertion,
+    AssertionParts, RelyingParty, RowView, SignInAttempt, SignInRefusal, SignInSession,
+    VerificationError, VerifiedAssertion, verify_assertion,
 };
 
 /// Why a sign-in is not accepted.
@@ -165,8 +165,8 @@ fn verified(
     };
     match verify_assertion(alloc, triple, &attempt) {
         Ok(verified) => Ok(verified),
-        Err(SignInError::Refused(step)) => Err(Refusal::Step(step)),
-        Err(SignInError::Memory) => Err(Refusal::Input(InputFault::Memory)),
+        Err(VerificationError::Refused(step)) => Err(Refusal::Step(step)),
+        Err(VerificationError::Memory) => Err(Refusal::Input(InputFault::Memory)),
     }
 }
 

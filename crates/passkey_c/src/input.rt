@@ -3,7 +3,7 @@
 ghost use Rattle.std.specs.Prelude.{◌≡◌, ◌≢◌, IfErr, IfOk, IfSome, None, OnOk, length, map, option_map};
 ghost use Rattle.refusal_order.specs.Lines.{Each};
 ghost use Rattle.passkey_c.specs.Limits.{IsFault, KeyKeeps, PartyKeeps, key_order, party_limits};
-ghost use Rattle.passkey_c.specs.Parts.{IsAlg, alg_in, given, key_of, lent, party_of, profile_of};
+ghost use Rattle.passkey_c.specs.Parts.{IsAlg, alg_in, given, key_of, key_with, lent, party_of, profile_of};
 
 use crate::answers::{InputFault, Limit};
 use crate::parts::{Bytes, KeyParts, PartyParts};
@@ -43,6 +43,27 @@ pub(crate) fn algorithm_of(number: i32) -> Option<Alg>
         Some(Alg::EdDsa)
     } else {
         None
+    }
+}
+
+/// Writes a public key as its algorithm's COSE number and its coordinates; a y that it has not is zeros.
+pub(crate) fn write_key(key: &CoseKey, algorithm: &mut i32, x: &mut [u8; 32], y: &mut [u8; 32])
+    ensures { key_with (alg_in algorithm.new) x.new y.new ≡ key.now }
+{
+    match key {
+        CoseKey::Es256 {
+            x: first,
+            y: second,
+        } => {
+            *algorithm = -7;
+            *x = *first;
+            *y = *second;
+        }
+        CoseKey::EdDsa { x: first } => {
+            *algorithm = -8;
+            *x = *first;
+            *y = [0; 32];
+        }
     }
 }
 

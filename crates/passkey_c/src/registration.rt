@@ -14,14 +14,14 @@ ghost use Rattle.passkey_c.specs.Parts.{offered, party_of};
 ghost use Rattle.passkey_c.specs.Registrations.{IsRefused, IsRegistrationAnswer, judged_registration, registration_validity, told_registration};
 
 use crate::answers::{ACCEPTED, InputFault, Limit};
-use crate::input::{KeyLimit, exactly_32, party_from};
+use crate::input::{KeyLimit, exactly_32, party_from, write_key};
 use crate::parts::{RegistrationCall, RegistrationOut};
 use crate::triple::{OneTriple, triple_from};
-use cose::{Alg, CoseKey};
+use cose::Alg;
 use std::alloc::{AllocError, Global};
 use verification::{
-    AdmittedCredential, Policy, RegistrationAttempt, RegistrationError, RegistrationParts,
-    RegistrationRefusal, RegistrationSession, RelyingParty, VerifiedRegistration,
+    AdmittedCredential, Policy, RegistrationAttempt, RegistrationParts, RegistrationRefusal,
+    RegistrationSession, RelyingParty, VerificationError, VerifiedRegistration,
     verify_registration,
 };
 
@@ -124,8 +124,8 @@ fn verified(
     };
     match verify_registration(alloc, triple, &attempt) {
         Ok(verified) => Ok(verified),
-        Err(RegistrationError::Refused(step)) => Err(Refusal::Step(step)),
-        Err(RegistrationError::Memory) => Err(Refusal::Input(InputFault::Memory)),
+        Err(VerificationError::Refused(step)) => Err(Refusal::Step(step)),
+        Err(VerificationError::Memory) => Err(Refusal::Input(InputFault::Memory)),
     }
 }
 
@@ -162,18 +162,7 @@ fn tell(credential: &AdmittedCredential, out: &mut RegistrationOut)
     let length = credential.id.len();
     out.id_length = length;
     out.id[..length].copy_from_slice(&credential.id);
-    match &credential.key {
-        CoseKey::Es256 { x, y } => {
-            out.algorithm = -7;
-            out.x = *x;
-            out.y = *y;
-        }
-        CoseKey::EdDsa { x } => {
-            out.algorithm = -8;
-            out.x = *x;
-            out.y = [0; 32];
-        }
-    }
+    write_key(&credential.key, &mut out.algorithm, &mut out.x, &mut out.y);
     out.sign_count = credential.sign_count;
     out.eligible = credential.eligible;
 }

@@ -15,7 +15,7 @@ use Rattle.authdata.specs.Responses as responses
 use Rattle.cose.specs.declared.key.CoseKey.{CoseKey}
 use Rattle.verification.specs.Records.{RelyingParty, Credential, ExpectedSignIn, ExpectedRegistration}
 use Rattle.cose.specs.Schemes.{Validity}
-use Rattle.verification.specs.SignInAnswers.{never}
+use Rattle.verification.specs.Shared.{never}
 use Rattle.verification.specs.SignIn.{JudgedSignIn}
 use Rattle.verification.specs.Registration.{JudgedRegistration, PassesRegistrationStep, PassesRegistration, IsFirstFailing, response_steps, table_steps}
 use Rattle.verification.specs.declared.party.Policy.{Policy}

@@ -15,6 +15,6 @@ pub use registration::Registered;
 pub use signing_in::SignedIn;
 pub use site::{MAX_RP_ID, Site};
 pub use verification::{
-    AssertionParts, Policy, RegistrationError, RegistrationParts, RegistrationRefusal, RowView,
-    SignInError, SignInRefusal,
+    AssertionParts, Policy, RegistrationParts, RegistrationRefusal, RowView, SignInRefusal,
+    VerificationError,
 };

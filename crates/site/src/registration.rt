@@ -13,7 +13,8 @@ use authdata::RegistrationResponse;
 use cose::Verifier;
 use credential_table::Row;
 use verification::{
-    RegistrationAttempt, RegistrationError, RegistrationParts, verify_registration,
+    RegistrationAttempt, RegistrationParts, RegistrationRefusal, VerificationError,
+    verify_registration,
 };
 
 /// Which credential was registered.
@@ -44,7 +45,7 @@ impl Site {
         verifier: &V,
         session: u64,
         response: &RegistrationParts<'_>,
-    ) -> Result<Registered, RegistrationError>
+    ) -> Result<Registered, VerificationError<RegistrationRefusal>>
         // It is accepted only if it passes each step,
         ensures accepted { IfOk result (λ x. PassesRegistration (V.valid verifier.now)
             (judged_registration self.old session (registration_parts_view response.now))
@@ -88,7 +89,7 @@ impl Site {
         verifier: &V,
         session: u64,
         response: &RegistrationResponse,
-    ) -> Result<Registered, RegistrationError>
+    ) -> Result<Registered, VerificationError<RegistrationRefusal>>
         ensures accepted { IfOk result (λ x. PassesRegistration (V.valid verifier.now)
             (judged_registration self.old session (registration_response_view response.now))
             × IsRegistered self.old (registration_response_view response.now) x) }

@@ -12,7 +12,9 @@ use crate::site::Site;
 use authdata::AssertionResponse;
 use cose::Verifier;
 use std::alloc::{AllocError, Global};
-use verification::{AssertionParts, RowView, SignInAttempt, SignInError, verify_assertion};
+use verification::{
+    AssertionParts, RowView, SignInAttempt, SignInRefusal, VerificationError, verify_assertion,
+};
 
 /// Who signed in, and with which credential.
 #[derive(Debug, Drop)]
@@ -75,7 +77,7 @@ impl Site {
         verifier: &V,
         session: u64,
         response: &AssertionParts<'_>,
-    ) -> Result<SignedIn, SignInError>
+    ) -> Result<SignedIn, VerificationError<SignInRefusal>>
         // It is accepted only if it passes each step,
         ensures accepted { IfOk result (λ x. PassesSignIn (V.valid verifier.now) (judged_sign_in self.old session (assertion_parts_view response.now))
             × IsSignedIn self.old (assertion_parts_view response.now) x) }
@@ -114,7 +116,7 @@ impl Site {
         verifier: &V,
         session: u64,
         response: &AssertionResponse,
-    ) -> Result<SignedIn, SignInError>
+    ) -> Result<SignedIn, VerificationError<SignInRefusal>>
         ensures accepted { IfOk result (λ x. PassesSignIn (V.valid verifier.now) (judged_sign_in self.old session (assertion_response_view response.now))
             × IsSignedIn self.old (assertion_response_view response.now) x) }
         ensures refused { IfErr result (IsRefused (V.valid verifier.now) (judged_sign_in self.old session (assertion_response_view response.now))) }

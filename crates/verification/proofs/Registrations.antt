@@ -14,17 +14,16 @@ use Rattle.authdata.proofs.Objects.{one_object}
 use Rattle.authdata.proofs.Unique.{one_value}
 use Rattle.verification.specs.Records.{ExpectedRegistration}
 use Rattle.cose.specs.Schemes.{Validity}
-use Rattle.verification.specs.Shared.{IsFor, IsPresent, IsVerifiedAs}
+use Rattle.verification.specs.Shared.{FailsIn, IsFor, IsPresent, IsVerifiedAs, never}
 use Rattle.verification.specs.Registration.{Attested, Attests, JudgedRegistration, PassesRegistrationStep, attestation_steps, auth_data_steps}
 use Rattle.verification.specs.Registration.{client_data_steps, hash_in, response_steps, table_steps}
 use Rattle.verification.specs.ClientData.{PassesClientDataStep, client_data_order}
-use Rattle.verification.specs.SignInAnswers.{never}
-use Rattle.verification.specs.RegistrationAnswers.{AcceptsAttestation, FailsIn, IsNoObject, IsRefused, AttestsAs, AttestsAsNothing}
+use Rattle.verification.specs.RegistrationAnswers.{AcceptsAttestation, IsNoObject, IsRefused, AttestsAs, AttestsAsNothing}
 use Rattle.verification.specs.RegistrationAnswers.{IsVerifiedRegistration, step_of}
 use Rattle.verification.specs.declared.client_data.ClientDataStep.{ClientDataStep}
 use Rattle.verification.specs.declared.client_data.ClientDataStep.TheVariants as line
-use Rattle.verification.specs.declared.refusal.RegistrationError.{RegistrationError}
-use Rattle.verification.specs.declared.refusal.RegistrationError.TheVariants as errors
+use Rattle.verification.specs.declared.refusal.VerificationError.{VerificationError}
+use Rattle.verification.specs.declared.refusal.VerificationError.TheVariants as errors
 use Rattle.verification.specs.declared.refusal.RegistrationRefusal.{RegistrationRefusal}
 use Rattle.verification.specs.declared.refusal.RegistrationRefusal.TheVariants as step
 use Rattle.verification.specs.Records.{NewCredential}
@@ -123,7 +122,7 @@ module _ (x : JudgedRegistration) (o : Attestation) (a : AuthenticatorData) (c :
         )
 
 -- bytes that are no object fail at the object
-pub no_object : (x : JudgedRegistration) (e : RegistrationError) → IsNoObject x.response.object e → FailsIn never x auth_data_steps e
+pub no_object : (x : JudgedRegistration) (e : VerificationError RegistrationRefusal) → IsNoObject x.response.object e → FailsIn (PassesRegistrationStep never x) auth_data_steps e
 no_object x (errors.Refused step.BadAttestationObject) none = first_at 0 refl tt (λ passes. none passes.0 passes.3.object)
 no_object x (errors.Refused w) none = absurd none
 no_object x errors.Memory none = tt
@@ -213,11 +212,11 @@ module _ (valid : Validity) (x : JudgedRegistration) (is_registered : List ℕ �
   attestation_same : Each (Same valid x valid (before x is_registered is_full)) attestation_steps
   attestation_same = ((λ h. h, λ h. h), ((λ h. h, λ h. h), ((λ h. h, λ h. h), tt)))
 
-  pub client_fails : (e : RegistrationError) → FailsIn never x client_data_steps e → IsRefused valid (before x is_registered is_full) e
+  pub client_fails : (e : VerificationError RegistrationRefusal) → FailsIn (PassesRegistrationStep never x) client_data_steps e → IsRefused valid (before x is_registered is_full) e
   client_fails (errors.Refused w) first = first_before table_steps (first_before (auth_data_steps ++ attestation_steps) (first_along client_same first))
   client_fails errors.Memory first = tt
 
-  pub data_fails : Each (PassesRegistrationStep never x) client_data_steps → (e : RegistrationError) → FailsIn never x auth_data_steps e
+  pub data_fails : Each (PassesRegistrationStep never x) client_data_steps → (e : VerificationError RegistrationRefusal) → FailsIn (PassesRegistrationStep never x) auth_data_steps e
       → IsRefused valid (before x is_registered is_full) e
   data_fails a (errors.Refused w) first =
       first_before table_steps (first_behind client_data_steps a (first_before attestation_steps (first_along data_same first)))

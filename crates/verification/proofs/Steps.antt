@@ -12,15 +12,15 @@ use Rattle.authdata.specs.Layout.{AuthenticatorData, AuthOf}
 use Rattle.authdata.proofs.Unique.{one_value}
 use Rattle.verification.specs.Records.{Credential, ExpectedSignIn}
 use Rattle.cose.specs.Schemes.{Validity}
-use Rattle.verification.specs.Shared.{IsFor, IsPresent, IsVerifiedAs}
+use Rattle.verification.specs.Shared.{FailsIn, IsFor, IsPresent, IsVerifiedAs, never}
 use Rattle.verification.specs.SignIn.{JudgedSignIn, PassesSignInStep, PassesSignIn, IsCounted, credential_steps, client_data_steps, auth_data_steps}
 use Rattle.verification.specs.SignIn.{signature_steps}
 use Rattle.verification.specs.ClientData.{PassesClientDataStep, client_data_order}
-use Rattle.verification.specs.SignInAnswers.{FailsIn, IsRefused, never, step_of}
+use Rattle.verification.specs.SignInAnswers.{IsRefused, step_of}
 use Rattle.verification.specs.declared.client_data.ClientDataStep.{ClientDataStep}
 use Rattle.verification.specs.declared.client_data.ClientDataStep.TheVariants as line
-use Rattle.verification.specs.declared.refusal.SignInError.{SignInError}
-use Rattle.verification.specs.declared.refusal.SignInError.TheVariants as errors
+use Rattle.verification.specs.declared.refusal.VerificationError.{VerificationError}
+use Rattle.verification.specs.declared.refusal.VerificationError.TheVariants as errors
 use Rattle.verification.specs.declared.refusal.SignInRefusal.{SignInRefusal}
 use Rattle.verification.specs.declared.refusal.SignInRefusal.TheVariants as step
 
@@ -166,7 +166,7 @@ module _ (valid : Validity) (x : JudgedSignIn) where
   pub credential_fails : (w : SignInRefusal) → FirstFailing (PassesSignInStep never x) credential_steps w → IsRefused valid x (errors.Refused w)
   credential_fails w first = first_before _ (first_along (as_any valid x) first)
 
-  pub client_fails : Each (PassesSignInStep never x) credential_steps → (e : SignInError) → FailsIn never x client_data_steps e → IsRefused valid x e
+  pub client_fails : Each (PassesSignInStep never x) credential_steps → (e : VerificationError SignInRefusal) → FailsIn (PassesSignInStep never x) client_data_steps e → IsRefused valid x e
   client_fails a (errors.Refused w) first = first_behind credential_steps a (first_before _ (first_along (client_as_any valid x) first))
   client_fails a errors.Memory first = a
 

@@ -1,6 +1,5 @@
 -- What the judgement of a registration answers.
 use Rattle.std.specs.Prelude.{◌≡◌, ℕ, List, true}
-use Rattle.refusal_order.specs.Lines.{FirstFailing}
 use Rattle.authdata.specs.Flags.{is_set, BE}
 use Rattle.authdata.specs.Layout.{AttestedCredential, AuthenticatorData}
 use Rattle.authdata.specs.Objects.{Attestation, ObjectOf}
@@ -11,11 +10,11 @@ use Rattle.cose.specs.declared.key.CoseKey.{CoseKey}
 use Rattle.verification.specs.declared.party.Policy.{Policy}
 use Rattle.verification.specs.Records.{NewCredential}
 use Rattle.cose.specs.Schemes.{Validity}
-use Rattle.verification.specs.Registration.{Attests, JudgedRegistration, IsFirstFailing, PassesRegistrationStep}
+use Rattle.verification.specs.Registration.{Attests, JudgedRegistration, IsFirstFailing}
 use Rattle.verification.specs.declared.client_data.ClientDataStep.{ClientDataStep}
 use Rattle.verification.specs.declared.client_data.ClientDataStep.TheVariants as line
-use Rattle.verification.specs.declared.refusal.RegistrationError.{RegistrationError}
-use Rattle.verification.specs.declared.refusal.RegistrationError.TheVariants as errors
+use Rattle.verification.specs.declared.refusal.VerificationError.{VerificationError}
+use Rattle.verification.specs.declared.refusal.VerificationError.TheVariants as errors
 use Rattle.verification.specs.declared.refusal.RegistrationRefusal.{RegistrationRefusal}
 use Rattle.verification.specs.declared.refusal.RegistrationRefusal.TheVariants as step
 
@@ -26,14 +25,9 @@ IsVerifiedRegistration x v =
     × (v.id ≡ c.id) × (v.key ≡ c.key) × (v.sign_count ≡ a.sign_count) × (v.eligible ≡ is_set a.flags BE)
 
 -- the first step that fails is named; want of memory says nothing
-abbrev pub IsRefused : Validity → JudgedRegistration → RegistrationError → Type 0
+abbrev pub IsRefused : Validity → JudgedRegistration → VerificationError RegistrationRefusal → Type 0
 IsRefused valid x (errors.Refused w) = IsFirstFailing valid x w
 IsRefused valid x errors.Memory = Unit {0}
-
--- the same of some of the steps
-abbrev pub FailsIn : Validity → JudgedRegistration → List RegistrationRefusal → RegistrationError → Type 0
-FailsIn valid x steps (errors.Refused w) = FirstFailing (PassesRegistrationStep valid x) steps w
-FailsIn valid x steps errors.Memory = Unit {0}
 
 -- the step of this ceremony that a step on client data is
 abbrev pub step_of : ClientDataStep → RegistrationRefusal
@@ -44,7 +38,7 @@ step_of line.Origin = step.WrongOrigin
 step_of line.TokenBinding = step.TokenBinding
 
 -- the bytes are no attestation object; want of memory says nothing
-abbrev pub IsNoObject : List ℕ → RegistrationError → Type 0
+abbrev pub IsNoObject : List ℕ → VerificationError RegistrationRefusal → Type 0
 IsNoObject bs (errors.Refused step.BadAttestationObject) = (o : Attestation) → ObjectOf o bs → ⊥
 IsNoObject bs (errors.Refused w) = ⊥
 IsNoObject bs errors.Memory = Unit {0}

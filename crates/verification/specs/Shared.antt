@@ -2,6 +2,7 @@
 -- authenticator data (6.1).
 use Rattle.std.specs.Prelude.{◌≡◌, ◌⊎◌, ℕ, List, Bool, true, Contains}
 use Rattle.sha2.specs.Sha256.{sha256}
+use Rattle.cose.specs.Schemes.{Validity}
 use Rattle.clientdata.specs.Serialised.{challenge_text_of, type_of}
 use Rattle.clientdata.specs.declared.record.CeremonyType.{CeremonyType}
 use Rattle.clientdata.specs.declared.seen.Binding.TheVariants.{Absent, Supported, NotSupported}
@@ -10,7 +11,10 @@ use Rattle.authdata.specs.declared.profile.Profile.{Profile}
 use Rattle.authdata.specs.declared.profile.Profile.TheVariants.{Open}
 use Rattle.authdata.specs.Flags.{is_set, UP, UV}
 use Rattle.authdata.specs.Layout.{AuthenticatorData}
+use Rattle.refusal_order.specs.Lines.{FirstFailing}
 use Rattle.verification.specs.Records.{RelyingParty}
+use Rattle.verification.specs.declared.refusal.VerificationError.{VerificationError}
+use Rattle.verification.specs.declared.refusal.VerificationError.TheVariants as errors
 
 -- the type is the ceremony's
 abbrev pub HasType : CeremonyType → Seen → Type 0
@@ -39,3 +43,12 @@ IsPresent a = is_set a.flags UP ≡ true
 -- UV is set, where it is required
 abbrev pub IsVerifiedAs : Bool → AuthenticatorData → Type 0
 IsVerifiedAs required a = required ≡ true → is_set a.flags UV ≡ true
+
+-- a relation that never holds: for steps that do not look at the signature
+abbrev pub never : Validity
+never key message signature = ⊥
+
+-- of these steps the first that fails is named; want of memory says nothing
+abbrev pub FailsIn : {W : Type 0} → (W → Type 0) → List W → VerificationError W → Type 0
+FailsIn Passes steps (errors.Refused w) = FirstFailing Passes steps w
+FailsIn Passes steps errors.Memory = Unit {0}

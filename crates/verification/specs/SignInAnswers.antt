@@ -1,7 +1,7 @@
 -- What a judgement answers.
-use Rattle.std.specs.Prelude.{◌≡◌, List}
+use Rattle.std.specs.Prelude.{◌≡◌}
 use Rattle.std.specs.Option.{ForSome}
-use Rattle.refusal_order.specs.Lines.{Each, FirstFailing}
+use Rattle.refusal_order.specs.Lines.{Each}
 use Rattle.authdata.specs.Flags.{is_set, BE, BS}
 use Rattle.authdata.specs.Layout.{AuthenticatorData, AuthOf}
 use Rattle.clientdata.specs.declared.record.CeremonyType.TheVariants.{Get}
@@ -11,8 +11,8 @@ use Rattle.verification.specs.SignIn.{JudgedSignIn, PassesSignInStep, IsFirstFai
 use Rattle.verification.specs.declared.signing_in.VerifiedAssertion.{VerifiedAssertion}
 use Rattle.verification.specs.declared.client_data.ClientDataStep.{ClientDataStep}
 use Rattle.verification.specs.declared.client_data.ClientDataStep.TheVariants as line
-use Rattle.verification.specs.declared.refusal.SignInError.{SignInError}
-use Rattle.verification.specs.declared.refusal.SignInError.TheVariants as errors
+use Rattle.verification.specs.declared.refusal.VerificationError.{VerificationError}
+use Rattle.verification.specs.declared.refusal.VerificationError.TheVariants as errors
 use Rattle.verification.specs.declared.refusal.SignInRefusal.{SignInRefusal}
 use Rattle.verification.specs.declared.refusal.SignInRefusal.TheVariants as step
 
@@ -24,22 +24,13 @@ IsVerifiedSignIn x v =
 
 -- the first step that fails is named; want of memory comes only where the steps on the session and the
 -- credential are passed
-abbrev pub IsRefused : Validity → JudgedSignIn → SignInError → Type 0
+abbrev pub IsRefused : Validity → JudgedSignIn → VerificationError SignInRefusal → Type 0
 IsRefused valid x (errors.Refused w) = IsFirstFailing valid x w
 IsRefused valid x errors.Memory = Each (PassesSignInStep valid x) credential_steps
 
 -- the client data are the serialised text (section 5.8.1.1) of the session's challenge for one of the origins
 abbrev pub IsExpected : JudgedSignIn → Type 0
 IsExpected x = ForSome x.session (λ e. IsSerialised Get e.challenge x.rp x.response.client_data)
-
--- of these steps the first that fails is named; want of memory says nothing
-abbrev pub FailsIn : Validity → JudgedSignIn → List SignInRefusal → SignInError → Type 0
-FailsIn valid x steps (errors.Refused w) = FirstFailing (PassesSignInStep valid x) steps w
-FailsIn valid x steps errors.Memory = Unit {0}
-
--- a relation that never holds: for steps that do not look at the signature
-abbrev pub never : Validity
-never key message signature = ⊥
 
 -- the step of this ceremony that a step on client data is
 abbrev pub step_of : ClientDataStep → SignInRefusal

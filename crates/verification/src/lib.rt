@@ -14,7 +14,7 @@ mod signing_in;
 pub use authdata::Profile;
 pub use party::{Policy, RelyingParty};
 pub use record::{AssertionParts, RegistrationParts, RegistrationSession, RowView, SignInSession};
-pub use refusal::{RegistrationError, RegistrationRefusal, SignInError, SignInRefusal};
+pub use refusal::{RegistrationRefusal, SignInRefusal, VerificationError};
 pub use registration::{
     AdmittedCredential, RegistrationAttempt, VerifiedRegistration, verify_registration,
 };

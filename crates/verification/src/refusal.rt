@@ -4,10 +4,10 @@ ghost use Rattle.std.specs.Prelude.{◌≡◌, ◌≢◌, MatchOption};
 ghost use Rattle.verification.specs.Numbers.{sign_in_number, registration_number};
 ghost use Rattle.verification.specs.declared.refusal.RegistrationRefusal.{RegistrationRefusal};
 ghost use Rattle.verification.specs.declared.refusal.SignInRefusal.{SignInRefusal};
-ghost use Rattle.verification.specs.declared.refusal.SignInError.TheVariants as sign_ins;
-ghost use Rattle.verification.specs.declared.refusal.RegistrationError.TheVariants as registrations;
+ghost use Rattle.verification.specs.declared.refusal.VerificationError.TheVariants as errors;
 
 use std::alloc::AllocError;
+use std::fmt::Display;
 use thiserror::Error as ErrorType;
 
 /// The step of section 7.2 at which a sign-in is refused, the first that fails. The program prints `W` and
@@ -67,8 +67,8 @@ pub enum SignInRefusal {
 
 impl SignInRefusal {
     /// The number of the step.
-    pub fn number(self) -> u8
-        ensures { result ≡ sign_in_number self }
+    pub fn number(&self) -> u8
+        ensures { result ≡ sign_in_number self.now }
     {
         match self {
             SignInRefusal::SessionNotOpen => 1,
@@ -173,8 +173,8 @@ pub enum RegistrationRefusal {
 
 impl RegistrationRefusal {
     /// The number of the step.
-    pub fn number(self) -> u8
-        ensures { result ≡ registration_number self }
+    pub fn number(&self) -> u8
+        ensures { result ≡ registration_number self.now }
     {
         match self {
             RegistrationRefusal::SessionNotOpen => 1,
@@ -222,56 +222,39 @@ impl RegistrationRefusal {
     }
 }
 
-/// Why a sign-in has no answer: a step refuses it, or there was no memory.
+/// Why a response is not verified: a step refuses it, which is a `W` ([`SignInRefusal`] or [`RegistrationRefusal`]), or
+/// there was no memory.
 #[derive(Clone, Copy, Debug, PartialEq, Eq, Drop, ErrorType)]
-pub enum SignInError {
+#[error_bound(W: Display)]
+pub enum VerificationError<W> {
     /// The first step that fails.
     #[error("{0}")]
-    Refused(SignInRefusal),
+    Refused(W),
     /// There was no memory.
     #[error("out of memory")]
     Memory,
 }
 
-impl From<SignInRefusal> for SignInError {
-    ghost from_gives = { λ step e. e ≡ sign_ins.Refused step };
+impl From<SignInRefusal> for VerificationError<SignInRefusal> {
+    ghost from_gives = { λ step e. e ≡ errors.Refused step };
 
-    fn from(step: SignInRefusal) -> SignInError {
-        SignInError::Refused(step)
+    fn from(step: SignInRefusal) -> VerificationError<SignInRefusal> {
+        VerificationError::Refused(step)
     }
 }
 
-impl From<AllocError> for SignInError {
-    ghost from_gives = { λ _ e. e ≡ sign_ins.Memory };
+impl From<RegistrationRefusal> for VerificationError<RegistrationRefusal> {
+    ghost from_gives = { λ step e. e ≡ errors.Refused step };
 
-    fn from(_e: AllocError) -> SignInError {
-        SignInError::Memory
+    fn from(step: RegistrationRefusal) -> VerificationError<RegistrationRefusal> {
+        VerificationError::Refused(step)
     }
 }
 
-/// Why a registration has no answer: a step refuses it, or there was no memory.
-#[derive(Clone, Copy, Debug, PartialEq, Eq, Drop, ErrorType)]
-pub enum RegistrationError {
-    /// The first step that fails.
-    #[error("{0}")]
-    Refused(RegistrationRefusal),
-    /// There was no memory.
-    #[error("out of memory")]
-    Memory,
-}
+impl<W> From<AllocError> for VerificationError<W> {
+    ghost from_gives = { λ _ e. e ≡ errors.Memory };
 
-impl From<RegistrationRefusal> for RegistrationError {
-    ghost from_gives = { λ step e. e ≡ registrations.Refused step };
-
-    fn from(step: RegistrationRefusal) -> RegistrationError {
-        RegistrationError::Refused(step)
-    }
-}
-
-impl From<AllocError> for RegistrationError {
-    ghost from_gives = { λ _ e. e ≡ registrations.Memory };
-
-    fn from(_e: AllocError) -> RegistrationError {
-        RegistrationError::Memory
+    fn from(_e: AllocError) -> VerificationError<W> {
+        VerificationError::Memory
     }
 }

@@ -7,9 +7,9 @@ ghost use Rattle.authdata.specs.Objects.{ObjectOf, object_view};
 ghost use Rattle.authdata.specs.Layout.{AttestedCredential, AuthOf, AuthenticatorData, lent_attested_view, lent_auth_view};
 ghost use Rattle.verification.specs.Registration.{Attests, JudgedRegistration, PassesRegistrationStep, attestation_steps, auth_data_steps};
 ghost use Rattle.verification.specs.Registration.{client_data_steps, response_steps, table_steps};
-ghost use Rattle.verification.specs.RegistrationAnswers.{AcceptsAttestation, FailsIn, IsNoObject, IsRefused, AttestsAs};
+ghost use Rattle.verification.specs.Shared.{FailsIn, never};
+ghost use Rattle.verification.specs.RegistrationAnswers.{AcceptsAttestation, IsNoObject, IsRefused, AttestsAs};
 ghost use Rattle.verification.specs.RegistrationAnswers.{AttestsAsNothing, IsVerifiedRegistration, step_of};
-ghost use Rattle.verification.specs.SignInAnswers.{never};
 ghost use Rattle.verification.specs.Attested.{IsOf};
 ghost use Rattle.verification.specs.Views.{admitted_view, judged_registration_view, judged_without_table, registration_view, registration_parts_view};
 
@@ -17,7 +17,7 @@ use crate::client_data::{ClientDataError, ClientDataStep, check_client_data};
 use crate::flag::is_verified_as;
 use crate::party::{Policy, RelyingParty};
 use crate::record::{RegistrationParts, RegistrationSession};
-use crate::refusal::{RegistrationError, RegistrationRefusal};
+use crate::refusal::{RegistrationRefusal, VerificationError};
 use authdata::{
     AttestationObject, AttestationType, AttestedView, AuthView, Profile, check_statement, flags,
     read_view,
@@ -130,14 +130,17 @@ fn is_accepted(policy: Policy, kind: AttestationType) -> bool
 }
 
 /// The attestation object that the bytes are.
-fn object_in(alloc: Global, bytes: &[u8]) -> Result<AttestationObject, RegistrationError>
+fn object_in(
+    alloc: Global,
+    bytes: &[u8],
+) -> Result<AttestationObject, VerificationError<RegistrationRefusal>>
     ensures found { IfOk result (λ o. ObjectOf (object_view o) bytes.now) }
     ensures refused { IfErr result (IsNoObject bytes.now) }
 {
     match AttestationObject::read(alloc, bytes) {
         Ok(object) => Ok(object),
-        Err(authdata::Error::Memory) => Err(RegistrationError::Memory),
-        Err(_) => Err(RegistrationError::Refused(RegistrationRefusal::BadAttestationObject)),
+        Err(authdata::Error::Memory) => Err(VerificationError::Memory),
+        Err(_) => Err(VerificationError::Refused(RegistrationRefusal::BadAttestationObject)),
     }
 }
 
@@ -159,13 +162,16 @@ fn attested_in(profile: Profile, bytes: &[u8]) -> Option<(AuthView<'_>, Attested
 
 impl<'a> RegistrationAttempt<'a> {
     /// The session, where it is open and the steps on client data are passed.
-    fn check_client_data(&self, alloc: Global) -> Result<&'a RegistrationSession, RegistrationError>
+    fn check_client_data(
+        &self,
+        alloc: Global,
+    ) -> Result<&'a RegistrationSession, VerificationError<RegistrationRefusal>>
         ensures passes { OnOk result (Each (PassesRegistrationStep never (judged_without_table self.now)) client_data_steps) }
         ensures session { IfOk result (λ s. (judged_without_table self.now).session ≡ Some (registration_view s.now)) }
-        ensures refused { IfErr result (FailsIn never (judged_without_table self.now) client_data_steps) }
+        ensures refused { IfErr result (FailsIn (PassesRegistrationStep never (judged_without_table self.now)) client_data_steps) }
     {
         let Some(session) = self.session else {
-            return Err(RegistrationError::Refused(RegistrationRefusal::SessionNotOpen));
+            return Err(VerificationError::Refused(RegistrationRefusal::SessionNotOpen));
         };
         match check_client_data(
             alloc,
@@ -175,8 +181,8 @@ impl<'a> RegistrationAttempt<'a> {
             self.party,
         ) {
             Ok(()) => Ok(session),
-            Err(ClientDataError::Fails(line)) => Err(RegistrationError::Refused(refusal_of(line))),
-            Err(ClientDataError::Memory) => Err(RegistrationError::Memory),
+            Err(ClientDataError::Fails(line)) => Err(VerificationError::Refused(refusal_of(line))),
+            Err(ClientDataError::Memory) => Err(VerificationError::Memory),
         }
     }
 
@@ -264,7 +270,7 @@ pub fn verify_registration<V: Verifier>(
     alloc: Global,
     verifier: &V,
     attempt: &RegistrationAttempt<'_>,
-) -> Result<VerifiedRegistration, RegistrationError>
+) -> Result<VerifiedRegistration, VerificationError<RegistrationRefusal>>
     ensures accepted { IfOk result (λ v. IsVerifiedRegistration (judged_without_table attempt.now) v
         × ((is_registered : List ℕ → Bool) (is_full : Bool)
         → Each (PassesRegistrationStep (V.valid verifier.now) (judged_registration_view attempt.now is_registered is_full)) response_steps)) }

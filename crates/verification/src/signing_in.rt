@@ -8,14 +8,15 @@ ghost use Rattle.authdata.specs.Flags.{is_set, AT, BE};
 ghost use Rattle.authdata.specs.Layout.{AuthOf, AuthenticatorData, lent_auth_view};
 ghost use Rattle.verification.specs.SignIn.{AreUser, IsCounted, PassesSignInStep, PassesSignIn};
 ghost use Rattle.verification.specs.SignIn.{credential_steps, client_data_steps, auth_data_steps, signature_steps};
-ghost use Rattle.verification.specs.SignInAnswers.{FailsIn, IsExpected, IsRefused, IsVerifiedSignIn, never, step_of};
+ghost use Rattle.verification.specs.Shared.{FailsIn, never};
+ghost use Rattle.verification.specs.SignInAnswers.{IsExpected, IsRefused, IsVerifiedSignIn, step_of};
 ghost use Rattle.verification.specs.Views.{judged_sign_in_view, credential_view, sign_in_view};
 
 use crate::client_data::{ClientDataError, ClientDataStep, check_client_data};
 use crate::flag::is_verified_as;
 use crate::party::RelyingParty;
 use crate::record::{AssertionParts, RowView, SignInSession};
-use crate::refusal::{SignInError, SignInRefusal};
+use crate::refusal::{SignInRefusal, VerificationError};
 use authdata::{AuthView, Profile, flags, read_view};
 use clientdata::{CeremonyType, hash};
 use cose::{CoseKey, Verifier};
@@ -153,11 +154,15 @@ impl<'a> SignInAttempt<'a> {
     }
 
     /// Whether the steps on client data are passed, those of a session that is open.
-    fn check_client_data(&self, alloc: Global, session: &SignInSession) -> Result<(), SignInError>
+    fn check_client_data(
+        &self,
+        alloc: Global,
+        session: &SignInSession,
+    ) -> Result<(), VerificationError<SignInRefusal>>
         requires { (judged_sign_in_view self.now).session ≡ Some (sign_in_view session.now) }
         ensures passes { OnOk result (Each (PassesSignInStep never (judged_sign_in_view self.now)) client_data_steps) }
-        ensures refused { IfErr result (FailsIn never (judged_sign_in_view self.now) client_data_steps) }
-        ensures memory { IsErrOf result SignInError.Memory → IsExpected (judged_sign_in_view self.now) → ⊥ }
+        ensures refused { IfErr result (FailsIn (PassesSignInStep never (judged_sign_in_view self.now)) client_data_steps) }
+        ensures memory { IsErrOf result VerificationError.Memory → IsExpected (judged_sign_in_view self.now) → ⊥ }
     {
         match check_client_data(
             alloc,
@@ -167,8 +172,8 @@ impl<'a> SignInAttempt<'a> {
             self.party,
         ) {
             Ok(()) => Ok(()),
-            Err(ClientDataError::Fails(line)) => Err(SignInError::Refused(refusal_of(line))),
-            Err(ClientDataError::Memory) => Err(SignInError::Memory),
+            Err(ClientDataError::Fails(line)) => Err(VerificationError::Refused(refusal_of(line))),
+            Err(ClientDataError::Memory) => Err(VerificationError::Memory),
         }
     }
 
@@ -228,11 +233,11 @@ pub fn verify_assertion<V: Verifier>(
     alloc: Global,
     verifier: &V,
     attempt: &SignInAttempt<'_>,
-) -> Result<VerifiedAssertion, SignInError>
+) -> Result<VerifiedAssertion, VerificationError<SignInRefusal>>
     ensures accepted { IfOk result (λ x. PassesSignIn (V.valid verifier.now) (judged_sign_in_view attempt.now)
         × IsVerifiedSignIn (judged_sign_in_view attempt.now) x) }
     ensures refused { IfErr result (IsRefused (V.valid verifier.now) (judged_sign_in_view attempt.now)) }
-    ensures memory { IsErrOf result SignInError.Memory → IsExpected (judged_sign_in_view attempt.now) → ⊥ }
+    ensures memory { IsErrOf result VerificationError.Memory → IsExpected (judged_sign_in_view attempt.now) → ⊥ }
 {
     let (session, credential) = attempt.expected()?;
     attempt.check_client_data(alloc, session)?;

@@ -4,7 +4,7 @@
 use super::security_key::{Rp, SecurityKey, asserts, registers};
 use authdata::AssertionResponse;
 use cose::BenchScheme;
-use site::{AssertionParts, Policy, SignInError, Site};
+use site::{AssertionParts, Policy, Site, VerificationError};
 use std::alloc::{AllocError, Global};
 use std::test::Fail;
 use test_words::{Table, number, part};
@@ -212,8 +212,8 @@ impl World {
         let parts = offered(&self.replies, part(line, 1))?;
         match self.here.finish_parts(&BenchScheme, session, &parts) {
             Ok(_) => Some(0),
-            Err(SignInError::Refused(step)) => Some(step.number()),
-            Err(SignInError::Memory) => None,
+            Err(VerificationError::Refused(step)) => Some(step.number()),
+            Err(VerificationError::Memory) => None,
         }
     }
 

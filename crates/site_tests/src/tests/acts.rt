@@ -10,8 +10,8 @@ use super::values::{bytes_if_there, bytes_of, is_set, list_of, number, value};
 use authdata::{Profile, RegistrationResponse};
 use cose::{Alg, BenchScheme, Signer};
 use site::{
-    AssertionParts, BeginError, Error, Registered, RegistrationError, RowView, SignInError,
-    SignedIn, Site, Started,
+    AssertionParts, BeginError, Error, Registered, RowView, SignedIn, Site, Started,
+    VerificationError,
 };
 use std::alloc::{AllocError, Global};
 
@@ -124,8 +124,8 @@ fn finish(alloc: Global, site: &mut Site, act: &str) -> Result<u64, AllocError> 
         } else {
             WRONG
         }),
-        Err(SignInError::Refused(step)) => Ok(u64::from(step.number())),
-        Err(SignInError::Memory) => Err(AllocError),
+        Err(VerificationError::Refused(step)) => Ok(u64::from(step.number())),
+        Err(VerificationError::Memory) => Err(AllocError),
     }
 }
 
@@ -153,8 +153,8 @@ fn finish_registration(alloc: Global, site: &mut Site, act: &str) -> Result<u64,
         } else {
             WRONG
         }),
-        Err(RegistrationError::Refused(step)) => Ok(u64::from(step.number())),
-        Err(RegistrationError::Memory) => Err(AllocError),
+        Err(VerificationError::Refused(step)) => Ok(u64::from(step.number())),
+        Err(VerificationError::Memory) => Err(AllocError),
     }
 }
 

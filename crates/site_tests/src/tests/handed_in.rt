@@ -8,7 +8,7 @@ use std::alloc::{AllocError, Global};
 use std::test::Fail;
 use test_words::Table;
 use verification::{
-    AssertionParts, RelyingParty, RowView, SignInAttempt, SignInError, SignInSession,
+    AssertionParts, RelyingParty, RowView, SignInAttempt, SignInSession, VerificationError,
     verify_assertion,
 };
 
@@ -51,8 +51,8 @@ fn number(
 ) -> Result<u8, AllocError> {
     match verify_assertion(alloc, scheme, attempt) {
         Ok(_) => Ok(0),
-        Err(SignInError::Refused(step)) => Ok(step.number()),
-        Err(SignInError::Memory) => Err(AllocError),
+        Err(VerificationError::Refused(step)) => Ok(step.number()),
+        Err(VerificationError::Memory) => Err(AllocError),
     }
 }
 

@@ -7,9 +7,9 @@ use std::alloc::{AllocError, Global};
 use std::test::Fail;
 use test_words::{Table, append_words, part};
 use verification::{
-    AssertionParts, Policy, RegistrationAttempt, RegistrationError, RegistrationParts,
-    RegistrationSession, RelyingParty, RowView, SignInAttempt, SignInError, SignInSession,
-    verify_assertion, verify_registration,
+    AssertionParts, Policy, RegistrationAttempt, RegistrationParts, RegistrationSession,
+    RelyingParty, RowView, SignInAttempt, SignInSession, VerificationError, verify_assertion,
+    verify_registration,
 };
 
 /// The kind of a response, one of its parts, and then: `is` and the bytes of the part in the response that is accepted,
@@ -173,8 +173,8 @@ fn sign_in(
     let attempt = sign_in_attempt(&party, &session, response);
     match verify_assertion(alloc, scheme, &attempt) {
         Ok(_) => Ok(0),
-        Err(SignInError::Refused(step)) => Ok(step.number()),
-        Err(SignInError::Memory) => Err(AllocError),
+        Err(VerificationError::Refused(step)) => Ok(step.number()),
+        Err(VerificationError::Memory) => Err(AllocError),
     }
 }
 
@@ -223,8 +223,8 @@ fn registration(
                 Err(step) => Ok(step.number()),
             }
         }
-        Err(RegistrationError::Refused(step)) => Ok(step.number()),
-        Err(RegistrationError::Memory) => Err(AllocError),
+        Err(VerificationError::Refused(step)) => Ok(step.number()),
+        Err(VerificationError::Memory) => Err(AllocError),
     }
 }
 

@@ -7,9 +7,9 @@ use std::alloc::{AllocError, Global};
 use std::test::Fail;
 use test_words::Table;
 use verification::{
-    AssertionParts, Policy, Profile, RegistrationAttempt, RegistrationError, RegistrationParts,
-    RegistrationSession, RelyingParty, RowView, SignInAttempt, SignInError, SignInSession,
-    verify_assertion, verify_registration,
+    AssertionParts, Policy, Profile, RegistrationAttempt, RegistrationParts, RegistrationSession,
+    RelyingParty, RowView, SignInAttempt, SignInSession, VerificationError, verify_assertion,
+    verify_registration,
 };
 
 /// The step of a sign-in that refuses the response in the strict profile, and in the open one, 0 for none; then the
@@ -131,8 +131,8 @@ fn sign_in(alloc: Global, profile: Profile, line: &str) -> Result<u8, AllocError
     let attempt = attempt(&party, &session, &auth_data, &client_data);
     match verify_assertion(alloc, &scheme, &attempt) {
         Ok(_) => Ok(0),
-        Err(SignInError::Refused(step)) => Ok(step.number()),
-        Err(SignInError::Memory) => Err(AllocError),
+        Err(VerificationError::Refused(step)) => Ok(step.number()),
+        Err(VerificationError::Memory) => Err(AllocError),
     }
 }
 
@@ -171,8 +171,8 @@ fn registration(alloc: Global, profile: Profile, line: &str) -> Result<u8, Alloc
         } else {
             99
         }),
-        Err(RegistrationError::Refused(step)) => Ok(step.number()),
-        Err(RegistrationError::Memory) => Err(AllocError),
+        Err(VerificationError::Refused(step)) => Ok(step.number()),
+        Err(VerificationError::Memory) => Err(AllocError),
     }
 }
 

@@ -2,7 +2,7 @@
 use Rattle.std.proofs.lemmas.Result.{err_from_is_err_and}
 use Rattle.authdata.specs.Layout.{lent_attested_view, lent_auth_view}
 use Rattle.authdata.specs.Objects.{object_view}
-use Rattle.verification.specs.declared.refusal.RegistrationError.TheVariants as errors
+use Rattle.verification.specs.declared.refusal.VerificationError.TheVariants as errors
 use Rattle.verification.specs.Views.{judged_without_table}
 use Rattle.verification.proofs.Registrations.{client_fails, data_fails, no_object, attestation_fails, response_passes}
 use Rattle.verification.proofs.registration.verify_registration.Goals as goal

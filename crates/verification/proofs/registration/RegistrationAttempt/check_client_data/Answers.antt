@@ -3,7 +3,7 @@ use Rattle.std.proofs.Common.{refl, rules, ap, subst, sym}
 use Rattle.std.specs.Prelude.{option_map}
 use Rattle.refusal_order.proofs.Laws.{first_at}
 use Rattle.refusal_order.specs.Lines.{FirstFailing}
-use Rattle.verification.specs.SignInAnswers.{never}
+use Rattle.verification.specs.Shared.{never}
 use Rattle.verification.specs.Registration.{PassesRegistrationStep, client_data_steps}
 use Rattle.verification.specs.Views.{judged_without_table, registration_view}
 use Rattle.verification.specs.declared.refusal.RegistrationRefusal.{RegistrationRefusal}
