@@ -116,7 +116,8 @@ module _ (valid : Validity) (public : Keys) (b : Below valid public) where
     pub present : is_set a.flags UP ≡ true → e.consent.present ≡ true
     pub verified : is_set a.flags UV ≡ true → e.consent.verified ≡ true
 
-  matches : (p : Profile) (a : AuthenticatorData) (r : AuthenticatorAssertionResponse) (e : Entry) → AuthOf p a r.auth_data → a.attested ≡ None → e.message ≡ message_of r
+  matches : (p : Profile) (a : AuthenticatorData) (r : AuthenticatorAssertionResponse) (e : Entry) → AuthOf p a r.auth_data → a.attested ≡ None
+      → e.message ≡ message_of r
       → IsSound e → Matches a r e
   matches p a r e is bare message (inl x) =
       let s = b.readings.one_front Strict p x.auth a x.bytes r.auth_data x.client_data_hash (sha256 r.client_data) x.spelled is (sym x.message ∙ message) in

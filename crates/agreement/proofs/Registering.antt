@@ -151,7 +151,11 @@ module _ (valid : Validity) (public : Keys) (b : Below valid public) (keeps : Ke
   flags_are = ap (λ b. 0x41 + uv_bit b) (asks_verified x.options.rk x.options.uv)
 
   attests : steps.Attests x.site.rp.profile (response r t) (object_of r) auth attested
-  attests = record { object = has_object r came.reply creates.reply; auth_data = b.readings.taken x.site.rp.profile auth r.auth_data creates.spelled; attested = refl }
+  attests = record {
+    object = has_object r came.reply creates.reply;
+    auth_data = b.readings.taken x.site.rp.profile auth r.auth_data creates.spelled;
+    attested = refl;
+  }
 
   offered : Contains x.expected.algorithms (alg_of key)
   offered =

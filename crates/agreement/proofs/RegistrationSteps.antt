@@ -25,7 +25,8 @@ pub record Same (o p : Attestation) (a b : AuthenticatorData) (c d : AttestedCre
   pub auth_data : a ≡ b
   pub credential : c ≡ d
 
-pub one_attested : Readings → (q : Profile) (r : responses.AuthenticatorAttestationResponse) (o p : Attestation) (a b : AuthenticatorData) (c d : AttestedCredential)
+pub one_attested : Readings → (q : Profile) (r : responses.AuthenticatorAttestationResponse) (o p : Attestation) (a b : AuthenticatorData)
+    (c d : AttestedCredential)
     → Attests q r o a c → Attests q r p b d → Same o p a b c d
 one_attested readings q r o p a b c d x y =
     let object = readings.one_object o p r.object x.object y.object in
@@ -36,7 +37,8 @@ one_attested readings q r o p a b c d x y =
 module _ (readings : Readings) (valid : Validity) (x : JudgedRegistration) (e : ExpectedRegistration) (o : Attestation) (a : AuthenticatorData)
     (c : AttestedCredential) where
   -- what holds of what the response attests
-  all : (P : Attestation → AuthenticatorData → AttestedCredential → Type 0) → Attests x.rp.profile x.response o a c → P o a c → Attested x.rp.profile x.response P
+  all : (P : Attestation → AuthenticatorData → AttestedCredential → Type 0) → Attests x.rp.profile x.response o a c → P o a c
+      → Attested x.rp.profile x.response P
   all P is h p b d other =
       let same = one_attested readings x.rp.profile x.response o p a b c d is other in
       subst (λ (k : AttestedCredential). P p b k) same.credential

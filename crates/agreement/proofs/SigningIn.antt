@@ -60,7 +60,8 @@ assertion_bits false = record { bare = refl; present = refl; verified = λ e. ab
 -- ---- steps
 
 module _ (readings : Readings) (valid : Validity) (x : JudgedSignIn) (e : expects.ExpectedSignIn) (c : expects.Credential) (a : AuthenticatorData) where
-  all : (P : AuthenticatorData → Type 0) → AuthOf x.rp.profile a x.response.auth_data → P a → (b : AuthenticatorData) → AuthOf x.rp.profile b x.response.auth_data → P b
+  all : (P : AuthenticatorData → Type 0) → AuthOf x.rp.profile a x.response.auth_data → P a → (b : AuthenticatorData)
+      → AuthOf x.rp.profile b x.response.auth_data → P b
   all P is h b other = subst P (readings.one_value x.rp.profile x.rp.profile a b x.response.auth_data is other) h
 
   record Signs : Type 0 where

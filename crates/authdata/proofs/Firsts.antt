@@ -17,14 +17,16 @@ use Rattle.authdata.specs.Refusals.{flags_in, Applies, IsAttested, later_order, 
 use Rattle.authdata.specs.Private.{BeginsWithExtensions, WrongCredential}
 use Rattle.authdata.proofs.Unique.{same_front}
 
-pub lifted : (p : Profile) (bs : List ℕ) (e : Error) → (Applies p bs errors.Short → ⊥) → (Applies p bs errors.Extensions → ⊥) → (Applies p bs errors.BadBackup → ⊥)
+pub lifted : (p : Profile) (bs : List ℕ) (e : Error) → (Applies p bs errors.Short → ⊥) → (Applies p bs errors.Extensions → ⊥)
+    → (Applies p bs errors.BadBackup → ⊥)
     → First (Applies p bs) later_order e → First (Applies p bs) order e
 lifted p bs e s x b h = first_behind (errors.Short ∷ errors.Extensions ∷ errors.BadBackup ∷ []) (s, (x, (b, tt))) h
 
 pub short_first : (p : Profile) (bs : List ℕ) → Applies p bs errors.Short → First (Applies p bs) order errors.Short
 short_first p bs q = first_at 0 refl tt q
 
-pub extensions_first : (p : Profile) (bs : List ℕ) → (Applies p bs errors.Short → ⊥) → Applies p bs errors.Extensions → First (Applies p bs) order errors.Extensions
+pub extensions_first : (p : Profile) (bs : List ℕ) → (Applies p bs errors.Short → ⊥) → Applies p bs errors.Extensions
+    → First (Applies p bs) order errors.Extensions
 extensions_first p bs s q = first_at 1 refl (s, tt) q
 
 pub backup_first : (p : Profile) (bs : List ℕ) → (Applies p bs errors.Short → ⊥) → (Applies p bs errors.Extensions → ⊥) → Applies p bs errors.BadBackup

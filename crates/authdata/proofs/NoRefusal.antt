@@ -24,7 +24,8 @@ at_end [] x b n e = rw (← e) refl
 at_end (y ∷ ys) x b n e = let s : suc (length ys) ≡ n = e in rw (← s) (at_end ys x b (length ys) refl)
 
 flags_are : {p : Profile} (a : AuthenticatorData) (bs : List ℕ) → AuthOf p a bs → flags_in bs ≡ a.flags
-flags_are a bs h = ap flags_in h.1 ∙ at_end a.rp_id_hash a.flags (to_be_bytes w32 a.sign_count ++ (attested_bytes a.attested ++ extension_bytes a.extensions)) 32 h.0.rp_id_hash
+flags_are a bs h = ap flags_in h.1 ∙ at_end a.rp_id_hash a.flags
+    (to_be_bytes w32 a.sign_count ++ (attested_bytes a.attested ++ extension_bytes a.extensions)) 32 h.0.rp_id_hash
 
 -- where AT is set, a credential is attested
 some_credential : {p : Profile} (a : AuthenticatorData) (bs : List ℕ) → AuthOf p a bs → IsAttested bs → (c : AttestedCredential) × (a.attested ≡ Some c)
@@ -41,7 +42,8 @@ some_credential a bs h at = of a.attested refl where
 before_id : AuthenticatorData → AttestedCredential → List ℕ
 before_id a c = a.rp_id_hash ++ (a.flags ∷ (to_be_bytes w32 a.sign_count ++ c.aaguid))
 
-length-before_id : {p : Profile} (a : AuthenticatorData) (c : AttestedCredential) → IsAuthenticatorData p a → IsAttestedCredential p c → length (before_id a c) ≡ 53
+length-before_id : {p : Profile} (a : AuthenticatorData) (c : AttestedCredential) → IsAuthenticatorData p a → IsAttestedCredential p c
+    → length (before_id a c) ≡ 53
 unfolding before_id
 length-before_id a c h g =
     let l = length-append a.rp_id_hash (a.flags ∷ (to_be_bytes w32 a.sign_count ++ c.aaguid)) in

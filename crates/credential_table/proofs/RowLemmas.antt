@@ -27,7 +27,8 @@ set_at (r ∷ rows) zero new = new ∷ rows
 set_at (r ∷ rows) (suc i) new = r ∷ set_at rows i new
 
 -- the credential at a place that is changed is that of its id
-pub changed_at : (p : Profile) (change : Credential → Credential) (rows : List Credential) (i : ℕ) (row : Credential) → AreRows p rows → slice_get rows i ≡ Some row
+pub changed_at : (p : Profile) (change : Credential → Credential) (rows : List Credential) (i : ℕ) (row : Credential) → AreRows p rows
+    → slice_get rows i ≡ Some row
     → set_at rows i (change row) ≡ with_row row.id change rows
 changed_at p change [] i row are is = absurd cc
 changed_at p change (r ∷ rows) zero row are is = grind (arith, common_steps, is, own_id row.id)

@@ -41,10 +41,12 @@ members_fit id user k n ps a b c d h few = (
 
 credential_fits : (version : ℕ) (c : Credential) → IsRow Open c → FitsVersion version c → Fits 2 (credential_item c)
 credential_fits version c is fits =
-    members_fit c.id c.user (key_item c.key) c.sign_count (marks c.eligible c.retired) is.0.1 is.1.1 (key_fits c.key fits.key) fits.sign_count (marks_fit c.eligible c.retired)
+    members_fit c.id c.user (key_item c.key) c.sign_count (marks c.eligible c.retired) is.0.1 is.1.1 (key_fits c.key fits.key) fits.sign_count
+    (marks_fit c.eligible c.retired)
     (few_marks c.eligible c.retired)
 
-credentials_fit : (version : ℕ) (rows : List Credential) → AreRows Open rows → Each (FitsVersion version) rows → ItemsFit 2 (items_of (each credential_item rows))
+credentials_fit : (version : ℕ) (rows : List Credential) → AreRows Open rows → Each (FitsVersion version) rows
+    → ItemsFit 2 (items_of (each credential_item rows))
 credentials_fit version [] are fit = tt
 credentials_fit version (c ∷ rows) are fit = (credential_fits version c are.0 fit.0, credentials_fit version rows are.2 fit.1)
 
@@ -52,7 +54,8 @@ count : (rows : List Credential) → count_of_items (items_of (each credential_i
 count [] = refl
 count (c ∷ rows) = ap suc (count rows)
 
-pub table_fits : (version : ℕ) (saved : Saved) → version < 2 ^ 64 → saved.next < 2 ^ 64 → length saved.rp_id < 2 ^ 64 → IsUtf8 saved.rp_id → IsTable Open saved.rows
+pub table_fits : (version : ℕ) (saved : Saved) → version < 2 ^ 64 → saved.next < 2 ^ 64 → length saved.rp_id < 2 ^ 64 → IsUtf8 saved.rp_id
+    → IsTable Open saved.rows
     → Each (FitsVersion version) saved.rows → Fits 4 (table_item version saved)
 unfolding head before
 table_fits version saved small numbered short utf8 table fit =

@@ -62,7 +62,8 @@ put_behind first (r ∷ rows) place new is =
     rw (below first place less) (ap (λ rs. credential_row first r ∷ rs) (put_behind (first + 1) rows place new next))
 
 -- the credential at a place that is changed is that of its id
-pub written : (profile : Profile) (rows : List Credential) (i : ℕ) (row : Credential) (change : Credential → Credential) → AreRows profile rows → slice_get rows i ≡ Some row
+pub written : (profile : Profile) (rows : List Credential) (i : ℕ) (row : Credential) (change : Credential → Credential) → AreRows profile rows
+    → slice_get rows i ≡ Some row
     → put_row (credential_row (i + 1) (change row)) (credential_rows 1 rows) ≡ credential_rows 1 (with_row row.id change rows)
 written profile rows i row change are is =
     put_at 1 rows i (i + 1) (change row) (within rows i row is) (omega arith) ∙ ap (credential_rows 1) (changed_at profile change rows i row are is)

@@ -122,7 +122,8 @@ module _ (x : JudgedRegistration) (o : Attestation) (a : AuthenticatorData) (c :
         )
 
 -- bytes that are no object fail at the object
-pub no_object : (x : JudgedRegistration) (e : VerificationError RegistrationRefusal) → IsNoObject x.response.object e → FailsIn (PassesRegistrationStep never x) auth_data_steps e
+pub no_object : (x : JudgedRegistration) (e : VerificationError RegistrationRefusal) → IsNoObject x.response.object e
+    → FailsIn (PassesRegistrationStep never x) auth_data_steps e
 no_object x (errors.Refused step.BadAttestationObject) none = first_at 0 refl tt (λ passes. none passes.0 passes.3.object)
 no_object x (errors.Refused w) none = absurd none
 no_object x errors.Memory none = tt
@@ -146,7 +147,8 @@ bare p a bs read none b c other some = let same : a ≡ b = one_value p p a b bs
 two_formats : (fmt : List ℕ) → fmt ≡ codes "none" → fmt ≡ codes "packed" → ⊥
 two_formats fmt none packed = let same : codes "none" ≡ codes "packed" = sym none ∙ packed in cc
 
-module _ (valid : Validity) (x : JudgedRegistration) (o : Attestation) (a : AuthenticatorData) (c : AttestedCredential) (h : Attests x.rp.profile x.response o a c) where
+module _ (valid : Validity) (x : JudgedRegistration) (o : Attestation) (a : AuthenticatorData) (c : AttestedCredential)
+    (h : Attests x.rp.profile x.response o a c) where
   abbrev ShownAs : AttestationType → Type 0
   ShownAs kind = AttestsAs valid o c.key (hash_in x.response) kind
 
@@ -212,11 +214,13 @@ module _ (valid : Validity) (x : JudgedRegistration) (is_registered : List ℕ �
   attestation_same : Each (Same valid x valid (before x is_registered is_full)) attestation_steps
   attestation_same = ((λ h. h, λ h. h), ((λ h. h, λ h. h), ((λ h. h, λ h. h), tt)))
 
-  pub client_fails : (e : VerificationError RegistrationRefusal) → FailsIn (PassesRegistrationStep never x) client_data_steps e → IsRefused valid (before x is_registered is_full) e
+  pub client_fails : (e : VerificationError RegistrationRefusal) → FailsIn (PassesRegistrationStep never x) client_data_steps e
+      → IsRefused valid (before x is_registered is_full) e
   client_fails (errors.Refused w) first = first_before table_steps (first_before (auth_data_steps ++ attestation_steps) (first_along client_same first))
   client_fails errors.Memory first = tt
 
-  pub data_fails : Each (PassesRegistrationStep never x) client_data_steps → (e : VerificationError RegistrationRefusal) → FailsIn (PassesRegistrationStep never x) auth_data_steps e
+  pub data_fails : Each (PassesRegistrationStep never x) client_data_steps → (e : VerificationError RegistrationRefusal)
+      → FailsIn (PassesRegistrationStep never x) auth_data_steps e
       → IsRefused valid (before x is_registered is_full) e
   data_fails a (errors.Refused w) first =
       first_before table_steps (first_behind client_data_steps a (first_before attestation_steps (first_along data_same first)))

@@ -166,7 +166,8 @@ module _ (valid : Validity) (x : JudgedSignIn) where
   pub credential_fails : (w : SignInRefusal) → FirstFailing (PassesSignInStep never x) credential_steps w → IsRefused valid x (errors.Refused w)
   credential_fails w first = first_before _ (first_along (as_any valid x) first)
 
-  pub client_fails : Each (PassesSignInStep never x) credential_steps → (e : VerificationError SignInRefusal) → FailsIn (PassesSignInStep never x) client_data_steps e → IsRefused valid x e
+  pub client_fails : Each (PassesSignInStep never x) credential_steps → (e : VerificationError SignInRefusal)
+      → FailsIn (PassesSignInStep never x) client_data_steps e → IsRefused valid x e
   client_fails a (errors.Refused w) first = first_behind credential_steps a (first_before _ (first_along (client_as_any valid x) first))
   client_fails a errors.Memory first = a
 

@@ -31,7 +31,8 @@ pub record JudgedRegistration : Type 0 where
 
 -- the response's attestation object, its authenticator data, and the credential that they attest, as the profile
 -- has them
-pub record Attests (profile : Profile) (r : responses.AuthenticatorAttestationResponse) (o : Attestation) (a : AuthenticatorData) (c : AttestedCredential) : Type 0 where
+pub record Attests (profile : Profile) (r : responses.AuthenticatorAttestationResponse) (o : Attestation) (a : AuthenticatorData)
+    (c : AttestedCredential) : Type 0 where
   pub object : ObjectOf o r.object
   pub auth_data : AuthOf profile a o.auth_data
   pub attested : a.attested ≡ Some c
@@ -59,7 +60,8 @@ PassesRegistrationStep valid x step.WrongOrigin = ForSome (seen_of x.response.cl
 -- token binding is not used
 PassesRegistrationStep valid x step.TokenBinding = ForSome (seen_of x.response.client_data) (HasNoBinding x.rp.profile)
 -- the bytes are an attestation object, whose authenticator data attest a credential
-PassesRegistrationStep valid x step.BadAttestationObject = (o : Attestation) × (a : AuthenticatorData) × (c : AttestedCredential) × Attests x.rp.profile x.response o a c
+PassesRegistrationStep valid x step.BadAttestationObject = (o : Attestation) × (a : AuthenticatorData) × (c : AttestedCredential)
+    × Attests x.rp.profile x.response o a c
 -- rpIdHash is the hash of the rp id
 PassesRegistrationStep valid x step.WrongRelyingParty = Attested x.rp.profile x.response (λ o a c. IsFor x.rp a)
 -- UP is set
@@ -67,7 +69,8 @@ PassesRegistrationStep valid x step.UserNotPresent = Attested x.rp.profile x.res
 -- UV is set, where the session requires it
 PassesRegistrationStep valid x step.UserNotVerified = ForSome x.session (λ e. Attested x.rp.profile x.response (λ o a c. IsVerifiedAs e.uv a))
 -- the key's algorithm is one of those offered
-PassesRegistrationStep valid x step.AlgorithmNotOffered = ForSome x.session (λ e. Attested x.rp.profile x.response (λ o a c. Contains e.algorithms (alg_of c.key)))
+PassesRegistrationStep valid x step.AlgorithmNotOffered = ForSome x.session
+    (λ e. Attested x.rp.profile x.response (λ o a c. Contains e.algorithms (alg_of c.key)))
 -- the statement's format is known
 PassesRegistrationStep valid x step.UnknownFormat = Attested x.rp.profile x.response (λ o a c. IsKnownFormat o.fmt)
 -- the statement shows no attestation, or self attestation

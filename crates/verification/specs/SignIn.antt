@@ -61,7 +61,8 @@ PassesSignInStep valid x step.WrongRelyingParty = (a : AuthenticatorData) → Au
 -- UP is set
 PassesSignInStep valid x step.UserNotPresent = (a : AuthenticatorData) → AuthOf x.rp.profile a x.response.auth_data → IsPresent a
 -- UV is set, where the session requires it
-PassesSignInStep valid x step.UserNotVerified = ForSome x.session (λ e. (a : AuthenticatorData) → AuthOf x.rp.profile a x.response.auth_data → IsVerifiedAs e.uv a)
+PassesSignInStep valid x step.UserNotVerified = ForSome x.session
+    (λ e. (a : AuthenticatorData) → AuthOf x.rp.profile a x.response.auth_data → IsVerifiedAs e.uv a)
 -- the signature is valid over the authenticator data as they came, then the hash of the client data
 PassesSignInStep valid x step.BadSignature =
     ForSome x.credential (λ c. valid c.key (x.response.auth_data ++ sha256 x.response.client_data) x.response.signature)

@@ -87,7 +87,8 @@ returns-then-rest-gt0-clause-refused c =
       parts = s.ensures.parts;
       credential = s.ensures.rest ∙ k.ensures.found;
     } in
-    let is = auth_is (option_map (λ b. b.now) x.extensions) w (x.ensures.flag ∙ sym (is_some-map (λ b. b.now) x.extensions)) (out c.bars_extensions.ensures c.if-bars_extensions.false) x.ensures.is in
+    let is = auth_is (option_map (λ b. b.now) x.extensions) w (x.ensures.flag ∙ sym (is_some-map (λ b. b.now) x.extensions))
+    (out c.bars_extensions.ensures c.if-bars_extensions.false) x.ensures.is in
     let some : 0 < length x.rest.now = omega arith in
     let extra = extra_applies (option_map (λ b. b.now) x.extensions) x.rest.now w is x.ensures.found some in
     extra_first p bs (out (c.is_short.ensures p) c.if-is_short.false)
@@ -113,5 +114,6 @@ returns-clause-found c =
       parts = s.ensures.parts;
       credential = s.ensures.rest ∙ k.ensures.found;
     } in
-    let is = auth_is (option_map (λ b. b.now) x.extensions) w (x.ensures.flag ∙ sym (is_some-map (λ b. b.now) x.extensions)) (out c.bars_extensions.ensures c.if-bars_extensions.false) x.ensures.is in
+    let is = auth_is (option_map (λ b. b.now) x.extensions) w (x.ensures.flag ∙ sym (is_some-map (λ b. b.now) x.extensions))
+    (out c.bars_extensions.ensures c.if-bars_extensions.false) x.ensures.is in
     (is, parts_whole (option_map (λ b. b.now) x.extensions) x.rest.now w x.ensures.found (λ some. omega (arith, some)))

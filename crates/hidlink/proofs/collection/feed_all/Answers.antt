@@ -9,7 +9,11 @@ use Rattle.hidlink.proofs.collection.feed_all.Goals.{then-not-is_late, else-not-
 use Rattle.hidlink.proofs.collection.feed_all.Goals as goal
 
 pub loop-packet-init : goal.loop-packet-init
-loop-packet-init c = record { channel = refl; got = c.requires; taken = record { within = omega arith; shortest = λ j less. absurd (omega arith); ended = inr refl } }
+loop-packet-init c = record {
+  channel = refl;
+  got = c.requires;
+  taken = record { within = omega arith; shortest = λ j less. absurd (omega arith); ended = inr refl };
+}
 
 pub overflow_add-used : goal.overflow_add-used
 overflow_add-used c = let within = c.loop-packet.invariant.taken.within in omega (arith, length-take {A = Packet})

@@ -22,8 +22,10 @@ returns-in-Ok-clause-told c =
     let key : AttestsKey (profile_of c.args.call.now.open_profile) c.args.object.now.auth_data.items c.in-Some.key =
     rw (← c.deref.ensures.value, ← c.profile_from.ensures) c.in-Some.ensures in
     let joined = ap (λ bytes. bytes ++ c.hash.result) c.deref-2.ensures.value ∙ ap (λ hash. c.args.object.now.auth_data.items ++ hash) c.hash.ensures in
-    let asks = self_asks _ (response_of c.args.call.now.registration) _ _ (c.deref-2.result.now ++ c.hash.result) _ c.requires.object key c.in-Some-self_signature.ensures joined in
-    tells c.args.call.now c.tell.new.out c.tell.new.message c.tell.new.signature (record { key = c.in-Some.key; auth_data = c.deref-2.result; hash = c.hash.result; signature = c.in-Some-self_signature.self_signature })
+    let asks = self_asks _ (response_of c.args.call.now.registration) _ _
+    (c.deref-2.result.now ++ c.hash.result) _ c.requires.object key c.in-Some-self_signature.ensures joined in
+    tells c.args.call.now c.tell.new.out c.tell.new.message c.tell.new.signature
+    (record { key = c.in-Some.key; auth_data = c.deref-2.result; hash = c.hash.result; signature = c.in-Some-self_signature.self_signature })
     (rw c.requires.registration asks) c.in-Ok.ensures.told
 
 pub returns-in-Err-clause-refused : goal.returns-in-Err-clause-refused
@@ -31,6 +33,12 @@ returns-in-Err-clause-refused c =
     let key : AttestsKey (profile_of c.args.call.now.open_profile) c.args.object.now.auth_data.items c.in-Some.key =
     rw (← c.deref.ensures.value, ← c.profile_from.ensures) c.in-Some.ensures in
     let joined = ap (λ bytes. bytes ++ c.hash.result) c.deref-2.ensures.value ∙ ap (λ hash. c.args.object.now.auth_data.items ++ hash) c.hash.ensures in
-    let asks = self_asks _ (response_of c.args.call.now.registration) _ _ (c.deref-2.result.now ++ c.hash.result) _ c.requires.object key c.in-Some-self_signature.ensures joined in
-    broken c.args.call.now _ _ (record { key = c.in-Some.key; auth_data = c.deref-2.result; hash = c.hash.result; signature = c.in-Some-self_signature.self_signature }) c.in-Err.limit
+    let asks = self_asks _ (response_of c.args.call.now.registration) _ _
+    (c.deref-2.result.now ++ c.hash.result) _ c.requires.object key c.in-Some-self_signature.ensures joined in
+    broken c.args.call.now _ _ (record {
+      key = c.in-Some.key;
+      auth_data = c.deref-2.result;
+      hash = c.hash.result;
+      signature = c.in-Some-self_signature.self_signature;
+    }) c.in-Err.limit
     (rw c.requires.registration asks) c.in-Err.ensures.refused

@@ -10,5 +10,10 @@ returns-in-Err-clause-refused c =
     let message = call.assertion.auth_data.now ++ c.hash.result in
     let joined = ap (λ hash. call.assertion.auth_data.now ++ hash) c.hash.ensures in
     let asks : Asks call.is_registration call c.in-Ok.key message call.assertion.signature.now = rw c.requires (c.in-Ok.ensures.found, joined, refl) in
-    broken call _ _ (record { key = c.in-Ok.key; auth_data = call.assertion.auth_data; hash = c.hash.result; signature = call.assertion.signature }) c.in-Err.limit
+    broken call _ _ (record {
+      key = c.in-Ok.key;
+      auth_data = call.assertion.auth_data;
+      hash = c.hash.result;
+      signature = call.assertion.signature;
+    }) c.in-Err.limit
     asks c.in-Err.ensures.refused

@@ -34,7 +34,8 @@ returns-then-not-admits-clause-none c = λ e rows table long each is.
     let row = row_view c.in_ok-row.row in
     let same : g.row ≡ row = one_credential g.row row g.fits.key c.in_ok-row.ensures.read.0.key (sym g.map_is ∙ c.in_ok-row.ensures.read.1) in
     let fits : IsRow (profile_of c.args.version) row × (row_of row.id c.loop-item.table ≡ None) × (length c.loop-item.table < 65536) = rw same at may in
-    let yes = c.admits.ensures.1 (subst (λ p. IsRow p row × (row_of row.id c.loop-item.table ≡ None) × (length c.loop-item.table < 65536)) (sym c.loop-item.invariant.2) fits) in
+    let yes = c.admits.ensures.1 (subst (λ p. IsRow p row × (row_of row.id c.loop-item.table ≡ None) × (length c.loop-item.table < 65536))
+    (sym c.loop-item.invariant.2) fits) in
     let no = c.if-not-admits.true in
     absurd cc
 

@@ -27,7 +27,8 @@ pub returns-in_err-auth_data-clause-refused : goal.returns-in_err-auth_data-clau
 returns-in_err-auth_data-clause-refused g c =
     let p = err_from_is_err_and c.from_residual-in_err-auth_data.result c.from_residual-in_err-auth_data.ensures.1 in
     rw (p.1, p.2) (λ r f. data_fails (g.V.Verifier.valid c.args.verifier.now)
-    (judged_without_table c.args.attempt.now) r f c.in_ok-session.ensures.passes (errors.Refused c.in_err-auth_data.field-0.0) c.in_err-auth_data.ensures.refused)
+    (judged_without_table c.args.attempt.now) r f c.in_ok-session.ensures.passes
+    (errors.Refused c.in_err-auth_data.field-0.0) c.in_err-auth_data.ensures.refused)
 
 pub returns-in_err-check_attestation-clause-refused : goal.returns-in_err-check_attestation-clause-refused
 returns-in_err-check_attestation-clause-refused g c =
@@ -50,5 +51,6 @@ returns-clause-accepted g c =
         v.eligible,
       ),
       λ r f. response_passes (g.V.Verifier.valid c.args.verifier.now)
-          (judged_without_table c.args.attempt.now) r f c.in_ok-session.ensures.passes c.in_ok-auth_data.ensures.passes c.in_ok-check_attestation.ensures.passes,
+          (judged_without_table c.args.attempt.now) r f c.in_ok-session.ensures.passes c.in_ok-auth_data.ensures.passes
+          c.in_ok-check_attestation.ensures.passes,
     )

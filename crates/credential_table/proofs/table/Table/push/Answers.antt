@@ -32,4 +32,7 @@ pub returns-clause-limits : goal.returns-clause-limits
 returns-clause-limits c = λ p table limits.
     let room = c.requires.room in
     let longer = length-append c.args.self.now (row_view c.args.row ∷ []) in
-    subst (IsTable p) (sym (returns-clause-pushed c)) (omega (arith, room, longer), one_more p c.args.self.now (row_view c.args.row) table.1 limits c.requires.absent)
+    subst (IsTable p) (sym (returns-clause-pushed c)) (
+      omega (arith, room, longer),
+      one_more p c.args.self.now (row_view c.args.row) table.1 limits c.requires.absent,
+    )

@@ -9,5 +9,6 @@ use Rattle.site.proofs.site.Site.finish_registration.Goals as goal
 pub returns-clause-accepted : goal.returns-clause-accepted
 returns-clause-accepted g c =
     subst (λ r. IfOk c.finish_registration_parts.result
-    (λ x. PassesRegistration (g.V.Verifier.valid c.args.verifier.now) (judged_registration c.args.self.now c.args.session r) × IsRegistered c.args.self.now r x))
+    (λ x. PassesRegistration (g.V.Verifier.valid c.args.verifier.now) (judged_registration c.args.self.now c.args.session r)
+    × IsRegistered c.args.self.now r x))
     c.parts.ensures c.finish_registration_parts.ensures.accepted

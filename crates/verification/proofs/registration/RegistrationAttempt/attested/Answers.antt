@@ -16,21 +16,33 @@ pub returns-then-not-is_hash-clause-refused : goal.returns-then-not-is_hash-clau
 returns-then-not-is_hash-clause-refused c =
     let x = judged_without_table c.args.self.now in
     let h : Attests x.rp.profile x.response (object_view c.args.object.now) (lent_auth_view c.in-Some.auth_data) (lent_attested_view c.in-Some.credential) =
-    record { object = c.requires.object; auth_data = rw (sym c.profile.ensures, sym c.deref.ensures.value) c.in-Some.ensures.found.0; attested = c.in-Some.ensures.found.1 } in
+    record {
+      object = c.requires.object;
+      auth_data = rw (sym c.profile.ensures, sym c.deref.ensures.value) c.in-Some.ensures.found.0;
+      attested = c.in-Some.ensures.found.1;
+    } in
     wrong_party _ _ _ _ h (λ same. let yes = c.is_hash.ensures.1 same in let no = c.if-not-is_hash.true in absurd cc)
 
 pub returns-then-not-is_set-clause-refused : goal.returns-then-not-is_set-clause-refused
 returns-then-not-is_set-clause-refused c =
     let x = judged_without_table c.args.self.now in
     let h : Attests x.rp.profile x.response (object_view c.args.object.now) (lent_auth_view c.in-Some.auth_data) (lent_attested_view c.in-Some.credential) =
-    record { object = c.requires.object; auth_data = rw (sym c.profile.ensures, sym c.deref.ensures.value) c.in-Some.ensures.found.0; attested = c.in-Some.ensures.found.1 } in
+    record {
+      object = c.requires.object;
+      auth_data = rw (sym c.profile.ensures, sym c.deref.ensures.value) c.in-Some.ensures.found.0;
+      attested = c.in-Some.ensures.found.1;
+    } in
     not_present _ _ _ _ h (c.is_hash.ensures.0 c.if-not-is_hash.false) (λ set. let yes = c.is_set.ensures ∙ set in let no = c.if-not-is_set.true in absurd cc)
 
 pub returns-then-not-is_verified_as-clause-refused : goal.returns-then-not-is_verified_as-clause-refused
 returns-then-not-is_verified_as-clause-refused c =
     let x = judged_without_table c.args.self.now in
     let h : Attests x.rp.profile x.response (object_view c.args.object.now) (lent_auth_view c.in-Some.auth_data) (lent_attested_view c.in-Some.credential) =
-    record { object = c.requires.object; auth_data = rw (sym c.profile.ensures, sym c.deref.ensures.value) c.in-Some.ensures.found.0; attested = c.in-Some.ensures.found.1 } in
+    record {
+      object = c.requires.object;
+      auth_data = rw (sym c.profile.ensures, sym c.deref.ensures.value) c.in-Some.ensures.found.0;
+      attested = c.in-Some.ensures.found.1;
+    } in
     not_verified _ _ _ _ h (c.is_hash.ensures.0 c.if-not-is_hash.false) (sym c.is_set.ensures ∙ c.if-not-is_set.false)
     (registration_view c.args.session.now) c.requires.session
     (λ verified. let yes = c.is_verified_as.ensures.1 verified in let no = c.if-not-is_verified_as.true in absurd cc)
@@ -39,7 +51,11 @@ pub returns-then-not-offers-clause-refused : goal.returns-then-not-offers-clause
 returns-then-not-offers-clause-refused c =
     let x = judged_without_table c.args.self.now in
     let h : Attests x.rp.profile x.response (object_view c.args.object.now) (lent_auth_view c.in-Some.auth_data) (lent_attested_view c.in-Some.credential) =
-    record { object = c.requires.object; auth_data = rw (sym c.profile.ensures, sym c.deref.ensures.value) c.in-Some.ensures.found.0; attested = c.in-Some.ensures.found.1 } in
+    record {
+      object = c.requires.object;
+      auth_data = rw (sym c.profile.ensures, sym c.deref.ensures.value) c.in-Some.ensures.found.0;
+      attested = c.in-Some.ensures.found.1;
+    } in
     not_offered _ _ _ _ h (c.is_hash.ensures.0 c.if-not-is_hash.false) (sym c.is_set.ensures ∙ c.if-not-is_set.false)
     (registration_view c.args.session.now) c.requires.session
     (c.is_verified_as.ensures.0 c.if-not-is_verified_as.false) (λ offered. let yes = c.offers.ensures.1 offered in let no = c.if-not-offers.true in absurd cc)
@@ -48,7 +64,11 @@ pub returns-clause-passes : goal.returns-clause-passes
 returns-clause-passes c =
     let x = judged_without_table c.args.self.now in
     let h : Attests x.rp.profile x.response (object_view c.args.object.now) (lent_auth_view c.in-Some.auth_data) (lent_attested_view c.in-Some.credential) =
-    record { object = c.requires.object; auth_data = rw (sym c.profile.ensures, sym c.deref.ensures.value) c.in-Some.ensures.found.0; attested = c.in-Some.ensures.found.1 } in
+    record {
+      object = c.requires.object;
+      auth_data = rw (sym c.profile.ensures, sym c.deref.ensures.value) c.in-Some.ensures.found.0;
+      attested = c.in-Some.ensures.found.1;
+    } in
     data_passes (judged_without_table c.args.self.now) _ _ _ h (c.is_hash.ensures.0 c.if-not-is_hash.false) (sym c.is_set.ensures ∙ c.if-not-is_set.false)
     (registration_view c.args.session.now) c.requires.session
     (c.is_verified_as.ensures.0 c.if-not-is_verified_as.false) (c.offers.ensures.0 c.if-not-offers.false)
