@@ -1,15 +1,14 @@
 -- The credentials' maps one behind the other, and the map round them.
-use Rattle.std.proofs.Common.{◌≡◌, ◌<◌, ◌≤◌, ◌^◌, ℕ, suc, List, [], ◌∷◌, ◌++◌, length, Bool, true, false, Option, Some, None, Result, Err, IsUtf8}
+use Rattle.std.proofs.Common.{◌≡◌, ◌<◌, ◌^◌, ℕ, suc, List, [], ◌∷◌, ◌++◌, length, Bool, true, false, Option, Some, None, Result, Err, IsUtf8}
 use Rattle.std.proofs.Common.{refl, sym, ap, ◌∙◌, subst, arith, ◌==◌, ◌&&◌}
 use Rattle.std.proofs.Common.{map as each}
-use Rattle.std.specs.Prelude.{if◌then◌else◌}
 use Rattle.std.specs.Str.{bytes_eq}
 use Rattle.std.proofs.lemmas.Option.{cond_some, same_Some}
 use Rattle.std.proofs.lemmas.Bool.Decides.{nat_tests}
 use Rattle.std.proofs.lemmas.Grind.{common_steps}
 use Rattle.std.proofs.lemmas.List.{length-append}
 use Rattle.refusal_order.specs.Lines.{Each}
-use Rattle.ccbor.specs.Item.{Item, Items, no_items, item, uint, bytes, text, array, map, boolean, Pairs, no_pairs, pair}
+use Rattle.ccbor.specs.Item.{Item, Items, no_items, item, uint, bytes, array, map, boolean, Pairs, no_pairs, pair}
 use Rattle.ccbor.specs.Access.{items_first, split_key, is_end, uint_in, bool_in, items_in, pairs_in}
 use Rattle.ccbor.specs.Canon.{Canon, Fits, ItemsFit, before, count_of_items, head}
 use Rattle.ccbor.specs.View.{items_of}
@@ -267,7 +266,13 @@ source_fits c is short utf8 =
             refl,
             omega arith,
             omega (arith, b),
-            (refl, refl, omega arith, omega (arith, s), (refl, refl, omega arith, alg, (refl, refl, omega arith, tt, (refl, refl, omega arith, omega (arith, n), tt)))),
+            (
+              refl,
+              refl,
+              omega arith,
+              omega (arith, s),
+              (refl, refl, omega arith, alg, (refl, refl, omega arith, tt, (refl, refl, omega arith, omega (arith, n), tt))),
+            ),
           ),
         ),
       ),

@@ -1,5 +1,5 @@
 -- The values of the credentials' maps, one after the other.
-use Rattle.std.proofs.Common.{◌≡◌, ◌<◌, ℕ, List, [], ◌∷◌, ◌++◌, length, refl, sym, ap, ◌∙◌, subst, take, get_or, ◌+◌}
+use Rattle.std.proofs.Common.{◌≡◌, ◌<◌, ℕ, List, [], ◌∷◌, ◌++◌, length, sym, ap, ◌∙◌, subst, take, get_or, ◌+◌}
 use Rattle.std.proofs.Common.{map as each}
 use Rattle.std.proofs.lemmas.List.{map-append, take_more}
 use Rattle.refusal_order.specs.Lines.{Each}

@@ -272,7 +272,7 @@ carries : (valid : Validity) (public : Keys) (old : AuthenticatorState) (channel
     → SoundState old → length words.id ≡ 32 → IsRequest q bs → CarriesOut valid public old channel consent words q out → SoundOutcome public old out
 carries valid public old channel bs consent words (make_credential q) out s w is h =
     unless public (first_true (creation_order old q consent words)) old out (Creates valid public old q consent words out) s
-    (λ e made. creates valid public old q consent words out s w (creation_hashed q bs is) (new_id old q consent words e).0 (new_id old q consent words e).1 made) h
+    (λ e made. let new = new_id old q consent words e in creates valid public old q consent words out s w (creation_hashed q bs is) new.0 new.1 made) h
 carries valid public old channel bs consent words (get_assertion q) out s w is h =
     unless public (first_true (assertion_order old q consent)) old out
     (FirstAnswers valid public old (candidates old.credentials q.rp_id q.allow_list) (asked_by channel q consent) out) s

@@ -29,8 +29,8 @@ pub fn signing_laws<V: Verifier>()
     ensures { (verifier : V) (public : Keys) → SigningLaws (V.valid verifier) public }
 {}
 
-/// What is saved is what is loaded: bytes are those of one authenticator, which has no others; over a restart all is as before
-/// but what is remembered; and of a sound state, as each is to which a run leads, what is saved is not refused.
+/// What is saved is what is loaded: bytes are those of one state, which has no others; over a restart the ids, the secrets and
+/// the counters are as before, and so is all else but what is remembered; and a sound state stays sound.
 pub fn saving_laws()
     ensures { SavingLaws }
 {}

@@ -1,5 +1,5 @@
 -- What is owed of `credentials_in`.
-use Rattle.std.proofs.Common.{◌≡◌, ◌<◌, ◌++◌, List, [], ◌∷◌, length, Some, None, Err, option_map, refl, sym, ap, ◌∙◌, subst, arith}
+use Rattle.std.proofs.Common.{◌≡◌, ◌<◌, ◌++◌, List, [], ◌∷◌, length, None, refl, sym, ap, ◌∙◌, subst, arith}
 use Rattle.std.proofs.lemmas.List.{length-append}
 use Rattle.refusal_order.proofs.Laws.{each_joined}
 use Rattle.ccbor.specs.Item.{item}
@@ -7,7 +7,7 @@ use Rattle.ccbor.specs.Viewing.{shown, shown_items}
 use Rattle.authenticator.specs.Credentials.{credential_of}
 use Rattle.authenticator.specs.Private.{source_in, source_shown}
 use Rattle.authenticator.specs.State.{CredentialSource}
-use Rattle.authenticator.specs.Saved.{IsSource, source_item}
+use Rattle.authenticator.specs.Saved.{IsSource}
 use Rattle.authenticator.specs.Views.{credential_sources_view}
 use Rattle.authenticator.proofs.SavedCredentials.{source_is, source_read, one_source}
 use Rattle.authenticator.proofs.SavedMaps.{in_front, in_front-none, in_front-one_more, first_item, no_item, goes_on, goes_behind}

@@ -1,6 +1,6 @@
 -- What is owed of `source_values`.
-use Rattle.std.proofs.Common.{◌≡◌, ◌+◌, ◌++◌, [], ◌∷◌, ap, sym, ◌∙◌, subst, map, take}
-use Rattle.std.proofs.lemmas.List.{map-append, take_all}
+use Rattle.std.proofs.Common.{◌+◌, [], ◌∷◌, ap, sym, ◌∙◌, subst, map, take}
+use Rattle.std.proofs.lemmas.List.{map-append}
 use Rattle.ccbor.specs.View.{view}
 use Rattle.authenticator.specs.Views.{credential_sources_view}
 use Rattle.authenticator.proofs.SavedValues.{AreValues, next_value}

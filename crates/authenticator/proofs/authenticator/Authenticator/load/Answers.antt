@@ -1,5 +1,5 @@
 -- What is owed of `Authenticator::load`.
-use Rattle.std.proofs.Common.{◌∙◌, length, Err, refl, sym, ap, inl, inr}
+use Rattle.std.proofs.Common.{◌∙◌, length, Err, sym, ap, inl, inr}
 use Rattle.std.proofs.lemmas.Result.{err_from_is_err_and}
 use Rattle.std.proofs.Math.Seq.{take-length}
 use Rattle.ccbor.specs.Viewing.{shown}

@@ -1,5 +1,5 @@
 -- What is owed of `Authenticator::saved_value`.
-use Rattle.std.proofs.Common.{◌≡◌, ◌<◌, ◌^◌, ◌∙◌, List, ap, arith, length, map, rules, subst, sym}
+use Rattle.std.proofs.Common.{◌≡◌, ◌<◌, ◌^◌, ◌∙◌, List, ap, arith, length, map, rules, subst}
 use Rattle.std.proofs.lemmas.List.{length-map}
 use Rattle.ccbor.specs.Canon.{ItemsFit}
 use Rattle.ccbor.specs.View.{items_of}
