@@ -9,3 +9,6 @@ pub mod Waiting
 pub mod Calls
 pub mod Stored
 pub mod Soundness
+pub mod SavedCredentials
+pub mod SavedMaps
+pub mod SavedValues

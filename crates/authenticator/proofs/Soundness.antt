@@ -1,5 +1,7 @@
 -- Each step keeps a sound state, and signs as the laws say.
-use Rattle.std.proofs.Common.{◌≡◌, ◌+◌, ◌++◌, ℕ, List, [], ◌∷◌, Option, Some, None, Bool, true, false, length, sym, refl, subst, arith, ap, ◌∙◌, inl, inr}
+use Rattle.std.proofs.Common.{◌≡◌, ◌+◌, ◌++◌, ℕ, List, [], ◌∷◌, Option, Some, None, Bool, true, false, length, sym, refl, subst, arith, ap, ◌∙◌, inl}
+use Rattle.std.proofs.Common.{inr, ◌<◌}
+use Rattle.std.proofs.lemmas.Bool.Decides.{nat_tests}
 use Rattle.std.specs.Prelude.{if◌then◌else◌, not, ◌&&◌, ◌||◌, All, IfSome, is_some, nat_le, ◌==◌}
 use Rattle.std.proofs.lemmas.List.{length-append}
 use Rattle.std.proofs.lemmas.List.Elements.{All-nil, All-cons, All-head, All-same, All-tail}
@@ -27,7 +29,7 @@ use Rattle.authenticator.specs.declared.consent.Consent.{Consent}
 use Rattle.authenticator.specs.declared.consent.Words.{Words}
 use Rattle.authenticator.proofs.Asked.{assertion_hashed, creation_hashed}
 use Rattle.authenticator.proofs.Store.{has_id}
-use Rattle.authenticator.proofs.Stored.{LaterResident, Stays, keeps_made, keeps_same, keeps_with, last_push, later_candidates, residents_with, stays}
+use Rattle.authenticator.proofs.Stored.{LaterResident, Stays, keeps_made, keeps_same, keeps_with, last_push, later_candidates, length_with, residents_with, stays}
 use Rattle.authenticator.proofs.Stored.{unique_made, unique_with, with_at}
 
 -- ---- flags
@@ -59,7 +61,7 @@ forgets : (public : Keys) (old : AuthenticatorState) (out : Outcome) → SoundSt
     → SoundOutcome public old out
 forgets public old out s e n m =
     nothing_signed public old out
-    (subst SoundState (sym e) (record { unique = s.unique; remembered = tt }))
+    (subst SoundState (sym e) (record { most = s.most; unique = s.unique; remembered = tt }))
     (subst (λ (a : AuthenticatorState). Keeps old.credentials a.credentials) (sym e) (keeps_same old.credentials)) n m
 
 refused : (public : Keys) (old : AuthenticatorState) (status : ℕ) (out : Outcome) → SoundState old → out ≡ refusal old status → SoundOutcome public old out
@@ -123,6 +125,7 @@ answers valid public old id asked later message count out s f r is =
     } in
     record {
       state = subst SoundState (sym is.state) (record {
+        most = length_with id (c.sign_count + 1) old.credentials s.most;
         unique = unique_with id (c.sign_count + 1) old.credentials s.unique;
         remembered = remembered_sound next asked later f (residents_with id (c.sign_count + 1) old.credentials later r);
       });
@@ -183,8 +186,11 @@ not_some : {X : Type 0} (o : Option X) → is_some o ≡ false → o ≡ None
 not_some None e = refl
 not_some (Some x) e = absurd cc
 
+below : (n : ℕ) → nat_le 256 n ≡ false → n < 256
+below n e = grind (arith, nat_tests, e)
+
 new_id : (old : AuthenticatorState) (q : CreationRequest) (consent : Consent) (words : Words) → first_true (creation_order old q consent words) ≡ None
-    → credential_of words.id old.credentials ≡ None
+    → (credential_of words.id old.credentials ≡ None) × (length (kept old.credentials q) < 256)
 new_id old q consent words e =
     let flags = creation_flags q.options in
     let l6 : List (Bool × ℕ) = (nat_le 256 (length (kept old.credentials q)), 0x28) ∷ [] in
@@ -196,7 +202,9 @@ new_id old q consent words e =
     let b = line_none (is_false flags.up || (is_true flags.uv && not old.uv)) 0x2C l3 a.1 in
     let c = line_none (not consent.present || (is_true flags.uv && not consent.verified)) 0x27 l4 b.1 in
     let d = line_none (is_excluded q.rp.id old.credentials q.exclude_list) 0x19 l5 c.1 in
-    not_some (credential_of words.id old.credentials) (line_none (is_some (credential_of words.id old.credentials)) 0x7F l6 d.1).0
+    let f = line_none (is_some (credential_of words.id old.credentials)) 0x7F l6 d.1 in
+    let g = line_none (nat_le 256 (length (kept old.credentials q))) 0x28 [] f.1 in
+    (not_some (credential_of words.id old.credentials) f.0, below (length (kept old.credentials q)) g.0)
 
 -- ---- a credential that is made
 
@@ -211,8 +219,9 @@ attested_all valid public old q consent words key types.SelfSigned r signed P h 
 
 creates : (valid : Validity) (public : Keys) (old : AuthenticatorState) (q : CreationRequest) (consent : Consent) (words : Words) (out : Outcome)
     → SoundState old → length words.id ≡ 32 → length q.client_data_hash ≡ 32 → credential_of words.id old.credentials ≡ None
+    → length (kept old.credentials q) < 256
     → Creates valid public old q consent words out → SoundOutcome public old out
-creates valid public old q consent words out s w l none is =
+creates valid public old q consent words out s w l none room is =
     let key = public is.alg words.secret in
     let new = new_credential q is.alg words in
     let stay = kept old.credentials q in
@@ -237,7 +246,11 @@ creates valid public old q consent words out s w l none is =
     let stored : IsStored public out.state.credentials key =
     (words.id, new, ap (credential_of words.id) e ∙ last_push stay new (stayed.none words.id none), refl) in
     record {
-      state = subst SoundState (sym is.state) (record { unique = unique_made old.credentials stay new stayed none; remembered = tt });
+      state = subst SoundState (sym is.state) (record {
+        most = omega (arith, length-append stay (new ∷ []), room);
+        unique = unique_made old.credentials stay new stayed none;
+        remembered = tt;
+      });
       keeps = subst (Keeps old.credentials) (sym e) (keeps_made old.credentials stay new stayed none);
       entries = attested_all valid public old q consent words key old.attest is.shown out.signed IsSound sound is.attested;
       counted = attested_all valid public old q consent words key old.attest is.shown out.signed
@@ -249,7 +262,7 @@ creates valid public old q consent words out s w l none is =
 emptied : (public : Keys) (old : AuthenticatorState) (out : Outcome) → Resets old out → SoundOutcome public old out
 emptied public old out is =
     nothing_signed public old out
-    (subst SoundState (sym is.state) (record { unique = tt; remembered = tt }))
+    (subst SoundState (sym is.state) (record { most = omega arith; unique = tt; remembered = tt }))
     (subst (λ (a : AuthenticatorState). Keeps old.credentials a.credentials) (sym is.state) (λ k c e. inl refl)) is.signed is.made
 
 -- ---- one call
@@ -259,7 +272,7 @@ carries : (valid : Validity) (public : Keys) (old : AuthenticatorState) (channel
     → SoundState old → length words.id ≡ 32 → IsRequest q bs → CarriesOut valid public old channel consent words q out → SoundOutcome public old out
 carries valid public old channel bs consent words (make_credential q) out s w is h =
     unless public (first_true (creation_order old q consent words)) old out (Creates valid public old q consent words out) s
-    (λ e made. creates valid public old q consent words out s w (creation_hashed q bs is) (new_id old q consent words e) made) h
+    (λ e made. let new = new_id old q consent words e in creates valid public old q consent words out s w (creation_hashed q bs is) new.0 new.1 made) h
 carries valid public old channel bs consent words (get_assertion q) out s w is h =
     unless public (first_true (assertion_order old q consent)) old out
     (FirstAnswers valid public old (candidates old.credentials q.rp_id q.allow_list) (asked_by channel q consent) out) s
@@ -281,4 +294,4 @@ step valid public old channel bs consent words out s w h = elim h [
 ]
 
 pub laws : (valid : Validity) (public : Keys) → StepLaws valid public
-laws valid public = record { begins = λ aaguid uv attest. record { unique = tt; remembered = tt }; sound = step valid public }
+laws valid public = record { begins = λ aaguid uv attest. record { most = omega arith; unique = tt; remembered = tt }; sound = step valid public }

@@ -15,7 +15,7 @@ use Rattle.authenticator.specs.Credentials.{credential_of, is_resident_for, with
 use Rattle.authenticator.specs.Orders.{candidates, is_stored_for}
 use Rattle.authenticator.specs.Laws.{IsUnique, IsResident, Keeps}
 
-same_id : (xs ys : List ℕ) → bytes_eq xs ys ≡ true → xs ≡ ys
+pub same_id : (xs ys : List ℕ) → bytes_eq xs ys ≡ true → xs ≡ ys
 same_id xs ys e = (bytes_eq-Decides xs ys).0 e
 
 pub itself : (xs : List ℕ) → bytes_eq xs xs ≡ true
@@ -88,6 +88,13 @@ pub unique_with : (id : List ℕ) (n : ℕ) (cs : List CredentialSource) → IsU
 unique_with id n [] u = tt
 unique_with id n (x ∷ xs) (none, u) = grind (arith, common_steps, none, u, same_id id x.id, bytes_eq-Decides, with_other id n xs x.id, unique_with id n xs u)
 
+length_same : (id : List ℕ) (n : ℕ) (cs : List CredentialSource) → length (with_sign_count id n cs) ≡ length cs
+length_same id n [] = refl
+length_same id n (x ∷ xs) = grind (arith, common_steps, length_same id n xs)
+
+pub length_with : (id : List ℕ) (n : ℕ) (cs : List CredentialSource) → length cs ≤ 256 → length (with_sign_count id n cs) ≤ 256
+length_with id n cs h = let e = length_same id n cs in omega (arith, e, h)
+
 pub keeps_same : (cs : List CredentialSource) → Keeps cs cs
 keeps_same cs k c e = inr (c, e, omega arith, refl)
 
@@ -127,7 +134,7 @@ none_push cs c k e ne = grind (arith, common_steps, e, ne, find-append)
 pub last_push : (cs : List CredentialSource) (c : CredentialSource) → credential_of c.id cs ≡ None → credential_of c.id (cs ++ c ∷ []) ≡ Some c
 last_push cs c e = grind (arith, common_steps, e, find-append, itself)
 
-unique_push : (cs : List CredentialSource) (c : CredentialSource) → IsUnique cs → credential_of c.id cs ≡ None → IsUnique (cs ++ c ∷ [])
+pub unique_push : (cs : List CredentialSource) (c : CredentialSource) → IsUnique cs → credential_of c.id cs ≡ None → IsUnique (cs ++ c ∷ [])
 unique_push [] c u e = (refl, tt)
 unique_push (x ∷ xs) c (none, u) e = grind (arith, common_steps, u, none, e, itself, same_id c.id x.id, none_push xs c x.id none, unique_push xs c u)
 

@@ -34,7 +34,9 @@ pub record SoundRemembered (cs : List CredentialSource) (r : Remembered) : Type 
   pub next : IsResident cs r.next
   pub later : All (IsResident cs) r.later
 
+-- there are at most 256 credentials, no two of one id
 pub record SoundState (a : AuthenticatorState) : Type 0 where
+  pub most : length a.credentials ≤ 256
   pub unique : IsUnique a.credentials
   pub remembered : IfSome a.remembered (SoundRemembered a.credentials)
 

@@ -7,3 +7,5 @@ pub mod Views
 pub mod Laws
 pub mod Handed
 pub mod Signing
+pub mod Saved
+pub mod Numbers

@@ -1,9 +1,15 @@
 -- What private functions are proved against; no public clause cites it.
 use Rattle.std.specs.Prelude.{◌≡◌, ◌≤◌, ◌<◌, ◌^◌, ℕ, List, [], ◌∷◌, length, Bool, not, ◌&&◌, ◌||◌, Result, Ok, Err, Option, Some, None, IfSome}
-use Rattle.std.specs.Prelude.{position, remove, if◌then◌else◌}
+use Rattle.std.specs.Prelude.{position, remove, if◌then◌else◌, ◌==◌, nat_le}
 use Rattle.std.specs.Str.{bytes_eq}
 use Rattle.refusal_order.specs.Lines.{first_true}
+use Rattle.ccbor.specs.Item.{Item, Items, Pairs, uint}
+use Rattle.ccbor.specs.Access.{split_key, is_end, uint_in, nint_in, bytes_in, text_in, bool_in, items_in, pairs_in}
+use Rattle.ccbor.specs.Reading.{◌>>=◌}
+use Rattle.ccbor.specs.Viewing.{shown_items}
 use Rattle.cose.specs.Schemes.{Validity}
+use Rattle.cose.specs.declared.key.Alg.{Alg}
+use Rattle.cose.specs.declared.key.Alg.TheVariants as algs
 use Rattle.cose.specs.declared.key.CoseKey.{CoseKey}
 use Rattle.authdata.specs.declared.statement.AttestationType.{AttestationType}
 use Rattle.ctap_replies.specs.Replies.{Assertion, Creation, ReplyMessage, ReplyOf}
@@ -15,11 +21,14 @@ use Rattle.authenticator.specs.Credentials.{credential_of}
 use Rattle.authenticator.specs.State.{Asked, CredentialSource, AuthenticatorState}
 use Rattle.authenticator.specs.Orders.{assertion_flags, creation_flags, assertion_order, candidates, creation_order, first_is_at_end, is_false}
 use Rattle.authenticator.specs.Orders.{is_stored_for, is_true, first_supported, kept, next_order, remembered_on}
+use Rattle.authenticator.specs.Laws.{IsUnique}
 use Rattle.authenticator.specs.Steps.{MakesStatement, CarriesOut, Creates, Entry, FirstAnswers, Keys, NextAnswers, Unless, asked_by}
 use Rattle.authenticator.specs.Signing.{BeginsBy}
 use Rattle.authenticator.specs.declared.consent.Consent.{Consent}
 use Rattle.authenticator.specs.declared.consent.Words.{Words}
 use Rattle.authenticator.specs.declared.make_credential.Choice.{Choice}
+use Rattle.authenticator.specs.declared.members.SourceView.{SourceView}
+use Rattle.authenticator.specs.declared.members.SavedMembers.{SavedMembers}
 use Rattle.authenticator.specs.declared.pending.Begun.{Begun}
 
 -- the reply has bytes, at most 7,609
@@ -132,3 +141,81 @@ abbrev pub NextBegins : Keys → AuthenticatorState → ℕ → Begun → Authen
 NextBegins public old channel b new =
     BeginsBy (λ valid out. Unless (first_true (next_order old channel)) old out (NextAnswers valid public old (remembered_on channel old.remembered) out))
     public old b new
+
+-- ---- loading
+
+-- so many bytes, from low to high
+abbrev pub sized_in : ℕ → ℕ → Item → Option (List ℕ)
+sized_in low high x = bytes_in x >>= λ bs. if nat_le low (length bs) && nat_le (length bs) high then Some bs else None
+
+abbrev pub alg_at : ℕ → Option Alg
+alg_at n = if n == 6 then Some algs.Es256 else if n == 7 then Some algs.EdDsa else None
+
+abbrev pub alg_in : Item → Option Alg
+alg_in x = nint_in x >>= alg_at
+
+-- a counter of 32 bits
+abbrev pub counter_in : Item → Option ℕ
+counter_in x = uint_in x >>= λ n. if nat_le n 4294967295 then Some n else None
+
+-- the credential of these parts, whose other members are these
+abbrev pub behind_secret : List ℕ → List ℕ → List ℕ → List ℕ → Pairs → Option CredentialSource
+behind_secret id rp_id user secret ps = do
+  five ← split_key (uint 5) ps
+  alg ← alg_in five.0
+  six ← split_key (uint 6) five.1
+  resident ← bool_in six.0
+  seven ← split_key (uint 7) six.1
+  count ← counter_in seven.0
+  if is_end seven.1 then Some (record { id = id; rp_id = rp_id; user = user; secret = secret; alg = alg; resident = resident; sign_count = count }) else None
+
+-- the credential, from the front of its map
+unfoldable pub source_in : Item → Option CredentialSource
+source_in x = do
+  ps ← pairs_in x
+  one ← split_key (uint 1) ps
+  id ← sized_in 32 32 one.0
+  two ← split_key (uint 2) one.1
+  rp_id ← text_in two.0
+  three ← split_key (uint 3) two.1
+  user ← sized_in 1 64 three.0
+  four ← split_key (uint 4) three.1
+  secret ← sized_in 32 32 four.0
+  behind_secret id rp_id user secret four.1
+
+abbrev pub Members : Type 0
+Members = List ℕ × Bool × Bool × Items
+
+-- the aaguid, the two configurations and the credentials' values, from the front of the map
+unfoldable pub members_in : Item → Option Members
+members_in x = do
+  ps ← pairs_in x
+  one ← split_key (uint 1) ps
+  version ← uint_in one.0
+  two ← split_key (uint 2) one.1
+  aaguid ← sized_in 16 16 two.0
+  three ← split_key (uint 3) two.1
+  uv ← bool_in three.0
+  four ← split_key (uint 4) three.1
+  self_signed ← bool_in four.0
+  five ← split_key (uint 5) four.1
+  credentials ← items_in five.0
+  if is_end five.1 && (version == 1) then Some (aaguid, uv, self_signed, credentials) else None
+
+-- at most 256, no two of one id
+abbrev pub IsStore : List CredentialSource → Type 0
+IsStore cs = (length cs ≤ 256) × IsUnique cs
+
+abbrev pub source_shown : SourceView → CredentialSource
+source_shown c = record {
+  id = c.id;
+  rp_id = c.rp_id.now;
+  user = c.user.now;
+  secret = c.secret;
+  alg = c.alg;
+  resident = c.resident;
+  sign_count = c.sign_count;
+}
+
+abbrev pub members_shown : SavedMembers → Members
+members_shown m = (m.aaguid, m.uv, m.self_signed, shown_items m.credentials)

@@ -1,6 +1,7 @@
 //! The laws of an authenticator's steps.
 
 ghost use Rattle.authenticator.specs.Laws.{StepLaws};
+ghost use Rattle.authenticator.specs.Saved.{SavingLaws};
 ghost use Rattle.authenticator.specs.Signing.{SigningLaws};
 ghost use Rattle.authenticator.specs.Steps.{Keys};
 
@@ -26,4 +27,10 @@ pub fn step_laws<V: Verifier>()
 /// [`Authenticator::finish`](crate::Authenticator::finish) answers is the step that the request asked for.
 pub fn signing_laws<V: Verifier>()
     ensures { (verifier : V) (public : Keys) → SigningLaws (V.valid verifier) public }
+{}
+
+/// What is saved is what is loaded: bytes are those of one state, which has no others; over a restart the ids, the secrets and
+/// the counters are as before, and so is all else but what is remembered; and a sound state stays sound.
+pub fn saving_laws()
+    ensures { SavingLaws }
 {}

@@ -25,6 +25,10 @@ pub(crate) enum LineCommand {
     Expire,
     /// `signature <hex>`
     Signature(Vec<u8>),
+    /// `save`
+    Save,
+    /// `load <hex>`
+    Load(Vec<u8>),
 }
 
 /// 32 bytes, as 64 digits.
@@ -93,10 +97,15 @@ pub(crate) fn line_command(alloc: Global, line: &str) -> Option<LineCommand> {
     match words.len() {
         1 if name == "wait" => Some(LineCommand::Wait),
         1 if name == "expire" => Some(LineCommand::Expire),
+        1 if name == "save" => Some(LineCommand::Save),
         2 if name == "packet" => Some(LineCommand::Packet(Packet(word_of_64(word(&words, 1))?))),
         2 if name == "signature" => {
             let signature = hex::decode(alloc, word(&words, 1)?).ok()?;
             Some(LineCommand::Signature(signature))
+        }
+        2 if name == "load" => {
+            let bytes = hex::decode(alloc, word(&words, 1)?).ok()?;
+            Some(LineCommand::Load(bytes))
         }
         8 if name == "decide" => Some(LineCommand::Decide(read_decision(&words)?)),
         _ => None,

@@ -5,7 +5,7 @@ ghost use Rattle.hidlink.specs.declared.transaction.DeviceEvent.TheVariants as e
 
 use crate::command::{Decision, LineCommand, line_command};
 use authdata::AttestationType;
-use authenticator::{Authenticator, Begun, MAX_SIGNATURE, Pending};
+use authenticator::{Authenticator, Begun, LoadError, MAX_SIGNATURE, Pending};
 use cose::Alg;
 use ctap_status::status::KEEPALIVE_CANCEL;
 use hidframe::Packet;
@@ -27,6 +27,8 @@ enum Fault {
     NotSigning,
     /// A signature has 1 to 128 bytes.
     BadSignature,
+    /// The bytes are no saved authenticator.
+    BadAuthenticator,
     /// There was no memory.
     Memory,
 }
@@ -37,6 +39,15 @@ impl From<AllocError> for Fault {
     }
 }
 
+impl From<LoadError> for Fault {
+    fn from(error: LoadError) -> Fault {
+        match error {
+            LoadError::BadAuthenticator => Fault::BadAuthenticator,
+            LoadError::Memory => Fault::Memory,
+        }
+    }
+}
+
 /// The text of a fault.
 fn text(fault: Fault) -> &'static str {
     match fault {
@@ -44,6 +55,7 @@ fn text(fault: Fault) -> &'static str {
         Fault::NotWorking => "error no request waits for a decision\n",
         Fault::NotSigning => "error no request waits for a signature\n",
         Fault::BadSignature => "error a signature has 1 to 128 bytes\n",
+        Fault::BadAuthenticator => "error the bytes are no saved authenticator\n",
         Fault::Memory => "error out of memory\n",
     }
 }
@@ -212,6 +224,24 @@ impl SoftKey {
         Ok(())
     }
 
+    /// Tells the authenticator's saved bytes, in which its secrets stand as they are.
+    fn save(&self, alloc: Global, told: &mut Vec<u8>) -> Result<(), Fault> {
+        let mut bytes = Vec::new(alloc);
+        self.authenticator.save(&mut bytes)?;
+        told.extend_from_slice(b"saved ")?;
+        tell_hex(told, &bytes)?;
+        told.extend_from_slice(b"\n")?;
+        told.reserve(MOST_TOLD)?;
+        Ok(())
+    }
+
+    /// Takes the authenticator that was saved in place of its own. A request that waits for its signature is to be decided anew.
+    fn load(&mut self, alloc: Global, bytes: &[u8]) -> Result<(), Fault> {
+        self.authenticator = Authenticator::load(alloc, bytes)?;
+        self.pending = None;
+        Ok(())
+    }
+
     /// Does what a line asks for, but for sending the packets that are due.
     fn act(&mut self, alloc: Global, line: &str, told: &mut Vec<u8>) -> Result<(), Fault> {
         let Some(command) = line_command(alloc, line) else {
@@ -223,6 +253,8 @@ impl SoftKey {
             LineCommand::Wait => self.wait(),
             LineCommand::Expire => self.expire(),
             LineCommand::Signature(signature) => self.sign(signature.as_slice()),
+            LineCommand::Save => self.save(alloc, told),
+            LineCommand::Load(bytes) => self.load(alloc, bytes.as_slice()),
         }
     }
 
