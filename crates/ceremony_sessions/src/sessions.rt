@@ -248,8 +248,8 @@ impl Sessions {
         Ok(Started { session, challenge })
     }
 
-    /// The session of a number.
-    fn get(&self, session: u64) -> Option<&Session>
+    /// The session of a number, where it is open. It takes no memory.
+    pub fn get(&self, session: u64) -> Option<&Session>
         ensures expected { option_map (λ s. session_view s.now) result ≡ finite.get self.now.expected session }
         ensures limits { AreLimits (finite.get self.now.expected session) }
     {

@@ -7,7 +7,7 @@ mod registration;
 mod signing_in;
 mod site;
 
-pub use ceremony_sessions::{Error as BeginError, Started};
+pub use ceremony_sessions::{Error as BeginError, Session, Started};
 pub use credential_table::{Row, Rows, Table};
 pub use error::Error;
 pub use law::site_laws;

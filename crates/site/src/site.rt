@@ -1,7 +1,7 @@
 //! The site.
 
 ghost use Rattle.std.specs.Prelude.{◌≡◌, ◌≢◌, ◌↔◌, ◌≤◌, ◌<◌, [], IfErr, IfOk, IfSome, IsErrOf, IsSome, IsTrue, OnErr, OnOk, ℕ, false, is_some};
-ghost use Rattle.std.specs.Prelude.{length, map, option_map, true};
+ghost use Rattle.std.specs.Prelude.{length, map, option_map, slice_get, true, Some};
 ghost use Rattle.std.specs.FinMap as finite;
 ghost use Rattle.std.specs.Option.{ForSome};
 ghost use Rattle.authdata.specs.declared.profile.Profile.TheVariants.{Open, Strict};
@@ -9,13 +9,14 @@ ghost use Rattle.verification.specs.Views.{credential_view, texts_of};
 ghost use Rattle.credential_table.specs.Table.{IsTable, IsWithin, retired, row_of, with_row};
 ghost use Rattle.credential_table.specs.Views.{rows_view, stored_row_view};
 ghost use Rattle.ceremony_sessions.specs.Sessions.{IsRefused, OpensRegistration, OpensSignIn, PassesOpening, begun, challenge_of, closed};
+ghost use Rattle.ceremony_sessions.specs.Views.{session_view};
 ghost use Rattle.saved_table.specs.Saved.{AppendsTable, Saved, TableOf, last_version};
 ghost use Rattle.site.specs.State.{IsParty, none_open, saved_of};
 ghost use Rattle.site.specs.declared.error.Error.TheVariants as errors;
 
 use crate::error::Error;
 use authdata::Profile;
-use ceremony_sessions::{Sessions, Started};
+use ceremony_sessions::{Session, Sessions, Started};
 use cose::Alg;
 use credential_table::{Row, Rows, Table, is_within};
 use saved_table::{Loaded, save};
@@ -439,6 +440,36 @@ impl Site {
         ensures { option_map credential_view result ≡ row_of id.now self.now.rows }
     {
         self.table.row(id)
+    }
+
+    /// The credential of an id, retired or not, behind its place in order of registration, from 0. It takes no memory.
+    pub fn find(&self, id: &[u8]) -> Option<(usize, RowView<'_>)>
+        ensures place { IfSome result (λ x. slice_get self.now.rows x.0 ≡ Some (credential_view x.1)) }
+        ensures row { option_map (λ x. credential_view x.1) result ≡ row_of id.now self.now.rows }
+        ensures limits { IsTable self.now.rp.profile self.now.rows }
+    {
+        self.table.find(id)
+    }
+
+    /// What the session of a number expects, where it is open. It takes no memory.
+    pub fn session(&self, session: u64) -> Option<&Session>
+        ensures { option_map (λ s. session_view s.now) result ≡ finite.get self.now.sessions.expected session }
+    {
+        self.sessions.get(session)
+    }
+
+    /// The number that the next session will have.
+    pub fn next_session(&self) -> u64
+        ensures { result ≡ self.now.sessions.next }
+    {
+        self.sessions.next()
+    }
+
+    /// The rp id.
+    pub fn rp_id(&self) -> &str
+        ensures { result.now ≡ self.now.rp.rp_id }
+    {
+        self.party.rp_id()
     }
 
     /// The credentials in order of registration. It takes no memory.
