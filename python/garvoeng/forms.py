@@ -4,7 +4,8 @@ from __future__ import annotations
 import base64
 import binascii
 import re
-from typing import Any, Dict, Mapping, Optional
+from collections.abc import Mapping
+from typing import Any, Dict, Optional
 
 from .records import BadInput
 
@@ -24,7 +25,7 @@ def from_text(text: Any, what: str) -> bytes:
     if not _PLAIN.match(bare):
         raise BadInput(f"{what} is not base64url")
     try:
-        return base64.urlsafe_b64decode(bare + "=" * (-len(bare) % 4))
+        return binascii.a2b_base64(bare.replace("-", "+").replace("_", "/") + "=" * (-len(bare) % 4))
     except (binascii.Error, ValueError):
         raise BadInput(f"{what} is not base64url") from None
 

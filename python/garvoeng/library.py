@@ -2,7 +2,7 @@
 from __future__ import annotations
 
 import ctypes
-from ctypes import POINTER, Structure, c_bool, c_int32, c_size_t, c_uint8, c_uint32, c_uint64, c_void_p
+from ctypes import POINTER, Structure, c_bool, c_char_p, c_int32, c_size_t, c_uint8, c_uint32, c_uint64, c_void_p
 from pathlib import Path
 from typing import Sequence
 
@@ -13,7 +13,7 @@ MAX_ID = 1023
 
 
 class Bytes(Structure):
-    _fields_ = [("data", c_void_p), ("size", c_size_t)]
+    _fields_ = [("data", c_char_p), ("size", c_size_t)]
 
 
 class Key(Structure):
@@ -152,7 +152,7 @@ class Lender:
         """The bytes, where they lie; null where there are none."""
         value = bytes(value)
         self._held.append(value)
-        return Bytes(ctypes.cast(ctypes.c_char_p(value), c_void_p) if value else None, len(value))
+        return Bytes(value or None, len(value))
 
     def list(self, values: Sequence[bytes]) -> "ctypes.Array[Bytes]":
         array = (Bytes * len(values))(*[self.bytes(value) for value in values])

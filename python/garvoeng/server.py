@@ -3,7 +3,6 @@ from __future__ import annotations
 
 import ctypes
 import secrets
-from dataclasses import replace
 from typing import Any, Callable, Dict, Iterable, Mapping, Optional, Sequence, Tuple
 
 from . import forms, library, signatures
@@ -42,10 +41,9 @@ class Server:
         self.accept_self = accept_self
         self.open_profile = open_profile
         self.verify = verify
-
-    def _party(self, lender: Lender) -> library.Party:
-        origins = lender.list([origin.encode() for origin in self.origins])
-        return library.Party(lender.bytes(self.rp_id.encode()), origins, len(origins), self.open_profile)
+        self._lender = Lender()
+        lent = self._lender.list([origin.encode() for origin in self.origins])
+        self._party = library.Party(self._lender.bytes(rp_id.encode()), lent, len(lent), open_profile)
 
     # ---- registration
 
@@ -94,7 +92,7 @@ class Server:
         registered."""
         lender = Lender()
         call = library.RegistrationCall()
-        call.party = self._party(lender)
+        call.party = self._party
         call.accept_none = self.accept_none
         call.accept_self = self.accept_self
         if session is not None:
@@ -177,7 +175,7 @@ class Server:
         """The same of the response's parts and the credential that was found."""
         lender = Lender()
         call = library.AssertionCall()
-        call.party = self._party(lender)
+        call.party = self._party
         if session is not None:
             allow = lender.list(session.allow)
             call.has_session = True
@@ -201,5 +199,6 @@ class Server:
             answer = passkey.passkey_assertion(ctypes.byref(call), ctypes.byref(out))
         _answer(False, answer)
         assert credential is not None
-        now = replace(credential, sign_count=out.sign_count, eligible=out.eligible)
+        now = Credential(credential.id, credential.user, credential.algorithm, credential.x, credential.y, out.sign_count,
+                         out.eligible, credential.retired)
         return SignedIn(now, credential, out.backed_up)

@@ -1,0 +1,73 @@
+/* hosts COUNT: how long a verdict on a sign-in takes by passkey.h, and a whole sign-in with OpenSSL's mathematics. The
+ * device, the site and the verifier are those of c/example.c. */
+#define main example_main
+#include "../c/example.c"
+#undef main
+
+#include <time.h>
+
+static double now(void)
+{
+    struct timespec at;
+    MUST(clock_gettime(CLOCK_PROCESS_CPUTIME_ID, &at) == 0);
+    return (double)at.tv_sec * 1e6 + (double)at.tv_nsec / 1e3;
+}
+
+static int by_size(const void *left, const void *right)
+{
+    double first = *(const double *)left, second = *(const double *)right;
+    return (first > second) - (first < second);
+}
+
+/* the median of nine runs of so many calls, in microseconds a call */
+static void report(const char *what, long count, passkey_assertion_call *call, bool whole)
+{
+    double runs[9];
+    passkey_assertion_out out;
+    for (size_t i = 0; i < 9; i++) {
+        double began = now();
+        for (long n = 0; n < count; n++)
+            MUST((whole ? sign_in(call, &out) : passkey_assertion(call, &out)) == PASSKEY_ACCEPTED);
+        runs[i] = (now() - began) / (double)count;
+    }
+    qsort(runs, 9, sizeof runs[0], by_size);
+    printf("%s: %.2f us, %.0f a second\n", what, runs[4], 1e6 / runs[4]);
+}
+
+int main(int argc, char **argv)
+{
+    long count = argc > 1 ? atol(argv[1]) : 20000;
+    const passkey_bytes origins[] = { text("https://example.com") };
+    uint8_t challenge[32], data[64], message[96], signature[128];
+    char client_data[256];
+    device_make();
+    new_challenge(1, challenge);
+    size_t data_size = device_data(data, 0x05, 1);
+    size_t client_size = device_client_data(client_data, "webauthn.get", challenge);
+    memcpy(message, data, data_size);
+    SHA256((const uint8_t *)client_data, client_size, message + data_size);
+    size_t signature_size = device_sign(message, data_size + 32, signature);
+    passkey_assertion_call call = {
+        .party = { text("example.com"), origins, 1, true },
+        .has_session = true,
+        .session = { .challenge = bytes(challenge, 32), .user_verification = true },
+        .has_credential = true,
+        .credential = { .id = bytes(device_id, sizeof device_id),
+                        .user = text("account 7"),
+                        .key = { PASSKEY_ES256, bytes(device_x, 32), bytes(device_y, 32) },
+                        .is_eligibility_known = true },
+        .response = { .credential = bytes(device_id, sizeof device_id),
+                      .has_user = true,
+                      .user = text("account 7"),
+                      .auth_data = bytes(data, data_size),
+                      .signature = bytes(signature, signature_size),
+                      .client_data = bytes(client_data, client_size) },
+    };
+    report("C, a whole sign-in, two verdicts and OpenSSL's mathematics", count / 20, &call, true);
+    call.verified.key = call.credential.key;
+    call.verified.message = bytes(message, data_size + 32);
+    call.verified.signature = call.response.signature;
+    call.has_verified = true;
+    report("C, a verdict", count, &call, false);
+    return 0;
+}
