@@ -22,7 +22,7 @@ use Rattle.authenticator.specs.State.{Asked, CredentialSource, Remembered, Authe
 use Rattle.authenticator.specs.Credentials.{credential_of, is_resident_of, with_sign_count, without_first}
 use Rattle.authenticator.specs.Orders.{assertion_order, candidates, creation_flags, creation_order, is_true, kept, next_order, remembered_on, reset_order}
 use Rattle.authenticator.specs.Steps.{AnswersWith, MakesStatement, CarriesOut, Creates, Entry, FirstAnswers, Keys, NextAnswers, Outcome, Resets}
-use Rattle.authenticator.specs.Steps.{Step, Unless, asked_by, assertion, assertion_data, attestation, creation_data, key_of, new_credential, refusal}
+use Rattle.authenticator.specs.Steps.{Purpose, Step, Unless, asked_by, assertion, assertion_data, attestation, creation_data, key_of, new_credential, refusal}
 use Rattle.authenticator.specs.Steps.{remembering}
 use Rattle.authenticator.specs.declared.consent.Consent.{Consent}
 use Rattle.authenticator.specs.declared.consent.Words.{Words}
