@@ -8,6 +8,7 @@ mod authenticator_making;
 mod authenticator_many;
 mod authenticator_names;
 mod authenticator_orders;
+mod authenticator_saved;
 mod authenticator_signings;
 mod client_limits;
 mod client_messages;

@@ -1,6 +1,7 @@
-//! The number, the name and the text of each refusal of packets, channels, messages and responses; `docs/REFUSALS.md`
-//! shows the same.
+//! The number, the name and the text of each refusal of packets, channels, messages, responses and saved authenticators;
+//! `docs/REFUSALS.md` shows the same.
 
+use authenticator::LoadError;
 use client::ResponseError;
 use hidframe::TooLong;
 use hidlink::{Ended, Refusal};
@@ -16,6 +17,8 @@ const TEXTS: Table = "4|TooLong|the payload is longer than 7609 bytes
 1|Unfit|the message has no encoding
 0|Memory|out of memory
 1|Unfit|the attestation object has no encoding
+0|Memory|out of memory
+30|BadAuthenticator|the bytes are no saved authenticator
 0|Memory|out of memory";
 
 /// The lines of the refusals, in the order of the table.
@@ -29,6 +32,9 @@ fn lines(alloc: Global, lines: &mut String) -> Result<(), AllocError> {
         append_refusal(alloc, error.number(), &error, lines)?;
     }
     for error in [ResponseError::Unfit, ResponseError::Memory] {
+        append_refusal(alloc, error.number(), &error, lines)?;
+    }
+    for error in [LoadError::BadAuthenticator, LoadError::Memory] {
         append_refusal(alloc, error.number(), &error, lines)?;
     }
     Ok(())
