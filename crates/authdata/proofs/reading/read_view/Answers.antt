@@ -1,5 +1,5 @@
 -- What is owed of `read_view`.
-use Rattle.std.proofs.Common.{option_map, ◌<◌, true, false, length, ap, subst, sym, ◌∙◌, inl, arith, rules, refl}
+use Rattle.std.proofs.Common.{option_map, ◌<◌, length, ap, subst, sym, ◌∙◌, inl, arith, rules, refl}
 use Rattle.authdata.specs.Flags.{is_set, HasBackup, ED}
 use Rattle.authdata.proofs.Firsts.{WasRead, auth_is, backup_first, extensions_first, extra_applies, extra_first, lifted}
 use Rattle.authdata.proofs.Firsts.{is_some-map, no_map_applies, no_map_first, out, parts_join, parts_whole, short_first}
