@@ -13,7 +13,8 @@ use hidframe::ctaphid::STATUS_UPNEEDED;
 use hidlink::{Device, DeviceEvent};
 use std::alloc::{AllocError, Global};
 
-/// The most bytes of the lines that one line is answered by: 129 packets, and less than 1,000 bytes beside them.
+/// The most bytes of the lines that a line other than `save` is answered by: 129 packets, and less than 1,000 bytes beside
+/// them.
 const MOST_TOLD: usize = 129 * 133 + 1000;
 
 /// Why a line has no effect.

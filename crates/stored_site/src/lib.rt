@@ -4,6 +4,7 @@
 mod credentials;
 mod error;
 mod law;
+mod sessions;
 #[cfg(test)]
 mod tests;
 mod values;
@@ -11,3 +12,4 @@ mod values;
 pub use credentials::{credential_row, read_credential};
 pub use error::RowError;
 pub use law::row_laws;
+pub use sessions::session_row;

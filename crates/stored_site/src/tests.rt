@@ -1,7 +1,10 @@
 //! Rows written and read back, with ample memory.
 
-use crate::{RowError, credential_row, read_credential};
-use cose::CoseKey;
+use crate::{RowError, credential_row, read_credential, session_row};
+use authdata::Profile;
+use ceremony_sessions::Sessions;
+use cose::{Alg, CoseKey};
+use sqlite_value::order::is_same;
 use sqlite_value::row::Row;
 use sqlite_value::value::ValueRef;
 use std::alloc::Global;
@@ -46,6 +49,68 @@ fn with_one_more(alloc: Global) -> Option<Row> {
     let mut row = credential_row(alloc, 1, &credential(&KEYS[1])).ok()?;
     row.push(ValueRef::Null).ok()?;
     Some(row)
+}
+
+/// Whether the first columns of a row have these values.
+fn begins_with(row: &Row, values: &[ValueRef<'_>]) -> bool {
+    for at in 0..values.len() {
+        if !is_same(row.get(at), values[at]) {
+            return false;
+        }
+    }
+    true
+}
+
+/// Whether the row of a session that is open for sign-in is written column by column.
+fn sign_in_is_written(alloc: Global) -> Option<bool> {
+    let mut sessions = Sessions::new(alloc, 7);
+    let allow: [&[u8]; 2] = [&[4], &[5, 6]];
+    let started = sessions
+        .begin_sign_in(Profile::Strict, Some(&[9]), &allow, true, [3; 24])
+        .ok()?;
+    let row = session_row(alloc, 7, sessions.get(7)?).ok()?;
+    let columns = [
+        ValueRef::Int(7),
+        ValueRef::Null,
+        ValueRef::Text(b"sign-in"),
+        ValueRef::Blob(&started.challenge),
+        ValueRef::Blob(&[9]),
+        ValueRef::Int(1),
+        ValueRef::Null,
+        ValueRef::Null,
+        ValueRef::Blob(&[4]),
+        ValueRef::Blob(&[5, 6]),
+        ValueRef::Null,
+    ];
+    Some(begins_with(&row, &columns) && row.len() == 16)
+}
+
+/// Whether the row of a session that is open for registration is written column by column.
+fn registration_is_written(alloc: Global) -> Option<bool> {
+    let mut sessions = Sessions::new(alloc, 8);
+    let started = sessions
+        .begin_registration(&[8], &[Alg::EdDsa, Alg::Es256], false, [2; 24])
+        .ok()?;
+    let row = session_row(alloc, 8, sessions.get(8)?).ok()?;
+    let columns = [
+        ValueRef::Int(8),
+        ValueRef::Null,
+        ValueRef::Text(b"registration"),
+        ValueRef::Blob(&started.challenge),
+        ValueRef::Blob(&[8]),
+        ValueRef::Int(0),
+        ValueRef::Text(b"-8-7"),
+        ValueRef::Null,
+        ValueRef::Null,
+    ];
+    Some(begins_with(&row, &columns) && row.len() == 16)
+}
+
+#[test]
+fn rows_of_sessions_are_written(rt: HostRuntime) -> Result<(), RowError> {
+    assert!(rt; sign_in_is_written(rt.alloc()) == Some(true));
+    assert!(rt; registration_is_written(rt.alloc()) == Some(true));
+    Ok(())
 }
 
 #[test]
