@@ -63,7 +63,7 @@ int main(int argc, char **argv)
                       .signature = bytes(signature, signature_size),
                       .client_data = bytes(client_data, client_size) },
     };
-    report("C, a whole sign-in, two verdicts and OpenSSL's mathematics", count / 20, &call, true);
+    report("C, a sign-in", count / 20, &call, true);
     call.verified.key = call.credential.key;
     call.verified.message = bytes(message, data_size + 32);
     call.verified.signature = call.response.signature;
