@@ -12,8 +12,8 @@ def is_valid(algorithm: int, x: bytes, y: bytes, message: bytes, signature: byte
     """Whether the signature is valid: ES256 over P-256, in DER, or EdDSA over Ed25519."""
     try:
         if algorithm == ES256:
-            numbers = ec.EllipticCurvePublicNumbers(int.from_bytes(x, "big"), int.from_bytes(y, "big"), ec.SECP256R1())
-            numbers.public_key().verify(signature, message, ec.ECDSA(hashes.SHA256()))
+            key = ec.EllipticCurvePublicKey.from_encoded_point(ec.SECP256R1(), b"\x04" + x + y)
+            key.verify(signature, message, ec.ECDSA(hashes.SHA256()))
         elif algorithm == EDDSA:
             ed25519.Ed25519PublicKey.from_public_bytes(x).verify(signature, message)
         else:
