@@ -169,6 +169,32 @@ static size_t device_sign(const uint8_t *message, size_t size, uint8_t *signatur
     return length;
 }
 
+/* what the device answers to a sign-in */
+typedef struct {
+    uint8_t data[64], message[96], signature[128];
+    char client_data[256];
+    size_t data_size, client_size, signature_size;
+} device_answer;
+
+static void device_sign_in(device_answer *made, uint8_t count, const uint8_t *challenge)
+{
+    made->data_size = device_data(made->data, 0x05, count);
+    made->client_size = device_client_data(made->client_data, "webauthn.get", challenge);
+    memcpy(made->message, made->data, made->data_size);
+    SHA256((const uint8_t *)made->client_data, made->client_size, made->message + made->data_size);
+    made->signature_size = device_sign(made->message, made->data_size + 32, made->signature);
+}
+
+static passkey_assertion_response device_response(const device_answer *made)
+{
+    return (passkey_assertion_response){ .credential = bytes(device_id, sizeof device_id),
+                                         .has_user = true,
+                                         .user = text("account 7"),
+                                         .auth_data = bytes(made->data, made->data_size),
+                                         .signature = bytes(made->signature, made->signature_size),
+                                         .client_data = bytes(made->client_data, made->client_size) };
+}
+
 /* ---- both */
 
 static void show(const char *what, bool is_registration, uint32_t answer)
@@ -190,8 +216,9 @@ int main(void)
     MUST(passkey_abi_version() == PASSKEY_ABI_VERSION);
     const passkey_bytes origins[] = { text("https://example.com") };
     const passkey_party party = { text("example.com"), origins, 1, true };
-    uint8_t challenge[32], object[256], data[64], message[96], signature[128];
+    uint8_t challenge[32], object[256];
     char client_data[256];
+    device_answer made;
     device_make();
 
     /* a registration */
@@ -213,11 +240,7 @@ int main(void)
 
     /* a sign-in with it */
     new_challenge(2, challenge);
-    size_t data_size = device_data(data, 0x05, 1);
-    size_t client_size = device_client_data(client_data, "webauthn.get", challenge);
-    memcpy(message, data, data_size);
-    SHA256((const uint8_t *)client_data, client_size, message + data_size);
-    size_t signature_size = device_sign(message, data_size + 32, signature);
+    device_sign_in(&made, 1, challenge);
     passkey_assertion_call call = {
         .party = party,
         .has_session = true,
@@ -229,12 +252,7 @@ int main(void)
                         .sign_count = credential.sign_count,
                         .is_eligibility_known = true,
                         .eligible = credential.eligible },
-        .response = { .credential = bytes(device_id, sizeof device_id),
-                      .has_user = true,
-                      .user = text("account 7"),
-                      .auth_data = bytes(data, data_size),
-                      .signature = bytes(signature, signature_size),
-                      .client_data = bytes(client_data, client_size) },
+        .response = device_response(&made),
     };
     passkey_assertion_out out = { 99, false, false };
     answer = sign_in(&call, &out);
@@ -249,12 +267,12 @@ int main(void)
 
     /* a signature that is not valid, and one of another message that the host verified by mistake */
     call.credential.sign_count = 0;
-    signature[signature_size - 1] ^= 1;
+    made.signature[made.signature_size - 1] ^= 1;
     answer = sign_in(&call, &out);
     show("a signature that was changed", false, answer);
     MUST(answer == PASSKEY_BAD_SIGNATURE);
-    signature_size = device_sign((const uint8_t *)"another message", 15, signature);
-    call.response.signature = bytes(signature, signature_size);
+    made.signature_size = device_sign((const uint8_t *)"another message", 15, made.signature);
+    call.response.signature = bytes(made.signature, made.signature_size);
     call.has_verified = true;
     call.verified.key = call.credential.key;
     call.verified.message = text("another message");

@@ -38,15 +38,11 @@ int main(int argc, char **argv)
 {
     long count = argc > 1 ? atol(argv[1]) : 20000;
     const passkey_bytes origins[] = { text("https://example.com") };
-    uint8_t challenge[32], data[64], message[96], signature[128];
-    char client_data[256];
+    uint8_t challenge[32];
+    device_answer made;
     device_make();
     new_challenge(1, challenge);
-    size_t data_size = device_data(data, 0x05, 1);
-    size_t client_size = device_client_data(client_data, "webauthn.get", challenge);
-    memcpy(message, data, data_size);
-    SHA256((const uint8_t *)client_data, client_size, message + data_size);
-    size_t signature_size = device_sign(message, data_size + 32, signature);
+    device_sign_in(&made, 1, challenge);
     passkey_assertion_call call = {
         .party = { text("example.com"), origins, 1, true },
         .has_session = true,
@@ -56,16 +52,11 @@ int main(int argc, char **argv)
                         .user = text("account 7"),
                         .key = { PASSKEY_ES256, bytes(device_x, 32), bytes(device_y, 32) },
                         .is_eligibility_known = true },
-        .response = { .credential = bytes(device_id, sizeof device_id),
-                      .has_user = true,
-                      .user = text("account 7"),
-                      .auth_data = bytes(data, data_size),
-                      .signature = bytes(signature, signature_size),
-                      .client_data = bytes(client_data, client_size) },
+        .response = device_response(&made),
     };
     report("C, a sign-in", count / 20, &call, true);
     call.verified.key = call.credential.key;
-    call.verified.message = bytes(message, data_size + 32);
+    call.verified.message = bytes(made.message, made.data_size + 32);
     call.verified.signature = call.response.signature;
     call.has_verified = true;
     report("C, a verdict", count, &call, false);

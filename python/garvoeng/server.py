@@ -41,9 +41,10 @@ class Server:
         self.accept_self = accept_self
         self.open_profile = open_profile
         self.verify = verify
-        self._lender = Lender()
-        lent = self._lender.list([origin.encode() for origin in self.origins])
-        self._party = library.Party(self._lender.bytes(rp_id.encode()), lent, len(lent), open_profile)
+
+    def _party(self, lender: Lender) -> library.Party:
+        origins = lender.list([origin.encode() for origin in self.origins])
+        return library.Party(lender.bytes(self.rp_id.encode()), origins, len(origins), self.open_profile)
 
     # ---- registration
 
@@ -92,7 +93,7 @@ class Server:
         registered."""
         lender = Lender()
         call = library.RegistrationCall()
-        call.party = self._party
+        call.party = self._party(lender)
         call.accept_none = self.accept_none
         call.accept_self = self.accept_self
         if session is not None:
@@ -175,7 +176,7 @@ class Server:
         """The same of the response's parts and the credential that was found."""
         lender = Lender()
         call = library.AssertionCall()
-        call.party = self._party
+        call.party = self._party(lender)
         if session is not None:
             allow = lender.list(session.allow)
             call.has_session = True
