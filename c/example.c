@@ -4,9 +4,11 @@
  *   gcc -std=c11 example.c libpasskey.a -lcrypto -o example && ./example */
 #include "passkey.h"
 
+#include <openssl/bn.h>
 #include <openssl/core_names.h>
 #include <openssl/ec.h>
 #include <openssl/evp.h>
+#include <openssl/param_build.h>
 #include <openssl/rand.h>
 #include <openssl/sha.h>
 #include <stdio.h>
@@ -32,12 +34,47 @@ static passkey_bytes text(const char *chars)
     return bytes(chars, strlen(chars));
 }
 
-/* ---- the site: whether a signature is valid, by OpenSSL (ES256 or EdDSA) */
+/* ---- the site: whether a signature is valid, by OpenSSL (ES256, EdDSA or RS256) */
+
+static passkey_key lent_key(const passkey_key_out *told)
+{
+    passkey_key key = { told->algorithm, bytes(told->x, told->x_size), bytes(told->y, told->y_size) };
+    return key;
+}
+
+/* a public key of these parameters, which are freed */
+static EVP_PKEY *key_of(const char *type, OSSL_PARAM *params)
+{
+    EVP_PKEY *made = NULL;
+    EVP_PKEY_CTX *context = EVP_PKEY_CTX_new_from_name(NULL, type, NULL);
+    if (context == NULL || params == NULL || EVP_PKEY_fromdata_init(context) != 1 ||
+        EVP_PKEY_fromdata(context, &made, EVP_PKEY_PUBLIC_KEY, params) != 1)
+        made = NULL; /* as where the point is not on its curve */
+    EVP_PKEY_CTX_free(context);
+    OSSL_PARAM_free(params);
+    return made;
+}
+
+static EVP_PKEY *rsa_key(const passkey_key *key)
+{
+    OSSL_PARAM_BLD *numbers = OSSL_PARAM_BLD_new();
+    BIGNUM *n = BN_bin2bn(key->x.data, (int)key->x.size, NULL), *e = BN_bin2bn(key->y.data, (int)key->y.size, NULL);
+    MUST(numbers != NULL && n != NULL && e != NULL);
+    MUST(OSSL_PARAM_BLD_push_BN(numbers, OSSL_PKEY_PARAM_RSA_N, n) == 1);
+    MUST(OSSL_PARAM_BLD_push_BN(numbers, OSSL_PKEY_PARAM_RSA_E, e) == 1);
+    EVP_PKEY *made = key_of("RSA", OSSL_PARAM_BLD_to_param(numbers));
+    OSSL_PARAM_BLD_free(numbers);
+    BN_free(n);
+    BN_free(e);
+    return made;
+}
 
 static EVP_PKEY *public_key(const passkey_key *key)
 {
     if (key->algorithm == PASSKEY_EDDSA)
         return EVP_PKEY_new_raw_public_key(EVP_PKEY_ED25519, NULL, key->x.data, key->x.size);
+    if (key->algorithm == PASSKEY_RS256)
+        return rsa_key(key);
     uint8_t point[65] = { 4 };
     memcpy(point + 1, key->x.data, 32);
     memcpy(point + 33, key->y.data, 32);
@@ -46,20 +83,14 @@ static EVP_PKEY *public_key(const passkey_key *key)
         OSSL_PARAM_construct_octet_string(OSSL_PKEY_PARAM_PUB_KEY, point, sizeof point),
         OSSL_PARAM_construct_end(),
     };
-    EVP_PKEY *made = NULL;
-    EVP_PKEY_CTX *context = EVP_PKEY_CTX_new_from_name(NULL, "EC", NULL);
-    if (context == NULL || EVP_PKEY_fromdata_init(context) != 1 ||
-        EVP_PKEY_fromdata(context, &made, EVP_PKEY_PUBLIC_KEY, params) != 1)
-        made = NULL; /* not a point of the curve */
-    EVP_PKEY_CTX_free(context);
-    return made;
+    return key_of("EC", OSSL_PARAM_dup(params));
 }
 
 static bool is_valid(const passkey_verified *triple)
 {
     EVP_PKEY *key = public_key(&triple->key);
     EVP_MD_CTX *context = EVP_MD_CTX_new();
-    const EVP_MD *hash = triple->key.algorithm == PASSKEY_ES256 ? EVP_sha256() : NULL;
+    const EVP_MD *hash = triple->key.algorithm == PASSKEY_EDDSA ? NULL : EVP_sha256();
     bool valid = key != NULL && context != NULL && EVP_DigestVerifyInit(context, NULL, hash, NULL, key) == 1 &&
                  EVP_DigestVerify(context, triple->signature.data, triple->signature.size, triple->message.data,
                                   triple->message.size) == 1;
@@ -84,7 +115,7 @@ static uint32_t sign_in(passkey_assertion_call *call, passkey_assertion_out *out
     passkey_signature_out told;
     MUST(passkey_signature_asked(&asked, message, message_room, signature, signature_room, &told) == PASSKEY_ACCEPTED);
     passkey_verified verified = {
-        .key = { told.algorithm, bytes(told.x, 32), bytes(told.y, 32) },
+        .key = lent_key(&told.key),
         .message = bytes(message, told.message_size),
         .signature = bytes(signature, told.signature_size),
     };
@@ -227,7 +258,7 @@ int main(void)
         .party = party,
         .accept_none = true,
         .has_session = true,
-        .session = { .challenge = bytes(challenge, 32), .user = text("account 7"), .offers_es256 = true, .offers_eddsa = true },
+        .session = { .challenge = bytes(challenge, 32), .user = text("account 7"), .offers_es256 = true, .offers_eddsa = true, .offers_rs256 = true },
         .has_free_id = true, /* the site looked rawId up in its table, and found none */
         .free_id = bytes(device_id, sizeof device_id),
     };
@@ -248,7 +279,7 @@ int main(void)
         .has_credential = true, /* the site found the row by rawId */
         .credential = { .id = bytes(credential.id, credential.id_size),
                         .user = text("account 7"),
-                        .key = { credential.algorithm, bytes(credential.x, 32), bytes(credential.y, 32) },
+                        .key = lent_key(&credential.key),
                         .sign_count = credential.sign_count,
                         .is_eligibility_known = true,
                         .eligible = credential.eligible },

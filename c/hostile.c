@@ -97,7 +97,7 @@ static void asks(const passkey_signature_call *call, size_t size, size_t message
     else if (size % 7 < signature_size)
         MUST(answer == PASSKEY_LIMIT_SIGNATURE_ROOM);
     else
-        MUST(answer == PASSKEY_ACCEPTED && out.is_asked && out.algorithm == PASSKEY_ES256 &&
+        MUST(answer == PASSKEY_ACCEPTED && out.is_asked && out.key.algorithm == PASSKEY_ES256 &&
              out.message_size == message_size && out.signature_size == signature_size);
     drop(message), drop(signature);
 }
@@ -175,6 +175,8 @@ static void limits(void)
         MUST(assertion(&call) == PASSKEY_LIMIT_KEY_X);
         call.credential.key = (passkey_key){ PASSKEY_ES256, good, some };
         MUST(assertion(&call) == PASSKEY_LIMIT_KEY_Y);
+        call.credential.key = (passkey_key){ PASSKEY_RS256, some, good };
+        MUST(assertion(&call) == PASSKEY_LIMIT_KEY_X);
         call.credential.key = (passkey_key){ PASSKEY_EDDSA, good, some };
         call.credential.id = call.credential.user = call.response.credential = call.response.user = some;
         call.response.auth_data = call.response.client_data = call.response.signature = some;
@@ -229,11 +231,13 @@ static void rooms(void)
     MUST(passkey_signature_asked(&call, NULL, 0, NULL, 0, &out) == PASSKEY_LIMIT_KEY_Y);
     call.key.x.size = 33;
     MUST(passkey_signature_asked(&call, NULL, 0, NULL, 0, &out) == PASSKEY_LIMIT_KEY_X);
-    call.key.algorithm = -257;
+    call.key.algorithm = PASSKEY_RS256;
+    MUST(passkey_signature_asked(&call, NULL, 0, NULL, 0, &out) == PASSKEY_LIMIT_KEY_X);
+    call.key.algorithm = -258;
     MUST(passkey_signature_asked(&call, NULL, 0, NULL, 0, &out) == PASSKEY_LIMIT_KEY_ALGORITHM);
     drop(call.assertion.auth_data), drop(call.assertion.signature), drop(call.assertion.client_data);
     drop(call.key.x), drop(call.key.y);
-    calls += 3;
+    calls += 4;
 }
 
 static void random_responses(unsigned count)

@@ -25,10 +25,11 @@
 extern "C" {
 #endif
 
-#define PASSKEY_ABI_VERSION 1
+#define PASSKEY_ABI_VERSION 2
 
 #define PASSKEY_ES256 (-7) /* ECDSA over P-256 with SHA-256 */
 #define PASSKEY_EDDSA (-8) /* EdDSA over Ed25519 */
+#define PASSKEY_RS256 (-257) /* RSA with PKCS #1 v1.5 and SHA-256 (RFC 8812) */
 
 /* Answers. 1 to 16 are the steps, in their order. */
 enum {
@@ -74,12 +75,12 @@ enum {
     PASSKEY_LIMIT_RP_ID = 101,             /* party.rp_id: UTF-8 */
     PASSKEY_LIMIT_ORIGIN = 102,            /* party.origins: each in UTF-8 */
     PASSKEY_LIMIT_CHALLENGE = 103,         /* challenge: 32 bytes */
-    PASSKEY_LIMIT_KEY_ALGORITHM = 104,     /* credential.key.algorithm: -7 or -8 */
-    PASSKEY_LIMIT_KEY_X = 105,             /* credential.key.x: 32 bytes */
-    PASSKEY_LIMIT_KEY_Y = 106,             /* credential.key.y: 32 bytes, of ES256 */
-    PASSKEY_LIMIT_VERIFIED_ALGORITHM = 107, /* verified.key.algorithm: -7 or -8 */
-    PASSKEY_LIMIT_VERIFIED_X = 108,        /* verified.key.x: 32 bytes */
-    PASSKEY_LIMIT_VERIFIED_Y = 109,        /* verified.key.y: 32 bytes, of ES256 */
+    PASSKEY_LIMIT_KEY_ALGORITHM = 104,     /* credential.key.algorithm: -7, -8 or -257 */
+    PASSKEY_LIMIT_KEY_X = 105,             /* credential.key.x: 32 bytes; of RS256 a modulus */
+    PASSKEY_LIMIT_KEY_Y = 106,             /* credential.key.y: 32 bytes, of ES256; of RS256 an exponent */
+    PASSKEY_LIMIT_VERIFIED_ALGORITHM = 107, /* verified.key.algorithm: -7, -8 or -257 */
+    PASSKEY_LIMIT_VERIFIED_X = 108,        /* verified.key.x: 32 bytes; of RS256 a modulus */
+    PASSKEY_LIMIT_VERIFIED_Y = 109,        /* verified.key.y: 32 bytes, of ES256; of RS256 an exponent */
     PASSKEY_LIMIT_MESSAGE_ROOM = 110,      /* the room for a message is too small */
     PASSKEY_LIMIT_SIGNATURE_ROOM = 111,    /* the room for a signature is too small */
 
@@ -92,12 +93,23 @@ typedef struct passkey_bytes {
     size_t size; /* in bytes, below 2^63 */
 } passkey_bytes;
 
-/* A public key by its coordinates (RFC 9053, section 7). */
+/* A public key by its coordinates (RFC 9053, section 7), or an RSA key by its numbers (RFC 8230, section 4). */
 typedef struct passkey_key {
-    int32_t algorithm; /* PASSKEY_ES256 or PASSKEY_EDDSA */
-    passkey_bytes x;   /* 32 bytes: of P-256 big-endian; of Ed25519 the public key */
-    passkey_bytes y;   /* 32 bytes, big-endian, of P-256; of Ed25519 not looked at */
+    int32_t algorithm; /* PASSKEY_ES256, PASSKEY_EDDSA or PASSKEY_RS256 */
+    passkey_bytes x;   /* 32 bytes: of P-256 big-endian; of Ed25519 the public key. Of RSA the modulus, big-endian: 256,
+                          384 or 512 bytes, the first not 0, the last odd */
+    passkey_bytes y;   /* 32 bytes, big-endian, of P-256; of Ed25519 not looked at. Of RSA the public exponent,
+                          big-endian: 1 to 4 bytes, the first not 0, the last odd, at least 3 */
 } passkey_key;
+
+/* A public key that is told: as passkey_key, the first x_size bytes of x and the first y_size bytes of y. */
+typedef struct passkey_key_out {
+    int32_t algorithm;
+    size_t x_size; /* in bytes */
+    uint8_t x[512];
+    size_t y_size; /* 0 of PASSKEY_EDDSA */
+    uint8_t y[32];
+} passkey_key_out;
 
 /* A relying party. */
 typedef struct passkey_party {
@@ -176,6 +188,7 @@ typedef struct passkey_registration_session {
     bool user_verification;  /* UV is required */
     bool offers_es256;       /* PASSKEY_ES256 was offered */
     bool offers_eddsa;       /* PASSKEY_EDDSA was offered */
+    bool offers_rs256;       /* PASSKEY_RS256 was offered */
 } passkey_registration_session;
 
 /* A client's answer to a registration. */
@@ -203,9 +216,7 @@ typedef struct passkey_registration_call {
 typedef struct passkey_registration_out {
     size_t id_size;   /* in bytes */
     uint8_t id[1023]; /* the first id_size bytes are the credential id */
-    int32_t algorithm; /* PASSKEY_ES256 or PASSKEY_EDDSA */
-    uint8_t x[32];
-    uint8_t y[32]; /* zeros of PASSKEY_EDDSA */
+    passkey_key_out key;
     uint32_t sign_count;
     bool eligible; /* for backup (BE) */
 } passkey_registration_out;
@@ -224,10 +235,8 @@ typedef struct passkey_signature_call {
 
 /* Which signature the host is to verify. */
 typedef struct passkey_signature_out {
-    bool is_asked;     /* false: there is nothing to verify, and the other members say nothing */
-    int32_t algorithm; /* of the key: PASSKEY_ES256 or PASSKEY_EDDSA */
-    uint8_t x[32];
-    uint8_t y[32];       /* zeros of PASSKEY_EDDSA */
+    bool is_asked; /* false: there is nothing to verify, and the other members say nothing */
+    passkey_key_out key;
     size_t message_size; /* the first bytes of the room */
     size_t signature_size;
 } passkey_signature_out;
@@ -246,7 +255,7 @@ bool passkey_challenge(uint64_t session, const uint8_t *words, size_t words_size
                        size_t challenge_size);
 
 /* Writes a challenge of 32 bytes as client data have it, base64url: 43 characters, not terminated. False where the
- * challenge is not 32 bytes, the room not 43, or there was no memory. */
+ * challenge is not 32 bytes or the room not 43, and then nothing is written. */
 bool passkey_challenge_text(const uint8_t *challenge, size_t challenge_size, uint8_t *text, size_t text_size);
 
 /* Whether the bytes are one value of canonical CBOR (CTAP 2.1), and no more. */

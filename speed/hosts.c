@@ -1,9 +1,12 @@
-/* hosts COUNT: how long a verdict on a sign-in takes by passkey.h, and a whole sign-in with OpenSSL's mathematics. The
- * device, the site and the verifier are those of c/example.c. */
+/* hosts COUNT: how long a verdict on a sign-in takes by passkey.h, and a whole sign-in with OpenSSL's mathematics; beside
+ * them libfido2's check of the same assertion, which is the rp id's hash, the flags and the signature, and no other step.
+ * The device, the site and the verifier are those of c/example.c. */
 #define main example_main
 #include "../c/example.c"
 #undef main
 
+#include <fido.h>
+#include <fido/es256.h>
 #include <time.h>
 
 static double now(void)
@@ -19,15 +22,50 @@ static int by_size(const void *left, const void *right)
     return (first > second) - (first < second);
 }
 
+/* a call that is measured, and what it is called with */
+typedef struct measured {
+    passkey_assertion_call *call;
+    const device_answer *made;
+} measured;
+
+static void verdict(const measured *with)
+{
+    passkey_assertion_out out;
+    MUST(passkey_assertion(with->call, &out) == PASSKEY_ACCEPTED);
+}
+
+static void whole(const measured *with)
+{
+    passkey_assertion_out out;
+    MUST(sign_in(with->call, &out) == PASSKEY_ACCEPTED);
+}
+
+static void by_libfido2(const measured *with)
+{
+    uint8_t point[64];
+    es256_pk_t *key = es256_pk_new();
+    fido_assert_t *assertion = fido_assert_new();
+    memcpy(point, device_x, 32);
+    memcpy(point + 32, device_y, 32);
+    MUST(es256_pk_from_ptr(key, point, sizeof point) == FIDO_OK);
+    MUST(fido_assert_set_rp(assertion, "example.com") == FIDO_OK);
+    MUST(fido_assert_set_clientdata(assertion, (const uint8_t *)with->made->client_data, with->made->client_size) == FIDO_OK);
+    MUST(fido_assert_set_count(assertion, 1) == FIDO_OK);
+    MUST(fido_assert_set_authdata_raw(assertion, 0, with->made->data, with->made->data_size) == FIDO_OK);
+    MUST(fido_assert_set_sig(assertion, 0, with->made->signature, with->made->signature_size) == FIDO_OK);
+    MUST(fido_assert_verify(assertion, 0, COSE_ES256, key) == FIDO_OK);
+    fido_assert_free(&assertion);
+    es256_pk_free(&key);
+}
+
 /* the median of nine runs of so many calls, in microseconds a call */
-static void report(const char *what, long count, passkey_assertion_call *call, bool whole)
+static void report(const char *what, long count, void (*call)(const measured *), const measured *with)
 {
     double runs[9];
-    passkey_assertion_out out;
     for (size_t i = 0; i < 9; i++) {
         double began = now();
         for (long n = 0; n < count; n++)
-            MUST((whole ? sign_in(call, &out) : passkey_assertion(call, &out)) == PASSKEY_ACCEPTED);
+            call(with);
         runs[i] = (now() - began) / (double)count;
     }
     qsort(runs, 9, sizeof runs[0], by_size);
@@ -40,6 +78,7 @@ int main(int argc, char **argv)
     const passkey_bytes origins[] = { text("https://example.com") };
     uint8_t challenge[32];
     device_answer made;
+    fido_init(0);
     device_make();
     new_challenge(1, challenge);
     device_sign_in(&made, 1, challenge);
@@ -54,11 +93,13 @@ int main(int argc, char **argv)
                         .is_eligibility_known = true },
         .response = device_response(&made),
     };
-    report("C, a sign-in", count / 20, &call, true);
+    const measured with = { &call, &made };
+    report("C, a sign-in", count / 20, whole, &with);
     call.verified.key = call.credential.key;
     call.verified.message = bytes(made.message, made.data_size + 32);
     call.verified.signature = call.response.signature;
     call.has_verified = true;
-    report("C, a verdict", count, &call, false);
+    report("C, a verdict", count, verdict, &with);
+    report("libfido2, an assertion", count / 20, by_libfido2, &with);
     return 0;
 }

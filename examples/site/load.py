@@ -6,12 +6,14 @@ import sys
 import threading
 import time
 from pathlib import Path
-from statistics import quantiles
+from statistics import median, quantiles
 
 HERE = Path(__file__).resolve().parent
 sys.path.insert(0, str(HERE.parents[1] / "python" / "tests"))
+import garvoeng  # noqa: E402
 import psycopg2  # noqa: E402
-from device import UP, UV, Device  # noqa: E402
+from app import site  # noqa: E402
+from device import Device  # noqa: E402
 from garvoeng.forms import from_text  # noqa: E402
 from servers import ended, started  # noqa: E402
 
@@ -85,6 +87,33 @@ def visits(visitors, ports, until, told):
     return threads
 
 
+def request_times(address):
+    """The milliseconds of a request that finishes a sign-in, in this process and one at a time, and of its verdict."""
+    verdicts, requests = [], []
+    judge = garvoeng.Server.authenticate_complete
+
+    def timed(self, *values, **named):
+        begun = time.perf_counter()
+        try:
+            return judge(self, *values, **named)
+        finally:
+            verdicts.append(time.perf_counter() - begun)
+
+    garvoeng.Server.authenticate_complete = timed
+    client = site(address, ORIGIN, b"secret").test_client()
+    device = Device(rp_id="localhost", origin=ORIGIN, credential=b"one at a time")
+    options = client.post("/register/begin", json={"name": "one at a time"}).json
+    client.post("/register/finish", json=device.register(options))
+    for _ in range(100):
+        response = device.sign_in(client.post("/sign-in/begin", json={"name": "one at a time"}).json,
+                                  from_text(options["user"]["id"], "user"))
+        begun = time.perf_counter()
+        assert client.post("/sign-in/finish", json=response).status_code == 200
+        requests.append(time.perf_counter() - begun)
+    garvoeng.Server.authenticate_complete = judge
+    return median(requests) * 1000, median(verdicts) * 1000
+
+
 def main(address, seconds):
     sites = {port: started(address, port, ORIGIN) for port in PORTS}
     visitors = [Visitor(number) for number in range(VISITORS)]
@@ -121,8 +150,10 @@ def main(address, seconds):
     print("| Processes | Killed | Responses | Accepted | Sign-ins a second | p50 | p99 |")
     for line in rows:
         print(f"| {line[0]} | {'yes' if line[1] else 'no'} | {line[2]} | {line[3]} | {line[4]:.0f} | {line[5] * 1000:.0f} ms | {line[6] * 1000:.0f} ms |")
-    for site in sites.values():
-        ended(site)
+    for process in sites.values():
+        ended(process)
+    request, verdict = request_times(address)
+    print(f"a request that finishes a sign-in, one at a time: {request:.2f} ms, of which the verdict {verdict:.2f} ms")
     is_good = is_good and lower == 0 and lost == 0
     print(f"{int(is_good)} passed, {int(not is_good)} failed")
     sys.exit(not is_good)

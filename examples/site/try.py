@@ -1,10 +1,15 @@
 """What `try` does in the browser, over each storage that it is given."""
 import json
 import sys
+import urllib.request
 from pathlib import Path
 
-from browser import Browser
-from servers import ended, started
+sys.path.insert(0, str(Path(__file__).resolve().parents[2] / "python" / "tests"))
+from browser import Browser  # noqa: E402
+from device import RS256, Device  # noqa: E402
+from garvoeng.forms import from_text  # noqa: E402
+from servers import ended, started  # noqa: E402
+from storage import LIFETIME, Storage  # noqa: E402
 
 HERE = Path(__file__).resolve().parent
 PORT, DRIVER = 8766, 8767
@@ -16,6 +21,22 @@ def see(what, is_so):
     global passed, failed
     passed, failed = passed + bool(is_so), failed + (not is_so)
     print(("ok      " if is_so else "FAILED  ") + what, flush=True)
+
+
+def tries_rsa(name, packed):
+    """An RSA key, which no browser here makes: `cryptography` plays the browser and its authenticator."""
+    visitor = urllib.request.build_opener(urllib.request.HTTPCookieProcessor())
+
+    def post(path, body):
+        return json.load(visitor.open(urllib.request.Request(ORIGIN + path, json.dumps(body).encode(), {"Content-Type": "application/json"})))
+
+    account = "rsa, attested" if packed else "rsa"
+    device = Device(RS256, rp_id="localhost", origin=ORIGIN, credential=account.encode())
+    options = post("/register/begin", {"name": account})
+    see(f"{name}: an RSA key{', self attestation' if packed else ''}", post("/register/finish", device.register(options, packed=packed)).get("passkey"))
+    user = from_text(options["user"]["id"], "user")
+    counts = [post("/sign-in/finish", device.sign_in(post("/sign-in/begin", {"name": account}), user)).get("count") for _ in range(2)]
+    see(f"{name}: signed in with it, twice", counts == [1, 2])
 
 
 def tries(browser, address, name):
@@ -47,6 +68,10 @@ def tries(browser, address, name):
     old = run("assertion({name: ''})")
     see(f"{name}: an older challenge than the session's (W7)", run("post('/sign-in/finish', window.kept)").get("refusal") == "W7")
     see(f"{name}: and the session is as it was", old.get("rawId"))
+    run("(async () => { window.kept = await assertion({name: ''}); })()")
+    with Storage(address).transaction() as rows:
+        rows.run("update sessions set begun_at = begun_at - ?", LIFETIME + 1)
+    see(f"{name}: a session that has ended (W1)", run("post('/sign-in/finish', window.kept)").get("refusal") == "W1")
     ended(site)
     site = started(address, PORT)
     see(f"{name}: restarted, still signed in", run("fetch('/passkeys').then(answer => answer.json())")[0]["count"] > 0)
@@ -75,6 +100,8 @@ def tries(browser, address, name):
     browser.open(ORIGIN)
     see(f"{name}: and its response refused here (W8)", run(f"post('/sign-in/finish', {json.dumps(moved)})").get("refusal") == "W8")
     browser.without(second)
+    tries_rsa(name, False)
+    tries_rsa(name, True)
     ended(other)
     ended(site)
 

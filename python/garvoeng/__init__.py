@@ -7,9 +7,9 @@ is part of this package. Signatures are verified by `cryptography`.
     options, session = server.authenticate_begin()
     signed_in = server.authenticate_complete(session, response, credential=find)
 """
-from .library import EDDSA, ES256, is_canonical
+from .library import EDDSA, ES256, RS256, is_canonical
 from .records import BadInput, Credential, Refused, RegistrationSession, SignedIn, SignInSession
 from .server import Server
 
-__all__ = ["EDDSA", "ES256", "BadInput", "Credential", "Refused", "RegistrationSession", "Server", "SignInSession",
+__all__ = ["EDDSA", "ES256", "RS256", "BadInput", "Credential", "Refused", "RegistrationSession", "Server", "SignInSession",
            "SignedIn", "is_canonical"]

@@ -4,11 +4,12 @@ from __future__ import annotations
 import ctypes
 from ctypes import POINTER, Structure, c_bool, c_char_p, c_int32, c_size_t, c_uint8, c_uint32, c_uint64, c_void_p
 from pathlib import Path
-from typing import Sequence
+from typing import Sequence, Tuple
 
-ABI_VERSION = 1
+ABI_VERSION = 2
 ES256 = -7
 EDDSA = -8
+RS256 = -257
 MAX_ID = 1023
 
 
@@ -18,6 +19,20 @@ class Bytes(Structure):
 
 class Key(Structure):
     _fields_ = [("algorithm", c_int32), ("x", Bytes), ("y", Bytes)]
+
+
+class KeyOut(Structure):
+    _fields_ = [
+        ("algorithm", c_int32),
+        ("x_size", c_size_t),
+        ("x", c_uint8 * 512),
+        ("y_size", c_size_t),
+        ("y", c_uint8 * 32),
+    ]
+
+    def parts(self) -> Tuple[int, bytes, bytes]:
+        """The algorithm, x and y."""
+        return self.algorithm, bytes(self.x[:self.x_size]), bytes(self.y[:self.y_size])
 
 
 class Party(Structure):
@@ -86,6 +101,7 @@ class RegisterParts(Structure):
         ("user_verification", c_bool),
         ("offers_es256", c_bool),
         ("offers_eddsa", c_bool),
+        ("offers_rs256", c_bool),
     ]
 
 
@@ -113,9 +129,7 @@ class RegistrationOut(Structure):
     _fields_ = [
         ("id_size", c_size_t),
         ("id", c_uint8 * MAX_ID),
-        ("algorithm", c_int32),
-        ("x", c_uint8 * 32),
-        ("y", c_uint8 * 32),
+        ("key", KeyOut),
         ("sign_count", c_uint32),
         ("eligible", c_bool),
     ]
@@ -134,9 +148,7 @@ class SignatureCall(Structure):
 class SignatureOut(Structure):
     _fields_ = [
         ("is_asked", c_bool),
-        ("algorithm", c_int32),
-        ("x", c_uint8 * 32),
-        ("y", c_uint8 * 32),
+        ("key", KeyOut),
         ("message_size", c_size_t),
         ("signature_size", c_size_t),
     ]

@@ -4,7 +4,7 @@ from __future__ import annotations
 from dataclasses import dataclass
 from typing import Optional, Tuple
 
-from .library import EDDSA, ES256
+from .library import EDDSA, ES256, RS256
 
 SIGN_IN_STEPS = (
     "SessionNotOpen", "CredentialNotAllowed", "UnknownCredential", "OtherUser", "UnreadableClientData", "WrongType",
@@ -28,7 +28,7 @@ class RegistrationSession:
     """The user handle of the account: 1 to 64 bytes."""
     user_verification: bool = False
     """Whether user verification is required."""
-    algorithms: Tuple[int, ...] = (ES256, EDDSA)
+    algorithms: Tuple[int, ...] = (ES256, EDDSA, RS256)
     """The COSE numbers that were offered."""
 
 
@@ -54,11 +54,11 @@ class Credential:
     user: bytes
     """The user handle."""
     algorithm: int
-    """Of the public key: -7, ES256, or -8, EdDSA."""
+    """Of the public key: -7, ES256, -8, EdDSA, or -257, RS256."""
     x: bytes
-    """32 bytes."""
+    """32 bytes; of RS256 the modulus, big-endian, of 256, 384 or 512."""
     y: bytes
-    """32 bytes; zeros of EdDSA."""
+    """32 bytes; of EdDSA none; of RS256 the public exponent, big-endian, of 1 to 4."""
     sign_count: int
     """The signature counter last received."""
     eligible: Optional[bool]

@@ -6,7 +6,7 @@ import secrets
 from typing import Any, Callable, Dict, Iterable, Mapping, Optional, Sequence, Tuple
 
 from . import forms, library, signatures
-from .library import EDDSA, ES256, Lender, passkey
+from .library import EDDSA, ES256, RS256, Lender, passkey
 from .records import BadInput, Credential, Refused, RegistrationSession, SignedIn, SignInSession
 
 Verify = Callable[[int, bytes, bytes, bytes, bytes], bool]
@@ -50,13 +50,13 @@ class Server:
 
     def register_begin(self, user: bytes, user_name: str, display_name: Optional[str] = None, *,
                        exclude: Iterable[bytes] = (), user_verification: bool = False, resident: bool = True,
-                       algorithms: Sequence[int] = (ES256, EDDSA)) -> Tuple[Dict[str, Any], RegistrationSession]:
+                       algorithms: Sequence[int] = (ES256, EDDSA, RS256)) -> Tuple[Dict[str, Any], RegistrationSession]:
         """PublicKeyCredentialCreationOptionsJSON for the page, and the session that the site keeps.
 
         `user` is the user handle, 1 to 64 bytes that name nobody; `exclude` are the ids of the account's credentials.
         """
-        if not set(algorithms) <= {ES256, EDDSA}:
-            raise BadInput("algorithms are ES256 (-7) and EDDSA (-8)")
+        if not set(algorithms) <= {ES256, EDDSA, RS256}:
+            raise BadInput("algorithms are ES256 (-7), EDDSA (-8) and RS256 (-257)")
         session = RegistrationSession(secrets.token_bytes(32), bytes(user), user_verification, tuple(algorithms))
         options = {
             "rp": {"id": self.rp_id, "name": self.rp_name},
@@ -100,7 +100,7 @@ class Server:
             call.has_session = True
             call.session = library.RegisterParts(
                 lender.bytes(session.challenge), lender.bytes(session.user), session.user_verification,
-                ES256 in session.algorithms, EDDSA in session.algorithms)
+                ES256 in session.algorithms, EDDSA in session.algorithms, RS256 in session.algorithms)
         call.response = library.RegistrationResponse(lender.bytes(attestation_object), lender.bytes(client_data))
         if free_id is not None:
             call.has_free_id = True
@@ -114,8 +114,7 @@ class Server:
             answer = passkey.passkey_registration(ctypes.byref(call), ctypes.byref(out))
         _answer(True, answer)
         assert session is not None
-        return Credential(bytes(out.id[:out.id_size]), session.user, out.algorithm, bytes(out.x), bytes(out.y),
-                          out.sign_count, out.eligible)
+        return Credential(bytes(out.id[:out.id_size]), session.user, *out.key.parts(), out.sign_count, out.eligible)
 
     def _verify_asked(self, lender: Lender, call: Any, asked: library.SignatureCall, size: int) -> bool:
         """Verifies the signature that a response asks for, and where it is valid hands in what was verified. `size` is
@@ -126,7 +125,7 @@ class Server:
         _answer(asked.is_registration, passkey.passkey_signature_asked(
             ctypes.byref(asked), message, size + 32, signature, size, ctypes.byref(out)))
         return bool(out.is_asked) and self._hand_in(lender, call, (
-            out.algorithm, bytes(out.x), bytes(out.y), message.raw[:out.message_size], signature.raw[:out.signature_size]))
+            *out.key.parts(), message.raw[:out.message_size], signature.raw[:out.signature_size]))
 
     def _hand_in(self, lender: Lender, call: Any, asked: Tuple[int, bytes, bytes, bytes, bytes]) -> bool:
         """Verifies a signature, and where it is valid hands in what was verified."""

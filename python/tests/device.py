@@ -4,35 +4,55 @@ import json
 import struct
 
 from cryptography.hazmat.primitives import hashes, serialization
-from cryptography.hazmat.primitives.asymmetric import ec, ed25519
+from cryptography.hazmat.primitives.asymmetric import ec, ed25519, padding, rsa
 
-from garvoeng import EDDSA, ES256
+from garvoeng import EDDSA, ES256, RS256
 from garvoeng.forms import from_text, to_text
 
 UP, UV, BE, BS, AT, ED = 1, 4, 8, 16, 64, 128
 
 
+def number(value):
+    """A number in the fewest bytes, big-endian."""
+    return value.to_bytes((value.bit_length() + 7) // 8, "big")
+
+
+def byte_string(value):
+    """A CBOR byte string."""
+    size = len(value)
+    head = bytes([0x40 + size]) if size < 24 else bytes([0x58, size]) if size < 256 else b"\x59" + struct.pack(">H", size)
+    return head + value
+
+
 class Device:
     def __init__(self, algorithm=ES256, credential=b"credential of 22 bytes", rp_id="example.com",
-                 origin="https://example.com"):
+                 origin="https://example.com", bits=2048, exponent=65537):
         self.algorithm, self.id, self.rp_id, self.origin, self.count = algorithm, credential, rp_id, origin, 0
         if algorithm == ES256:
             self.key = ec.generate_private_key(ec.SECP256R1())
             numbers = self.key.public_key().public_numbers()
             self.x, self.y = numbers.x.to_bytes(32, "big"), numbers.y.to_bytes(32, "big")
+        elif algorithm == RS256:
+            self.key = rsa.generate_private_key(exponent, bits)
+            numbers = self.key.public_key().public_numbers()
+            self.x, self.y = number(numbers.n), number(numbers.e)
         else:
             self.key = ed25519.Ed25519PrivateKey.generate()
             self.x = self.key.public_key().public_bytes(serialization.Encoding.Raw, serialization.PublicFormat.Raw)
-            self.y = bytes(32)
+            self.y = b""
 
     def sign(self, message):
         if self.algorithm == EDDSA:
             return self.key.sign(message)
+        if self.algorithm == RS256:
+            return self.key.sign(message, padding.PKCS1v15(), hashes.SHA256())
         return self.key.sign(message, ec.ECDSA(hashes.SHA256()))
 
     def cose_key(self):
         if self.algorithm == EDDSA:
             return bytes.fromhex("a4010103272006215820") + self.x
+        if self.algorithm == RS256:
+            return bytes.fromhex("a4010303390100 20") + byte_string(self.x) + b"\x21" + byte_string(self.y)
         return bytes.fromhex("a5010203262001215820") + self.x + bytes.fromhex("225820") + self.y
 
     def auth_data(self, flags, count, attested=False, outputs=b""):
@@ -50,12 +70,12 @@ class Device:
         data = self.auth_data(flags, 0, attested=True, outputs=outputs)
         if packed:
             signature = self.sign(message or data + hashlib.sha256(client_data).digest())
-            statement = b"\xa2\x63alg" + bytes([0x20 - 1 - self.algorithm]) + b"\x63sig\x58" + bytes([len(signature)]) + signature
+            alg = b"\x39\x01\x00" if self.algorithm == RS256 else bytes([0x20 - 1 - self.algorithm])
+            statement = b"\xa2\x63alg" + alg + b"\x63sig" + byte_string(signature)
             front = b"\xa3\x63fmt\x66packed\x67attStmt" + statement
         else:
             front = b"\xa3\x63fmt\x64none\x67attStmt\xa0"
-        head = bytes([0x58, len(data)]) if len(data) < 256 else b"\x59" + struct.pack(">H", len(data))
-        made = front + b"\x68authData" + head + data
+        made = front + b"\x68authData" + byte_string(data)
         return {"id": to_text(self.id), "rawId": to_text(self.id), "type": "public-key", "clientExtensionResults": {},
                 "response": {"attestationObject": to_text(made), "clientDataJSON": to_text(client_data)}}
 

@@ -27,7 +27,7 @@ use Rattle.site.specs.Laws.{Takes}
 use Rattle.site.proofs.Goings.{none_there}
 use Rattle.authenticator.specs.Laws.{IsSound}
 use Rattle.authenticator.specs.Steps.{Entry, Keys, assertion}
-use Rattle.agreement.specs.World.{Abandons, Asks, AtSite, Begins, Done, EventEffect, EventEnd, Event, Happens, Moment, Registers, RegistersBy}
+use Rattle.agreement.specs.World.{Abandons, Asks, AtSite, Begins, Done, EventEffect, EventEnd, Event, Happens, Moment, Registers, RegistersBy, Reloads}
 use Rattle.agreement.specs.World.{Restarts, Retires, SignsIn, SignsInBy, SiteEvent, World}
 use Rattle.agreement.specs.Agreement.{Agrees, AnswersSession, Brings, BringsTo, DifferInSession, Fits, IsAccepted, IsFresh, IsIdeal, RestsOnce}
 use Rattle.agreement.specs.Agreement.{ShareNone, message_of, session_in}
@@ -89,6 +89,7 @@ module _ (valid : Validity) (public : Keys) (b : Below valid public) where
       subst (λ (l : ℕ). (s : SiteState) × SignedIn valid public b (old.site l) n r s × (new.site l ≡ s)) brings.0
       (effect.0, signs_in valid public b (old.site j) effect.0 e n r effect.1 brings.1, effect.2.now)
   done_by old new (Asks k channel bs consent words) i n r effect brings = absurd brings
+  done_by old new (Reloads k) i n r effect brings = absurd brings
 
   pub accepted : (m : Moment) (i n : ℕ) (r : AuthenticatorAssertionResponse) (row : Credential) → Lived valid public b m → IsAccepted m i n r row
       → Accepted m i n r row
@@ -216,6 +217,7 @@ module _ (valid : Validity) (public : Keys) (b : Below valid public) where
       subst (λ (l : ℕ). Takes (old.site l) (new.site l) n) answers.0
       (subst (λ (z : SiteState). Takes (old.site j) z n) (sym effect.2.now) (takes valid public b (old.site j) effect.0 e n (fresh j) effect.1 answers.1))
   takes_by old new (Asks k channel bs consent words) i n effect answers fresh = absurd answers
+  takes_by old new (Reloads k) i n effect answers fresh = absurd answers
 
   takes_at : (m : Moment) (i n : ℕ) → Lived valid public b m → AnswersSession m.event i n → m.end ≡ Done → Takes (m.old.site i) (m.new.site i) n
   takes_at m i n l answers done =
@@ -241,6 +243,7 @@ module _ (valid : Validity) (public : Keys) (b : Below valid public) where
   answers_at : (e : Event) (i n : ℕ) (r : AuthenticatorAssertionResponse) → Brings e i n r → AnswersSession e i n
   answers_at (AtSite j e) i n r brings = (brings.0, session_to e n r brings.1)
   answers_at (Asks k channel bs consent words) i n r brings = absurd brings
+  answers_at (Reloads k) i n r brings = absurd brings
 
   -- the session whose challenge the client data have
   pub record Challenged (s : SiteState) (n : ℕ) (r : AuthenticatorAssertionResponse) : Type 0 where

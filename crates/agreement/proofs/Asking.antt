@@ -1,5 +1,5 @@
 -- A request that a client asks with is carried out, where consent is given and nothing stands against it.
-use Rattle.std.proofs.Common.{◌≡◌, ℕ, ◌<◌, ◌≤◌, List, [], ◌∷◌, length, map, Bool, true, false, not, ◌&&◌, ◌||◌, Some, None, is_none, is_some, cond}
+use Rattle.std.proofs.Common.{◌≡◌, ℕ, zero, suc, ◌<◌, ◌≤◌, List, [], ◌∷◌, length, map, Bool, true, false, not, ◌&&◌, ◌||◌, Some, None, is_none, is_some, cond}
 use Rattle.std.proofs.Common.{find, refl, sym, ◌∙◌, ap, subst, arith, rules, inl, inr, Contains}
 use Rattle.std.specs.Prelude.{nat_le, option_map}
 use Rattle.std.specs.List.{AllByRecursion}
@@ -8,6 +8,9 @@ use Rattle.refusal_order.proofs.Laws.{none_first}
 use Rattle.cose.specs.Schemes.{Validity}
 use Rattle.cose.specs.declared.key.Alg.{Alg}
 use Rattle.cose.specs.declared.key.Alg.TheVariants as algs
+use Rattle.cose.specs.declared.key.SigningAlg.{SigningAlg}
+use Rattle.cose.specs.declared.key.SigningAlg.TheVariants as signing
+use Rattle.cose.specs.Keys.{signed_alg}
 use Rattle.ctap_requests.specs.Entities.{AssertionFlags, CreationFlags}
 use Rattle.ctap_requests.specs.Requests.{RequestMessage}
 use Rattle.ctap_requests.specs.Status.{ranks}
@@ -19,6 +22,7 @@ use Rattle.authenticator.specs.Orders.{is_false, is_true, kept, supported_by}
 use Rattle.authenticator.specs.Steps.{CarriesOut, Keys, Outcome, Step}
 use Rattle.authenticator.specs.declared.consent.Consent.{Consent}
 use Rattle.authenticator.specs.declared.consent.Words.{Words}
+use Rattle.agreement.specs.Honest.{OffersSigning}
 use Rattle.client.specs.Options.{RegistrationOptions, SignInOptions}
 use Rattle.client.specs.Asked as client
 use Rattle.client.specs.Asked.{IsWritten, assertion_of, creation_of, descriptors_of, parameters_of, wanted}
@@ -75,13 +79,24 @@ consented false want has p h = absurd cc
 
 -- ---- algorithms
 
-first_alg : (alg : Alg) → supported_by (parameters_of alg) ≡ Some alg
-first_alg algs.Es256 = refl
-first_alg algs.EdDsa = refl
+-- the first that is supported is one that was offered
+abbrev pub Chosen : List Alg → Type 0
+Chosen offered = (alg : SigningAlg) × (first_supported (map parameters_of offered) ≡ Some alg) × Contains offered (signed_alg alg)
 
-pub chosen : (offered : List Alg) → 1 ≤ length offered → (alg : Alg) × (first_supported (map parameters_of offered) ≡ Some alg) × Contains offered alg
-chosen [] some = absurd (omega (arith, some))
-chosen (alg ∷ more) some = (alg, rw (first_alg alg) refl, (0, omega arith, refl))
+-- RS256 is passed over
+passed_over : (more : List Alg) → Chosen more → Chosen (algs.Rs256 ∷ more)
+passed_over more c = (c.0, c.1, (suc c.2.0, omega (arith, c.2.1), c.2.2))
+
+not_rs256 : (alg : SigningAlg) → algs.Rs256 ≡ signed_alg alg → ⊥
+not_rs256 signing.Es256 e = absurd cc
+not_rs256 signing.EdDsa e = absurd cc
+
+pub chosen : (offered : List Alg) (alg : SigningAlg) → Contains offered (signed_alg alg) → Chosen offered
+chosen [] alg (k, lt, e) = let bad : k < 0 = lt in absurd (omega arith)
+chosen (algs.Es256 ∷ more) alg has = (signing.Es256, refl, (0, omega arith, refl))
+chosen (algs.EdDsa ∷ more) alg has = (signing.EdDsa, refl, (0, omega arith, refl))
+chosen (algs.Rs256 ∷ more) alg (zero, lt, e) = absurd (not_rs256 alg e)
+chosen (algs.Rs256 ∷ more) alg (suc k, lt, e) = passed_over more (chosen more alg (k, omega (arith, lt), e))
 
 -- ---- orders
 
@@ -93,13 +108,13 @@ none_true (l ∷ lines) h = ap (λ b. option_map (λ x. x.1) (cond b (Some l) (f
 below_room : (n : ℕ) → n < 256 → nat_le 256 n ≡ false
 below_room n lt = search (rules, lt)
 
-pub none_against_creation : (a : AuthenticatorState) (o : RegistrationOptions) (t : List ℕ) (consent : Consent) (words : Words) → 1 ≤ length o.algs
+pub none_against_creation : (a : AuthenticatorState) (o : RegistrationOptions) (t : List ℕ) (consent : Consent) (words : Words) → OffersSigning o.algs
     → (o.uv ≡ true → a.uv ≡ true) → consent.present ≡ true
     → (o.uv ≡ true → consent.verified ≡ true) → is_excluded o.rp_id a.credentials (descriptors_of o.exclude) ≡ false
     → credential_of words.id a.credentials ≡ None
     → length (kept a.credentials (creation_of o t)) < 256 → first_true (creation_order a (creation_of o t) consent words) ≡ None
 none_against_creation a o t consent words offered configured present verified excluded new room =
-    let alg = chosen o.algs offered in
+    let alg = chosen o.algs offered.0 offered.1 in
     let asks = asks_verified o.rk o.uv in
     let flags = order.creation_flags (client.creation_flags o.rk o.uv) in
     let met : (is_false flags.up || (is_true flags.uv && not a.uv)) ≡ false =

@@ -18,16 +18,17 @@ use Rattle.authdata.specs.declared.statement.AttestationType.TheVariants as type
 use Rattle.ctap_replies.specs.Replies.{Assertion, ReplyMessage, next_reply}
 use Rattle.ctap_requests.specs.Requests.{AssertionRequest, CreationRequest, RequestMessage, get_assertion, get_info, get_next_assertion, make_credential, reset}
 use Rattle.ctap_requests.specs.Status.{IsRequest, status_of}
-use Rattle.authenticator.specs.State.{Asked, CredentialSource, Remembered, AuthenticatorState}
+use Rattle.authenticator.specs.State.{Asked, CredentialSource, Remembered, AuthenticatorState, forgotten}
 use Rattle.authenticator.specs.Credentials.{credential_of, is_resident_of, with_sign_count, without_first}
 use Rattle.authenticator.specs.Orders.{assertion_order, candidates, creation_flags, creation_order, is_true, kept, next_order, remembered_on, reset_order}
 use Rattle.authenticator.specs.Steps.{AnswersWith, MakesStatement, CarriesOut, Creates, Entry, FirstAnswers, Keys, NextAnswers, Outcome, Resets}
 use Rattle.authenticator.specs.Steps.{Purpose, Step, Unless, asked_by, assertion, assertion_data, attestation, creation_data, key_of, new_credential, refusal}
 use Rattle.authenticator.specs.Steps.{remembering}
+use Rattle.authenticator.specs.Saved.{SavingLaws}
 use Rattle.authenticator.specs.declared.consent.Consent.{Consent}
 use Rattle.authenticator.specs.declared.consent.Words.{Words}
 use Rattle.authenticator.proofs.Stored.{each_weaker}
-use Rattle.agreement.specs.World.{Asks, AtSite, Done, EventEffect, EventEnd, Event, Happens, Holder, IsNew, IsRun, Moment, Nothing, World, after_call}
+use Rattle.agreement.specs.World.{Asks, AtSite, Done, EventEffect, EventEnd, Event, Happens, Holder, IsNew, IsRun, Moment, Nothing, Reloads, World, after_call, after_restart}
 use Rattle.agreement.specs.Ledger.{IsAsked, IsBetween, IsElsewhere, IsMadeIn, IsNextAsserted, IsSignedAt, IsSignedInRun, LedgerOfAllRuns}
 use Rattle.agreement.specs.Ledger.{Signs, world_after}
 
@@ -164,7 +165,7 @@ still_remembering : (k : ℕ) (past : List Moment) (m : Moment) (o : Option Reme
 still_remembering k past m None is x = tt
 still_remembering k past m (Some r) is x = still_remembers k past m r.asked (is r.asked.channel) x
 
-module _ (valid : Validity) (public : Keys) where
+module _ (valid : Validity) (public : Keys) (b : SavingLaws) where
   abbrev IsOf : List CoseKey → CredentialSource → Type 0
   IsOf made c = Contains made (key_of public c)
 
@@ -181,6 +182,17 @@ module _ (valid : Validity) (public : Keys) where
     made = All-weaker (IsMadeIn public k past) (IsMadeIn public k (past ++ m ∷ [])) (λ key. still_made public k past m key) h.made x.made;
     stored = x.stored;
     remembered = still_remembering k past m h.state.remembered (λ channel. inl apart) x.remembered;
+  }
+
+  -- ---- a restart
+
+  reloaded : (k : ℕ) (past : List Moment) (m : Moment) (h : Holder) (state : AuthenticatorState) → state ≡ forgotten h.state → Account k past h
+      → Account k (past ++ m ∷ []) (after_restart h state)
+  reloaded k past m h state is x = record {
+    signed = All-weaker (IsSignedInRun k past) (IsSignedInRun k (past ++ m ∷ [])) (λ e. still_signed k past m e) h.signed x.signed;
+    made = All-weaker (IsMadeIn public k past) (IsMadeIn public k (past ++ m ∷ [])) (λ key. still_made public k past m key) h.made x.made;
+    stored = subst (λ (s : AuthenticatorState). Each (IsOf h.made) s.credentials) (sym is) x.stored;
+    remembered = subst (λ (s : AuthenticatorState). Remembering k (past ++ m ∷ []) s.remembered) (sym is) tt;
   }
 
   -- ---- a request
@@ -440,6 +452,14 @@ module _ (valid : Validity) (public : Keys) where
         called k channel bs consent words past m here.0 (is ∙ ap (λ l. Asks l channel bs consent words) same.1) ends here.3.now x here.2
     | inr other ↦
         subst (Account k (past ++ m ∷ [])) (sym (h.3.others k (λ e. other.1 (sym e))))
+        (untouched k past m (m.old.holder k) (inr (subst (IsElsewhere k) (sym is) other.1)) x)
+  ]
+  accounted k past m (Reloads j) Done is ends h x = elim (eqb_tells j k) [
+    | inl same ↦
+        let here : EventEffect valid public m.old (Reloads k) m.new = subst (λ (l : ℕ). EventEffect valid public m.old (Reloads l) m.new) same.1 h in
+        subst (Account k (past ++ m ∷ [])) (sym here.2.now) (reloaded k past m (m.old.holder k) here.0 (b.restarted (m.old.holder k).state here.0 here.1) x)
+    | inr other ↦
+        subst (Account k (past ++ m ∷ [])) (sym (h.2.others k (λ e. other.1 (sym e))))
         (untouched k past m (m.old.holder k) (inr (subst (IsElsewhere k) (sym is) other.1)) x)
   ]
 

@@ -5,7 +5,7 @@ use Rattle.std.specs.Prelude.{nat_lt}
 use Rattle.sha2.specs.Sha256.{sha256}
 use Rattle.clientdata.specs.declared.record.CeremonyType.TheVariants.{Create}
 use Rattle.clientdata.specs.Serialised.{client_data_text, hash_of}
-use Rattle.cose.specs.Keys.{alg_of}
+use Rattle.cose.specs.Keys.{alg_of, signed_alg}
 use Rattle.cose.specs.Schemes.{Validity}
 use Rattle.cose.specs.declared.key.Alg.{Alg}
 use Rattle.cose.specs.declared.key.CoseKey.{CoseKey}
@@ -159,9 +159,9 @@ module _ (valid : Validity) (public : Keys) (b : Below valid public) (keeps : Ke
 
   offered : Contains x.expected.algorithms (alg_of key)
   offered =
-      let c = chosen x.options.algs h.offered in
+      let c = chosen x.options.algs h.offered.0 h.offered.1 in
       let some_alg : Some c.0 ≡ Some creates.alg = sym c.1 ∙ creates.chosen in
-      let same : c.0 ≡ alg_of key = (let is : c.0 ≡ creates.alg = cc in is ∙ sym (keeps creates.alg x.words.secret)) in
+      let same : signed_alg c.0 ≡ alg_of key = (let is : c.0 ≡ creates.alg = cc in ap signed_alg is ∙ sym (keeps creates.alg x.words.secret)) in
       subst (λ (offered : List Alg). Contains offered (alg_of key)) h.algorithms (subst (λ (alg : Alg). Contains x.options.algs alg) same c.2)
 
   says_how : Stated valid x.site.policy (object_of r) key (hash_of t)

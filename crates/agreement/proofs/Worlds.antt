@@ -11,7 +11,7 @@ use Rattle.authenticator.specs.Laws.{IsSound, SoundState}
 use Rattle.authenticator.specs.Steps.{Keys}
 use Rattle.authenticator.proofs.Stored.{each_weaker}
 use Rattle.agreement.specs.World.{SiteActs, Asks, AtSite, ChangesHolder, ChangesSite, Done, EventEnd, Event, Happens, Holder, IsRun, IsStart, Moment}
-use Rattle.agreement.specs.World.{Nothing, SiteEvent, World, after_call}
+use Rattle.agreement.specs.World.{Nothing, Reloads, SiteEvent, World, after_call, after_restart}
 use Rattle.agreement.specs.Below.{Below}
 use Rattle.agreement.proofs.Sites.{AreBytes, empty_bytes, stays}
 
@@ -82,9 +82,20 @@ module _ (valid : Validity) (public : Keys) (b : Below valid public) where
         };
         goes_on = same_sites old new h.3.sites;
       }
+  happened old new (Reloads k) Done sound h =
+      let state = b.saving.sound (old.holder k).state h.0 (sound.holders k).state h.1 in
+      let here : SoundHolder (after_restart (old.holder k) h.0) = record { state = state; signed = (sound.holders k).signed } in
+      record {
+        sound = record {
+          sites = λ i. subst SoundSite (sym (h.2.sites i)) (sound.sites i);
+          holders = at_holders SoundHolder old new k (after_restart (old.holder k) h.0) h.2 here sound.holders;
+        };
+        goes_on = same_sites old new h.2.sites;
+      }
   happened old new (AtSite i e) Nothing sound h = subst (Kept old) (sym h) (record { sound = sound; goes_on = λ j. b.sites.stays (old.site j) })
   happened old new (Asks k channel bs consent words) Nothing sound h =
       subst (Kept old) (sym h) (record { sound = sound; goes_on = λ j. b.sites.stays (old.site j) })
+  happened old new (Reloads k) Nothing sound h = subst (Kept old) (sym h) (record { sound = sound; goes_on = λ j. b.sites.stays (old.site j) })
 
   -- ---- runs
 

@@ -26,7 +26,7 @@ use Rattle.authenticator.specs.Steps.{Entry, Keys, assertion}
 use Rattle.client.specs.Responses.{response_of}
 use Rattle.ceremony.specs.Registration as registering
 use Rattle.ceremony.specs.Verdict.{Delivers}
-use Rattle.agreement.specs.World.{AtSite, Asks, Done, Event, IsRun, IsStart, Moment, Registers, RegistersBy, Retires, SignsIn, SignsInBy, SiteEvent, World}
+use Rattle.agreement.specs.World.{AtSite, Asks, Done, Event, IsRun, IsStart, Moment, Registers, RegistersBy, Reloads, Retires, SignsIn, SignsInBy, SiteEvent, World}
 
 -- ---- sign-ins
 
@@ -44,6 +44,7 @@ BringsTo e n r = ⊥
 abbrev pub Brings : Event → ℕ → ℕ → AuthenticatorAssertionResponse → Type 0
 Brings (AtSite j e) i n r = (j ≡ i) × BringsTo e n r
 Brings (Asks k channel bs consent words) i n r = ⊥
+Brings (Reloads k) i n r = ⊥
 
 -- a sign-in with this response for a credential that is registered at the site, whether it is accepted or not
 pub record Tries (m : Moment) (i n : ℕ) (r : AuthenticatorAssertionResponse) (row : Credential) : Type 0 where
@@ -217,6 +218,7 @@ session_in e = None
 abbrev pub AnswersSession : Event → ℕ → ℕ → Type 0
 AnswersSession (AtSite j e) i n = (j ≡ i) × (session_in e ≡ Some n)
 AnswersSession (Asks k channel bs consent words) i n = ⊥
+AnswersSession (Reloads k) i n = ⊥
 
 -- no session of a site is accepted twice
 abbrev pub DifferInSession : Moment → Moment → Type 0

@@ -2,15 +2,16 @@
 use Rattle.std.specs.Prelude.{◌≡◌, ◌++◌, ℕ, List}
 use Rattle.base64.specs.GeneralPurpose.{IsBytes}
 use Rattle.clientdata.specs.Serialised.{challenge_text_of}
-use Rattle.cose.specs.Keys.{alg_of}
+use Rattle.cose.specs.Keys.{alg_of, signed_alg}
 use Rattle.cose.specs.Schemes.{Validity}
-use Rattle.cose.specs.declared.key.Alg.{Alg}
+use Rattle.cose.specs.declared.key.SigningAlg.{SigningAlg}
 use Rattle.authdata.specs.declared.profile.Profile.{Profile}
 use Rattle.authdata.specs.declared.profile.Profile.TheVariants.{Strict}
 use Rattle.authdata.specs.Layout.{AuthenticatorData, AuthOf}
 use Rattle.authdata.specs.Objects.{Attestation, ObjectOf}
 use Rattle.site.specs.Laws.{SiteLaws}
 use Rattle.authenticator.specs.Laws.{StepLaws}
+use Rattle.authenticator.specs.Saved.{SavingLaws}
 use Rattle.authenticator.specs.Steps.{Keys}
 use Rattle.agreement.specs.Links.{Links}
 
@@ -25,7 +26,7 @@ pub record Readings : Type 0 where
 
 -- a secret's public key has the algorithm that it was made for
 abbrev pub KeepsAlg : Keys → Type 0
-KeepsAlg public = (alg : Alg) (secret : List ℕ) → alg_of (public alg secret) ≡ alg
+KeepsAlg public = (alg : SigningAlg) (secret : List ℕ) → alg_of (public alg secret) ≡ signed_alg alg
 
 pub record Below (valid : Validity) (public : Keys) : Type 0 where
   pub links : Links
@@ -33,3 +34,4 @@ pub record Below (valid : Validity) (public : Keys) : Type 0 where
   pub challenge_texts : (a b : List ℕ) → IsBytes a → IsBytes b → challenge_text_of a ≡ challenge_text_of b → a ≡ b
   pub sites : SiteLaws valid
   pub steps : StepLaws valid public
+  pub saving : SavingLaws

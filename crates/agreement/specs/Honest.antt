@@ -3,6 +3,9 @@
 use Rattle.std.specs.Prelude.{◌≡◌, ◌<◌, ◌≤◌, ◌⊎◌, ◌+◌, ℕ, List, [], ◌∷◌, ◌++◌, length, map, replicate, Bool, true, false, Some, None, Contains, IsUtf8}
 use Rattle.std.specs.Option.{ForSome}
 use Rattle.hidframe.specs.declared.Packet.{Packet}
+use Rattle.cose.specs.declared.key.Alg.{Alg}
+use Rattle.cose.specs.declared.key.SigningAlg.{SigningAlg}
+use Rattle.cose.specs.Keys.{signed_alg}
 use Rattle.cose.specs.Schemes.{Validity}
 use Rattle.ctap_replies.specs.Replies as replies
 use Rattle.verification.specs.Records as expects
@@ -67,6 +70,10 @@ pub record Registering : Type 0 where
   pub packets : List Packet
   pub after : AuthenticatorEnd
 
+-- an algorithm is offered that an authenticator signs by
+abbrev pub OffersSigning : List Alg → Type 0
+OffersSigning offered = (alg : SigningAlg) × Contains offered (signed_alg alg)
+
 pub record IsHonestRegistration (valid : Validity) (public : Keys) (x : Registering) : Type 0 where
   -- the session is open, and the options are its own
   pub is_open : registration_at x.session x.site.sessions ≡ Some x.expected
@@ -75,7 +82,7 @@ pub record IsHonestRegistration (valid : Validity) (public : Keys) (x : Register
   pub user : x.options.user_id ≡ x.expected.user
   pub algorithms : x.options.algs ≡ x.expected.algorithms
   pub verified : x.options.uv ≡ x.expected.uv
-  pub offered : 1 ≤ length x.options.algs
+  pub offered : OffersSigning x.options.algs
   -- the page is one of the site's
   pub origin : Contains x.site.rp.origins x.origin
   pub origin_text : IsUtf8 x.origin

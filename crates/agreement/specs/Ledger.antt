@@ -3,7 +3,7 @@
 use Rattle.std.specs.Prelude.{◌≡◌, ◌≢◌, ◌⊎◌, ℕ, List, [], ◌∷◌, ◌++◌, Some, Contains}
 use Rattle.std.specs.List.{All}
 use Rattle.cose.specs.Schemes.{Validity}
-use Rattle.cose.specs.declared.key.Alg.{Alg}
+use Rattle.cose.specs.declared.key.SigningAlg.{SigningAlg}
 use Rattle.cose.specs.declared.key.CoseKey.{CoseKey}
 use Rattle.authdata.specs.declared.profile.Profile.TheVariants.{Strict}
 use Rattle.authdata.specs.Layout.{AuthenticatorData, AuthOf}
@@ -13,7 +13,7 @@ use Rattle.authenticator.specs.Orders.{first_supported}
 use Rattle.authenticator.specs.Steps.{Entry, Keys, Purpose, assertion, attestation, key_of}
 use Rattle.authenticator.specs.declared.consent.Consent.{Consent}
 use Rattle.authenticator.specs.declared.consent.Words.{Words}
-use Rattle.agreement.specs.World.{Asks, AtSite, Done, Event, IsRun, IsStart, Moment, Nothing, World}
+use Rattle.agreement.specs.World.{Asks, AtSite, Done, Event, IsRun, IsStart, Moment, Nothing, Reloads, World}
 
 -- the world to which these moments lead
 abbrev pub world_after : World → List Moment → World
@@ -29,10 +29,11 @@ pub record IsAsked (k channel : ℕ) (consent : Consent) (words : Words) (q : Re
   pub done : m.end ≡ Done
   pub request : IsRequest q bytes
 
--- the event is not a request to authenticator k
+-- the event is no request to authenticator k, which does not begin again either
 abbrev pub IsElsewhere : ℕ → Event → Type 0
 IsElsewhere k (AtSite i e) = Unit {0}
 IsElsewhere k (Asks j channel bs consent words) = j ≢ k
+IsElsewhere k (Reloads j) = j ≢ k
 
 -- the moment does not touch authenticator k, or is a getNextAssertion to it on the channel
 abbrev pub IsBetween : ℕ → ℕ → Moment → Type 0
@@ -108,7 +109,7 @@ pub record IsMadeIn (public : Keys) (k : ℕ) (past : List Moment) (key : CoseKe
   pub words : Words
   pub request : CreationRequest
   pub asked : IsAsked k channel consent words (make_credential request) moment
-  pub alg : Alg
+  pub alg : SigningAlg
   pub chosen : first_supported request.pub_key_cred_params ≡ Some alg
   pub is : key ≡ public alg words.secret
   pub made : (moment.new.holder k).made ≡ (moment.old.holder k).made ++ key ∷ []

@@ -1,5 +1,5 @@
 -- Sites and authenticators, any number of each, and all that may happen to them: the packets, the client data and the
--- requests are whatever an adversary makes of them. A site that begins again loads what it has saved.
+-- requests are whatever an adversary makes of them. A site or an authenticator that begins again loads what it has saved.
 use Rattle.std.specs.Prelude.{◌≡◌, ◌≢◌, ◌<◌, ◌-◌, ◌^◌, ℕ, Bool, List, [], ◌∷◌, ◌++◌, length}
 use Rattle.std.specs.FinMap as finite
 use Rattle.base64.specs.GeneralPurpose.{IsBytes}
@@ -17,6 +17,7 @@ use Rattle.site.specs.State.{IsAfterRegistration, IsAfterSignIn, judged_sign_in,
 use Rattle.site.specs.Laws.{after_abandon, after_begin, after_retire}
 use Rattle.authenticator.specs.State as authenticator
 use Rattle.authenticator.specs.State.{new_state}
+use Rattle.authenticator.specs.Saved.{Restarted}
 use Rattle.authenticator.specs.Steps.{Entry, Keys, Outcome, Step}
 use Rattle.authenticator.specs.declared.consent.Consent.{Consent}
 use Rattle.authenticator.specs.declared.consent.Words.{Words}
@@ -49,10 +50,12 @@ pub data SiteEvent : Type 0 where
   RegistersBy : (session c : ℕ) (ps : List Packet) (t : List ℕ) → SiteEvent
   Restarts : SiteEvent
 
--- at site i; or an authenticator is asked something, on whatever channel and with whatever consent
+-- at site i; or an authenticator is asked something, on whatever channel and with whatever consent; or it begins again
+-- with what it saved
 pub data Event : Type 0 where
   AtSite : (i : ℕ) (e : SiteEvent) → Event
   Asks : (k channel : ℕ) (bs : List ℕ) (consent : Consent) (words : Words) → Event
+  Reloads : (k : ℕ) → Event
 
 -- the words of a session's challenge
 abbrev pub words_of : Opening → List ℕ
@@ -96,11 +99,17 @@ pub record ChangesHolder (old new : World) (k : ℕ) (h : Holder) : Type 0 where
 abbrev pub after_call : Holder → Outcome → Holder
 after_call h out = record { state = out.state; signed = h.signed ++ out.signed; made = h.made ++ out.made }
 
+-- what it has signed, and which keys it has made, stays so
+abbrev pub after_restart : Holder → authenticator.AuthenticatorState → Holder
+after_restart h state = record h { state = state }
+
 abbrev pub EventEffect : Validity → Keys → World → Event → World → Type 0
 EventEffect valid public old (AtSite i e) new = (s : site.SiteState) × SiteActs valid (old.site i) e s × ChangesSite old new i s
 EventEffect valid public old (Asks k channel bs consent words) new =
     (out : Outcome) × (length words.id ≡ 32) × Step valid public (old.holder k).state channel bs consent words out
     × ChangesHolder old new k (after_call (old.holder k) out)
+EventEffect valid public old (Reloads k) new =
+    (state : authenticator.AuthenticatorState) × Restarted (old.holder k).state state × ChangesHolder old new k (after_restart (old.holder k) state)
 
 -- ---- runs
 

@@ -26,6 +26,7 @@ fn below<V: Verifier>()
     authdata::profiles();
     authdata::one_object();
     authenticator::step_laws::<V>();
+    authenticator::saving_laws();
     site::site_laws::<V>();
 }
 

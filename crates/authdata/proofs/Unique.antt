@@ -153,6 +153,7 @@ length-data a h =
 at_least_42 : (k : CoseKey) → IsKey k → 42 ≤ length (key_bytes k)
 at_least_42 (keys.Es256 x y) h = omega (arith, length-key (keys.Es256 x y) h)
 at_least_42 (keys.EdDsa x) h = omega (arith, length-key (keys.EdDsa x) h)
+at_least_42 (keys.Rs256 k) h = omega (arith, length-key (keys.Rs256 k) h, h.0.0)
 
 pub length-credential : {p : Profile} (c : AttestedCredential) → IsAttestedCredential p c
     → length (credential_bytes c) ≡ 18 + length c.id + length (key_bytes c.key)

@@ -4,7 +4,7 @@ use Rattle.std.specs.Int.{w16, w32, to_be_bytes}
 use Rattle.ccbor.specs.Item.{text, map, Pairs, no_pairs, pair}
 use Rattle.ccbor.specs.Canon.{Canon, spelling}
 use Rattle.cose.specs.declared.key.CoseKey.{CoseKey}
-use Rattle.cose.specs.Keys.{item_of, IsKey}
+use Rattle.cose.specs.Keys.{item_of, lent_key_view, IsKey}
 use Rattle.authdata.specs.declared.auth.Attested.{Attested}
 use Rattle.authdata.specs.declared.auth.AuthData.{AuthData}
 use Rattle.authdata.specs.declared.auth.AttestedView.{AttestedView}
@@ -98,7 +98,7 @@ auth_view a = record {
 }
 
 abbrev pub lent_attested_view : AttestedView → AttestedCredential
-lent_attested_view c = record { aaguid = c.aaguid; id = c.id.now; key = c.key }
+lent_attested_view c = record { aaguid = c.aaguid; id = c.id.now; key = lent_key_view c.key }
 
 abbrev pub lent_auth_view : AuthView → AuthenticatorData
 lent_auth_view a = record {

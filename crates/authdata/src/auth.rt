@@ -3,11 +3,11 @@
 ghost use Rattle.std.specs.Prelude.{◌≡◌, ◌≤◌, length, is_some, false};
 ghost use Rattle.authdata.specs.Flags.{is_set, HasBackup, AT, ED};
 
-use cose::CoseKey;
+use cose::{CoseKey, KeyView};
 
 /// Attested credential data (WebAuthn section 6.5.1): what an authenticator says of a credential
 /// that it made.
-#[derive(Debug, PartialEq, Eq, Drop)]
+#[derive(Debug, Drop)]
 pub struct Attested {
     /// The kind of the authenticator.
     pub aaguid: [u8; 16],
@@ -21,7 +21,7 @@ pub struct Attested {
 
 /// Authenticator data (WebAuthn section 6.1) of the strict profile: what an authenticator says of a ceremony. It has
 /// no extensions.
-#[derive(Debug, PartialEq, Eq, Drop)]
+#[derive(Debug, Drop)]
 pub struct AuthData {
     /// SHA-256 of the relying party's id.
     pub rp_id_hash: [u8; 32],
@@ -45,7 +45,7 @@ pub struct AttestedView<'a> {
     /// The credential id, of 1 byte to as many as the profile has.
     pub id: &'a [u8],
     /// The credential's public key.
-    pub key: CoseKey,
+    pub key: KeyView<'a>,
 }
 
 /// Authenticator data, read where they lie: the members of `AuthData`, and the extensions.

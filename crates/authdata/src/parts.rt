@@ -2,7 +2,7 @@
 
 ghost use Rattle.std.specs.Prelude.{◌↔◌, ◌≡◌, ◌<◌, ◌++◌, length, IfOk, IfErr, IsTrue, MatchOption};
 ghost use Rattle.ccbor.specs.Viewing.{shown_pairs};
-ghost use Rattle.cose.specs.Keys.{IsKey};
+ghost use Rattle.cose.specs.Keys.{IsKey, lent_key_view};
 ghost use Rattle.authdata.specs.Layout.{HasTextKeys, IsExtensionMap, key_bytes};
 ghost use Rattle.authdata.specs.Private.{BeginsWithExtensions};
 ghost use Rattle.authdata.specs.declared.profile.Profile.{Profile};
@@ -12,17 +12,17 @@ ghost use Rattle.authdata.specs.declared.error.Error.TheVariants as errors;
 use crate::error::Error;
 use crate::flags;
 use ccbor::{MapView, View};
-use cose::CoseKey;
+use cose::KeyView;
 
 /// The key at the front, and the bytes behind it.
-pub fn key_front(bytes: &[u8]) -> Result<(CoseKey, &[u8]), Error>
-    ensures found { IfOk result (λ x. IsKey x.0 × (bytes.now ≡ key_bytes x.0 ++ x.1.now)) }
+pub fn key_front(bytes: &[u8]) -> Result<(KeyView<'_>, &[u8]), Error>
+    ensures found { IfOk result (λ x. IsKey (lent_key_view x.0) × (bytes.now ≡ key_bytes (lent_key_view x.0) ++ x.1.now)) }
     ensures none { IfErr result (λ e. (e ≡ errors.BadKey) × (BeginsWithKey bytes.now → ⊥)) }
 {
     let Ok((value, len)) = View::check(bytes) else {
         return Err(Error::BadKey);
     };
-    match CoseKey::from_view(&value) {
+    match KeyView::from_view(&value) {
         Ok(key) => Ok((key, &bytes[len..])),
         Err(_) => Err(Error::BadKey),
     }

@@ -147,11 +147,11 @@ fn owned(alloc: Global, credential: &AttestedView<'_>) -> Result<Attested, Alloc
     Ok(Attested {
         aaguid: credential.aaguid,
         id: Vec::from_slice(alloc, credential.id)?,
-        key: credential.key,
+        key: credential.key.to_key(alloc)?,
     })
 }
 
-/// The authenticator data of the strict profile that the bytes are, as `read_view`, with the credential id copied.
+/// The authenticator data of the strict profile that the bytes are, as `read_view`, with the credential id and the key copied.
 ///
 /// Refused as there. `Memory` is answered only where the bytes are authenticator data that attest a credential.
 pub fn read(alloc: Global, bytes: &[u8]) -> Result<AuthData, Error>

@@ -3,13 +3,14 @@
 ghost use Rattle.std.specs.Prelude.{◌≡◌, ◌↔◌, ℕ, List, MatchOption, IsTrue};
 ghost use Rattle.ccbor.specs.View.{view};
 ghost use Rattle.cose.specs.declared.key.Alg.{Alg};
+ghost use Rattle.cose.specs.Keys.{lent_key_view};
 ghost use Rattle.authdata.specs.Objects.{object_view};
 ghost use Rattle.authdata.specs.Statements.{IsSelfSignedBy, Statement, none_statement, packed_statement};
 
 use crate::error::Error;
 use crate::object::AttestationObject;
 use ccbor::{MapKey, Value, is_end, split_key};
-use cose::{Alg, CoseKey, Verifier};
+use cose::{Alg, KeyView, Verifier};
 
 /// How a credential is attested (WebAuthn section 6.5.3).
 #[derive(Clone, Copy, Debug, PartialEq, Eq, Drop)]
@@ -48,10 +49,10 @@ fn packed_signature(statement: &Value, alg: Alg) -> Option<&[u8]>
 
 /// The signature by which an object attests this key itself: that of a `packed` statement of exactly `alg`, the key's
 /// algorithm number, and `sig` (WebAuthn section 8.2); none of any other statement. Whether it is valid is not looked at.
-pub fn self_signature<'a>(object: &'a AttestationObject, key: &CoseKey) -> Option<&'a [u8]>
+pub fn self_signature<'a>(object: &'a AttestationObject, key: &KeyView<'_>) -> Option<&'a [u8]>
     ensures { MatchOption result
-        ((sig : List ℕ) → IsSelfSignedBy (object_view object.now) key.now sig → ⊥)
-        (λ sig. IsSelfSignedBy (object_view object.now) key.now sig.now) }
+        ((sig : List ℕ) → IsSelfSignedBy (object_view object.now) (lent_key_view key.now) sig → ⊥)
+        (λ sig. IsSelfSignedBy (object_view object.now) (lent_key_view key.now) sig.now) }
 {
     if object.fmt.as_str() != "packed" {
         return None;
@@ -70,10 +71,10 @@ pub fn self_signature<'a>(object: &'a AttestationObject, key: &CoseKey) -> Optio
 pub fn check_statement<V: Verifier>(
     scheme: &V,
     object: &AttestationObject,
-    key: &CoseKey,
+    key: &KeyView<'_>,
     hash: &[u8; 32],
 ) -> Result<AttestationType, Error>
-    ensures { Statement (V.valid scheme.now) (object_view object.now) key.now hash.now result }
+    ensures { Statement (V.valid scheme.now) (object_view object.now) (lent_key_view key.now) hash.now result }
 {
     if object.fmt.as_str() == "none" {
         if is_empty(&object.statement) {

@@ -2,20 +2,20 @@
 
 ghost use Rattle.std.specs.Prelude.{◌≡◌, ◌≤◌, ◌+◌, ◌++◌, IfOk, OnOk, length};
 ghost use Rattle.std.specs.Int.{w32, to_be_bytes};
-ghost use Rattle.cose.specs.Keys.{IsKey, encoded_length};
+ghost use Rattle.cose.specs.Keys.{IsKey, encoded_length, lent_key_view};
 ghost use Rattle.authdata.specs.declared.profile.Profile.TheVariants.{Strict};
 ghost use Rattle.authdata.specs.Layout.{AuthOf, IsAttestedCredential, auth_view, credential_bytes, attested_view, key_bytes};
 
 use crate::auth::{Attested, AuthData};
 use byteorder::{BigEndian, ByteOrder};
 use ccbor::encode;
-use cose::CoseKey;
+use cose::KeyView;
 use std::alloc::{AllocError, Global};
 
 /// Appends the key's encoding.
-fn put_key(alloc: Global, key: &CoseKey, out: &mut Vec<u8>) -> Result<(), AllocError>
-    ensures appended { OnOk result (out.new.items ≡ out.old.items ++ key_bytes key.now) }
-    ensures is { OnOk result (IsKey key.now) }
+fn put_key(alloc: Global, key: &KeyView<'_>, out: &mut Vec<u8>) -> Result<(), AllocError>
+    ensures appended { OnOk result (out.new.items ≡ out.old.items ++ key_bytes (lent_key_view key.now)) }
+    ensures is { OnOk result (IsKey (lent_key_view key.now)) }
 {
     let value = key.to_value(alloc)?;
     match encode(&value, out) {
@@ -36,25 +36,27 @@ fn put_credential(alloc: Global, credential: &Attested, out: &mut Vec<u8>) -> Re
     out.extend_from_slice(&credential.aaguid)?;
     out.extend_from_slice(&id_length)?;
     out.extend_from_slice(credential.id.as_slice())?;
-    put_key(alloc, &credential.key, out)
+    put_key(alloc, &credential.key.view(), out)
 }
 
 /// How many bytes the key's encoding has.
-fn key_length(key: &CoseKey) -> usize
-    ensures { result ≡ encoded_length key.now }
+fn key_length(key: &KeyView<'_>) -> usize
+    ensures exact { result ≡ encoded_length (lent_key_view key.now) }
+    ensures most { result ≤ 529 }
 {
     match key {
-        CoseKey::Es256 { .. } => 77,
-        CoseKey::EdDsa { .. } => 42,
+        KeyView::Es256 { .. } => 77,
+        KeyView::EdDsa { .. } => 42,
+        KeyView::Rs256(key) => 13 + key.n.len() + key.e.len(),
     }
 }
 
 /// How many bytes attested credential data have.
 fn credential_length(credential: &Attested) -> usize
     ensures exact { result ≡ 18 + length credential.now.id.items + encoded_length credential.now.key }
-    ensures most { result ≤ 159 }
+    ensures most { result ≤ 611 }
 {
-    18 + credential.id.len() + key_length(&credential.key)
+    18 + credential.id.len() + key_length(&credential.key.view())
 }
 
 /// A signature counter in 4 big-endian bytes.
@@ -67,7 +69,7 @@ fn count_bytes(sign_count: u32) -> [u8; 4]
 }
 
 /// The bytes of authenticator data (WebAuthn section 6.1), which have no extensions: 37, and with a credential those of its
-/// id, its key (77 for ES256, 42 for EdDSA) and 18 more.
+/// id, its key (77 for ES256, 42 for EdDSA, for RS256 13 more than its modulus and its exponent) and 18 more.
 pub fn write(alloc: Global, auth: &AuthData) -> Result<Vec<u8>, AllocError>
     ensures { IfOk result (λ bytes. AuthOf Strict (auth_view auth.now) bytes.items) }
 {

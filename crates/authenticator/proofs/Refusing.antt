@@ -7,7 +7,7 @@ use Rattle.refusal_order.specs.Lines.{first_true}
 use Rattle.ctap_requests.specs.Requests.{AssertionRequest, CreationRequest}
 use Rattle.ctap_replies.specs.Replies.{Assertion, Creation, ReplyMessage, ReplyOf, creation_reply}
 use Rattle.cose.specs.Schemes.{Validity}
-use Rattle.cose.specs.declared.key.Alg.{Alg}
+use Rattle.cose.specs.declared.key.SigningAlg.{SigningAlg}
 use Rattle.authdata.specs.declared.profile.Profile.TheVariants.{Strict}
 use Rattle.authdata.specs.Layout.{AuthOf}
 use Rattle.authenticator.specs.State.{Asked, CredentialSource, Remembered, AuthenticatorState, forgotten}
@@ -68,7 +68,7 @@ pub not_at_end : (id : List ℕ) (cs : List CredentialSource) (c : CredentialSou
     → is_at_end (credential_of id cs) ≡ false
 not_at_end id cs c found lt = search (rules, found, lt)
 
-pub created : (valid : Validity) (public : Keys) (old new : AuthenticatorState) (q : CreationRequest) (consent : Consent) (words : Words) (alg : Alg)
+pub created : (valid : Validity) (public : Keys) (old new : AuthenticatorState) (q : CreationRequest) (consent : Consent) (words : Words) (alg : SigningAlg)
     (r : Creation) (reply : List ℕ)
     → first_supported q.pub_key_cred_params ≡ Some alg → AuthOf Strict (creation_data old q words.id (public alg words.secret)) r.auth_data
     → IsAttested valid (public alg words.secret) q.client_data_hash consent old.attest r → ReplyOf (creation_reply r) reply

@@ -9,9 +9,9 @@ use Rattle.ctap_replies.proofs.Texts.{plain}
 use Rattle.ccbor.specs.Item as of
 use Rattle.ccbor.specs.Item.{Item, Items, Pairs, no_items, item, no_pairs, pair}
 use Rattle.ccbor.specs.Canon.{head, before, spelling, spelling_of_items, spelling_of_pairs, count_of_items, count_of_pairs, Fits}
-use Rattle.cose.specs.Keys.{alg_item}
-use Rattle.cose.specs.declared.key.Alg.{Alg}
-use Rattle.cose.specs.declared.key.Alg.TheVariants as algs
+use Rattle.cose.specs.Keys.{alg_item, signed_alg}
+use Rattle.cose.specs.declared.key.SigningAlg.{SigningAlg}
+use Rattle.cose.specs.declared.key.SigningAlg.TheVariants as algs
 use Rattle.authdata.specs.Statements.{none_statement, packed_statement}
 use Rattle.cbor_map.specs.Table.{gravest, record_of}
 use Rattle.ctap_replies.specs.Replies.{Creation, Assertion, Info, ReplyMessage, ReplyOf, creation_reply, assertion_reply, info_reply}
@@ -96,7 +96,7 @@ creation_with r ps e s u f a le =
     message (creation_reply r) (creation_reply_item r) (spelling (creation_reply_item r), refl, (creation_fits r ps e s u f a, refl), creation_clean r ps e)
     (omega arith)
 
-packed_fits : (alg : Alg) (signature : List ℕ) → length signature ≤ 128 → Fits 3 (packed_statement alg signature)
+packed_fits : (alg : SigningAlg) (signature : List ℕ) → length signature ≤ 128 → Fits 3 (packed_statement (signed_alg alg) signature)
 unfolding head before
 packed_fits algs.Es256 signature le = search (rules, arith, le, plain)
 packed_fits algs.EdDsa signature le = search (rules, arith, le, plain)
@@ -109,12 +109,12 @@ plain_message r f s a =
     creation_with r no_pairs s (omega arith, tt) (named r.fmt (codes "none") f (plain (codes "none") refl))
     (let l : length r.fmt ≡ 4 = ap length f in omega arith) a (let l : cost r.statement ≡ 9 = ap cost s in omega arith)
 
-pub packed_message : (r : Creation) (alg : Alg) (signature : List ℕ) → r.fmt ≡ codes "packed" → r.statement ≡ packed_statement alg signature
+pub packed_message : (r : Creation) (alg : SigningAlg) (signature : List ℕ) → r.fmt ≡ codes "packed" → r.statement ≡ packed_statement (signed_alg alg) signature
     → length signature ≤ 128 → length r.auth_data ≤ 164
     → IsMessage (creation_reply r)
 packed_message r alg signature f s le a =
     let l : cost r.statement ≡ 9 + (12 + (9 + (12 + (9 + length signature)))) = ap cost s ∙ omega arith in
-    creation_with r (pair (of.text (codes "alg")) (alg_item alg) (pair (of.text (codes "sig")) (of.bytes signature) no_pairs)) s
+    creation_with r (pair (of.text (codes "alg")) (alg_item (signed_alg alg)) (pair (of.text (codes "sig")) (of.bytes signature) no_pairs)) s
     (packed_fits alg signature le)
     (named r.fmt (codes "packed") f (plain (codes "packed") refl))
     (let m : length r.fmt ≡ 6 = ap length f in omega arith) a (omega arith)

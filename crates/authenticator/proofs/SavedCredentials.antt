@@ -7,9 +7,9 @@ use Rattle.ccbor.specs.Item.{Item, uint, nint, bytes, text, map, boolean, Pairs,
 use Rattle.ccbor.specs.Access.{split_key, is_end, uint_in, nint_in, bytes_in, text_in, bool_in, pairs_in}
 use Rattle.ccbor.proofs.AccessLemmas.{split_key_takes, pairs_in_is, uint_in_is, bytes_in_is, text_in_is, end_is}
 use Rattle.ccbor.proofs.Numbers.{bind_some}
-use Rattle.cose.specs.Keys.{alg_item}
-use Rattle.cose.specs.declared.key.Alg.{Alg}
-use Rattle.cose.specs.declared.key.Alg.TheVariants as algs
+use Rattle.cose.specs.Keys.{alg_item, signed_alg}
+use Rattle.cose.specs.declared.key.SigningAlg.{SigningAlg}
+use Rattle.cose.specs.declared.key.SigningAlg.TheVariants as algs
 use Rattle.authenticator.specs.State.{CredentialSource}
 use Rattle.authenticator.specs.Saved.{IsSource, source_item}
 use Rattle.authenticator.specs.Private.{alg_at, alg_in, behind_secret, counter_in, sized_in, source_in}
@@ -38,15 +38,15 @@ sized_is low high x bs e =
 pub exactly : (n : ℕ) (x : Item) (bs : List ℕ) → sized_in n n x ≡ Some bs → (x ≡ bytes bs) × (length bs ≡ n)
 exactly n x bs e = let is = sized_is n n x bs e in (is.0, omega (arith, is.1, is.2))
 
-algorithm : (alg : Alg) → alg_in (alg_item alg) ≡ Some alg
+algorithm : (alg : SigningAlg) → alg_in (alg_item (signed_alg alg)) ≡ Some alg
 algorithm algs.Es256 = refl
 algorithm algs.EdDsa = refl
 
-alg_at_is : (n : ℕ) (alg : Alg) → alg_at n ≡ Some alg → nint n ≡ alg_item alg
+alg_at_is : (n : ℕ) (alg : SigningAlg) → alg_at n ≡ Some alg → nint n ≡ alg_item (signed_alg alg)
 alg_at_is n algs.Es256 e = grind (arith, nat_tests, common_steps, e)
 alg_at_is n algs.EdDsa e = grind (arith, nat_tests, common_steps, e)
 
-algorithm_is : (x : Item) (alg : Alg) → alg_in x ≡ Some alg → x ≡ alg_item alg
+algorithm_is : (x : Item) (alg : SigningAlg) → alg_in x ≡ Some alg → x ≡ alg_item (signed_alg alg)
 algorithm_is x alg e =
     let found = bind_some (nint_in x) _ alg e in
     nint_in_is x found.0 found.1 ∙ alg_at_is found.0 alg found.2
@@ -84,11 +84,11 @@ one_source c d h g e = same_Some c d (sym (source_read c h) ∙ ap source_in e �
 record Behind (id rp user secret : List ℕ) (ps : Pairs) (c : CredentialSource) : Type 0 where
   pub sign_count : c.sign_count < 2 ^ 32
   pub is : c ≡ record { id = id; rp_id = rp; user = user; secret = secret; alg = c.alg; resident = c.resident; sign_count = c.sign_count }
-  pub members : ps ≡ pair (uint 5) (alg_item c.alg) (pair (uint 6) (boolean c.resident) (pair (uint 7) (uint c.sign_count) no_pairs))
+  pub members : ps ≡ pair (uint 5) (alg_item (signed_alg c.alg)) (pair (uint 6) (boolean c.resident) (pair (uint 7) (uint c.sign_count) no_pairs))
 
-joined_behind : (e f g : Item) (t u v w : Pairs) (alg : Alg) (resident : Bool) (n : ℕ) → t ≡ pair (uint 5) e u → e ≡ alg_item alg
+joined_behind : (e f g : Item) (t u v w : Pairs) (alg : SigningAlg) (resident : Bool) (n : ℕ) → t ≡ pair (uint 5) e u → e ≡ alg_item (signed_alg alg)
     → u ≡ pair (uint 6) f v → f ≡ boolean resident → v ≡ pair (uint 7) g w → g ≡ uint n → w ≡ no_pairs
-    → t ≡ pair (uint 5) (alg_item alg) (pair (uint 6) (boolean resident) (pair (uint 7) (uint n) no_pairs))
+    → t ≡ pair (uint 5) (alg_item (signed_alg alg)) (pair (uint 6) (boolean resident) (pair (uint 7) (uint n) no_pairs))
 joined_behind e f g t u v w alg resident n e0 e1 e2 e3 e4 e5 e6 = cc
 
 behind_is : (id rp user secret : List ℕ) (ps : Pairs) (c : CredentialSource) → behind_secret id rp user secret ps ≡ Some c → Behind id rp user secret ps c

@@ -17,9 +17,9 @@ use Rattle.ccbor.proofs.Decoding.{same_item}
 use Rattle.ccbor.proofs.Numbers.{bind_some}
 use Rattle.authdata.specs.declared.statement.AttestationType.{AttestationType}
 use Rattle.authdata.specs.declared.statement.AttestationType.TheVariants as types
-use Rattle.cose.specs.Keys.{argument_of}
-use Rattle.cose.specs.declared.key.Alg.{Alg}
-use Rattle.cose.specs.declared.key.Alg.TheVariants as algs
+use Rattle.cose.specs.Keys.{argument_of, signed_alg}
+use Rattle.cose.specs.declared.key.SigningAlg.{SigningAlg}
+use Rattle.cose.specs.declared.key.SigningAlg.TheVariants as algs
 use Rattle.authenticator.specs.State.{CredentialSource, AuthenticatorState, Remembered, forgotten}
 use Rattle.authenticator.specs.Credentials.{credential_of}
 use Rattle.authenticator.specs.Laws.{IsUnique, SoundState}
@@ -238,7 +238,7 @@ module _ (bs : List ℕ) (x : Item) (canon : Canon x bs) where
 
 -- ---- saving
 
-algorithm_fits : (alg : Alg) → argument_of alg < 2 ^ 64
+algorithm_fits : (alg : SigningAlg) → argument_of (signed_alg alg) < 2 ^ 64
 algorithm_fits algs.Es256 = omega arith
 algorithm_fits algs.EdDsa = omega arith
 

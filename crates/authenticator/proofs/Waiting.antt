@@ -1,9 +1,9 @@
 -- What waits for its signature, and what its signature makes of it.
 use Rattle.std.proofs.Common.{◌≡◌, ◌<◌, ◌≤◌, ◌++◌, ◌∷◌, [], ℕ, List, Option, Some, Vec, Global, length, refl, sym, ap, subst, rules, true}
 use Rattle.std.specs.Prelude.{Result, Ok, Err, IfOk, codes}
-use Rattle.cose.specs.Keys.{alg_of}
+use Rattle.cose.specs.Keys.{alg_of, signed_alg}
 use Rattle.cose.specs.Schemes.{Validity}
-use Rattle.cose.specs.declared.key.Alg.{Alg}
+use Rattle.cose.specs.declared.key.SigningAlg.{SigningAlg}
 use Rattle.cose.specs.declared.key.CoseKey.{CoseKey}
 use Rattle.authdata.specs.declared.profile.Profile.TheVariants.{Strict}
 use Rattle.authdata.specs.Layout.{AuthOf}
@@ -49,24 +49,24 @@ ended id cs end c found lt = search (rules, end, found, lt)
 
 -- ---- attestations
 
-pub creates_packed : (public : Keys) (old new : AuthenticatorState) (q : CreationRequest) (consent : Consent) (words : Words) (alg : Alg)
+pub creates_packed : (public : Keys) (old new : AuthenticatorState) (q : CreationRequest) (consent : Consent) (words : Words) (alg : SigningAlg)
     (auth signature reply : List ℕ)
     → old.attest ≡ types.SelfSigned → first_supported q.pub_key_cred_params ≡ Some alg
     → AuthOf Strict (creation_data old q words.id (public alg words.secret)) auth
-    → alg_of (public alg words.secret) ≡ alg → 1 ≤ length signature → length signature ≤ 128
-    → ReplyOf (creation_reply (record { fmt = codes "packed"; auth_data = auth; statement = packed_statement alg signature })) reply
+    → alg_of (public alg words.secret) ≡ signed_alg alg → 1 ≤ length signature → length signature ≤ 128
+    → ReplyOf (creation_reply (record { fmt = codes "packed"; auth_data = auth; statement = packed_statement (signed_alg alg) signature })) reply
     → new ≡ record (forgotten old) { credentials = kept old.credentials q ++ new_credential q alg words ∷ [] }
     → Comes (Creates (only (public alg words.secret) (auth ++ q.client_data_hash) signature) public old q consent words) reply new
 creates_packed public old new q consent words alg auth signature reply attest chosen spelled keeps low high bytes state =
     let key = public alg words.secret in
     let valid = only key (auth ++ q.client_data_hash) signature in
-    let r : Creation = record { fmt = codes "packed"; auth_data = auth; statement = packed_statement alg signature } in
+    let r : Creation = record { fmt = codes "packed"; auth_data = auth; statement = packed_statement (signed_alg alg) signature } in
     created valid public old new q consent words alg r reply chosen spelled
     (attested_packed valid key q.client_data_hash consent old.attest r signature attest refl (low, high, (refl, refl, refl))
     (ap (λ a. packed_statement a signature) (sym keeps)))
     bytes state
 
-pub creates_plain : (public : Keys) (old new : AuthenticatorState) (q : CreationRequest) (consent : Consent) (words : Words) (alg : Alg)
+pub creates_plain : (public : Keys) (old new : AuthenticatorState) (q : CreationRequest) (consent : Consent) (words : Words) (alg : SigningAlg)
     (auth reply : List ℕ)
     → old.attest ≡ types.None → first_supported q.pub_key_cred_params ≡ Some alg
     → AuthOf Strict (creation_data old q words.id (public alg words.secret)) auth

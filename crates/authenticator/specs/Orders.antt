@@ -6,9 +6,9 @@ use Rattle.std.specs.Prelude.{pos, negsuc, codes, find, option_map, option_to_li
 use Rattle.std.specs.List.{list_any}
 use Rattle.std.specs.Option.{option_or}
 use Rattle.std.specs.Str.{bytes_eq}
-use Rattle.cose.specs.declared.key.Alg.{Alg}
-use Rattle.cose.specs.declared.key.Alg.TheVariants as algs
-use Rattle.cose.specs.Keys.{argument_of}
+use Rattle.cose.specs.declared.key.SigningAlg.{SigningAlg}
+use Rattle.cose.specs.declared.key.SigningAlg.TheVariants as algs
+use Rattle.cose.specs.Keys.{argument_of, signed_alg}
 use Rattle.ctap_requests.specs.Entities.{CredentialDescriptor, CredentialParameters, CreationFlags, AssertionFlags}
 use Rattle.ctap_requests.specs.Requests.{CreationRequest, AssertionRequest}
 use Rattle.authenticator.specs.State.{CredentialSource, Remembered, AuthenticatorState}
@@ -43,18 +43,18 @@ abbrev pub is_public_key : List ℕ → Bool
 is_public_key kind = bytes_eq kind (codes "public-key")
 
 -- the algorithm of a COSE number, where it is supported
-abbrev pub supported : ℤ → Option Alg
+abbrev pub supported : ℤ → Option SigningAlg
 supported (pos n) = None
 supported (negsuc n) =
-    if n == argument_of algs.Es256 then Some algs.Es256
-    else if n == argument_of algs.EdDsa then Some algs.EdDsa
+    if n == argument_of (signed_alg algs.Es256) then Some algs.Es256
+    else if n == argument_of (signed_alg algs.EdDsa) then Some algs.EdDsa
     else None
 
-abbrev pub supported_by : CredentialParameters → Option Alg
+abbrev pub supported_by : CredentialParameters → Option SigningAlg
 supported_by p = if is_public_key p.kind then supported p.alg else None
 
 -- the first that is supported
-abbrev pub first_supported : List CredentialParameters → Option Alg
+abbrev pub first_supported : List CredentialParameters → Option SigningAlg
 first_supported [] = None
 first_supported (p ∷ ps) = option_or (supported_by p) (first_supported ps)
 

@@ -8,8 +8,8 @@ use Rattle.ccbor.specs.Access.{split_key, is_end, uint_in, nint_in, bytes_in, te
 use Rattle.ccbor.specs.Reading.{◌>>=◌}
 use Rattle.ccbor.specs.Viewing.{shown_items}
 use Rattle.cose.specs.Schemes.{Validity}
-use Rattle.cose.specs.declared.key.Alg.{Alg}
-use Rattle.cose.specs.declared.key.Alg.TheVariants as algs
+use Rattle.cose.specs.declared.key.SigningAlg.{SigningAlg}
+use Rattle.cose.specs.declared.key.SigningAlg.TheVariants as algs
 use Rattle.cose.specs.declared.key.CoseKey.{CoseKey}
 use Rattle.authdata.specs.declared.statement.AttestationType.{AttestationType}
 use Rattle.ctap_replies.specs.Replies.{Assertion, Creation, ReplyMessage, ReplyOf}
@@ -148,10 +148,10 @@ NextBegins public old channel b new =
 abbrev pub sized_in : ℕ → ℕ → Item → Option (List ℕ)
 sized_in low high x = bytes_in x >>= λ bs. if nat_le low (length bs) && nat_le (length bs) high then Some bs else None
 
-abbrev pub alg_at : ℕ → Option Alg
+abbrev pub alg_at : ℕ → Option SigningAlg
 alg_at n = if n == 6 then Some algs.Es256 else if n == 7 then Some algs.EdDsa else None
 
-abbrev pub alg_in : Item → Option Alg
+abbrev pub alg_in : Item → Option SigningAlg
 alg_in x = nint_in x >>= alg_at
 
 -- a counter of 32 bits

@@ -6,7 +6,7 @@ use Rattle.refusal_order.specs.Lines.{Each}
 use Rattle.ccbor.specs.Item.{Item, uint, bytes, text, array, map, boolean, no_pairs, pair}
 use Rattle.ccbor.specs.Canon.{Canon}
 use Rattle.ccbor.specs.View.{items_of}
-use Rattle.cose.specs.Keys.{alg_item}
+use Rattle.cose.specs.Keys.{alg_item, signed_alg}
 use Rattle.authdata.specs.declared.statement.AttestationType.{AttestationType}
 use Rattle.authdata.specs.declared.statement.AttestationType.TheVariants as types
 use Rattle.authenticator.specs.State.{CredentialSource, AuthenticatorState, forgotten}
@@ -25,7 +25,7 @@ source_item c =
     (pair (uint 2) (text c.rp_id)
     (pair (uint 3) (bytes c.user)
     (pair (uint 4) (bytes c.secret)
-    (pair (uint 5) (alg_item c.alg)
+    (pair (uint 5) (alg_item (signed_alg c.alg))
     (pair (uint 6) (boolean c.resident)
     (pair (uint 7) (uint c.sign_count) no_pairs)))))))
 

@@ -2,8 +2,9 @@
 -- signed and leaves the authenticator as it was. The second takes the signature.
 use Rattle.std.specs.Prelude.{◌≡◌, ◌≤◌, ◌<◌, ℕ, ◌+◌, List, [], ◌∷◌, ◌++◌, length, Option, Some, None, codes, reverse, Vec}
 use Rattle.std.specs.Global.{Global}
+use Rattle.cose.specs.Keys.{signed_alg}
 use Rattle.cose.specs.Schemes.{Validity}
-use Rattle.cose.specs.declared.key.Alg.{Alg}
+use Rattle.cose.specs.declared.key.SigningAlg.{SigningAlg}
 use Rattle.cose.specs.declared.key.CoseKey.{CoseKey}
 use Rattle.authdata.specs.Statements.{packed_statement}
 use Rattle.ctap_requests.specs.RequestView.{creation_view}
@@ -58,9 +59,9 @@ AnswersBy old id asked later message count auth_data signature reply new =
     × (new ≡ record old { credentials = with_sign_count id (c.sign_count + 1) old.credentials; remembered = remembering asked later })
 
 -- with its signature the request has this reply, and the authenticator this state
-abbrev pub FinishesWork : AuthenticatorState → Alg → Work → List ℕ → List ℕ → AuthenticatorState → Type 0
+abbrev pub FinishesWork : AuthenticatorState → SigningAlg → Work → List ℕ → List ℕ → AuthenticatorState → Type 0
 FinishesWork old alg (work.Creation c) signature reply new =
-    ReplyOf (creation_reply (record { fmt = codes "packed"; auth_data = c.auth_data.items; statement = packed_statement alg signature })) reply
+    ReplyOf (creation_reply (record { fmt = codes "packed"; auth_data = c.auth_data.items; statement = packed_statement (signed_alg alg) signature })) reply
     × (new ≡ record (forgotten old)
     { credentials = kept old.credentials (creation_view c.request) ++ new_credential (creation_view c.request) alg c.words ∷ [] })
 FinishesWork old alg (work.Assertion a) signature reply new =

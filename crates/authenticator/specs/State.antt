@@ -1,6 +1,6 @@
 -- What an authenticator keeps (CTAP 2.1, sections 6.1 to 6.3 and 6.6).
 use Rattle.std.specs.Prelude.{ℕ, List, [], Bool, Option, None}
-use Rattle.cose.specs.declared.key.Alg.{Alg}
+use Rattle.cose.specs.declared.key.SigningAlg.{SigningAlg}
 use Rattle.authdata.specs.declared.statement.AttestationType.{AttestationType}
 use Rattle.authenticator.specs.declared.consent.Consent.{Consent}
 
@@ -12,7 +12,7 @@ pub record CredentialSource : Type 0 where
   pub rp_id : List ℕ
   pub user : List ℕ
   pub secret : List ℕ
-  pub alg : Alg
+  pub alg : SigningAlg
   pub resident : Bool
   pub sign_count : ℕ
 

@@ -5,7 +5,7 @@ use Rattle.sha2.specs.Sha256.{sha256}
 use Rattle.refusal_order.specs.Lines.{First, first_true}
 use Rattle.cose.specs.Keys.{alg_of}
 use Rattle.cose.specs.Schemes.{Validity}
-use Rattle.cose.specs.declared.key.Alg.{Alg}
+use Rattle.cose.specs.declared.key.SigningAlg.{SigningAlg}
 use Rattle.cose.specs.declared.key.CoseKey.{CoseKey}
 use Rattle.authdata.specs.declared.profile.Profile.TheVariants.{Strict}
 use Rattle.authdata.specs.Layout.{AuthenticatorData, AuthOf}
@@ -56,7 +56,7 @@ Unless None old out Succeeds = Succeeds
 
 -- the public key of an algorithm and a secret
 abbrev pub Keys : Type 0
-Keys = Alg → List ℕ → CoseKey
+Keys = SigningAlg → List ℕ → CoseKey
 
 -- any 1 to 128 bytes that are valid
 abbrev pub IsSignature : Validity → CoseKey → List ℕ → List ℕ → Type 0
@@ -76,7 +76,7 @@ uv_bit uv = if uv then 0x04 else 0
 -- ---- authenticatorMakeCredential (section 6.1.2)
 
 -- the request's, which stands last; its counter is 0
-abbrev pub new_credential : CreationRequest → Alg → Words → CredentialSource
+abbrev pub new_credential : CreationRequest → SigningAlg → Words → CredentialSource
 new_credential q alg words = record {
   id = words.id;
   rp_id = q.rp.id;
@@ -111,7 +111,7 @@ MakesStatement valid key client_data_hash consent types.SelfSigned r signed =
 -- a credential is made
 pub record Creates (valid : Validity) (public : Keys) (old : AuthenticatorState) (q : CreationRequest) (consent : Consent) (words : Words)
     (out : Outcome) : Type 0 where
-  pub alg : Alg
+  pub alg : SigningAlg
   pub chosen : first_supported q.pub_key_cred_params ≡ Some alg
   pub shown : Creation
   pub spelled : AuthOf Strict (creation_data old q words.id (public alg words.secret)) shown.auth_data

@@ -2,6 +2,7 @@
 
 ghost use Rattle.std.specs.Prelude.{◌≡◌, ◌+◌, ◌++◌, ◌≤◌, IfOk, false, length, true};
 ghost use Rattle.ccbor.specs.View.{view};
+ghost use Rattle.cose.specs.Keys.{encoded_length, signed_alg};
 ghost use Rattle.authdata.specs.Flags as bits;
 ghost use Rattle.authdata.specs.declared.profile.Profile.TheVariants.{Strict};
 ghost use Rattle.authdata.specs.Layout.{AuthOf};
@@ -14,7 +15,7 @@ use crate::authenticator::Authenticator;
 use authdata::flags::{AT, UP, UV};
 use authdata::{Attested, AuthData};
 use ccbor::Value;
-use cose::{Alg, CoseKey};
+use cose::{CoseKey, SigningAlg};
 use ctap_requests::MakeCredential;
 use sha2::{Digest, Sha256};
 use std::alloc::{AllocError, Global};
@@ -36,13 +37,17 @@ pub(crate) fn no_statement(alloc: Global) -> Value
 }
 
 /// The statement of packed self attestation (WebAuthn Level 2, section 8.2).
-pub(crate) fn packed(alloc: Global, alg: Alg, signature: Vec<u8>) -> Result<Value, AllocError>
-    ensures { IfOk result (λ v. view v ≡ packed_statement alg signature.items) }
+pub(crate) fn packed(
+    alloc: Global,
+    alg: SigningAlg,
+    signature: Vec<u8>,
+) -> Result<Value, AllocError>
+    ensures { IfOk result (λ v. view v ≡ packed_statement (signed_alg alg) signature.items) }
 {
     let mut members = Vec::with_capacity(alloc, 2)?;
     members.push((
         Value::Text(String::from_str(alloc, "alg")?),
-        Value::Nint(alg.argument()),
+        Value::Nint(alg.alg().argument()),
     ))?;
     members.push((
         Value::Text(String::from_str(alloc, "sig")?),
@@ -61,7 +66,8 @@ impl Authenticator {
         key: CoseKey,
         uv: bool,
     ) -> Result<Vec<u8>, AllocError>
-        requires { uv ≡ asks_verified (creation_view request.now) }
+        requires key { encoded_length key ≤ 77 }
+        requires uv { uv ≡ asks_verified (creation_view request.now) }
         ensures spelled { IfOk result (λ bytes. AuthOf Strict (creation_data self.now (creation_view request.now) id.now key) bytes.items) }
         ensures size { IfOk result (λ bytes. length bytes.items ≤ 164) }
     {

@@ -2,7 +2,7 @@
 
 ghost use Rattle.std.specs.Prelude.{◌≤◌, length};
 
-use cose::Alg;
+use cose::SigningAlg;
 
 /// A public key credential source (WebAuthn Level 2, section 4).
 #[derive(Drop)]
@@ -16,7 +16,7 @@ pub(crate) struct StoredCredential {
     /// The secret of its key.
     pub secret: [u8; 32],
     /// The key's algorithm.
-    pub alg: Alg,
+    pub alg: SigningAlg,
     /// Whether it is resident (discoverable).
     pub resident: bool,
     /// The signature counter: that of its last assertion, or 0.

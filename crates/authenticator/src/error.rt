@@ -19,8 +19,8 @@ pub enum LoadError {
 
 impl LoadError {
     /// The number of the refusal; none for want of memory.
-    pub fn number(self) -> Option<u8>
-        ensures { result ≡ refusal_number self }
+    pub fn number(&self) -> Option<u8>
+        ensures { result ≡ refusal_number self.now }
     {
         match self {
             LoadError::BadAuthenticator => Some(30),

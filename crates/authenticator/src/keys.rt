@@ -1,24 +1,24 @@
 //! The public keys of new credentials.
 
 ghost use Rattle.std.specs.Prelude.{◌≡◌, ℕ, List};
-ghost use Rattle.cose.specs.Keys.{alg_of};
-ghost use Rattle.cose.specs.declared.key.Alg.{Alg};
+ghost use Rattle.cose.specs.Keys.{alg_of, signed_alg};
+ghost use Rattle.cose.specs.declared.key.SigningAlg.{SigningAlg};
 ghost use Rattle.cose.specs.declared.key.CoseKey.{CoseKey};
 
-use cose::{Alg, CoseKey, Signer};
+use cose::{CoseKey, Signer, SigningAlg};
 
 /// Tells the public key of a new credential's secret.
 pub trait PublicKeys {
     /// The public key of a secret.
-    ghost public_of: { Self → Alg → List ℕ → CoseKey };
+    ghost public_of: { Self → SigningAlg → List ℕ → CoseKey };
 
     /// The public key of a secret, which has this algorithm. It takes no memory.
-    fn public(&self, alg: Alg, secret: &[u8; 32]) -> CoseKey
+    fn public(&self, alg: SigningAlg, secret: &[u8; 32]) -> CoseKey
         ensures { result ≡ public_of self.now alg secret.now };
 
     /// The public key has the algorithm.
-    ghost keeps_alg: { (s : Self) (alg : Alg) (secret : List ℕ)
-        → alg_of (public_of s alg secret) ≡ alg };
+    ghost keeps_alg: { (s : Self) (alg : SigningAlg) (secret : List ℕ)
+        → alg_of (public_of s alg secret) ≡ signed_alg alg };
 }
 
 /// The public keys of a scheme.
@@ -29,7 +29,7 @@ pub(crate) struct SchemeKeys<'a, S> {
 impl<S: Signer> PublicKeys for SchemeKeys<'_, S> {
     ghost public_of = { λ k alg secret. S.public_of k.scheme.now alg secret };
 
-    fn public(&self, alg: Alg, secret: &[u8; 32]) -> CoseKey {
+    fn public(&self, alg: SigningAlg, secret: &[u8; 32]) -> CoseKey {
         self.scheme.public(alg, secret)
     }
 
@@ -53,13 +53,13 @@ impl PublicKeys for HandedKeys {
 
     ghost public_of = { λ k alg secret. handed_key k alg };
 
-    fn public(&self, alg: Alg, _secret: &[u8; 32]) -> CoseKey {
+    fn public(&self, alg: SigningAlg, _secret: &[u8; 32]) -> CoseKey {
         match alg {
-            Alg::Es256 => CoseKey::Es256 {
+            SigningAlg::Es256 => CoseKey::Es256 {
                 x: self.es256_x,
                 y: self.es256_y,
             },
-            Alg::EdDsa => CoseKey::EdDsa { x: self.eddsa_x },
+            SigningAlg::EdDsa => CoseKey::EdDsa { x: self.eddsa_x },
         }
     }
 

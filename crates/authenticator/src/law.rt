@@ -13,7 +13,7 @@ use cose::Verifier;
 ///   a counter of at least 1, with UP set only if presence was given to its request, and UV only if verification
 ///   was; so also of a getNextAssertion, for the consent given to the getAssertion that it goes on with;
 /// - a stored credential's counter never falls, and an assertion's is one above what it was;
-/// - each id stands once;
+/// - at most 256 credentials are stored, and each id stands once;
 /// - what is remembered has flags that follow its consent, and names resident credentials;
 /// - a key that is made is that of a stored credential.
 ///

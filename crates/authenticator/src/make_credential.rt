@@ -3,6 +3,7 @@
 ghost use Rattle.std.specs.Prelude.{◌≡◌, ◌<◌, ◌≤◌, ◌++◌, ◌∷◌, ◌||◌, [], IfOk, IfSome, OnErr, OnOk, ℤ, codes, length, map, nat_le, option_map};
 ghost use Rattle.ctap_requests.specs.RequestView.{creation_view, parameters_view};
 ghost use Rattle.ctap_replies.specs.Replies.{ReplyOf, creation_reply};
+ghost use Rattle.cose.specs.Keys.{signed_alg};
 ghost use Rattle.authdata.specs.Statements.{none_statement, packed_statement};
 ghost use Rattle.authenticator.specs.Orders.{creation_flags, first_supported, is_false, is_true, kept, supported, supported_by};
 ghost use Rattle.authenticator.specs.Private.{CreationBegins, IsChoice, IsUser, Overwrites, asks_resident, without};
@@ -21,7 +22,7 @@ use crate::options::{creation_options, is_denied, is_false, is_true, is_unmet};
 use crate::pending::{Begun, Pending, PendingCreation, Work};
 use crate::reply::written;
 use authdata::AttestationType;
-use cose::Alg;
+use cose::SigningAlg;
 use ctap_replies::{CreationReply, Reply};
 use ctap_requests::{MakeCredential, Parameters, RelyingParty, User};
 use ctap_status::status::{
@@ -34,20 +35,20 @@ use std::alloc::AllocError;
 pub const MAX_CREDENTIALS: usize = 256;
 
 /// The algorithm of a COSE number, where it is supported (RFC 9053 section 2).
-fn supported(number: i128) -> Option<Alg>
+fn supported(number: i128) -> Option<SigningAlg>
     ensures { result ≡ supported number }
 {
     if number == -7 {
-        Some(Alg::Es256)
+        Some(SigningAlg::Es256)
     } else if number == -8 {
-        Some(Alg::EdDsa)
+        Some(SigningAlg::EdDsa)
     } else {
         None
     }
 }
 
 /// The algorithm that the parameters ask for, where it is supported.
-fn supported_by(parameters: &Parameters) -> Option<Alg>
+fn supported_by(parameters: &Parameters) -> Option<SigningAlg>
     ensures { result ≡ supported_by (parameters_view parameters.now) }
 {
     if is_public_key(parameters.kind.as_str()) {
@@ -58,7 +59,7 @@ fn supported_by(parameters: &Parameters) -> Option<Alg>
 }
 
 /// The first algorithm that is supported.
-fn first_supported(list: &[Parameters]) -> Option<Alg>
+fn first_supported(list: &[Parameters]) -> Option<SigningAlg>
     ensures { result ≡ first_supported (map parameters_view list.now) }
 {
     for parameters in list {
@@ -73,7 +74,7 @@ fn first_supported(list: &[Parameters]) -> Option<Alg>
 #[derive(Clone, Copy, Drop)]
 pub(crate) struct Choice {
     /// The algorithm of the new credential.
-    pub alg: Alg,
+    pub alg: SigningAlg,
     /// Whether the user is verified.
     pub uv: bool,
     /// Whether the new credential is to be resident.
@@ -269,7 +270,7 @@ impl Authenticator {
     /// Makes a credential, with the signature of its attestation.
     pub(crate) fn finish_creation(
         &mut self,
-        alg: Alg,
+        alg: SigningAlg,
         pending: PendingCreation,
         signature: &[u8],
     ) -> Result<Vec<u8>, AllocError>
@@ -278,7 +279,7 @@ impl Authenticator {
         ensures reply { IfOk result (λ reply. ReplyOf (creation_reply (record {
           fmt = codes "packed";
           auth_data = pending.auth_data.items;
-          statement = packed_statement alg signature.now;
+          statement = packed_statement (signed_alg alg) signature.now;
         })) reply.items) }
         ensures ok { OnOk result (self.new ≡ record (forgotten self.old)
             { credentials = kept self.old.credentials (creation_view pending.request) ++ new_credential (creation_view pending.request) alg pending.words ∷ [] }) }

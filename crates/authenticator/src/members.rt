@@ -3,7 +3,7 @@
 ghost use Rattle.std.specs.Prelude.{◌≤◌, length};
 
 use ccbor::ArrayView;
-use cose::Alg;
+use cose::SigningAlg;
 
 /// A credential that was saved, where it lies.
 #[derive(Drop)]
@@ -12,7 +12,7 @@ pub(crate) struct SourceView<'a> {
     pub rp_id: &'a str,
     pub user: &'a [u8],
     pub secret: [u8; 32],
-    pub alg: Alg,
+    pub alg: SigningAlg,
     pub resident: bool,
     pub sign_count: u32,
     ghost user_low: { 1 ≤ length user.now },

@@ -4,7 +4,7 @@ ghost use Rattle.std.specs.Prelude.{◌≡◌, ◌≤◌, length};
 
 use crate::consent::Words;
 use crate::remembered::{AskedAssertion, Candidates};
-use cose::Alg;
+use cose::SigningAlg;
 use ctap_requests::MakeCredential;
 
 /// A makeCredential, whose credential is stored once its attestation is signed.
@@ -51,7 +51,7 @@ pub(crate) enum Work {
 /// then the request has not been.
 #[derive(Drop)]
 pub struct Pending {
-    pub(crate) alg: Alg,
+    pub(crate) alg: SigningAlg,
     pub(crate) secret: [u8; 32],
     pub(crate) work: Work,
 }

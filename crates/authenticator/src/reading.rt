@@ -6,7 +6,7 @@ ghost use Rattle.authenticator.specs.Private.{alg_in, counter_in, members_in, me
 
 use crate::members::{SavedMembers, SourceView};
 use ccbor::{MapKey, View};
-use cose::Alg;
+use cose::SigningAlg;
 
 /// The version of what is saved.
 pub(crate) const VERSION: u64 = 1;
@@ -37,12 +37,12 @@ fn user<'a>(value: &View<'a>) -> Option<&'a [u8]>
 }
 
 /// The algorithm of a COSE number (RFC 9053 section 2).
-fn alg(value: &View<'_>) -> Option<Alg>
+fn alg(value: &View<'_>) -> Option<SigningAlg>
     ensures { result ≡ alg_in (shown value.now) }
 {
     match value.as_nint()? {
-        6 => Some(Alg::Es256),
-        7 => Some(Alg::EdDsa),
+        6 => Some(SigningAlg::Es256),
+        7 => Some(SigningAlg::EdDsa),
         _ => None,
     }
 }

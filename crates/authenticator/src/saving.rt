@@ -36,7 +36,7 @@ fn source_value(alloc: Global, credential: &StoredCredential) -> Result<Value, A
     let rp_id = text_value(alloc, &credential.rp_id)?;
     let user = bytes_value(alloc, &credential.user)?;
     let secret = bytes_value(alloc, &credential.secret)?;
-    let alg = Value::Nint(credential.alg.argument());
+    let alg = Value::Nint(credential.alg.alg().argument());
     let resident = Value::Bool(credential.resident);
     let sign_count = Value::Uint(u64::from(credential.sign_count));
     let mut pairs = Vec::new(alloc);

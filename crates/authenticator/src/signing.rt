@@ -6,7 +6,7 @@ ghost use Rattle.authenticator.specs.Signing.{auth_data_of, hash_of, message_of}
 ghost use Rattle.authenticator.specs.Steps.{IsSignature};
 
 use crate::pending::{Pending, Work};
-use cose::{Alg, Signer};
+use cose::{Signer, SigningAlg};
 use std::alloc::{AllocError, Global};
 
 /// The most bytes of a signature.
@@ -36,7 +36,7 @@ fn client_data_hash(work: &Work) -> &[u8]
 
 impl Pending {
     /// The algorithm of the signature.
-    pub fn alg(&self) -> Alg
+    pub fn alg(&self) -> SigningAlg
         ensures { result ≡ self.now.alg }
     {
         self.alg

@@ -117,6 +117,7 @@ impl Live {
             → OnOk result (IsAfter site.old session client_data.now self.now.cid ps site.new) }
         ensures unchanged { OnErr result (site.new ≡ site.old) }
     {
+        // A match, since `?` would hide that the refusal is the callee's.
         let message = match self.message() {
             Ok(message) => message,
             Err(error) => return Err(error),

@@ -16,8 +16,8 @@ pub fn challenge_text(alloc: Global, bytes: &[u8]) -> Result<String, AllocError>
     URL_SAFE_NO_PAD.encode(alloc, bytes)
 }
 
-/// The same text of 32 bytes, without memory.
-pub(crate) fn challenge_bytes(challenge: &[u8; 32]) -> [u8; 43]
+/// The same text of a challenge of 32 bytes: 43 characters. It takes no memory.
+pub fn challenge_characters(challenge: &[u8; 32]) -> [u8; 43]
     ensures text { result ≡ challenge_text_of challenge.now }
     ensures plain { ArePlain result }
 {
@@ -30,5 +30,5 @@ pub(crate) fn challenge_bytes(challenge: &[u8; 32]) -> [u8; 43]
 pub fn is_challenge_text(text: &str, challenge: &[u8; 32]) -> bool
     ensures { IsTrue result ↔ (text.now ≡ challenge_text_of challenge.now) }
 {
-    text.as_bytes() == challenge_bytes(challenge).as_slice()
+    text.as_bytes() == challenge_characters(challenge).as_slice()
 }

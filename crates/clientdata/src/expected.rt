@@ -4,7 +4,7 @@ ghost use Rattle.std.specs.Prelude.{◌≡◌, ◌≢◌, ◌↔◌, ◌++◌, �
 ghost use Rattle.clientdata.specs.Expected.{IsBehindChallenge, before_challenge, behind_challenge};
 ghost use Rattle.clientdata.specs.Serialised.{client_data_text};
 
-use crate::challenge::challenge_bytes;
+use crate::challenge::challenge_characters;
 use crate::quoting::push_quoted;
 use crate::record::CeremonyType;
 use std::alloc::{AllocError, Global};
@@ -98,7 +98,7 @@ fn behind_challenge<'a>(
         (λ rest. (origin : List ℕ) (cross : Bool)
         → (bytes.now ≡ client_data_text kind challenge.now origin cross) ↔ IsBehindChallenge origin cross rest.now) }
 {
-    let challenge = challenge_bytes(challenge);
+    let challenge = challenge_characters(challenge);
     let rest = behind(bytes, before_challenge(kind))?;
     behind(rest, &challenge)
 }

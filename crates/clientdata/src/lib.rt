@@ -13,7 +13,7 @@ mod seen;
 mod serialising;
 mod text;
 
-pub use challenge::{challenge_text, is_challenge_text};
+pub use challenge::{challenge_characters, challenge_text, is_challenge_text};
 pub use digest::hash;
 pub use error::Error;
 pub use expected::{ExpectedOrigin, is_serialised, is_serialised_for_any};

@@ -1,3 +1,4 @@
+pub mod Rsa
 pub mod Keys
 pub mod Reading
 pub mod Schemes

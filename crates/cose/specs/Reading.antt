@@ -6,6 +6,7 @@ use Rattle.ccbor.specs.Reading.{◌>>=◌}
 use Rattle.ccbor.specs.View.{pairs_view}
 use Rattle.ccbor.specs.Viewing.{shown_pairs}
 use Rattle.ccbor.specs.Access.{split_key, is_same_key, is_end, bytes_in}
+use Rattle.cose.specs.Rsa.{RsaPublicKey}
 use Rattle.cose.specs.declared.key.CoseKey.{CoseKey}
 use Rattle.cose.specs.declared.key.CoseKey.TheVariants as keys
 use Rattle.cose.specs.declared.reading.Members.{Members}
@@ -21,11 +22,16 @@ constant_at k v ps = do
   m ← split_key k ps
   if is_same_key m.0 v then Some m.1 else None
 
-unfoldable pub coordinate_at : Item → Pairs → Option (List ℕ × Pairs)
-coordinate_at k ps = do
+unfoldable pub bytes_at : Item → Pairs → Option (List ℕ × Pairs)
+bytes_at k ps = do
   m ← split_key k ps
   bs ← bytes_in m.0
-  if length bs == 32 then Some (bs, m.1) else None
+  Some (bs, m.1)
+
+unfoldable pub coordinate_at : Item → Pairs → Option (List ℕ × Pairs)
+coordinate_at k ps = do
+  m ← bytes_at k ps
+  if length m.0 == 32 then Some (m.0, m.1) else None
 
 unfoldable pub es256_at : Pairs → Option CoseKey
 es256_at ps = do
@@ -43,3 +49,12 @@ eddsa_at ps = do
   ps ← constant_at (nint 0) (uint 6) ps
   x ← coordinate_at (nint 1) ps
   if is_end x.1 then Some (keys.EdDsa x.0) else None
+
+-- the modulus and the exponent as they are
+unfoldable pub rsa_at : Pairs → Option RsaPublicKey
+rsa_at ps = do
+  ps ← constant_at (uint 1) (uint 3) ps
+  ps ← constant_at (uint 3) (nint 256) ps
+  n ← bytes_at (nint 0) ps
+  e ← bytes_at (nint 1) n.1
+  if is_end e.1 then Some (record { n = n.0; e = e.0 }) else None

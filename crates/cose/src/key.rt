@@ -1,34 +1,59 @@
 //! Public keys, and the CBOR value of each.
 
-ghost use Rattle.std.specs.Prelude.{◌≡◌, IfOk, IsErr};
+ghost use Rattle.std.specs.Prelude.{◌≡◌, ◌↔◌, IfOk, IsErr, IsTrue};
 ghost use Rattle.ccbor.specs.Item.{map};
 ghost use Rattle.ccbor.specs.View.{view};
 ghost use Rattle.ccbor.specs.Viewing.{shown};
-ghost use Rattle.cose.specs.Keys.{alg_of, argument_of, number_of, x_of, KeyOf};
+ghost use Rattle.cose.specs.Keys.{alg_of, argument_of, lent_key_view, number_of, signed_alg, x_of, KeyOf};
 ghost use Rattle.cose.specs.Reading.{members_view};
 
-use crate::reading::{Members, eddsa, es256};
+use crate::reading::{Members, eddsa, es256, rs256};
+use crate::rsa::{RsaKey, RsaView};
 use ccbor::{Value, View};
 use std::alloc::{AllocError, Global};
 use thiserror::Error;
 
-/// A signature algorithm of RFC 9053 section 2.
+/// A signature algorithm of COSE.
 #[derive(Clone, Copy, Debug, PartialEq, Eq, Drop)]
 pub enum Alg {
     /// ECDSA with SHA-256, here over the curve P-256: number -7 (RFC 9053 section 2.1).
     Es256,
     /// EdDSA, here over Ed25519: number -8 (RFC 9053 section 2.2).
     EdDsa,
+    /// RSASSA-PKCS1-v1_5 with SHA-256: number -257 (RFC 8812 section 2).
+    Rs256,
 }
 
-/// A public key of one of these algorithms, by its coordinates of 32 bytes each. No test is made
-/// that the point lies on its curve.
+/// An algorithm that a `Signer` signs by.
 #[derive(Clone, Copy, Debug, PartialEq, Eq, Drop)]
+pub enum SigningAlg {
+    /// As `Alg::Es256`.
+    Es256,
+    /// As `Alg::EdDsa`.
+    EdDsa,
+}
+
+/// A public key of one of these algorithms: by its coordinates of 32 bytes each, or an RSA key. No test is made
+/// that a point lies on its curve, or that a modulus is a product of two primes.
+#[derive(Debug, Drop)]
 pub enum CoseKey {
     /// A point of P-256, both coordinates big-endian (RFC 9053 section 7.1.1).
     Es256 { x: [u8; 32], y: [u8; 32] },
     /// A public key of Ed25519 (RFC 9053 section 7.2).
     EdDsa { x: [u8; 32] },
+    /// A public key of RSA (RFC 8230 section 4).
+    Rs256(RsaKey),
+}
+
+/// A public key, lent: as `CoseKey`.
+#[derive(Clone, Copy, Debug, Drop)]
+pub enum KeyView<'a> {
+    /// A point of P-256.
+    Es256 { x: [u8; 32], y: [u8; 32] },
+    /// A public key of Ed25519.
+    EdDsa { x: [u8; 32] },
+    /// A public key of RSA.
+    Rs256(RsaView<'a>),
 }
 
 /// The value is that of no key.
@@ -46,80 +71,128 @@ impl NotAKey {
 }
 
 impl Alg {
-    /// The number by which COSE names the algorithm: -7 or -8.
+    /// The number by which COSE names the algorithm: -7, -8 or -257.
     pub fn number(self) -> i64
         ensures { result ≡ number_of self }
     {
         match self {
             Alg::Es256 => -7,
             Alg::EdDsa => -8,
+            Alg::Rs256 => -257,
         }
     }
 
-    /// The argument n of the number -1 - n as CBOR writes it (RFC 8949 section 3.1): 6 or 7.
+    /// The argument n of the number -1 - n as CBOR writes it (RFC 8949 section 3.1): 6, 7 or 256.
     pub fn argument(self) -> u64
         ensures { result ≡ argument_of self }
     {
         match self {
             Alg::Es256 => 6,
             Alg::EdDsa => 7,
+            Alg::Rs256 => 256,
+        }
+    }
+}
+
+impl SigningAlg {
+    /// The algorithm by which its signatures are valid.
+    pub fn alg(self) -> Alg
+        ensures { result ≡ signed_alg self }
+    {
+        match self {
+            SigningAlg::Es256 => Alg::Es256,
+            SigningAlg::EdDsa => Alg::EdDsa,
         }
     }
 }
 
 /// The key that has these members.
-fn key_of(members: &Members<'_>) -> Result<CoseKey, NotAKey>
-    ensures found { IfOk result (λ k. KeyOf k (map (members_view members.now))) }
+fn key_of<'a>(members: &Members<'a>) -> Result<KeyView<'a>, NotAKey>
+    ensures found { IfOk result (λ k. KeyOf (lent_key_view k) (map (members_view members.now))) }
     ensures none { IsErr result → (k : CoseKey) → KeyOf k (map (members_view members.now)) → ⊥ }
 {
     if let Some(key) = es256(members) {
         return Ok(key);
     }
-    match eddsa(members) {
-        Some(key) => Ok(key),
+    if let Some(key) = eddsa(members) {
+        return Ok(key);
+    }
+    match rs256(members) {
+        Some(key) => Ok(KeyView::Rs256(key)),
         None => Err(NotAKey),
     }
 }
 
-impl CoseKey {
+impl<'a> KeyView<'a> {
     /// The key's algorithm.
     pub fn alg(&self) -> Alg
-        ensures { result ≡ alg_of self.now }
+        ensures { result ≡ alg_of (lent_key_view self.now) }
     {
         match self {
-            CoseKey::Es256 { x: _, y: _ } => Alg::Es256,
-            CoseKey::EdDsa { x: _ } => Alg::EdDsa,
+            KeyView::Es256 { x: _, y: _ } => Alg::Es256,
+            KeyView::EdDsa { x: _ } => Alg::EdDsa,
+            KeyView::Rs256(_) => Alg::Rs256,
         }
     }
 
-    /// The key's x.
-    pub(crate) fn x(&self) -> &[u8; 32]
-        ensures { result.now ≡ x_of self.now }
+    /// The key's x; of an RSA key its modulus.
+    pub(crate) fn x(&self) -> &[u8]
+        ensures { result.now ≡ x_of (lent_key_view self.now) }
     {
         match self {
-            CoseKey::Es256 { x, y: _ } => x,
-            CoseKey::EdDsa { x } => x,
+            KeyView::Es256 { x, y: _ } => x,
+            KeyView::EdDsa { x } => x,
+            KeyView::Rs256(key) => key.n,
         }
     }
 
-    /// The key's value: a map of five members for ES256, of four for EdDSA (RFC 9052 section 7.1).
+    /// Whether both are the same key.
+    pub fn is_same(&self, other: &KeyView<'_>) -> bool
+        ensures { IsTrue result ↔ (lent_key_view self.now ≡ lent_key_view other.now) }
+    {
+        match (self, other) {
+            (KeyView::Es256 { x, y }, KeyView::Es256 { x: u, y: v }) => x == u && y == v,
+            (KeyView::EdDsa { x }, KeyView::EdDsa { x: u }) => x == u,
+            (KeyView::Rs256(key), KeyView::Rs256(other)) => key.n == other.n && key.e == other.e,
+            _ => false,
+        }
+    }
+
+    /// The key, copied out. Memory is taken for an RSA key alone.
+    pub fn to_key(&self, alloc: Global) -> Result<CoseKey, AllocError>
+        ensures { IfOk result (λ k. k ≡ lent_key_view self.now) }
+    {
+        Ok(match self {
+            KeyView::Es256 { x, y } => CoseKey::Es256 { x: *x, y: *y },
+            KeyView::EdDsa { x } => CoseKey::EdDsa { x: *x },
+            KeyView::Rs256(key) => CoseKey::Rs256(key.to_key(alloc)?),
+        })
+    }
+
+    /// The key's value: a map of five members for ES256, of four for the others (RFC 9052 section 7.1).
     pub fn to_value(&self, alloc: Global) -> Result<Value, AllocError>
-        ensures { IfOk result (λ v. KeyOf self.now (view v)) }
+        ensures { IfOk result (λ v. KeyOf (lent_key_view self.now) (view v)) }
     {
         let mut pairs = Vec::new(alloc);
         match self {
-            CoseKey::Es256 { x, y } => {
+            KeyView::Es256 { x, y } => {
                 pairs.push((Value::Uint(1), Value::Uint(2)))?;
                 pairs.push((Value::Uint(3), Value::Nint(6)))?;
                 pairs.push((Value::Nint(0), Value::Uint(1)))?;
                 pairs.push((Value::Nint(1), Value::Bytes(Vec::from_slice(alloc, x)?)))?;
                 pairs.push((Value::Nint(2), Value::Bytes(Vec::from_slice(alloc, y)?)))?;
             }
-            CoseKey::EdDsa { x } => {
+            KeyView::EdDsa { x } => {
                 pairs.push((Value::Uint(1), Value::Uint(1)))?;
                 pairs.push((Value::Uint(3), Value::Nint(7)))?;
                 pairs.push((Value::Nint(0), Value::Uint(6)))?;
                 pairs.push((Value::Nint(1), Value::Bytes(Vec::from_slice(alloc, x)?)))?;
+            }
+            KeyView::Rs256(key) => {
+                pairs.push((Value::Uint(1), Value::Uint(3)))?;
+                pairs.push((Value::Uint(3), Value::Nint(256)))?;
+                pairs.push((Value::Nint(0), Value::Bytes(Vec::from_slice(alloc, key.n)?)))?;
+                pairs.push((Value::Nint(1), Value::Bytes(Vec::from_slice(alloc, key.e)?)))?;
             }
         }
         Ok(Value::Map(pairs))
@@ -128,8 +201,8 @@ impl CoseKey {
     /// The key that has this value. It takes no memory, and answers `NotAKey` exactly if no key
     /// has it: where a member is missing, comes twice or in another order, is of another kind or
     /// length, or where there is one more.
-    pub fn from_value(value: &Value) -> Result<CoseKey, NotAKey>
-        ensures found { IfOk result (λ k. KeyOf k (view value.now)) }
+    pub fn from_value(value: &'a Value) -> Result<KeyView<'a>, NotAKey>
+        ensures found { IfOk result (λ k. KeyOf (lent_key_view k) (view value.now)) }
         // It is refused only if no key has it.
         ensures none { IsErr result → (k : CoseKey) → KeyOf k (view value.now) → ⊥ }
     {
@@ -140,8 +213,8 @@ impl CoseKey {
     }
 
     /// The key that has this value, read where its encoding lies: as `from_value`.
-    pub fn from_view(value: &View<'_>) -> Result<CoseKey, NotAKey>
-        ensures found { IfOk result (λ k. KeyOf k (shown value.now)) }
+    pub fn from_view(value: &View<'a>) -> Result<KeyView<'a>, NotAKey>
+        ensures found { IfOk result (λ k. KeyOf (lent_key_view k) (shown value.now)) }
         // It is refused only if no key has it.
         ensures none { IsErr result → (k : CoseKey) → KeyOf k (shown value.now) → ⊥ }
     {
@@ -149,5 +222,29 @@ impl CoseKey {
             return Err(NotAKey);
         };
         key_of(&Members::Lent(pairs))
+    }
+}
+
+impl CoseKey {
+    /// The key, lent. It takes no memory.
+    pub fn view(&self) -> KeyView<'_>
+        ensures { lent_key_view result ≡ self.now }
+    {
+        match self {
+            CoseKey::Es256 { x, y } => KeyView::Es256 { x: *x, y: *y },
+            CoseKey::EdDsa { x } => KeyView::EdDsa { x: *x },
+            CoseKey::Rs256(key) => KeyView::Rs256(key.view()),
+        }
+    }
+
+    /// The key's algorithm.
+    pub fn alg(&self) -> Alg
+        ensures { result ≡ alg_of self.now }
+    {
+        match self {
+            CoseKey::Es256 { x: _, y: _ } => Alg::Es256,
+            CoseKey::EdDsa { x: _ } => Alg::EdDsa,
+            CoseKey::Rs256(_) => Alg::Rs256,
+        }
     }
 }

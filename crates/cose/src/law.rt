@@ -12,7 +12,8 @@ pub fn one_key_each()
     ensures one_value { (k : CoseKey) (v w : Item) → KeyOf k v → KeyOf k w → v ≡ w }
 {}
 
-/// Each key has an encoding in canonical CBOR: 77 bytes for ES256, 42 for EdDSA.
+/// Each key has an encoding in canonical CBOR: 77 bytes for ES256, 42 for EdDSA, and for RS256 13 more
+/// than its modulus and its exponent have.
 pub fn sizes_of_keys()
     ensures encoded { (k : CoseKey) → IsKey k → Canon (item_of k) (spelling (item_of k)) }
     ensures sizes { (k : CoseKey) → IsKey k → length (spelling (item_of k)) ≡ encoded_length k }

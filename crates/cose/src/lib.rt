@@ -1,4 +1,4 @@
-//! COSE keys (RFC 9052 section 7, RFC 9053 section 7) and the signature schemes that work with
+//! COSE keys (RFC 9052 section 7, RFC 9053 section 7, RFC 8230 section 4) and the signature schemes that work with
 //! them.
 #![tactic(auto)]
 
@@ -7,10 +7,12 @@ mod key;
 mod law;
 mod list;
 mod reading;
+mod rsa;
 mod scheme;
 
 pub use bench::BenchScheme;
-pub use key::{Alg, CoseKey, NotAKey};
+pub use key::{Alg, CoseKey, KeyView, NotAKey, SigningAlg};
 pub use law::{one_key_each, sizes_of_keys};
 pub use list::{ListScheme, is_joined};
+pub use rsa::{RsaKey, RsaView, is_exponent, is_modulus};
 pub use scheme::{Signer, Verifier};

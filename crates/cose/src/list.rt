@@ -1,9 +1,10 @@
 //! A verifier of listed signatures.
 
 ghost use Rattle.std.specs.Prelude.{◌≡◌, ◌↔◌, ◌++◌, ◌∷◌, [], Contains, IsTrue, OnOk, OnErr};
+ghost use Rattle.cose.specs.Keys.{lent_key_view};
 ghost use Rattle.cose.specs.Listed.{entry_triple};
 
-use crate::key::CoseKey;
+use crate::key::{CoseKey, KeyView};
 use crate::scheme::Verifier;
 use std::alloc::{AllocError, Global};
 use std::marker::Model;
@@ -68,11 +69,11 @@ pub fn is_joined(text: &[u8], first: &[u8], second: &[u8]) -> bool
 }
 
 /// Whether the entry is of this key, message and signature.
-fn is_entry(entry: &Entry, key: &CoseKey, first: &[u8], second: &[u8], sig: &[u8]) -> bool
+fn is_entry(entry: &Entry, key: &KeyView<'_>, first: &[u8], second: &[u8], sig: &[u8]) -> bool
     ensures { IsTrue result
-        ↔ (entry_triple entry.now ≡ (key.now, first.now ++ second.now, sig.now)) }
+        ↔ (entry_triple entry.now ≡ (lent_key_view key.now, first.now ++ second.now, sig.now)) }
 {
-    entry.key == *key
+    entry.key.view().is_same(key)
         && is_joined(entry.message.as_slice(), first, second)
         && entry.sig.as_slice() == sig
 }
@@ -80,7 +81,7 @@ fn is_entry(entry: &Entry, key: &CoseKey, first: &[u8], second: &[u8], sig: &[u8
 impl Verifier for ListScheme {
     ghost valid = { λ s key message sig. Contains s (key, message, sig) };
 
-    fn verify(&self, key: &CoseKey, parts: [&[u8]; 2], sig: &[u8]) -> bool {
+    fn verify(&self, key: &KeyView<'_>, parts: [&[u8]; 2], sig: &[u8]) -> bool {
         let [first, second] = parts;
         for entry in &self.entries {
             if is_entry(entry, key, first, second, sig) {

@@ -1,12 +1,12 @@
 //! Signature schemes: what a relying party verifies with, and an authenticator signs with.
 
 ghost use Rattle.std.specs.Prelude.{◌≡◌, ◌↔◌, ℕ, List, IsTrue, OnOk, OnErr};
-ghost use Rattle.cose.specs.Keys.{alg_of};
+ghost use Rattle.cose.specs.Keys.{alg_of, lent_key_view, signed_alg};
 ghost use Rattle.cose.specs.Schemes.{joined, AppendsSignature};
-ghost use Rattle.cose.specs.declared.key.Alg.{Alg};
+ghost use Rattle.cose.specs.declared.key.SigningAlg.{SigningAlg};
 ghost use Rattle.cose.specs.declared.key.CoseKey.{CoseKey};
 
-use crate::key::{Alg, CoseKey};
+use crate::key::{CoseKey, KeyView, SigningAlg};
 use std::alloc::AllocError;
 
 /// Tells which signatures are valid (RFC 9052 section 4.4, WebAuthn section 7.2). The mathematics
@@ -17,17 +17,17 @@ pub trait Verifier {
 
     /// Whether the signature is valid under the key for the message that the two parts are when the
     /// second is written behind the first. It takes no memory.
-    fn verify(&self, key: &CoseKey, parts: [&[u8]; 2], sig: &[u8]) -> bool
-        ensures { IsTrue result ↔ valid self.now key.now (joined parts.entry) sig.now };
+    fn verify(&self, key: &KeyView<'_>, parts: [&[u8]; 2], sig: &[u8]) -> bool
+        ensures { IsTrue result ↔ valid self.now (lent_key_view key.now) (joined parts.entry) sig.now };
 }
 
-/// Signs, with secrets of 32 bytes.
+/// Signs, with secrets of 32 bytes, by the algorithms of `SigningAlg`.
 pub trait Signer: Verifier {
     /// The public key of a secret.
-    ghost public_of: { Self → Alg → List ℕ → CoseKey };
+    ghost public_of: { Self → SigningAlg → List ℕ → CoseKey };
 
     /// The public key of a secret, which has this algorithm. It takes no memory.
-    fn public(&self, alg: Alg, secret: &[u8; 32]) -> CoseKey
+    fn public(&self, alg: SigningAlg, secret: &[u8; 32]) -> CoseKey
         ensures { result ≡ public_of self.now alg secret.now };
 
     /// Appends a signature, of 1 to 128 bytes, of the message that the two parts are when the
@@ -35,7 +35,7 @@ pub trait Signer: Verifier {
     /// and secret. Where memory is wanting, nothing is appended.
     fn sign(
         &self,
-        alg: Alg,
+        alg: SigningAlg,
         secret: &[u8; 32],
         parts: [&[u8]; 2],
         out: &mut Vec<u8>,
@@ -46,6 +46,6 @@ pub trait Signer: Verifier {
         ensures err { OnErr result (out.new.items ≡ out.old.items) };
 
     /// The public key has the algorithm.
-    ghost keeps_alg: { (s : Self) (alg : Alg) (secret : List ℕ)
-        → alg_of (public_of s alg secret) ≡ alg };
+    ghost keeps_alg: { (s : Self) (alg : SigningAlg) (secret : List ℕ)
+        → alg_of (public_of s alg secret) ≡ signed_alg alg };
 }

@@ -89,7 +89,7 @@ fn shown<'a>(id: &'a Vec<u8>, kept: &'a StoredRow) -> RowView<'a>
     RowView {
         id,
         user: &kept.user,
-        key: &kept.key,
+        key: kept.key.view(),
         sign_count: kept.sign_count,
         eligible: kept.eligible,
         retired: kept.retired,

@@ -73,6 +73,7 @@ fn creation_request(alloc: Global, rest: &[u8]) -> Result<MakeCredential, Error>
     ensures found { IfOk result (λ q. IsRequest (make_credential (creation_view q)) (1 ∷ rest.now)) }
     ensures refused { IfErr result (λ e. Refused (1 ∷ rest.now) e) }
 {
+    // A match, since `?` would hide that the refusal is the callee's.
     let value = match whole(rest) {
         Ok(value) => value,
         Err(e) => return Err(e),
@@ -89,6 +90,7 @@ fn assertion_request<'a>(alloc: Global, rest: &'a [u8]) -> Result<GetAssertionVi
     ensures found { IfOk result (λ q. IsRequest (get_assertion (lent_get_assertion_view q)) (2 ∷ rest.now)) }
     ensures refused { IfErr result (λ e. Refused (2 ∷ rest.now) e) }
 {
+    // A match, since `?` would hide that the refusal is the callee's.
     let value = match whole(rest) {
         Ok(value) => value,
         Err(e) => return Err(e),

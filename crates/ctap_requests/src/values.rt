@@ -131,6 +131,7 @@ pub fn parameter_list_value(alloc: Global, list: &[Parameters]) -> Result<Value,
 {
     let mut items = Vec::new(alloc);
     for parameters in list {
+        // A match, since `?` would hide that the refusal is the callee's.
         match parameters_value(alloc, parameters) {
             Ok(value) => items.push(value)?,
             Err(e) => return Err(e),

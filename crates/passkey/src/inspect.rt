@@ -114,6 +114,7 @@ fn write_attested(alloc: Global, attested: &Attested, out: &mut String) -> Resul
     let key = match attested.key.alg() {
         Alg::Es256 => "ES256",
         Alg::EdDsa => "EdDSA",
+        Alg::Rs256 => "RS256",
     };
     write!(out, "aaguid {aaguid}\nid {id}\nkey {key}\n")
 }

@@ -4,7 +4,7 @@ ghost use Rattle.std.specs.Prelude.{◌≡◌};
 ghost use Rattle.passkey.specs.declared.script.Fault.TheVariants as faults;
 
 use ccbor::View;
-use cose::CoseKey;
+use cose::{CoseKey, KeyView};
 use hidframe::Packet;
 use passkey_command_line::{LineKind, line_kind, unhex};
 use site::Row;
@@ -94,7 +94,10 @@ fn key(alloc: Global, field: &str) -> Result<CoseKey, Fault> {
     let Ok(value) = View::check_all(&encoded) else {
         return Err(Fault::BadScript);
     };
-    CoseKey::from_view(&value).map_err(|_| Fault::BadScript)
+    let Ok(key) = KeyView::from_view(&value) else {
+        return Err(Fault::BadScript);
+    };
+    Ok(key.to_key(alloc)?)
 }
 
 /// Whether a field has one or more decimal digits and nothing else.

@@ -6,6 +6,7 @@ use Rattle.authdata.specs.Objects.{Attestation, ObjectOf}
 use Rattle.authdata.specs.Responses.{AuthenticatorAttestationResponse}
 use Rattle.authdata.specs.Statements.{IsSelfSignedBy}
 use Rattle.authdata.proofs.Objects.{one_object}
+use Rattle.cose.specs.Keys.{lent_key_view}
 use Rattle.cose.specs.declared.key.CoseKey.{CoseKey}
 use Rattle.verification.specs.Registration.{hash_in}
 use Rattle.passkey_c.specs.Asked.{Asks, AsksNothing, AttestsKey, AttestsNoKey, IsBroken, IsNotSelfSigned, IsSmall, IsUnread, SelfAsks, Tells, TellsAs}
@@ -44,15 +45,15 @@ is_unread p r o spelled none = λ other a c attests.
 
 -- what is told is what was asked
 pub tells : (call : SignatureCall) (out : SignatureOut) (message signature : List ℕ) (asked : AskedSignature)
-    → Asks call.is_registration call asked.key (asked.auth_data.now ++ asked.hash) asked.signature.now → TellsAs out message signature asked
+    → Asks call.is_registration call (lent_key_view asked.key) (asked.auth_data.now ++ asked.hash) asked.signature.now → TellsAs out message signature asked
     → Tells call out message signature out.is_asked
 tells call out message signature asked asks told = rw (told.0, told.1, told.2, told.3) asks
 
 -- a room that is too small for it
 pub broken : (call : SignatureCall) (m s : ℕ) (asked : AskedSignature) (limit : Limit)
-    → Asks call.is_registration call asked.key (asked.auth_data.now ++ asked.hash) asked.signature.now → IsSmall m s asked limit → IsBroken call m s limit
-broken call m s asked limits.MessageRoom asks small = (asked.key, asked.auth_data.now ++ asked.hash, asked.signature.now, asks, small)
-broken call m s asked limits.SignatureRoom asks small = (asked.key, asked.auth_data.now ++ asked.hash, asked.signature.now, asks, small)
+    → Asks call.is_registration call (lent_key_view asked.key) (asked.auth_data.now ++ asked.hash) asked.signature.now → IsSmall m s asked limit → IsBroken call m s limit
+broken call m s asked limits.MessageRoom asks small = (lent_key_view asked.key, asked.auth_data.now ++ asked.hash, asked.signature.now, asks, small)
+broken call m s asked limits.SignatureRoom asks small = (lent_key_view asked.key, asked.auth_data.now ++ asked.hash, asked.signature.now, asks, small)
 broken call m s asked limits.RpId asks small = absurd small
 broken call m s asked limits.Origin asks small = absurd small
 broken call m s asked limits.Challenge asks small = absurd small

@@ -2,6 +2,7 @@
 -- registration that of self attestation (section 8.2).
 use Rattle.std.specs.Prelude.{◌≡◌, ◌++◌, ◌<◌, ℕ, Bool, true, false, List, Some, length, take}
 use Rattle.sha2.specs.Sha256.{sha256}
+use Rattle.cose.specs.Keys.{lent_key_view}
 use Rattle.cose.specs.declared.key.CoseKey.{CoseKey}
 use Rattle.authdata.specs.declared.profile.Profile.{Profile}
 use Rattle.authdata.specs.Layout.{AttestedCredential, AuthenticatorData, AuthOf}
@@ -19,7 +20,7 @@ use Rattle.passkey_c.specs.declared.parts.AttestationParts.{AttestationParts}
 use Rattle.passkey_c.specs.declared.parts.SignatureCall.{SignatureCall}
 use Rattle.passkey_c.specs.declared.parts.SignatureOut.{SignatureOut}
 use Rattle.passkey_c.specs.Limits.{KeyKeeps}
-use Rattle.passkey_c.specs.Parts.{alg_in, key_of, key_with, profile_of}
+use Rattle.passkey_c.specs.Parts.{key_of, key_told, profile_of}
 
 abbrev pub response_of : AttestationParts → AuthenticatorAttestationResponse
 response_of parts = record { object = parts.object.now; client_data = parts.client_data.now }
@@ -52,12 +53,9 @@ Asks false call = λ key message signature.
     × (signature ≡ call.assertion.signature.now)
 
 -- what the host is told: this signature, or that there is none
-abbrev pub key_told : SignatureOut → CoseKey
-key_told out = key_with (alg_in out.algorithm) out.x out.y
-
 abbrev pub Tells : SignatureCall → SignatureOut → List ℕ → List ℕ → Bool → Type 0
 Tells call out message signature true =
-    Asks call.is_registration call (key_told out) (take out.message_length message) (take out.signature_length signature)
+    Asks call.is_registration call (key_told out.key) (take out.message_length message) (take out.signature_length signature)
 Tells call out message signature false =
     (call.is_registration ≡ true) × AsksNothing (profile_of call.open_profile) (response_of call.registration)
 
@@ -90,7 +88,7 @@ AttestsNoKey profile bs = (a : AuthenticatorData) (c : AttestedCredential) → A
 
 abbrev pub TellsAs : SignatureOut → List ℕ → List ℕ → AskedSignature → Type 0
 TellsAs out message signature asked =
-    (out.is_asked ≡ true) × (key_told out ≡ asked.key) × (take out.message_length message ≡ asked.auth_data.now ++ asked.hash)
+    (out.is_asked ≡ true) × (key_told out.key ≡ lent_key_view asked.key) × (take out.message_length message ≡ asked.auth_data.now ++ asked.hash)
     × (take out.signature_length signature ≡ asked.signature.now)
 
 abbrev pub IsSmall : ℕ → ℕ → AskedSignature → Limit → Type 0

@@ -1,10 +1,12 @@
 -- The answers as numbers: 0 accepted, 1 to 16 the step that refuses, 100 and up a member that is out of its limits,
 -- 127 no memory.
-use Rattle.std.specs.Prelude.{ℕ}
+use Rattle.std.specs.Prelude.{◌≡◌, ◌⊎◌, ℕ}
 use Rattle.passkey_c.specs.declared.answers.Limit.{Limit}
 use Rattle.passkey_c.specs.declared.answers.Limit.TheVariants as limits
 use Rattle.passkey_c.specs.declared.answers.InputFault.{InputFault}
 use Rattle.passkey_c.specs.declared.answers.InputFault.TheVariants as faults
+use Rattle.passkey_c.specs.declared.asked.AskError.{AskError}
+use Rattle.passkey_c.specs.declared.asked.AskError.TheVariants as errors
 
 abbrev pub limit_number : Limit → ℕ
 limit_number limits.RpId = 101
@@ -22,3 +24,13 @@ limit_number limits.SignatureRoom = 111
 abbrev pub fault_number : InputFault → ℕ
 fault_number (faults.Limit limit) = limit_number limit
 fault_number faults.Memory = 127
+
+-- a signature that is asked can't be told: 7 where a registration attests nothing
+abbrev pub ask_number : AskError → ℕ
+ask_number errors.Unreadable = 7
+ask_number (errors.Limit limit) = limit_number limit
+ask_number errors.Memory = 127
+
+-- the numbers that are answered to who asks for a signature
+abbrev pub IsAskAnswer : ℕ → Type 0
+IsAskAnswer n = (n ≡ 0) ⊎ ((error : AskError) × (n ≡ ask_number error))

@@ -1,5 +1,5 @@
 -- What the parts that a host hands in stand for.
-use Rattle.std.specs.Prelude.{◌≡◌, ◌==◌, ℕ, ℤ, pos, negsuc, Bool, true, false, List, [], ◌∷◌, map, Option, Some, None, if◌then◌else◌}
+use Rattle.std.specs.Prelude.{◌≡◌, ◌==◌, ℕ, ℤ, pos, negsuc, Bool, true, false, List, [], ◌∷◌, map, take, Option, Some, None, if◌then◌else◌}
 use Rattle.cose.specs.declared.key.Alg.{Alg}
 use Rattle.cose.specs.declared.key.Alg.TheVariants as algs
 use Rattle.cose.specs.declared.key.CoseKey.{CoseKey}
@@ -10,6 +10,7 @@ use Rattle.authdata.specs.declared.profile.Profile.{Profile}
 use Rattle.authdata.specs.declared.profile.Profile.TheVariants.{Open, Strict}
 use Rattle.verification.specs.Records.{RelyingParty}
 use Rattle.passkey_c.specs.declared.parts.Bytes.{Bytes}
+use Rattle.passkey_c.specs.declared.parts.KeyOut.{KeyOut}
 use Rattle.passkey_c.specs.declared.parts.KeyParts.{KeyParts}
 use Rattle.passkey_c.specs.declared.parts.PartyParts.{PartyParts}
 use Rattle.passkey_c.specs.declared.parts.TripleParts.{TripleParts}
@@ -22,20 +23,23 @@ given false x = None
 abbrev pub lent : List Bytes → List (List ℕ)
 lent parts = map (λ part. part.bytes.now) parts
 
+-- the algorithm, where it was offered
+abbrev pub offers : Bool → Alg → List Alg → List Alg
+offers true alg more = alg ∷ more
+offers false alg more = more
+
 -- the algorithms that were offered
-abbrev pub offered : Bool → Bool → List Alg
-offered true true = algs.Es256 ∷ algs.EdDsa ∷ []
-offered true false = algs.Es256 ∷ []
-offered false true = algs.EdDsa ∷ []
-offered false false = []
+abbrev pub offered : Bool → Bool → Bool → List Alg
+offered es256 eddsa rs256 = offers es256 algs.Es256 (offers eddsa algs.EdDsa (offers rs256 algs.Rs256 []))
 
--- the algorithm of a number: -7 is ES256, -8 EdDSA, and nothing else is one of the two
-abbrev pub is_es256 : ℤ → Bool
-is_es256 (negsuc n) = n == 6
-is_es256 (pos n) = false
+-- the number is -1 - n
+abbrev pub is_negative : ℕ → ℤ → Bool
+is_negative m (negsuc n) = n == m
+is_negative m (pos n) = false
 
+-- the algorithm of a number: -7 is ES256, -8 EdDSA, -257 RS256, and nothing else is one of the three
 abbrev pub alg_in : ℤ → Alg
-alg_in number = if is_es256 number then algs.Es256 else algs.EdDsa
+alg_in number = if is_negative 6 number then algs.Es256 else if is_negative 256 number then algs.Rs256 else algs.EdDsa
 
 abbrev pub IsAlg : ℤ → Type 0
 IsAlg number = number ≡ number_of (alg_in number)
@@ -43,9 +47,14 @@ IsAlg number = number ≡ number_of (alg_in number)
 abbrev pub key_with : Alg → List ℕ → List ℕ → CoseKey
 key_with algs.Es256 x y = keys.Es256 x y
 key_with algs.EdDsa x y = keys.EdDsa x
+key_with algs.Rs256 n e = keys.Rs256 (record { n = n; e = e })
 
 abbrev pub key_of : KeyParts → CoseKey
 key_of key = key_with (alg_in key.algorithm) key.x.now key.y.now
+
+-- the key that a host is told
+abbrev pub key_told : KeyOut → CoseKey
+key_told out = key_with (alg_in out.algorithm) (take out.x_length out.x) (take out.y_length out.y)
 
 -- the profile of its flag
 abbrev pub profile_of : Bool → Profile

@@ -14,7 +14,7 @@ use Rattle.passkey_c.specs.declared.registration.Refusal.{Refusal}
 use Rattle.passkey_c.specs.declared.registration.Refusal.TheVariants as refusals
 use Rattle.passkey_c.specs.Limits.{IsFault, RegistrationKeeps, registration_limits}
 use Rattle.passkey_c.specs.Numbers.{fault_number}
-use Rattle.passkey_c.specs.Parts.{alg_in, given, key_with, offered, party_of, verified}
+use Rattle.passkey_c.specs.Parts.{given, key_told, offered, party_of, verified}
 
 -- each id but the free one is registered
 abbrev pub registered_but : Bool → List ℕ → List ℕ → Bool
@@ -26,7 +26,7 @@ judged_registration call = record {
   policy = record { accept_none = call.accept_none; accept_self = call.accept_self };
   session = given call.has_session (record {
     user = call.session.user.now;
-    algorithms = offered call.session.offers_es256 call.session.offers_eddsa;
+    algorithms = offered call.session.offers_es256 call.session.offers_eddsa call.session.offers_rs256;
     uv = call.session.user_verification;
     challenge = call.session.challenge.now;
   });
@@ -43,7 +43,7 @@ registration_validity call = verified call.has_triple call.triple
 abbrev pub told_registration : RegistrationOut → NewCredential
 told_registration out = record {
   id = take out.id_length out.id;
-  key = key_with (alg_in out.algorithm) out.x out.y;
+  key = key_told out.key;
   sign_count = out.sign_count;
   eligible = out.eligible;
 }

@@ -22,23 +22,23 @@ pub enum Limit {
     /// 103: the challenge is not of 32 bytes.
     #[error("the challenge is not of 32 bytes")]
     Challenge,
-    /// 104: the algorithm of the credential's key is neither -7 nor -8.
+    /// 104: the algorithm of the credential's key is none of -7, -8 and -257.
     #[error("the algorithm of the credential's key is not known")]
     KeyAlgorithm,
-    /// 105: the key's x is not of 32 bytes.
-    #[error("the x of the credential's key is not of 32 bytes")]
+    /// 105: the key's x is not of 32 bytes, or of RS256 no modulus that a key may have.
+    #[error("the x of the credential's key is out of its limits")]
     KeyX,
-    /// 106: the key's y is not of 32 bytes.
-    #[error("the y of the credential's key is not of 32 bytes")]
+    /// 106: the key's y is not of 32 bytes, or of RS256 no exponent that a key may have.
+    #[error("the y of the credential's key is out of its limits")]
     KeyY,
-    /// 107: the algorithm of the key that the host verified with is neither -7 nor -8.
+    /// 107: the algorithm of the key that the host verified with is none of -7, -8 and -257.
     #[error("the algorithm of the verified key is not known")]
     TripleAlgorithm,
-    /// 108: that key's x is not of 32 bytes.
-    #[error("the x of the verified key is not of 32 bytes")]
+    /// 108: that key's x is not of 32 bytes, or of RS256 no modulus that a key may have.
+    #[error("the x of the verified key is out of its limits")]
     TripleX,
-    /// 109: that key's y is not of 32 bytes.
-    #[error("the y of the verified key is not of 32 bytes")]
+    /// 109: that key's y is not of 32 bytes, or of RS256 no exponent that a key may have.
+    #[error("the y of the verified key is out of its limits")]
     TripleY,
     /// 110: the room for a message is too small.
     #[error("the room for the message is too small")]

@@ -1,10 +1,11 @@
 //! Which signature a host is to verify.
 
 ghost use Rattle.std.specs.Prelude.{◌≡◌, ◌≢◌, ◌+◌, ◌++◌, ◌≤◌, IfErr, MatchOption, OnErr, OnOk, false, length, take, true};
+ghost use Rattle.cose.specs.Keys.{lent_key_view};
 ghost use Rattle.authdata.specs.Objects.{ObjectOf, object_view};
 ghost use Rattle.passkey_c.specs.Asked.{AttestsKey, AttestsNoKey, IsBroken, IsSmall, IsUnread, IsUntold, Tells, TellsAs};
 ghost use Rattle.passkey_c.specs.Asked.{response_of};
-ghost use Rattle.passkey_c.specs.Numbers.{limit_number};
+ghost use Rattle.passkey_c.specs.Numbers.{IsAskAnswer, ask_number, limit_number};
 ghost use Rattle.passkey_c.specs.Parts.{profile_of};
 ghost use Rattle.passkey_c.specs.declared.answers.Limit.{Limit};
 
@@ -13,13 +14,13 @@ use crate::input::{KeyLimit, key_from, profile_from, write_key};
 use crate::parts::{SignatureCall, SignatureOut};
 use authdata::{AttestationObject, Profile, read_view, self_signature};
 use clientdata::hash;
-use cose::CoseKey;
+use cose::KeyView;
 use std::alloc::Global;
 
 /// A signature that is to be verified, of the authenticator data and then the hash of the client data.
 #[derive(Drop)]
 pub struct AskedSignature<'a> {
-    pub key: CoseKey,
+    pub key: KeyView<'a>,
     pub auth_data: &'a [u8],
     pub hash: [u8; 32],
     pub signature: &'a [u8],
@@ -33,9 +34,22 @@ pub enum AskError {
     Memory,
 }
 
+impl AskError {
+    /// The number of the answer.
+    fn number(self) -> u32
+        ensures { result ≡ ask_number self }
+    {
+        match self {
+            AskError::Unreadable => 7,
+            AskError::Limit(limit) => limit.number(),
+            AskError::Memory => 127,
+        }
+    }
+}
+
 /// The public key that authenticator data attest.
-fn attested_key(profile: Profile, auth_data: &[u8]) -> Option<CoseKey>
-    ensures { MatchOption result (AttestsNoKey profile auth_data.now) (AttestsKey profile auth_data.now) }
+fn attested_key(profile: Profile, auth_data: &[u8]) -> Option<KeyView<'_>>
+    ensures { MatchOption result (AttestsNoKey profile auth_data.now) (λ key. AttestsKey profile auth_data.now (lent_key_view key)) }
 {
     let Ok(data) = read_view(profile, auth_data) else {
         return None;
@@ -81,7 +95,7 @@ fn tell(
     out.message_length = front + 32;
     signature[..size].copy_from_slice(asked.signature);
     out.signature_length = size;
-    write_key(&asked.key, &mut out.algorithm, &mut out.x, &mut out.y);
+    write_key(&asked.key, &mut out.key);
     out.is_asked = true;
     Ok(())
 }
@@ -184,6 +198,8 @@ pub extern "C" fn passkey_signature_asked(
     ensures told { result ≡ 0 → Tells call.now out.new message.new signature.new out.new.is_asked }
     ensures unread { result ≡ 7 → (call.now.is_registration ≡ true) × IsUnread (profile_of call.now.open_profile) (response_of call.now.registration) }
     ensures limit { (limit : Limit) → result ≡ limit_number limit → IsBroken call.now (length message.old) (length signature.old) limit }
+    ensures memory { result ≡ 127 → call.now.is_registration ≡ true }
+    ensures answer { IsAskAnswer result }
     ensures untouched { result ≢ 0 → (out.new ≡ out.old) × (message.new ≡ message.old) × (signature.new ≡ signature.old) }
 {
     let told = if call.is_registration {
@@ -196,8 +212,6 @@ pub extern "C" fn passkey_signature_asked(
     };
     match told {
         Ok(()) => ACCEPTED,
-        Err(AskError::Unreadable) => 7,
-        Err(AskError::Limit(limit)) => limit.number(),
-        Err(AskError::Memory) => 127,
+        Err(error) => error.number(),
     }
 }

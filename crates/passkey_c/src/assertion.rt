@@ -2,6 +2,7 @@
 
 ghost use Rattle.std.specs.Prelude.{◌≡◌, ◌≢◌, ◌<◌, IfErr, IfOk, OnOk, option_map};
 ghost use Rattle.refusal_order.specs.Lines.{Each};
+ghost use Rattle.cose.specs.Keys.{lent_key_view};
 ghost use Rattle.verification.specs.Numbers.{sign_in_number};
 ghost use Rattle.verification.specs.SignIn.{IsFirstFailing, PassesSignIn};
 ghost use Rattle.verification.specs.SignInAnswers.{IsVerifiedSignIn};
@@ -17,7 +18,7 @@ use crate::answers::{ACCEPTED, InputFault, Limit};
 use crate::input::{KeyLimit, copies, copy_of, exactly_32, key_from, party_from};
 use crate::parts::{AnswerParts, AssertionCall, AssertionOut};
 use crate::triple::{OneTriple, triple_from};
-use cose::CoseKey;
+use cose::KeyView;
 use std::alloc::Global;
 use verification::{
     AssertionParts, RelyingParty, RowView, SignInAttempt, SignInRefusal, SignInSession,
@@ -62,8 +63,8 @@ fn expected(alloc: Global, call: &AssertionCall<'_>) -> Result<Option<SignInSess
 }
 
 /// The key of the credential that is handed in.
-fn credential_key(call: &AssertionCall<'_>) -> Result<Option<CoseKey>, InputFault>
-    ensures found { IfOk result (λ key. key ≡ given call.now.has_credential (key_of call.now.credential.key)) }
+fn credential_key<'a>(call: &AssertionCall<'a>) -> Result<Option<KeyView<'a>>, InputFault>
+    ensures found { IfOk result (λ key. option_map lent_key_view key ≡ given call.now.has_credential (key_of call.now.credential.key)) }
     ensures algorithm { OnOk result (SignInKeeps call.now Limit.KeyAlgorithm) }
     ensures x { OnOk result (SignInKeeps call.now Limit.KeyX) }
     ensures y { OnOk result (SignInKeeps call.now Limit.KeyY) }
@@ -97,8 +98,8 @@ fn sign_in_triple<'a>(call: &AssertionCall<'a>) -> Result<OneTriple<'a>, InputFa
 }
 
 /// The credential that is handed in, with its key.
-fn row<'a, 'b: 'a>(call: &AssertionCall<'b>, key: &'a Option<CoseKey>) -> Option<RowView<'a>>
-    requires { key.now ≡ given call.now.has_credential (key_of call.now.credential.key) }
+fn row<'a, 'b: 'a>(call: &AssertionCall<'b>, key: Option<KeyView<'a>>) -> Option<RowView<'a>>
+    requires { option_map lent_key_view key ≡ given call.now.has_credential (key_of call.now.credential.key) }
     ensures { option_map credential_view result ≡ (judged_sign_in call.now).credential }
 {
     let credential = &call.credential;
@@ -144,12 +145,12 @@ fn verified(
     call: &AssertionCall<'_>,
     party: &RelyingParty,
     session: Option<&SignInSession>,
-    key: &Option<CoseKey>,
+    key: Option<KeyView<'_>>,
     triple: &OneTriple<'_>,
 ) -> Result<VerifiedAssertion, Refusal>
     requires party { party.now ≡ party_of call.now.party }
     requires session { option_map (λ s. sign_in_view s.now) session ≡ (judged_sign_in call.now).session }
-    requires key { key.now ≡ given call.now.has_credential (key_of call.now.credential.key) }
+    requires key { option_map lent_key_view key ≡ given call.now.has_credential (key_of call.now.credential.key) }
     requires flag { triple.now.has_triple ≡ call.now.has_triple }
     requires parts { triple.now.parts ≡ call.now.triple }
     requires limits { Each (SignInKeeps call.now) sign_in_limits }
@@ -181,7 +182,7 @@ fn judge(alloc: Global, call: &AssertionCall<'_>) -> Result<VerifiedAssertion, R
     let session = expected(alloc, call)?;
     let key = credential_key(call)?;
     let triple = sign_in_triple(call)?;
-    verified(alloc, call, &party, session.as_ref(), &key, &triple)
+    verified(alloc, call, &party, session.as_ref(), key, &triple)
 }
 
 /// Judges a sign-in: 0 where each step of section 7.2 is passed, the only valid signature being the one that the host

@@ -1,13 +1,15 @@
 //! What a host hands in, as values of the crates below.
 
-ghost use Rattle.std.specs.Prelude.{◌≡◌, ◌≢◌, IfErr, IfOk, IfSome, None, OnOk, length, map, option_map};
+ghost use Rattle.std.specs.Prelude.{◌≡◌, ◌≢◌, ◌≤◌, IfErr, IfOk, IfSome, None, OnOk, length, map, option_map, take};
 ghost use Rattle.refusal_order.specs.Lines.{Each};
-ghost use Rattle.passkey_c.specs.Limits.{IsFault, KeyKeeps, PartyKeeps, key_order, party_limits};
-ghost use Rattle.passkey_c.specs.Parts.{IsAlg, alg_in, given, key_of, key_with, lent, party_of, profile_of};
+ghost use Rattle.cose.specs.Keys.{lent_key_view};
+ghost use Rattle.cose.specs.declared.key.Alg.TheVariants as algs;
+ghost use Rattle.passkey_c.specs.Limits.{IsFault, IsNot, IsX, IsY, KeyKeeps, PartyKeeps, key_order, party_limits};
+ghost use Rattle.passkey_c.specs.Parts.{IsAlg, alg_in, given, key_of, key_told, key_with, lent, party_of, profile_of};
 
 use crate::answers::{InputFault, Limit};
-use crate::parts::{Bytes, KeyParts, PartyParts};
-use cose::{Alg, CoseKey};
+use crate::parts::{Bytes, KeyOut, KeyParts, PartyParts};
+use cose::{Alg, KeyView, RsaView, is_exponent, is_modulus};
 use std::alloc::{AllocError, Global};
 use std::str;
 use verification::{Profile, RelyingParty};
@@ -41,50 +43,95 @@ pub(crate) fn algorithm_of(number: i32) -> Option<Alg>
         Some(Alg::Es256)
     } else if number == -8 {
         Some(Alg::EdDsa)
+    } else if number == -257 {
+        Some(Alg::Rs256)
     } else {
         None
     }
 }
 
-/// Writes a public key as its algorithm's COSE number and its coordinates; a y that it has not is zeros.
-pub(crate) fn write_key(key: &CoseKey, algorithm: &mut i32, x: &mut [u8; 32], y: &mut [u8; 32])
-    ensures { key_with (alg_in algorithm.new) x.new y.new ≡ key.now }
+/// Writes bytes to the front of a room, and tells how many they are.
+fn write_front(bytes: &[u8], room: &mut [u8]) -> usize
+    requires { length bytes.now ≤ length room.old }
+    ensures front { take result room.new ≡ bytes.now }
+    ensures same { length room.new ≡ length room.old }
+{
+    let size = bytes.len();
+    room[..size].copy_from_slice(bytes);
+    size
+}
+
+/// The key of ES256 of these coordinates.
+fn es256_from<'a>(x: &[u8], y: &[u8]) -> Result<KeyView<'a>, KeyLimit>
+    ensures found { IfOk result (λ key. lent_key_view key ≡ key_with algs.Es256 x.now y.now) }
+    ensures x { OnOk result (IsX algs.Es256 x.now) }
+    ensures y { OnOk result (IsY algs.Es256 y.now) }
+    ensures refused { IfErr result (IsNot algs.Es256 x.now y.now) }
+{
+    let Some(x) = exactly_32(x) else {
+        return Err(KeyLimit::X);
+    };
+    match exactly_32(y) {
+        Some(y) => Ok(KeyView::Es256 { x, y }),
+        None => Err(KeyLimit::Y),
+    }
+}
+
+/// The RSA key of this modulus and this exponent.
+fn rsa_from<'a>(n: &'a [u8], e: &'a [u8]) -> Result<KeyView<'a>, KeyLimit>
+    ensures found { IfOk result (λ key. lent_key_view key ≡ key_with algs.Rs256 n.now e.now) }
+    ensures n { OnOk result (IsX algs.Rs256 n.now) }
+    ensures e { OnOk result (IsY algs.Rs256 e.now) }
+    ensures refused { IfErr result (IsNot algs.Rs256 n.now e.now) }
+{
+    if !is_modulus(n) {
+        return Err(KeyLimit::X);
+    }
+    if !is_exponent(e) {
+        return Err(KeyLimit::Y);
+    }
+    Ok(KeyView::Rs256(RsaView { n, e }))
+}
+
+/// Tells a public key.
+pub(crate) fn write_key(key: &KeyView<'_>, out: &mut KeyOut)
+    ensures { key_told out.new ≡ lent_key_view key.now }
 {
     match key {
-        CoseKey::Es256 {
-            x: first,
-            y: second,
-        } => {
-            *algorithm = -7;
-            *x = *first;
-            *y = *second;
+        KeyView::Es256 { x, y } => {
+            out.algorithm = -7;
+            out.x_length = write_front(x, &mut out.x);
+            out.y_length = write_front(y, &mut out.y);
         }
-        CoseKey::EdDsa { x: first } => {
-            *algorithm = -8;
-            *x = *first;
-            *y = [0; 32];
+        KeyView::EdDsa { x } => {
+            out.algorithm = -8;
+            out.x_length = write_front(x, &mut out.x);
+            out.y_length = 0;
+        }
+        KeyView::Rs256(key) => {
+            out.algorithm = -257;
+            out.x_length = write_front(key.n, &mut out.x);
+            out.y_length = write_front(key.e, &mut out.y);
         }
     }
 }
 
-/// The public key of these coordinates.
-pub(crate) fn key_from(parts: &KeyParts<'_>) -> Result<CoseKey, KeyLimit>
-    ensures found { IfOk result (λ key. key ≡ key_of parts.now) }
+/// The public key of these coordinates or numbers, where they lie.
+pub(crate) fn key_from<'a>(parts: &KeyParts<'a>) -> Result<KeyView<'a>, KeyLimit>
+    ensures found { IfOk result (λ key. lent_key_view key ≡ key_of parts.now) }
     ensures kept { OnOk result (Each (KeyKeeps parts.now) key_order) }
     ensures refused { IfErr result (λ limit. KeyKeeps parts.now limit → ⊥) }
 {
     let Some(alg) = algorithm_of(parts.algorithm) else {
         return Err(KeyLimit::Algorithm);
     };
-    let Some(x) = exactly_32(parts.x) else {
-        return Err(KeyLimit::X);
-    };
     match alg {
-        Alg::EdDsa => Ok(CoseKey::EdDsa { x }),
-        Alg::Es256 => match exactly_32(parts.y) {
-            Some(y) => Ok(CoseKey::Es256 { x, y }),
-            None => Err(KeyLimit::Y),
+        Alg::Es256 => es256_from(parts.x, parts.y),
+        Alg::EdDsa => match exactly_32(parts.x) {
+            Some(x) => Ok(KeyView::EdDsa { x }),
+            None => Err(KeyLimit::X),
         },
+        Alg::Rs256 => rsa_from(parts.x, parts.y),
     }
 }
 

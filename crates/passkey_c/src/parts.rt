@@ -9,15 +9,17 @@ pub struct Bytes<'a> {
     pub bytes: &'a [u8],
 }
 
-/// A public key by its coordinates (RFC 9053, section 7).
+/// A public key by its coordinates (RFC 9053, section 7), or an RSA key by its numbers (RFC 8230, section 4).
 #[repr(C)]
 #[derive(Clone, Copy, Drop)]
 pub struct KeyParts<'a> {
-    /// The algorithm's COSE number: -7, ES256 over P-256, or -8, EdDSA over Ed25519.
+    /// The algorithm's COSE number: -7, ES256 over P-256, -8, EdDSA over Ed25519, or -257, RS256.
     pub algorithm: i32,
-    /// Of P-256 the coordinate x, big-endian; of Ed25519 the public key: 32 bytes.
+    /// Of P-256 the coordinate x, big-endian; of Ed25519 the public key: 32 bytes. Of RSA the modulus, big-endian:
+    /// 256, 384 or 512 bytes, the first not zero, the last odd.
     pub x: &'a [u8],
-    /// Of P-256 the coordinate y, big-endian: 32 bytes. Of Ed25519 it is not looked at.
+    /// Of P-256 the coordinate y, big-endian: 32 bytes. Of Ed25519 it is not looked at. Of RSA the public exponent,
+    /// big-endian: 1 to 4 bytes, the first not zero, the last odd, at least 3.
     pub y: &'a [u8],
 }
 
@@ -147,6 +149,8 @@ pub struct RegisterParts<'a> {
     pub offers_es256: bool,
     /// Whether EdDSA was offered (-8).
     pub offers_eddsa: bool,
+    /// Whether RS256 was offered (-257).
+    pub offers_rs256: bool,
 }
 
 /// A client's answer to a registration.
@@ -187,6 +191,22 @@ pub struct RegistrationCall<'a> {
     pub triple: TripleParts<'a>,
 }
 
+/// A public key that is told.
+#[repr(C)]
+#[derive(Drop)]
+pub struct KeyOut {
+    /// The key's algorithm: -7, ES256, -8, EdDSA, or -257, RS256.
+    pub algorithm: i32,
+    /// How many bytes the key's x has.
+    pub x_length: usize,
+    /// The key's x, of RSA the modulus, and behind it what was there.
+    pub x: [u8; 512],
+    /// How many bytes the key's y has: none of EdDSA.
+    pub y_length: usize,
+    /// The key's y, of RSA the public exponent, and behind it what was there.
+    pub y: [u8; 32],
+}
+
 /// The credential of a registration that is accepted.
 #[repr(C)]
 #[derive(Drop)]
@@ -195,12 +215,8 @@ pub struct RegistrationOut {
     pub id_length: usize,
     /// The credential id, and behind it what was there.
     pub id: [u8; 1023],
-    /// The key's algorithm: -7, ES256, or -8, EdDSA.
-    pub algorithm: i32,
-    /// The key's x.
-    pub x: [u8; 32],
-    /// The key's y; zeros of EdDSA.
-    pub y: [u8; 32],
+    /// The public key.
+    pub key: KeyOut,
     /// The signature counter that was received.
     pub sign_count: u32,
     /// Whether the credential is eligible for backup (BE).
@@ -229,12 +245,8 @@ pub struct SignatureCall<'a> {
 pub struct SignatureOut {
     /// Whether there is one; else the other members say nothing.
     pub is_asked: bool,
-    /// The key's algorithm: -7, ES256, or -8, EdDSA.
-    pub algorithm: i32,
-    /// The key's x.
-    pub x: [u8; 32],
-    /// The key's y; zeros of EdDSA.
-    pub y: [u8; 32],
+    /// The public key.
+    pub key: KeyOut,
     /// How many bytes of the room are the message.
     pub message_length: usize,
     /// How many bytes of the room are the signature.

@@ -41,14 +41,18 @@ impl From<InputFault> for Refusal {
 }
 
 /// The algorithms that were offered.
-fn algorithms(alloc: Global, es256: bool, eddsa: bool) -> Result<Vec<Alg>, AllocError>
-    ensures { IfOk result (λ algorithms. algorithms.items ≡ offered es256 eddsa) }
+fn algorithms(alloc: Global, es256: bool, eddsa: bool, rs256: bool) -> Result<Vec<Alg>, AllocError>
+    ensures { IfOk result (λ algorithms. algorithms.items ≡ offered es256 eddsa rs256) }
 {
-    match (es256, eddsa) {
-        (true, true) => Vec::from_slice(alloc, &[Alg::Es256, Alg::EdDsa]),
-        (true, false) => Vec::from_slice(alloc, &[Alg::Es256]),
-        (false, true) => Vec::from_slice(alloc, &[Alg::EdDsa]),
-        (false, false) => Ok(Vec::new(alloc)),
+    match (es256, eddsa, rs256) {
+        (true, true, true) => Vec::from_slice(alloc, &[Alg::Es256, Alg::EdDsa, Alg::Rs256]),
+        (true, true, false) => Vec::from_slice(alloc, &[Alg::Es256, Alg::EdDsa]),
+        (true, false, true) => Vec::from_slice(alloc, &[Alg::Es256, Alg::Rs256]),
+        (true, false, false) => Vec::from_slice(alloc, &[Alg::Es256]),
+        (false, true, true) => Vec::from_slice(alloc, &[Alg::EdDsa, Alg::Rs256]),
+        (false, true, false) => Vec::from_slice(alloc, &[Alg::EdDsa]),
+        (false, false, true) => Vec::from_slice(alloc, &[Alg::Rs256]),
+        (false, false, false) => Ok(Vec::new(alloc)),
     }
 }
 
@@ -67,7 +71,12 @@ fn expected(
     let Some(challenge) = exactly_32(call.session.challenge) else {
         return Err(InputFault::Limit(Limit::Challenge));
     };
-    let algorithms = algorithms(alloc, call.session.offers_es256, call.session.offers_eddsa)?;
+    let algorithms = algorithms(
+        alloc,
+        call.session.offers_es256,
+        call.session.offers_eddsa,
+        call.session.offers_rs256,
+    )?;
     let user = Vec::from_slice(alloc, call.session.user)?;
     Ok(Some(RegistrationSession {
         user,
@@ -162,7 +171,7 @@ fn tell(credential: &AdmittedCredential, out: &mut RegistrationOut)
     let length = credential.id.len();
     out.id_length = length;
     out.id[..length].copy_from_slice(&credential.id);
-    write_key(&credential.key, &mut out.algorithm, &mut out.x, &mut out.y);
+    write_key(&credential.key.view(), &mut out.key);
     out.sign_count = credential.sign_count;
     out.eligible = credential.eligible;
 }

@@ -7,17 +7,18 @@ ghost use Rattle.ccbor.specs.Item.{Item};
 ghost use Rattle.clientdata.specs.Serialised.{challenge_text_of};
 
 use crate::answers::Limit;
+use crate::input::exactly_32;
 use ccbor::View;
-use clientdata::challenge_text;
+use clientdata::challenge_characters;
 use std::alloc::{AllocError, Global};
 use verification::{RegistrationRefusal, SignInRefusal};
 
 /// The version of these calls.
 #[unsafe(no_mangle)]
 pub extern "C" fn passkey_abi_version() -> u32
-    ensures { result ≡ 1 }
+    ensures { result ≡ 2 }
 {
-    1
+    2
 }
 
 /// Whether the bytes are one value of canonical CBOR, and no more.
@@ -49,22 +50,18 @@ pub extern "C" fn passkey_challenge(session: u64, words: &[u8], challenge: &mut 
 
 /// Writes a challenge of 32 bytes as client data have it: 43 characters.
 #[unsafe(no_mangle)]
-pub extern "C" fn passkey_challenge_text(alloc: Global, challenge: &[u8], text: &mut [u8]) -> bool
+pub extern "C" fn passkey_challenge_text(challenge: &[u8], text: &mut [u8]) -> bool
+    ensures fits { IsTrue result ↔ ((length challenge.now ≡ 32) × (length text.old ≡ 43)) }
     ensures written { result ≡ true → text.new ≡ challenge_text_of challenge.now }
-    ensures fits { result ≡ true → (length challenge.now ≡ 32) × (length text.old ≡ 43) }
     ensures untouched { result ≡ false → text.new ≡ text.old }
 {
-    if challenge.len() != 32 || text.len() != 43 {
-        return false;
-    }
-    let Ok(made) = challenge_text(alloc, challenge) else {
+    let Some(challenge) = exactly_32(challenge) else {
         return false;
     };
-    let bytes = made.as_bytes();
-    if bytes.len() != text.len() {
+    if text.len() != 43 {
         return false;
     }
-    text.copy_from_slice(bytes);
+    text.copy_from_slice(&challenge_characters(&challenge));
     true
 }
 

@@ -1,21 +1,22 @@
 //! The verifier of one signature.
 
-ghost use Rattle.std.specs.Prelude.{◌≡◌, IfErr, IfOk, OnOk, true};
+ghost use Rattle.std.specs.Prelude.{◌≡◌, IfErr, IfOk, OnOk, option_map, true};
+ghost use Rattle.cose.specs.Keys.{lent_key_view};
 ghost use Rattle.refusal_order.specs.Lines.{Each};
 ghost use Rattle.passkey_c.specs.Limits.{KeyKeeps, key_order};
 ghost use Rattle.passkey_c.specs.Parts.{given, key_of};
 
 use crate::input::{KeyLimit, key_from};
 use crate::parts::TripleParts;
-use cose::{CoseKey, Verifier, is_joined};
+use cose::{KeyView, Verifier, is_joined};
 
 /// A verifier to which one signature is valid, the one that the host verified, or none.
 #[derive(Drop)]
 pub(crate) struct OneTriple<'a> {
     pub(crate) has_triple: bool,
     pub(crate) parts: TripleParts<'a>,
-    pub(crate) key: Option<CoseKey>,
-    ghost is_key: { key ≡ given has_triple (key_of parts.key) },
+    pub(crate) key: Option<KeyView<'a>>,
+    ghost is_key: { option_map lent_key_view key ≡ given has_triple (key_of parts.key) },
 }
 
 impl Verifier for OneTriple<'_> {
@@ -23,11 +24,11 @@ impl Verifier for OneTriple<'_> {
 
     ghost valid = { λ s key message signature. verified s.has_triple s.parts key message signature };
 
-    fn verify(&self, key: &CoseKey, parts: [&[u8]; 2], sig: &[u8]) -> bool {
+    fn verify(&self, key: &KeyView<'_>, parts: [&[u8]; 2], sig: &[u8]) -> bool {
         let [first, second] = parts;
         match &self.key {
             Some(own) => {
-                *own == *key
+                own.is_same(key)
                     && is_joined(self.parts.message, first, second)
                     && self.parts.signature == sig
             }

@@ -45,6 +45,10 @@ reads id user (keys.EdDsa x) n (Some b) true = rw (at_least_zero n) refl
 reads id user (keys.EdDsa x) n (Some b) false = rw (at_least_zero n) refl
 reads id user (keys.EdDsa x) n None true = rw (at_least_zero n) refl
 reads id user (keys.EdDsa x) n None false = rw (at_least_zero n) refl
+reads id user (keys.Rs256 k) n (Some b) true = rw (at_least_zero n) refl
+reads id user (keys.Rs256 k) n (Some b) false = rw (at_least_zero n) refl
+reads id user (keys.Rs256 k) n None true = rw (at_least_zero n) refl
+reads id user (keys.Rs256 k) n None false = rw (at_least_zero n) refl
 
 -- a credential's map is read
 pub credential_read : (c : Credential) → read_in (record_of credential_members) (credential_item c) ≡ Some (content_of c)

@@ -14,7 +14,7 @@ ghost use Rattle.saved_table.specs.declared.error.Error.TheVariants as errors;
 use crate::error::Error;
 use cbor_map::{Shape, any_map, bytes, end, members, optional, required, truth_if_there, unsigned};
 use ccbor::{ArrayView, MapKey, View};
-use cose::CoseKey;
+use cose::KeyView;
 use credential_table::Row;
 use std::alloc::Global;
 
@@ -110,7 +110,7 @@ pub fn credential(alloc: Global, version: u64, value: &View<'_>) -> Result<Row, 
         → (c : Credential) → FitsVersion version c → shown value.now ≡ credential_item c → ⊥ }
 {
     let found = credential_members(value)?;
-    let Ok(key) = CoseKey::from_view(&found.key) else {
+    let Ok(key) = KeyView::from_view(&found.key) else {
         return Err(Error::BadTable);
     };
     let Ok(sign_count) = u32::try_from(found.sign_count) else {
@@ -122,7 +122,7 @@ pub fn credential(alloc: Global, version: u64, value: &View<'_>) -> Result<Row, 
     Ok(Row {
         id: Vec::from_slice(alloc, found.id)?,
         user: Vec::from_slice(alloc, found.user)?,
-        key,
+        key: key.to_key(alloc)?,
         sign_count,
         eligible: found.eligible,
         retired: found.retired.is_some(),

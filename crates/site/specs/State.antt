@@ -1,6 +1,7 @@
 -- What a relying party keeps (WebAuthn Level 2, section 7), and how its calls change it.
 use Rattle.std.specs.Prelude.{◌≡◌, ◌≤◌, ℕ, List, [], ◌∷◌, ◌++◌, length, is_some, not, nat_lt, Some, false}
 use Rattle.std.specs.FinMap as finite
+use Rattle.authdata.specs.declared.profile.Profile.{Profile}
 use Rattle.authdata.specs.Flags.{is_set, BE}
 use Rattle.authdata.specs.Layout.{AuthenticatorData, AttestedCredential, AuthOf}
 use Rattle.authdata.specs.Objects.{Attestation}
@@ -25,9 +26,17 @@ pub record SiteState : Type 0 where
 abbrev pub IsParty : RelyingParty → Type 0
 IsParty rp = IsWithin 253 rp.rp_id × (1 ≤ length rp.origins)
 
+-- the relying party of these texts, which takes responses of this profile
+abbrev pub party_of : Profile → List ℕ → List (List ℕ) → RelyingParty
+party_of profile rp_id origins = record { rp_id = rp_id; origins = origins; profile = profile }
+
 -- no session is open
 abbrev pub none_open : ℕ → OpenSessions
 none_open next = record { expected = finite.empty; next = next }
+
+-- a site without open sessions, whose next session has this number
+abbrev pub idle : RelyingParty → Policy → List Credential → ℕ → SiteState
+idle rp policy rows next = record { rp = rp; policy = policy; rows = rows; sessions = none_open next }
 
 -- what is kept over a restart
 abbrev pub saved_of : SiteState → Saved

@@ -11,7 +11,7 @@ ghost use Rattle.credential_table.specs.Views.{rows_view, stored_row_view};
 ghost use Rattle.ceremony_sessions.specs.Sessions.{IsRefused, OpensRegistration, OpensSignIn, PassesOpening, begun, challenge_of, closed};
 ghost use Rattle.ceremony_sessions.specs.Views.{session_view};
 ghost use Rattle.saved_table.specs.Saved.{AppendsTable, Saved, TableOf, last_version};
-ghost use Rattle.site.specs.State.{IsParty, none_open, saved_of};
+ghost use Rattle.site.specs.State.{IsParty, idle, party_of, saved_of};
 ghost use Rattle.site.specs.declared.error.Error.TheVariants as errors;
 
 use crate::error::Error;
@@ -70,16 +70,10 @@ fn site_with(
     table: Table,
     next: u64,
 ) -> Result<Site, AllocError>
-    requires party { IsParty (record { rp_id = rp_id.now; origins = texts_of origins.now; profile = profile }) }
+    requires party { IsParty (party_of profile rp_id.now (texts_of origins.now)) }
     requires table { IsTable profile table }
     requires next { 1 ≤ next }
-    ensures { IfOk result (λ s. s ≡ record {
-      rp = record { rp_id = rp_id.now; origins = texts_of origins.now; profile = profile };
-      policy = policy;
-      rows = table;
-      sessions =
-          none_open next;
-    }) }
+    ensures { IfOk result (λ s. s ≡ idle (party_of profile rp_id.now (texts_of origins.now)) policy table next) }
 {
     Ok(Site {
         alloc,
@@ -90,133 +84,33 @@ fn site_with(
     })
 }
 
-/// A site without credentials, of this profile.
-fn empty_site(
-    alloc: Global,
-    profile: Profile,
-    rp_id: &str,
-    origins: &[&str],
-    policy: Policy,
-) -> Result<Site, Error>
-    ensures made { IfOk result (λ s. s
-        ≡ record { rp = record { rp_id = rp_id.now; origins = texts_of origins.now; profile = profile }; policy = policy; rows = []; sessions = none_open 1 }) }
-    ensures input { IsErrOf result Error.BadInput ↔ ¬ IsParty (record { rp_id = rp_id.now; origins = texts_of origins.now; profile = profile }) }
-    ensures no_table { IfErr result (λ e. e ≢ errors.BadTable) }
-{
-    if !is_party(rp_id, origins) {
-        return Err(Error::BadInput);
-    }
-    Ok(site_with(alloc, profile, rp_id, origins, policy, Table::new(alloc), 1)?)
-}
-
-/// A site with a table, of this profile.
-fn site_of_table(
-    alloc: Global,
-    profile: Profile,
-    rp_id: &str,
-    origins: &[&str],
-    policy: Policy,
-    table: Table,
-) -> Result<Site, Error>
-    ensures made { IfOk result (λ s. s
-        ≡ record { rp = record { rp_id = rp_id.now; origins = texts_of origins.now; profile = profile }; policy = policy; rows = table; sessions = none_open 1 }) }
-    ensures input { IsErrOf result Error.BadInput ↔ ¬ IsParty (record { rp_id = rp_id.now; origins = texts_of origins.now; profile = profile }) }
-    ensures table { IsErrOf result Error.BadTable → IsTable profile table → ⊥ }
-{
-    if !is_party(rp_id, origins) {
-        return Err(Error::BadInput);
-    }
-    if !table.is_of(profile) {
-        return Err(Error::BadTable);
-    }
-    Ok(site_with(alloc, profile, rp_id, origins, policy, table, 1)?)
-}
-
-/// A site with these credentials, of this profile.
-fn site_of_rows(
-    alloc: Global,
-    profile: Profile,
-    rp_id: &str,
-    origins: &[&str],
-    policy: Policy,
-    rows: Vec<Row>,
-) -> Result<Site, Error>
-    ensures made { IfOk result (λ s. s
-        ≡ record {
-          rp = record { rp_id = rp_id.now; origins = texts_of origins.now; profile = profile };
-          policy = policy;
-          rows = rows_view rows.items;
-          sessions =
-              none_open 1;
-        }) }
-    ensures input { IsErrOf result Error.BadInput ↔ ¬ IsParty (record { rp_id = rp_id.now; origins = texts_of origins.now; profile = profile }) }
-    ensures table { IsErrOf result Error.BadTable → IsTable profile (rows_view rows.items) → ⊥ }
-{
-    if !is_party(rp_id, origins) {
-        return Err(Error::BadInput);
-    }
-    match Table::with_profile(alloc, profile, rows) {
-        Ok(table) => Ok(site_with(alloc, profile, rp_id, origins, policy, table, 1)?),
-        Err(credential_table::Error::BadTable) => Err(Error::BadTable),
-        Err(credential_table::Error::Memory) => Err(Error::Memory),
-    }
-}
-
-/// The site that was saved, of this profile.
-fn loaded_site(
-    alloc: Global,
-    profile: Profile,
-    bytes: &[u8],
-    rp_id: &str,
-    origins: &[&str],
-    policy: Policy,
-) -> Result<Site, Error>
-    ensures loaded { IfOk result (λ s. ((version : ℕ) × (version ≤ last_version profile) × TableOf version (saved_of s) bytes.now)
-        × (s ≡ record {
-          rp = record { rp_id = rp_id.now; origins = texts_of origins.now; profile = profile };
-          policy = policy;
-          rows = s.rows;
-          sessions =
-              none_open s.sessions.next;
-        })) }
-    ensures input { IsErrOf result Error.BadInput ↔ ¬ IsParty (record { rp_id = rp_id.now; origins = texts_of origins.now; profile = profile }) }
-    ensures table { IsErrOf result Error.BadTable → (version : ℕ) (saved : Saved) → saved.rp_id ≡ rp_id.now
-        → version ≤ last_version profile → TableOf version saved bytes.now → ⊥ }
-{
-    if !is_party(rp_id, origins) {
-        return Err(Error::BadInput);
-    }
-    match saved_table::load(alloc, profile, bytes, rp_id) {
-        Ok(Loaded { table, next }) => Ok(site_with(
-            alloc, profile, rp_id, origins, policy, table, next,
-        )?),
-        Err(saved_table::Error::BadTable) => Err(Error::BadTable),
-        Err(saved_table::Error::Memory) => Err(Error::Memory),
-    }
-}
-
 impl Site {
     /// A site without credentials, of the strict profile.
     ///
     /// `BadInput` where the rp id is not of 1 to 253 bytes or there is no origin; `Memory` where there was none for
     /// the copies of the texts. An origin is compared as a text.
     pub fn new(alloc: Global, rp_id: &str, origins: &[&str], policy: Policy) -> Result<Site, Error>
-        ensures made { IfOk result (λ s. s
-            ≡ record { rp = record { rp_id = rp_id.now; origins = texts_of origins.now; profile = Strict }; policy = policy; rows = []; sessions = none_open 1 }) }
-        ensures input { IsErrOf result Error.BadInput ↔ ¬ IsParty (record { rp_id = rp_id.now; origins = texts_of origins.now; profile = Strict }) }
+        ensures made { IfOk result (λ s. s ≡ idle (party_of Strict rp_id.now (texts_of origins.now)) policy [] 1) }
+        ensures input { IsErrOf result Error.BadInput ↔ ¬ IsParty (party_of Strict rp_id.now (texts_of origins.now)) }
         ensures no_table { IfErr result (λ e. e ≢ errors.BadTable) }
     {
-        empty_site(alloc, Profile::Strict, rp_id, origins, policy)
+        Site::with_table(alloc, rp_id, origins, policy, Table::new(alloc))
     }
 
     /// A site without credentials, of the open profile, which takes what real keys and browsers send; else as `new`.
     pub fn open(alloc: Global, rp_id: &str, origins: &[&str], policy: Policy) -> Result<Site, Error>
-        ensures made { IfOk result (λ s. s
-            ≡ record { rp = record { rp_id = rp_id.now; origins = texts_of origins.now; profile = Open }; policy = policy; rows = []; sessions = none_open 1 }) }
-        ensures input { IsErrOf result Error.BadInput ↔ ¬ IsParty (record { rp_id = rp_id.now; origins = texts_of origins.now; profile = Open }) }
+        ensures made { IfOk result (λ s. s ≡ idle (party_of Open rp_id.now (texts_of origins.now)) policy [] 1) }
+        ensures input { IsErrOf result Error.BadInput ↔ ¬ IsParty (party_of Open rp_id.now (texts_of origins.now)) }
         ensures no_table { IfErr result (λ e. e ≢ errors.BadTable) }
     {
-        empty_site(alloc, Profile::Open, rp_id, origins, policy)
+        Site::with_profile(
+            alloc,
+            Profile::Open,
+            rp_id,
+            origins,
+            policy,
+            Table::new(alloc),
+        )
     }
 
     /// A site with a table of credentials that is made, of the strict profile.
@@ -229,33 +123,39 @@ impl Site {
         policy: Policy,
         table: Table,
     ) -> Result<Site, Error>
-        ensures made { IfOk result (λ s. s
-            ≡ record { rp = record { rp_id = rp_id.now; origins = texts_of origins.now; profile = Strict }; policy = policy; rows = table; sessions = none_open 1 }) }
-        ensures input { IsErrOf result Error.BadInput ↔ ¬ IsParty (record { rp_id = rp_id.now; origins = texts_of origins.now; profile = Strict }) }
+        ensures made { IfOk result (λ s. s ≡ idle (party_of Strict rp_id.now (texts_of origins.now)) policy table 1) }
+        ensures input { IsErrOf result Error.BadInput ↔ ¬ IsParty (party_of Strict rp_id.now (texts_of origins.now)) }
         ensures table { IsErrOf result Error.BadTable → IsTable Strict table → ⊥ }
     {
-        site_of_table(alloc, Profile::Strict, rp_id, origins, policy, table)
+        Site::with_profile(alloc, Profile::Strict, rp_id, origins, policy, table)
     }
 
-    /// A site with a table of credentials that is made, of the open profile: each table is one that it can have.
+    /// A site with a table of credentials that is made, of this profile; a site of the open one can have each table.
     ///
-    /// `BadInput` and `Memory` as for `new`.
-    pub fn open_with_table(
+    /// `BadInput` and `Memory` as for `new`; `BadTable` as for `with_table`, of the strict profile alone.
+    pub fn with_profile(
         alloc: Global,
+        profile: Profile,
         rp_id: &str,
         origins: &[&str],
         policy: Policy,
         table: Table,
     ) -> Result<Site, Error>
-        ensures made { IfOk result (λ s. s
-            ≡ record { rp = record { rp_id = rp_id.now; origins = texts_of origins.now; profile = Open }; policy = policy; rows = table; sessions = none_open 1 }) }
-        ensures input { IsErrOf result Error.BadInput ↔ ¬ IsParty (record { rp_id = rp_id.now; origins = texts_of origins.now; profile = Open }) }
-        ensures table { IsErrOf result Error.BadTable → IsTable Open table → ⊥ }
+        ensures made { IfOk result (λ s. s ≡ idle (party_of profile rp_id.now (texts_of origins.now)) policy table 1) }
+        ensures input { IsErrOf result Error.BadInput ↔ ¬ IsParty (party_of profile rp_id.now (texts_of origins.now)) }
+        ensures table { IsErrOf result Error.BadTable → IsTable profile table → ⊥ }
     {
-        site_of_table(alloc, Profile::Open, rp_id, origins, policy, table)
+        if !is_party(rp_id, origins) {
+            return Err(Error::BadInput);
+        }
+        if !table.is_of(profile) {
+            return Err(Error::BadTable);
+        }
+        Ok(site_with(alloc, profile, rp_id, origins, policy, table, 1)?)
     }
 
-    /// A site with these credentials, in order of registration, of the strict profile.
+    /// A site with these credentials, in order of registration, of the strict profile. For the open one make a
+    /// [`Table`](credential_table::Table) of it, and the site by [`Site::with_profile`].
     ///
     /// `BadInput` as for `new`; then `BadTable` where an id or a user handle is not of 1 to 64 bytes, an id stands
     /// twice, or there are more than 65,536 credentials.
@@ -267,39 +167,18 @@ impl Site {
         rows: Vec<Row>,
     ) -> Result<Site, Error>
         ensures made { IfOk result (λ s. s
-            ≡ record {
-              rp = record { rp_id = rp_id.now; origins = texts_of origins.now; profile = Strict };
-              policy = policy;
-              rows = rows_view rows.items;
-              sessions =
-                  none_open 1;
-            }) }
-        ensures input { IsErrOf result Error.BadInput ↔ ¬ IsParty (record { rp_id = rp_id.now; origins = texts_of origins.now; profile = Strict }) }
+            ≡ idle (party_of Strict rp_id.now (texts_of origins.now)) policy (rows_view rows.items) 1) }
+        ensures input { IsErrOf result Error.BadInput ↔ ¬ IsParty (party_of Strict rp_id.now (texts_of origins.now)) }
         ensures table { IsErrOf result Error.BadTable → IsTable Strict (rows_view rows.items) → ⊥ }
     {
-        site_of_rows(alloc, Profile::Strict, rp_id, origins, policy, rows)
-    }
-
-    /// A site with these credentials, of the open profile: an id has 1 to 1,023 bytes; else as `with_rows`.
-    pub fn open_with_rows(
-        alloc: Global,
-        rp_id: &str,
-        origins: &[&str],
-        policy: Policy,
-        rows: Vec<Row>,
-    ) -> Result<Site, Error>
-        ensures made { IfOk result (λ s. s
-            ≡ record {
-              rp = record { rp_id = rp_id.now; origins = texts_of origins.now; profile = Open };
-              policy = policy;
-              rows = rows_view rows.items;
-              sessions =
-                  none_open 1;
-            }) }
-        ensures input { IsErrOf result Error.BadInput ↔ ¬ IsParty (record { rp_id = rp_id.now; origins = texts_of origins.now; profile = Open }) }
-        ensures table { IsErrOf result Error.BadTable → IsTable Open (rows_view rows.items) → ⊥ }
-    {
-        site_of_rows(alloc, Profile::Open, rp_id, origins, policy, rows)
+        if !is_party(rp_id, origins) {
+            return Err(Error::BadInput);
+        }
+        match Table::from_rows(alloc, rows) {
+            Ok(table) => Ok(site_with(alloc, Profile::Strict, rp_id, origins, policy, table, 1)?),
+            Err(credential_table::Error::BadTable) => Err(Error::BadTable),
+            Err(credential_table::Error::Memory) => Err(Error::Memory),
+        }
     }
 
     /// The site that was saved, by `save` or in an earlier version of its bytes, without open sessions; the session
@@ -315,42 +194,40 @@ impl Site {
         policy: Policy,
     ) -> Result<Site, Error>
         ensures loaded { IfOk result (λ s. ((version : ℕ) × (version ≤ last_version Strict) × TableOf version (saved_of s) bytes.now)
-            × (s ≡ record {
-              rp = record { rp_id = rp_id.now; origins = texts_of origins.now; profile = Strict };
-              policy = policy;
-              rows = s.rows;
-              sessions =
-                  none_open s.sessions.next;
-            })) }
-        ensures input { IsErrOf result Error.BadInput ↔ ¬ IsParty (record { rp_id = rp_id.now; origins = texts_of origins.now; profile = Strict }) }
+            × (s ≡ idle (party_of Strict rp_id.now (texts_of origins.now)) policy s.rows s.sessions.next)) }
+        ensures input { IsErrOf result Error.BadInput ↔ ¬ IsParty (party_of Strict rp_id.now (texts_of origins.now)) }
         ensures table { IsErrOf result Error.BadTable → (version : ℕ) (saved : Saved) → saved.rp_id ≡ rp_id.now
             → version ≤ last_version Strict → TableOf version saved bytes.now → ⊥ }
     {
-        loaded_site(alloc, Profile::Strict, bytes, rp_id, origins, policy)
+        Site::load_with_profile(alloc, Profile::Strict, bytes, rp_id, origins, policy)
     }
 
-    /// The site that was saved, of the open profile: version 4, with ids of up to 1,023 bytes, is loaded too; else as
+    /// The site that was saved, of this profile: the open one loads version 4 too, with ids of up to 1,023 bytes; else as
     /// `load`. What a strict site saved may be loaded as an open one.
-    pub fn open_load(
+    pub fn load_with_profile(
         alloc: Global,
+        profile: Profile,
         bytes: &[u8],
         rp_id: &str,
         origins: &[&str],
         policy: Policy,
     ) -> Result<Site, Error>
-        ensures loaded { IfOk result (λ s. ((version : ℕ) × (version ≤ last_version Open) × TableOf version (saved_of s) bytes.now)
-            × (s ≡ record {
-              rp = record { rp_id = rp_id.now; origins = texts_of origins.now; profile = Open };
-              policy = policy;
-              rows = s.rows;
-              sessions =
-                  none_open s.sessions.next;
-            })) }
-        ensures input { IsErrOf result Error.BadInput ↔ ¬ IsParty (record { rp_id = rp_id.now; origins = texts_of origins.now; profile = Open }) }
+        ensures loaded { IfOk result (λ s. ((version : ℕ) × (version ≤ last_version profile) × TableOf version (saved_of s) bytes.now)
+            × (s ≡ idle (party_of profile rp_id.now (texts_of origins.now)) policy s.rows s.sessions.next)) }
+        ensures input { IsErrOf result Error.BadInput ↔ ¬ IsParty (party_of profile rp_id.now (texts_of origins.now)) }
         ensures table { IsErrOf result Error.BadTable → (version : ℕ) (saved : Saved) → saved.rp_id ≡ rp_id.now
-            → version ≤ last_version Open → TableOf version saved bytes.now → ⊥ }
+            → version ≤ last_version profile → TableOf version saved bytes.now → ⊥ }
     {
-        loaded_site(alloc, Profile::Open, bytes, rp_id, origins, policy)
+        if !is_party(rp_id, origins) {
+            return Err(Error::BadInput);
+        }
+        match saved_table::load(alloc, profile, bytes, rp_id) {
+            Ok(Loaded { table, next }) => Ok(site_with(
+                alloc, profile, rp_id, origins, policy, table, next,
+            )?),
+            Err(saved_table::Error::BadTable) => Err(Error::BadTable),
+            Err(saved_table::Error::Memory) => Err(Error::Memory),
+        }
     }
 
     /// Which responses, and which ids, it takes.

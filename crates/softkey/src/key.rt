@@ -6,7 +6,7 @@ ghost use Rattle.hidlink.specs.declared.transaction.DeviceEvent.TheVariants as e
 use crate::command::{Decision, LineCommand, line_command};
 use authdata::AttestationType;
 use authenticator::{Authenticator, Begun, LoadError, MAX_SIGNATURE, Pending};
-use cose::Alg;
+use cose::SigningAlg;
 use ctap_status::status::KEEPALIVE_CANCEL;
 use hidframe::Packet;
 use hidframe::ctaphid::STATUS_UPNEEDED;
@@ -84,8 +84,8 @@ fn tell_pending(told: &mut Vec<u8>, pending: &Pending) -> Result<(), AllocError>
     let [first, second] = pending.message();
     told.extend_from_slice(b"sign ")?;
     told.extend_from_slice(match pending.alg() {
-        Alg::Es256 => b"-7 ",
-        Alg::EdDsa => b"-8 ",
+        SigningAlg::Es256 => b"-7 ",
+        SigningAlg::EdDsa => b"-8 ",
     })?;
     tell_hex(told, pending.secret())?;
     told.extend_from_slice(b" ")?;

@@ -1,11 +1,12 @@
 -- A row is one credential's.
-use Rattle.std.proofs.Common.{◌≡◌, ℕ, pos, Bool, true, false, List, Some, None, refl, ap}
-use Rattle.std.specs.Prelude.{Option}
+use Rattle.std.proofs.Common.{◌≡◌, ℕ, pos, Bool, true, false, List, Some, None, refl, ap, ◌∙◌}
+use Rattle.std.specs.Prelude.{Option, ℤ}
 use Rattle.sqlite_value.specs.Order.{column, bytes}
 use Rattle.sqlite_value.specs.declared.value.Value.TheVariants.{Int, Blob}
 use Rattle.cose.specs.declared.key.CoseKey.{CoseKey}
 use Rattle.cose.specs.declared.key.CoseKey.TheVariants as keys
-use Rattle.cose.specs.Keys.{x_of}
+use Rattle.cose.specs.Rsa.{RsaPublicKey}
+use Rattle.cose.specs.Keys.{alg_of, number_of, x_of}
 use Rattle.verification.specs.Records.{Credential}
 use Rattle.stored_site.specs.Rows.{credential_row, truth_value, truth_or_null, y_value}
 
@@ -26,14 +27,26 @@ known_once (Some a) (Some b) e = ap Some (truth_once a b e)
 blob_once : (x y : List ℕ) → Blob x ≡ Blob y → x ≡ y
 blob_once x y e = ap bytes e
 
-key_once : (k l : CoseKey) → Blob (x_of k) ≡ Blob (x_of l) → y_value k ≡ y_value l → k ≡ l
-key_once (keys.Es256 x y) (keys.Es256 v w) e f =
+rsa_once : (k l : RsaPublicKey) → k.n ≡ l.n → k.e ≡ l.e → keys.Rs256 k ≡ keys.Rs256 l
+rsa_once k l n e =
+    ap (λ (bs : List ℕ). keys.Rs256 (record { n = bs; e = k.e })) n ∙ ap (λ (bs : List ℕ). keys.Rs256 (record { n = l.n; e = bs })) e
+
+key_once : (k l : CoseKey) → number_of (alg_of k) ≡ number_of (alg_of l) → Blob (x_of k) ≡ Blob (x_of l) → y_value k ≡ y_value l → k ≡ l
+key_once (keys.Es256 x y) (keys.Es256 v w) a e f =
     let p = blob_once x v e in
     let q = blob_once y w f in
     rw (p, q) refl
-key_once (keys.Es256 x y) (keys.EdDsa v) e f = absurd cc
-key_once (keys.EdDsa x) (keys.Es256 v w) e f = absurd cc
-key_once (keys.EdDsa x) (keys.EdDsa v) e f = ap keys.EdDsa (blob_once x v e)
+key_once (keys.Es256 x y) (keys.EdDsa v) a e f = absurd cc
+key_once (keys.Es256 x y) (keys.Rs256 l) a e f = absurd cc
+key_once (keys.EdDsa x) (keys.Es256 v w) a e f = absurd cc
+key_once (keys.EdDsa x) (keys.EdDsa v) a e f = ap keys.EdDsa (blob_once x v e)
+key_once (keys.EdDsa x) (keys.Rs256 l) a e f = absurd cc
+key_once (keys.Rs256 k) (keys.Es256 v w) a e f = absurd cc
+key_once (keys.Rs256 k) (keys.EdDsa v) a e f = absurd cc
+key_once (keys.Rs256 k) (keys.Rs256 l) a e f = rsa_once k l (blob_once k.n l.n e) (blob_once k.e l.e f)
+
+algorithm_once : (m n : ℤ) → Int m ≡ Int n → m ≡ n
+algorithm_once m n e = cc
 
 number_once : (m n : ℕ) → Int (pos m) ≡ Int (pos n) → m ≡ n
 number_once m n e = cc
@@ -44,7 +57,7 @@ one_credential p q c d e =
     let place = number_once p q (at 0) in
     let id = blob_once c.id d.id (at 2) in
     let user = blob_once c.user d.user (at 3) in
-    let key = key_once c.key d.key (at 5) (at 6) in
+    let key = key_once c.key d.key (algorithm_once (number_of (alg_of c.key)) (number_of (alg_of d.key)) (at 4)) (at 5) (at 6) in
     let count = number_once c.sign_count d.sign_count (at 7) in
     let eligible = known_once c.eligible d.eligible (at 8) in
     let retired = truth_once c.retired d.retired (at 9) in

@@ -18,12 +18,14 @@ abbrev pub truth_or_null : Option Bool → Value
 truth_or_null None = Null
 truth_or_null (Some truth) = truth_value truth
 
--- the y coordinate, where the key has one
+-- the y coordinate, where the key has one; of an RSA key its exponent
 abbrev pub y_value : CoseKey → Value
 y_value (keys.Es256 x y) = Blob y
 y_value (keys.EdDsa x) = Null
+y_value (keys.Rs256 k) = Blob k.e
 
--- the columns: place, id, user_handle, algorithm (its COSE number), x, y, sign_count, backup_eligible, retired
+-- the columns: place, id, user_handle, algorithm (its COSE number), x (of an RSA key its
+-- modulus), y, sign_count, backup_eligible, retired
 abbrev pub credential_row : ℕ → Credential → Row
 credential_row place c =
     Int (pos place) ∷ Null ∷ Blob c.id ∷ Blob c.user ∷ Int (number_of (alg_of c.key)) ∷ Blob (x_of c.key) ∷ y_value c.key

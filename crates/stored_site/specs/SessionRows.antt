@@ -15,10 +15,11 @@ abbrev pub blob_or_null : Option (List ℕ) → Value
 blob_or_null None = Null
 blob_or_null (Some bytes) = Blob bytes
 
--- the numbers of the algorithms offered (RFC 9053, section 2), one behind the other
+-- the numbers of the algorithms offered (RFC 9053, section 2, RFC 8812, section 2), one behind the other
 abbrev pub number_text : Alg → List ℕ
 number_text algs.Es256 = codes "-7"
 number_text algs.EdDsa = codes "-8"
+number_text algs.Rs256 = codes "-257"
 
 -- the columns of the credentials that may answer: allow_1 to allow_8
 abbrev pub listed : List (List ℕ) → Row

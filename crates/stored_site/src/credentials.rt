@@ -3,7 +3,8 @@
 ghost use Rattle.std.specs.Prelude.{◌≡◌, ◌↔◌, ◌<◌, ◌^◌, ℕ, Some, IfOk, OnOk, IsErrOf, IsTrue, option_map};
 ghost use Rattle.sqlite_value.specs.Value.{owned};
 ghost use Rattle.sqlite_value.specs.declared.value.Value.TheVariants.{Blob};
-ghost use Rattle.cose.specs.Keys.{IsKey, alg_of, number_of, x_of};
+ghost use Rattle.cose.specs.Keys.{IsKey, alg_of, lent_key_view, number_of, x_of};
+ghost use Rattle.cose.specs.declared.key.CoseKey.{CoseKey};
 ghost use Rattle.verification.specs.Records.{Credential};
 ghost use Rattle.verification.specs.Views.{credential_view};
 ghost use Rattle.credential_table.specs.Views.{row_view};
@@ -13,22 +14,23 @@ ghost use Rattle.stored_site.specs.declared.error.RowError.TheVariants as errors
 
 use crate::error::RowError;
 use crate::values::{blob_at, int_at, truth, truth_in, truth_or_null};
-use cose::{Alg, CoseKey};
+use cose::{Alg, KeyView, RsaView};
 use credential_table::Row as StoredRow;
 use sqlite_value::row::Row;
 use sqlite_value::value::ValueRef;
 use std::alloc::{AllocError, Global};
 use verification::RowView;
 
-/// The values of the key's coordinates.
-fn coordinates(key: &CoseKey) -> (ValueRef<'_>, ValueRef<'_>)
-    ensures x { owned result.0 ≡ Blob (x_of key.now) }
-    ensures y { owned result.1 ≡ y_value key.now }
-    ensures key { IsKey key.now }
+/// The values of the key's coordinates; of an RSA key its modulus and its exponent.
+fn coordinates<'a>(key: &'a KeyView<'_>) -> (ValueRef<'a>, ValueRef<'a>)
+    ensures x { owned result.0 ≡ Blob (x_of (lent_key_view key.now)) }
+    ensures y { owned result.1 ≡ y_value (lent_key_view key.now) }
+    ensures key { IsKey (lent_key_view key.now) }
 {
     match key {
-        CoseKey::Es256 { x, y } => (ValueRef::Blob(x), ValueRef::Blob(y)),
-        CoseKey::EdDsa { x } => (ValueRef::Blob(x), ValueRef::Null),
+        KeyView::Es256 { x, y } => (ValueRef::Blob(x), ValueRef::Blob(y)),
+        KeyView::EdDsa { x } => (ValueRef::Blob(x), ValueRef::Null),
+        KeyView::Rs256(key) => (ValueRef::Blob(key.n), ValueRef::Blob(key.e)),
     }
 }
 
@@ -41,7 +43,7 @@ pub fn credential_row(
     ensures row { IfOk result (λ row. row ≡ credential_row place (credential_view credential.now)) }
     ensures stored { OnOk result (IsStored (credential_view credential.now)) }
 {
-    let (x, y) = coordinates(credential.key);
+    let (x, y) = coordinates(&credential.key);
     let mut row = Row::new(alloc);
     row.push(ValueRef::Int(i64::from(place)))?;
     row.push(ValueRef::Null)?;
@@ -56,25 +58,32 @@ pub fn credential_row(
     Ok(row)
 }
 
-/// The public key of an algorithm's number with these coordinates.
-fn key_of(algorithm: i64, x: &[u8], y: Option<&[u8]>) -> Option<CoseKey>
-    ensures { (key : CoseKey) → IsKey key → number_of (alg_of key) ≡ algorithm → x_of key ≡ x.now → blob_in (y_value key) ≡ option_map (λ y. y.now) y.entry → result ≡ Some key }
+/// The public key of an algorithm's number with these coordinates, or with this modulus and this exponent.
+fn key_of<'a>(algorithm: i64, x: &'a [u8], y: Option<&'a [u8]>) -> Option<KeyView<'a>>
+    ensures { (key : CoseKey) → IsKey key → number_of (alg_of key) ≡ algorithm → x_of key ≡ x.now → blob_in (y_value key) ≡ option_map (λ y. y.now) y.entry
+        → option_map lent_key_view result ≡ Some key }
 {
+    if algorithm == Alg::Rs256.number() {
+        return match RsaView::new(x, y?) {
+            Some(key) => Some(KeyView::Rs256(key)),
+            None => None,
+        };
+    }
     let Ok(x) = <[u8; 32]>::try_from(x) else {
         return None;
     };
     if algorithm == Alg::EdDsa.number() {
-        return Some(CoseKey::EdDsa { x });
+        return Some(KeyView::EdDsa { x });
     }
     match <[u8; 32]>::try_from(y?) {
-        Ok(y) => Some(CoseKey::Es256 { x, y }),
+        Ok(y) => Some(KeyView::Es256 { x, y }),
         Err(_) => None,
     }
 }
 
 /// The public key in a row.
-fn key_in(row: &Row) -> Option<CoseKey>
-    ensures { (place : ℕ) (c : Credential) → IsKey c.key → row.now ≡ credential_row place c → result ≡ Some c.key }
+fn key_in(row: &Row) -> Option<KeyView<'_>>
+    ensures { (place : ℕ) (c : Credential) → IsKey c.key → row.now ≡ credential_row place c → option_map lent_key_view result ≡ Some c.key }
 {
     let algorithm = int_at(row, 4)?;
     let x = blob_at(row, 5)?;
@@ -92,8 +101,8 @@ fn sign_count_in(row: &Row) -> Option<u32>
 }
 
 /// The credential that a row seems to hold.
-fn seen<'a>(row: &'a Row, key: &'a CoseKey) -> Option<RowView<'a>>
-    ensures { (place : ℕ) (c : Credential) → c.sign_count < 2 ^ 32 → key.now ≡ c.key → row.now ≡ credential_row place c
+fn seen<'a>(row: &'a Row, key: KeyView<'a>) -> Option<RowView<'a>>
+    ensures { (place : ℕ) (c : Credential) → c.sign_count < 2 ^ 32 → lent_key_view key.entry ≡ c.key → row.now ≡ credential_row place c
         → option_map credential_view result ≡ Some c }
 {
     Some(RowView {
@@ -126,7 +135,7 @@ fn copy_of(alloc: Global, credential: &RowView<'_>) -> Result<StoredRow, AllocEr
     Ok(StoredRow {
         id: Vec::from_slice(alloc, credential.id)?,
         user: Vec::from_slice(alloc, credential.user)?,
-        key: *credential.key,
+        key: credential.key.to_key(alloc)?,
         sign_count: credential.sign_count,
         eligible: credential.eligible,
         retired: credential.retired,
@@ -145,7 +154,7 @@ pub fn read_credential(alloc: Global, place: u32, row: &Row) -> Result<StoredRow
     let Some(key) = key_in(row) else {
         return Err(RowError::BadRow);
     };
-    let Some(found) = seen(row, &key) else {
+    let Some(found) = seen(row, key) else {
         return Err(RowError::BadRow);
     };
     if !is_row_of(alloc, place, &found, row)? {

@@ -23,6 +23,7 @@ fn number_text(algorithm: Alg) -> &'static [u8]
     match algorithm {
         Alg::Es256 => b"-7",
         Alg::EdDsa => b"-8",
+        Alg::Rs256 => b"-257",
     }
 }
 

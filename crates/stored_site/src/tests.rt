@@ -3,23 +3,23 @@
 use crate::{RowError, credential_row, read_credential, session_row};
 use authdata::Profile;
 use ceremony_sessions::Sessions;
-use cose::{Alg, CoseKey};
+use cose::{Alg, KeyView};
 use sqlite_value::order::is_same;
 use sqlite_value::row::Row;
 use sqlite_value::value::ValueRef;
 use std::alloc::Global;
 use verification::RowView;
 
-const KEYS: [CoseKey; 2] = [
-    CoseKey::Es256 {
+const KEYS: [KeyView<'static>; 2] = [
+    KeyView::Es256 {
         x: [1; 32],
         y: [2; 32],
     },
-    CoseKey::EdDsa { x: [3; 32] },
+    KeyView::EdDsa { x: [3; 32] },
 ];
 
 /// A credential with this key.
-fn credential(key: &CoseKey) -> RowView<'_> {
+fn credential<'a>(key: KeyView<'a>) -> RowView<'a> {
     RowView {
         id: &[7, 8],
         user: &[9],
@@ -31,13 +31,13 @@ fn credential(key: &CoseKey) -> RowView<'_> {
 }
 
 /// Whether the row of a credential with this key is read back in its place, and in no other.
-fn is_read_back(alloc: Global, key: &CoseKey) -> Option<bool> {
+fn is_read_back(alloc: Global, key: KeyView<'_>) -> Option<bool> {
     let row = credential_row(alloc, 3, &credential(key)).ok()?;
     let found = read_credential(alloc, 3, &row).ok()?;
     let other = read_credential(alloc, 4, &row).err()?;
     Some(
         other == RowError::BadRow
-            && found.key == *key
+            && found.key.view().is_same(&key)
             && found.sign_count == 4_294_967_295
             && found.eligible == Some(true)
             && !found.retired,
@@ -46,7 +46,7 @@ fn is_read_back(alloc: Global, key: &CoseKey) -> Option<bool> {
 
 /// The row with one column more.
 fn with_one_more(alloc: Global) -> Option<Row> {
-    let mut row = credential_row(alloc, 1, &credential(&KEYS[1])).ok()?;
+    let mut row = credential_row(alloc, 1, &credential(KEYS[1])).ok()?;
     row.push(ValueRef::Null).ok()?;
     Some(row)
 }
@@ -116,7 +116,7 @@ fn rows_of_sessions_are_written(rt: HostRuntime) -> Result<(), RowError> {
 #[test]
 fn rows_are_read_back(rt: HostRuntime) -> Result<(), RowError> {
     for key in &KEYS {
-        assert!(rt; is_read_back(rt.alloc(), key) == Some(true));
+        assert!(rt; is_read_back(rt.alloc(), *key) == Some(true));
     }
     Ok(())
 }

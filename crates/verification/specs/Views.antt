@@ -1,6 +1,7 @@
 -- What the crate's types stand for.
 use Rattle.std.specs.Prelude.{ℕ, Bool, false, List, map, option_map}
 use Rattle.std.specs.Borrow.{Bor}
+use Rattle.cose.specs.Keys.{lent_key_view}
 use Rattle.authdata.specs.Responses.{AuthenticatorAssertionResponse}
 use Rattle.authdata.specs.Responses as responses
 use Rattle.verification.specs.Records.{Credential, NewCredential, ExpectedSignIn, ExpectedRegistration}
@@ -20,7 +21,7 @@ abbrev pub texts_of : List (Bor (List ℕ)) → List (List ℕ)
 texts_of texts = map (λ text. text.now) texts
 
 abbrev pub credential_view : RowView → Credential
-credential_view c = record { id = c.id.now; user = c.user.now; key = c.key.now; sign_count = c.sign_count; eligible = c.eligible; retired = c.retired }
+credential_view c = record { id = c.id.now; user = c.user.now; key = lent_key_view c.key; sign_count = c.sign_count; eligible = c.eligible; retired = c.retired }
 
 abbrev pub admitted_view : AdmittedCredential → NewCredential
 admitted_view c = record { id = c.id.items; key = c.key; sign_count = c.sign_count; eligible = c.eligible }

@@ -1,6 +1,6 @@
 //! What a site keeps, of a credential and of a ceremony that has begun.
 
-use cose::{Alg, CoseKey};
+use cose::{Alg, KeyView};
 
 /// A registered credential, lent.
 #[derive(Clone, Copy, Debug, Drop)]
@@ -10,7 +10,7 @@ pub struct RowView<'a> {
     /// The user handle: 1 to 64 bytes.
     pub user: &'a [u8],
     /// The public key.
-    pub key: &'a CoseKey,
+    pub key: KeyView<'a>,
     /// The signature counter last received.
     pub sign_count: u32,
     /// Whether the credential is eligible for backup, where that is known.

@@ -2,7 +2,7 @@
 
 ghost use Rattle.std.specs.Prelude.{◌≡◌, ◌↔◌, Bool, Contains, IfErr, IfOk, IfSome, IsTrue, List, None, OnOk, Some, ℕ};
 ghost use Rattle.refusal_order.specs.Lines.{Each, FirstFailing};
-ghost use Rattle.cose.specs.Keys.{alg_of};
+ghost use Rattle.cose.specs.Keys.{alg_of, lent_key_view};
 ghost use Rattle.authdata.specs.Objects.{ObjectOf, object_view};
 ghost use Rattle.authdata.specs.Layout.{AttestedCredential, AuthOf, AuthenticatorData, lent_attested_view, lent_auth_view};
 ghost use Rattle.verification.specs.Registration.{Attests, JudgedRegistration, PassesRegistrationStep, attestation_steps, auth_data_steps};
@@ -23,7 +23,7 @@ use authdata::{
     read_view,
 };
 use clientdata::{CeremonyType, hash};
-use cose::{Alg, CoseKey, Verifier};
+use cose::{Alg, CoseKey, KeyView, Verifier};
 use std::alloc::{AllocError, Global};
 use std::marker::Model;
 
@@ -96,8 +96,8 @@ fn is_offered(algorithms: &[Alg], alg: Alg) -> bool
 }
 
 /// Whether the session offered the key's algorithm.
-fn offers(session: &RegistrationSession, key: &CoseKey) -> bool
-    ensures { IsTrue result ↔ Contains (registration_view session.now).algorithms (alg_of key.now) }
+fn offers(session: &RegistrationSession, key: &KeyView<'_>) -> bool
+    ensures { IsTrue result ↔ Contains (registration_view session.now).algorithms (alg_of (lent_key_view key.now)) }
 {
     is_offered(&session.algorithms, key.alg())
 }
@@ -106,11 +106,11 @@ fn offers(session: &RegistrationSession, key: &CoseKey) -> bool
 fn statement<V: Verifier>(
     verifier: &V,
     object: &AttestationObject,
-    key: &CoseKey,
+    key: &KeyView<'_>,
     hash: &[u8; 32],
 ) -> Result<AttestationType, RegistrationRefusal>
-    ensures shown { IfOk result (AttestsAs (V.valid verifier.now) (object_view object.now) key.now hash.now) }
-    ensures refused { IfErr result (AttestsAsNothing (V.valid verifier.now) (object_view object.now) key.now hash.now) }
+    ensures shown { IfOk result (AttestsAs (V.valid verifier.now) (object_view object.now) (lent_key_view key.now) hash.now) }
+    ensures refused { IfErr result (AttestsAsNothing (V.valid verifier.now) (object_view object.now) (lent_key_view key.now) hash.now) }
 {
     match check_statement(verifier, object, key, hash) {
         Ok(kind) => Ok(kind),
@@ -254,7 +254,7 @@ fn verified(
     Ok(VerifiedRegistration {
         credential: AdmittedCredential {
             id: Vec::from_slice(alloc, credential.id)?,
-            key: credential.key,
+            key: credential.key.to_key(alloc)?,
             sign_count: auth_data.sign_count,
             eligible: flags::is_set(auth_data.flags, flags::BE),
         },
@@ -265,7 +265,7 @@ fn verified(
 /// else the first step that it does not pass is told. Whether there is a place for the credential is left to
 /// `VerifiedRegistration::admit`, which then gives it.
 ///
-/// Memory is taken by the readers of the client data and of the attestation object, and for the id.
+/// Memory is taken by the readers of the client data and of the attestation object, and where each step is passed for the id and an RSA key.
 pub fn verify_registration<V: Verifier>(
     alloc: Global,
     verifier: &V,

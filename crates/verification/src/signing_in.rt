@@ -4,6 +4,7 @@ ghost use Rattle.std.specs.Prelude.{◌≡◌, ◌↔◌, ◌⊎◌, ◌++◌, [
 ghost use Rattle.std.specs.Option.{ForSome};
 ghost use Rattle.sha2.specs.Sha256.{sha256};
 ghost use Rattle.refusal_order.specs.Lines.{Each, FirstFailing};
+ghost use Rattle.cose.specs.Keys.{lent_key_view};
 ghost use Rattle.authdata.specs.Flags.{is_set, AT, BE};
 ghost use Rattle.authdata.specs.Layout.{AuthOf, AuthenticatorData, lent_auth_view};
 ghost use Rattle.verification.specs.SignIn.{AreUser, IsCounted, PassesSignInStep, PassesSignIn};
@@ -19,7 +20,7 @@ use crate::record::{AssertionParts, RowView, SignInSession};
 use crate::refusal::{SignInRefusal, VerificationError};
 use authdata::{AuthView, Profile, flags, read_view};
 use clientdata::{CeremonyType, hash};
-use cose::{CoseKey, Verifier};
+use cose::{KeyView, Verifier};
 use std::alloc::Global;
 
 /// A sign-in to be judged.
@@ -95,8 +96,8 @@ fn refusal_of(line: ClientDataStep) -> SignInRefusal
 }
 
 /// Whether the signature is valid over the authenticator data as they came, then the hash of the client data.
-fn is_signed<V: Verifier>(verifier: &V, key: &CoseKey, response: &AssertionParts<'_>) -> bool
-    ensures { IsTrue result ↔ V.valid verifier.now key.now
+fn is_signed<V: Verifier>(verifier: &V, key: &KeyView<'_>, response: &AssertionParts<'_>) -> bool
+    ensures { IsTrue result ↔ V.valid verifier.now (lent_key_view key.now)
         (response.now.auth_data.now ++ sha256 response.now.client_data.now) response.now.signature.now }
 {
     let hash = hash(response.client_data);
@@ -211,7 +212,7 @@ impl<'a> SignInAttempt<'a> {
         ensures passes { OnOk result (Each (PassesSignInStep (V.valid verifier.now) (judged_sign_in_view self.now)) signature_steps) }
         ensures refused { IfErr result (FirstFailing (PassesSignInStep (V.valid verifier.now) (judged_sign_in_view self.now)) signature_steps) }
     {
-        if !is_signed(verifier, credential.key, &self.response) {
+        if !is_signed(verifier, &credential.key, &self.response) {
             return Err(SignInRefusal::BadSignature);
         }
         if !is_counted(credential.sign_count, auth_data.sign_count) {

@@ -9,7 +9,7 @@
 use super::authenticator_names::bytes_of;
 use authdata::{AttestationType, AuthData};
 use authenticator::{Authenticator, Consent, Words};
-use cose::{Alg, BenchScheme, CoseKey, Signer, Verifier};
+use cose::{BenchScheme, CoseKey, Signer, SigningAlg, Verifier};
 use ctap_replies::{AssertionReply, CreationReply, Kind, Reply, read_reply};
 use ctap_status::Error;
 use sha2::{Digest, Sha256};
@@ -43,16 +43,18 @@ fn is_for_known(data: &AuthData) -> bool {
 /// Whether the signature is valid under one of the keys of the secret.
 fn is_signed(secret: u8, auth_data: &[u8], signature: &[u8]) -> bool {
     let scheme = BenchScheme;
-    let eddsa = scheme.public(Alg::EdDsa, &[secret; 32]);
-    let es256 = scheme.public(Alg::Es256, &[secret; 32]);
+    let eddsa = scheme.public(SigningAlg::EdDsa, &[secret; 32]);
+    let es256 = scheme.public(SigningAlg::Es256, &[secret; 32]);
     let hash = [0x22; 32];
-    scheme.verify(&eddsa, [auth_data, &hash], signature)
-        || scheme.verify(&es256, [auth_data, &hash], signature)
+    scheme.verify(&eddsa.view(), [auth_data, &hash], signature)
+        || scheme.verify(&es256.view(), [auth_data, &hash], signature)
 }
 
 /// Whether the key is that of the secret and the id.
 fn is_key_of(key: &CoseKey, secret: u8) -> bool {
-    *key == BenchScheme.public(key.alg(), &[secret; 32])
+    let eddsa = BenchScheme.public(SigningAlg::EdDsa, &[secret; 32]);
+    let es256 = BenchScheme.public(SigningAlg::Es256, &[secret; 32]);
+    key.view().is_same(&eddsa.view()) || key.view().is_same(&es256.view())
 }
 
 /// The aaguid of each authenticator.

@@ -5,7 +5,7 @@ use super::authenticator_answers::reply;
 use super::authenticator_names::bytes_of;
 use authdata::{AttestationObject, AttestationType, check_statement};
 use authenticator::Authenticator;
-use cose::{Alg, BenchScheme, Signer};
+use cose::{BenchScheme, Signer, SigningAlg};
 use ctap_replies::{Kind, Reply, read_reply};
 use std::alloc::{AllocError, Global};
 use std::test::Fail;
@@ -15,7 +15,7 @@ fn statement(
     alloc: Global,
     attest: AttestationType,
     request: &str,
-    alg: Alg,
+    alg: SigningAlg,
 ) -> Result<Option<AttestationType>, AllocError> {
     let mut authenticator = Authenticator::new(alloc, [7; 16], false, attest);
     let request = bytes_of(alloc, request)?;
@@ -30,24 +30,32 @@ fn statement(
         statement: made.statement,
     };
     let key = BenchScheme.public(alg, &[1; 32]);
-    match check_statement(&BenchScheme, &object, &key, &[0x22; 32]) {
+    match check_statement(&BenchScheme, &object, &key.view(), &[0x22; 32]) {
         Ok(shown) => Ok(Some(shown)),
         Err(_) => Ok(None),
     }
 }
 
-const STATEMENTS: &[(AttestationType, &str, Alg)] = &[
-    (AttestationType::None, "create4 rp user1 eddsa", Alg::EdDsa),
-    (AttestationType::None, "create4 rp user1 es256", Alg::Es256),
+const STATEMENTS: &[(AttestationType, &str, SigningAlg)] = &[
+    (
+        AttestationType::None,
+        "create4 rp user1 eddsa",
+        SigningAlg::EdDsa,
+    ),
+    (
+        AttestationType::None,
+        "create4 rp user1 es256",
+        SigningAlg::Es256,
+    ),
     (
         AttestationType::SelfSigned,
         "create4 rp user1 eddsa",
-        Alg::EdDsa,
+        SigningAlg::EdDsa,
     ),
     (
         AttestationType::SelfSigned,
         "create4 rp user1 es256",
-        Alg::Es256,
+        SigningAlg::Es256,
     ),
 ];
 

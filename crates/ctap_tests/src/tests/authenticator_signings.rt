@@ -6,7 +6,7 @@ use super::authenticator_answers::AAGUID;
 use super::authenticator_names::bytes_of;
 use authdata::AttestationType;
 use authenticator::{Authenticator, Consent, Words};
-use cose::{Alg, BenchScheme, CoseKey, Signer, Verifier};
+use cose::{BenchScheme, CoseKey, KeyView, Signer, SigningAlg, Verifier};
 use std::alloc::{AllocError, Global};
 use std::cell::Cell;
 use std::test::Fail;
@@ -21,7 +21,7 @@ struct Counting {
 impl Verifier for Counting {
     ghost valid = { λ _ key message sig. bench_valid key message sig };
 
-    fn verify(&self, key: &CoseKey, parts: [&[u8]; 2], sig: &[u8]) -> bool {
+    fn verify(&self, key: &KeyView<'_>, parts: [&[u8]; 2], sig: &[u8]) -> bool {
         BenchScheme.verify(key, parts, sig)
     }
 }
@@ -29,13 +29,13 @@ impl Verifier for Counting {
 impl Signer for Counting {
     ghost public_of = { λ _ alg secret. bench_public alg secret };
 
-    fn public(&self, alg: Alg, secret: &[u8; 32]) -> CoseKey {
+    fn public(&self, alg: SigningAlg, secret: &[u8; 32]) -> CoseKey {
         BenchScheme.public(alg, secret)
     }
 
     fn sign(
         &self,
-        alg: Alg,
+        alg: SigningAlg,
         secret: &[u8; 32],
         parts: [&[u8]; 2],
         out: &mut Vec<u8>,

@@ -6,7 +6,7 @@ use super::made::word_value;
 use super::pieces::{Table, number, part};
 use authdata::{AttestationObject, AttestationType, check_statement};
 use ccbor::Value;
-use cose::{Alg, BenchScheme, Signer};
+use cose::{BenchScheme, Signer, SigningAlg};
 use std::alloc::{AllocError, Global};
 use std::test::Fail;
 
@@ -43,7 +43,10 @@ packed|alg=nint:own sig=bytes:bench-signature|15|7|35
 packed|alg=nint:own sig=bytes:bench-signature|15|8|34";
 
 /// An algorithm, the argument of its number, and that of the other.
-const ALGORITHMS: &[(Alg, u64, u64)] = &[(Alg::EdDsa, 7, 6), (Alg::Es256, 6, 7)];
+const ALGORITHMS: &[(SigningAlg, u64, u64)] = &[
+    (SigningAlg::EdDsa, 7, 6),
+    (SigningAlg::Es256, 6, 7),
+];
 
 /// The value of a member; `own` and `other` are the argument of the key's algorithm, and of the other.
 fn member_value(alloc: Global, value: &str, own: u64, other: u64) -> Result<Value, AllocError> {
@@ -67,9 +70,9 @@ fn statement(alloc: Global, members: &str, own: u64, other: u64) -> Result<Value
 }
 
 /// What the object shows of the key of one byte 32 times and a hash of one byte 32 times.
-fn shown(object: &AttestationObject, alg: Alg, secret: u8, hash: u8) -> usize {
+fn shown(object: &AttestationObject, alg: SigningAlg, secret: u8, hash: u8) -> usize {
     let key = BenchScheme.public(alg, &[secret; 32]);
-    match check_statement(&BenchScheme, object, &key, &[hash; 32]) {
+    match check_statement(&BenchScheme, object, &key.view(), &[hash; 32]) {
         Ok(AttestationType::None) => 0,
         Ok(AttestationType::SelfSigned) => 1,
         Err(error) => usize::from(error.number().unwrap_or(255)),
@@ -95,6 +98,6 @@ pub fn is_shown(alloc: Global, line: &str) -> Result<bool, Fail> {
 fn read_object(rt: HostRuntime) -> Result<(), Fail> {
     let bytes = b"\xa3\x63fmt\x64none\x67attStmt\xa0\x68authData\x41\x05";
     let object = AttestationObject::read(rt.alloc(), bytes)?;
-    assert!(rt; shown(&object, Alg::EdDsa, 7, 34) == 0);
+    assert!(rt; shown(&object, SigningAlg::EdDsa, 7, 34) == 0);
     Ok(())
 }

@@ -47,6 +47,25 @@ a byte behind the key|H Z ID KEY 00|12
 ED before a bad id|H c100000000 00*16 0000|9
 too short before ED|H c100000000|8";
 
+/// The same of RSA keys.
+pub const RSA_KEYS: Table = "256 bytes, 65537|H Z ID R c1*256 2143010001
+384 bytes|H Z ID a4010303390100205901 80 c1*384 2143010001
+512 bytes|H Z ID a4010303390100205902 00 c1*512 2144ffffffff
+an exponent of 3|H Z ID R c1*256 214103
+an id of 64 bytes|H Z 0040 07*64 R c1*256 2143010001
+n of 255 bytes|H Z ID a40103033901002058ff c1*255 2143010001|11
+n of 257 bytes|H Z ID a4010303390100205901 01 c1*257 2143010001|11
+n of 513 bytes|H Z ID a4010303390100205902 01 c1*513 2143010001|11
+n that begins with 0|H Z ID R 00 c1*255 2143010001|11
+an even n|H Z ID R c1*255 c2 2143010001|11
+n that is cut|H Z ID R c1*255|11
+e of 0|H Z ID R c1*256 214100|11
+e of 1|H Z ID R c1*256 214101|11
+e of 2|H Z ID R c1*256 214102|11
+e of 5 bytes|H Z ID R c1*256 21450100000001|11
+e with a leading zero|H Z ID R c1*256 214400010001|11
+a byte behind the key|H Z ID R c1*256 2143010001 00|12";
+
 /// The same of ids and keys that are read.
 pub const WHOLE: Table = "an id of 16 bytes|H Z 0010 07*16 KEY
 an id of 17 bytes|H Z 0011 07*17 KEY
@@ -225,7 +244,7 @@ fn shows(view: &AuthView<'_>, auth: &AuthData) -> bool {
         (Some(found), Some(wanted)) => {
             found.aaguid == wanted.aaguid
                 && found.id == wanted.id.as_slice()
-                && found.key == wanted.key
+                && found.key.is_same(&wanted.key.view())
         }
         (None, None) => true,
         _ => false,
@@ -234,6 +253,23 @@ fn shows(view: &AuthView<'_>, auth: &AuthData) -> bool {
         && view.rp_id_hash == auth.rp_id_hash
         && view.flags == auth.flags
         && view.sign_count == auth.sign_count
+}
+
+/// Whether both have the same members.
+fn are_same(found: &AuthData, wanted: &AuthData) -> bool {
+    let attested = match (&found.attested, &wanted.attested) {
+        (Some(found), Some(wanted)) => {
+            found.aaguid == wanted.aaguid
+                && found.id.as_slice() == wanted.id.as_slice()
+                && found.key.view().is_same(&wanted.key.view())
+        }
+        (None, None) => true,
+        _ => false,
+    };
+    attested
+        && found.rp_id_hash == wanted.rp_id_hash
+        && found.flags == wanted.flags
+        && found.sign_count == wanted.sign_count
 }
 
 /// Whether the bytes are read and viewed as these members, and these written as them.
@@ -246,7 +282,7 @@ fn is_record(alloc: Global, auth: &AuthData, words: &str) -> Result<bool, AllocE
         return Ok(false);
     };
     let written = write(alloc, auth)?;
-    Ok(shows(&viewed, auth) && found == *auth && written.as_slice() == bytes.as_slice())
+    Ok(shows(&viewed, auth) && are_same(&found, auth) && written.as_slice() == bytes.as_slice())
 }
 
 #[test]

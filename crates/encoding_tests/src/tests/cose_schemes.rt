@@ -1,6 +1,6 @@
 //! The two schemes of `cose`. The digests are those of Python's `hashlib`.
 
-use cose::{Alg, BenchScheme, CoseKey, ListScheme, Signer, Verifier};
+use cose::{BenchScheme, KeyView, ListScheme, Signer, SigningAlg, Verifier};
 use std::alloc::{AllocError, Global};
 use std::test::Fail;
 
@@ -29,9 +29,9 @@ const CHANGED: [u8; 32] = [
 ];
 
 /// The public keys of 32 bytes 7, of each algorithm.
-const PUBLIC: &[(Alg, CoseKey)] = &[
-    (Alg::Es256, CoseKey::Es256 { x: X, y: Y }),
-    (Alg::EdDsa, CoseKey::EdDsa { x: X }),
+const PUBLIC: [(SigningAlg, KeyView<'static>); 2] = [
+    (SigningAlg::Es256, KeyView::Es256 { x: X, y: Y }),
+    (SigningAlg::EdDsa, KeyView::EdDsa { x: X }),
 ];
 
 /// The key is that of the secret, or another; the two parts of the message; the signature; and
@@ -48,22 +48,24 @@ const VERIFIED: &[(&str, bool, &[u8], &[u8], &[u8], bool)] = &[
 ];
 
 /// Whether a signature of "a" and "bc" is appended as stated.
-fn is_signed(alloc: Global, alg: Alg) -> Result<bool, AllocError> {
+fn is_signed(alloc: Global, alg: SigningAlg) -> Result<bool, AllocError> {
     let mut out = Vec::from_slice(alloc, b"before")?;
     BenchScheme.sign(alg, &[7; 32], [b"a", b"bc"], &mut out)?;
     Ok(out.as_slice().strip_prefix(b"before") == Some(SIGNATURE.as_slice()))
 }
 
 /// Whether the signature is valid under the public key of one byte 32 times.
-fn is_verified(alg: Alg, secret: u8, first: &[u8], second: &[u8], signature: &[u8]) -> bool {
+fn is_verified(alg: SigningAlg, secret: u8, first: &[u8], second: &[u8], signature: &[u8]) -> bool {
     let key = BenchScheme.public(alg, &[secret; 32]);
-    BenchScheme.verify(&key, [first, second], signature)
+    BenchScheme.verify(&key.view(), [first, second], signature)
 }
 
 #[test]
 fn bench(rt: HostRuntime) -> Result<(), Fail> {
-    for (alg, key) in PUBLIC {
-        assert!(rt; BenchScheme.public(*alg, &[7; 32]) == *key && is_signed(rt.alloc(), *alg)?);
+    for (alg, key) in &PUBLIC {
+        assert!(rt;
+            BenchScheme.public(*alg, &[7; 32]).view().is_same(key) && is_signed(rt.alloc(), *alg)?
+        );
         for &(name, own, first, second, signature, valid) in VERIFIED {
             let secret = if own { 7 } else { 8 };
             let found = is_verified(*alg, secret, first, second, signature);
@@ -73,15 +75,15 @@ fn bench(rt: HostRuntime) -> Result<(), Fail> {
     Ok(())
 }
 
-const EDDSA: CoseKey = CoseKey::EdDsa { x: [0x11; 32] };
+const EDDSA: KeyView<'static> = KeyView::EdDsa { x: [0x11; 32] };
 
-const ES256: CoseKey = CoseKey::Es256 {
+const ES256: KeyView<'static> = KeyView::Es256 {
     x: [0x11; 32],
     y: [0x33; 32],
 };
 
 /// A key, the two parts of a message, a signature, and whether it is listed.
-const LISTED: &[(&str, CoseKey, &[u8], &[u8], &[u8], bool)] = &[
+const LISTED: [(&str, KeyView<'static>, &[u8], &[u8], &[u8], bool); 9] = [
     ("the first", EDDSA, b"a", b"bc", b"Z", true),
     ("parted elsewhere", EDDSA, b"abc", b"", b"Z", true),
     ("the second", ES256, b"d", b"e", b"", true),
@@ -96,8 +98,8 @@ const LISTED: &[(&str, CoseKey, &[u8], &[u8], &[u8], bool)] = &[
 /// A list of two signatures.
 fn listed_two(alloc: Global) -> Result<ListScheme, AllocError> {
     let mut scheme = ListScheme::new(alloc);
-    scheme.add(EDDSA, b"abc", b"Z")?;
-    scheme.add(ES256, b"de", b"")?;
+    scheme.add(EDDSA.to_key(alloc)?, b"abc", b"Z")?;
+    scheme.add(ES256.to_key(alloc)?, b"de", b"")?;
     Ok(scheme)
 }
 
@@ -106,7 +108,7 @@ fn listed(rt: HostRuntime) -> Result<(), Fail> {
     let none = ListScheme::new(rt.alloc());
     assert!(rt; !none.verify(&EDDSA, [b"", b""], b""), "an empty list");
     let scheme = listed_two(rt.alloc())?;
-    for &(name, key, first, second, signature, valid) in LISTED {
+    for &(name, key, first, second, signature, valid) in &LISTED {
         assert!(rt;
             scheme.verify(&key, [first, second], signature) == valid,
             "{name}"

@@ -11,6 +11,7 @@ use std::test::Fail;
 #[derive(Drop)]
 enum DataRow {
     NoKey,
+    Rsa,
     Reading,
     OpenReading,
     Cut,
@@ -30,6 +31,7 @@ enum DataRow {
 fn is_so(alloc: Global, kind: &DataRow, line: &str) -> Result<bool, Fail> {
     match kind {
         DataRow::NoKey => cose_keys::is_no_key(alloc, line),
+        DataRow::Rsa => cose_keys::is_rsa(alloc, line),
         DataRow::Reading => authdata_bytes::is_reading(alloc, line),
         DataRow::OpenReading => authdata_bytes::is_open_reading(alloc, line),
         DataRow::Cut => authdata_bytes::is_refused_cut(alloc, line),
@@ -53,9 +55,14 @@ fn rows(rt: HostRuntime) -> Result<(), Fail> {
         (DataRow::NoKey, cose_keys::OTHER_MEMBERS),
         (DataRow::NoKey, cose_keys::OTHER_VALUES),
         (DataRow::NoKey, cose_keys::MORE),
+        (DataRow::NoKey, cose_keys::NO_MODULUS),
+        (DataRow::NoKey, cose_keys::NO_EXPONENT),
+        (DataRow::NoKey, cose_keys::NO_RSA),
+        (DataRow::Rsa, cose_keys::RSA),
         (DataRow::Reading, authdata_bytes::BARE),
         (DataRow::Reading, authdata_bytes::IDS),
         (DataRow::Reading, authdata_bytes::KEYS),
+        (DataRow::Reading, authdata_bytes::RSA_KEYS),
         (DataRow::Reading, authdata_bytes::WHOLE),
         (DataRow::Reading, authdata_bytes::LONG),
         (DataRow::Reading, authdata_bytes::SHORTER),

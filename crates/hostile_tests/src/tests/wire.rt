@@ -1,7 +1,7 @@
 //! A sign-in whose reply comes in two packets.
 
 use clientdata::hash;
-use cose::{CoseKey, ListScheme};
+use cose::{KeyView, ListScheme};
 use hidframe::Packet;
 use site::{Policy, Row, Site};
 use std::alloc::{AllocError, Global};
@@ -34,14 +34,14 @@ pub(crate) const CLIENT_DATA: &[u8] =
     b"{\"type\":\"webauthn.get\",\"challenge\":\"AAAAAAAAAAEAAAAAAAAAAAAAAAAAAAAAAAAAAAAAAAA\",\"origin\":\"https://abc\",\"crossOrigin\":false}";
 
 /// The key of the credential.
-const KEY: CoseKey = CoseKey::EdDsa { x: [0x11; 32] };
+const KEY: KeyView<'static> = KeyView::EdDsa { x: [0x11; 32] };
 
 /// The scheme that lists 5a as the signature of the reply.
 pub(crate) fn scheme(alloc: Global) -> Result<ListScheme, AllocError> {
     let mut message = bytes_of(alloc, &[NAMES], "data")?;
     message.extend_from_slice(&hash(CLIENT_DATA))?;
     let mut scheme = ListScheme::new(alloc);
-    scheme.add(KEY, &message, &[0x5a])?;
+    scheme.add(KEY.to_key(alloc)?, &message, &[0x5a])?;
     Ok(scheme)
 }
 
@@ -50,7 +50,7 @@ fn row(alloc: Global) -> Result<Row, AllocError> {
     Ok(Row {
         id: Vec::from_slice(alloc, &[0x0a])?,
         user: Vec::from_slice(alloc, &[1])?,
-        key: KEY,
+        key: KEY.to_key(alloc)?,
         sign_count: 0,
         eligible: None,
         retired: false,

@@ -4,13 +4,13 @@
 //! is to answer, the act's name, and words of the form `name=value`. An act answers the number of its refusal; where it
 //! is not refused a session's number, a count, 0 of an acceptance, or 1 for true.
 
-use super::responses::{SECRET, auth_data, client_data, object, scheme};
+use super::responses::{auth_data, client_data, object, registered_key, scheme};
 use super::stored::{policy, rows};
 use super::values::{bytes_if_there, bytes_of, is_set, list_of, number, value};
 use authdata::{Profile, RegistrationResponse};
-use cose::{Alg, BenchScheme, Signer};
+use cose::{Alg, BenchScheme, CoseKey};
 use site::{
-    AssertionParts, BeginError, Error, Registered, RowView, SignedIn, Site, Started,
+    AssertionParts, BeginError, Error, Registered, RowView, SignedIn, Site, Started, Table,
     VerificationError,
 };
 use std::alloc::{AllocError, Global};
@@ -64,6 +64,7 @@ fn algorithms(alloc: Global, list: &str) -> Result<Vec<Alg>, AllocError> {
         match name {
             "es256" => algorithms.push(Alg::Es256)?,
             "eddsa" => algorithms.push(Alg::EdDsa)?,
+            "rs256" => algorithms.push(Alg::Rs256)?,
             _ => {}
         }
     }
@@ -130,13 +131,11 @@ fn finish(alloc: Global, site: &mut Site, act: &str) -> Result<u64, AllocError> 
 }
 
 /// Whether the credential is told, and stands last, with its key.
-fn is_last(site: &Site, registered: &Registered, id: &[u8]) -> bool {
+fn is_last(site: &Site, registered: &Registered, id: &[u8], key: &CoseKey) -> bool {
     let Some(last) = site.rows().last() else {
         return false;
     };
-    registered.credential.as_slice() == id
-        && last.id == id
-        && *last.key == BenchScheme.public(Alg::EdDsa, &SECRET)
+    registered.credential.as_slice() == id && last.id == id && last.key.is_same(&key.view())
 }
 
 /// 0, or the number of the step that refuses the registration.
@@ -148,7 +147,7 @@ fn finish_registration(alloc: Global, site: &mut Site, act: &str) -> Result<u64,
         client_data,
     };
     match site.finish_registration(&BenchScheme, number(act, "session", 1), &response) {
-        Ok(registered) => Ok(if is_last(site, &registered, &id) {
+        Ok(registered) => Ok(if is_last(site, &registered, &id, &registered_key(alloc, act)?) {
             0
         } else {
             WRONG
@@ -231,10 +230,8 @@ fn rp_id(alloc: Global, line: &str) -> Result<String, AllocError> {
 /// Puts what is loaded of these bytes in the site's place: 0, or the number of the refusal.
 fn load(alloc: Global, site: &mut Site, act: &str, bytes: &[u8]) -> Result<u64, AllocError> {
     let rp_id = rp_id(alloc, act)?;
-    let loaded = match site.profile() {
-        Profile::Strict => Site::load(alloc, bytes, &rp_id, &["https://abc"], policy(act)),
-        Profile::Open => Site::open_load(alloc, bytes, &rp_id, &["https://abc"], policy(act)),
-    };
+    let (profile, origins) = (site.profile(), ["https://abc"]);
+    let loaded = Site::load_with_profile(alloc, profile, bytes, &rp_id, &origins, policy(act));
     match loaded {
         Ok(loaded) => {
             *site = loaded;
@@ -304,7 +301,12 @@ fn made(alloc: Global, line: &str) -> Result<Site, Error> {
     let origins = [value(line, "at", "https://abc"), "https://def"];
     let rows = rows(alloc, value(line, "rows", "five"))?;
     if value(line, "profile", "strict") == "open" {
-        return Site::open_with_rows(alloc, rp_id, &origins, policy(line), rows);
+        let table = match Table::with_profile(alloc, Profile::Open, rows) {
+            Ok(table) => table,
+            Err(credential_table::Error::BadTable) => return Err(Error::BadTable),
+            Err(credential_table::Error::Memory) => return Err(Error::Memory),
+        };
+        return Site::with_profile(alloc, Profile::Open, rp_id, &origins, policy(line), table);
     }
     Site::with_rows(alloc, rp_id, &origins, policy(line), rows)
 }

@@ -69,7 +69,7 @@ fn credential<'a>(id: &'a [u8], retired: bool) -> RowView<'a> {
     RowView {
         id,
         user: &[1],
-        key: &KEY,
+        key: KEY,
         sign_count: 0,
         eligible: None,
         retired,

@@ -22,6 +22,9 @@ retired and restarted|rows=one;1 sign-in account=01;0 answer flip=4 count=1;1 re
 an id and a user of 64 bytes|rows=one;1 register uv=1 account=07*64;0 attest id=1a*64;1 row id=1a*64 user=07*64 count=258 eligible=1;2 sign-in \
     account=07*64 allow=01*64,1a*64;0 answer session=2 challenge=IA id=1a*64 user=07*64 told=07*64 flip=8 count=259 registered=1;1 row id=1a*64 \
     user=07*64 count=259 eligible=1
+an RSA key|rows=one;1 register uv=1 algs=rs256;0 attest rsa=1;2 sign-in account=01;0 answer session=2 challenge=IA id=1a flip=8 count=259 registered=1 \
+    rsa=1;1 row id=1a count=259 eligible=1;0 restart;3 sign-in account=01;14 answer session=3 challenge=MA id=1a flip=8 count=260 registered=1;0 answer \
+    session=3 challenge=MA id=1a flip=8 count=260 registered=1 rsa=1;1 row id=1a count=260 eligible=1
 the last but one of many|rows=full;1 sign-in account=01;0 answer id=0000fffe count=65535;1 row id=0000fffe count=65535;1 row id=0000ffff count=65535 \
     eligible=-
 an id of 65 bytes|rows=one;1 register uv=1;7 attest id=1a*65;27 sign-in allow=1a*65;1 rows

@@ -35,7 +35,7 @@ fn long_table(alloc: Global) -> Result<Table, credential_table::Error> {
     let row = Row {
         id: Vec::from_slice(alloc, &[7; 65])?,
         user: Vec::from_slice(alloc, &[1])?,
-        key: KEY,
+        key: KEY.to_key(alloc)?,
         sign_count: 0,
         eligible: None,
         retired: false,
@@ -59,7 +59,7 @@ fn profiles(rt: HostRuntime) -> Result<(), Fail> {
     let (alloc, policy) = (rt.alloc(), policy(""));
     let (strict, open) = (long_table(alloc)?, long_table(alloc)?);
     let strict = Site::with_table(alloc, "abc", &["https://abc"], policy, strict);
-    let open = Site::open_with_table(alloc, "abc", &["https://abc"], policy, open);
+    let open = Site::with_profile(alloc, Profile::Open, "abc", &["https://abc"], policy, open);
     assert!(rt; is_of(strict, None));
     assert!(rt; is_of(open, Some(Profile::Open)));
     let strict = Site::new(alloc, "abc", &["https://abc"], policy);

@@ -2,7 +2,7 @@
 //! `python/tests/test_malformed.py` read the same lines from this file, and judge the same responses.
 
 use super::open_profile::challenge;
-use cose::{Alg, CoseKey, ListScheme};
+use cose::{Alg, KeyView, ListScheme};
 use std::alloc::{AllocError, Global};
 use std::test::Fail;
 use test_words::{Table, append_words, part};
@@ -65,7 +65,7 @@ packed|client_data|80|2*107
 packed|client_data|cut|2*107"#;
 
 /// The key of each credential.
-const KEY: CoseKey = CoseKey::Es256 {
+const KEY: KeyView<'static> = KeyView::Es256 {
     x: [0x11; 32],
     y: [0x33; 32],
 };
@@ -106,7 +106,11 @@ fn accepted(alloc: Global, kind: &str) -> Result<Parts<'static>, AllocError> {
 /// The verifier to which the one signature is valid.
 fn scheme(alloc: Global, parts: &[(&str, Vec<u8>)]) -> Result<ListScheme, AllocError> {
     let mut scheme = ListScheme::new(alloc);
-    scheme.add(KEY, bytes(parts, "message"), bytes(parts, "verified"))?;
+    scheme.add(
+        KEY.to_key(alloc)?,
+        bytes(parts, "message"),
+        bytes(parts, "verified"),
+    )?;
     Ok(scheme)
 }
 
@@ -118,7 +122,7 @@ fn stored<'a>(id: &'a [u8]) -> Option<RowView<'a>> {
     Some(RowView {
         id,
         user: &[1],
-        key: &KEY,
+        key: KEY,
         sign_count: 0,
         eligible: None,
         retired: false,

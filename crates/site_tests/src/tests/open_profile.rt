@@ -96,7 +96,7 @@ fn attempt<'a>(
         credential: Some(RowView {
             id: &[10],
             user: &[1],
-            key: &KEY,
+            key: KEY,
             sign_count: 0,
             eligible: None,
             retired: false,

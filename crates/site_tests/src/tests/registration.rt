@@ -26,6 +26,8 @@ another rp id|rp=abd|8|0|0
 user not present|flip=1 flip=8|9|0|0
 user not verified|flip=4 flip=8|10|0|0
 another algorithm offered|algs=es256|11|11|1
+an RS256 key where it was not offered|rsa=1|11|0|0
+no RS256 key where that alone was offered|algs=rs256|11|11|1
 another format|format=tpm|12|0|0
 the format fido-u2f|format=fido-u2f|12|0|0
 no format|format=|12|0|0
@@ -48,6 +50,8 @@ const ACCEPTANCES: Table = "none||1
 self attestation|format=packed secret=7|1
 not eligible|format=packed secret=7 flip=8|0
 backed up|flip=16|1
+an RS256 key|rsa=1 algs=es256,eddsa,rs256|1
+an RS256 key, which alone was offered|rsa=1 algs=rs256|1
 verification not required|uv=0 flip=4|1
 none alone accepted|policy=none|1
 self attestation alone accepted|policy=self format=packed secret=7|1";

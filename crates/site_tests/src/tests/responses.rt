@@ -3,15 +3,29 @@
 
 use super::values::{bytes_of, is_set, number, value};
 use clientdata::hash;
-use cose::{Alg, BenchScheme, CoseKey, ListScheme, Signer};
+use cose::{BenchScheme, CoseKey, KeyView, ListScheme, RsaView, Signer, SigningAlg};
 use sha2::{Digest, Sha256};
 use std::alloc::{AllocError, Global};
 
 /// The key of all stored credentials.
-pub(crate) const KEY: CoseKey = CoseKey::EdDsa { x: [0x11; 32] };
+pub(crate) const KEY: KeyView<'static> = KeyView::EdDsa { x: [0x11; 32] };
 
 /// The secret of a credential that is registered: its key's x is the hash of it.
 pub(crate) const SECRET: [u8; 32] = [7; 32];
+
+/// The modulus of the RSA key.
+const MODULUS: [u8; 256] = [0xc1; 256];
+
+/// The key of a credential that is registered: that of `SECRET`, or an RSA key.
+pub(crate) fn registered_key(alloc: Global, line: &str) -> Result<CoseKey, AllocError> {
+    if !is_set(line, "rsa") {
+        return Ok(BenchScheme.public(SigningAlg::EdDsa, &SECRET));
+    }
+    match RsaView::new(&MODULUS, &[1, 0, 1]) {
+        Some(key) => KeyView::Rs256(key).to_key(alloc),
+        None => KEY.to_key(alloc),
+    }
+}
 
 /// The parts, one after the other.
 fn joined(alloc: Global, parts: &[&[u8]]) -> Result<Vec<u8>, AllocError> {
@@ -91,9 +105,9 @@ pub(crate) fn scheme(
     let mut scheme = ListScheme::new(alloc);
     let signature = bytes_of(alloc, value(line, "listed", "5a"))?;
     let key = if is_set(line, "registered") {
-        BenchScheme.public(Alg::EdDsa, &SECRET)
+        registered_key(alloc, line)?
     } else {
-        KEY
+        KEY.to_key(alloc)?
     };
     scheme.add(key, &message, &signature)?;
     Ok(scheme)
@@ -117,13 +131,22 @@ fn bytes_head(alloc: Global, bytes: &[u8]) -> Result<Vec<u8>, AllocError> {
     joined(alloc, &[b"\x59", &long_length(bytes)])
 }
 
-/// A credential: an aaguid of 16 bytes 0, the id, the key of `SECRET`, and the extensions, where the line has any.
+/// The encoding of the key of `SECRET`, or of the RSA key.
+fn key_bytes(alloc: Global, line: &str) -> Result<Vec<u8>, AllocError> {
+    if is_set(line, "rsa") {
+        let front = b"\xa4\x01\x03\x03\x39\x01\x00\x20\x59\x01\x00";
+        return joined(alloc, &[front, &MODULUS, b"\x21\x43\x01\x00\x01"]);
+    }
+    let x = Sha256::digest(&SECRET);
+    joined(alloc, &[b"\xa4\x01\x01\x03\x27\x20\x06\x21\x58\x20", &x])
+}
+
+/// A credential: an aaguid of 16 bytes 0, the id, the key, and the extensions, where the line has any.
 fn credential(alloc: Global, line: &str) -> Result<Vec<u8>, AllocError> {
     let id = bytes_of(alloc, value(line, "id", "1a"))?;
-    let x = Sha256::digest(&SECRET);
-    let front = b"\xa4\x01\x01\x03\x27\x20\x06\x21\x58\x20";
     let size = long_length(&id);
-    let mut bytes = joined(alloc, &[&[0; 16], &size, &id, front, &x])?;
+    let key = key_bytes(alloc, line)?;
+    let mut bytes = joined(alloc, &[&[0; 16], &size, &id, &key])?;
     bytes.extend_from_slice(&bytes_of(alloc, value(line, "outputs", ""))?)?;
     Ok(bytes)
 }
@@ -151,7 +174,7 @@ fn statement(
     };
     let mut bytes = Vec::from_slice(alloc, b"\xa2\x63alg\x27\x63sig\x58\x20")?;
     let parts = [auth_data, &hash(client_data)];
-    BenchScheme.sign(Alg::EdDsa, &[secret; 32], parts, &mut bytes)?;
+    BenchScheme.sign(SigningAlg::EdDsa, &[secret; 32], parts, &mut bytes)?;
     Ok(bytes)
 }
 

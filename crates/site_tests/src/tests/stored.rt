@@ -26,7 +26,7 @@ fn row(alloc: Global, id: &[u8], user: &[u8], sign_count: u32) -> Result<Row, Al
     Ok(Row {
         id: Vec::from_slice(alloc, id)?,
         user: Vec::from_slice(alloc, user)?,
-        key: KEY,
+        key: KEY.to_key(alloc)?,
         sign_count,
         eligible: None,
         retired: false,

@@ -22,4 +22,5 @@ returns g c = λ verifier public. record {
   challenge_texts = c.challenge_texts.ensures;
   sites = c.site_laws.ensures verifier;
   steps = c.step_laws.ensures verifier public;
+  saving = c.saving_laws.ensures;
 }

@@ -7,4 +7,4 @@ pub returns-clause-agreement : goal.returns-clause-agreement
 returns-clause-agreement g c = λ verifier public. of_all_runs (g.V.Verifier.valid verifier) public (c.below.ensures verifier public)
 
 pub returns-clause-ledger : goal.returns-clause-ledger
-returns-clause-ledger g c = λ verifier public. ledger (g.V.Verifier.valid verifier) public
+returns-clause-ledger g c = λ verifier public. ledger (g.V.Verifier.valid verifier) public (c.below.ensures verifier public).saving

@@ -1,6 +1,8 @@
 -- What is owed of `credential`.
-use Rattle.std.proofs.Common.{◌<◌, ◌^◌, refl, arith}
+use Rattle.std.proofs.Common.{◌<◌, ◌^◌, refl, sym, subst, arith}
 use Rattle.ccbor.specs.Viewing.{shown}
+use Rattle.cose.specs.Keys.{KeyOf}
+use Rattle.cose.specs.declared.key.CoseKey.{CoseKey}
 use Rattle.saved_table.proofs.Credentials.{credential_found}
 use Rattle.saved_table.proofs.reading.credential.Goals as goal
 
@@ -9,6 +11,7 @@ returns-clause-read c =
     let m = c.in_ok-found.found in
     let read = c.in-Ok-try_from.ensures in
     let small : c.in-Ok-try_from.sign_count < 2 ^ 32 = omega arith in
+    let key = subst (λ (k : CoseKey). KeyOf k (shown m.key)) (sym c.in_ok-to_key.ensures) c.in-Ok.ensures.found in
     credential_found c.args.version (shown c.args.value.now) (shown m.key) m.id.now m.user.now m.sign_count m.eligible m.retired c.in_ok-found.ensures
-    c.in_ok-from_slice.field-0.items c.in_ok-from_slice-2.field-0.items c.in-Ok.key c.in-Ok-try_from.sign_count c.is_some.result
-    c.in_ok-from_slice.ensures.items c.in_ok-from_slice-2.ensures.items c.in-Ok.ensures.found read.1 small (c.if-not-are_marks.ensures.0 refl) c.is_some.ensures
+    c.in_ok-from_slice.field-0.items c.in_ok-from_slice-2.field-0.items c.in_ok-to_key.field-0 c.in-Ok-try_from.sign_count c.is_some.result
+    c.in_ok-from_slice.ensures.items c.in_ok-from_slice-2.ensures.items key read.1 small (c.if-not-are_marks.ensures.0 refl) c.is_some.ensures

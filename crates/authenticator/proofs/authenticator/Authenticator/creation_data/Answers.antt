@@ -6,4 +6,4 @@ use Rattle.authenticator.proofs.authenticator.Authenticator.creation_data.Goals 
 
 pub returns-clause-size : goal.returns-clause-size
 returns-clause-size c =
-    creation_size c.args.self.now (creation_view c.args.request.now) c.args.id.now c.args.key c.write.result (search rules) (search rules)
+    creation_size c.args.self.now (creation_view c.args.request.now) c.args.id.now c.args.key c.write.result c.requires.key (search rules) (search rules)

@@ -1,4 +1,4 @@
--- What is owed of `challenge_bytes`.
+-- What is owed of `challenge_characters`.
 use Rattle.std.proofs.Common.{◌≡◌, ◌++◌, ℕ, List, [], Result, Ok, Err, OnOk, drop, length, ap, ◌∙◌, append-nil, arith, refl, rules, subst, sym}
 use Rattle.std.proofs.lemmas.List.{drop_all}
 use Rattle.base64.specs.Engines.{url_safe_no_pad}
@@ -7,7 +7,7 @@ use Rattle.base64.specs.declared.encode.EncodeSliceError.{EncodeSliceError}
 use Rattle.clientdata.specs.Expected.{ArePlain}
 use Rattle.clientdata.specs.Serialised.{challenge_text_of}
 use Rattle.clientdata.proofs.Plain.{challenge_plain}
-use Rattle.clientdata.proofs.challenge.challenge_bytes.Goals as goal
+use Rattle.clientdata.proofs.challenge.challenge_characters.Goals as goal
 
 -- 32 bytes are encoded over 43 whole
 over : (r : Result ℕ EncodeSliceError) (n : ℕ) (m old new : List ℕ) → r ≡ Ok n → length m ≡ 32 → length old ≡ 43

@@ -1,0 +1,59 @@
+//! A security key whose user always agrees.
+//!
+//! `uses_key WORDS`: WORDS is the file of random bytes. The cable is lines: `packet` comes in, `out` goes out. The host
+//! makes keys and signatures, as a secure element would: it is told `secret`, and tells `public`, the key's x and y of
+//! ES256 and then its x of EdDSA; it is told `algorithm` (01 of ES256, 02 of EdDSA), `secret` and `message`, and tells
+//! `signature`. Each packet's answer ends with `done`.
+#![tactic(auto)]
+
+mod key;
+
+use authdata::AttestationType;
+use authenticator::Authenticator;
+use hidframe::Packet;
+use hidlink::Device;
+use key::Key;
+use std::fs::File;
+use std::process::ExitCode;
+use std::{env, io};
+use uses_lines::{tell, told, unexpected};
+
+/// The kind of this key.
+const AAGUID: [u8; 16] = *b"garvoeng uses-ky";
+
+/// Answers packets until the input ends.
+fn run(rt: &HostRuntime, words: &str) -> io::Result<()> {
+    let alloc = rt.alloc();
+    let mut file = File::open(rt, words)?;
+    let mut key = Key {
+        device: Device::new(alloc)?,
+        authenticator: Authenticator::new(alloc, AAGUID, true, AttestationType::None),
+    };
+    for _ in 0..u64::MAX {
+        let Ok(bytes) = told(rt, "packet") else {
+            break;
+        };
+        let Ok(bytes) = <[u8; 64]>::try_from(bytes.as_slice()) else {
+            return Err(unexpected());
+        };
+        key.answer(rt, &Packet(bytes), &mut file)?;
+        tell(rt, "done")?;
+    }
+    Ok(())
+}
+
+/// Does what the command line says.
+fn run_words(rt: &HostRuntime) -> io::Result<()> {
+    let mut words = env::args(rt)?.skip(1);
+    match words.next() {
+        Some(file) => run(rt, file.as_str()),
+        None => Err(unexpected()),
+    }
+}
+
+fn main(rt: HostRuntime) -> ExitCode {
+    match run_words(&rt) {
+        Ok(()) => ExitCode::SUCCESS,
+        Err(_) => ExitCode::from(1),
+    }
+}
