@@ -21,6 +21,5 @@ made_into() {
     echo "passkey sha256 $(digest "$1/passkey")"
     echo "passkey size $(stat -c %s "$1/passkey")"
     echo "passkey sources $2"
-    echo "passkey object $(digest "$built.o")"
     echo "passkey glibc $(tool llvm-readelf --version-info "$1/passkey" | grep -o 'GLIBC_[0-9.]*' | sed 's/GLIBC_//' | sort -Vu | tail -n 1)"
 }

@@ -15,7 +15,7 @@ use Rattle.cose.specs.declared.key.CoseKey.TheVariants as keys
 use Rattle.cose.specs.Keys.{IsKey, KeyOf, item_of as key_item}
 use Rattle.cose.proofs.KeyLemmas.{one_key}
 use Rattle.verification.specs.Records.{Credential}
-use Rattle.saved_table.specs.Saved.{FitsVersion, credential_item, true_if}
+use Rattle.saved_table.specs.Saved.{FitsVersion, credential_item, needs_version_4, true_if}
 use Rattle.saved_table.specs.Private.{AreMarks, credential_members}
 
 -- ---- the content of its map
@@ -118,11 +118,18 @@ module _ (version : ℕ) (x k : Item) (id user : List ℕ) (n : ℕ) (eligible r
   -- what was read is the credential's that has it
   pub credential_found : (i u : List ℕ) (key : CoseKey) (count : ℕ) (r : Bool) → i ≡ id → u ≡ user → KeyOf key k → count ≡ n → count < 2 ^ 32
       → AreMarks version eligible retired
+      → (version < 4 → needs_version_4 id key ≡ false)
       → r ≡ is_some retired → FitsVersion version (credential_from i u key count eligible r) × (x ≡ credential_item (credential_from i u key count eligible r))
-  credential_found i u key count r ids users is counts small marks e =
+  credential_found i u key count r ids users is counts small marks early e =
       let mark = mark_is retired r marks.0 e in
       let item : key_item key ≡ k = sym is.1 in (
-        record { key = is.0; sign_count = small; eligible = marks.1; retired = λ lt. not_retired retired r e (marks.2 lt) },
+        record {
+          key = is.0;
+          sign_count = small;
+          eligible = marks.1;
+          retired = λ lt. not_retired retired r e (marks.2 lt);
+          early = λ lt. ap (λ (b : List ℕ). needs_version_4 b key) ids ∙ early lt;
+        },
         members_are x (id, (user, (k, (n, (eligible, (retired, tt)))))) read ∙ rw (mark, ids, users, item, counts) (made id user k n eligible r),
       )
 
@@ -134,6 +141,16 @@ module _ (version : ℕ) (x k : Item) (id user : List ℕ) (n : ℕ) (eligible r
 
   pub no_key : ((l : CoseKey) → KeyOf l k → ⊥) → (c : Credential) → FitsVersion version c → x ≡ credential_item c → ⊥
   no_key none c fits is = none c.key (fits.key, ap (λ (m : Contents credential_members). m.1.1.0) (same_content c is))
+
+  pub not_early : (key : CoseKey) → KeyOf key k → version < 4 → needs_version_4 id key ≡ true → (c : Credential) → FitsVersion version c
+      → x ≡ credential_item c → ⊥
+  not_early key of lt needs c fits is =
+      let ids : id ≡ c.id = ap (λ (m : Contents credential_members). m.0) (same_content c is) in
+      let items : k ≡ key_item c.key = ap (λ (m : Contents credential_members). m.1.1.0) (same_content c is) in
+      let same : key ≡ c.key = one_key key c.key k of (fits.key, items) in
+      let no : true ≡ false =
+      sym needs ∙ ap (λ (b : List ℕ). needs_version_4 b key) ids ∙ ap (λ (l : CoseKey). needs_version_4 c.id l) same ∙ fits.early lt in
+      absurd cc
 
   pub no_counter : (n < 2 ^ 32 → ⊥) → (c : Credential) → FitsVersion version c → x ≡ credential_item c → ⊥
   no_counter none c fits is =

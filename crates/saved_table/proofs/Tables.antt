@@ -13,11 +13,10 @@ use Rattle.ccbor.proofs.AccessLemmas.{split_key_takes, pairs_in_is, uint_in_is, 
 use Rattle.ccbor.proofs.Decoding.{same_item}
 use Rattle.ccbor.proofs.Numbers.{bind_some}
 use Rattle.authdata.specs.declared.profile.Profile.{Profile}
-use Rattle.authdata.specs.declared.profile.Profile.TheVariants.{Open, Strict}
 use Rattle.verification.specs.Records.{Credential}
-use Rattle.credential_table.specs.Table.{row_of, has_long, IsRow, IsTable}
+use Rattle.credential_table.specs.Table.{row_of, IsRow, IsTable}
 use Rattle.credential_table.proofs.RowLemmas.{front_absent, looser}
-use Rattle.saved_table.specs.Saved.{Saved, FitsVersion, TableOf, credential_item, last_version, profile_of, table_item}
+use Rattle.saved_table.specs.Saved.{Saved, FitsVersion, TableOf, credential_item, has_version_4, table_item}
 use Rattle.saved_table.specs.Private.{IsOf, table_in}
 use Rattle.saved_table.specs.declared.error.Error.{Error}
 use Rattle.saved_table.proofs.Credentials.{one_credential}
@@ -168,15 +167,6 @@ one_saved v w s t bytes h g =
 
 -- ---- loading
 
-at_most : (p : Profile) (v : ℕ) → v ≤ last_version p → v ≤ 4
-at_most Strict v le = omega (arith, le)
-at_most Open v le = le
-
--- a version that the profile knows holds ids that it knows
-pub known_ids : (p : Profile) (v : ℕ) (rows : List Credential) → v ≤ last_version p → IsTable (profile_of v) rows → IsTable p rows
-known_ids Strict v rows le table = grind (arith, common_steps, le, table)
-known_ids Open v rows le table = (table.0, looser (profile_of v) rows table.1)
-
 module _ (bytes : List ℕ) (x : Item) (canon : Canon x bytes) where
   same_value : (v : ℕ) (s : Saved) → TableOf v s bytes → x ≡ table_item v s
   same_value v s h = same_item x (table_item v s) bytes canon h.spelled
@@ -191,21 +181,28 @@ module _ (bytes : List ℕ) (x : Item) (canon : Canon x bytes) where
     pub found_is : (v : ℕ) (s : Saved) → TableOf v s bytes → found ≡ (v, s.rp_id, s.next, items_of (each credential_item s.rows))
     found_is v s h = same_Some found (v, s.rp_id, s.next, items_of (each credential_item s.rows)) (sym read ∙ members_of v s h)
 
-    pub not_of : (p : Profile) → (IsOf p rp_id found → ⊥) → (v : ℕ) (s : Saved) → s.rp_id ≡ rp_id → v ≤ last_version p → TableOf v s bytes → ⊥
-    not_of p none v s is le h = none (rw (found_is v s h) (h.known.0, le, is, h.next))
+    pub not_of : (IsOf rp_id found → ⊥) → (v : ℕ) (s : Saved) → s.rp_id ≡ rp_id → TableOf v s bytes → ⊥
+    not_of none v s is h = none (rw (found_is v s h) (h.known.0, h.known.1, is, h.next))
 
-    pub no_rows : ((rows : List Credential) → IsTable (profile_of found.0) rows → (4 ≤ found.0 → has_long rows ≡ true) → Each (FitsVersion found.0) rows
+    pub no_rows : (p : Profile) → ((rows : List Credential) → IsTable p rows → (4 ≤ found.0 → has_version_4 rows ≡ true) → Each (FitsVersion found.0) rows
         → found.3 ≡ items_of (each credential_item rows) → ⊥)
-        → (v : ℕ) (s : Saved) → TableOf v s bytes → ⊥
-    no_rows none v s h =
+        → (v : ℕ) (s : Saved) → IsTable p s.rows → TableOf v s bytes → ⊥
+    no_rows p none v s table h =
         let e = found_is v s h in
-        none s.rows (rw e h.rows) (rw e h.long) (rw e h.each) (ap (λ (y : ℕ × List ℕ × ℕ × Items). y.3) e)
+        none s.rows table (rw e h.needed) (rw e h.each) (ap (λ (y : ℕ × List ℕ × ℕ × Items). y.3) e)
 
-    pub loaded : (p : Profile) → IsOf p rp_id found → (rows : List Credential) → IsTable (profile_of found.0) rows → (4 ≤ found.0 → has_long rows ≡ true)
+    pub loaded : (p : Profile) → IsOf rp_id found → (rows : List Credential) → IsTable p rows → (4 ≤ found.0 → has_version_4 rows ≡ true)
         → Each (FitsVersion found.0) rows → found.3 ≡ items_of (each credential_item rows)
         → TableOf found.0 (record { rp_id = rp_id; next = found.2; rows = rows }) bytes
-    loaded p is rows table long fit e =
+    loaded p is rows table needed fit e =
         let item = read_whole x found.0 found.1 found.2 found.3 read in
         let value : x ≡ whole found.0 rp_id found.2 (items_of (each credential_item rows)) = item ∙ ap (λ (r : List ℕ). whole found.0 r found.2 found.3) is.2
         ∙ ap (λ (xs : Items). whole found.0 rp_id found.2 xs) e in
-        record { known = (is.0, at_most p found.0 is.1); next = is.3; rows = table; each = fit; long = long; spelled = rw value at canon }
+        record {
+          known = (is.0, is.1);
+          next = is.3;
+          rows = (table.0, looser p rows table.1);
+          each = fit;
+          needed = needed;
+          spelled = rw value at canon;
+        }

@@ -1,15 +1,13 @@
 -- The version that is written.
-use Rattle.std.proofs.Common.{◌≡◌, ◌<◌, ◌≤◌, ◌^◌, ℕ, List, [], ◌∷◌, true, inl, inr, arith}
+use Rattle.std.proofs.Common.{◌≡◌, ◌<◌, ◌≤◌, ◌^◌, ◌++◌, ℕ, List, [], ◌∷◌, Bool, true, false, inl, inr, arith}
 use Rattle.std.proofs.lemmas.Bool.{cases_Bool}
+use Rattle.std.proofs.lemmas.Grind.{common_steps}
 use Rattle.refusal_order.specs.Lines.{Each}
-use Rattle.authdata.specs.declared.profile.Profile.TheVariants.{Open}
 use Rattle.verification.specs.Records.{Credential}
-use Rattle.credential_table.specs.Table.{AreRows, has_long}
-use Rattle.credential_table.proofs.RowLemmas.{all_short}
-use Rattle.saved_table.specs.Saved.{FitsVersion, profile_of, version_of}
+use Rattle.saved_table.specs.Saved.{FitsVersion, has_version_4, needs_version_4, version_of}
 
 pub known_version : (rows : List Credential) → (1 ≤ version_of rows) × (version_of rows ≤ 4)
-known_version rows = elim (cases_Bool (has_long rows)) [
+known_version rows = elim (cases_Bool (has_version_4 rows)) [
   | inl e ↦ rw e (omega arith, omega arith)
   | inr e ↦ rw e (omega arith, omega arith)
 ]
@@ -17,37 +15,48 @@ known_version rows = elim (cases_Bool (has_long rows)) [
 pub small_version : (rows : List Credential) → version_of rows < 2 ^ 64
 small_version rows = let known = known_version rows in omega (arith, known.1)
 
-written_last : (rows : List Credential) → 3 ≤ version_of rows
-written_last rows = elim (cases_Bool (has_long rows)) [
-  | inl e ↦ rw e (omega arith)
-  | inr e ↦ rw e (omega arith)
+-- whether a list has a credential that needs version 4, one by one
+pub needed_there : (front more : List Credential) (row : Credential) → needs_version_4 row.id row.key ≡ true → has_version_4 (front ++ row ∷ more) ≡ true
+needed_there [] more row needs = rw needs refl
+needed_there (r ∷ front) more row needs = elim (cases_Bool (needs_version_4 r.id r.key)) [
+  | inl e ↦ rw e refl
+  | inr e ↦ rw e (needed_there front more row needs)
 ]
 
--- what fits version 3 fits each later one
-one_fits : (v : ℕ) (c : Credential) → 3 ≤ v → FitsVersion 3 c → FitsVersion v c
-one_fits v c le fits = record {
+pub none_behind : (front : List Credential) (row : Credential) → has_version_4 front ≡ false → needs_version_4 row.id row.key ≡ false
+    → has_version_4 (front ++ row ∷ []) ≡ false
+none_behind [] row none no = rw no refl
+none_behind (r ∷ front) row none no = grind (common_steps, none, none_behind front row, no)
+
+-- what fits version 4 fits the version that is written
+one_fits : (c : Credential) → needs_version_4 c.id c.key ≡ false → FitsVersion 4 c → FitsVersion 3 c
+one_fits c no fits = record {
   key = fits.key;
   sign_count = fits.sign_count;
-  eligible = λ lt. absurd (omega (arith, le, lt));
-  retired = λ lt. absurd (omega (arith, le, lt));
+  eligible = λ lt. absurd (omega (arith, lt));
+  retired = λ lt. absurd (omega (arith, lt));
+  early = λ _. no;
 }
 
-each_fits : (v : ℕ) (rows : List Credential) → 3 ≤ v → Each (FitsVersion 3) rows → Each (FitsVersion v) rows
-each_fits v [] le fit = tt
-each_fits v (c ∷ rows) le fit = (one_fits v c le fit.0, each_fits v rows le fit.1)
+each_fits : (rows : List Credential) → has_version_4 rows ≡ false → Each (FitsVersion 4) rows → Each (FitsVersion 3) rows
+each_fits [] none fit = tt
+each_fits (c ∷ rows) none fit = elim (cases_Bool (needs_version_4 c.id c.key)) [
+  | inl e ↦ absurd grind (common_steps, e, none)
+  | inr e ↦ (one_fits c e fit.0, each_fits rows (sym (rw e refl) ∙ none) fit.1)
+]
 
-pub fits_written : (rows : List Credential) → Each (FitsVersion 3) rows → Each (FitsVersion (version_of rows)) rows
-fits_written rows fit = each_fits (version_of rows) rows (written_last rows) fit
+pub fits_written : (rows : List Credential) → Each (FitsVersion 4) rows → Each (FitsVersion (version_of rows)) rows
+fits_written rows fit = elim (cases_Bool (has_version_4 rows)) [
+  | inl e ↦ rw e fit
+  | inr e ↦ let earlier = each_fits rows e fit in rw e earlier
+]
 
--- version 4 where an id is long, else the ids are those of the strict profile
-pub is_long : (rows : List Credential) → 4 ≤ version_of rows → has_long rows ≡ true
-is_long rows = elim (cases_Bool (has_long rows)) [
+-- version 4 only where it is needed
+pub is_needed : (rows : List Credential) → 4 ≤ version_of rows → has_version_4 rows ≡ true
+is_needed rows = elim (cases_Bool (has_version_4 rows)) [
   | inl e ↦ λ _. e
   | inr e ↦ rw e (λ le. absurd (omega (arith, le)))
 ]
 
-pub ids_of : (rows : List Credential) → AreRows Open rows → AreRows (profile_of (version_of rows)) rows
-ids_of rows are = elim (cases_Bool (has_long rows)) [
-  | inl e ↦ rw e are
-  | inr e ↦ let strict = all_short rows are e in rw e strict
-]
+pub not_needed : (rows : List Credential) → version_of rows < 4 → has_version_4 rows ≡ true → ⊥
+not_needed rows lt some = let lt : 4 < 4 = rw (sym some) lt in omega (arith, lt)

@@ -3,8 +3,6 @@ use Rattle.std.specs.Prelude.{◌≡◌, ◌≢◌, ◌<◌, ◌≤◌, ℕ, Lis
 use Rattle.ccbor.specs.Item.{Item, uint, Items}
 use Rattle.ccbor.specs.Access.{split_key, is_end, uint_in, text_in, items_in, pairs_in}
 use Rattle.ccbor.specs.Reading.{◌>>=◌}
-use Rattle.authdata.specs.declared.profile.Profile.{Profile}
-use Rattle.saved_table.specs.Saved.{last_version}
 use Rattle.cbor_map.specs.Table.{Members, no_more, listed, some_bytes, a_truth, any_map, unsigned}
 
 -- the members of a credential's map: the key, whether it is required, and what it holds
@@ -35,6 +33,6 @@ table_in x = do
   credentials ← items_in four.0
   if is_end four.1 then Some (version, rp_id, next, credentials) else None
 
--- they are of a version that the profile knows, of this rp id, and of a session number that is one
-abbrev pub IsOf : Profile → List ℕ → ℕ × List ℕ × ℕ × Items → Type 0
-IsOf profile rp_id found = (1 ≤ found.0) × (found.0 ≤ last_version profile) × (found.1 ≡ rp_id) × (1 ≤ found.2)
+-- they are of a version from 1 to 4, of this rp id, and of a session number that is one
+abbrev pub IsOf : List ℕ → ℕ × List ℕ × ℕ × Items → Type 0
+IsOf rp_id found = (1 ≤ found.0) × (found.0 ≤ 4) × (found.1 ≡ rp_id) × (1 ≤ found.2)

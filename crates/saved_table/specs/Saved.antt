@@ -1,6 +1,6 @@
 -- What a relying party keeps over a restart (WebAuthn Level 2, section 7), as one map of canonical CBOR (CTAP 2.1,
 -- "Message Encoding"). The map is this product's own.
-use Rattle.std.specs.Prelude.{◌≡◌, ◌<◌, ◌≤◌, ◌^◌, ◌++◌, ℕ, List, Bool, true, false, Option, Some, None, option_map, nat_lt, if◌then◌else◌}
+use Rattle.std.specs.Prelude.{◌≡◌, ◌<◌, ◌≤◌, ◌^◌, ◌++◌, ℕ, List, [], ◌∷◌, Bool, true, false, Option, Some, None, option_map, length, nat_lt, if◌then◌else◌}
 use Rattle.std.specs.Prelude.{map as each}
 use Rattle.refusal_order.specs.Lines.{Each}
 use Rattle.ccbor.specs.Item.{Item, uint, bytes, text, array, map, boolean, no_pairs, pair}
@@ -8,10 +8,11 @@ use Rattle.ccbor.specs.Canon.{Canon}
 use Rattle.ccbor.specs.View.{items_of}
 use Rattle.cbor_map.specs.Content.{optional}
 use Rattle.cose.specs.Keys.{IsKey, item_of as key_item}
-use Rattle.authdata.specs.declared.profile.Profile.{Profile}
-use Rattle.authdata.specs.declared.profile.Profile.TheVariants.{Open, Strict}
+use Rattle.cose.specs.declared.key.CoseKey.{CoseKey}
+use Rattle.cose.specs.declared.key.CoseKey.TheVariants as keys
+use Rattle.authdata.specs.declared.profile.Profile.TheVariants.{Open}
 use Rattle.verification.specs.Records.{Credential}
-use Rattle.credential_table.specs.Table.{IsTable, has_long}
+use Rattle.credential_table.specs.Table.{IsTable}
 
 -- its rp id, the number of the next session, and its credentials in order of registration
 pub record Saved : Type 0 where
@@ -43,34 +44,40 @@ table_item version saved =
     (pair (uint 3) (uint saved.next)
     (pair (uint 4) (array (items_of (each credential_item saved.rows))) no_pairs))))
 
--- the ids of versions 1 to 3 are those of the strict profile, and those of version 4 those of the open one
-abbrev pub profile_of : ℕ → Profile
-profile_of version = if nat_lt version 4 then Strict else Open
+-- an RSA key (RFC 8230, section 4)
+abbrev pub is_rsa : CoseKey → Bool
+is_rsa (keys.Es256 x y) = false
+is_rsa (keys.EdDsa x) = false
+is_rsa (keys.Rs256 k) = true
 
--- the last version that a profile knows
-abbrev pub last_version : Profile → ℕ
-last_version Strict = 3
-last_version Open = 4
+-- what version 4 alone can hold: an id of more than 64 bytes, or an RSA key
+abbrev pub needs_version_4 : List ℕ → CoseKey → Bool
+needs_version_4 id key = if nat_lt 64 (length id) then true else is_rsa key
 
--- the version that is written: 4 where an id of more than 64 bytes stands in the table, else 3
+abbrev pub has_version_4 : List Credential → Bool
+has_version_4 [] = false
+has_version_4 (row ∷ rows) = if needs_version_4 row.id row.key then true else has_version_4 rows
+
+-- the version that is written: 4 where a credential in the table needs it, else 3
 abbrev pub version_of : List Credential → ℕ
-version_of rows = if has_long rows then 4 else 3
+version_of rows = if has_version_4 rows then 4 else 3
 
--- a credential as a table of a version may hold it: version 1 tells nothing of eligibility, and versions 1 and 2
--- nothing of retirement
+-- a credential as a table of a version may hold it: version 1 tells nothing of eligibility, versions 1 and 2 nothing
+-- of retirement, and versions 1 to 3 hold none that needs version 4
 pub record FitsVersion (version : ℕ) (c : Credential) : Type 0 where
   pub key : IsKey c.key
   pub sign_count : c.sign_count < 2 ^ 32
   pub eligible : version < 2 → c.eligible ≡ None
   pub retired : version < 3 → c.retired ≡ false
+  pub early : version < 4 → needs_version_4 c.id c.key ≡ false
 
--- the bytes are the table's in this version: the canonical CBOR of its value; version 4 has an id that no other has
+-- the bytes are the table's in this version: the canonical CBOR of its value; version 4 only where it is needed
 pub record TableOf (version : ℕ) (saved : Saved) (bytes : List ℕ) : Type 0 where
   pub known : (1 ≤ version) × (version ≤ 4)
   pub next : 1 ≤ saved.next
-  pub rows : IsTable (profile_of version) saved.rows
+  pub rows : IsTable Open saved.rows
   pub each : Each (FitsVersion version) saved.rows
-  pub long : 4 ≤ version → has_long saved.rows ≡ true
+  pub needed : 4 ≤ version → has_version_4 saved.rows ≡ true
   pub spelled : Canon (table_item version saved) bytes
 
 -- the new bytes are the old ones and then the table's in the version that is written

@@ -5,16 +5,15 @@ ghost use Rattle.refusal_order.specs.Lines.{Each};
 ghost use Rattle.ccbor.specs.View.{items_of};
 ghost use Rattle.ccbor.specs.Viewing.{shown_items};
 ghost use Rattle.verification.specs.Records.{Credential};
-ghost use Rattle.authdata.specs.declared.profile.Profile.{Profile as IdProfile};
-ghost use Rattle.authdata.specs.declared.profile.Profile.TheVariants.{Open, Strict};
-ghost use Rattle.credential_table.specs.Table.{IsTable, has_long};
-ghost use Rattle.saved_table.specs.Saved.{Saved, FitsVersion, TableOf, credential_item, last_version, profile_of};
+ghost use Rattle.credential_table.specs.Table.{IsTable};
+ghost use Rattle.saved_table.specs.Saved.{Saved, FitsVersion, TableOf, credential_item, has_version_4};
 ghost use Rattle.saved_table.specs.Private.{IsOf};
 ghost use Rattle.saved_table.specs.Views.{table_members_view};
 ghost use Rattle.saved_table.specs.declared.error.Error.TheVariants as errors;
 
 use crate::error::Error;
 use crate::reading::{TableMembers, credential, table_members};
+use crate::saving::version_of;
 use authdata::Profile;
 use ccbor::{ArrayView, View};
 use credential_table::Table;
@@ -29,46 +28,23 @@ pub struct Loaded {
     pub next: u64,
 }
 
-/// The last version that a profile knows.
-fn last_version(profile: Profile) -> u64
-    ensures { result ≡ last_version profile }
+/// Whether these members are of a version from 1 to 4, of this rp id, and of a session number that is one.
+fn is_of(found: &TableMembers<'_>, rp_id: &str) -> bool
+    ensures { IsTrue result ↔ IsOf rp_id.now (table_members_view found.now) }
 {
-    match profile {
-        Profile::Strict => 3,
-        Profile::Open => 4,
-    }
+    1 <= found.version && found.version <= 4 && found.rp_id == rp_id && 1 <= found.next
 }
 
-/// Which ids a table of this version may hold.
-fn profile_of(version: u64) -> Profile
-    ensures { result ≡ profile_of version }
-{
-    if version < 4 {
-        Profile::Strict
-    } else {
-        Profile::Open
-    }
-}
-
-/// Whether these members are of a version that the profile knows, of this rp id, and of a session number that is one.
-fn is_of(found: &TableMembers<'_>, profile: Profile, rp_id: &str) -> bool
-    ensures { IsTrue result ↔ IsOf profile rp_id.now (table_members_view found.now) }
-{
-    let last = last_version(profile);
-    1 <= found.version && found.version <= last && found.rp_id == rp_id && 1 <= found.next
-}
-
-/// The table of the credentials whose maps these are in a table of this version.
-fn credentials_in(alloc: Global, version: u64, items: ArrayView<'_>) -> Result<Table, Error>
-    ensures limits { IfOk result (IsTable (profile_of version)) }
-    ensures long { IfOk result (λ t. 4 ≤ version → has_long t ≡ true) }
+/// The table of the credentials whose maps these are in a table of this version, with ids of this profile.
+fn credentials_in(alloc: Global, profile: Profile, version: u64, items: ArrayView<'_>) -> Result<Table, Error>
+    ensures limits { IfOk result (IsTable profile) }
+    ensures needed { IfOk result (λ t. 4 ≤ version → has_version_4 t ≡ true) }
     ensures read { IfOk result (λ t. Each (FitsVersion version) t
         × (shown_items items.entry ≡ items_of (map credential_item t))) }
     // It is refused only if there is none.
-    ensures none { IsErrOf result errors.BadTable → (rows : List Credential) → IsTable (profile_of version) rows → (4 ≤ version → has_long rows ≡ true)
+    ensures none { IsErrOf result errors.BadTable → (rows : List Credential) → IsTable profile rows → (4 ≤ version → has_version_4 rows ≡ true)
         → Each (FitsVersion version) rows → shown_items items.entry ≡ items_of (map credential_item rows) → ⊥ }
 {
-    let profile = profile_of(version);
     let mut rest = items;
     let mut table = Table::new(alloc);
     while let Some((item, after)) = rest.split_first() {
@@ -79,27 +55,26 @@ fn credentials_in(alloc: Global, version: u64, items: ArrayView<'_>) -> Result<T
         table.push(row)?;
         rest = after;
     }
-    if 4 <= version && !table.has_long_id() {
+    if 4 <= version && version_of(&table) < 4 {
         return Err(Error::BadTable);
     }
     Ok(table)
 }
 
 /// What was saved of the relying party of this rp id and profile: bytes that [`save`](crate::save) appended, now or in
-/// the two versions before.
+/// the versions before (1 to 4).
 ///
-/// Refused as `BadTable` (23) where the bytes are of no version that the profile knows (1 to 3, in the open one to 4),
-/// not the whole of one canonical map, of another rp id, or where what they hold is no table: a user handle that is
-/// not of 1 to 64 bytes, an id that is not, in version 4 of 1 to 1,023, an id twice, more than 65,536 credentials, a
-/// counter above 2^32 - 1, a member that the version does not know; version 4 where no id has more than 64 bytes.
-/// Otherwise only `Memory` is answered.
+/// Refused as `BadTable` (23) where the bytes are of no such version, not the whole of one canonical map, of another
+/// rp id, or where what they hold is no table of the profile: a user handle that is not of 1 to 64 bytes, an id that is
+/// not, in the open profile of 1 to 1,023, an id twice, more than 65,536 credentials, a counter above 2^32 - 1, a
+/// member that the version does not know; an id of more than 64 bytes or an RSA key in versions 1 to 3, and version 4
+/// where there is neither. Otherwise only `Memory` is answered.
 pub fn load(alloc: Global, profile: Profile, bytes: &[u8], rp_id: &str) -> Result<Loaded, Error>
-    ensures loaded { IfOk result (λ l. (version : ℕ) × (version ≤ last_version profile)
-        × TableOf version (record { rp_id = rp_id.now; next = l.next; rows = l.table }) bytes.now) }
+    ensures loaded { IfOk result (λ l. (version : ℕ) × TableOf version (record { rp_id = rp_id.now; next = l.next; rows = l.table }) bytes.now) }
     ensures limits { IfOk result (λ l. IsTable profile l.table) }
     // It is refused only where the bytes are no such table.
     ensures bad { IsErrOf result errors.BadTable → (version : ℕ) (saved : Saved) → saved.rp_id ≡ rp_id.now
-        → version ≤ last_version profile → TableOf version saved bytes.now → ⊥ }
+        → IsTable profile saved.rows → TableOf version saved bytes.now → ⊥ }
 {
     let Ok(value) = View::check_all(bytes) else {
         return Err(Error::BadTable);
@@ -107,10 +82,10 @@ pub fn load(alloc: Global, profile: Profile, bytes: &[u8], rp_id: &str) -> Resul
     let Some(found) = table_members(&value) else {
         return Err(Error::BadTable);
     };
-    if !is_of(&found, profile, rp_id) {
+    if !is_of(&found, rp_id) {
         return Err(Error::BadTable);
     }
-    let table = credentials_in(alloc, found.version, found.credentials)?;
+    let table = credentials_in(alloc, profile, found.version, found.credentials)?;
     Ok(Loaded {
         table,
         next: found.next,

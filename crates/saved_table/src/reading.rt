@@ -4,9 +4,10 @@ ghost use Rattle.std.specs.Prelude.{◌≡◌, ◌↔◌, IfOk, IsErrOf, IsTrue,
 ghost use Rattle.ccbor.specs.Viewing.{shown};
 ghost use Rattle.cbor_map.specs.Reading.{Yields, read_in};
 ghost use Rattle.cbor_map.specs.Table.{record_of};
+ghost use Rattle.cose.specs.Keys.{lent_key_view};
 ghost use Rattle.verification.specs.Records.{Credential};
 ghost use Rattle.credential_table.specs.Views.{row_view};
-ghost use Rattle.saved_table.specs.Saved.{FitsVersion, credential_item};
+ghost use Rattle.saved_table.specs.Saved.{FitsVersion, credential_item, needs_version_4};
 ghost use Rattle.saved_table.specs.Private.{AreMarks, credential_members, table_in};
 ghost use Rattle.saved_table.specs.Views.{members_content, table_members_view};
 ghost use Rattle.saved_table.specs.declared.error.Error.TheVariants as errors;
@@ -101,6 +102,19 @@ fn are_marks(version: u64, eligible: Option<bool>, retired: Option<bool>) -> boo
     (2 <= version || eligible.is_none()) && (3 <= version || retired.is_none())
 }
 
+/// Whether version 4 alone can hold a credential of this id and key.
+pub fn needs_version_4(id: &[u8], key: &KeyView<'_>) -> bool
+    ensures { result ≡ needs_version_4 id.now (lent_key_view key.now) }
+{
+    if 64 < id.len() {
+        return true;
+    }
+    match key {
+        KeyView::Es256 { .. } | KeyView::EdDsa { .. } => false,
+        KeyView::Rs256(_) => true,
+    }
+}
+
 /// The credential that has this map in a table of this version, copied out.
 pub fn credential(alloc: Global, version: u64, value: &View<'_>) -> Result<Row, Error>
     ensures read { IfOk result (λ row. FitsVersion version (row_view row)
@@ -117,6 +131,9 @@ pub fn credential(alloc: Global, version: u64, value: &View<'_>) -> Result<Row, 
         return Err(Error::BadTable);
     };
     if !are_marks(version, found.eligible, found.retired) {
+        return Err(Error::BadTable);
+    }
+    if version < 4 && needs_version_4(found.id, &key) {
         return Err(Error::BadTable);
     }
     Ok(Row {

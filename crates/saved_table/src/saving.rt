@@ -9,17 +9,23 @@ ghost use Rattle.credential_table.specs.Table.{IsTable};
 ghost use Rattle.authdata.specs.declared.profile.Profile.TheVariants.{Open};
 ghost use Rattle.saved_table.specs.Saved.{AppendsTable, FitsVersion, credential_item, table_item, true_if, version_of};
 
+use crate::reading::needs_version_4;
 use cbor_map::{bytes_value, push_if_there, push_member, text_value};
 use ccbor::{MapKey, Value, encode};
 use credential_table::Table;
 use std::alloc::{AllocError, Global};
 use verification::RowView;
 
-/// The version that is written: the last where an id of more than 64 bytes stands in the table.
-fn version_of(table: &Table) -> u64
+/// The version that is written: the last where a credential of the table needs it.
+pub fn version_of(table: &Table) -> u64
     ensures { result ≡ version_of table.now }
 {
-    if table.has_long_id() { 4 } else { 3 }
+    for row in table.rows() {
+        if needs_version_4(row.id, &row.key) {
+            return 4;
+        }
+    }
+    3
 }
 
 /// The value of a truth value that may be absent.
@@ -45,7 +51,7 @@ fn retired_value(retired: bool) -> Option<Value>
 
 /// The value of a credential's map.
 fn credential_value(alloc: Global, row: &RowView<'_>) -> Result<Value, AllocError>
-    ensures fits { IfOk result (λ _. FitsVersion 3 (credential_view row.now)) }
+    ensures fits { IfOk result (λ _. FitsVersion 4 (credential_view row.now)) }
     ensures value { IfOk result (λ v. view v ≡ credential_item (credential_view row.now)) }
 {
     let id = bytes_value(alloc, row.id)?;
@@ -78,7 +84,7 @@ fn credential_value(alloc: Global, row: &RowView<'_>) -> Result<Value, AllocErro
 
 /// The values of the credentials' maps, in their order.
 fn credential_values(alloc: Global, table: &Table) -> Result<Vec<Value>, AllocError>
-    ensures fit { OnOk result (IsTable Open table.now × Each (FitsVersion 3) table.now) }
+    ensures fit { OnOk result (IsTable Open table.now × Each (FitsVersion 4) table.now) }
     ensures values { IfOk result (λ vs. items_view vs.items ≡ items_of (map credential_item table.now)) }
 {
     let mut values = Vec::new(alloc);
@@ -90,7 +96,7 @@ fn credential_values(alloc: Global, table: &Table) -> Result<Vec<Value>, AllocEr
 
 /// The value of the whole table.
 fn table_value(alloc: Global, rp_id: &str, next: u64, table: &Table) -> Result<Value, AllocError>
-    ensures fit { OnOk result (IsTable Open table.now × Each (FitsVersion 3) table.now) }
+    ensures fit { OnOk result (IsTable Open table.now × Each (FitsVersion 4) table.now) }
     ensures value { IfOk result (λ v. view v
         ≡ table_item (version_of table.now) (record { rp_id = rp_id.now; next = next; rows = table.now })) }
 {
@@ -115,7 +121,8 @@ fn table_value(alloc: Global, rp_id: &str, next: u64, table: &Table) -> Result<V
 }
 
 /// Appends the bytes of a relying party's rp id, the number of its next session and its credentials, in version 3,
-/// or in version 4 where an id of more than 64 bytes stands in the table. The number is at least 1. Where there is no memory the output's bytes are as they were.
+/// or in version 4 where an id of more than 64 bytes or an RSA key stands in the table. The number is at least 1. Where
+/// there is no memory the output's bytes are as they were.
 pub fn save(rp_id: &str, next: u64, table: &Table, out: &mut Vec<u8>) -> Result<(), AllocError>
     requires { 1 ≤ next }
     ensures saved { OnOk result (AppendsTable

@@ -11,8 +11,8 @@ use Rattle.verification.specs.Records.{RelyingParty, Credential, ExpectedRegistr
 use Rattle.verification.specs.SignIn.{JudgedSignIn}
 use Rattle.verification.specs.Registration.{JudgedRegistration, Attests}
 use Rattle.verification.specs.declared.party.Policy.{Policy}
-use Rattle.credential_table.specs.Table.{row_of, with_row, signed_in, IsWithin}
-use Rattle.saved_table.specs.Saved.{Saved}
+use Rattle.credential_table.specs.Table.{row_of, with_row, signed_in, IsTable, IsWithin}
+use Rattle.saved_table.specs.Saved.{Saved, TableOf}
 use Rattle.ceremony_sessions.specs.Sessions.{OpenSessions, closed, registration_at, sign_in_at}
 
 -- the relying party; the attestations that it accepts; its credentials in order of registration; its sessions
@@ -41,6 +41,14 @@ idle rp policy rows next = record { rp = rp; policy = policy; rows = rows; sessi
 -- what is kept over a restart
 abbrev pub saved_of : SiteState → Saved
 saved_of s = record { rp_id = s.rp.rp_id; next = s.sessions.next; rows = s.rows }
+
+-- a site without open sessions whose saved table these bytes are
+abbrev pub IsLoaded : RelyingParty → Policy → List ℕ → SiteState → Type 0
+IsLoaded rp policy bytes s = ((version : ℕ) × TableOf version (saved_of s) bytes) × (s ≡ idle rp policy s.rows s.sessions.next)
+
+-- the bytes are no saved table of a relying party
+abbrev pub IsNoTable : RelyingParty → List ℕ → Type 0
+IsNoTable rp bytes = (version : ℕ) (saved : Saved) → saved.rp_id ≡ rp.rp_id → IsTable rp.profile saved.rows → TableOf version saved bytes → ⊥
 
 -- ---- sign-in
 

@@ -10,8 +10,8 @@ ghost use Rattle.credential_table.specs.Table.{IsTable, IsWithin, retired, row_o
 ghost use Rattle.credential_table.specs.Views.{rows_view, stored_row_view};
 ghost use Rattle.ceremony_sessions.specs.Sessions.{IsRefused, OpensRegistration, OpensSignIn, PassesOpening, begun, challenge_of, closed};
 ghost use Rattle.ceremony_sessions.specs.Views.{session_view};
-ghost use Rattle.saved_table.specs.Saved.{AppendsTable, Saved, TableOf, last_version};
-ghost use Rattle.site.specs.State.{IsParty, idle, party_of, saved_of};
+ghost use Rattle.saved_table.specs.Saved.{AppendsTable};
+ghost use Rattle.site.specs.State.{IsLoaded, IsNoTable, IsParty, idle, party_of, saved_of};
 ghost use Rattle.site.specs.declared.error.Error.TheVariants as errors;
 
 use crate::error::Error;
@@ -184,8 +184,8 @@ impl Site {
     /// The site that was saved, by `save` or in an earlier version of its bytes, without open sessions; the session
     /// numbers go on. It is of the strict profile.
     ///
-    /// `BadInput` as for `new`; then `BadTable` where the bytes are not what is saved of a site with this rp id, in
-    /// version 1, 2 or 3.
+    /// `BadInput` as for `new`; then `BadTable` where the bytes are not what is saved of a site with this rp id, or an
+    /// id has more than 64 bytes.
     pub fn load(
         alloc: Global,
         bytes: &[u8],
@@ -193,17 +193,15 @@ impl Site {
         origins: &[&str],
         policy: Policy,
     ) -> Result<Site, Error>
-        ensures loaded { IfOk result (λ s. ((version : ℕ) × (version ≤ last_version Strict) × TableOf version (saved_of s) bytes.now)
-            × (s ≡ idle (party_of Strict rp_id.now (texts_of origins.now)) policy s.rows s.sessions.next)) }
+        ensures loaded { IfOk result (IsLoaded (party_of Strict rp_id.now (texts_of origins.now)) policy bytes.now) }
         ensures input { IsErrOf result Error.BadInput ↔ ¬ IsParty (party_of Strict rp_id.now (texts_of origins.now)) }
-        ensures table { IsErrOf result Error.BadTable → (version : ℕ) (saved : Saved) → saved.rp_id ≡ rp_id.now
-            → version ≤ last_version Strict → TableOf version saved bytes.now → ⊥ }
+        ensures table { IsErrOf result Error.BadTable → IsNoTable (party_of Strict rp_id.now (texts_of origins.now)) bytes.now }
     {
         Site::load_with_profile(alloc, Profile::Strict, bytes, rp_id, origins, policy)
     }
 
-    /// The site that was saved, of this profile: the open one loads version 4 too, with ids of up to 1,023 bytes; else as
-    /// `load`. What a strict site saved may be loaded as an open one.
+    /// The site that was saved, of this profile: the open one loads ids of up to 1,023 bytes; else as `load`. What a
+    /// strict site saved may be loaded as an open one.
     pub fn load_with_profile(
         alloc: Global,
         profile: Profile,
@@ -212,11 +210,9 @@ impl Site {
         origins: &[&str],
         policy: Policy,
     ) -> Result<Site, Error>
-        ensures loaded { IfOk result (λ s. ((version : ℕ) × (version ≤ last_version profile) × TableOf version (saved_of s) bytes.now)
-            × (s ≡ idle (party_of profile rp_id.now (texts_of origins.now)) policy s.rows s.sessions.next)) }
+        ensures loaded { IfOk result (IsLoaded (party_of profile rp_id.now (texts_of origins.now)) policy bytes.now) }
         ensures input { IsErrOf result Error.BadInput ↔ ¬ IsParty (party_of profile rp_id.now (texts_of origins.now)) }
-        ensures table { IsErrOf result Error.BadTable → (version : ℕ) (saved : Saved) → saved.rp_id ≡ rp_id.now
-            → version ≤ last_version profile → TableOf version saved bytes.now → ⊥ }
+        ensures table { IsErrOf result Error.BadTable → IsNoTable (party_of profile rp_id.now (texts_of origins.now)) bytes.now }
     {
         if !is_party(rp_id, origins) {
             return Err(Error::BadInput);

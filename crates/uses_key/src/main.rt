@@ -14,9 +14,8 @@ use hidframe::Packet;
 use hidlink::Device;
 use key::Key;
 use std::fs::File;
-use std::process::ExitCode;
-use std::{env, io};
-use uses_lines::{tell, told, unexpected};
+use std::io;
+use uses_lines::{first_argument, tell, told, unexpected};
 
 /// The kind of this key.
 const AAGUID: [u8; 16] = *b"garvoeng uses-ky";
@@ -42,18 +41,7 @@ fn run(rt: &HostRuntime, words: &str) -> io::Result<()> {
     Ok(())
 }
 
-/// Does what the command line says.
-fn run_words(rt: &HostRuntime) -> io::Result<()> {
-    let mut words = env::args(rt)?.skip(1);
-    match words.next() {
-        Some(file) => run(rt, file.as_str()),
-        None => Err(unexpected()),
-    }
-}
-
-fn main(rt: HostRuntime) -> ExitCode {
-    match run_words(&rt) {
-        Ok(()) => ExitCode::SUCCESS,
-        Err(_) => ExitCode::from(1),
-    }
+fn main(rt: HostRuntime) -> io::Result<()> {
+    let words = first_argument(&rt)?;
+    run(&rt, words.as_str())
 }

@@ -1,11 +1,17 @@
 //! What the three programs of `uses` speak with their hosts by: lines of a name, a space, and bytes in hexadecimal digits.
 #![tactic(auto)]
 
+use std::env;
 use std::io::{self, ErrorKind, Write};
 
 /// The error where the input ended, or said something else than was asked for.
 pub fn unexpected() -> io::Error {
     io::Error::from(ErrorKind::InvalidData)
+}
+
+/// The first argument of the program; `unexpected` where there is none.
+pub fn first_argument(rt: &HostRuntime) -> io::Result<String> {
+    env::args(rt)?.nth(1).ok_or(unexpected())
 }
 
 /// The bytes of the next line, which has this name; `unexpected` where it has another, or none is left.

@@ -11,11 +11,9 @@ mod visit;
 
 use authdata::Profile;
 use site::{Policy, Site, Table};
-use std::env;
 use std::fs::File;
 use std::io::{self, Read};
-use std::process::ExitCode;
-use uses_lines::unexpected;
+use uses_lines::{first_argument, unexpected};
 use visit::{register, sign_in};
 
 /// 24 random bytes, from a file as `/dev/urandom`.
@@ -47,18 +45,7 @@ fn run(rt: &HostRuntime, words: &str) -> io::Result<()> {
     sign_in(rt, &mut site, random_words(&mut file)?)
 }
 
-/// Does what the command line says.
-fn run_words(rt: &HostRuntime) -> io::Result<()> {
-    let mut words = env::args(rt)?.skip(1);
-    match words.next() {
-        Some(file) => run(rt, file.as_str()),
-        None => Err(unexpected()),
-    }
-}
-
-fn main(rt: HostRuntime) -> ExitCode {
-    match run_words(&rt) {
-        Ok(()) => ExitCode::SUCCESS,
-        Err(_) => ExitCode::from(1),
-    }
+fn main(rt: HostRuntime) -> io::Result<()> {
+    let words = first_argument(&rt)?;
+    run(&rt, words.as_str())
 }

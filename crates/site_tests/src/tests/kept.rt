@@ -22,7 +22,7 @@ retired and restarted|rows=one;1 sign-in account=01;0 answer flip=4 count=1;1 re
 an id and a user of 64 bytes|rows=one;1 register uv=1 account=07*64;0 attest id=1a*64;1 row id=1a*64 user=07*64 count=258 eligible=1;2 sign-in \
     account=07*64 allow=01*64,1a*64;0 answer session=2 challenge=IA id=1a*64 user=07*64 told=07*64 flip=8 count=259 registered=1;1 row id=1a*64 \
     user=07*64 count=259 eligible=1
-an RSA key|rows=one;1 register uv=1 algs=rs256;0 attest rsa=1;2 sign-in account=01;0 answer session=2 challenge=IA id=1a flip=8 count=259 registered=1 \
+an RSA key|rows=one;1 register uv=1 algs=rs256;0 attest rsa=1;2 rows;2 sign-in account=01;0 answer session=2 challenge=IA id=1a flip=8 count=259 registered=1 \
     rsa=1;1 row id=1a count=259 eligible=1;0 restart;3 sign-in account=01;14 answer session=3 challenge=MA id=1a flip=8 count=260 registered=1;0 answer \
     session=3 challenge=MA id=1a flip=8 count=260 registered=1 rsa=1;1 row id=1a count=260 eligible=1
 the last but one of many|rows=full;1 sign-in account=01;0 answer id=0000fffe count=65535;1 row id=0000fffe count=65535;1 row id=0000ffff count=65535 \
@@ -53,6 +53,11 @@ version 4, open|rows=one profile=open;0 load bytes=a40104026361626303020481a4015
     bytes=a40104026361626303020481a4015841+0a*65+02410103+K+0401;1 row id=0a*65 count=1 eligible=-
 version 3, open|rows=one profile=open;0 load bytes=a40103026361626303020481a501410a02410103+K+040105f4;1 saved \
     bytes=a40103026361626303020481a501410a02410103+K+040105f4
+version 4, an RSA key|rows=one;0 load bytes=a40104026361626303020481a501410a02410103+a401030339010020590100+c1*256+2143010001+040105f5;1 saved \
+    bytes=a40104026361626303020481a501410a02410103+a401030339010020590100+c1*256+2143010001+040105f5;1 row count=1 eligible=1
+version 4, an RSA key, open|rows=one profile=open;0 load bytes=a40104026361626303020481a501410a02410103+a401030339010020590100+c1*256+2143010001+040105f5;1 saved \
+    bytes=a40104026361626303020481a501410a02410103+a401030339010020590100+c1*256+2143010001+040105f5;1 row count=1 eligible=1
+version 3, an RSA key|rows=one;23 load bytes=a40103026361626303020481a501410a02410103+a401030339010020590100+c1*256+2143010001+040105f5;1 rows
 the last session number but one|rows=one;0 load bytes=a401030263616263031b+ff*7+fe0480;1 saved bytes=a401030263616263031b+ff*7+fe0480;18446744073709551614 \
     sign-in;22 sign-in;22 register;27 sign-in account=;27 register algs=;0 restart;22 sign-in
 no more sessions and no more numbers|rows=one;0 load bytes=a401030263616263031b+ff*6+fbff0480;18446744073709551614 all-sign-ins;21 sign-in;21 register;27 \

@@ -3,13 +3,13 @@ use Rattle.std.proofs.Common.{◌≡◌}
 use Rattle.refusal_order.specs.Lines.{Each}
 use Rattle.ccbor.specs.Viewing.{shown_items}
 use Rattle.credential_table.specs.Table.{IsTable}
-use Rattle.saved_table.specs.Saved.{FitsVersion, profile_of}
+use Rattle.saved_table.specs.Saved.{FitsVersion}
 use Rattle.saved_table.proofs.Tables.{in_front}
 use Rattle.saved_table.proofs.loading.credentials_in.Given as goal
 
 abbrev pub invariant-loop-item : goal.invariant-loop-item
 invariant-loop-item l =
-    IsTable (profile_of l.version) l.table × Each (FitsVersion l.version) l.table × (l.profile ≡ profile_of l.version) ×
+    IsTable l.profile l.table × Each (FitsVersion l.version) l.table ×
     (in_front l.table (shown_items l.rest) ≡ shown_items l.fn.items)
 
 abbrev pub decreases-loop-item : goal.decreases-loop-item

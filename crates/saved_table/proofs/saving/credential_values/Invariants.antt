@@ -14,6 +14,6 @@ invariant-loop-row l =
     (goal.iterator-loop-row).can_next l.row-iterator ×
     (goal.iterator-loop-row).is_finite l.row-iterator ×
     IsTable Open l.table ×
-    Each (FitsVersion 3) (map credential_view l.yielded) ×
+    Each (FitsVersion 4) (map credential_view l.yielded) ×
     (map view l.values.items ≡ map credential_item (map credential_view l.yielded)) ×
     (l.table ≡ map credential_view l.yielded ++ map (λ e. stored_row_view e.0.items e.1) l.row-iterator.0)

@@ -4,7 +4,7 @@ use Rattle.ccbor.specs.Item.{Item}
 use Rattle.ccbor.specs.Canon.{AppendsCanon, spelling}
 use Rattle.saved_table.specs.Saved.{Saved, table_item, version_of}
 use Rattle.saved_table.proofs.Fitting.{table_fits}
-use Rattle.saved_table.proofs.Versions.{fits_written, ids_of, is_long, known_version, small_version}
+use Rattle.saved_table.proofs.Versions.{fits_written, is_needed, known_version, small_version}
 use Rattle.saved_table.proofs.saving.save.Goals as goal
 
 pub returns-in-Ok-clause-saved : goal.returns-in-Ok-clause-saved
@@ -16,9 +16,9 @@ returns-in-Ok-clause-saved c =
       record {
         known = known_version rows;
         next = c.requires;
-        rows = (v.fit.0.0, ids_of rows v.fit.0.1);
+        rows = v.fit.0;
         each = fits_written rows v.fit.1;
-        long = is_long rows;
+        needed = is_needed rows;
         spelled = a.1;
       },
       a.2,
