@@ -28,7 +28,7 @@ use Rattle.site.proofs.Goings.{none_there}
 use Rattle.authenticator.specs.Laws.{IsSound}
 use Rattle.authenticator.specs.Steps.{Entry, Keys, assertion}
 use Rattle.agreement.specs.World.{Abandons, Asks, AtSite, Begins, Done, EventEffect, EventEnd, Event, Happens, Moment, Registers, RegistersBy, Reloads}
-use Rattle.agreement.specs.World.{Restarts, Retires, SignsIn, SignsInBy, SiteEvent, World}
+use Rattle.agreement.specs.World.{Reopens, Restarts, Retires, SignsIn, SignsInBy, SiteEvent, World}
 use Rattle.agreement.specs.Agreement.{Agrees, AnswersSession, Brings, BringsTo, DifferInSession, Fits, IsAccepted, IsFresh, IsIdeal, RestsOnce}
 use Rattle.agreement.specs.Agreement.{ShareNone, message_of, session_in}
 use Rattle.agreement.specs.Below.{Below}
@@ -239,6 +239,7 @@ module _ (valid : Validity) (public : Keys) (b : Below valid public) where
   session_to (Registers k q) n r brings = absurd brings
   session_to (RegistersBy k c ps t) n r brings = absurd brings
   session_to Restarts n r brings = absurd brings
+  session_to Reopens n r brings = absurd brings
 
   answers_at : (e : Event) (i n : ℕ) (r : AuthenticatorAssertionResponse) → Brings e i n r → AnswersSession e i n
   answers_at (AtSite j e) i n r brings = (brings.0, session_to e n r brings.1)

@@ -23,7 +23,7 @@ use Rattle.ceremony.specs.Registration as registering
 use Rattle.ceremony.specs.Verdict.{Delivers}
 use Rattle.ceremony.proofs.OneVerdict.{registration_one, sign_in_one}
 use Rattle.authenticator.specs.Steps.{Keys}
-use Rattle.agreement.specs.World.{Abandons, SiteActs, Begins, Loads, Registers, RegistersBy, Restarts, Retires, SignsIn, SignsInBy, SiteEvent, words_of}
+use Rattle.agreement.specs.World.{Abandons, SiteActs, Begins, Loads, Registers, RegistersBy, Reopens, Restarts, Retires, SignsIn, SignsInBy, SiteEvent, words_of}
 use Rattle.agreement.specs.Agreement.{BringsNewTo, BringsTo, Carried, CarriedNew, IsRegistration, session_in}
 use Rattle.agreement.specs.Below.{Below}
 
@@ -145,6 +145,7 @@ module _ (valid : Validity) (public : Keys) (b : Below valid public) where
   registered_in s t (SignsIn k q) n r acts brings = absurd brings
   registered_in s t (SignsInBy k c ps d) n r acts brings = absurd brings
   registered_in s t Restarts n r acts brings = absurd brings
+  registered_in s t Reopens n r acts brings = absurd brings
 
   carried_there : (s t : SiteState) (n c : ℕ) (ps : List Packet) (d : List ℕ) → SiteActs valid s (SignsInBy n c ps d) t
       → (r : responses.AuthenticatorAssertionResponse) × Carried c ps d r
@@ -167,6 +168,7 @@ module _ (valid : Validity) (public : Keys) (b : Below valid public) where
   signs_in s t (Registers k q) n r acts brings = absurd brings
   signs_in s t (RegistersBy k c ps d) n r acts brings = absurd brings
   signs_in s t Restarts n r acts brings = absurd brings
+  signs_in s t Reopens n r acts brings = absurd brings
 
   -- ---- what is kept
 
@@ -208,6 +210,9 @@ module _ (valid : Validity) (public : Keys) (b : Below valid public) where
   stays s t (RegistersBy n c ps d) fresh acts = let x = registered_by s t n c ps d acts in stays_registered s t n x.0 fresh x.1
   stays s t Restarts fresh acts =
       subst (Stays s) (sym (loaded s t acts)) (record { keeps = b.sites.restarts s fresh; bytes = λ old. empty_bytes (after_restart s) refl })
+  stays s t Reopens fresh acts =
+      let same : Keeps s s = record { numbered = λ h. h; fresh = fresh; goes_on = b.sites.stays s } in
+      subst (Stays s) (sym acts) (record { keeps = same; bytes = λ old. old })
 
   -- ---- which session is taken
 
@@ -225,6 +230,7 @@ module _ (valid : Validity) (public : Keys) (b : Below valid public) where
   takes s t (Abandons k) n fresh acts is = let bad : None ≡ Some n = is in absurd cc
   takes s t (Retires id) n fresh acts is = let bad : None ≡ Some n = is in absurd cc
   takes s t Restarts n fresh acts is = let bad : None ≡ Some n = is in absurd cc
+  takes s t Reopens n fresh acts is = let bad : None ≡ Some n = is in absurd cc
 
   -- what a registration adds
   pub registers : (s t : SiteState) (e : SiteEvent) → SiteActs valid s e t → IsRegistration e → (n : ℕ) × (r : responses.AuthenticatorAttestationResponse)
@@ -237,3 +243,4 @@ module _ (valid : Validity) (public : Keys) (b : Below valid public) where
   registers s t (SignsIn n r) acts is = absurd is
   registers s t (SignsInBy n c ps d) acts is = absurd is
   registers s t Restarts acts is = absurd is
+  registers s t Reopens acts is = absurd is

@@ -1,5 +1,6 @@
 -- Sites and authenticators, any number of each, and all that may happen to them: the packets, the client data and the
--- requests are whatever an adversary makes of them. A site or an authenticator that begins again loads what it has saved.
+-- requests are whatever an adversary makes of them. A site or an authenticator that begins again loads what it has saved;
+-- a site that is stored by each call finds itself as it was.
 use Rattle.std.specs.Prelude.{◌≡◌, ◌≢◌, ◌<◌, ◌-◌, ◌^◌, ℕ, Bool, List, [], ◌∷◌, ◌++◌, length}
 use Rattle.std.specs.FinMap as finite
 use Rattle.base64.specs.GeneralPurpose.{IsBytes}
@@ -39,7 +40,8 @@ pub record World : Type 0 where
 
 -- ---- events
 
--- at a site: what its calls do, and that it begins again with the table that it saved
+-- at a site: what its calls do; that it begins again with the table that it saved; and that it is opened again where
+-- each call stores it. A call that a crash cuts off has its effect or none, and then the site is opened again
 pub data SiteEvent : Type 0 where
   Begins : (opening : Opening) → SiteEvent
   Abandons : (session : ℕ) → SiteEvent
@@ -49,6 +51,7 @@ pub data SiteEvent : Type 0 where
   Registers : (session : ℕ) (r : responses.AuthenticatorAttestationResponse) → SiteEvent
   RegistersBy : (session c : ℕ) (ps : List Packet) (t : List ℕ) → SiteEvent
   Restarts : SiteEvent
+  Reopens : SiteEvent
 
 -- at site i; or an authenticator is asked something, on whatever channel and with whatever consent; or it begins again
 -- with what it saved
@@ -84,6 +87,7 @@ SiteActs valid s (Registers n r) t = registration.PassesRegistration valid (judg
 SiteActs valid s (RegistersBy n c ps d) t =
     ((used : ℕ) × (r : replies.Creation) × Succeeds (registering.registration valid s n d) c ps used r) × registering.IsAfter s n d c ps t
 SiteActs valid s Restarts t = Loads s t
+SiteActs valid s Reopens t = t ≡ s
 
 -- one site, or one authenticator, has changed and no other
 pub record ChangesSite (old new : World) (i : ℕ) (s : site.SiteState) : Type 0 where

@@ -142,15 +142,13 @@ module _ (version : ℕ) (x k : Item) (id user : List ℕ) (n : ℕ) (eligible r
   pub no_key : ((l : CoseKey) → KeyOf l k → ⊥) → (c : Credential) → FitsVersion version c → x ≡ credential_item c → ⊥
   no_key none c fits is = none c.key (fits.key, ap (λ (m : Contents credential_members). m.1.1.0) (same_content c is))
 
-  pub not_early : (key : CoseKey) → KeyOf key k → version < 4 → needs_version_4 id key ≡ true → (c : Credential) → FitsVersion version c
+  pub not_early : (key : CoseKey) → KeyOf key k → ((version < 4 → needs_version_4 id key ≡ false) → ⊥) → (c : Credential) → FitsVersion version c
       → x ≡ credential_item c → ⊥
-  not_early key of lt needs c fits is =
+  not_early key of none c fits is =
       let ids : id ≡ c.id = ap (λ (m : Contents credential_members). m.0) (same_content c is) in
       let items : k ≡ key_item c.key = ap (λ (m : Contents credential_members). m.1.1.0) (same_content c is) in
       let same : key ≡ c.key = one_key key c.key k of (fits.key, items) in
-      let no : true ≡ false =
-      sym needs ∙ ap (λ (b : List ℕ). needs_version_4 b key) ids ∙ ap (λ (l : CoseKey). needs_version_4 c.id l) same ∙ fits.early lt in
-      absurd cc
+      none (λ lt. ap (λ (b : List ℕ). needs_version_4 b key) ids ∙ ap (λ (l : CoseKey). needs_version_4 c.id l) same ∙ fits.early lt)
 
   pub no_counter : (n < 2 ^ 32 → ⊥) → (c : Credential) → FitsVersion version c → x ≡ credential_item c → ⊥
   no_counter none c fits is =

@@ -1,5 +1,5 @@
 -- The version that is written.
-use Rattle.std.proofs.Common.{◌≡◌, ◌<◌, ◌≤◌, ◌^◌, ◌++◌, ℕ, List, [], ◌∷◌, Bool, true, false, inl, inr, arith}
+use Rattle.std.proofs.Common.{◌≡◌, ◌<◌, ◌≤◌, ◌^◌, ◌++◌, ◌∙◌, ℕ, List, [], ◌∷◌, true, false, inl, inr, refl, sym, arith}
 use Rattle.std.proofs.lemmas.Bool.{cases_Bool}
 use Rattle.std.proofs.lemmas.Grind.{common_steps}
 use Rattle.refusal_order.specs.Lines.{Each}
@@ -25,24 +25,27 @@ needed_there (r ∷ front) more row needs = elim (cases_Bool (needs_version_4 r.
 
 pub none_behind : (front : List Credential) (row : Credential) → has_version_4 front ≡ false → needs_version_4 row.id row.key ≡ false
     → has_version_4 (front ++ row ∷ []) ≡ false
-none_behind [] row none no = rw no refl
-none_behind (r ∷ front) row none no = grind (common_steps, none, none_behind front row, no)
+none_behind [] row none early = rw early refl
+none_behind (r ∷ front) row none early = elim (cases_Bool (needs_version_4 r.id r.key)) [
+  | inl e ↦ let some : true ≡ false = rw e at none in absurd cc
+  | inr e ↦ let rest : has_version_4 front ≡ false = rw e at none in rw e (none_behind front row rest early)
+]
 
 -- what fits version 4 fits the version that is written
 one_fits : (c : Credential) → needs_version_4 c.id c.key ≡ false → FitsVersion 4 c → FitsVersion 3 c
-one_fits c no fits = record {
+one_fits c early fits = record {
   key = fits.key;
   sign_count = fits.sign_count;
   eligible = λ lt. absurd (omega (arith, lt));
   retired = λ lt. absurd (omega (arith, lt));
-  early = λ _. no;
+  early = λ _. early;
 }
 
 each_fits : (rows : List Credential) → has_version_4 rows ≡ false → Each (FitsVersion 4) rows → Each (FitsVersion 3) rows
 each_fits [] none fit = tt
 each_fits (c ∷ rows) none fit = elim (cases_Bool (needs_version_4 c.id c.key)) [
-  | inl e ↦ absurd grind (common_steps, e, none)
-  | inr e ↦ (one_fits c e fit.0, each_fits rows (sym (rw e refl) ∙ none) fit.1)
+  | inl e ↦ let some : true ≡ false = rw e at none in absurd cc
+  | inr e ↦ let rest : has_version_4 rows ≡ false = rw e at none in (one_fits c e fit.0, each_fits rows rest fit.1)
 ]
 
 pub fits_written : (rows : List Credential) → Each (FitsVersion 4) rows → Each (FitsVersion (version_of rows)) rows
@@ -59,4 +62,4 @@ is_needed rows = elim (cases_Bool (has_version_4 rows)) [
 ]
 
 pub not_needed : (rows : List Credential) → version_of rows < 4 → has_version_4 rows ≡ true → ⊥
-not_needed rows lt some = let lt : 4 < 4 = rw (sym some) lt in omega (arith, lt)
+not_needed rows lt some = let less : 4 < 4 = rw some at lt in omega (arith, less)

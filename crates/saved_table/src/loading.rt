@@ -36,7 +36,12 @@ fn is_of(found: &TableMembers<'_>, rp_id: &str) -> bool
 }
 
 /// The table of the credentials whose maps these are in a table of this version, with ids of this profile.
-fn credentials_in(alloc: Global, profile: Profile, version: u64, items: ArrayView<'_>) -> Result<Table, Error>
+fn credentials_in(
+    alloc: Global,
+    profile: Profile,
+    version: u64,
+    items: ArrayView<'_>,
+) -> Result<Table, Error>
     ensures limits { IfOk result (IsTable profile) }
     ensures needed { IfOk result (λ t. 4 ≤ version → has_version_4 t ≡ true) }
     ensures read { IfOk result (λ t. Each (FitsVersion version) t

@@ -1,6 +1,6 @@
 //! Reading the members of a saved table's maps, where they lie.
 
-ghost use Rattle.std.specs.Prelude.{◌≡◌, ◌↔◌, IfOk, IsErrOf, IsTrue, option_map};
+ghost use Rattle.std.specs.Prelude.{◌≡◌, ◌<◌, ◌↔◌, IfOk, IsErrOf, IsTrue, false, option_map};
 ghost use Rattle.ccbor.specs.Viewing.{shown};
 ghost use Rattle.cbor_map.specs.Reading.{Yields, read_in};
 ghost use Rattle.cbor_map.specs.Table.{record_of};
@@ -115,6 +115,13 @@ pub fn needs_version_4(id: &[u8], key: &KeyView<'_>) -> bool
     }
 }
 
+/// Whether a table of this version may hold a credential of this id and key.
+fn is_early(version: u64, id: &[u8], key: &KeyView<'_>) -> bool
+    ensures { IsTrue result ↔ (version < 4 → needs_version_4 id.now (lent_key_view key.now) ≡ false) }
+{
+    4 <= version || !needs_version_4(id, key)
+}
+
 /// The credential that has this map in a table of this version, copied out.
 pub fn credential(alloc: Global, version: u64, value: &View<'_>) -> Result<Row, Error>
     ensures read { IfOk result (λ row. FitsVersion version (row_view row)
@@ -133,7 +140,7 @@ pub fn credential(alloc: Global, version: u64, value: &View<'_>) -> Result<Row, 
     if !are_marks(version, found.eligible, found.retired) {
         return Err(Error::BadTable);
     }
-    if version < 4 && needs_version_4(found.id, &key) {
+    if !is_early(version, found.id, &key) {
         return Err(Error::BadTable);
     }
     Ok(Row {

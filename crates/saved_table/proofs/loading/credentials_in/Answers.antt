@@ -1,5 +1,5 @@
 -- What is owed of `credentials_in`.
-use Rattle.std.proofs.Common.{◌≡◌, ◌<◌, ◌++◌, [], ◌∷◌, length, None, Err, refl, sym, ap, ◌∙◌, arith}
+use Rattle.std.proofs.Common.{◌≡◌, ◌<◌, ◌++◌, [], ◌∷◌, length, true, None, Err, refl, sym, ap, ◌∙◌, arith}
 use Rattle.std.proofs.lemmas.Result.{err_from_is_err_and}
 use Rattle.std.proofs.lemmas.List.{length-append}
 use Rattle.refusal_order.proofs.Laws.{each_joined}
@@ -8,9 +8,10 @@ use Rattle.ccbor.specs.Viewing.{shown, shown_items}
 use Rattle.credential_table.specs.Table.{IsRow, row_of}
 use Rattle.credential_table.specs.Views.{row_view}
 use Rattle.credential_table.proofs.RowLemmas.{one_more}
-use Rattle.saved_table.specs.Saved.{FitsVersion, credential_item, has_version_4}
+use Rattle.saved_table.specs.Saved.{FitsVersion, credential_item, has_version_4, version_of}
 use Rattle.saved_table.specs.declared.error.Error.TheVariants as errors
 use Rattle.saved_table.proofs.Credentials.{one_credential}
+use Rattle.saved_table.proofs.Versions.{not_needed}
 use Rattle.saved_table.proofs.Tables.{in_front, in_front-none, in_front-one_more, first_item, no_item, one_list, same_error, goes_on, goes_behind}
 use Rattle.saved_table.proofs.loading.credentials_in.Goals as goal
 
@@ -63,11 +64,12 @@ returns-clause-read c =
     let none = no_item (shown_items c.loop-item.rest) (sym (rw ended at c.split_first.ensures.parts)) in
     (c.loop-item.invariant.1, sym c.loop-item.invariant.2 ∙ ap (in_front c.loop-item.table) none ∙ in_front-none c.loop-item.table)
 
-pub returns-then-and-version_of-clause-none : goal.returns-then-and-version_of-clause-none
-returns-then-and-version_of-clause-none c = λ e rows table needed each is.
+pub returns-then-version_of-lt4-clause-none : goal.returns-then-version_of-lt4-clause-none
+returns-then-version_of-lt4-clause-none c = λ e rows table needed each is.
     let ended = c.in_default.is in
     let none = no_item (shown_items c.loop-item.rest) (sym (rw ended at c.split_first.ensures.parts)) in
     let read = sym c.loop-item.invariant.2 ∙ ap (in_front c.loop-item.table) none ∙ in_front-none c.loop-item.table in
     let same = one_list c.args.version rows c.loop-item.table each c.loop-item.invariant.1 (sym is ∙ read) in
-    let some = sym (ap has_version_4 same) ∙ needed c.if-version-ge4.true in
-    absurd cc
+    let some : has_version_4 c.loop-item.table ≡ true = sym (ap has_version_4 same) ∙ needed c.if-version-ge4.true in
+    let less : version_of c.loop-item.table < 4 = omega (arith, c.version_of.ensures, c.if-version_of-lt4.true) in
+    not_needed c.loop-item.table less some
