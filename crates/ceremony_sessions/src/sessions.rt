@@ -1,7 +1,7 @@
 //! The open sessions.
 
-ghost use Rattle.std.specs.Prelude.{◌≡◌, ◌≤◌, ◌<◌, ◌-◌, ◌^◌, ◌↔◌, [], ◌∷◌, length, map, IfErr, IfOk, Some, IsSome, IsTrue, OnErr, OnOk, is_some};
-ghost use Rattle.std.specs.Prelude.{option_map, ℕ, List, Bool, ◌+◌};
+ghost use Rattle.std.specs.Prelude.{◌≡◌, ◌≤◌, ◌<◌, ◌-◌, ◌^◌, ◌↔◌, [], ◌∷◌, length, map, IfErr, IfOk, IsErrOf, Some, IsSome, IsTrue, OnErr, OnOk, is_some};
+ghost use Rattle.std.specs.Prelude.{option_map, ℕ, List, Bool, ◌+◌, ◌⊎◌};
 ghost use Rattle.std.specs.FinMap as finite;
 ghost use Rattle.std.specs.List.{AllByRecursion};
 ghost use Rattle.std.specs.Option.{ForSome};
@@ -108,6 +108,16 @@ fn is_registration(user: &[u8], algorithms: &[Alg]) -> bool
     is_within(user, MAX_USER) && 1 <= algorithms.len()
 }
 
+/// Whether the user handle of a session for registration has 1 to 64 bytes.
+fn are_limits(session: &Session) -> bool
+    ensures { IsTrue result ↔ AreLimits (Some (session_view session.now)) }
+{
+    match session {
+        Session::SignIn(_) => true,
+        Session::Registration(session) => is_within(&session.user, MAX_USER),
+    }
+}
+
 /// Copies of the ids.
 fn copies(alloc: Global, ids: &[&[u8]]) -> Result<Vec<Vec<u8>>, AllocError>
     ensures { IfOk result (λ v. map (λ id. id.items) v.items ≡ map (λ id. id.now) ids.now) }
@@ -180,6 +190,23 @@ impl Sessions {
         let number = self.next;
         self.by_number.insert(number, session)?;
         self.next = number + 1;
+        Ok(())
+    }
+
+    /// Opens a session that was open before a restart, under its number. One that was open there is dropped.
+    ///
+    /// `BadInput` where it is for registration and its user handle is not of 1 to 64 bytes; `Memory` where there was
+    /// none. Then nothing has changed.
+    pub fn restore(&mut self, number: u64, session: Session) -> Result<(), Error>
+        ensures opened { OnOk result (self.new ≡ record self.old { expected = finite.insert self.old.expected number (session_view session) }) }
+        ensures limits { IsErrOf result Error.BadInput ↔ ¬ AreLimits (Some (session_view session)) }
+        ensures named { IfErr result (λ e. (e ≡ errors.BadInput) ⊎ (e ≡ errors.Memory)) }
+        ensures unchanged { OnErr result (self.new ≡ self.old) }
+    {
+        if !are_limits(&session) {
+            return Err(Error::BadInput);
+        }
+        self.by_number.insert(number, session)?;
         Ok(())
     }
 

@@ -1,0 +1,14 @@
+-- What is owed of `Sessions::restore`.
+use Rattle.std.proofs.Common.{ap, rules}
+use Rattle.ceremony_sessions.proofs.Maps.{open_with, opened, well_opened}
+use Rattle.ceremony_sessions.proofs.sessions.Sessions.restore.Goals as goal
+
+pub invariant_of-self-2 : goal.invariant_of-self-2
+invariant_of-self-2 c =
+    well_opened c.self.inside.by_number c.insert.new.self c.args.number c.args.session c.in_ok-insert.field-0
+    c.in_ok-insert.ensures.updates.0 c.in_ok-insert.ensures.old c.in_ok-insert.ensures.len c.self.invariant (c.are_limits.ensures.0 (search rules))
+
+pub returns-clause-opened : goal.returns-clause-opened
+returns-clause-opened c =
+    rw (← c.self.view_is) (ap (open_with c.self.inside.next)
+    (opened c.self.inside.by_number c.insert.new.self c.args.number c.args.session c.in_ok-insert.ensures.updates.0))
