@@ -4,6 +4,7 @@
 mod error;
 mod law;
 mod registration;
+mod restore;
 mod signing_in;
 mod site;
 

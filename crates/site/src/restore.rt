@@ -1,0 +1,26 @@
+//! What a site had before a restart.
+
+ghost use Rattle.std.specs.Prelude.{◌≡◌, ◌≤◌, ◌↔◌, IsTrue, false, true};
+ghost use Rattle.credential_table.specs.Table.{IsTable};
+
+use crate::site::Site;
+use ceremony_sessions::Sessions;
+use credential_table::Table;
+
+impl Site {
+    /// Puts the credentials and the open sessions of before a restart in place of its own: true where each id is as
+    /// its profile has it; else nothing changes. It takes no memory.
+    pub fn restore(&mut self, table: Table, sessions: Sessions) -> bool
+        requires next { 1 ≤ sessions.next }
+        ensures told { IsTrue result ↔ IsTable self.old.rp.profile table }
+        ensures after { result ≡ true → self.new ≡ record self.old { rows = table; sessions = sessions } }
+        ensures unchanged { result ≡ false → self.new ≡ self.old }
+    {
+        if !table.is_of(self.party.profile()) {
+            return false;
+        }
+        self.table = table;
+        self.sessions = sessions;
+        true
+    }
+}
