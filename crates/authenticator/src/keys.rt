@@ -22,7 +22,9 @@ pub trait PublicKeys {
 }
 
 /// The public keys of a scheme.
-pub(crate) struct SchemeKeys<'a, S> {
+#[derive(Drop)]
+pub struct SchemeKeys<'a, S> {
+    /// The scheme.
     pub scheme: &'a S,
 }
 

@@ -57,12 +57,8 @@ impl Pending {
         [auth_data(&self.work), client_data_hash(&self.work)]
     }
 
-    /// A signature, of 1 to 128 bytes, by a scheme.
-    pub(crate) fn signature<S: Signer>(
-        &self,
-        alloc: Global,
-        scheme: &S,
-    ) -> Result<Vec<u8>, AllocError>
+    /// A signature by a scheme, of 1 to 128 bytes, for which it makes room first. Refused only where memory for it is wanting.
+    pub fn signature<S: Signer>(&self, alloc: Global, scheme: &S) -> Result<Vec<u8>, AllocError>
         ensures { IfOk result (λ v. IsSignature (S.valid scheme.now) (S.public_of scheme.now self.now.alg self.now.secret) (message_of self.now) v.items) }
     {
         let mut signature = Vec::with_capacity(alloc, MAX_SIGNATURE)?;

@@ -10,8 +10,8 @@ mod serving;
 mod signing_in;
 
 pub use error::Error;
-pub use law::one_verdict;
+pub use law::{one_verdict, serving_laws};
 pub use live::{Fed, Live};
 pub use registration::{Enrolled, register};
-pub use serving::{Act, ServeError, serve};
+pub use serving::{Act, ServeError, Served, begin_serving, finish_serving, serve};
 pub use signing_in::{Accepted, sign_in};

@@ -9,7 +9,8 @@ mod script;
 
 pub use agreement::{agreement, of_all_runs};
 pub use ceremony::{
-    Accepted, Act, Enrolled, Error, Fed, Live, ServeError, one_verdict, register, serve, sign_in,
+    Accepted, Act, Enrolled, Error, Fed, Live, ServeError, Served, begin_serving, finish_serving,
+    one_verdict, register, serve, serving_laws, sign_in,
 };
 pub use passkey_command_line::{Inspection, Subcommand, command, unhex};
 pub use program::{MAX_INPUT, run};

@@ -8,7 +8,7 @@
 
 use super::authenticator_names::bytes_of;
 use authdata::{AttestationType, AuthData};
-use authenticator::{Authenticator, Consent, Words};
+use authenticator::{Authenticator, Begun, Consent, HandedKeys, Words};
 use cose::{BenchScheme, CoseKey, Signer, SigningAlg, Verifier};
 use ctap_replies::{AssertionReply, CreationReply, Kind, Reply, read_reply};
 use ctap_status::Error;
@@ -131,10 +131,59 @@ fn given(words: &str) -> Consent {
     }
 }
 
+/// How a request is carried out.
+#[derive(Clone, Copy, Debug, PartialEq, Eq, Drop)]
+pub enum Way {
+    /// By one call.
+    OneStep,
+    /// By two, with the signature made between them and the keys handed in.
+    TwoSteps,
+}
+
+/// Each way, by which each table runs.
+pub const WAYS: &[Way] = &[Way::OneStep, Way::TwoSteps];
+
+/// The public keys of a secret.
+fn keys_of(secret: &[u8; 32]) -> HandedKeys {
+    let mut keys = HandedKeys {
+        es256_x: [0; 32],
+        es256_y: [0; 32],
+        eddsa_x: [0; 32],
+    };
+    if let CoseKey::Es256 { x, y } = BenchScheme.public(SigningAlg::Es256, secret) {
+        keys.es256_x = x;
+        keys.es256_y = y;
+    }
+    if let CoseKey::EdDsa { x } = BenchScheme.public(SigningAlg::EdDsa, secret) {
+        keys.eddsa_x = x;
+    }
+    keys
+}
+
+/// The reply by two steps.
+fn in_two_steps(
+    alloc: Global,
+    authenticator: &mut Authenticator,
+    channel: u32,
+    request: &[u8],
+    consent: Consent,
+    words: Words,
+) -> Result<Vec<u8>, AllocError> {
+    let keys = keys_of(&words.secret);
+    match authenticator.begin(&keys, channel, request, consent, words)? {
+        Begun::Replied(reply) => Ok(reply),
+        Begun::Signs(pending) => {
+            let signature = pending.signature(alloc, &BenchScheme)?;
+            authenticator.finish(pending, signature.as_slice())
+        }
+    }
+}
+
 /// The authenticator's reply to this request, on the channel of a line, given what the line gives, and handed 32 times the
 /// line's byte as id and secret; the words and the answer of the line are not looked at.
 pub fn reply(
     alloc: Global,
+    way: Way,
     authenticator: &mut Authenticator,
     line: &str,
     request: &[u8],
@@ -145,17 +194,22 @@ pub fn reply(
         id: [word; 32],
         secret: [word; 32],
     };
-    authenticator.handle(&BenchScheme, channel, request, given(part(line, 2)), words)
+    let consent = given(part(line, 2));
+    match way {
+        Way::OneStep => authenticator.handle(&BenchScheme, channel, request, consent, words),
+        Way::TwoSteps => in_two_steps(alloc, authenticator, channel, request, consent, words),
+    }
 }
 
 /// Whether the authenticator answers a line as it says.
 pub fn is_answered(
     alloc: Global,
+    way: Way,
     authenticator: &mut Authenticator,
     line: &str,
 ) -> Result<bool, AllocError> {
     let request = bytes_of(alloc, part(line, 1))?;
-    let reply = reply(alloc, authenticator, line, &request)?;
+    let reply = reply(alloc, way, authenticator, line, &request)?;
     let said = said(alloc, kind_of(&request), &reply)?;
     Ok(said.as_str() == part(line, 4))
 }
@@ -163,11 +217,12 @@ pub fn is_answered(
 /// The first line that is answered otherwise, if one is.
 pub fn first_other(
     alloc: Global,
+    way: Way,
     authenticator: &mut Authenticator,
     table: Table,
 ) -> Result<Option<&'static str>, AllocError> {
     for line in table.lines() {
-        if !is_answered(alloc, authenticator, line)? {
+        if !is_answered(alloc, way, authenticator, line)? {
             return Ok(Some(line));
         }
     }
@@ -177,10 +232,11 @@ pub fn first_other(
 /// The first line that a new authenticator answers otherwise, if it does one.
 pub fn first_wrong(
     alloc: Global,
+    way: Way,
     uv: bool,
     attest: AttestationType,
     table: Table,
 ) -> Result<Option<&'static str>, AllocError> {
     let mut authenticator = Authenticator::new(alloc, AAGUID, uv, attest);
-    first_other(alloc, &mut authenticator, table)
+    first_other(alloc, way, &mut authenticator, table)
 }

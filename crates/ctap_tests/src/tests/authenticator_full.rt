@@ -1,6 +1,8 @@
 //! New authenticators, and one that stores 256 credentials (CTAP 2.1, section 6.1).
 
-use super::authenticator_answers::{AAGUID, first_other, first_wrong, is_answered, reply};
+use super::authenticator_answers::{
+    AAGUID, WAYS, Way, first_other, first_wrong, is_answered, reply,
+};
 use super::authenticator_calls::{AGAIN, BETWEEN, NEW, SAME, THREE};
 use super::authenticator_candidates::{EXCLUSIONS, LISTS, WITHOUT_PRESENCE};
 use super::authenticator_names::bytes_of;
@@ -66,10 +68,10 @@ fn make(alloc: Global, authenticator: &mut Authenticator, number: u8) -> Result<
 }
 
 /// An authenticator with the resident credential 01 and 255 others, if each was made.
-fn filled(alloc: Global) -> Result<Option<Authenticator>, AllocError> {
+fn filled(alloc: Global, way: Way) -> Result<Option<Authenticator>, AllocError> {
     let mut authenticator = Authenticator::new(alloc, AAGUID, false, AttestationType::None);
     let first = "1|create5 rp user1 eddsa rk|up|1|made 1 41 -8";
-    if !is_answered(alloc, &mut authenticator, first)? {
+    if !is_answered(alloc, way, &mut authenticator, first)? {
         return Ok(None);
     }
     for number in 0..255 {
@@ -81,12 +83,12 @@ fn filled(alloc: Global) -> Result<Option<Authenticator>, AllocError> {
 }
 
 /// Whether it is full before and after the calls, each of which is answered as it says.
-fn is_full(alloc: Global) -> Result<bool, AllocError> {
-    let Some(mut authenticator) = filled(alloc)? else {
+fn is_full(alloc: Global, way: Way) -> Result<bool, AllocError> {
+    let Some(mut authenticator) = filled(alloc, way)? else {
         return Ok(false);
     };
     let before = authenticator.len();
-    let other = first_other(alloc, &mut authenticator, FULL)?;
+    let other = first_other(alloc, way, &mut authenticator, FULL)?;
     Ok(other.is_none() && before == 256 && authenticator.len() == 256)
 }
 
@@ -105,22 +107,33 @@ const INFORMATION: &[(bool, u8, &str)] = &[
 ];
 
 /// Whether getInfo answers these bytes.
-fn is_information(alloc: Global, uv: bool, byte: u8, words: &str) -> Result<bool, AllocError> {
+fn is_information(
+    alloc: Global,
+    way: Way,
+    uv: bool,
+    byte: u8,
+    words: &str,
+) -> Result<bool, AllocError> {
     let mut authenticator = Authenticator::new(alloc, [byte; 16], uv, AttestationType::None);
-    let reply = reply(alloc, &mut authenticator, "1|||1", &[4])?;
+    let reply = reply(alloc, way, &mut authenticator, "1|||1", &[4])?;
     let wanted = bytes_of(alloc, words)?;
     Ok(reply.len() == 60 && reply.as_slice() == wanted.as_slice())
 }
 
 #[test]
 fn calls(rt: HostRuntime) -> Result<(), Fail> {
-    for (uv, attest, table) in TABLES {
-        let other = first_wrong(rt.alloc(), *uv, *attest, table)?;
-        assert!(rt; other.is_none(), "{other:?}");
+    for way in WAYS {
+        for (uv, attest, table) in TABLES {
+            let other = first_wrong(rt.alloc(), *way, *uv, *attest, table)?;
+            assert!(rt; other.is_none(), "{other:?}");
+        }
+        for (uv, byte, words) in INFORMATION {
+            assert!(rt;
+                is_information(rt.alloc(), *way, *uv, *byte, words)?,
+                "{words}"
+            );
+        }
+        assert!(rt; is_full(rt.alloc(), *way)?);
     }
-    for (uv, byte, words) in INFORMATION {
-        assert!(rt; is_information(rt.alloc(), *uv, *byte, words)?, "{words}");
-    }
-    assert!(rt; is_full(rt.alloc())?);
     Ok(())
 }

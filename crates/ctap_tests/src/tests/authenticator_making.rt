@@ -1,7 +1,7 @@
 //! The statements of makeCredential's replies (WebAuthn Level 2, sections 8.2 and 8.7), judged as a relying party
 //! does.
 
-use super::authenticator_answers::reply;
+use super::authenticator_answers::{WAYS, Way, reply};
 use super::authenticator_names::bytes_of;
 use authdata::{AttestationObject, AttestationType, check_statement};
 use authenticator::Authenticator;
@@ -13,13 +13,14 @@ use std::test::Fail;
 /// The statement of a credential of the secret 01, as an authenticator attests it that was made so.
 fn statement(
     alloc: Global,
+    way: Way,
     attest: AttestationType,
     request: &str,
     alg: SigningAlg,
 ) -> Result<Option<AttestationType>, AllocError> {
     let mut authenticator = Authenticator::new(alloc, [7; 16], false, attest);
     let request = bytes_of(alloc, request)?;
-    let reply = reply(alloc, &mut authenticator, "1||up|1", &request)?;
+    let reply = reply(alloc, way, &mut authenticator, "1||up|1", &request)?;
     let made = match read_reply(alloc, Kind::MakeCredential, &reply) {
         Ok(Reply::MakeCredential(made)) => made,
         _ => return Ok(None),
@@ -61,9 +62,11 @@ const STATEMENTS: &[(AttestationType, &str, SigningAlg)] = &[
 
 #[test]
 fn statements(rt: HostRuntime) -> Result<(), Fail> {
-    for (attest, request, alg) in STATEMENTS {
-        let shown = statement(rt.alloc(), *attest, request, *alg)?;
-        assert!(rt; shown == Some(*attest), "{attest:?}");
+    for way in WAYS {
+        for (attest, request, alg) in STATEMENTS {
+            let shown = statement(rt.alloc(), *way, *attest, request, *alg)?;
+            assert!(rt; shown == Some(*attest), "{attest:?}");
+        }
     }
     Ok(())
 }

@@ -1,16 +1,16 @@
 //! Many calls of one authenticator, and long ones: the answer is never want of memory.
 
-use super::authenticator_answers::{AAGUID, is_answered};
+use super::authenticator_answers::{AAGUID, WAYS, Way, is_answered};
 use authdata::AttestationType;
 use authenticator::Authenticator;
 use std::alloc::{AllocError, Global};
 use std::test::Fail;
 
 /// Whether one credential answers 300 times, its counter one higher each time.
-fn answers(alloc: Global, authenticator: &mut Authenticator) -> Result<bool, AllocError> {
+fn answers(alloc: Global, way: Way, authenticator: &mut Authenticator) -> Result<bool, AllocError> {
     for count in 1..=300 {
         let line = format!(in alloc; "1|get2 rp-id get-hash|up|0|asserted 1 1 0 01 {count}")?;
-        if !is_answered(alloc, authenticator, line.as_str())? {
+        if !is_answered(alloc, way, authenticator, line.as_str())? {
             return Ok(false);
         }
     }
@@ -18,12 +18,12 @@ fn answers(alloc: Global, authenticator: &mut Authenticator) -> Result<bool, All
 }
 
 /// Whether 256 resident credentials of one relying party are made, of as many users.
-fn makes(alloc: Global, authenticator: &mut Authenticator) -> Result<bool, AllocError> {
+fn makes(alloc: Global, way: Way, authenticator: &mut Authenticator) -> Result<bool, AllocError> {
     for n in 0..256 {
         let line = format!(in alloc;
             "1|create5 rp 03a162 'id 41{n:02x} eddsa rk|up|{n}|made {n} 41 -8"
         )?;
-        if !is_answered(alloc, authenticator, line.as_str())? {
+        if !is_answered(alloc, way, authenticator, line.as_str())? {
             return Ok(false);
         }
     }
@@ -31,11 +31,11 @@ fn makes(alloc: Global, authenticator: &mut Authenticator) -> Result<bool, Alloc
 }
 
 /// Whether those before the newest answer to getNextAssertion, the newest of them first.
-fn go_on(alloc: Global, authenticator: &mut Authenticator) -> Result<bool, AllocError> {
+fn go_on(alloc: Global, way: Way, authenticator: &mut Authenticator) -> Result<bool, AllocError> {
     for behind in 0u32..255 {
         let n = 254u32.saturating_sub(behind);
         let line = format!(in alloc; "1|next||0|asserted {n} {n} 0 01 1")?;
-        if !is_answered(alloc, authenticator, line.as_str())? {
+        if !is_answered(alloc, way, authenticator, line.as_str())? {
             return Ok(false);
         }
     }
@@ -54,20 +54,40 @@ const NEWEST: &str = "1|get2 rp-id get-hash|up|0|asserted 255 255 256 01 1";
 
 const NONE_LEFT: &str = "1|next||0|status 30";
 
+/// Whether a credential answers again and again, and long requests are answered.
+fn answers_all(alloc: Global, way: Way) -> Result<bool, AllocError> {
+    let mut one = Authenticator::new(alloc, AAGUID, false, AttestationType::None);
+    Ok(
+        is_answered(alloc, way, &mut one, FIRST)?
+            && answers(alloc, way, &mut one)?
+            && is_answered(alloc, way, &mut one, LONG)?
+            && is_answered(alloc, way, &mut one, LONG_FAULT)?,
+    )
+}
+
+/// Whether 256 resident credentials of one relying party answer, each once.
+fn answer_each(alloc: Global, way: Way) -> Result<bool, AllocError> {
+    let mut all = Authenticator::new(alloc, AAGUID, false, AttestationType::None);
+    Ok(
+        makes(alloc, way, &mut all)?
+            && is_answered(alloc, way, &mut all, NEWEST)?
+            && go_on(alloc, way, &mut all)?
+            && is_answered(alloc, way, &mut all, NONE_LEFT)?,
+    )
+}
+
 #[test]
 fn many(rt: HostRuntime) -> Result<(), Fail> {
-    let alloc = rt.alloc();
-    let mut one = Authenticator::new(alloc, AAGUID, false, AttestationType::None);
-    assert!(rt; is_answered(alloc, &mut one, FIRST)? && answers(alloc, &mut one)?);
-    assert!(rt; is_answered(alloc, &mut one, LONG)? && is_answered(alloc, &mut one, LONG_FAULT)?);
+    for way in WAYS {
+        assert!(rt; answers_all(rt.alloc(), *way)?);
+    }
     Ok(())
 }
 
 #[test]
 fn residents(rt: HostRuntime) -> Result<(), Fail> {
-    let alloc = rt.alloc();
-    let mut all = Authenticator::new(alloc, AAGUID, false, AttestationType::None);
-    assert!(rt; makes(alloc, &mut all)? && is_answered(alloc, &mut all, NEWEST)?);
-    assert!(rt; go_on(alloc, &mut all)? && is_answered(alloc, &mut all, NONE_LEFT)?);
+    for way in WAYS {
+        assert!(rt; answer_each(rt.alloc(), *way)?);
+    }
     Ok(())
 }

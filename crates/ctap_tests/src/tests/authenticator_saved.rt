@@ -1,6 +1,6 @@
 //! Saved authenticators: which bytes are loaded, and what is as before over a restart.
 
-use super::authenticator_answers::{AAGUID, first_other};
+use super::authenticator_answers::{AAGUID, WAYS, Way, first_other};
 use authdata::AttestationType;
 use authenticator::{Authenticator, LoadError};
 use std::alloc::{AllocError, Global};
@@ -180,9 +180,9 @@ const RESTARTED: Table = "1|next||0|status 30
 1|create5 rp user2 es256 rk|up|3|made 3 41 -7";
 
 /// The first line of a restart that is answered otherwise, or what is saved at it, if it is something else.
-fn first_lost(alloc: Global) -> Result<Option<&'static str>, LoadError> {
+fn first_lost(alloc: Global, way: Way) -> Result<Option<&'static str>, LoadError> {
     let mut authenticator = Authenticator::new(alloc, AAGUID, true, AttestationType::SelfSigned);
-    if let Some(line) = first_other(alloc, &mut authenticator, BEFORE)? {
+    if let Some(line) = first_other(alloc, way, &mut authenticator, BEFORE)? {
         return Ok(Some(line));
     }
     let mut bytes = Vec::new(alloc);
@@ -190,11 +190,11 @@ fn first_lost(alloc: Global) -> Result<Option<&'static str>, LoadError> {
     if bytes.as_slice() != bytes_of(alloc, &[NAMES], SAVED_THEN)?.as_slice() {
         return Ok(Some(SAVED_THEN));
     }
-    if let Some(line) = first_other(alloc, &mut authenticator, GONE_ON)? {
+    if let Some(line) = first_other(alloc, way, &mut authenticator, GONE_ON)? {
         return Ok(Some(line));
     }
     let mut loaded = Authenticator::load(alloc, &bytes)?;
-    Ok(first_other(alloc, &mut loaded, RESTARTED)?)
+    Ok(first_other(alloc, way, &mut loaded, RESTARTED)?)
 }
 
 /// A resident credential whose counter is one below its end, and what it answers.
@@ -204,10 +204,10 @@ const ENDED: Table = "1|get2 rp-id get-hash|up|0|asserted 1 1 0 01 4294967295
 1|get2 rp-id get-hash|up|0|status 7f";
 
 /// The first line that it answers otherwise, if it does one.
-fn first_past_end(alloc: Global) -> Result<Option<&'static str>, LoadError> {
+fn first_past_end(alloc: Global, way: Way) -> Result<Option<&'static str>, LoadError> {
     let bytes = bytes_of(alloc, &[NAMES], NEAR_END)?;
     let mut loaded = Authenticator::load(alloc, &bytes)?;
-    Ok(first_other(alloc, &mut loaded, ENDED)?)
+    Ok(first_other(alloc, way, &mut loaded, ENDED)?)
 }
 
 #[test]
@@ -243,9 +243,11 @@ fn bytes(rt: HostRuntime) -> Result<(), Fail> {
 
 #[test]
 fn restarted(rt: HostRuntime) -> Result<(), Fail> {
-    let lost = first_lost(rt.alloc())?;
-    assert!(rt; lost.is_none(), "{lost:?}");
-    let past_end = first_past_end(rt.alloc())?;
-    assert!(rt; past_end.is_none(), "{past_end:?}");
+    for way in WAYS {
+        let lost = first_lost(rt.alloc(), *way)?;
+        assert!(rt; lost.is_none(), "{lost:?}");
+        let past_end = first_past_end(rt.alloc(), *way)?;
+        assert!(rt; past_end.is_none(), "{past_end:?}");
+    }
     Ok(())
 }

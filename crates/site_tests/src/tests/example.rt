@@ -69,7 +69,7 @@ fn count(alloc: Global, site: &mut Site, key: &mut SecurityKey) -> Option<u32> {
 
 /// The same at a new site with a new key.
 fn count_anew(alloc: Global) -> Option<u32> {
-    let mut key = SecurityKey::new(alloc, MANNER.1)?;
+    let mut key = SecurityKey::new(alloc, MANNER.1, false)?;
     let mut site = Site::new(alloc, RP_ID, &[ORIGIN], POLICY).ok()?;
     count(alloc, &mut site, &mut key)
 }

@@ -132,9 +132,9 @@ fn is_honest(
     Some(is_told && registered == 0 && count(site, &credential)? == 1 && key.len() == 1)
 }
 
-/// The same at a new site with a new key.
-fn is_honest_anew(alloc: Global, manner: &Manner) -> Option<bool> {
-    let mut key = SecurityKey::new(alloc, manner.1)?;
+/// The same at a new site with a new key, whose signatures are made elsewhere or not.
+fn is_honest_anew(alloc: Global, manner: &Manner, elsewhere: bool) -> Option<bool> {
+    let mut key = SecurityKey::new(alloc, manner.1, elsewhere)?;
     let mut site = Site::new(alloc, RP_ID, &[ORIGIN], POLICY).ok()?;
     is_honest(alloc, &mut site, &mut key, manner)
 }
@@ -154,8 +154,10 @@ const MANNERS: &[Manner] = &[
 #[test]
 fn registered_then_signed_in(rt: HostRuntime) -> Result<(), Fail> {
     for manner in MANNERS {
-        let is_honest = is_honest_anew(rt.alloc(), manner);
-        assert!(rt; is_honest == Some(true), "{manner:?}");
+        for elsewhere in [false, true] {
+            let is_honest = is_honest_anew(rt.alloc(), manner, elsewhere);
+            assert!(rt; is_honest == Some(true), "{manner:?}");
+        }
     }
     Ok(())
 }
@@ -178,7 +180,7 @@ fn is_cancelled(alloc: Global, key: &mut SecurityKey) -> Option<bool> {
 
 #[test]
 fn cancelled(rt: HostRuntime) -> Result<(), Fail> {
-    let mut key = SecurityKey::new(rt.alloc(), AttestationType::None).ok_or("no key")?;
+    let mut key = SecurityKey::new(rt.alloc(), AttestationType::None, false).ok_or("no key")?;
     assert!(rt; is_cancelled(rt.alloc(), &mut key) == Some(true) && key.len() == 0);
     Ok(())
 }

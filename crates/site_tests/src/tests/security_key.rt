@@ -1,8 +1,8 @@
 //! A security key at the other end of the wire.
 
 use authdata::AttestationType;
-use authenticator::{Authenticator, Consent, Words};
-use ceremony::{Act, serve};
+use authenticator::{Authenticator, Consent, SchemeKeys, Words};
+use ceremony::{Act, Served, begin_serving, finish_serving, serve};
 use cose::BenchScheme;
 use hidframe::Packet;
 use hidlink::{Device, Opener, Opening};
@@ -14,21 +14,48 @@ const WORDS: Words = Words {
     secret: [6; 32],
 };
 
-/// A device with its authenticator, and the channel that it gave out.
+/// A device with its authenticator, and the channel that it gave out; and whether its signatures are made elsewhere.
 #[derive(Drop)]
 pub(crate) struct SecurityKey {
     device: Device,
     authenticator: Authenticator,
+    elsewhere: bool,
     pub(crate) channel: u32,
+}
+
+/// Does an act in two steps.
+fn serve_elsewhere(
+    device: &mut Device,
+    authenticator: &mut Authenticator,
+    act: Act,
+    sent: &mut Vec<Packet>,
+) -> Option<()> {
+    if !device.drained() {
+        return None;
+    }
+    let keys = SchemeKeys {
+        scheme: &BenchScheme,
+    };
+    let pending = match begin_serving(device, authenticator, &keys, act, sent).ok()? {
+        Served::Done(_) => return Some(()),
+        Served::Signs(pending) => pending,
+    };
+    let signature = pending.signature(*sent.allocator(), &BenchScheme).ok()?;
+    finish_serving(device, authenticator, pending, signature.as_slice(), sent).ok()
 }
 
 impl SecurityKey {
     /// A key without credentials and without a channel, which can verify its user, and attests so.
-    pub(crate) fn new(alloc: Global, attest: AttestationType) -> Option<SecurityKey> {
+    pub(crate) fn new(
+        alloc: Global,
+        attest: AttestationType,
+        elsewhere: bool,
+    ) -> Option<SecurityKey> {
         let device = Device::new(alloc).ok()?;
         Some(SecurityKey {
             device,
             authenticator: Authenticator::new(alloc, [7; 16], true, attest),
+            elsewhere,
             channel: 0,
         })
     }
@@ -39,6 +66,9 @@ impl SecurityKey {
             return None;
         }
         let (device, authenticator) = (&mut self.device, &mut self.authenticator);
+        if self.elsewhere {
+            return serve_elsewhere(device, authenticator, act, sent);
+        }
         serve(device, authenticator, &BenchScheme, act, sent).ok()
     }
 

@@ -1,41 +1,37 @@
 -- What is owed of `act_on`.
-use Rattle.std.proofs.Common.{sym, subst}
-use Rattle.ceremony.specs.AtDevice.{DeviceActs}
-use Rattle.ceremony.specs.declared.serving.Act.{Act}
-use Rattle.ceremony.proofs.Acting.{decided, expired, on_ok, took, waited}
+use Rattle.std.proofs.Common.{sym, refl, subst}
+use Rattle.authenticator.specs.Signing.{no_signature}
+use Rattle.ceremony.proofs.Acting.{decided, expired, if_ok, took, waited}
 use Rattle.ceremony.proofs.serving.act_on.Goals as goal
 
 pub returns-in-Packet-clause-acted : goal.returns-in-Packet-clause-acted
 returns-in-Packet-clause-acted g c =
-    let P : Act → Type 0 = λ x. DeviceActs (g.S.Verifier.valid c.args.scheme.now)
-    (g.S.Signer.public_of c.args.scheme.now) c.args.device.now c.args.authenticator.now x c.take.new.device c.args.authenticator.now in
-    subst P (sym c.in-Packet.is)
-    (took (g.S.Verifier.valid c.args.scheme.now)
-    (g.S.Signer.public_of c.args.scheme.now) c.args.device.now c.take.new.device c.args.authenticator.now c.in-Packet.packet c.take.ensures)
+    let public = g.K.PublicKeys.public_of c.args.keys.now in
+    rw c.in-Packet.is (
+      c.take.ensures.told,
+      took no_signature public c.args.device.now c.take.new.device c.args.authenticator.now c.in-Packet.packet c.take.ensures.takes,
+    )
 
 pub returns-in-Decide-clause-acted : goal.returns-in-Decide-clause-acted
 returns-in-Decide-clause-acted g c =
-    let P : Act → Type 0 = λ x. DeviceActs (g.S.Verifier.valid c.args.scheme.now)
-    (g.S.Signer.public_of c.args.scheme.now) c.args.device.now c.args.authenticator.now x c.decide.new.device c.decide.new.authenticator in
-    on_ok c.decide.result (λ d. subst P (sym c.in-Decide.is)
-    (decided (g.S.Verifier.valid c.args.scheme.now)
-    (g.S.Signer.public_of c.args.scheme.now) c.args.device.now c.decide.new.device c.args.authenticator.now c.decide.new.authenticator c.in-Decide.consent
-    c.in-Decide.words d))
-    c.decide.ensures.decided
+    let public = g.K.PublicKeys.public_of c.args.keys.now in
+    rw c.in-Decide.is (if_ok c.decide.result
+    (λ x d. decided public c.args.device.now c.decide.new.device c.args.authenticator.now c.decide.new.authenticator c.in-Decide.consent c.in-Decide.words x d)
+    c.decide.ensures.decided)
 
-pub returns-in-Wait-clause-acted : goal.returns-in-Wait-clause-acted
-returns-in-Wait-clause-acted g c =
-    let P : Act → Type 0 = λ x. DeviceActs (g.S.Verifier.valid c.args.scheme.now)
-    (g.S.Signer.public_of c.args.scheme.now) c.args.device.now c.args.authenticator.now x c.wait.new.device c.args.authenticator.now in
-    on_ok c.wait.result (λ d. subst P (sym c.in-Wait.is)
-    (waited (g.S.Verifier.valid c.args.scheme.now)
-    (g.S.Signer.public_of c.args.scheme.now) c.args.device.now c.wait.new.device c.args.authenticator.now d.0 d.1))
-    c.wait.ensures.waits
+pub returns-in_ok-wait-in-Wait-clause-acted : goal.returns-in_ok-wait-in-Wait-clause-acted
+returns-in_ok-wait-in-Wait-clause-acted g c =
+    let public = g.K.PublicKeys.public_of c.args.keys.now in
+    let d = c.in_ok-wait-in-Wait.ensures.waits in
+    rw c.in-Wait.is (refl, waited no_signature public c.args.device.now c.wait.new.device c.args.authenticator.now d.0 d.1)
 
 pub returns-in-Expire-clause-acted : goal.returns-in-Expire-clause-acted
 returns-in-Expire-clause-acted g c =
-    let P : Act → Type 0 = λ x. DeviceActs (g.S.Verifier.valid c.args.scheme.now)
-    (g.S.Signer.public_of c.args.scheme.now) c.args.device.now c.args.authenticator.now x c.expire.new.self c.args.authenticator.now in
-    subst P (sym c.in-Expire.is)
-    (expired (g.S.Verifier.valid c.args.scheme.now) (g.S.Signer.public_of c.args.scheme.now) c.args.device.now c.expire.new.self c.args.authenticator.now
-    (record { left = c.expire.ensures.sent; history = c.expire.ensures.history }))
+    let public = g.K.PublicKeys.public_of c.args.keys.now in
+    rw c.in-Expire.is (refl, expired no_signature public c.args.device.now c.expire.new.device c.args.authenticator.now c.expire.ensures.moves)
+
+pub returns-in-Packet-clause-keeps : goal.returns-in-Packet-clause-keeps
+returns-in-Packet-clause-keeps g c = c.take.ensures.keeps c.args.authenticator.now
+
+pub returns-in-Expire-clause-keeps : goal.returns-in-Expire-clause-keeps
+returns-in-Expire-clause-keeps g c = c.expire.ensures.keeps c.args.authenticator.now

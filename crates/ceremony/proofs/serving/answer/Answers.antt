@@ -1,5 +1,6 @@
 -- What is owed of `answer`.
-use Rattle.std.proofs.Common.{◌≤◌, arith, length}
+use Rattle.std.proofs.Common.{◌≤◌, ap, arith, length}
+use Rattle.hidlink.specs.Ranks.{DeviceState}
 use Rattle.ceremony.proofs.Acting.{not_refused}
 use Rattle.ceremony.proofs.serving.answer.Goals as goal
 
@@ -14,3 +15,9 @@ returns-clause-moves c =
           (λ e. let more = (c.answer.ensures.too_long.0 e).1 in omega (arith, more, fits)) c.answer.ensures.sent;
       history = c.answer.ensures.history;
     }
+
+pub returns-clause-idle : goal.returns-clause-idle
+returns-clause-idle c =
+    let fits : length c.args.reply.now ≤ 7609 = c.requires.size in
+    ap (λ (d : DeviceState). d.state) (not_refused c.answer.result (λ e. c.answer.ensures.not_working.0 e c.requires.works)
+    (λ e. let more = (c.answer.ensures.too_long.0 e).1 in omega (arith, more, fits)) c.answer.ensures.idle)
