@@ -1,5 +1,5 @@
 -- A request that a client asks with is carried out, where consent is given and nothing stands against it.
-use Rattle.std.proofs.Common.{◌≡◌, ℕ, zero, suc, ◌<◌, ◌≤◌, List, [], ◌∷◌, length, map, Bool, true, false, not, ◌&&◌, ◌||◌, Some, None, is_none, is_some, cond}
+use Rattle.std.proofs.Common.{◌≡◌, ℕ, zero, suc, ◌<◌, List, [], ◌∷◌, length, map, Bool, true, false, not, ◌&&◌, ◌||◌, Some, None, is_none, is_some, cond}
 use Rattle.std.proofs.Common.{find, refl, sym, ◌∙◌, ap, subst, arith, rules, inl, inr, Contains}
 use Rattle.std.specs.Prelude.{nat_le, option_map}
 use Rattle.std.specs.List.{AllByRecursion}

@@ -1,6 +1,6 @@
 -- An honest run: a site, a client, a device and an authenticator that do what they are asked, and a user who consents
 -- (WebAuthn Level 2, sections 7.1 and 7.2).
-use Rattle.std.specs.Prelude.{◌≡◌, ◌<◌, ◌≤◌, ◌⊎◌, ◌+◌, ℕ, List, [], ◌∷◌, ◌++◌, length, map, replicate, Bool, true, false, Some, None, Contains, IsUtf8}
+use Rattle.std.specs.Prelude.{◌≡◌, ◌<◌, ◌⊎◌, ◌+◌, ℕ, List, [], ◌∷◌, ◌++◌, length, map, replicate, Bool, true, false, Some, None, Contains, IsUtf8}
 use Rattle.std.specs.Option.{ForSome}
 use Rattle.hidframe.specs.declared.Packet.{Packet}
 use Rattle.cose.specs.declared.key.Alg.{Alg}

@@ -3,7 +3,6 @@ use Rattle.std.proofs.Common.{◌≡◌, ◌<◌, ◌≤◌, ℕ, true, List, []
 use Rattle.std.proofs.Common.{map as each}
 use Rattle.std.proofs.lemmas.Option.{cond_some, same_Some}
 use Rattle.std.proofs.lemmas.List.{length-append}
-use Rattle.std.proofs.lemmas.Grind.{common_steps}
 use Rattle.refusal_order.specs.Lines.{Each}
 use Rattle.ccbor.specs.Item.{Item, Items, no_items, item, uint, text, array, map, Pairs, no_pairs, pair}
 use Rattle.ccbor.specs.Access.{items_first, split_key, is_end, uint_in, text_in, items_in, pairs_in}

@@ -1,7 +1,6 @@
 -- The version that is written.
-use Rattle.std.proofs.Common.{◌≡◌, ◌<◌, ◌≤◌, ◌^◌, ◌++◌, ◌∙◌, ℕ, List, [], ◌∷◌, true, false, inl, inr, refl, sym, arith}
+use Rattle.std.proofs.Common.{◌≡◌, ◌<◌, ◌≤◌, ◌^◌, ◌++◌, List, [], ◌∷◌, true, false, inl, inr, refl, arith}
 use Rattle.std.proofs.lemmas.Bool.{cases_Bool}
-use Rattle.std.proofs.lemmas.Grind.{common_steps}
 use Rattle.refusal_order.specs.Lines.{Each}
 use Rattle.verification.specs.Records.{Credential}
 use Rattle.saved_table.specs.Saved.{FitsVersion, has_version_4, needs_version_4, version_of}
