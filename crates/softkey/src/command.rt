@@ -1,28 +1,23 @@
 //! The lines that are read.
 
 use authenticator::{Consent, HandedKeys, Words};
+use ceremony::Act;
 use hidframe::Packet;
 use std::alloc::{AllocError, Global};
 
-/// What the user decided on the request that waits, and what a credential that it may make is made of.
-#[derive(Clone, Copy, Drop)]
-pub(crate) struct Decision {
-    pub consent: Consent,
-    pub words: Words,
-    pub keys: HandedKeys,
-}
+/// The keys that come with an act by which no credential is made.
+const NO_KEYS: HandedKeys = HandedKeys {
+    es256_x: [0; 32],
+    es256_y: [0; 32],
+    eddsa_x: [0; 32],
+};
 
 /// A line.
 #[derive(Drop)]
 pub(crate) enum LineCommand {
-    /// `packet <128 hex>`
-    Packet(Packet),
-    /// `decide <present> <verified> <id> <secret> <es256 x> <es256 y> <eddsa x>`
-    Decide(Decision),
-    /// `wait`
-    Wait,
-    /// `expire`
-    Expire,
+    /// `packet <128 hex>`, `wait`, `expire`, or
+    /// `decide <present> <verified> <id> <secret> <es256 x> <es256 y> <eddsa x>`, with the keys of a credential that may be made
+    Act(Act, HandedKeys),
     /// `signature <hex>`
     Signature(Vec<u8>),
     /// `save`
@@ -63,22 +58,21 @@ fn word<'a>(words: &[&'a str], number: usize) -> Option<&'a str> {
 }
 
 /// The words of a decision, behind its name.
-fn read_decision(words: &[&str]) -> Option<Decision> {
-    Some(Decision {
-        consent: Consent {
-            present: flag(word(words, 1))?,
-            verified: flag(word(words, 2))?,
-        },
-        words: Words {
-            id: word_of_32(word(words, 3))?,
-            secret: word_of_32(word(words, 4))?,
-        },
-        keys: HandedKeys {
-            es256_x: word_of_32(word(words, 5))?,
-            es256_y: word_of_32(word(words, 6))?,
-            eddsa_x: word_of_32(word(words, 7))?,
-        },
-    })
+fn read_decision(words: &[&str]) -> Option<LineCommand> {
+    let consent = Consent {
+        present: flag(word(words, 1))?,
+        verified: flag(word(words, 2))?,
+    };
+    let random = Words {
+        id: word_of_32(word(words, 3))?,
+        secret: word_of_32(word(words, 4))?,
+    };
+    let keys = HandedKeys {
+        es256_x: word_of_32(word(words, 5))?,
+        es256_y: word_of_32(word(words, 6))?,
+        eddsa_x: word_of_32(word(words, 7))?,
+    };
+    Some(LineCommand::Act(Act::Decide(consent, random), keys))
 }
 
 /// The words of a line, with a space between each two.
@@ -95,10 +89,13 @@ pub(crate) fn line_command(alloc: Global, line: &str) -> Option<LineCommand> {
     let words = words_of(alloc, line).ok()?;
     let name = word(&words, 0)?;
     match words.len() {
-        1 if name == "wait" => Some(LineCommand::Wait),
-        1 if name == "expire" => Some(LineCommand::Expire),
+        1 if name == "wait" => Some(LineCommand::Act(Act::Wait, NO_KEYS)),
+        1 if name == "expire" => Some(LineCommand::Act(Act::Expire, NO_KEYS)),
         1 if name == "save" => Some(LineCommand::Save),
-        2 if name == "packet" => Some(LineCommand::Packet(Packet(word_of_64(word(&words, 1))?))),
+        2 if name == "packet" => {
+            let packet = Packet(word_of_64(word(&words, 1))?);
+            Some(LineCommand::Act(Act::Packet(packet), NO_KEYS))
+        }
         2 if name == "signature" => {
             let signature = hex::decode(alloc, word(&words, 1)?).ok()?;
             Some(LineCommand::Signature(signature))
@@ -107,7 +104,7 @@ pub(crate) fn line_command(alloc: Global, line: &str) -> Option<LineCommand> {
             let bytes = hex::decode(alloc, word(&words, 1)?).ok()?;
             Some(LineCommand::Load(bytes))
         }
-        8 if name == "decide" => Some(LineCommand::Decide(read_decision(&words)?)),
+        8 if name == "decide" => read_decision(&words),
         _ => None,
     }
 }

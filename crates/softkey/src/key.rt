@@ -1,17 +1,19 @@
 //! The security key: a device, its authenticator, and at most one request that waits for its signature.
 
-ghost use Rattle.std.specs.Prelude.{◌≡◌, None};
-ghost use Rattle.hidlink.specs.declared.transaction.DeviceEvent.TheVariants as events;
+ghost use Rattle.std.specs.Prelude.{◌≡◌, ◌≢◌, IfErr, IfOk, OnOk};
+ghost use Rattle.authenticator.specs.Handed.{handed_key};
+ghost use Rattle.softkey.specs.Key.{ActsOn, IsLoaded, IsSaved, IsSigned, still_waiting};
+ghost use Rattle.softkey.specs.declared.key.Fault.TheVariants as faults;
 
-use crate::command::{Decision, LineCommand, line_command};
+use crate::command::{LineCommand, line_command};
 use authdata::AttestationType;
-use authenticator::{Authenticator, Begun, LoadError, MAX_SIGNATURE, Pending};
+use authenticator::{Authenticator, HandedKeys, LoadError, MAX_SIGNATURE, Pending};
+use ceremony::{Act, ServeError, Served, begin_serving, finish_serving};
 use cose::SigningAlg;
-use ctap_status::status::KEEPALIVE_CANCEL;
 use hidframe::Packet;
-use hidframe::ctaphid::STATUS_UPNEEDED;
 use hidlink::{Device, DeviceEvent};
 use std::alloc::{AllocError, Global};
+use std::marker::Model;
 
 /// The most bytes of the lines that a line other than `save` is answered by: 129 packets, and less than 1,000 bytes beside
 /// them.
@@ -35,8 +37,23 @@ enum Fault {
 }
 
 impl From<AllocError> for Fault {
+    ghost from_gives = { λ _ e. e ≡ faults.Memory };
+
     fn from(_e: AllocError) -> Fault {
         Fault::Memory
+    }
+}
+
+impl From<ServeError> for Fault {
+    ghost use Rattle.softkey.specs.Key.{told_as};
+
+    ghost from_gives = { λ e f. f ≡ told_as e };
+
+    fn from(error: ServeError) -> Fault {
+        match error {
+            ServeError::NotWorking => Fault::NotWorking,
+            ServeError::Memory => Fault::Memory,
+        }
     }
 }
 
@@ -61,12 +78,37 @@ fn text(fault: Fault) -> &'static str {
     }
 }
 
+/// What a line gives beside packets.
+#[derive(Drop)]
+enum Given {
+    /// An act is done, and the device told this of it.
+    Told(DeviceEvent),
+    /// The request waits for its signature.
+    Asks,
+    /// The authenticator's saved bytes.
+    Saved(Vec<u8>),
+    /// Nothing.
+    Nothing,
+}
+
 /// A device, its authenticator, and at most one request that waits for its signature.
 #[derive(Drop)]
 pub(crate) struct SoftKey {
     device: Device,
     authenticator: Authenticator,
     pending: Option<Pending>,
+    /// The packets that a line is answered by.
+    sent: Vec<Packet>,
+}
+
+impl Model for SoftKey {
+    ghost use Rattle.softkey.specs.Key.{IsSound, KeyState};
+
+    ghost Value = { KeyState };
+
+    ghost view = { λ k. record { device = k.device; authenticator = k.authenticator; pending = k.pending; sent = k.sent.items } };
+
+    ghost invariant = { λ k. IsSound (record { device = k.device; authenticator = k.authenticator; pending = k.pending; sent = k.sent.items }) };
 }
 
 /// Writes bytes in hex.
@@ -94,16 +136,44 @@ fn tell_pending(told: &mut Vec<u8>, pending: &Pending) -> Result<(), AllocError>
     told.extend_from_slice(b"\n")
 }
 
-/// What is left of a request that waits for its signature when a packet has given this: it goes with the request.
-fn kept(pending: Option<Pending>, event: DeviceEvent) -> Option<Pending>
-    ensures quiet { event ≡ events.Quiet → result ≡ pending }
-    ensures gone { (event ≡ events.Quiet → ⊥) → result ≡ None }
-{
+/// What the device told, in a line, if in any.
+fn tell_event(told: &mut Vec<u8>, event: DeviceEvent) -> Result<(), AllocError> {
     match event {
-        DeviceEvent::Quiet => pending,
-        DeviceEvent::Request { .. } => None,
-        DeviceEvent::Cancelled => None,
-        DeviceEvent::Aborted => None,
+        DeviceEvent::Quiet => Ok(()),
+        DeviceEvent::Request { cid } => {
+            told.extend_from_slice(b"waits ")?;
+            tell_hex(told, &cid.to_be_bytes())?;
+            told.extend_from_slice(b"\n")
+        }
+        DeviceEvent::Cancelled => told.extend_from_slice(b"cancelled\n"),
+        DeviceEvent::Aborted => told.extend_from_slice(b"aborted\n"),
+    }
+}
+
+/// The packets to send, each in a line.
+fn tell_packets(told: &mut Vec<u8>, packets: &[Packet]) -> Result<(), AllocError> {
+    for packet in packets {
+        told.extend_from_slice(b"out ")?;
+        tell_hex(told, &packet.0)?;
+        told.extend_from_slice(b"\n")?;
+    }
+    Ok(())
+}
+
+/// The saved bytes, in a line.
+fn tell_saved(told: &mut Vec<u8>, bytes: &[u8]) -> Result<(), AllocError> {
+    told.extend_from_slice(b"saved ")?;
+    tell_hex(told, bytes)?;
+    told.extend_from_slice(b"\n")
+}
+
+/// What waits for its signature goes on waiting as long as the device works on a request: it is the same one then.
+fn still_waiting(device: &Device, pending: Option<Pending>) -> Option<Pending>
+    ensures { result ≡ still_waiting device.now.state pending }
+{
+    match device.working() {
+        Some(_) => pending,
+        None => None,
     }
 }
 
@@ -115,147 +185,109 @@ impl SoftKey {
         uv: bool,
         attest: AttestationType,
     ) -> Result<SoftKey, AllocError> {
+        let device = Device::new(alloc)?;
         Ok(SoftKey {
-            device: Device::new(alloc)?,
+            device,
             authenticator: Authenticator::new(alloc, aaguid, uv, attest),
             pending: None,
+            sent: Vec::new(alloc),
         })
     }
 
-    /// Writes the packets that the device has to send.
-    fn tell_packets(&mut self, told: &mut Vec<u8>) -> Result<(), AllocError> {
-        for _number in 0..129 {
-            let Some(packet) = self.device.next_out() else {
-                return Ok(());
-            };
-            told.extend_from_slice(b"out ")?;
-            tell_hex(told, &packet.0)?;
-            told.extend_from_slice(b"\n")?;
-        }
-        Ok(())
-    }
-
-    /// Takes a packet.
-    fn take(&mut self, packet: &Packet, told: &mut Vec<u8>) -> Result<(), Fault> {
-        if !self.device.drained() {
-            return Err(Fault::Memory);
-        }
-        let event = self.device.packet(packet);
-        self.pending = kept(self.pending.take(), event);
-        match event {
-            DeviceEvent::Quiet => {}
-            DeviceEvent::Request { cid } => {
-                told.extend_from_slice(b"waits ")?;
-                tell_hex(told, &cid.to_be_bytes())?;
-                told.extend_from_slice(b"\n")?;
-            }
-            DeviceEvent::Cancelled => {
-                if self.device.drained() {
-                    let _ = self.device.answer(&[KEEPALIVE_CANCEL]);
-                }
-                told.extend_from_slice(b"cancelled\n")?;
-            }
-            DeviceEvent::Aborted => told.extend_from_slice(b"aborted\n")?,
-        }
-        Ok(())
-    }
-
-    /// Takes the user's decision on the request that waits: the request is answered, or asks for a signature. One that
-    /// asked for one before is begun anew.
-    fn decide(&mut self, decision: &Decision, told: &mut Vec<u8>) -> Result<(), Fault> {
-        let Some(channel) = self.device.working() else {
-            return Err(Fault::NotWorking);
-        };
-        if !self.device.drained() {
-            return Err(Fault::Memory);
-        }
-        self.pending = None;
-        let begun = self.authenticator.begin(
-            &decision.keys,
-            channel,
-            self.device.request(),
-            decision.consent,
-            decision.words,
+    /// Does an act, or asks for the signature of its request. What waits for one goes with its request.
+    fn act(&mut self, keys: &HandedKeys, act: Act) -> Result<Given, Fault>
+        ensures acted { IfOk result (λ given. ActsOn (λ alg secret. handed_key keys.now alg) self.old act given self.new) }
+        ensures unchanged { IfErr result (λ fault. self.new ≡ self.old) }
+    {
+        let served = begin_serving(
+            &mut self.device,
+            &mut self.authenticator,
+            keys,
+            act,
+            &mut self.sent,
         )?;
-        match begun {
-            Begun::Replied(reply) => {
-                let _ = self.device.answer(&reply);
+        match served {
+            Served::Done(event) => {
+                self.pending = still_waiting(&self.device, self.pending.take());
+                Ok(Given::Told(event))
             }
-            Begun::Signs(pending) => {
-                tell_pending(told, &pending)?;
+            Served::Signs(pending) => {
                 self.pending = Some(pending);
+                Ok(Given::Asks)
             }
         }
-        Ok(())
     }
 
     /// Takes the signature that is waited for, and answers the request.
-    fn sign(&mut self, signature: &[u8]) -> Result<(), Fault> {
+    fn sign(&mut self, signature: &[u8]) -> Result<Given, Fault>
+        ensures signed { OnOk result (IsSigned self.old signature.now self.new) }
+        // Only want of memory changes something, and then what waited alone: it is gone.
+        ensures unchanged { IfErr result (λ fault. fault ≢ faults.Memory → self.new ≡ self.old) }
+        ensures device { IfErr result (λ fault. self.new.device ≡ self.old.device) }
+        ensures authenticator { IfErr result (λ fault. self.new.authenticator ≡ self.old.authenticator) }
+    {
         if signature.is_empty() || MAX_SIGNATURE < signature.len() {
             return Err(Fault::BadSignature);
-        }
-        if self.device.working().is_none() || !self.device.drained() {
-            return Err(Fault::NotSigning);
         }
         let Some(pending) = self.pending.take() else {
             return Err(Fault::NotSigning);
         };
-        let reply = self.authenticator.finish(pending, signature)?;
-        let _ = self.device.answer(&reply);
-        Ok(())
+        finish_serving(
+            &mut self.device,
+            &mut self.authenticator,
+            pending,
+            signature,
+            &mut self.sent,
+        )?;
+        Ok(Given::Nothing)
     }
 
-    /// Says that the user's presence is waited for.
-    fn wait(&mut self) -> Result<(), Fault> {
-        if !self.device.drained() {
-            return Err(Fault::Memory);
-        }
-        match self.device.keepalive(STATUS_UPNEEDED) {
-            Ok(()) => Ok(()),
-            Err(_) => Err(Fault::NotWorking),
-        }
-    }
-
-    /// Ends a message that took too long.
-    fn expire(&mut self) -> Result<(), Fault> {
-        if !self.device.drained() {
-            return Err(Fault::Memory);
-        }
-        let _ = self.device.expire();
-        Ok(())
-    }
-
-    /// Tells the authenticator's saved bytes, in which its secrets stand as they are.
-    fn save(&self, alloc: Global, told: &mut Vec<u8>) -> Result<(), Fault> {
+    /// The authenticator's saved bytes, in which its secrets stand as they are.
+    fn save(&self, alloc: Global) -> Result<Given, Fault>
+        ensures saved { IfOk result (IsSaved self.now) }
+    {
         let mut bytes = Vec::new(alloc);
         self.authenticator.save(&mut bytes)?;
-        told.extend_from_slice(b"saved ")?;
-        tell_hex(told, &bytes)?;
-        told.extend_from_slice(b"\n")?;
-        told.reserve(MOST_TOLD)?;
-        Ok(())
+        Ok(Given::Saved(bytes))
     }
 
     /// Takes the authenticator that was saved in place of its own. A request that waits for its signature is to be decided anew.
-    fn load(&mut self, alloc: Global, bytes: &[u8]) -> Result<(), Fault> {
+    fn load(&mut self, alloc: Global, bytes: &[u8]) -> Result<Given, Fault>
+        ensures loaded { OnOk result (IsLoaded self.old bytes.now self.new) }
+        ensures unchanged { IfErr result (λ fault. self.new ≡ self.old) }
+    {
         self.authenticator = Authenticator::load(alloc, bytes)?;
         self.pending = None;
-        Ok(())
+        Ok(Given::Nothing)
     }
 
-    /// Does what a line asks for, but for sending the packets that are due.
-    fn act(&mut self, alloc: Global, line: &str, told: &mut Vec<u8>) -> Result<(), Fault> {
+    /// Does what a line asks for, but for telling it.
+    fn carry_out(&mut self, alloc: Global, line: &str) -> Result<Given, Fault>
+        ensures unchanged { IfErr result (λ fault. fault ≢ faults.Memory → self.new ≡ self.old) }
+        ensures device { IfErr result (λ fault. self.new.device ≡ self.old.device) }
+        ensures authenticator { IfErr result (λ fault. self.new.authenticator ≡ self.old.authenticator) }
+    {
         let Some(command) = line_command(alloc, line) else {
             return Err(Fault::BadLine);
         };
         match command {
-            LineCommand::Packet(packet) => self.take(&packet, told),
-            LineCommand::Decide(decision) => self.decide(&decision, told),
-            LineCommand::Wait => self.wait(),
-            LineCommand::Expire => self.expire(),
+            LineCommand::Act(act, keys) => self.act(&keys, act),
             LineCommand::Signature(signature) => self.sign(signature.as_slice()),
-            LineCommand::Save => self.save(alloc, told),
+            LineCommand::Save => self.save(alloc),
             LineCommand::Load(bytes) => self.load(alloc, bytes.as_slice()),
+        }
+    }
+
+    /// Tells what a line gave.
+    fn tell(&self, given: Given, told: &mut Vec<u8>) -> Result<(), AllocError> {
+        match given {
+            Given::Told(event) => tell_event(told, event),
+            Given::Asks => match &self.pending {
+                Some(pending) => tell_pending(told, pending),
+                None => Ok(()),
+            },
+            Given::Saved(bytes) => tell_saved(told, bytes.as_slice()),
+            Given::Nothing => Ok(()),
         }
     }
 
@@ -267,11 +299,12 @@ impl SoftKey {
         told: &mut Vec<u8>,
     ) -> Result<(), AllocError> {
         told.reserve(MOST_TOLD)?;
-        if let Err(fault) = self.act(alloc, line, told) {
-            told.clear();
-            told.extend_from_slice(text(fault).as_bytes())?;
+        self.sent.clear();
+        match self.carry_out(alloc, line) {
+            Ok(given) => self.tell(given, told)?,
+            Err(fault) => told.extend_from_slice(text(fault).as_bytes())?,
         }
-        self.tell_packets(told)?;
+        tell_packets(told, self.sent.as_slice())?;
         told.extend_from_slice(b".\n")
     }
 }
