@@ -26,13 +26,13 @@ by_number m n = value_cmp-Int (pos m) (pos n) ∙ grind (arith, common_steps)
 
 -- ---- credentials
 
-same_place : (p q : ℕ) → p ≡ q → value_cmp (Int (pos p)) (Int (pos q)) ≡ Equal
+pub same_place : (p q : ℕ) → p ≡ q → value_cmp (Int (pos p)) (Int (pos q)) ≡ Equal
 same_place p q e = by_number p q ∙ grind (arith, common_steps, e)
 
-below : (p q : ℕ) → p < q → value_cmp (Int (pos p)) (Int (pos q)) ≡ Less
+pub below : (p q : ℕ) → p < q → value_cmp (Int (pos p)) (Int (pos q)) ≡ Less
 below p q e = by_number p q ∙ grind (arith, common_steps, e)
 
-within : (rows : List Credential) (i : ℕ) (row : Credential) → slice_get rows i ≡ Some row → i < length rows
+pub within : (rows : List Credential) (i : ℕ) (row : Credential) → slice_get rows i ≡ Some row → i < length rows
 within [] i row is = absurd cc
 within (r ∷ rows) zero row is = omega arith
 within (r ∷ rows) (suc i) row is = let inner = within rows i row is in omega (arith, inner)
@@ -74,7 +74,7 @@ pushed rows row = put_behind 1 rows (length rows + 1) row (omega arith)
 
 -- ---- sessions
 
-rowid_of : (n : ℕ) (x : Expected) → rowid (session_row n x) ≡ Int (pos n)
+pub rowid_of : (n : ℕ) (x : Expected) → rowid (session_row n x) ≡ Int (pos n)
 rowid_of n (ForSignIn x) = refl
 rowid_of n (ForRegistration x) = refl
 

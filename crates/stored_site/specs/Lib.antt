@@ -2,3 +2,5 @@ pub mod Rows
 pub mod SessionRows
 pub mod Laws
 pub mod Private
+pub mod Writes
+pub mod Holds

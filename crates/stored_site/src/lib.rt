@@ -1,15 +1,28 @@
 //! A relying party's credentials and sessions as rows of a SQLite file.
 #![tactic(auto)]
 
+mod begin;
+mod create;
 mod credentials;
 mod error;
+mod failure;
+mod finish;
+mod held;
 mod law;
+mod retire;
+mod scan;
 mod sessions;
+mod stored;
 #[cfg(test)]
 mod tests;
+#[cfg(test)]
+mod tests_stored;
 mod values;
+mod writes;
 
 pub use credentials::{credential_row, read_credential};
 pub use error::RowError;
+pub use failure::{BeginFailure, CreateFailure, Failure, FinishFailure};
 pub use law::row_laws;
 pub use sessions::session_row;
+pub use stored::StoredSite;

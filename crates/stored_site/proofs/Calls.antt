@@ -1,0 +1,176 @@
+-- What the calls of a site over a store rest on.
+use Rattle.std.proofs.Common.{◌≡◌, Bool, ◌<◌, ◌+◌, ◌⊎◌, inl, inr, false, ◌++◌, ◌∷◌, [], ℕ, List, Option, Some, None, length, refl, sym, ap, ◌∙◌, subst, arith}
+use Rattle.std.specs.Prelude.{IsSome, IsTrue, ◌^◌}
+use Rattle.std.specs.FinMap as finite
+use Rattle.std.proofs.lemmas.Grind.{common_steps}
+use Rattle.sqlite_trees.specs.Tree.{Trees}
+use Rattle.sqlite_trees.specs.View.{View, IsClean}
+use Rattle.cose.specs.Schemes.{Validity}
+use Rattle.authdata.specs.declared.profile.Profile.{Profile}
+use Rattle.authdata.specs.Flags.{is_set, BE}
+use Rattle.authdata.specs.Layout.{AuthenticatorData, AttestedCredential, AuthOf}
+use Rattle.authdata.specs.Objects.{Attestation}
+use Rattle.authdata.specs.Responses.{AuthenticatorAssertionResponse}
+use Rattle.authdata.specs.Responses as responses
+use Rattle.authdata.proofs.Objects.{one_object}
+use Rattle.authdata.proofs.Unique.{one_value}
+use Rattle.verification.specs.Records.{Credential, ExpectedRegistration}
+use Rattle.verification.specs.SignIn.{PassesSignIn}
+use Rattle.verification.specs.Registration.{Attests}
+use Rattle.credential_table.specs.Table.{retired, row_of, signed_in, with_row}
+use Rattle.ceremony_sessions.specs.Sessions.{Expected, OpenSessions, closed, for_registration, for_sign_in}
+use Rattle.site.specs.Answers.{IsRegistered}
+use Rattle.site.specs.State.{IsAfterRegistration, IsAfterSignIn, SiteState, judged_sign_in, registered}
+use Rattle.site.specs.declared.registration.Registered.{Registered}
+use Rattle.site.proofs.Kept.{row_changed}
+use Rattle.stored_site.specs.Holds.{AreRowids, Holds, IsCommitted, StoredState, Survives}
+use Rattle.stored_site.specs.Private.{Accepts, Added, Changed, Changes, Opens}
+use Rattle.stored_site.proofs.Transactions.{at_place, closed_absent, is_opened, last_there, rowids_begun, rowids_closed}
+
+-- where the store is open, a crash leaves the site that is committed
+pub settles : {S : Type 0} (view : S → View) (recovers : S → Trees → Type 0)
+    → ((s : S) (db : Trees) → IsTrue (view s).is_open → recovers s db → db ≡ (view s).committed)
+    → (s : SiteState) (store : S) → IsCommitted s (view store) → (db : Trees) → recovers store db → Holds s db
+settles view recovers settled s store is db r = subst (Holds s) (sym (settled store db is.is_open r)) is.holds
+
+-- where nothing has changed a crash leaves the site as it was
+pub unchanged_survives : {S : Type 0} (view : S → View) (recovers : S → Trees → Type 0)
+    → ((s : S) (db : Trees) → IsTrue (view s).is_open → recovers s db → db ≡ (view s).committed)
+    → (old : StoredState S) (After : SiteState → Type 0)
+    → (old.is_shut ≡ false → IsClean (view old.store) → IsCommitted old.site (view old.store)) → Survives view recovers old old After
+unchanged_survives view recovers settled old After is = λ db open_before clean r. inl (settles view recovers settled old.site old.store (is open_before clean) db r)
+
+-- where a call has written, the site as it was or as the call makes it
+pub call_survives : {S : Type 0} (view : S → View) (recovers : S → Trees → Type 0) (old new : StoredState S) (t : SiteState) (After : SiteState → Type 0)
+    → ((db : Trees) → IsClean (view new.store) → recovers new.store db → Holds old.site db ⊎ Holds t db) → After t → Survives view recovers old new After
+call_survives view recovers old new t After leaves after = λ db open_before clean r. elim (leaves db clean r) [
+  | inl before ↦ inl before
+  | inr now ↦ inr (t, after, now)
+]
+
+-- ---- numbers
+
+some_sign_in : (o : Option Expected) → IsSome (for_sign_in o) → IsSome o
+some_sign_in o h = grind (arith, common_steps, h)
+
+some_registration : (o : Option Expected) (e : ExpectedRegistration) → for_registration o ≡ Some e → IsSome o
+some_registration o e h = grind (arith, common_steps, h)
+
+-- a session that a response is accepted in has a number that a rowid can be
+pub fits_sign_in : (valid : Validity) (s : SiteState) (n : ℕ) (r : AuthenticatorAssertionResponse) → AreRowids s.sessions
+    → PassesSignIn valid (judged_sign_in s n r) → n < 2 ^ 63
+fits_sign_in valid s n r are passes = are n (some_sign_in (finite.get s.sessions.expected n) passes.0)
+
+pub fits_registration : (s : SiteState) (n : ℕ) (r : responses.AuthenticatorAttestationResponse) (t : SiteState) → AreRowids s.sessions
+    → IsAfterRegistration s n r t → n < 2 ^ 63
+fits_registration s n r t are (e, o, a, c, open_for, attests, after) = are n (some_registration (finite.get s.sessions.expected n) e open_for)
+
+-- ---- a credential is still there once it is changed
+
+some_of : {X : Type 0} (o : Option X) → IsSome o → (x : X) × (o ≡ Some x)
+some_of None is = absurd cc
+some_of (Some x) is = (x, refl)
+
+pub there_changed : (id : List ℕ) (change : Credential → Credential) (rows : List Credential) → ((x : Credential) → (change x).id ≡ x.id)
+    → IsSome (row_of id rows) → IsSome (row_of id (with_row id change rows))
+there_changed id change rows same is =
+    let row = some_of (row_of id rows) is in
+    rw (row_changed id change rows row.0 same row.1) refl
+
+pub there_retired : (s t : SiteState) (id : List ℕ) → IsSome (row_of id s.rows) → t ≡ record s { rows = with_row id retired s.rows } → IsSome (row_of id t.rows)
+there_retired s t id is e = subst (λ (x : SiteState). IsSome (row_of id x.rows)) (sym e) (there_changed id retired s.rows (λ x. refl) is)
+
+pub there_signed_in : (valid : Validity) (s : SiteState) (n : ℕ) (r : AuthenticatorAssertionResponse) (t : SiteState)
+    → PassesSignIn valid (judged_sign_in s n r) → IsAfterSignIn s n r t → IsSome (row_of r.credential t.rows)
+there_signed_in valid s n r t passes (a, is_auth, after) =
+    subst (λ (x : SiteState). IsSome (row_of r.credential x.rows)) (sym after)
+    (there_changed r.credential (signed_in a.sign_count (is_set a.flags BE)) s.rows (λ x. refl) passes.1.1.0.0)
+
+-- ---- the credential that a response attests stands last
+
+not_none : {X : Type 0} (o : Option X) → (o ≡ None → ⊥) → IsSome o
+not_none None lost = absurd (lost refl)
+not_none (Some x) lost = refl
+
+pub there_last : (id : List ℕ) (rows : List Credential) (c : Credential) → c.id ≡ id → IsSome (row_of id (rows ++ c ∷ []))
+there_last id rows c mine =
+    subst (λ (i : List ℕ). IsSome (row_of i (rows ++ c ∷ []))) mine
+    (not_none (row_of c.id (rows ++ c ∷ [])) (at_place (rows ++ c ∷ []) (length rows) c (last_there rows c)))
+
+-- a response attests just one credential
+one_attested : (profile : Profile) (r : responses.AuthenticatorAttestationResponse) (o p : Attestation) (a b : AuthenticatorData) (c d : AttestedCredential)
+    → Attests profile r o a c → Attests profile r p b d → c ≡ d
+one_attested profile r o p a b c d h k =
+    let objects : o ≡ p = one_object o p r.object h.object k.object in
+    let here : AuthOf profile a p.auth_data = subst (λ (q : Attestation). AuthOf profile a q.auth_data) objects h.auth_data in
+    let readings : a ≡ b = one_value profile profile a b p.auth_data here k.auth_data in
+    let first : a.attested ≡ Some c = h.attested in
+    let second : b.attested ≡ Some d = k.attested in
+    (cc)
+
+-- the id that is told is that of the credential that stands last
+told_last : (s : SiteState) (r : responses.AuthenticatorAttestationResponse) (x : Registered) (e : ExpectedRegistration) (o : Attestation) (a : AuthenticatorData)
+    (c : AttestedCredential) → Attests s.rp.profile r o a c → IsRegistered s r x → (registered e a c).id ≡ x.credential.items
+told_last s r x e o a c attests (p, b, d, told, is) =
+    ap (λ (y : AttestedCredential). y.id) (one_attested s.rp.profile r o p a b c d attests told) ∙ sym is
+
+pub there_registered : (s : SiteState) (n : ℕ) (r : responses.AuthenticatorAttestationResponse) (t : SiteState) (x : Registered)
+    → IsAfterRegistration s n r t → IsRegistered s r x → IsSome (row_of x.credential.items t.rows)
+there_registered s n r t x (e, o, a, c, open_for, attests, after) told =
+    subst (λ (y : SiteState). IsSome (row_of x.credential.items y.rows)) (sym after)
+    (there_last x.credential.items s.rows (registered e a c) (told_last s r x e o a c attests told))
+
+-- ---- what each call writes
+
+pub accepts_sign_in : (s : SiteState) (n : ℕ) (r : AuthenticatorAssertionResponse) (t : SiteState) → IsAfterSignIn s n r t → Accepts s t r.credential n
+accepts_sign_in s n r t (a, is_auth, after) = record {
+  row = Changed (signed_in a.sign_count (is_set a.flags BE)) (λ x. refl) (ap (λ (x : SiteState). x.rows) after);
+  rp = ap (λ (x : SiteState). x.rp) after;
+  sessions = ap (λ (x : SiteState). x.sessions) after;
+}
+
+pub accepts_registration : (s : SiteState) (n : ℕ) (r : responses.AuthenticatorAttestationResponse) (t : SiteState) (x : Registered)
+    → IsAfterRegistration s n r t → IsRegistered s r x → Accepts s t x.credential.items n
+accepts_registration s n r t x (e, o, a, c, open_for, attests, after) told = record {
+  row = Added (registered e a c) (told_last s r x e o a c attests told) (ap (λ (y : SiteState). y.rows) after);
+  rp = ap (λ (y : SiteState). y.rp) after;
+  sessions = ap (λ (y : SiteState). y.sessions) after;
+}
+
+pub changes_retired : (s t : SiteState) (id : List ℕ) → t ≡ record s { rows = with_row id retired s.rows } → Changes s t id
+changes_retired s t id e = record {
+  row = Changed retired (λ x. refl) (ap (λ (x : SiteState). x.rows) e);
+  rp = ap (λ (x : SiteState). x.rp) e;
+  sessions = ap (λ (x : SiteState). x.sessions) e;
+}
+
+-- ---- a session that was begun
+
+pub opens_there : (s t : SiteState) (n : ℕ) → Opens s t n → IsSome (finite.get t.sessions.expected n)
+opens_there s t n o =
+    subst (λ (k : ℕ). IsSome (finite.get t.sessions.expected k)) (sym o.number)
+    (subst (λ (x : SiteState). IsSome (finite.get x.sessions.expected s.sessions.next)) (sym o.is) (is_opened s.sessions o.opening))
+
+pub rowids_after : (s t : SiteState) (n : ℕ) → Opens s t n → AreRowids s.sessions → s.sessions.next + 1 < 2 ^ 63 → AreRowids t.sessions
+rowids_after s t n o are fits = subst (λ (x : SiteState). AreRowids x.sessions) (sym o.is) (rowids_begun s.sessions o.opening are fits)
+
+-- ---- an acceptance
+
+pub rowids_accepted : (s t : SiteState) (id : List ℕ) (n : ℕ) → Accepts s t id n → AreRowids s.sessions → AreRowids t.sessions
+rowids_accepted s t id n a are = subst AreRowids (sym a.sessions) (rowids_closed s.sessions n are)
+
+pub told_as : (s t : SiteState) (n : ℕ) (id : List ℕ) {k : List ℕ} → k ≡ id → Accepts s t k n → Accepts s t id n
+told_as s t n id {k} e a = subst (λ (x : List ℕ). Accepts s t x n) e a
+
+-- ---- a refusal of the site's own
+
+abbrev state_with : {S : Type 0} → S → Bool → SiteState → StoredState S
+state_with store is_shut site = record { site = site; store = store; is_shut = is_shut }
+
+pub same_stored : {S : Type 0} (store : S) (is_shut : Bool) (s t : SiteState) → s ≡ t → state_with store is_shut s ≡ state_with store is_shut t
+same_stored store is_shut s t e = ap (state_with store is_shut) e
+
+-- ---- a session that is not open
+
+pub unclosed : (s : SiteState) (n : ℕ) → finite.get s.sessions.expected n ≡ None → s ≡ record s { sessions = closed n s.sessions }
+unclosed s n none = sym (ap (λ (o : OpenSessions). record s { sessions = o }) (closed_absent s.sessions n none))

@@ -1,0 +1,67 @@
+-- What is owed of `StoredSite::begin_sign_in`.
+use Rattle.std.proofs.Common.{◌≡◌, ◌+◌, ◌<◌, ◌^◌, inl, inr, refl, rules, subst, sym, arith, map, ℕ}
+use Rattle.std.specs.Prelude.{option_map, IsSome}
+use Rattle.std.specs.FinMap as finite
+use Rattle.std.proofs.lemmas.Result.{err_from_is_err_and}
+use Rattle.ceremony_sessions.specs.Sessions.{IsRefused, Opening, OpensSignIn}
+use Rattle.stored_site.specs.Holds.{AreRowids}
+use Rattle.stored_site.specs.Private.{Opens}
+use Rattle.stored_site.proofs.Calls.{opens_there, rowids_after, same_stored}
+use Rattle.stored_site.proofs.stored.StoredSite.begin_sign_in.Goals as goal
+
+pub store_session-requires-clause-there : goal.store_session-requires-clause-there
+store_session-requires-clause-there g c =
+    let o : Opening = OpensSignIn (option_map (λ u. u.now) c.args.user) (map (λ id. id.now) c.args.allow.now) c.args.uv c.args.words in
+    opens_there c.self.inside.site c.begin_sign_in.new.self c.in_ok-started.started.session
+    (record { opening = o; is = c.in_ok-started.ensures.begun; number = c.in_ok-started.ensures.started.0 })
+
+pub invariant_of-self-in_err-store_session : goal.invariant_of-self-in_err-store_session
+invariant_of-self-in_err-store_session g c =
+    let o : Opening = OpensSignIn (option_map (λ u. u.now) c.args.user) (map (λ id. id.now) c.args.allow.now) c.args.uv c.args.words in
+    let opens : Opens c.self.inside.site c.begin_sign_in.new.self c.in_ok-started.started.session =
+    record { opening = o; is = c.in_ok-started.ensures.begun; number = c.in_ok-started.ensures.started.0 } in
+    let fits : c.self.inside.site.sessions.next + 1 < 2 ^ 63 = search rules in
+    (λ shut. absurd (cc), rowids_after c.self.inside.site c.begin_sign_in.new.self c.in_ok-started.started.session opens c.self.invariant.1 fits)
+
+pub invariant_of-self-2 : goal.invariant_of-self-2
+invariant_of-self-2 g c =
+    let o : Opening = OpensSignIn (option_map (λ u. u.now) c.args.user) (map (λ id. id.now) c.args.allow.now) c.args.uv c.args.words in
+    let opens : Opens c.self.inside.site c.begin_sign_in.new.self c.in_ok-started.started.session =
+    record { opening = o; is = c.in_ok-started.ensures.begun; number = c.in_ok-started.ensures.started.0 } in
+    let fits : c.self.inside.site.sessions.next + 1 < 2 ^ 63 = search rules in (
+      λ shut clean. c.in_ok-store_session.ensures.stored c.self.inside.site opens (c.self.invariant.0 c.if-self.false) clean,
+      rowids_after c.self.inside.site c.begin_sign_in.new.self c.in_ok-started.started.session opens c.self.invariant.1 fits,
+    )
+
+pub returns-clause-stored : goal.returns-clause-stored
+returns-clause-stored g c clean = (invariant_of-self-2 g c).0 refl clean
+
+pub returns-clause-crash : goal.returns-clause-crash
+returns-clause-crash g c db shut clean r =
+    let o : Opening = OpensSignIn (option_map (λ u. u.now) c.args.user) (map (λ id. id.now) c.args.allow.now) c.args.uv c.args.words in
+    let opens : Opens c.self.inside.site c.begin_sign_in.new.self c.in_ok-started.started.session =
+    record { opening = o; is = c.in_ok-started.ensures.begun; number = c.in_ok-started.ensures.started.0 } in
+    rw (← c.self.view_is) (elim (c.in_ok-store_session.ensures.crash c.self.inside.site opens (c.self.invariant.0 c.if-self.false) db clean r) [
+      | inl before ↦ inl before
+      | inr now ↦ inr (c.begin_sign_in.new.self, c.in_ok-started.ensures.begun, now)
+    ])
+
+pub returns-in_err-store_session-clause-crash : goal.returns-in_err-store_session-clause-crash
+returns-in_err-store_session-clause-crash g c db shut clean r =
+    let o : Opening = OpensSignIn (option_map (λ u. u.now) c.args.user) (map (λ id. id.now) c.args.allow.now) c.args.uv c.args.words in
+    let opens : Opens c.self.inside.site c.begin_sign_in.new.self c.in_ok-started.started.session =
+    record { opening = o; is = c.in_ok-started.ensures.begun; number = c.in_ok-started.ensures.started.0 } in
+    rw (← c.self.view_is) (elim (c.in_err-store_session.ensures.crash c.self.inside.site opens (c.self.invariant.0 c.if-self.false) db clean r) [
+      | inl before ↦ inl before
+      | inr now ↦ inr (c.begin_sign_in.new.self, c.in_ok-started.ensures.begun, now)
+    ])
+
+pub returns-in_err-started-clause-refused : goal.returns-in_err-started-clause-refused
+returns-in_err-started-clause-refused g c =
+    let p = err_from_is_err_and c.from_residual.result c.from_residual.ensures.1 in
+    let o : Opening = OpensSignIn (option_map (λ u. u.now) c.args.user) (map (λ id. id.now) c.args.allow.now) c.args.uv c.args.words in
+    rw (p.1, p.2, ← c.self.view_is) (λ why is.
+    let same : c.in_err-started.field-0.0 ≡ why = cc in (
+      same_stored c.self.inside.store c.self.inside.is_shut c.begin_sign_in.new.self c.self.inside.site c.in_err-started.ensures.unchanged,
+      subst (IsRefused c.self.inside.site.rp.profile c.self.inside.site.sessions o) same c.in_err-started.ensures.refused,
+    ))
