@@ -5,3 +5,6 @@ pub mod Scans
 pub mod New
 pub mod Keyed
 pub mod Calls
+pub mod Texts
+pub mod Listed
+pub mod OneSession

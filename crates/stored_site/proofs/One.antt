@@ -10,7 +10,7 @@ use Rattle.cose.specs.Keys.{alg_of, number_of, x_of}
 use Rattle.verification.specs.Records.{Credential}
 use Rattle.stored_site.specs.Rows.{credential_row, truth_value, truth_or_null, y_value}
 
-truth_once : (a b : Bool) → truth_value a ≡ truth_value b → a ≡ b
+pub truth_once : (a b : Bool) → truth_value a ≡ truth_value b → a ≡ b
 truth_once true true e = refl
 truth_once false false e = refl
 truth_once true false e = absurd cc
@@ -24,7 +24,7 @@ known_once (Some true) None e = absurd cc
 known_once (Some false) None e = absurd cc
 known_once (Some a) (Some b) e = ap Some (truth_once a b e)
 
-blob_once : (x y : List ℕ) → Blob x ≡ Blob y → x ≡ y
+pub blob_once : (x y : List ℕ) → Blob x ≡ Blob y → x ≡ y
 blob_once x y e = ap bytes e
 
 rsa_once : (k l : RsaPublicKey) → k.n ≡ l.n → k.e ≡ l.e → keys.Rs256 k ≡ keys.Rs256 l
@@ -48,7 +48,7 @@ key_once (keys.Rs256 k) (keys.Rs256 l) a e f = rsa_once k l (blob_once k.n l.n e
 algorithm_once : (m n : ℤ) → Int m ≡ Int n → m ≡ n
 algorithm_once m n e = cc
 
-number_once : (m n : ℕ) → Int (pos m) ≡ Int (pos n) → m ≡ n
+pub number_once : (m n : ℕ) → Int (pos m) ≡ Int (pos n) → m ≡ n
 number_once m n e = cc
 
 pub one_credential : (p q : ℕ) (c d : Credential) → credential_row p c ≡ credential_row q d → (p ≡ q) × (c ≡ d)

@@ -8,7 +8,7 @@ use Rattle.verification.specs.Records.{Credential}
 use Rattle.credential_table.specs.Table.{AreRows, with_row}
 use Rattle.ceremony_sessions.specs.Sessions.{Expected}
 use Rattle.stored_site.specs.Rows.{credential_row, credential_rows}
-use Rattle.stored_site.specs.SessionRows.{session_row, session_rows}
+use Rattle.stored_site.specs.SessionRows.{ListsFew, session_row, session_rows}
 
 pub record RowLaws : Type 0 where
   -- a row is one credential's, at one place
@@ -25,3 +25,5 @@ pub record RowLaws : Type 0 where
       → put_row (session_row n e) (session_rows sessions) ≡ session_rows (finite.insert sessions n e)
   pub closed : (sessions : finite.FinMap nat_cmp Expected) (n : ℕ)
       → without_rowid (pos n) (session_rows sessions) ≡ session_rows (finite.remove sessions n)
+  -- a row is one session's, with one number, where no more credentials are listed than a row has columns for
+  pub one_session : (m n : ℕ) (d e : Expected) → ListsFew d → ListsFew e → session_row m d ≡ session_row n e → (m ≡ n) × (d ≡ e)

@@ -12,13 +12,20 @@ use Rattle.stored_site.specs.SessionRows.{session_row}
 use Rattle.sqlite_value.specs.declared.value.Value.{Value}
 use Rattle.sqlite_value.specs.declared.value.Value.TheVariants.{Null, Int, Real, Text, Blob}
 
--- the bytes of a blob; the number of an integer
+-- the bytes of a blob; the bytes of a text; the number of an integer
 abbrev pub blob_in : Value → Option (List ℕ)
 blob_in Null = None
 blob_in (Int n) = None
 blob_in (Real x) = None
 blob_in (Text t) = None
 blob_in (Blob b) = Some b
+
+abbrev pub text_in : Value → Option (List ℕ)
+text_in Null = None
+text_in (Int n) = None
+text_in (Real x) = None
+text_in (Text t) = Some t
+text_in (Blob b) = None
 
 abbrev pub int_in : Value → Option ℤ
 int_in Null = None

@@ -1,5 +1,5 @@
 -- A relying party's open sessions as rows of a table of a SQLite file.
-use Rattle.std.specs.Prelude.{ℕ, pos, Option, Some, None, List, [], ◌∷◌, map, slice_get, codes}
+use Rattle.std.specs.Prelude.{◌≡◌, ◌≤◌, length, ℕ, pos, Option, Some, None, List, [], ◌∷◌, map, slice_get, codes}
 use Rattle.std.specs.List.{flat_map}
 use Rattle.std.specs.FinMap as finite
 use Rattle.std.specs.Ordering.{nat_cmp}
@@ -32,6 +32,16 @@ session_row number (ForSignIn e) =
 session_row number (ForRegistration e) =
     Int (pos number) ∷ Null ∷ Text (codes "registration") ∷ Blob e.challenge ∷ Blob e.user ∷ truth_value e.uv
     ∷ Text (flat_map number_text e.algorithms) ∷ Null ∷ listed []
+
+-- it lists no more credentials than a row has columns for
+abbrev pub ListsFew : Expected → Type 0
+ListsFew (ForSignIn e) = length e.allow ≤ 8
+ListsFew (ForRegistration e) = Unit {0}
+
+-- what a row can hold: a challenge of 32 bytes, and at most 8 credentials that may answer
+abbrev pub IsStoredSession : Expected → Type 0
+IsStoredSession (ForSignIn e) = (length e.challenge ≡ 32) × (length e.allow ≤ 8)
+IsStoredSession (ForRegistration e) = length e.challenge ≡ 32
 
 -- the rows of the open sessions, in the order of their numbers
 abbrev pub session_rows : finite.FinMap nat_cmp Expected → List Row

@@ -11,6 +11,7 @@ mod held;
 mod law;
 mod retire;
 mod scan;
+mod session_reading;
 mod sessions;
 mod stored;
 #[cfg(test)]
@@ -24,5 +25,6 @@ pub use credentials::{credential_row, read_credential};
 pub use error::RowError;
 pub use failure::{BeginFailure, CreateFailure, Failure, FinishFailure};
 pub use law::row_laws;
+pub use session_reading::read_session;
 pub use sessions::session_row;
 pub use stored::StoredSite;

@@ -4,7 +4,7 @@ ghost use Rattle.std.specs.Prelude.{◌≡◌, Bool, Option, Some, option_map};
 ghost use Rattle.sqlite_value.specs.Order.{column};
 ghost use Rattle.sqlite_value.specs.Value.{owned};
 ghost use Rattle.stored_site.specs.Rows.{truth_or_null, truth_value};
-ghost use Rattle.stored_site.specs.Private.{blob_in, int_in};
+ghost use Rattle.stored_site.specs.Private.{blob_in, int_in, text_in};
 
 use sqlite_value::row::Row;
 use sqlite_value::value::ValueRef;
@@ -36,6 +36,16 @@ pub fn blob_at(row: &Row, at: usize) -> Option<&[u8]>
 {
     match row.get(at) {
         ValueRef::Blob(bytes) => Some(bytes),
+        _ => None,
+    }
+}
+
+/// The bytes of the text in a column.
+pub fn text_at(row: &Row, at: usize) -> Option<&[u8]>
+    ensures { option_map (λ t. t.now) result ≡ text_in (column row.now at) }
+{
+    match row.get(at) {
+        ValueRef::Text(bytes) => Some(bytes),
         _ => None,
     }
 }

@@ -1,0 +1,14 @@
+-- What is owed of `seen`.
+use Rattle.ceremony_sessions.specs.Sessions.{ForSignIn, ForRegistration}
+use Rattle.stored_site.proofs.session_reading.seen.Goals as goal
+
+pub returns-then-is_for_sign_in : goal.returns-then-is_for_sign_in
+returns-then-is_for_sign_in c n (ForSignIn e) stored is = c.seen_sign_in.ensures n e stored is
+returns-then-is_for_sign_in c n (ForRegistration e) stored is = absurd (c.is_for_sign_in.ensures.registration n e is c.if-is_for_sign_in.true)
+
+pub returns-else-is_for_sign_in : goal.returns-else-is_for_sign_in
+returns-else-is_for_sign_in c n (ForSignIn e) stored is =
+    let yes = c.is_for_sign_in.ensures.sign_in n e is in
+    let no = c.if-is_for_sign_in.false in
+    absurd cc
+returns-else-is_for_sign_in c n (ForRegistration e) stored is = c.seen_registration.ensures n e stored is

@@ -1,0 +1,191 @@
+//! Reading the rows of open sessions.
+
+ghost use Rattle.std.specs.Prelude.{◌≡◌, ◌<◌, ◌^◌, ◌++◌, ℕ, pos, None, Some, List, IfOk, IfSome, IsErrOf, IsTrue, OnOk, map, option_map};
+ghost use Rattle.std.specs.Prelude.{◌↔◌, ◌≤◌, length};
+ghost use Rattle.std.specs.List.{flat_map};
+ghost use Rattle.sqlite_value.specs.Order.{column};
+ghost use Rattle.cose.specs.declared.key.Alg.{Alg as Algorithm};
+ghost use Rattle.verification.specs.Records.{ExpectedRegistration, ExpectedSignIn};
+ghost use Rattle.ceremony_sessions.specs.Sessions.{Expected, ForRegistration, ForSignIn};
+ghost use Rattle.ceremony_sessions.specs.Views.{session_view};
+ghost use Rattle.stored_site.specs.SessionRows.{IsStoredSession, number_text, session_row};
+ghost use Rattle.stored_site.specs.Private.{blob_in};
+ghost use Rattle.stored_site.specs.declared.error.RowError.TheVariants as errors;
+
+use crate::error::RowError;
+use crate::sessions::session_row;
+use crate::values::{blob_at, int_at, text_at, truth_in};
+use ceremony_sessions::Session;
+use cose::Alg;
+use sqlite_value::row::Row;
+use std::alloc::{AllocError, Global};
+use verification::{RegistrationSession, SignInSession};
+
+/// The algorithm whose number a text begins with, and what stands behind it.
+fn first_algorithm(text: &[u8]) -> Option<(Alg, &[u8])>
+    ensures read { IfSome result (λ x. text.now ≡ number_text x.0 ++ x.1.now) }
+    ensures none { result ≡ None → (alg : Algorithm) (more : List ℕ) → text.now ≡ number_text alg ++ more → ⊥ }
+{
+    match text {
+        [b'-', b'7', more @ ..] => Some((Alg::Es256, more)),
+        [b'-', b'8', more @ ..] => Some((Alg::EdDsa, more)),
+        [b'-', b'2', b'5', b'7', more @ ..] => Some((Alg::Rs256, more)),
+        _ => None,
+    }
+}
+
+/// The algorithms whose numbers a text has, one behind the other, up to what is none.
+fn algorithms_in(alloc: Global, text: &[u8]) -> Result<Vec<Alg>, AllocError>
+    ensures { (algorithms : List Algorithm) → text.now ≡ flat_map number_text algorithms → IfOk result (λ v. v.items ≡ algorithms) }
+{
+    let mut algorithms = Vec::new(alloc);
+    let mut rest = text;
+    for _ in 0..text.len() {
+        let Some((algorithm, more)) = first_algorithm(rest) else {
+            return Ok(algorithms);
+        };
+        algorithms.push(algorithm)?;
+        rest = more;
+    }
+    Ok(algorithms)
+}
+
+/// The challenge in a row.
+fn challenge_in(row: &Row) -> Option<[u8; 32]>
+    ensures { (challenge : List ℕ) → length challenge ≡ 32 → blob_in (column row.now 3) ≡ Some challenge → result ≡ Some challenge }
+{
+    match <[u8; 32]>::try_from(blob_at(row, 3)?) {
+        Ok(challenge) => Some(challenge),
+        Err(_) => None,
+    }
+}
+
+/// A copy of the user handle in a row.
+fn user_in(alloc: Global, row: &Row) -> Result<Option<Vec<u8>>, AllocError>
+    ensures { IfOk result (λ user. option_map (λ u. u.items) user ≡ blob_in (column row.now 4)) }
+{
+    match blob_at(row, 4) {
+        None => Ok(None),
+        Some(user) => Ok(Some(Vec::from_slice(alloc, user)?)),
+    }
+}
+
+/// Copies of the ids of the credentials that may answer.
+fn listed_in(alloc: Global, row: &Row) -> Result<Vec<Vec<u8>>, AllocError>
+    ensures { (n : ℕ) (e : ExpectedSignIn) → length e.allow ≤ 8 → row.now ≡ session_row n (ForSignIn e)
+        → IfOk result (λ v. map (λ id. id.items) v.items ≡ e.allow) }
+{
+    let mut allow = Vec::new(alloc);
+    for at in 8..16 {
+        let Some(id) = blob_at(row, at) else {
+            return Ok(allow);
+        };
+        allow.push(Vec::from_slice(alloc, id)?)?;
+    }
+    Ok(allow)
+}
+
+/// The session for sign-in that a row seems to be.
+fn seen_sign_in(alloc: Global, row: &Row) -> Result<Option<Session>, AllocError>
+    ensures { (n : ℕ) (e : ExpectedSignIn) → IsStoredSession (ForSignIn e) → row.now ≡ session_row n (ForSignIn e)
+        → IfOk result (λ s. option_map session_view s ≡ Some (ForSignIn e)) }
+{
+    let Some(challenge) = challenge_in(row) else {
+        return Ok(None);
+    };
+    let Some(uv) = truth_in(row, 5) else {
+        return Ok(None);
+    };
+    Ok(Some(Session::SignIn(SignInSession {
+        user: user_in(alloc, row)?,
+        allow: listed_in(alloc, row)?,
+        uv,
+        challenge,
+    })))
+}
+
+/// The session for registration that a row seems to be.
+fn seen_registration(alloc: Global, row: &Row) -> Result<Option<Session>, AllocError>
+    ensures { (n : ℕ) (e : ExpectedRegistration) → IsStoredSession (ForRegistration e) → row.now ≡ session_row n (ForRegistration e)
+        → IfOk result (λ s. option_map session_view s ≡ Some (ForRegistration e)) }
+{
+    let Some(challenge) = challenge_in(row) else {
+        return Ok(None);
+    };
+    let Some(uv) = truth_in(row, 5) else {
+        return Ok(None);
+    };
+    let (Some(user), Some(text)) = (blob_at(row, 4), text_at(row, 6)) else {
+        return Ok(None);
+    };
+    Ok(Some(Session::Registration(RegistrationSession {
+        user: Vec::from_slice(alloc, user)?,
+        algorithms: algorithms_in(alloc, text)?,
+        uv,
+        challenge,
+    })))
+}
+
+/// Whether a row is one of a session for sign-in, if it is one of a session.
+fn is_for_sign_in(row: &Row) -> bool
+    ensures sign_in { (n : ℕ) (e : ExpectedSignIn) → row.now ≡ session_row n (ForSignIn e) → IsTrue result }
+    ensures registration { (n : ℕ) (e : ExpectedRegistration) → row.now ≡ session_row n (ForRegistration e) → ¬ IsTrue result }
+{
+    match text_at(row, 2) {
+        Some(ceremony) => ceremony == b"sign-in".as_slice(),
+        None => false,
+    }
+}
+
+/// The session that a row seems to be.
+fn seen(alloc: Global, row: &Row) -> Result<Option<Session>, AllocError>
+    ensures { (n : ℕ) (e : Expected) → IsStoredSession e → row.now ≡ session_row n e → IfOk result (λ s. option_map session_view s ≡ Some e) }
+{
+    if is_for_sign_in(row) {
+        seen_sign_in(alloc, row)
+    } else {
+        seen_registration(alloc, row)
+    }
+}
+
+/// The number of a session in its row.
+fn number_in(row: &Row) -> Option<u64>
+    ensures fits { (n : ℕ) → result ≡ Some n → n < 2 ^ 63 }
+    ensures number { (n : ℕ) (e : Expected) → row.now ≡ session_row n e → result ≡ Some n }
+{
+    match u64::try_from(int_at(row, 0)?) {
+        Ok(number) => Some(number),
+        Err(_) => None,
+    }
+}
+
+/// Whether a row is that of this session.
+fn is_row_of(alloc: Global, number: u64, session: &Session, row: &Row) -> Result<bool, AllocError>
+    requires { number < 2 ^ 63 }
+    ensures { IfOk result (λ same. IsTrue same ↔ (row.now ≡ session_row number (session_view session.now))) }
+{
+    let written = session_row(alloc, number, session)?;
+    Ok(row.is_same(&written))
+}
+
+/// The open session of a row, copied out, and its number.
+///
+/// `BadRow` exactly where the row is no session's: a value of another type or length, a column too many or too few, a
+/// ceremony or an algorithm that is not known.
+pub fn read_session(alloc: Global, row: &Row) -> Result<(u64, Session), RowError>
+    ensures read { IfOk result (λ x. row.now ≡ session_row x.0 (session_view x.1)) }
+    ensures fits { IfOk result (λ x. x.0 < 2 ^ 63) }
+    // It is refused only if it is no session's.
+    ensures none { IsErrOf result errors.BadRow → (n : ℕ) (e : Expected) → IsStoredSession e → row.now ≡ session_row n e → ⊥ }
+{
+    let Some(number) = number_in(row) else {
+        return Err(RowError::BadRow);
+    };
+    let Some(session) = seen(alloc, row)? else {
+        return Err(RowError::BadRow);
+    };
+    if !is_row_of(alloc, number, &session, row)? {
+        return Err(RowError::BadRow);
+    }
+    Ok((number, session))
+}
