@@ -1,7 +1,8 @@
 """A host of `softkey`: the cable, the user, and where signatures are made (by `cryptography`)."""
 import os
 import subprocess
-from collections import deque
+import time
+from collections import Counter, deque
 
 from cryptography.hazmat.primitives import hashes, serialization
 from cryptography.hazmat.primitives.asymmetric import ec, ed25519
@@ -41,19 +42,41 @@ class Softkey:
     """
 
     def __init__(self, program, *words):
-        self.process = subprocess.Popen([program, *words], stdin=subprocess.PIPE, stdout=subprocess.PIPE)
+        self.command = [program, *words]
+        self.process = None
         self.consent = (True, True)
         self.packets = deque()
-        self.lines = 0
+        self.lines = Counter()
+        self.seconds = Counter()
         self.signings = 0
-        self.told = []
+        # the last lines that it told, beside packets
+        self.told = deque(maxlen=100)
         self.handed = None
+        self.begin()
+
+    def begin(self):
+        """Begins the process."""
+        self.process = subprocess.Popen(self.command, stdin=subprocess.PIPE, stdout=subprocess.PIPE)
+        self.packets.clear()
 
     def line(self, text):
         """Sends a line and reads its answer, up to the line of a dot."""
+        begun = time.perf_counter()
+        answer = self.answer(text)
+        name = text.split(" ", 1)[0]
+        self.lines[name] += 1
+        self.seconds[name] += time.perf_counter() - begun
+        for words in answer:
+            if words[0] == "out":
+                self.packets.append(bytes.fromhex(words[1]))
+            else:
+                self.told.append(words)
+        return answer
+
+    def answer(self, text):
+        """The answer to a line, as words of lines."""
         self.process.stdin.write(text.encode() + b"\n")
         self.process.stdin.flush()
-        self.lines += 1
         answer = []
         while True:
             line = self.process.stdout.readline().decode().rstrip("\n")
@@ -62,10 +85,6 @@ class Softkey:
             if line == "" and self.process.poll() is not None:
                 raise OSError("softkey has ended")
             answer.append(line.split(" "))
-        self.told.extend(answer)
-        for words in answer:
-            if words[0] == "out":
-                self.packets.append(bytes.fromhex(words[1]))
         return answer
 
     def decide(self):
@@ -88,7 +107,25 @@ class Softkey:
             answer = answer + self.decide()
         return answer
 
+    def restart(self):
+        """The process ends, and another one begins with what it saved."""
+        saved = self.line("save")[0]
+        assert saved[0] == "saved" and self.close() == 0
+        self.begin()
+        assert self.line("load " + saved[1]) == []
+
+    def memory(self):
+        """The memory of the process and the most that it was, in kB."""
+        with open(f"/proc/{self.process.pid}/status") as status:
+            kept = dict(line.split(":", 1) for line in status)
+        return kept["VmRSS"].split()[0], kept["VmHWM"].split()[0]
+
     def close(self):
         """Ends the process."""
         self.process.stdin.close()
         return self.process.wait()
+
+    def figures(self, client, configuration):
+        """Lines of a table: each line's number and time."""
+        for name, count in sorted(self.lines.items()):
+            print(f"{client} | {configuration} | line {name} | {count} | {self.seconds[name] / count * 1e6:.1f} µs")

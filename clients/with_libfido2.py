@@ -10,6 +10,7 @@ from softkey_host import EDDSA, ES256, Softkey
 
 fido = ctypes.CDLL("libfido2.so.1")
 OMIT, FALSE, TRUE = 0, 1, 2
+RX = -2
 OPEN = ctypes.CFUNCTYPE(ctypes.c_void_p, ctypes.c_char_p)
 CLOSE = ctypes.CFUNCTYPE(None, ctypes.c_void_p)
 READ = ctypes.CFUNCTYPE(ctypes.c_int, ctypes.c_void_p, ctypes.POINTER(ctypes.c_ubyte), ctypes.c_size_t, ctypes.c_int)
@@ -50,20 +51,38 @@ class Client:
     def __init__(self, program, words):
         self.key = Softkey(program, *words)
         self.done = Counter()
+        self.seconds = Counter()
         self.cancels = False
         self.functions = Functions(OPEN(lambda path: 1), CLOSE(lambda handle: None), READ(self.read), WRITE(self.write))
         fido.fido_init(0)
+        self.open()
+
+    def open(self):
+        """Opens a channel of the device."""
         self.device = pointer(fido.fido_dev_new())
         ok(fido.fido_dev_set_io_functions(self.device, ctypes.byref(self.functions)), "io functions")
         ok(fido.fido_dev_open(self.device, b"softkey"), "open")
 
+    def close(self):
+        """Closes the device."""
+        fido.fido_dev_close(self.device)
+        fido.fido_dev_free(ctypes.byref(self.device))
+
+    def counted(self, what, begun):
+        """A ceremony is done, which began then."""
+        self.done[what] += 1
+        self.seconds[what] += time.perf_counter() - begun
+
     def read(self, handle, buffer, size, milliseconds):
         """Gives the next packet; where the user does not decide, a keepalive, and a cancel where one is asked for."""
         if not self.key.packets:
+            if milliseconds == 0:
+                return -1
             if self.cancels:
                 self.cancels = False
                 fido.fido_dev_cancel(self.device)
             else:
+                time.sleep(0.01)
                 self.key.line("wait")
         if not self.key.packets:
             return -1
@@ -80,6 +99,7 @@ class Client:
 
     def register(self, alg, user, resident, uv=None, exclude=None):
         """A registration's status, and the credential."""
+        begun = time.perf_counter()
         one = pointer(fido.fido_cred_new())
         fido.fido_cred_set_type(one, alg)
         fido.fido_cred_set_clientdata_hash(one, hashlib.sha256(os.urandom(16)).digest(), ctypes.c_size_t(32))
@@ -98,12 +118,13 @@ class Client:
             id = ctypes.string_at(fido.fido_cred_id_ptr(one), fido.fido_cred_id_len(one))
             public = ctypes.string_at(fido.fido_cred_pubkey_ptr(one), fido.fido_cred_pubkey_len(one))
             made = (alg, id, public)
-            self.done[f"registered {alg}, {'resident' if resident else 'not resident'}, uv {uv}"] += 1
+            self.counted(f"registered {alg}, {'resident' if resident else 'not resident'}, uv {uv}", begun)
         fido.fido_cred_free(ctypes.byref(one))
         return status, made
 
     def sign_in(self, credentials, allow, uv=None):
         """A sign-in's status and counters, with each signature verified by libfido2."""
+        begun = time.perf_counter()
         one = pointer(fido.fido_assert_new())
         fido.fido_assert_set_clientdata_hash(one, hashlib.sha256(os.urandom(16)).digest(), ctypes.c_size_t(32))
         fido.fido_assert_set_rp(one, b"login.example")
@@ -125,7 +146,7 @@ class Client:
                 ok(fido.fido_assert_verify(one, index, alg, held), "assertion")
                 getattr(fido, kind + "_pk_free")(ctypes.byref(held))
                 counters.append(fido.fido_assert_sigcount(one, index))
-            self.done[f"signed in {'with' if allow else 'without'} a list, uv {uv}"] += 1
+            self.counted(f"signed in {'with' if allow else 'without'} a list, uv {uv}", begun)
             self.done["assertions verified"] += len(counters)
         fido.fido_assert_free(ctypes.byref(one))
         return status, counters
@@ -162,6 +183,38 @@ def acts(client, uv):
     client.refused(0x2D, "cancelled", client.register(ES256, b"c", False))
     assert ["cancelled"] in key.told
     key.consent = (True, True)
+    timed_out(client)
+    restarted(client, made, residents)
+
+
+def timed_out(client):
+    """The user does not decide in time: libfido2 gives the request up, and the next one, on a new channel, is answered."""
+    client.key.consent = None
+    client.key.told.clear()
+    fido.fido_dev_set_timeout(client.device, 50)
+    status, _ = client.register(ES256, b"t", False)
+    assert status == RX, status
+    fido.fido_dev_set_timeout(client.device, -1)
+    ok(fido.fido_dev_cancel(client.device), "cancel")
+    assert ["cancelled"] in client.key.told
+    client.done["timed out, and cancelled"] += 1
+    client.key.consent = (True, True)
+    client.close()
+    client.key.packets.clear()
+    client.open()
+
+
+def restarted(client, made, residents):
+    """Over a restart each credential signs in, its counter one higher, and the resident ones are found."""
+    before = [client.sign_in([one], True)[1][0] for one in made]
+    client.close()
+    client.key.restart()
+    client.open()
+    assert [client.sign_in([one], True)[1][0] for one in made] == [counter + 1 for counter in before]
+    status, counters = client.sign_in(residents, False)
+    assert status == 0 and len(counters) == len(residents), status
+    client.refused(0x19, "excluded credential after a restart", client.register(ES256, b"y", False, exclude=made[0][1]))
+    client.done["restart between"] += 1
 
 
 def full(client):
@@ -190,12 +243,16 @@ def main():
     acts(client, "no-uv" not in words)
     full(client)
     one = many(client, count)
-    fido.fido_dev_close(client.device)
+    client.close()
+    now, most = client.key.memory()
     assert client.key.close() == 0
+    configuration = " ".join(words) or "uv"
     for what, count in sorted(client.done.items()):
-        print(f"libfido2 | {what} | {count}")
-    print(f"libfido2 | a sign-in, ms | {one * 1000:.2f}")
-    print(f"libfido2 | lines | {client.key.lines}")
+        each = f" | {client.seconds[what] / count * 1000:.2f} ms" if what in client.seconds else ""
+        print(f"libfido2 | {configuration} | {what} | {count}{each}")
+    client.key.figures("libfido2", configuration)
+    print(f"libfido2 | {configuration} | a sign-in in a row | {one * 1000:.2f} ms")
+    print(f"libfido2 | {configuration} | memory of the process, and the most | {now} kB | {most} kB")
 
 
 main()

@@ -42,10 +42,20 @@ class Client:
 
     def __init__(self, program, words):
         self.key = Softkey(program, *words)
+        self.done = Counter()
+        self.seconds = Counter()
+        self.open()
+        self.uv = self.ctap.info.options["uv"]
+
+    def open(self):
+        """Opens a channel of the device."""
         self.device = CtapHidDevice(HidDescriptor("softkey", 0, 0, 64, 64), Connection(self.key))
         self.ctap = CTAP2(self.device)
-        self.uv = self.ctap.info.options["uv"]
-        self.done = Counter()
+
+    def counted(self, what, begun):
+        """A ceremony is done, which began then."""
+        self.done[what] += 1
+        self.seconds[what] += time.perf_counter() - begun
 
     def hash(self):
         return hashlib.sha256(os.urandom(16)).digest()
@@ -54,6 +64,7 @@ class Client:
         options = {"rk": resident}
         if uv is not None:
             options["uv"] = uv
+        begun = time.perf_counter()
         client_data_hash = self.hash()
         made = self.ctap.make_credential(
             client_data_hash, RP, {"id": user, "name": "user"}, [{"type": "public-key", "alg": alg}], exclude, options=options
@@ -64,11 +75,12 @@ class Client:
         if made.fmt == "packed":
             data.public_key.verify(bytes(made.auth_data) + client_data_hash, made.att_statement["sig"])
             self.done["attestation verified"] += 1
-        self.done[f"registered {alg}, {'resident' if resident else 'not resident'}, uv {uv}"] += 1
+        self.counted(f"registered {alg}, {'resident' if resident else 'not resident'}, uv {uv}", begun)
         return data
 
     def sign_in(self, credentials, allow, uv=None):
         """All assertions of one sign-in, each with its signature verified by this client."""
+        begun = time.perf_counter()
         client_data_hash = self.hash()
         listed = [{"type": "public-key", "id": c.credential_id} for c in credentials] if allow else None
         options = {"uv": uv} if uv is not None else None
@@ -77,7 +89,7 @@ class Client:
         for one in got:
             by_id[one.credential["id"]].public_key.verify(bytes(one.auth_data) + client_data_hash, one.signature)
             assert one.auth_data.is_user_present() and one.auth_data.is_user_verified() == bool(uv)
-        self.done[f"signed in {'with' if allow else 'without'} a list, uv {uv}"] += 1
+        self.counted(f"signed in {'with' if allow else 'without'} a list, uv {uv}", begun)
         self.done["assertions verified"] += len(got)
         return got
 
@@ -124,7 +136,7 @@ def acts(client):
     key.consent = (True, True)
     timed_out(client)
     interrupted(client, made[0])
-    return made
+    restarted(client, made, residents)
 
 
 def timed_out(client):
@@ -162,6 +174,18 @@ def interrupted(client, credential):
     client.done["signature after a cancel refused"] += 1
 
 
+def restarted(client, made, residents):
+    """Over a restart each credential signs in, its counter one higher, and the resident ones are found."""
+    before = [client.sign_in([one], True)[0].auth_data.counter for one in made]
+    client.key.restart()
+    client.open()
+    assert [client.sign_in([one], True)[0].auth_data.counter for one in made] == [counter + 1 for counter in before]
+    assert len(client.sign_in(residents, False)) == len(residents)
+    client.refused(0x19, "excluded credential after a restart", client.register, ES256, b"y", False,
+                   exclude=[{"type": "public-key", "id": made[0].credential_id}])
+    client.done["restart between"] += 1
+
+
 def full(client):
     """256 credentials, and no room for another; a reset makes room."""
     client.ctap.reset()
@@ -193,14 +217,15 @@ def main():
         one = many(client, count)
     except InvalidSignature:
         sys.exit("a signature is not valid")
-    with open(f"/proc/{client.key.process.pid}/status") as status:
-        memory = next(line.split()[1] for line in status if line.startswith("VmRSS"))
+    now, most = client.key.memory()
     assert client.key.close() == 0
+    configuration = " ".join(words) or "uv"
     for what, count in sorted(client.done.items()):
-        print(f"python-fido2 | {what} | {count}")
-    print(f"python-fido2 | a sign-in, ms | {one * 1000:.2f}")
-    print(f"python-fido2 | lines | {client.key.lines}")
-    print(f"python-fido2 | memory of the process, kB | {memory}")
+        each = f" | {client.seconds[what] / count * 1000:.2f} ms" if what in client.seconds else ""
+        print(f"python-fido2 | {configuration} | {what} | {count}{each}")
+    client.key.figures("python-fido2", configuration)
+    print(f"python-fido2 | {configuration} | a sign-in in a row | {one * 1000:.2f} ms")
+    print(f"python-fido2 | {configuration} | memory of the process, and the most | {now} kB | {most} kB")
 
 
 main()
