@@ -38,7 +38,8 @@ pub unchanged_survives : {S : Type 0} (view : S → View) (recovers : S → Tree
     → ((s : S) (db : Trees) → IsTrue (view s).is_open → recovers s db → db ≡ (view s).committed)
     → (old : StoredState S) (After : SiteState → Type 0)
     → (old.is_shut ≡ false → IsClean (view old.store) → IsCommitted old.site (view old.store)) → Survives view recovers old old After
-unchanged_survives view recovers settled old After is = λ db open_before clean r. inl (settles view recovers settled old.site old.store (is open_before clean) db r)
+unchanged_survives view recovers settled old After is =
+    λ db open_before clean r. inl (settles view recovers settled old.site old.store (is open_before clean) db r)
 
 -- where a call has written, the site as it was or as the call makes it
 pub call_survives : {S : Type 0} (view : S → View) (recovers : S → Trees → Type 0) (old new : StoredState S) (t : SiteState) (After : SiteState → Type 0)
@@ -109,8 +110,8 @@ one_attested profile r o p a b c d h k =
     (cc)
 
 -- the id that is told is that of the credential that stands last
-told_last : (s : SiteState) (r : responses.AuthenticatorAttestationResponse) (x : Registered) (e : ExpectedRegistration) (o : Attestation) (a : AuthenticatorData)
-    (c : AttestedCredential) → Attests s.rp.profile r o a c → IsRegistered s r x → (registered e a c).id ≡ x.credential.items
+told_last : (s : SiteState) (r : responses.AuthenticatorAttestationResponse) (x : Registered) (e : ExpectedRegistration) (o : Attestation)
+    (a : AuthenticatorData) (c : AttestedCredential) → Attests s.rp.profile r o a c → IsRegistered s r x → (registered e a c).id ≡ x.credential.items
 told_last s r x e o a c attests (p, b, d, told, is) =
     ap (λ (y : AttestedCredential). y.id) (one_attested s.rp.profile r o p a b c d attests told) ∙ sym is
 

@@ -1,5 +1,6 @@
 -- What the transactions of a site make of what a store holds.
-use Rattle.std.proofs.Common.{◌≡◌, ◌⊎◌, ◌+◌, ◌<◌, length, ℕ, zero, suc, pos, List, [], ◌∷◌, ◌++◌, ℤ, Some, None, Bool, true, false, IsTrue, refl, sym, ap, ◌∙◌, subst, arith, inl, inr}
+use Rattle.std.proofs.Common.{◌≡◌, ◌⊎◌, ◌+◌, ◌<◌, length, ℕ, zero, suc, pos, List, [], ◌∷◌, ◌++◌}
+use Rattle.std.proofs.Common.{ℤ, Some, None, Bool, true, false, IsTrue, refl, sym, ap, ◌∙◌, subst, arith, inl, inr}
 use Rattle.std.specs.Prelude.{slice_get, IsSome, ◌^◌, ◌==◌}
 use Rattle.std.proofs.lemmas.Bool.{cases_Bool}
 use Rattle.std.proofs.lemmas.Grind.{common_steps}
@@ -163,7 +164,8 @@ ended_by s n id db e h = subst (λ i. Holds (record s { sessions = closed n s.se
 inserted : (m : finite.FinMap nat_cmp Expected) (n : ℕ) (v : Expected) → finite.get (finite.insert m n v) n ≡ Some v
 inserted m n v = grind (arith, common_steps, gets)
 
-pub opened_by : (s t : SiteState) (n : ℕ) (session site : Row) (db : Trees) → Opens s t n → IsSessionRowAt t n session → site ≡ site_row t.rp.rp_id t.sessions.next
+pub opened_by : (s t : SiteState) (n : ℕ) (session site : Row) (db : Trees) → Opens s t n → IsSessionRowAt t n session
+    → site ≡ site_row t.rp.rp_id t.sessions.next
     → Holds s db → Holds t (set 2 site (set 1 session db))
 opened_by s t n session site db o at is h =
     let expected = expected_of s.sessions.next o.opening in

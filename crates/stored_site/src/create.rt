@@ -84,7 +84,8 @@ fn write_new<S: Store>(alloc: Global, site: &Site, store: &mut S) -> Result<(), 
     requires no_session { site.now.sessions.expected ≡ finite.empty }
     ensures stored { OnOk result (IsClean (S.Store.view store.new) → IsCommitted site.now (S.Store.view store.new)) }
     ensures crash { (db : Trees) → IsClean (S.Store.view store.new) → S.Store.recovers store.new db → S.Store.recovers store.old db ⊎ Holds site.now db }
-    ensures kept { IfErr result (λ e. (e ≡ creates.NotNew) ⊎ (e ≡ creates.BadNumber) → (db : Trees) → S.Store.recovers store.new db → S.Store.recovers store.old db) }
+    ensures kept { IfErr result (λ e. (e ≡ creates.NotNew) ⊎ (e ≡ creates.BadNumber) → (db : Trees) → S.Store.recovers store.new db
+        → S.Store.recovers store.old db) }
     ensures not_new { IfErr result (λ e. e ≡ creates.NotNew → IsClean (S.Store.view store.new) → HasTables (S.Store.view store.new)
         → HasNoRow (S.Store.view store.new).committed → ⊥) }
     ensures number { IfErr result (λ e. e ≡ creates.BadNumber → 2 ^ 63 ≤ site.now.sessions.next) }
@@ -121,10 +122,12 @@ impl<S: Store> StoredSite<S> {
         ensures made { IfOk result (λ s. (s.site ≡ site) × (s.is_shut ≡ false)) }
         ensures stored { IfOk result (Stored S.Store.view) }
         // An open after a crash finds what it could find before, or the new site.
-        ensures crash { IfOk result (λ s. (db : Trees) → IsClean (S.Store.view s.store) → S.Store.recovers s.store db → S.Store.recovers store db ⊎ Holds site db) }
+        ensures crash { IfOk result (λ s. (db : Trees) → IsClean (S.Store.view s.store) → S.Store.recovers s.store db
+            → S.Store.recovers store db ⊎ Holds site db) }
         ensures failed { IfErr result (λ e. (db : Trees) → IsClean (S.Store.view e.1) → S.Store.recovers e.1 db → S.Store.recovers store db ⊎ Holds site db) }
         // Where it is refused nothing has changed, and there is a cause.
-        ensures kept { IfErr result (λ e. (e.0 ≡ creates.NotNew) ⊎ (e.0 ≡ creates.BadNumber) → (db : Trees) → S.Store.recovers e.1 db → S.Store.recovers store db) }
+        ensures kept { IfErr result (λ e. (e.0 ≡ creates.NotNew) ⊎ (e.0 ≡ creates.BadNumber) → (db : Trees) → S.Store.recovers e.1 db
+            → S.Store.recovers store db) }
         ensures not_new { IfErr result (λ e. e.0 ≡ creates.NotNew → IsClean (S.Store.view e.1) → HasTables (S.Store.view e.1)
             → HasNoRow (S.Store.view e.1).committed → ⊥) }
         ensures number { IfErr result (λ e. e.0 ≡ creates.BadNumber → 2 ^ 63 ≤ site.sessions.next) }

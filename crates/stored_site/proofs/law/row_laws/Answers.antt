@@ -5,4 +5,11 @@ use Rattle.stored_site.proofs.Trees.{written, pushed, put_session, without_sessi
 use Rattle.stored_site.proofs.law.row_laws.Goals as goal
 
 pub returns : goal.returns
-returns c = record { one_credential = one_credential; written = written; pushed = pushed; opened = put_session; closed = without_session; one_session = one_session }
+returns c = record {
+  one_credential = one_credential;
+  written = written;
+  pushed = pushed;
+  opened = put_session;
+  closed = without_session;
+  one_session = one_session;
+}

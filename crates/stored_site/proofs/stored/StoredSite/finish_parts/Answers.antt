@@ -8,17 +8,26 @@ use Rattle.stored_site.proofs.Calls.{accepts_sign_in, fits_sign_in, rowids_accep
 use Rattle.stored_site.proofs.stored.StoredSite.finish_parts.Goals as goal
 
 pub store_acceptance-requires-clause-fits : goal.store_acceptance-requires-clause-fits
-store_acceptance-requires-clause-fits g c = fits_sign_in (g.V.Verifier.valid c.args.verifier.now) c.self.inside.site c.args.session (assertion_parts_view c.args.response.now) c.self.invariant.1 c.in_ok-signed_in.ensures.accepted.0
+store_acceptance-requires-clause-fits g c =
+    fits_sign_in (g.V.Verifier.valid c.args.verifier.now) c.self.inside.site
+    c.args.session (assertion_parts_view c.args.response.now) c.self.invariant.1 c.in_ok-signed_in.ensures.accepted.0
 
 pub store_acceptance-requires-clause-there : goal.store_acceptance-requires-clause-there
-store_acceptance-requires-clause-there g c = there_signed_in (g.V.Verifier.valid c.args.verifier.now) c.self.inside.site c.args.session (assertion_parts_view c.args.response.now) c.finish_parts.new.self c.in_ok-signed_in.ensures.accepted.0 c.in_ok-signed_in.ensures.after
+store_acceptance-requires-clause-there g c =
+    there_signed_in (g.V.Verifier.valid c.args.verifier.now) c.self.inside.site
+    c.args.session (assertion_parts_view c.args.response.now) c.finish_parts.new.self c.in_ok-signed_in.ensures.accepted.0 c.in_ok-signed_in.ensures.after
 
 pub invariant_of-self-in_err-store_acceptance : goal.invariant_of-self-in_err-store_acceptance
-invariant_of-self-in_err-store_acceptance g c = (λ shut. absurd (cc), rowids_accepted _ _ _ _ (accepts_sign_in c.self.inside.site c.args.session (assertion_parts_view c.args.response.now) c.finish_parts.new.self c.in_ok-signed_in.ensures.after) c.self.invariant.1)
+invariant_of-self-in_err-store_acceptance g c = (
+  λ shut. absurd (cc),
+  rowids_accepted _ _ _ _ (accepts_sign_in c.self.inside.site
+      c.args.session (assertion_parts_view c.args.response.now) c.finish_parts.new.self c.in_ok-signed_in.ensures.after) c.self.invariant.1,
+)
 
 pub invariant_of-self-2 : goal.invariant_of-self-2
 invariant_of-self-2 g c =
-    let accepts = accepts_sign_in c.self.inside.site c.args.session (assertion_parts_view c.args.response.now) c.finish_parts.new.self c.in_ok-signed_in.ensures.after in (
+    let accepts = accepts_sign_in c.self.inside.site
+    c.args.session (assertion_parts_view c.args.response.now) c.finish_parts.new.self c.in_ok-signed_in.ensures.after in (
       λ shut clean. c.in_ok-store_acceptance.ensures.stored c.self.inside.site accepts (c.self.invariant.0 c.if-self.false) clean,
       rowids_accepted _ _ _ _ accepts c.self.invariant.1,
     )
@@ -28,7 +37,8 @@ returns-clause-stored g c clean = (invariant_of-self-2 g c).0 refl clean
 
 pub returns-clause-crash : goal.returns-clause-crash
 returns-clause-crash g c db shut clean r =
-    let accepts = accepts_sign_in c.self.inside.site c.args.session (assertion_parts_view c.args.response.now) c.finish_parts.new.self c.in_ok-signed_in.ensures.after in
+    let accepts = accepts_sign_in c.self.inside.site
+    c.args.session (assertion_parts_view c.args.response.now) c.finish_parts.new.self c.in_ok-signed_in.ensures.after in
     rw (← c.self.view_is) (elim (c.in_ok-store_acceptance.ensures.crash c.self.inside.site accepts (c.self.invariant.0 c.if-self.false) db clean r) [
       | inl before ↦ inl before
       | inr now ↦ inr (c.finish_parts.new.self, (c.in_ok-signed_in.ensures.accepted.0, c.in_ok-signed_in.ensures.after), now)
@@ -36,7 +46,8 @@ returns-clause-crash g c db shut clean r =
 
 pub returns-in_err-store_acceptance-clause-crash : goal.returns-in_err-store_acceptance-clause-crash
 returns-in_err-store_acceptance-clause-crash g c db shut clean r =
-    let accepts = accepts_sign_in c.self.inside.site c.args.session (assertion_parts_view c.args.response.now) c.finish_parts.new.self c.in_ok-signed_in.ensures.after in
+    let accepts = accepts_sign_in c.self.inside.site
+    c.args.session (assertion_parts_view c.args.response.now) c.finish_parts.new.self c.in_ok-signed_in.ensures.after in
     rw (← c.self.view_is) (elim (c.in_err-store_acceptance.ensures.crash c.self.inside.site accepts (c.self.invariant.0 c.if-self.false) db clean r) [
       | inl before ↦ inl before
       | inr now ↦ inr (c.finish_parts.new.self, (c.in_ok-signed_in.ensures.accepted.0, c.in_ok-signed_in.ensures.after), now)

@@ -10,17 +10,29 @@ use Rattle.stored_site.proofs.Calls.{accepts_registration, fits_registration, ro
 use Rattle.stored_site.proofs.stored.StoredSite.finish_registration_parts.Goals as goal
 
 pub store_acceptance-requires-clause-fits : goal.store_acceptance-requires-clause-fits
-store_acceptance-requires-clause-fits g c = fits_registration c.self.inside.site c.args.session (registration_parts_view c.args.response.now) c.finish_registration_parts.new.self c.self.invariant.1 c.in_ok-registered.ensures.after
+store_acceptance-requires-clause-fits g c =
+    fits_registration c.self.inside.site
+    c.args.session (registration_parts_view c.args.response.now) c.finish_registration_parts.new.self c.self.invariant.1 c.in_ok-registered.ensures.after
 
 pub store_acceptance-requires-clause-there : goal.store_acceptance-requires-clause-there
-store_acceptance-requires-clause-there g c = subst (λ id. IsSome (row_of id c.finish_registration_parts.new.self.rows)) (sym c.deref.ensures.value) (there_registered c.self.inside.site c.args.session (registration_parts_view c.args.response.now) c.finish_registration_parts.new.self c.in_ok-registered.registered c.in_ok-registered.ensures.after c.in_ok-registered.ensures.accepted.1)
+store_acceptance-requires-clause-there g c =
+    subst (λ id. IsSome (row_of id c.finish_registration_parts.new.self.rows)) (sym c.deref.ensures.value) (there_registered c.self.inside.site
+    c.args.session (registration_parts_view c.args.response.now) c.finish_registration_parts.new.self
+    c.in_ok-registered.registered c.in_ok-registered.ensures.after c.in_ok-registered.ensures.accepted.1)
 
 pub invariant_of-self-in_err-store_acceptance : goal.invariant_of-self-in_err-store_acceptance
-invariant_of-self-in_err-store_acceptance g c = (λ shut. absurd (cc), rowids_accepted _ _ _ _ (told_as _ _ _ _ (sym c.deref.ensures.value) (accepts_registration c.self.inside.site c.args.session (registration_parts_view c.args.response.now) c.finish_registration_parts.new.self c.in_ok-registered.registered c.in_ok-registered.ensures.after c.in_ok-registered.ensures.accepted.1)) c.self.invariant.1)
+invariant_of-self-in_err-store_acceptance g c = (
+  λ shut. absurd (cc),
+  rowids_accepted _ _ _ _ (told_as _ _ _ _ (sym c.deref.ensures.value) (accepts_registration c.self.inside.site
+      c.args.session (registration_parts_view c.args.response.now) c.finish_registration_parts.new.self
+      c.in_ok-registered.registered c.in_ok-registered.ensures.after c.in_ok-registered.ensures.accepted.1)) c.self.invariant.1,
+)
 
 pub invariant_of-self-2 : goal.invariant_of-self-2
 invariant_of-self-2 g c =
-    let accepts = told_as _ _ _ _ (sym c.deref.ensures.value) (accepts_registration c.self.inside.site c.args.session (registration_parts_view c.args.response.now) c.finish_registration_parts.new.self c.in_ok-registered.registered c.in_ok-registered.ensures.after c.in_ok-registered.ensures.accepted.1) in (
+    let accepts = told_as _ _ _ _ (sym c.deref.ensures.value) (accepts_registration c.self.inside.site
+    c.args.session (registration_parts_view c.args.response.now) c.finish_registration_parts.new.self
+    c.in_ok-registered.registered c.in_ok-registered.ensures.after c.in_ok-registered.ensures.accepted.1) in (
       λ shut clean. c.in_ok-store_acceptance.ensures.stored c.self.inside.site accepts (c.self.invariant.0 c.if-self.false) clean,
       rowids_accepted _ _ _ _ accepts c.self.invariant.1,
     )
@@ -30,7 +42,9 @@ returns-clause-stored g c clean = (invariant_of-self-2 g c).0 refl clean
 
 pub returns-clause-crash : goal.returns-clause-crash
 returns-clause-crash g c db shut clean r =
-    let accepts = told_as _ _ _ _ (sym c.deref.ensures.value) (accepts_registration c.self.inside.site c.args.session (registration_parts_view c.args.response.now) c.finish_registration_parts.new.self c.in_ok-registered.registered c.in_ok-registered.ensures.after c.in_ok-registered.ensures.accepted.1) in
+    let accepts = told_as _ _ _ _ (sym c.deref.ensures.value) (accepts_registration c.self.inside.site
+    c.args.session (registration_parts_view c.args.response.now) c.finish_registration_parts.new.self
+    c.in_ok-registered.registered c.in_ok-registered.ensures.after c.in_ok-registered.ensures.accepted.1) in
     rw (← c.self.view_is) (elim (c.in_ok-store_acceptance.ensures.crash c.self.inside.site accepts (c.self.invariant.0 c.if-self.false) db clean r) [
       | inl before ↦ inl before
       | inr now ↦ inr (c.finish_registration_parts.new.self, (c.in_ok-registered.ensures.accepted.0, c.in_ok-registered.ensures.after), now)
@@ -38,7 +52,9 @@ returns-clause-crash g c db shut clean r =
 
 pub returns-in_err-store_acceptance-clause-crash : goal.returns-in_err-store_acceptance-clause-crash
 returns-in_err-store_acceptance-clause-crash g c db shut clean r =
-    let accepts = told_as _ _ _ _ (sym c.deref.ensures.value) (accepts_registration c.self.inside.site c.args.session (registration_parts_view c.args.response.now) c.finish_registration_parts.new.self c.in_ok-registered.registered c.in_ok-registered.ensures.after c.in_ok-registered.ensures.accepted.1) in
+    let accepts = told_as _ _ _ _ (sym c.deref.ensures.value) (accepts_registration c.self.inside.site
+    c.args.session (registration_parts_view c.args.response.now) c.finish_registration_parts.new.self
+    c.in_ok-registered.registered c.in_ok-registered.ensures.after c.in_ok-registered.ensures.accepted.1) in
     rw (← c.self.view_is) (elim (c.in_err-store_acceptance.ensures.crash c.self.inside.site accepts (c.self.invariant.0 c.if-self.false) db clean r) [
       | inl before ↦ inl before
       | inr now ↦ inr (c.finish_registration_parts.new.self, (c.in_ok-registered.ensures.accepted.0, c.in_ok-registered.ensures.after), now)
