@@ -8,3 +8,9 @@ pub mod Calls
 pub mod Texts
 pub mod Listed
 pub mod OneSession
+pub mod Left
+pub mod OneMap
+pub mod OneSite
+pub mod ReadRows
+pub mod Opening
+pub mod Steps

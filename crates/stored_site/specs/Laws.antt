@@ -2,13 +2,15 @@
 use Rattle.std.specs.Prelude.{◌≡◌, ◌+◌, ◌++◌, ℕ, pos, List, [], ◌∷◌, length, Some, slice_get}
 use Rattle.std.specs.FinMap as finite
 use Rattle.std.specs.Ordering.{nat_cmp}
-use Rattle.sqlite_trees.specs.Tree.{put_row, without_rowid}
+use Rattle.sqlite_trees.specs.Tree.{Trees, put_row, without_rowid}
 use Rattle.authdata.specs.declared.profile.Profile.{Profile}
 use Rattle.verification.specs.Records.{Credential}
 use Rattle.credential_table.specs.Table.{AreRows, with_row}
 use Rattle.ceremony_sessions.specs.Sessions.{Expected}
+use Rattle.site.specs.State.{SiteState}
 use Rattle.stored_site.specs.Rows.{credential_row, credential_rows}
-use Rattle.stored_site.specs.SessionRows.{ListsFew, session_row, session_rows}
+use Rattle.stored_site.specs.SessionRows.{ListFew, ListsFew, session_row, session_rows}
+use Rattle.stored_site.specs.Holds.{Holds}
 
 pub record RowLaws : Type 0 where
   -- a row is one credential's, at one place
@@ -27,3 +29,6 @@ pub record RowLaws : Type 0 where
       → without_rowid (pos n) (session_rows sessions) ≡ session_rows (finite.remove sessions n)
   -- a row is one session's, with one number, where no more credentials are listed than a row has columns for
   pub one_session : (m n : ℕ) (d e : Expected) → ListsFew d → ListsFew e → session_row m d ≡ session_row n e → (m ≡ n) × (d ≡ e)
+  -- a store holds one site, whose origins, profile and policy are the maker's
+  pub one_site : (s t : SiteState) (db : Trees) → ListFew s.sessions → ListFew t.sessions → Holds s db → Holds t db
+      → (s.rp.rp_id ≡ t.rp.rp_id) × (record s { rp = t.rp; policy = t.policy } ≡ t)

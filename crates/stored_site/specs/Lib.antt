@@ -4,3 +4,5 @@ pub mod Laws
 pub mod Private
 pub mod Writes
 pub mod Holds
+pub mod Opened
+pub mod Opening

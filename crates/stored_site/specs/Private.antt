@@ -1,6 +1,7 @@
 -- What private functions are proved against; no public clause cites it.
-use Rattle.std.specs.Prelude.{◌≡◌, ◌+◌, ℕ, ℤ, List, [], ◌∷◌, ◌++◌, Option, Some, None, slice_get, IsTrue, false}
+use Rattle.std.specs.Prelude.{◌<◌, ◌≡◌, ◌+◌, ℕ, ℤ, List, [], ◌∷◌, ◌++◌, Option, Some, None, slice_get, IsTrue, false}
 use Rattle.std.specs.FinMap as finite
+use Rattle.std.specs.List.{AllByRecursion}
 use Rattle.sqlite_value.specs.Order.{Row}
 use Rattle.sqlite_trees.specs.View.{View, IsClean}
 use Rattle.verification.specs.Records.{Credential}
@@ -83,3 +84,7 @@ pub record IsAtRest (v : View) : Type 0 where
   pub begun : v.trees ≡ v.committed
   pub sound : v.is_broken ≡ false
   pub is_open : IsTrue v.is_open
+
+-- each row is of a session whose number is below this
+abbrev pub AreBelow : ℕ → List Row → Type 0
+AreBelow least rows = AllByRecursion (λ row. (n : ℕ) × (e : Expected) × (row ≡ session_row n e) × (n < least)) rows

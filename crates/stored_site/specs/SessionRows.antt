@@ -8,7 +8,7 @@ use Rattle.sqlite_value.specs.declared.value.Value.{Value}
 use Rattle.sqlite_value.specs.declared.value.Value.TheVariants.{Null, Int, Blob, Text}
 use Rattle.cose.specs.declared.key.Alg.{Alg}
 use Rattle.cose.specs.declared.key.Alg.TheVariants as algs
-use Rattle.ceremony_sessions.specs.Sessions.{Expected, ForSignIn, ForRegistration}
+use Rattle.ceremony_sessions.specs.Sessions.{Expected, ForSignIn, ForRegistration, OpenSessions}
 use Rattle.stored_site.specs.Rows.{truth_value}
 
 abbrev pub blob_or_null : Option (List ℕ) → Value
@@ -37,6 +37,9 @@ session_row number (ForRegistration e) =
 abbrev pub ListsFew : Expected → Type 0
 ListsFew (ForSignIn e) = length e.allow ≤ 8
 ListsFew (ForRegistration e) = Unit {0}
+
+abbrev pub ListFew : OpenSessions → Type 0
+ListFew s = (n : ℕ) (e : Expected) → finite.get s.expected n ≡ Some e → ListsFew e
 
 -- what a row can hold: a challenge of 32 bytes, and at most 8 credentials that may answer
 abbrev pub IsStoredSession : Expected → Type 0

@@ -4,12 +4,15 @@ ghost use Rattle.std.specs.Prelude.{◌≡◌};
 ghost use Rattle.sqlite_trees.specs.declared.error.StoreError.TheVariants as stores;
 ghost use Rattle.stored_site.specs.declared.failure.Failure.TheVariants as failures;
 ghost use Rattle.stored_site.specs.declared.failure.CreateFailure.TheVariants as creates;
+ghost use Rattle.stored_site.specs.declared.failure.OpenFailure.TheVariants as opens;
+ghost use Rattle.stored_site.specs.Opening.{of_begin, of_row, of_table};
 ghost use Rattle.stored_site.specs.declared.failure.BeginFailure.TheVariants as begin_failures;
 ghost use Rattle.stored_site.specs.declared.failure.FinishFailure.TheVariants as finish_failures;
 
+use crate::error::RowError;
 use site::{BeginError, VerificationError};
 use sqlite_trees::error::StoreError;
-use std::alloc::AllocError;
+use std::alloc::{AllocError, AllocFailed};
 use std::fmt::Display;
 
 /// Why a call over a store gives no answer of the site's.
@@ -67,6 +70,83 @@ impl From<AllocError> for CreateFailure {
 
     fn from(_e: AllocError) -> CreateFailure {
         CreateFailure::Failed(StoreError::OutOfMemory)
+    }
+}
+
+/// Why a store is not opened as a site's.
+#[derive(Clone, Copy, Debug, PartialEq, Eq, Drop, thiserror::Error)]
+pub enum OpenFailure {
+    /// A tree of the store is no table, or there is no row of a site.
+    #[error("the tables are not those of a site")]
+    NoSite,
+    /// The version or the rp id is another.
+    #[error("the tables are those of another site or version")]
+    OtherSite,
+    /// There are more credentials or sessions than a site has, or more rows of one.
+    #[error("there are more rows than a site has")]
+    TooMany,
+    /// A row is none that a site of this profile has written.
+    #[error("a row is not one that this site has written")]
+    BadRow,
+    /// The disk or memory failed.
+    #[error("the store failed")]
+    Failed(StoreError),
+}
+
+impl From<StoreError> for OpenFailure {
+    ghost from_gives = { λ e f. f ≡ opens.Failed e };
+
+    fn from(e: StoreError) -> OpenFailure {
+        OpenFailure::Failed(e)
+    }
+}
+
+impl From<AllocError> for OpenFailure {
+    ghost from_gives = { λ _ f. f ≡ opens.Failed stores.OutOfMemory };
+
+    fn from(_e: AllocError) -> OpenFailure {
+        OpenFailure::Failed(StoreError::OutOfMemory)
+    }
+}
+
+impl<T: Drop> From<AllocFailed<T>> for OpenFailure {
+    ghost from_gives = { λ _ f. f ≡ opens.Failed stores.OutOfMemory };
+
+    fn from(_e: AllocFailed<T>) -> OpenFailure {
+        OpenFailure::Failed(StoreError::OutOfMemory)
+    }
+}
+
+impl From<RowError> for OpenFailure {
+    ghost from_gives = { λ e f. f ≡ of_row e };
+
+    fn from(e: RowError) -> OpenFailure {
+        match e {
+            RowError::BadRow => OpenFailure::BadRow,
+            RowError::Memory => OpenFailure::Failed(StoreError::OutOfMemory),
+        }
+    }
+}
+
+impl From<credential_table::Error> for OpenFailure {
+    ghost from_gives = { λ e f. f ≡ of_table e };
+
+    fn from(e: credential_table::Error) -> OpenFailure {
+        match e {
+            credential_table::Error::BadTable => OpenFailure::BadRow,
+            credential_table::Error::Memory => OpenFailure::Failed(StoreError::OutOfMemory),
+        }
+    }
+}
+
+impl From<BeginError> for OpenFailure {
+    ghost from_gives = { λ e f. f ≡ of_begin e };
+
+    fn from(e: BeginError) -> OpenFailure {
+        match e {
+            BeginError::Memory => OpenFailure::Failed(StoreError::OutOfMemory),
+            _ => OpenFailure::BadRow,
+        }
     }
 }
 

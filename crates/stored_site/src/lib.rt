@@ -9,6 +9,9 @@ mod failure;
 mod finish;
 mod held;
 mod law;
+mod open;
+mod reading;
+mod restoring;
 mod retire;
 mod scan;
 mod session_reading;
@@ -23,7 +26,7 @@ mod writes;
 
 pub use credentials::{credential_row, read_credential};
 pub use error::RowError;
-pub use failure::{BeginFailure, CreateFailure, Failure, FinishFailure};
+pub use failure::{BeginFailure, CreateFailure, Failure, FinishFailure, OpenFailure};
 pub use law::row_laws;
 pub use session_reading::read_session;
 pub use sessions::session_row;

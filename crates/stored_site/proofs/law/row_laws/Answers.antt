@@ -1,6 +1,7 @@
 -- What is owed of `row_laws`.
 use Rattle.stored_site.proofs.One.{one_credential}
 use Rattle.stored_site.proofs.OneSession.{one_session}
+use Rattle.stored_site.proofs.OneSite.{one_site}
 use Rattle.stored_site.proofs.Trees.{written, pushed, put_session, without_session}
 use Rattle.stored_site.proofs.law.row_laws.Goals as goal
 
@@ -12,4 +13,5 @@ returns c = record {
   opened = put_session;
   closed = without_session;
   one_session = one_session;
+  one_site = one_site;
 }

@@ -1,0 +1,128 @@
+-- One step of the loops that read a table.
+use Rattle.std.proofs.Common.{◌≡◌, ◌<◌, ◌≤◌, ◌+◌, ◌^◌, ℕ, suc, List, [], ◌∷◌, ◌++◌, length, map, take, drop, get_or, refl, sym, ap, subst, ◌∙◌, arith}
+use Rattle.std.proofs.lemmas.List.{take_more}
+use Rattle.std.proofs.Math.Seq.{drop-cons}
+use Rattle.std.specs.Prelude.{Some, IsSome}
+use Rattle.std.specs.FinMap as finite
+use Rattle.std.specs.FinMap.{get-empty, len-empty, len-entries}
+use Rattle.std.specs.Ordering.{nat_cmp}
+use Rattle.std.specs.List.{AllByRecursion}
+use Rattle.sqlite_value.specs.Order.{Row}
+use Rattle.verification.specs.Records.{Credential}
+use Rattle.credential_table.specs.Views.{rows_view}
+use Rattle.credential_table.specs.declared.row.Row.{Row as StoredRow}
+use Rattle.ceremony_sessions.specs.Sessions.{AreLimits, Expected, OpenSessions}
+use Rattle.stored_site.specs.Rows.{IsStored, credential_row, credential_rows}
+use Rattle.stored_site.specs.SessionRows.{IsStoredSession, session_row, session_rows}
+use Rattle.stored_site.specs.Holds.{AreRowids}
+use Rattle.stored_site.specs.Opened.{AreGiven, AreKept}
+use Rattle.stored_site.specs.Private.{AreBelow}
+use Rattle.stored_site.proofs.Left.{Left, all_left, first_left, next_left}
+use Rattle.stored_site.proofs.ReadRows.{LeftRows, below_more, first_row, next_row, one_more_row, one_more_session}
+use Rattle.stored_site.proofs.Opening.{inserted}
+
+-- the rows that are left begin with the row at this index
+pub split : (rows : List Row) (i : ℕ) (row : Row) → i < length rows → row ≡ get_or rows i row → drop i rows ≡ row ∷ drop (i + 1) rows
+split rows i row lt here =
+    let next : suc i ≡ i + 1 = omega arith in
+    drop-cons rows i row lt ∙ ap (λ r. r ∷ drop (suc i) rows) (sym here) ∙ ap (λ k. row ∷ drop k rows) next
+
+pub taken : (rows : List Row) (i : ℕ) (row : Row) → i < length rows → row ≡ get_or rows i row → take (i + 1) rows ≡ take i rows ++ row ∷ []
+taken rows i row lt here = take_more rows i row lt ∙ ap (λ r. take i rows ++ r ∷ []) (sym here)
+
+-- ---- sessions
+
+abbrev pub SessionsRead : List Row → ℕ → ℕ → ℕ → OpenSessions → Type 0
+SessionsRead rows i next least s =
+    (take i rows ≡ session_rows s.expected)
+    × (s.next ≡ next)
+    × AreBelow least (take i rows)
+    × (AreRowids s × AreGiven s)
+    × ((m : OpenSessions) → rows ≡ session_rows m.expected → Left m.expected least (drop i rows))
+
+abbrev pub Restored : Row → ℕ → OpenSessions → OpenSessions → ℕ → Type 0
+Restored row least old new behind =
+    (n : ℕ) × (e : Expected) × (row ≡ session_row n e) × (least ≤ n) × (n < old.next)
+    × (behind ≡ n + 1) × (n < 2 ^ 63) × (new ≡ record old { expected = finite.insert old.expected n e })
+
+pub one_more_read : (rows : List Row) (i : ℕ) (row : Row) (next least behind : ℕ) (old new : OpenSessions) → i < length rows → row ≡ get_or rows i row
+    → SessionsRead rows i next least old → Restored row least old new behind → SessionsRead rows (i + 1) next behind new
+one_more_read rows i row next least behind old new lt here (are, nexts, below, (rowids, given), left) (n, e, is, le, within, after, fits, opened) =
+    let more : take (i + 1) rows ≡ take i rows ++ session_row n e ∷ [] = taken rows i row lt here ∙ ap (λ r. take i rows ++ r ∷ []) is in
+    let was : (k : ℕ) → IsSome (finite.get new.expected k) → IsSome (finite.get (finite.insert old.expected n e) k) =
+    λ k some. subst (λ (s : OpenSessions). IsSome (finite.get s.expected k)) opened some in (
+      more ∙ one_more_session (take i rows) old.expected least n e are below le ∙ sym (ap (λ (s : OpenSessions). session_rows s.expected) opened),
+      ap (λ (s : OpenSessions). s.next) opened ∙ nexts,
+      subst (λ k. AreBelow k (take (i + 1) rows)) (sym after) (subst (AreBelow (n + 1)) (sym more) (below_more (take i rows) least n e below le)),
+      (
+        λ k some. inserted (λ q. q < 2 ^ 63) old.expected n e rowids fits k (was k some),
+        λ k some. subst (λ x. k < x) (sym (ap (λ (s : OpenSessions). s.next) opened)) (inserted (λ q. q < old.next) old.expected n e given within k (was k some)),
+      ),
+      λ m all. subst (λ k. Left m.expected k (drop (i + 1) rows)) (sym after)
+          (next_left m.expected least n e row (drop (i + 1) rows) (subst (Left m.expected least) (split rows i row lt here) (left m all)) is),
+    )
+
+-- a row that is refused is not the next of a site's
+pub none_refused : (rows : List Row) (i : ℕ) (row : Row) (least : ℕ) (m : OpenSessions) → i < length rows → row ≡ get_or rows i row
+    → Left m.expected least (drop i rows) → AreKept m
+    → ((n : ℕ) (e : Expected) → row ≡ session_row n e → IsStoredSession e → AreLimits (Some e) → least ≤ n → n < m.next → ⊥) → ⊥
+none_refused rows i row least m lt here left kept refused =
+    go (first_left m.expected least row (drop (i + 1) rows) (subst (Left m.expected least) (split rows i row lt here) left))
+  where
+    go : (n : ℕ) × (e : Expected) × (row ≡ session_row n e) × (least ≤ n) × (finite.get m.expected n ≡ Some e) → ⊥
+    go (n, e, is, le, open_) = let (given, stored, limits) = kept n e open_ in refused n e is stored limits le given
+
+-- ---- credentials
+
+abbrev pub CredentialsRead : List Row → ℕ → List Credential → Type 0
+CredentialsRead rows i cs =
+    (take i rows ≡ credential_rows 1 cs)
+    × (length cs ≡ i)
+    × ((ds : List Credential) → AllByRecursion IsStored ds → rows ≡ credential_rows 1 ds → LeftRows (i + 1) (drop i rows))
+
+pub one_more_credential : (rows : List Row) (i : ℕ) (row : Row) (c : Credential) (cs : List Credential) → i < length rows → row ≡ get_or rows i row
+    → CredentialsRead rows i cs → row ≡ credential_row (i + 1) c → CredentialsRead rows (i + 1) (cs ++ c ∷ [])
+one_more_credential rows i row c cs lt here (are, long, left) is =
+    let place : i + 1 ≡ length cs + 1 = omega (arith, long) in (
+      taken rows i row lt here ∙ ap (λ rs. rs ++ row ∷ []) are ∙ ap (λ r. credential_rows 1 cs ++ r ∷ []) is ∙ sym (one_more_row cs c (i + 1) place),
+      longer cs ∙ ap (λ k. k + 1) long,
+      λ ds stored all. next_row (i + 1) row (drop (i + 1) rows) (subst (LeftRows (i + 1)) (split rows i row lt here) (left ds stored all)),
+    )
+  where
+    longer : (xs : List Credential) → length (xs ++ c ∷ []) ≡ length xs + 1
+    longer [] = omega arith
+    longer (x ∷ xs) = let inner = longer xs in omega (arith, inner)
+
+pub no_credential : (rows : List Row) (i : ℕ) (row : Row) → i < length rows → row ≡ get_or rows i row → LeftRows (i + 1) (drop i rows)
+    → ((d : Credential) → IsStored d → row ≡ credential_row (i + 1) d → ⊥) → ⊥
+no_credential rows i row lt here left refused =
+    go (first_row (i + 1) row (drop (i + 1) rows) (subst (LeftRows (i + 1)) (split rows i row lt here) left))
+  where
+    go : (d : Credential) × IsStored d × (row ≡ credential_row (i + 1) d) → ⊥
+    go (d, stored, is) = refused d stored is
+
+-- no session is read yet
+no_entries : (es : List (ℕ × Expected)) → length es ≡ 0 → es ≡ []
+no_entries [] e = refl
+no_entries (x ∷ es) e = absurd (omega (arith, e))
+
+none_open_rows : session_rows finite.empty ≡ []
+none_open_rows =
+    let long : length (finite.entries (finite.empty {X = Expected} {R = nat_cmp})) ≡ 0 = sym (len-entries finite.empty) ∙ len-empty nat_cmp Expected in
+    ap (map (λ (e : ℕ × Expected). session_row e.0 e.1)) (no_entries (finite.entries (finite.empty {X = Expected} {R = nat_cmp})) long)
+
+none_at : (P : ℕ → Type 0) (k : ℕ) → IsSome (finite.get (finite.empty {X = Expected} {R = nat_cmp}) k) → P k
+none_at P k some = let no = subst IsSome (get-empty nat_cmp k) some in absurd cc
+
+pub sessions_begun : (rows : List Row) (next : ℕ) → SessionsRead rows 0 next 0 (record { expected = finite.empty; next = next })
+sessions_begun rows next = (
+  sym none_open_rows,
+  refl,
+  tt,
+  (none_at (λ k. k < 2 ^ 63), none_at (λ k. k < next)),
+  λ m all. all_left m.expected rows all,
+)
+
+pub view_length : (rs : List StoredRow) → length (rows_view rs) ≡ length rs
+view_length [] = refl
+view_length (r ∷ rs) = let inner = view_length rs in omega (arith, inner)

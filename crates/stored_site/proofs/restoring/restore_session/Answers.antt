@@ -1,0 +1,14 @@
+-- What is owed of `restore_session`.
+use Rattle.std.proofs.Common.{◌≡◌, ap, subst, Err}
+use Rattle.std.proofs.lemmas.Result.{err_from_is_err_and}
+use Rattle.stored_site.specs.Opened.{IsNamed}
+use Rattle.stored_site.specs.Opening.{of_row}
+use Rattle.stored_site.proofs.Opening.{bad_row, exit}
+use Rattle.stored_site.proofs.restoring.restore_session.Goals as goal
+
+pub returns-in_err-number-clause-none : goal.returns-in_err-number-clause-none
+returns-in_err-number-clause-none c =
+    let p = err_from_is_err_and c.from_residual.result c.from_residual.ensures.1 in
+    let same : p.0 ≡ of_row c.in_err-number.field-0.0 = cc in
+    exit c.from_residual.result p.0 _ p.1 (λ named n e is stored limits le given.
+    c.in_err-number.ensures.none (ap Err (bad_row c.in_err-number.field-0.0 (subst IsNamed same named))) n e stored is)
