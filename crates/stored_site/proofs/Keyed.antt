@@ -1,5 +1,5 @@
 -- The rows of a site as it stands in memory.
-use Rattle.std.proofs.Common.{◌≡◌, ◌+◌, ◌≤◌, ◌<◌, ℕ, List, Some, length, IsTrue, refl, arith}
+use Rattle.std.proofs.Common.{◌≡◌, ◌≤◌, ◌<◌, ℕ, List, Some, length, IsTrue, refl, arith}
 use Rattle.std.specs.Prelude.{slice_get}
 use Rattle.sqlite_value.specs.Order.{Row}
 use Rattle.sqlite_trees.specs.Tree.{rowid}

@@ -1,15 +1,14 @@
 -- The rows of sessions that are still to be read are those of open sessions, in the order of their numbers.
-use Rattle.std.proofs.Common.{◌≡◌, ◌<◌, ◌≤◌, ◌+◌, ℕ, suc, pos, List, [], ◌∷◌, map, refl, sym, ap, subst, ◌∙◌, arith, Less, Equal, Greater, Ordering, T}
+use Rattle.std.proofs.Common.{◌≡◌, ◌<◌, ◌≤◌, ◌+◌, ℕ, List, [], ◌∷◌, map, refl, sym, ap, subst, ◌∙◌, arith, Less, Equal, Greater, Ordering, T}
 use Rattle.std.proofs.lemmas.Grind.{common_steps}
-use Rattle.std.specs.Prelude.{Bool, true, false, ◌&&◌, cond, Option, Some, IsTrue}
+use Rattle.std.specs.Prelude.{Bool, true, false, ◌&&◌, cond, Some}
 use Rattle.std.specs.FinMap as finite
 use Rattle.std.specs.FinMap.{find, is_sorted, get-entries, entries_sorted}
 use Rattle.std.specs.FinMap.Entries.{below_all}
 use Rattle.std.specs.List.{AllByRecursion}
-use Rattle.std.specs.Ordering.{nat_cmp, eq_by_cmp, is_lt, is_eq}
-use Rattle.sqlite_value.specs.Order.{Row, column}
-use Rattle.sqlite_value.specs.declared.value.Value.TheVariants.{Int}
-use Rattle.ceremony_sessions.specs.Sessions.{Expected, ForSignIn, ForRegistration, OpenSessions}
+use Rattle.std.specs.Ordering.{nat_cmp, eq_by_cmp, is_lt}
+use Rattle.sqlite_value.specs.Order.{Row}
+use Rattle.ceremony_sessions.specs.Sessions.{Expected}
 use Rattle.stored_site.specs.SessionRows.{session_row, session_rows}
 use Rattle.stored_site.proofs.OneSession.{same_number}
 

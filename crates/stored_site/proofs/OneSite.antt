@@ -1,6 +1,5 @@
 -- A store holds one site.
 use Rattle.std.proofs.Common.{◌≡◌, ◌+◌, ℕ, List, [], ◌∷◌, drop, get_or, refl, sym, ap, ◌∙◌}
-use Rattle.std.specs.FinMap as finite
 use Rattle.sqlite_value.specs.Order.{column, bytes}
 use Rattle.sqlite_trees.specs.Tree.{Trees}
 use Rattle.verification.specs.Records.{Credential}

@@ -1,6 +1,6 @@
 -- What an open reads of a store, and what it refuses.
-use Rattle.std.proofs.Common.{◌≡◌, ◌<◌, ◌≤◌, ◌+◌, ℕ, List, [], ◌∷◌, length, refl, sym, ap, subst, ◌∙◌, arith, Less, Equal, Greater, Ordering}
-use Rattle.std.specs.Prelude.{Result, Err, IfErr, Bool, true, false, cond, Option, Some, None, IsSome, IsTrue}
+use Rattle.std.proofs.Common.{◌≡◌, ◌≤◌, ℕ, length, refl, sym, ap, subst, ◌∙◌, arith, Less, Equal, Greater, Ordering}
+use Rattle.std.specs.Prelude.{Result, Err, IfErr, Bool, true, false, cond, Some, IsSome, IsTrue}
 use Rattle.std.specs.FinMap as finite
 use Rattle.std.specs.FinMap.{get-insert, nat_cmp-IsAntisymmetric}
 use Rattle.std.specs.Cmp.{nat_cmp_total}
@@ -15,7 +15,7 @@ use Rattle.site.specs.State.{SiteState}
 use Rattle.stored_site.specs.SessionRows.{session_row}
 use Rattle.stored_site.specs.Holds.{Holds, HasTables, IsCommitted}
 use Rattle.stored_site.specs.Opened.{HoldsNone, IsKept, IsLeft, IsNamed, NoSiteIn}
-use Rattle.stored_site.specs.Opening.{of_begin, of_row, of_table}
+use Rattle.stored_site.specs.Opening.{of_row, of_table}
 use Rattle.stored_site.specs.Private.{IsSameView}
 use Rattle.stored_site.specs.declared.failure.OpenFailure.{OpenFailure}
 use Rattle.stored_site.specs.declared.error.RowError.{RowError}

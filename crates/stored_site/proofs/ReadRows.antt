@@ -1,14 +1,12 @@
 -- What is read of a table is what a site has written.
-use Rattle.std.proofs.Common.{◌≡◌, ◌<◌, ◌≤◌, ◌+◌, ℕ, List, [], ◌∷◌, ◌++◌, length, map, drop, get_or, refl, sym, ap, ◌∙◌, arith, Less}
-use Rattle.std.proofs.lemmas.Grind.{common_steps}
-use Rattle.std.specs.Prelude.{slice_get, IsSome}
+use Rattle.std.proofs.Common.{◌≡◌, ◌<◌, ◌≤◌, ◌+◌, ℕ, List, [], ◌∷◌, ◌++◌, length, map, drop, get_or, refl, sym, ap, ◌∙◌, arith}
 use Rattle.std.specs.FinMap as finite
 use Rattle.std.specs.FinMap.{len-entries}
 use Rattle.std.specs.Ordering.{nat_cmp}
 use Rattle.sqlite_value.specs.Order.{Row}
 use Rattle.sqlite_trees.specs.Tree.{put_row}
 use Rattle.verification.specs.Records.{Credential}
-use Rattle.ceremony_sessions.specs.Sessions.{Expected, OpenSessions}
+use Rattle.ceremony_sessions.specs.Sessions.{Expected}
 use Rattle.std.specs.List.{AllByRecursion}
 use Rattle.stored_site.specs.Rows.{IsStored, credential_row, credential_rows}
 use Rattle.stored_site.specs.SessionRows.{session_row, session_rows}

@@ -56,7 +56,8 @@ one_more_read rows i row next least behind old new lt here (are, nexts, below, (
       subst (λ k. AreBelow k (take (i + 1) rows)) (sym after) (subst (AreBelow (n + 1)) (sym more) (below_more (take i rows) least n e below le)),
       (
         λ k some. inserted (λ q. q < 2 ^ 63) old.expected n e rowids fits k (was k some),
-        λ k some. subst (λ x. k < x) (sym (ap (λ (s : OpenSessions). s.next) opened)) (inserted (λ q. q < old.next) old.expected n e given within k (was k some)),
+        λ k some. subst (λ x. k < x) (sym (ap (λ (s : OpenSessions). s.next) opened))
+            (inserted (λ q. q < old.next) old.expected n e given within k (was k some)),
       ),
       λ m all. subst (λ k. Left m.expected k (drop (i + 1) rows)) (sym after)
           (next_left m.expected least n e row (drop (i + 1) rows) (subst (Left m.expected least) (split rows i row lt here) (left m all)) is),

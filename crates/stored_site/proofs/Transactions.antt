@@ -1,10 +1,8 @@
 -- What the transactions of a site make of what a store holds.
-use Rattle.std.proofs.Common.{◌≡◌, ◌⊎◌, ◌+◌, ◌<◌, length, ℕ, zero, suc, pos, List, [], ◌∷◌, ◌++◌}
-use Rattle.std.proofs.Common.{ℤ, Some, None, Bool, true, false, IsTrue, refl, sym, ap, ◌∙◌, subst, arith, inl, inr}
+use Rattle.std.proofs.Common.{◌≡◌, ◌+◌, ◌<◌, length, ℕ, zero, suc, pos, List, [], ◌∷◌, ◌++◌}
+use Rattle.std.proofs.Common.{ℤ, Some, None, Bool, true, false, IsTrue, refl, sym, ap, ◌∙◌, subst, arith}
 use Rattle.std.specs.Prelude.{slice_get, IsSome, ◌^◌, ◌==◌}
-use Rattle.std.proofs.lemmas.Bool.{cases_Bool}
 use Rattle.std.proofs.lemmas.Grind.{common_steps}
-use Rattle.std.specs.Str.{bytes_eq}
 use Rattle.std.specs.FinMap as finite
 use Rattle.std.specs.FinMap.{gets, get-remove, same_map, nat_cmp-IsAntisymmetric}
 use Rattle.std.specs.Ordering.{nat_cmp, eq_by_cmp}
@@ -17,7 +15,7 @@ use Rattle.sqlite_trees.specs.View.{View}
 use Rattle.authdata.specs.declared.profile.Profile.{Profile}
 use Rattle.verification.specs.Records.{Credential}
 use Rattle.credential_table.specs.Table.{AreRows, row_of, with_row}
-use Rattle.credential_table.proofs.RowLemmas.{found_id, length-changed, same_id, set_at}
+use Rattle.credential_table.proofs.RowLemmas.{found_id, length-changed, set_at}
 use Rattle.ceremony_sessions.specs.Sessions.{Expected, OpenSessions, Opening, begun, closed, expected_of}
 use Rattle.site.specs.State.{SiteState}
 use Rattle.stored_site.specs.Rows.{credential_row, credential_rows}

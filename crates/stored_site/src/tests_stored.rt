@@ -1,5 +1,8 @@
 //! A site over a store in memory, with ample memory.
 
+ghost use Rattle.std.specs.Prelude.{◌≡◌, [], IfSome};
+ghost use Rattle.std.specs.FinMap as finite;
+
 use crate::{CreateFailure, OpenFailure, StoredSite, session_row};
 use cose::Alg;
 use site::{Policy, Session, Site};
@@ -37,8 +40,10 @@ fn new_store(alloc: Global) -> Option<MemStore> {
     .ok()
 }
 
-/// A relying party's site.
-fn party(alloc: Global) -> Option<Site> {
+/// A relying party's site, without credentials and sessions.
+fn party(alloc: Global) -> Option<Site>
+    ensures { IfSome result (λ s. (s.rows ≡ []) × (s.sessions.expected ≡ finite.empty)) }
+{
     Site::new(alloc, "example.org", &["https://example.org"], POLICY).ok()
 }
 
@@ -84,22 +89,64 @@ fn is_registration(session: Option<&Session>, user: &[u8], algorithms: &[Alg]) -
     }
 }
 
-/// Whether a site that is opened again has the sessions that began, and goes on with the next number.
-fn opens_again(alloc: Global) -> Option<bool> {
-    let mut site = new_site(alloc)?;
-    let algorithms = [Alg::EdDsa, Alg::Rs256, Alg::Es256];
-    site.begin_registration(&[9], &algorithms, false, [8; 24])
+/// The algorithms of a registration.
+const ALGORITHMS: [Alg; 3] = [Alg::EdDsa, Alg::Rs256, Alg::Es256];
+
+/// Begins a registration and a sign-in.
+fn begins_both(site: &mut StoredSite<MemStore>) -> Option<u64> {
+    site.begin_registration(&[9], &ALGORITHMS, false, [8; 24])
         .ok()?;
-    site.begin_sign_in(Some(&[1]), &[&[5, 6]], true, [7; 24])
+    let started = site
+        .begin_sign_in(Some(&[1]), &[&[5, 6]], true, [7; 24])
         .ok()?;
-    let mut site = StoredSite::open(alloc, party(alloc)?, site.close()).ok()?;
-    let are_open = is_registration(site.site().session(1), &[9], &algorithms)
-        && is_sign_in(site.site().session(2), &[1], &[5, 6], true);
+    Some(started.session)
+}
+
+/// Whether these two are open.
+fn are_open(site: &Site) -> bool {
+    is_registration(site.session(1), &[9], &ALGORITHMS)
+        && is_sign_in(site.session(2), &[1], &[5, 6], true)
+}
+
+/// Whether the next session has number 3, and the second one ends.
+fn goes_on(site: &mut StoredSite<MemStore>) -> Option<bool> {
     let started = site.begin_sign_in(None, &[], false, [6; 24]).ok()?;
     let ends = site.abandon(2).ok()?;
-    let site = StoredSite::open(alloc, party(alloc)?, site.close()).ok()?;
-    let is_gone = site.site().session(2).is_none() && site.site().session(3).is_some();
-    Some(are_open && started.session == 3 && ends && is_gone)
+    Some(started.session == 3 && ends)
+}
+
+/// The site that a store holds.
+fn opened(alloc: Global, store: MemStore) -> Option<StoredSite<MemStore>> {
+    StoredSite::open(alloc, party(alloc)?, store).ok()
+}
+
+/// The store of a site with two open sessions.
+fn store_of_two(alloc: Global) -> Option<MemStore> {
+    let mut site = new_site(alloc)?;
+    let last = begins_both(&mut site);
+    let store = site.close();
+    last?;
+    Some(store)
+}
+
+/// The store of a site that was opened with two sessions and went on; nothing where it did neither.
+fn store_after(alloc: Global) -> Option<MemStore> {
+    let mut site = opened(alloc, store_of_two(alloc)?)?;
+    let are_open = are_open(site.site());
+    let goes_on = goes_on(&mut site);
+    let store = site.close();
+    if are_open && goes_on == Some(true) {
+        Some(store)
+    } else {
+        None
+    }
+}
+
+/// Whether a site that is opened again has the sessions that began, and goes on with the next number.
+fn opens_again(alloc: Global) -> Option<bool> {
+    let site = opened(alloc, store_after(alloc)?)?;
+    let site = site.site();
+    Some(site.session(1).is_some() && site.session(2).is_none() && site.session(3).is_some())
 }
 
 /// Whether a store that holds a site is refused as new, and to another relying party, and is left as it was.

@@ -1,5 +1,5 @@
 -- What is owed of `store_session`.
-use Rattle.std.proofs.Common.{◌≡◌, inl, inr, subst, sym}
+use Rattle.std.proofs.Common.{inl, inr, subst, sym}
 use Rattle.stored_site.specs.Holds.{Holds}
 use Rattle.stored_site.proofs.Transactions.{committed_by, held, opened_by}
 use Rattle.stored_site.proofs.begin.store_session.Goals as goal

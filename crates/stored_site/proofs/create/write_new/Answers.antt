@@ -1,5 +1,5 @@
 -- What is owed of `write_new`.
-use Rattle.std.proofs.Common.{◌≡◌, inl, inr, rules, subst, sym}
+use Rattle.std.proofs.Common.{inl, inr, rules, subst, sym}
 use Rattle.stored_site.specs.Holds.{HasNoRow, HasTables, Holds}
 use Rattle.stored_site.proofs.New.{committed_new, holds_new, same_rows}
 use Rattle.stored_site.proofs.create.write_new.Goals as goal

@@ -1,5 +1,5 @@
 -- What is owed of `store_acceptance`.
-use Rattle.std.proofs.Common.{◌≡◌, inl, inr, rules, subst, sym}
+use Rattle.std.proofs.Common.{inl, inr, rules, subst, sym}
 use Rattle.stored_site.specs.Holds.{Holds}
 use Rattle.stored_site.proofs.Transactions.{committed_by, held, accepted}
 use Rattle.stored_site.proofs.finish.store_acceptance.Goals as goal

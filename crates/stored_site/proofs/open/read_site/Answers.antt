@@ -22,9 +22,10 @@ returns-in_err-restore_rows-clause-refused g c =
     exit c.from_residual-in_err-restore_rows.result p.0 _ p.1 (λ named clean.
     let told = subst IsNamed same named in
     let kept = c.in_ok-rows.ensures.same in
-    let left = c.in_ok-settle.ensures.left (kept.clean clean) in
-    (none_left c.args.site.now.rp _ _ _ left kept clean (c.in_err-restore_rows.ensures.none told _ (c.in_ok-rows.ensures.read clean)),
-      left_same _ _ _ left kept clean))
+    let left = c.in_ok-settle.ensures.left (kept.clean clean) in (
+      none_left c.args.site.now.rp _ _ _ left kept clean (c.in_err-restore_rows.ensures.none told _ (c.in_ok-rows.ensures.read clean)),
+      left_same _ _ _ left kept clean,
+    ))
 
 pub returns-clause-opened : goal.returns-clause-opened
 returns-clause-opened g c clean =

@@ -1,5 +1,5 @@
 -- What is owed of `read_tables`.
-use Rattle.std.proofs.Common.{◌≡◌, ◌≤◌, length, subst, sym, ap}
+use Rattle.std.proofs.Common.{◌≡◌, ◌≤◌, length, subst, ap}
 use Rattle.std.proofs.lemmas.Result.{err_from_is_err_and}
 use Rattle.sqlite_trees.specs.View.{View}
 use Rattle.stored_site.specs.Opened.{IsNamed}

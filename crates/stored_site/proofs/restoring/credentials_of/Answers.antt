@@ -1,5 +1,5 @@
 -- What is owed of `credentials_of`.
-use Rattle.std.proofs.Common.{◌≡◌, ◌≤◌, ◌+◌, [], ◌∷◌, ◌++◌, ◌∙◌, ap, arith, length, subst, sym, Err}
+use Rattle.std.proofs.Common.{◌≡◌, ◌+◌, [], ◌∷◌, ◌++◌, ◌∙◌, ap, arith, length, subst, sym, Err}
 use Rattle.std.proofs.lemmas.List.{map-append}
 use Rattle.std.proofs.lemmas.Result.{err_from_is_err_and}
 use Rattle.credential_table.specs.Views.{row_view, rows_view}
@@ -38,4 +38,5 @@ returns-in_err-credential-clause-none c =
     exit c.from_residual.result p.0 _ p.1 (λ named profile cs table stored all.
     no_credential c.args.rows.now c.loop-row.row-index c.row-item.result c.loop-row-test.true c.row-item.is
     (c.loop-row.invariant.1.2 cs stored all) (λ d kept is.
-    c.in_err-credential.ensures.none (ap Err (bad_row c.in_err-credential.field-0.0 (subst IsNamed same named))) d kept (is ∙ ap (λ k. credential_row k d) (sym place))))
+    c.in_err-credential.ensures.none (ap Err (bad_row c.in_err-credential.field-0.0 (subst IsNamed same named))) d kept
+    (is ∙ ap (λ k. credential_row k d) (sym place))))

@@ -1,7 +1,5 @@
 -- What is owed of `next_of`.
-use Rattle.std.proofs.Common.{◌≡◌, ◌∙◌, ap, arith, pos, sym}
-use Rattle.std.proofs.lemmas.Int.{ints}
-use Rattle.std.specs.Prelude.{Some}
+use Rattle.std.proofs.Common.{◌∙◌, ap}
 use Rattle.sqlite_value.specs.Order.{column}
 use Rattle.stored_site.specs.Private.{int_in}
 use Rattle.stored_site.proofs.restoring.next_of.Goals as goal

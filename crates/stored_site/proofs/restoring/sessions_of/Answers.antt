@@ -1,5 +1,5 @@
 -- What is owed of `sessions_of`.
-use Rattle.std.proofs.Common.{◌≡◌, ◌<◌, ◌∙◌, ap, subst, sym}
+use Rattle.std.proofs.Common.{◌≡◌, ◌<◌, ◌∙◌, subst, sym}
 use Rattle.std.proofs.lemmas.Result.{err_from_is_err_and}
 use Rattle.stored_site.specs.Opened.{IsNamed}
 use Rattle.stored_site.proofs.Opening.{exit}

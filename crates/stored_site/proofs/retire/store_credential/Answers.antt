@@ -1,5 +1,5 @@
 -- What is owed of `store_credential`.
-use Rattle.std.proofs.Common.{◌≡◌, inl, inr, subst, sym}
+use Rattle.std.proofs.Common.{inl, inr, subst, sym}
 use Rattle.stored_site.specs.Holds.{Holds}
 use Rattle.stored_site.proofs.Transactions.{committed_by, held, changed_only}
 use Rattle.stored_site.proofs.retire.store_credential.Goals as goal

@@ -1,5 +1,5 @@
 -- What is owed of `begin_scan`.
-use Rattle.std.proofs.Common.{◌≡◌, ◌∙◌, ap, Some}
+use Rattle.std.proofs.Common.{◌∙◌, ap, Some}
 use Rattle.sqlite_trees.specs.Tree.{from_key, order_of}
 use Rattle.stored_site.proofs.Scans.{from_none}
 use Rattle.stored_site.proofs.scan.begin_scan.Goals as goal

@@ -1,6 +1,5 @@
 -- What is owed of `StoredSite::abandon`.
 use Rattle.std.proofs.Common.{◌≡◌, None, inl, inr, refl, rules, subst, sym}
-use Rattle.sqlite_trees.specs.Tree.{Trees}
 use Rattle.stored_site.specs.Holds.{AreRowids, Holds, IsCommitted}
 use Rattle.std.specs.FinMap as finite
 use Rattle.stored_site.proofs.Calls.{unclosed}

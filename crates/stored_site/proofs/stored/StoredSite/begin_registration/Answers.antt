@@ -1,10 +1,7 @@
 -- What is owed of `StoredSite::begin_registration`.
-use Rattle.std.proofs.Common.{◌≡◌, ◌+◌, ◌<◌, ◌^◌, inl, inr, refl, rules, subst, sym, arith, map, ℕ}
-use Rattle.std.specs.Prelude.{option_map, IsSome}
-use Rattle.std.specs.FinMap as finite
+use Rattle.std.proofs.Common.{◌≡◌, ◌+◌, ◌<◌, ◌^◌, inl, inr, refl, rules, subst}
 use Rattle.std.proofs.lemmas.Result.{err_from_is_err_and}
 use Rattle.ceremony_sessions.specs.Sessions.{IsRefused, Opening, OpensRegistration}
-use Rattle.stored_site.specs.Holds.{AreRowids}
 use Rattle.stored_site.specs.Private.{Opens}
 use Rattle.stored_site.proofs.Calls.{opens_there, rowids_after, same_stored}
 use Rattle.stored_site.proofs.stored.StoredSite.begin_registration.Goals as goal

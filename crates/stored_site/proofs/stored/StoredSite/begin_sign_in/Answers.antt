@@ -1,10 +1,8 @@
 -- What is owed of `StoredSite::begin_sign_in`.
-use Rattle.std.proofs.Common.{◌≡◌, ◌+◌, ◌<◌, ◌^◌, inl, inr, refl, rules, subst, sym, arith, map, ℕ}
-use Rattle.std.specs.Prelude.{option_map, IsSome}
-use Rattle.std.specs.FinMap as finite
+use Rattle.std.proofs.Common.{◌≡◌, ◌+◌, ◌<◌, ◌^◌, inl, inr, refl, rules, subst, map}
+use Rattle.std.specs.Prelude.{option_map}
 use Rattle.std.proofs.lemmas.Result.{err_from_is_err_and}
 use Rattle.ceremony_sessions.specs.Sessions.{IsRefused, Opening, OpensSignIn}
-use Rattle.stored_site.specs.Holds.{AreRowids}
 use Rattle.stored_site.specs.Private.{Opens}
 use Rattle.stored_site.proofs.Calls.{opens_there, rowids_after, same_stored}
 use Rattle.stored_site.proofs.stored.StoredSite.begin_sign_in.Goals as goal

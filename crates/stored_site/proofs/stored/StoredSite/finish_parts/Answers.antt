@@ -1,5 +1,5 @@
 -- What is owed of `StoredSite::finish_parts`.
-use Rattle.std.proofs.Common.{◌≡◌, inl, inr, refl, rules, subst, sym}
+use Rattle.std.proofs.Common.{◌≡◌, inl, inr, refl, subst}
 use Rattle.std.proofs.lemmas.Result.{err_from_is_err_and}
 use Rattle.verification.specs.SignInAnswers.{IsRefused}
 use Rattle.site.specs.State.{judged_sign_in}
