@@ -1,7 +1,10 @@
 /* A registration and a sign-in by passkey.h, with OpenSSL's signatures. The browser and its authenticator are played
  * here too, so that the example runs by itself: see device_..; all else is what a site does.
  *
- *   gcc -std=c11 example.c libpasskey.a -lcrypto -o example && ./example */
+ *   gcc -std=c11 example.c libpasskey.a -lcrypto -o example && ./example
+ *
+ * with passkey.h and libpasskey.a in the same folder. docs/HOSTS.md says how to get the library, with the Rattle kit or
+ * without it. */
 #include "passkey.h"
 
 #include <openssl/bn.h>
