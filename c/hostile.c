@@ -102,6 +102,14 @@ static void asks(const passkey_signature_call *call, size_t size, size_t message
     drop(message), drop(signature);
 }
 
+/* bytes of their own, all the same */
+static passkey_bytes filled(int byte, size_t size)
+{
+    passkey_bytes lent = random_bytes(size);
+    memset((uint8_t *)lent.data, byte, size);
+    return lent;
+}
+
 static void nothing_at_all(void)
 {
     passkey_assertion_call sign_in;
@@ -193,6 +201,99 @@ static void limits(void)
     }
 }
 
+/* the key that the host verified with, and the numbers of RSA, of a sign-in and of a registration */
+static void verified_keys(void)
+{
+    passkey_bytes x = random_bytes(32), short_x = random_bytes(31), n = filled(0xc1, 256), even = filled(0xc2, 256);
+    passkey_bytes e = filled(3, 1), one = filled(1, 1), none = { NULL, 0 }, five = filled(3, 5);
+    const struct {
+        passkey_key key;
+        uint32_t stored, verified;
+    } keys[] = {
+        { { -6, x, x }, PASSKEY_LIMIT_KEY_ALGORITHM, PASSKEY_LIMIT_VERIFIED_ALGORITHM },
+        { { PASSKEY_ES256, short_x, x }, PASSKEY_LIMIT_KEY_X, PASSKEY_LIMIT_VERIFIED_X },
+        { { PASSKEY_ES256, x, short_x }, PASSKEY_LIMIT_KEY_Y, PASSKEY_LIMIT_VERIFIED_Y },
+        { { PASSKEY_EDDSA, short_x, none }, PASSKEY_LIMIT_KEY_X, PASSKEY_LIMIT_VERIFIED_X },
+        { { PASSKEY_RS256, even, e }, PASSKEY_LIMIT_KEY_X, PASSKEY_LIMIT_VERIFIED_X },
+        { { PASSKEY_RS256, n, one }, PASSKEY_LIMIT_KEY_Y, PASSKEY_LIMIT_VERIFIED_Y },
+        { { PASSKEY_RS256, n, none }, PASSKEY_LIMIT_KEY_Y, PASSKEY_LIMIT_VERIFIED_Y },
+        { { PASSKEY_RS256, n, five }, PASSKEY_LIMIT_KEY_Y, PASSKEY_LIMIT_VERIFIED_Y },
+        { { PASSKEY_RS256, n, e }, PASSKEY_SESSION_NOT_OPEN, PASSKEY_SESSION_NOT_OPEN },
+        { { PASSKEY_EDDSA, x, none }, PASSKEY_SESSION_NOT_OPEN, PASSKEY_SESSION_NOT_OPEN },
+    };
+    for (size_t i = 0; i < sizeof keys / sizeof *keys; i++) {
+        passkey_assertion_call call;
+        memset(&call, 0, sizeof call);
+        call.has_credential = true;
+        call.credential.key = keys[i].key;
+        MUST(assertion(&call) == keys[i].stored);
+        call.has_credential = false;
+        call.has_verified = true;
+        call.verified.key = keys[i].key;
+        MUST(assertion(&call) == keys[i].verified);
+        passkey_registration_call enrol;
+        memset(&enrol, 0, sizeof enrol);
+        enrol.has_verified = true;
+        enrol.verified.key = keys[i].key;
+        MUST(registration(&enrol) == keys[i].verified);
+        enrol.party.rp_id = filled(0xff, 1);
+        MUST(registration(&enrol) == PASSKEY_LIMIT_RP_ID);
+        const passkey_bytes bad_text = enrol.party.rp_id;
+        enrol.party.rp_id = none;
+        enrol.party.origins = &bad_text;
+        enrol.party.origin_count = 1;
+        MUST(registration(&enrol) == PASSKEY_LIMIT_ORIGIN);
+        drop(bad_text);
+    }
+    drop(x), drop(short_x), drop(n), drop(even), drop(e), drop(one), drop(five);
+}
+
+/* each part of a sign-in in megabytes, and long lists: judged as small ones are, to the last step before the signature */
+static void large(void)
+{
+    enum { SIZE = 1 << 22, COUNT = 20000 };
+    static const uint8_t challenge[32], rp_id_hash[32] = {
+        0xba, 0x78, 0x16, 0xbf, 0x8f, 0x01, 0xcf, 0xea, 0x41, 0x41, 0x40, 0xde, 0x5d, 0xae, 0x22, 0x23,
+        0xb0, 0x03, 0x61, 0xa3, 0x96, 0x17, 0x7a, 0x9c, 0xb4, 0x10, 0xff, 0x61, 0xf2, 0x00, 0x15, 0xad,
+    }; /* of "abc" */
+    char front[128];
+    int size = sprintf(front, "{\"type\":\"webauthn.get\",\"challenge\":\"%.43s\",\"origin\":\"",
+                       "AAAAAAAAAAAAAAAAAAAAAAAAAAAAAAAAAAAAAAAAAAA");
+    passkey_bytes origin = filled('a', SIZE), id = filled(7, SIZE), client_data = filled('a', (size_t)size + SIZE + 2);
+    memcpy((uint8_t *)client_data.data, front, (size_t)size);
+    memcpy((uint8_t *)client_data.data + size + SIZE, "\"}", 2);
+    uint8_t auth_data[37] = { 0 };
+    memcpy(auth_data, rp_id_hash, 32);
+    auth_data[32] = 1;
+    passkey_bytes *list = malloc(COUNT * sizeof *list), good = copy(auth_data, 37), key = random_bytes(32);
+    MUST(list != NULL);
+    for (size_t i = 0; i < COUNT; i++)
+        list[i] = key;
+    list[COUNT - 1] = origin;
+    passkey_assertion_call call;
+    memset(&call, 0, sizeof call);
+    call.party = (passkey_party){ copy("abc", 3), list, COUNT, false };
+    call.has_session = call.has_credential = true;
+    call.session.challenge = copy(challenge, 32);
+    call.credential = (passkey_credential){ .id = id, .user = id, .key = { PASSKEY_EDDSA, key, { NULL, 0 } } };
+    call.response = (passkey_assertion_response){ id, true, id, origin, id, client_data };
+    MUST(assertion(&call) == PASSKEY_LIMIT_ORIGIN); /* the key's bytes are no text */
+    for (size_t i = 0; i < COUNT - 1; i++)
+        list[i] = call.party.rp_id;
+    MUST(assertion(&call) == PASSKEY_BAD_AUTHENTICATOR_DATA);
+    call.response.auth_data = good;
+    MUST(assertion(&call) == PASSKEY_BAD_SIGNATURE);
+    call.session.allow = list;
+    call.session.allow_count = COUNT;
+    MUST(assertion(&call) == PASSKEY_CREDENTIAL_NOT_ALLOWED);
+    list[COUNT - 1] = id;
+    MUST(assertion(&call) == PASSKEY_WRONG_ORIGIN); /* the list is that of the origins too */
+    MUST(!passkey_is_canonical(origin.data, origin.size));
+    drop(call.party.rp_id), drop(call.session.challenge), drop(origin), drop(id), drop(client_data), drop(good), drop(key);
+    free(list);
+    calls++;
+}
+
 /* an attestation object that asks for a signature, with rooms of each size */
 static void rooms(void)
 {
@@ -269,6 +370,8 @@ int main(void)
     nothing_at_all();
     flags_clear();
     limits();
+    verified_keys();
+    large();
     rooms();
     random_responses(2000);
     printf("hostile: %u calls\n", calls);

@@ -1,8 +1,9 @@
 """A host of `softkey`: the cable, the user, and where signatures are made (by `cryptography`)."""
 import os
+import statistics
 import subprocess
 import time
-from collections import Counter, deque
+from collections import defaultdict, deque
 
 from cryptography.hazmat.primitives import hashes, serialization
 from cryptography.hazmat.primitives.asymmetric import ec, ed25519
@@ -35,6 +36,11 @@ def signature(alg, secret, message):
     return eddsa_key(secret).sign(message)
 
 
+def times(each):
+    """The median and the least of times in seconds."""
+    return f"{statistics.median(each) * 1e6:.0f} µs, at least {min(each) * 1e6:.0f} µs"
+
+
 class Softkey:
     """The process of a security key, and its user.
 
@@ -46,8 +52,8 @@ class Softkey:
         self.process = None
         self.consent = (True, True)
         self.packets = deque()
-        self.lines = Counter()
-        self.seconds = Counter()
+        # of each line's name, how long each took
+        self.seconds = defaultdict(list)
         self.signings = 0
         # the last lines that it told, beside packets
         self.told = deque(maxlen=100)
@@ -63,9 +69,7 @@ class Softkey:
         """Sends a line and reads its answer, up to the line of a dot."""
         begun = time.perf_counter()
         answer = self.answer(text)
-        name = text.split(" ", 1)[0]
-        self.lines[name] += 1
-        self.seconds[name] += time.perf_counter() - begun
+        self.seconds[text.split(" ", 1)[0]].append(time.perf_counter() - begun)
         for words in answer:
             if words[0] == "out":
                 self.packets.append(bytes.fromhex(words[1]))
@@ -126,6 +130,6 @@ class Softkey:
         return self.process.wait()
 
     def figures(self, client, configuration):
-        """Lines of a table: each line's number and time."""
-        for name, count in sorted(self.lines.items()):
-            print(f"{client} | {configuration} | line {name} | {count} | {self.seconds[name] / count * 1e6:.1f} µs")
+        """Lines of a table: each line's number and times."""
+        for name, each in sorted(self.seconds.items()):
+            print(f"{client} | {configuration} | line {name} | {len(each)} | {times(each)}")

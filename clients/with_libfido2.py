@@ -4,9 +4,9 @@ import hashlib
 import os
 import sys
 import time
-from collections import Counter
+from collections import Counter, defaultdict
 
-from softkey_host import EDDSA, ES256, Softkey
+from softkey_host import EDDSA, ES256, Softkey, times
 
 fido = ctypes.CDLL("libfido2.so.1")
 OMIT, FALSE, TRUE = 0, 1, 2
@@ -29,6 +29,7 @@ for name in POINTERS.split():
 for name in ("fido_cred_id_len", "fido_cred_pubkey_len", "fido_assert_id_len", "fido_assert_count"):
     getattr(fido, name).restype = ctypes.c_size_t
 fido.fido_cred_fmt.restype = ctypes.c_char_p
+fido.fido_dev_has_uv.restype = ctypes.c_bool
 fido.fido_assert_sigcount.restype = ctypes.c_uint32
 
 
@@ -50,8 +51,10 @@ class Client:
 
     def __init__(self, program, words):
         self.key = Softkey(program, *words)
+        self.uv = "no-uv" not in words
+        self.format = b"packed" if "self-attestation" in words else b"none"
         self.done = Counter()
-        self.seconds = Counter()
+        self.seconds = defaultdict(list)
         self.cancels = False
         self.functions = Functions(OPEN(lambda path: 1), CLOSE(lambda handle: None), READ(self.read), WRITE(self.write))
         fido.fido_init(0)
@@ -62,6 +65,7 @@ class Client:
         self.device = pointer(fido.fido_dev_new())
         ok(fido.fido_dev_set_io_functions(self.device, ctypes.byref(self.functions)), "io functions")
         ok(fido.fido_dev_open(self.device, b"softkey"), "open")
+        assert fido.fido_dev_has_uv(self.device) == self.uv
 
     def close(self):
         """Closes the device."""
@@ -71,7 +75,7 @@ class Client:
     def counted(self, what, begun):
         """A ceremony is done, which began then."""
         self.done[what] += 1
-        self.seconds[what] += time.perf_counter() - begun
+        self.seconds[what].append(time.perf_counter() - begun)
 
     def read(self, handle, buffer, size, milliseconds):
         """Gives the next packet; where the user does not decide, a keepalive, and a cancel where one is asked for."""
@@ -112,7 +116,8 @@ class Client:
         status = fido.fido_dev_make_cred(self.device, one, None)
         made = None
         if status == 0:
-            if fido.fido_cred_fmt(one) == b"packed":
+            assert fido.fido_cred_fmt(one) == self.format
+            if self.format == b"packed":
                 ok(fido.fido_cred_verify_self(one), "attestation")
                 self.done["attestation verified"] += 1
             id = ctypes.string_at(fido.fido_cred_id_ptr(one), fido.fido_cred_id_len(one))
@@ -156,10 +161,10 @@ class Client:
         self.done[what] += 1
 
 
-def acts(client, uv):
+def acts(client):
     key = client.key
     made, residents = [], []
-    verifications = (None, False, True) if uv else (None, False)
+    verifications = (None, False, True) if client.uv else (None, False)
     for alg in (ES256, EDDSA):
         for resident in (False, True):
             for verification in verifications:
@@ -240,19 +245,20 @@ def main():
     words = [word for word in sys.argv[2:] if not word.startswith("many=")]
     count = next((int(word[5:]) for word in sys.argv[2:] if word.startswith("many=")), 1000)
     client = Client(sys.argv[1], words)
-    acts(client, "no-uv" not in words)
+    acts(client)
     full(client)
+    before, _ = client.key.memory()
     one = many(client, count)
     client.close()
     now, most = client.key.memory()
     assert client.key.close() == 0
     configuration = " ".join(words) or "uv"
     for what, count in sorted(client.done.items()):
-        each = f" | {client.seconds[what] / count * 1000:.2f} ms" if what in client.seconds else ""
+        each = f" | {times(client.seconds[what])}" if what in client.seconds else ""
         print(f"libfido2 | {configuration} | {what} | {count}{each}")
     client.key.figures("libfido2", configuration)
     print(f"libfido2 | {configuration} | a sign-in in a row | {one * 1000:.2f} ms")
-    print(f"libfido2 | {configuration} | memory of the process, and the most | {now} kB | {most} kB")
+    print(f"libfido2 | {configuration} | memory of the process before these, behind them, and the most | {before} kB | {now} kB | {most} kB")
 
 
 main()

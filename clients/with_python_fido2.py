@@ -4,7 +4,7 @@ import os
 import sys
 import threading
 import time
-from collections import Counter
+from collections import Counter, defaultdict
 
 from cryptography.exceptions import InvalidSignature
 from fido2.cose import CoseKey
@@ -13,7 +13,8 @@ from fido2.ctap2 import CTAP2
 from fido2.hid import CTAPHID, CtapHidDevice
 from fido2.hid.base import HidDescriptor
 
-from softkey_host import EDDSA, ES256, Softkey
+from softkey_host import EDDSA, ES256, Softkey, times
+from webauthn_acts import webauthn_acts
 
 RP = {"id": "login.example", "name": "Example"}
 
@@ -43,9 +44,11 @@ class Client:
     def __init__(self, program, words):
         self.key = Softkey(program, *words)
         self.done = Counter()
-        self.seconds = Counter()
+        self.seconds = defaultdict(list)
         self.open()
-        self.uv = self.ctap.info.options["uv"]
+        self.uv = "no-uv" not in words
+        self.format = "packed" if "self-attestation" in words else "none"
+        assert self.ctap.info.options["uv"] == self.uv
 
     def open(self):
         """Opens a channel of the device."""
@@ -55,7 +58,7 @@ class Client:
     def counted(self, what, begun):
         """A ceremony is done, which began then."""
         self.done[what] += 1
-        self.seconds[what] += time.perf_counter() - begun
+        self.seconds[what].append(time.perf_counter() - begun)
 
     def hash(self):
         return hashlib.sha256(os.urandom(16)).digest()
@@ -72,6 +75,7 @@ class Client:
         data = made.auth_data.credential_data
         assert data.public_key[3] == alg and made.auth_data.counter == 0
         assert made.auth_data.is_user_present() and made.auth_data.is_user_verified() == bool(uv)
+        assert made.fmt == self.format
         if made.fmt == "packed":
             data.public_key.verify(bytes(made.auth_data) + client_data_hash, made.att_statement["sig"])
             self.done["attestation verified"] += 1
@@ -135,6 +139,7 @@ def acts(client):
     assert ["cancelled"] in key.told
     key.consent = (True, True)
     timed_out(client)
+    webauthn_acts(client)
     interrupted(client, made[0])
     restarted(client, made, residents)
 
@@ -214,6 +219,7 @@ def main():
     try:
         acts(client)
         full(client)
+        before, _ = client.key.memory()
         one = many(client, count)
     except InvalidSignature:
         sys.exit("a signature is not valid")
@@ -221,11 +227,11 @@ def main():
     assert client.key.close() == 0
     configuration = " ".join(words) or "uv"
     for what, count in sorted(client.done.items()):
-        each = f" | {client.seconds[what] / count * 1000:.2f} ms" if what in client.seconds else ""
+        each = f" | {times(client.seconds[what])}" if what in client.seconds else ""
         print(f"python-fido2 | {configuration} | {what} | {count}{each}")
     client.key.figures("python-fido2", configuration)
     print(f"python-fido2 | {configuration} | a sign-in in a row | {one * 1000:.2f} ms")
-    print(f"python-fido2 | {configuration} | memory of the process, and the most | {now} kB | {most} kB")
+    print(f"python-fido2 | {configuration} | memory of the process before these, behind them, and the most | {before} kB | {now} kB | {most} kB")
 
 
 main()

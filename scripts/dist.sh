@@ -14,12 +14,22 @@ tools() {
     echo "tools linker $(tool ld.lld --version)"
 }
 
-# Writes the program that was built here into a folder, stripped, and prints its lines of dist/MANIFEST:
-# made_into FOLDER SOURCES.
+# Writes the program of a crate that was built here into a folder, stripped, and prints its lines of dist/MANIFEST:
+# made_into FOLDER NAME CRATE SOURCES.
 made_into() {
-    cp "$built" "$1/passkey" && tool llvm-strip --strip-all "$1/passkey" || return 1
-    echo "passkey sha256 $(digest "$1/passkey")"
-    echo "passkey size $(stat -c %s "$1/passkey")"
-    echo "passkey sources $2"
-    echo "passkey glibc $(tool llvm-readelf --version-info "$1/passkey" | grep -o 'GLIBC_[0-9.]*' | sed 's/GLIBC_//' | sort -Vu | tail -n 1)"
+    cp "$(built_of "$3")" "$1/$2" && tool llvm-strip --strip-all "$1/$2" || return 1
+    echo "$2 sha256 $(digest "$1/$2")"
+    echo "$2 size $(stat -c %s "$1/$2")"
+    echo "$2 sources $4"
+    echo "$2 glibc $(tool llvm-readelf --version-info "$1/$2" | grep -o 'GLIBC_[0-9.]*' | sed 's/GLIBC_//' | sort -Vu | tail -n 1)"
+}
+
+# Writes each program into a folder, and prints MANIFEST: all_made_into FOLDER.
+all_made_into() {
+    local name crate
+    tools
+    for program in "${programs[@]}"; do
+        read -r name crate <<< "$program"
+        made_into "$1" "$name" "$crate" "$(sources_of "$crate")" || return 1
+    done
 }

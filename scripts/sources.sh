@@ -1,6 +1,9 @@
 # What a program of this tree is built from, and what is known of one. Sourced by ./passkey, ./test and ./release;
 # $top is the tree.
 
+# The programs that are handed out: the name in dist/, and the crate.
+programs=("passkey passkey_app" "passkey-site site_program")
+
 # The lines of crates.txt of a crate and of those that it stands on, lowest first: crates_of NAME.
 crates_of() {
     awk -F: -v last="$1" '
@@ -41,14 +44,17 @@ read_manifest() {
     while read -r name what value; do manifest[$name.$what]=$value; done < "$top/dist/MANIFEST"
 }
 
-# The program as it is built here, and the stamp beside it: 'SOURCES PROGRAM BY', the digests of its sources and of
-# itself, and what proved it: 'gate' (./test) or 'build' (./passkey --build).
-built="$top/crates/passkey_app/out/passkey_app"
-stamp="$top/crates/passkey_app/out/sources"
+# The program of a crate as it is built here, and the stamp beside it: 'SOURCES PROGRAM BY', the digests of its sources and
+# of itself, and what proved it: 'gate' (./test) or 'build' (./passkey --build).
+built_of() { echo "$top/crates/$1/out/$1"; }
+stamp_of() { echo "$top/crates/$1/out/sources"; }
 
-# Whether what is built here is of the sources of this digest: is_built SOURCES [BY].
+# Writes the stamp of a crate's program: stamp CRATE SOURCES BY.
+stamp() { echo "$2 $(digest "$(built_of "$1")") $3" > "$(stamp_of "$1")"; }
+
+# Whether what is built here of a crate is of the sources of this digest: is_built CRATE SOURCES [BY].
 is_built() {
     local from program by
-    [ -x "$built" ] && [ -r "$stamp" ] && read -r from program by < "$stamp" &&
-        [ "$from" = "$1" ] && [ "$by" = "${2-$by}" ] && [ "$program" = "$(digest "$built")" ]
+    [ -x "$(built_of "$1")" ] && [ -r "$(stamp_of "$1")" ] && read -r from program by < "$(stamp_of "$1")" &&
+        [ "$from" = "$2" ] && [ "$by" = "${3-$by}" ] && [ "$program" = "$(digest "$(built_of "$1")")" ]
 }

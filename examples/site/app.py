@@ -1,14 +1,15 @@
-"""A small site with passkeys: register, sign in, list, retire. Each verdict is `garvoeng`'s, each act one transaction."""
+"""A small site with passkeys: register, sign in, list, retire."""
 from __future__ import annotations
 
 import os
 import secrets
 import sys
 
+from acts import acts_at
 from flask import Flask, jsonify, redirect, request, send_file, session as cookie
-from garvoeng import BadInput, Refused, Server
+from garvoeng import BadInput, Refused, StoreFailed
 from garvoeng.forms import from_text, to_text
-from storage import Storage, Taken
+from storage import Taken
 
 HERE = os.path.dirname(os.path.abspath(__file__))
 
@@ -18,8 +19,7 @@ def site(address: str, origin: str, secret: bytes) -> Flask:
     app = Flask(__name__)
     app.secret_key = secret
     app.config.update(SESSION_COOKIE_HTTPONLY=True, SESSION_COOKIE_SAMESITE="Strict")
-    server = Server(origin.split("//")[1].split(":")[0], [origin], "A small site")
-    storage = Storage(address)
+    acts = acts_at(address, origin.split("//")[1].split(":")[0], origin, "A small site")
 
     def signed_in_user():
         user = cookie.get("user")
@@ -32,67 +32,46 @@ def site(address: str, origin: str, secret: bytes) -> Flask:
     @app.post("/register/begin")
     def register_begin():
         name = str(request.json["name"])[:64]
-        with storage.transaction() as rows:
-            user, ids = rows.user_of(name)
-            if user is not None and user != signed_in_user():
-                raise Taken("the name is another account's")
-            options, began = server.register_begin(user or secrets.token_bytes(32), name, exclude=ids,
-                                                   user_verification=bool(request.json.get("verified")),
-                                                   resident=bool(request.json.get("resident", True)))
-            number = rows.begin(began)
+        options, number = acts.register_begin(name, signed_in_user(), user_verification=bool(request.json.get("verified")),
+                                              resident=bool(request.json.get("resident", True)))
         cookie["registration"], cookie["name"] = number, name
         return jsonify(options)
 
     @app.post("/register/finish")
     def register_finish():
-        with storage.transaction() as rows:
-            began = rows.take("registration", cookie.get("registration"))
-            made = server.register_complete(began, request.json, is_registered=lambda id: rows.credential(id) is not None)
-            rows.add(cookie["name"], made)
+        user, id = acts.register_finish(cookie.get("registration"), cookie["name"], request.json)
         cookie.pop("registration")
-        cookie["user"] = to_text(made.user)
-        return jsonify(passkey=to_text(made.id))
+        cookie["user"] = to_text(user)
+        return jsonify(passkey=to_text(id))
 
     @app.post("/sign-in/begin")
     def sign_in_begin():
-        user, ids = None, []
-        with storage.transaction() as rows:
-            if request.json.get("name"):
-                user, ids = rows.user_of(str(request.json["name"])[:64])
-                if user is None:
-                    return jsonify(error="no account has this name"), 404
-            options, began = server.authenticate_begin(user=user, allow=ids,
-                                                       user_verification=bool(request.json.get("verified")))
-            number = rows.begin(began)
-        cookie["sign-in"] = number
+        begun = acts.sign_in_begin(str(request.json.get("name") or "")[:64],
+                                   user_verification=bool(request.json.get("verified")))
+        if begun is None:
+            return jsonify(error="no account has this name"), 404
+        options, cookie["sign-in"] = begun
         return jsonify(options)
 
     @app.post("/sign-in/finish")
     def sign_in_finish():
-        with storage.transaction() as rows:
-            began = rows.take("sign-in", cookie.get("sign-in"))
-            signed_in = server.authenticate_complete(began, request.json, credential=rows.credential)
-            rows.count(signed_in)
-        cookie["user"] = to_text(signed_in.credential.user)
-        return jsonify(user=cookie["user"], count=signed_in.credential.sign_count)
+        user, count = acts.sign_in_finish(cookie.get("sign-in"), request.json)
+        cookie["user"] = to_text(user)
+        return jsonify(user=cookie["user"], count=count)
 
     @app.get("/passkeys")
     def passkeys():
         user = signed_in_user()
         if user is None:
             return jsonify(error="nobody is signed in"), 401
-        with storage.transaction() as rows:
-            passkeys = rows.passkeys(user)
-        return jsonify([{"id": to_text(id), "count": count, "retired": retired} for id, count, retired in passkeys])
+        return jsonify([{"id": to_text(id), "count": count, "retired": retired} for id, count, retired in acts.passkeys(user)])
 
     @app.post("/passkeys/retire")
     def retire():
         user = signed_in_user()
         if user is None:
             return jsonify(error="nobody is signed in"), 401
-        with storage.transaction() as rows:
-            retired = rows.retire(user, from_text(request.json["id"], "id"))
-        return jsonify(retired=retired)
+        return jsonify(retired=acts.retire(user, from_text(request.json["id"], "id")))
 
     @app.post("/sign-out")
     def sign_out():
@@ -111,6 +90,10 @@ def site(address: str, origin: str, secret: bytes) -> Flask:
     @app.errorhandler(Taken)
     def taken(error):
         return jsonify(error=str(error)), 409
+
+    @app.errorhandler(StoreFailed)
+    def failed(error):
+        return jsonify(error=str(error)), 503
 
     return app
 

@@ -37,6 +37,13 @@ class Browser:
             "protocol": "ctap2_1", "transport": "usb", "hasResidentKey": True, "hasUserVerification": True,
             "isUserVerified": True, **more})
 
+    def verifies(self, authenticator, is_verified):
+        """Whether the authenticator's user passes verification from now on."""
+        self.ask(f"{self.path}/webauthn/authenticator/{authenticator}/uv", {"isUserVerified": is_verified})
+
+    def credentials(self, authenticator):
+        return self.ask(f"{self.path}/webauthn/authenticator/{authenticator}/credentials", method="GET")
+
     def without(self, authenticator):
         self.ask(f"{self.path}/webauthn/authenticator/{authenticator}", method="DELETE")
 

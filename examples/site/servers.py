@@ -1,4 +1,5 @@
 """Server processes of the site, for `try` and `load`."""
+import atexit
 import os
 import subprocess
 import sys
@@ -10,11 +11,12 @@ APP = Path(__file__).resolve().parent / "app.py"
 
 
 def started(address, port, origin=None):
-    """A process that answers on this port."""
+    """A process that answers on this port, and ends with this one."""
     words = {"PORT": str(port), "SECRET": "the same in each process", **({"ORIGIN": origin} if origin else {})}
     site = subprocess.Popen([sys.executable, str(APP), address], stderr=subprocess.DEVNULL, stdout=subprocess.DEVNULL,
                             env={**os.environ, **words})
-    for _ in range(100):
+    atexit.register(ended, site)
+    for _ in range(600):
         try:
             urllib.request.urlopen(f"http://localhost:{port}/").close()
             return site

@@ -6,10 +6,13 @@ is part of this package. Signatures are verified by `cryptography`.
     credential = server.register_complete(session, response, is_registered=has)
     options, session = server.authenticate_begin()
     signed_in = server.authenticate_complete(session, response, credential=find)
+
+`StoredServer` has the same four calls over the proved program, which keeps sessions and credentials in a file.
 """
 from .library import EDDSA, ES256, RS256, is_canonical
 from .records import BadInput, Credential, Refused, RegistrationSession, SignedIn, SignInSession
 from .server import Server
+from .stored import StoredServer, StoredSignIn, StoreFailed
 
 __all__ = ["EDDSA", "ES256", "RS256", "BadInput", "Credential", "Refused", "RegistrationSession", "Server", "SignInSession",
-           "SignedIn", "is_canonical"]
+           "SignedIn", "StoreFailed", "StoredServer", "StoredSignIn", "is_canonical"]

@@ -1,4 +1,5 @@
 """A browser and its authenticator, played by `cryptography`."""
+import functools
 import hashlib
 import json
 import struct
@@ -24,16 +25,23 @@ def byte_string(value):
     return head + value
 
 
+@functools.lru_cache(maxsize=None)
+def rsa_key(bits, exponent):
+    """The one RSA key of this size and this exponent: making one takes long."""
+    return rsa.generate_private_key(exponent, bits)
+
+
 class Device:
     def __init__(self, algorithm=ES256, credential=b"credential of 22 bytes", rp_id="example.com",
-                 origin="https://example.com", bits=2048, exponent=65537):
+                 origin="https://example.com", bits=2048, exponent=65537, counts=True):
         self.algorithm, self.id, self.rp_id, self.origin, self.count = algorithm, credential, rp_id, origin, 0
+        self.counts = counts
         if algorithm == ES256:
             self.key = ec.generate_private_key(ec.SECP256R1())
             numbers = self.key.public_key().public_numbers()
             self.x, self.y = numbers.x.to_bytes(32, "big"), numbers.y.to_bytes(32, "big")
         elif algorithm == RS256:
-            self.key = rsa.generate_private_key(exponent, bits)
+            self.key = rsa_key(bits, exponent)
             numbers = self.key.public_key().public_numbers()
             self.x, self.y = number(numbers.n), number(numbers.e)
         else:
@@ -80,7 +88,7 @@ class Device:
                 "response": {"attestationObject": to_text(made), "clientDataJSON": to_text(client_data)}}
 
     def sign_in(self, options, user=None, flags=UP | UV, message=None, outputs=b""):
-        self.count += 1
+        self.count += self.counts
         client_data = self.client_data("webauthn.get", options["challenge"])
         data = self.auth_data(flags, self.count, outputs=outputs)
         signature = self.sign(message or data + hashlib.sha256(client_data).digest())

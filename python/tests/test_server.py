@@ -1,11 +1,12 @@
 """Registrations and sign-ins by `Server`: accepted, and refused at each step."""
 import random
-from dataclasses import replace
+from dataclasses import FrozenInstanceError, replace
 
 import pytest
 from device import AT, BE, BS, ED, UP, UV, Device, changed
 
-from garvoeng import EDDSA, ES256, RS256, BadInput, Credential, Refused, Server, is_canonical, library
+from garvoeng import (EDDSA, ES256, RS256, BadInput, Credential, Refused, RegistrationSession, Server, SignInSession,
+                      is_canonical, library, signatures)
 from garvoeng.forms import to_text
 
 USER = b"account 7"
@@ -59,18 +60,9 @@ def test_rsa_sizes(server, bits, exponent):
     assert server.authenticate_complete(session, response, credential=find).credential.sign_count == 1
 
 
-def test_rsa_not_offered(server):
-    for algorithms in ((ES256,), (ES256, EDDSA), (EDDSA,)):
-        options, session = server.register_begin(USER, "name", algorithms=algorithms)
-        response = Device(RS256).register(options)
-        assert refusal(lambda: server.register_complete(session, response, is_registered=free)) == "G11"
-    with pytest.raises(BadInput):
-        server.register_begin(USER, "name", algorithms=(-258,))
-
-
 def test_rsa_signature_under_another_key(server):
-    device, other = Device(RS256), Device(ES256)
-    for key in (other, Device(EDDSA), Device(RS256)):
+    device = Device(RS256)
+    for key in (Device(ES256), Device(EDDSA), Device(RS256, exponent=3)):
         credential = Credential(device.id, USER, key.algorithm, key.x, key.y, 0, False)
         options, session = server.authenticate_begin(user=USER)
         response = device.sign_in(options)
@@ -119,13 +111,102 @@ def test_open_profile_ends(server):
         assert refusal(lambda: registered(server, Device(), flags=UP | UV | AT | ED, outputs=outputs)) == "G7"
 
 
-def test_options(server):
-    options, session = server.register_begin(USER, "name", exclude=[b"one"], user_verification=True)
-    assert options["challenge"] == to_text(session.challenge) and len(session.challenge) == 32
-    assert options["excludeCredentials"] == [{"type": "public-key", "id": "b25l"}]
-    assert [line["alg"] for line in options["pubKeyCredParams"]] == [-7, -8, -257]
-    options, session = server.authenticate_begin(allow=[b"one"])
-    assert options["rpId"] == "example.com" and options["challenge"] == to_text(session.challenge)
+def test_creation_options():
+    server = Server("example.com", ["https://example.com"], "A site")
+    options, session = server.register_begin(USER, "name", "Display Name", exclude=[b"one"], user_verification=True)
+    assert options == {
+        "rp": {"id": "example.com", "name": "A site"},
+        "user": {"id": to_text(USER), "name": "name", "displayName": "Display Name"},
+        "challenge": to_text(session.challenge),
+        "pubKeyCredParams": [{"type": "public-key", "alg": number} for number in (-7, -8, -257)],
+        "excludeCredentials": [{"type": "public-key", "id": "b25l"}],
+        "authenticatorSelection": {"residentKey": "required", "requireResidentKey": True, "userVerification": "required"},
+        "attestation": "none",
+    }
+    assert session == RegistrationSession(session.challenge, USER, True, (ES256, EDDSA, RS256))
+    options, session = server.register_begin(USER, "name", resident=False, algorithms=(EDDSA,))
+    assert options["authenticatorSelection"] == {
+        "residentKey": "discouraged", "requireResidentKey": False, "userVerification": "preferred"}
+    assert options["pubKeyCredParams"] == [{"type": "public-key", "alg": -8}] and options["user"]["displayName"] == "name"
+    assert session == RegistrationSession(session.challenge, USER, False, (EDDSA,))
+
+
+def test_request_options(server):
+    options, session = server.authenticate_begin(user=USER, allow=[b"one", b"two"], user_verification=True)
+    ids = [{"type": "public-key", "id": "b25l"}, {"type": "public-key", "id": "dHdv"}]
+    assert options == {"challenge": to_text(session.challenge), "rpId": "example.com", "allowCredentials": ids,
+                       "userVerification": "required"}
+    assert session == SignInSession(session.challenge, USER, (b"one", b"two"), True)
+    options, session = server.authenticate_begin()
+    assert options == {"challenge": to_text(session.challenge), "rpId": "example.com", "allowCredentials": [],
+                       "userVerification": "preferred"}
+    assert session == SignInSession(session.challenge)
+
+
+def test_challenges(server):
+    """32 bytes, of which none is ever the same."""
+    for begin in (lambda: server.register_begin(USER, "name"), server.authenticate_begin):
+        challenges = {begin()[1].challenge for _ in range(100)}
+        assert len(challenges) == 100 and {len(challenge) for challenge in challenges} == {32}
+        assert all(len(set(place)) > 50 for place in zip(*challenges))
+
+
+def test_values_are_frozen(server):
+    device = Device()
+    credential = registered(server, device)
+    for value in (server.register_begin(USER, "name")[1], server.authenticate_begin()[1], credential):
+        with pytest.raises(FrozenInstanceError):
+            value.user = b"another"
+
+
+def test_any_of_the_origins():
+    origins = ["https://example.com", "https://www.example.com"]
+    server = Server("example.com", origins)
+    for origin in origins:
+        credential = registered(server, Device(origin=origin))
+        assert credential.user == USER
+    assert refusal(lambda: registered(server, Device(origin="https://www.example.com.evil"))) == "G5"
+
+
+@pytest.mark.parametrize("open_profile", [False, True])
+@pytest.mark.parametrize("algorithm", [ES256, EDDSA, RS256])
+def test_algorithm_not_offered(algorithm, open_profile):
+    server = Server("example.com", ["https://example.com"], open_profile=open_profile)
+    device = Device(algorithm)
+    others = tuple({ES256, EDDSA, RS256} - {algorithm})
+    for algorithms in (others, others[:1], others[1:], ()):
+        options, session = server.register_begin(USER, "name", algorithms=algorithms)
+        for packed in (False, True):
+            response = device.register(options, packed=packed)
+            assert refusal(lambda: server.register_complete(session, response, is_registered=free)) == "G11"
+
+
+def test_attestations_that_are_not_accepted():
+    for accept_none, accept_self in ((False, True), (True, False), (False, False)):
+        server = Server("example.com", ["https://example.com"], accept_none=accept_none, accept_self=accept_self)
+        for packed, accepted in ((False, accept_none), (True, accept_self)):
+            if accepted:
+                assert registered(server, Device(), packed=packed).user == USER
+            else:
+                assert refusal(lambda: registered(server, Device(), packed=packed)) == "G14"
+
+
+def test_empty_user_handle_is_one(server):
+    """An account whose handle is empty is known all the same."""
+    device = Device()
+    credential = registered(server, device)
+    options, session = server.authenticate_begin(user=b"")
+    response = device.sign_in(options, user=USER)
+    assert refusal(lambda: server.authenticate_complete(session, response, credential=lambda _: credential)) == "W4"
+
+
+def test_no_memory(server, monkeypatch):
+    device = Device()
+    credential = registered(server, device)
+    options, session = server.authenticate_begin(user=USER)
+    monkeypatch.setattr(library.passkey, "passkey_assertion", lambda call, out: 127)
+    with pytest.raises(MemoryError):
+        server.authenticate_complete(session, device.sign_in(options), credential=lambda _: credential)
 
 
 def test_registration_refused(server):
@@ -143,6 +224,8 @@ def test_registration_refused(server):
     assert refusal(complete(changed(good, "clientDataJSON", lambda b: b.replace(b"create", b"get")))) == "G3"
     assert refusal(complete(open_session=replace(session, challenge=bytes(32)))) == "G4"
     assert refusal(complete(on=Server("example.com", []))) == "G5"
+    binding = b',"tokenBinding":{"status":"present","id":"x"}}'
+    assert refusal(complete(changed(good, "clientDataJSON", lambda b: b[:-1] + binding))) == "G6"
     assert refusal(complete(changed(good, "attestationObject", lambda b: b[:-1]))) == "G7"
     assert refusal(complete(on=other)) == "G8"
     assert refusal(complete(device.register(options, flags=UV | AT))) == "G9"
@@ -231,6 +314,20 @@ def test_none_without_the_triple(server):
     assert mistaken.authenticate_complete(session, response, credential=lambda _: credential).credential.sign_count == 1
 
 
+def test_an_algorithm_that_is_none_is_not_valid():
+    device = Device()
+    message = b"message"
+    assert signatures.is_valid(ES256, device.x, device.y, message, device.sign(message))
+    for number in (0, 7, -9, -37, -258):
+        assert not signatures.is_valid(number, device.x, device.y, message, device.sign(message))
+
+
+def test_library_of_another_version(monkeypatch):
+    monkeypatch.setattr(library, "ABI_VERSION", library.ABI_VERSION + 1)
+    with pytest.raises(ImportError):
+        library._load()
+
+
 def test_input(server):
     device = Device()
     options, session = server.register_begin(USER, "name")
@@ -242,8 +339,9 @@ def test_input(server):
     with pytest.raises(BadInput) as caught:
         server.register_complete(replace(session, challenge=b"short"), good, is_registered=free)
     assert caught.value.number == 103 and str(caught.value)
-    with pytest.raises(BadInput):
-        server.register_begin(USER, "name", algorithms=[-258])
+    for other in ([-258], [-7, 7]):
+        with pytest.raises(BadInput):
+            server.register_begin(USER, "name", algorithms=other)
     with pytest.raises(BadInput):
         Server("example.com", "https://example.com")
 

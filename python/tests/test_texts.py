@@ -1,4 +1,4 @@
-"""The text of each answer, as docs/REFUSALS.md and passkey.3 have them."""
+"""The text of each answer, as docs/REFUSALS.md has them."""
 from garvoeng import library
 
 SIGN_IN = [

@@ -16,14 +16,14 @@ use Rattle.verification.specs.Registration as registration
 use Rattle.ceremony_sessions.specs.Sessions.{Expected, Opening, OpensRegistration, OpensSignIn, expected_of}
 use Rattle.saved_table.specs.Saved.{version_of}
 use Rattle.site.specs.State.{IsAfterRegistration, IsAfterSignIn, SiteState, judged_sign_in, judged_registration, none_open}
-use Rattle.site.specs.Laws.{IsFresh, Keeps, Takes, after_begin, after_restart, challenge_in}
+use Rattle.site.specs.Laws.{IsFresh, Keeps, Takes, after_begin, after_restart, challenge_in, GoesOn}
 use Rattle.site.proofs.Goings.{begun_or, still}
 use Rattle.client.specs.Responses.{response_of}
 use Rattle.ceremony.specs.Registration as registering
 use Rattle.ceremony.specs.Verdict.{Delivers}
 use Rattle.ceremony.proofs.OneVerdict.{registration_one, sign_in_one}
 use Rattle.authenticator.specs.Steps.{Keys}
-use Rattle.agreement.specs.World.{Abandons, SiteActs, Begins, Loads, Registers, RegistersBy, Reopens, Restarts, Retires, SignsIn, SignsInBy, SiteEvent, words_of}
+use Rattle.agreement.specs.World.{Abandons, SiteActs, Begins, Loads, Registers, RegistersBy, Reopens, Restarts, Retires, SignsIn, SignsInBy, SiteEvent, reopened, words_of}
 use Rattle.agreement.specs.Agreement.{BringsNewTo, BringsTo, Carried, CarriedNew, IsRegistration, session_in}
 use Rattle.agreement.specs.Below.{Below}
 
@@ -172,13 +172,13 @@ module _ (valid : Validity) (public : Keys) (b : Below valid public) where
 
   -- ---- what is kept
 
-  loaded : (s t : SiteState) → Loads s t → t ≡ after_restart s
+  loaded : (s t : SiteState) → Loads s t → t ≡ after_restart t.sessions.max_open s
   loaded s t l =
       let same = b.sites.one_saved s t (version_of s.rows) l.version l.bytes l.saved l.loaded in
       let rp = l.rp in
       let policy = l.policy in
       let rows = same.0 in
-      let sessions : t.sessions ≡ none_open s.sessions.next = l.none_open ∙ ap none_open same.1 in
+      let sessions : t.sessions ≡ none_open t.sessions.max_open s.sessions.next = l.none_open ∙ ap (none_open t.sessions.max_open) same.1 in
       λ i. record { rp = rp i; policy = policy i; rows = rows i; sessions = sessions i }
 
   pub record Stays (s t : SiteState) : Type 0 where
@@ -209,9 +209,15 @@ module _ (valid : Validity) (public : Keys) (b : Below valid public) where
   stays s t (Registers n r) fresh acts = stays_registered s t n r fresh (record { passes = acts.0; after = acts.1 })
   stays s t (RegistersBy n c ps d) fresh acts = let x = registered_by s t n c ps d acts in stays_registered s t n x.0 fresh x.1
   stays s t Restarts fresh acts =
-      subst (Stays s) (sym (loaded s t acts)) (record { keeps = b.sites.restarts s fresh; bytes = λ old. empty_bytes (after_restart s) refl })
+      let max_open = t.sessions.max_open in
+      subst (Stays s) (sym (loaded s t acts)) (record {
+        keeps = b.sites.restarts max_open s fresh;
+        bytes = λ old. empty_bytes (after_restart max_open s) refl;
+      })
   stays s t Reopens fresh acts =
-      let same : Keeps s s = record { numbered = λ h. h; fresh = fresh; goes_on = b.sites.stays s } in
+      let onward = b.sites.stays s in
+      let goes_on : GoesOn s (reopened t.sessions.max_open s) = record { rows = onward.rows; gone = onward.gone; rp = onward.rp } in
+      let same : Keeps s (reopened t.sessions.max_open s) = record { numbered = λ h. h; fresh = fresh; goes_on = goes_on } in
       subst (Stays s) (sym acts) (record { keeps = same; bytes = λ old. old })
 
   -- ---- which session is taken

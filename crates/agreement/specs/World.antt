@@ -73,7 +73,11 @@ pub record Loads (s t : site.SiteState) : Type 0 where
   pub loaded : TableOf version (saved_of t) bytes
   pub rp : t.rp ≡ s.rp
   pub policy : t.policy ≡ s.policy
-  pub none_open : t.sessions ≡ none_open t.sessions.next
+  pub none_open : t.sessions ≡ none_open t.sessions.max_open t.sessions.next
+
+-- opened again, with this bound on its open sessions
+abbrev pub reopened : ℕ → site.SiteState → site.SiteState
+reopened max_open s = record s { sessions = record s.sessions { max_open = max_open } }
 
 -- the effect of an event at a site, as the contracts of its calls have it
 abbrev pub SiteActs : Validity → site.SiteState → SiteEvent → site.SiteState → Type 0
@@ -87,7 +91,7 @@ SiteActs valid s (Registers n r) t = registration.PassesRegistration valid (judg
 SiteActs valid s (RegistersBy n c ps d) t =
     ((used : ℕ) × (r : replies.Creation) × Succeeds (registering.registration valid s n d) c ps used r) × registering.IsAfter s n d c ps t
 SiteActs valid s Restarts t = Loads s t
-SiteActs valid s Reopens t = t ≡ s
+SiteActs valid s Reopens t = t ≡ reopened t.sessions.max_open s
 
 -- one site, or one authenticator, has changed and no other
 pub record ChangesSite (old new : World) (i : ℕ) (s : site.SiteState) : Type 0 where

@@ -116,5 +116,5 @@ pub copied : (o : Option (Bor Session)) → option_map (λ s. session_view s.now
 copied None = refl
 copied (Some x) = refl
 
-abbrev pub open_with : ℕ → finite.FinMap nat_cmp Expected → OpenSessions
-open_with next expected = record { expected = expected; next = next }
+abbrev pub open_with : ℕ → ℕ → finite.FinMap nat_cmp Expected → OpenSessions
+open_with max_open next expected = record { expected = expected; next = next; max_open = max_open }

@@ -44,5 +44,5 @@ expected_code = code_by (ExpectedSignIn ⊎ ExpectedRegistration) (coded⊎ sign
 
 abbrev pub open_code : Coded OpenSessions
 open_code =
-    code_by (finite.FinMap nat_cmp Expected × ℕ) (coded× (finite.code coded_ℕ expected_code) coded_ℕ)
-    (λ s. (s.expected, s.next)) (λ p. record { expected = p.0; next = p.1 }) (λ _. refl)
+    code_by (finite.FinMap nat_cmp Expected × (ℕ × ℕ)) (coded× (finite.code coded_ℕ expected_code) (coded× coded_ℕ coded_ℕ))
+    (λ s. (s.expected, (s.next, s.max_open))) (λ p. record { expected = p.0; next = p.1.0; max_open = p.1.1 }) (λ _. refl)

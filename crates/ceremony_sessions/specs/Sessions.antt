@@ -20,10 +20,11 @@ pub data Expected : Type 0 where
   ForSignIn : (e : ExpectedSignIn) → Expected
   ForRegistration : (e : ExpectedRegistration) → Expected
 
--- the open sessions by their numbers, and the number of the next
+-- the open sessions by their numbers, the number of the next, and the most that are open at a time
 pub record OpenSessions : Type 0 where
   pub expected : finite.FinMap nat_cmp Expected
   pub next : ℕ
+  pub max_open : ℕ
 
 abbrev pub for_sign_in : Option Expected → Option ExpectedSignIn
 for_sign_in None = None
@@ -68,7 +69,7 @@ expected_of n (OpensRegistration user algorithms uv words) =
 
 -- the next number is opened, and the one behind it is next
 abbrev pub begun : OpenSessions → Opening → OpenSessions
-begun s o = record { expected = finite.insert s.expected s.next (expected_of s.next o); next = s.next + 1 }
+begun s o = record s { expected = finite.insert s.expected s.next (expected_of s.next o); next = s.next + 1 }
 
 -- the session of a number is taken out
 abbrev pub closed : ℕ → OpenSessions → OpenSessions
@@ -83,11 +84,11 @@ IsInput profile (OpensSignIn user allow uv words) =
     ForSome user (IsWithin 64) × (length allow ≤ 8) × AllByRecursion (IsWithin (max_id profile)) allow
 IsInput profile (OpensRegistration user algorithms uv words) = IsWithin 64 user × (1 ≤ length algorithms)
 
--- there is no reason to refuse it: what is asked is within its limits; fewer than 1,024 sessions are open; the
--- next number is not the last
+-- there is no reason to refuse it: what is asked is within its limits; fewer sessions are open than
+-- the most; the next number is not the last
 abbrev pub PassesOpeningStep : Profile → OpenSessions → Opening → Error → Type 0
 PassesOpeningStep profile s o errors.BadInput = IsInput profile o
-PassesOpeningStep profile s o errors.SessionsFull = finite.len s.expected < 1024
+PassesOpeningStep profile s o errors.SessionsFull = finite.len s.expected < s.max_open
 PassesOpeningStep profile s o errors.Exhausted = s.next < 2 ^ 64 - 1
 PassesOpeningStep profile s o errors.Memory = Unit {0}
 

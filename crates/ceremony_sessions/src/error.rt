@@ -13,7 +13,7 @@ pub enum Error {
     /// credentials are listed, or no algorithm is offered.
     #[error("what is asked is not within its limits")]
     BadInput,
-    /// 21: 1,024 sessions are open.
+    /// 21: the most sessions that may be open at a time are open, which are 1,024 where the site gives no other number.
     #[error("too many sessions are open")]
     SessionsFull,
     /// 22: the next session number is the last, 2^64 - 1.

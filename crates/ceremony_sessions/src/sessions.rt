@@ -25,7 +25,7 @@ use std::collections::BTreeMap;
 use std::marker::Model;
 use verification::{RegistrationSession, SignInSession};
 
-/// The most sessions that are open at a time.
+/// The most sessions that are open at a time, where no other number is given.
 pub const MAX_OPEN: usize = 1_024;
 
 /// The most credentials that a session lists.
@@ -46,6 +46,7 @@ pub struct Sessions {
     alloc: Global,
     by_number: BTreeMap<u64, Session>,
     next: u64,
+    max_open: usize,
 }
 
 impl Model for Sessions {
@@ -59,7 +60,7 @@ impl Model for Sessions {
 
     ghost coded = { open_code };
 
-    ghost view = { λ s. record { expected = sessions_view s.by_number.entries; next = s.next } };
+    ghost view = { λ s. record { expected = sessions_view s.by_number.entries; next = s.next; max_open = s.max_open } };
 
     ghost invariant = { λ s. (finite.len (sessions_view s.by_number.entries) ≡ length s.by_number.entries)
         × ((n : ℕ) → AreLimits (finite.get (sessions_view s.by_number.entries) n)) };
@@ -140,16 +141,32 @@ fn copy_of(alloc: Global, user: Option<&[u8]>) -> Result<Option<Vec<u8>>, AllocE
 }
 
 impl Sessions {
-    /// No open session, and `next` as the number of the next: 1 at first. It takes no memory.
+    /// No open session, and `next` as the number of the next: 1 at first. At most 1,024 are open at a time. It takes no
+    /// memory.
     pub fn new(alloc: Global, next: u64) -> Sessions
         requires { 1 ≤ next }
-        ensures { result ≡ record { expected = finite.empty; next = next } }
+        ensures { result ≡ record { expected = finite.empty; next = next; max_open = 1024 } }
     {
         Sessions {
             alloc,
             by_number: BTreeMap::new(alloc),
             next,
+            max_open: MAX_OPEN,
         }
+    }
+
+    /// Bounds the sessions that are open at a time. Those that are open stay so, if there are more.
+    pub fn set_max_open(&mut self, max_open: usize)
+        ensures { self.new ≡ record self.old { max_open = max_open } }
+    {
+        self.max_open = max_open;
+    }
+
+    /// The most sessions that are open at a time.
+    pub fn max_open(&self) -> usize
+        ensures { result ≡ self.now.max_open }
+    {
+        self.max_open
     }
 
     /// The number of the next session.
@@ -157,6 +174,13 @@ impl Sessions {
         ensures { result ≡ self.now.next }
     {
         self.next
+    }
+
+    /// Whether fewer sessions are open than the most.
+    fn has_room(&self) -> bool
+        ensures { IsTrue result ↔ (finite.len self.now.expected < self.now.max_open) }
+    {
+        self.by_number.len() < self.max_open
     }
 
     /// Why what is asked may not begin; whether it is within its limits is handed in.
@@ -169,7 +193,7 @@ impl Sessions {
         if !is_input {
             return Err(Error::BadInput);
         }
-        if MAX_OPEN <= self.by_number.len() {
+        if !self.has_room() {
             return Err(Error::SessionsFull);
         }
         if self.next == u64::MAX {
@@ -183,7 +207,7 @@ impl Sessions {
         requires number { self.old.next < 2 ^ 64 - 1 }
         requires limits { AreLimits (Some (session_view session)) }
         ensures opened { OnOk result (self.new
-            ≡ record { expected = finite.insert self.old.expected self.old.next (session_view session); next = self.old.next + 1 }) }
+            ≡ record self.old { expected = finite.insert self.old.expected self.old.next (session_view session); next = self.old.next + 1 }) }
         ensures unchanged { OnErr result (self.new ≡ self.old) }
         ensures memory { IfErr result (λ e. e ≡ errors.Memory) }
     {
@@ -215,7 +239,7 @@ impl Sessions {
     /// bytes of the challenge.
     ///
     /// `BadInput` where the user handle is not of 1 to 64 bytes, an id not of 1 byte to those of the profile, or more
-    /// than 8 ids are listed, then `SessionsFull` where 1,024 sessions are open, then `Exhausted` where the next
+    /// than 8 ids are listed, then `SessionsFull` where the most sessions are open, then `Exhausted` where the next
     /// number is the last; `Memory` where there was none for the copies or the session. Then nothing has changed.
     pub fn begin_sign_in(
         &mut self,

@@ -54,8 +54,8 @@ gone_closed s rows k n (lt, none) = (lt, grind (arith, gets, common_steps, none)
 gone_begun : (s : SiteState) (o : Opening) (n : ℕ) → IsGone s n → IsGone (after_begin s o) n
 gone_begun s o n (lt, none) = (omega arith, grind (arith, gets, common_steps, none, lt))
 
-gone_restarted : (s : SiteState) (n : ℕ) → IsGone s n → IsGone (after_restart s) n
-gone_restarted s n (lt, none) = (lt, grind (arith, gets, common_steps))
+gone_restarted : (max_open : ℕ) (s : SiteState) (n : ℕ) → IsGone s n → IsGone (after_restart max_open s) n
+gone_restarted max_open s n (lt, none) = (lt, grind (arith, gets, common_steps))
 
 fresh_closed : (s : SiteState) (rows : List Credential) (k : ℕ) → IsFresh s → IsFresh (record s { rows = rows; sessions = closed k s.sessions })
 fresh_closed s rows k fresh n is = grind (arith, gets, common_steps, fresh n, is)
@@ -63,8 +63,8 @@ fresh_closed s rows k fresh n is = grind (arith, gets, common_steps, fresh n, is
 fresh_begun : (s : SiteState) (o : Opening) → IsFresh s → IsFresh (after_begin s o)
 fresh_begun s o fresh n is = grind (arith, gets, common_steps, fresh n, is)
 
-fresh_restarted : (s : SiteState) → IsFresh (after_restart s)
-fresh_restarted s n is = grind (arith, gets, common_steps, is)
+fresh_restarted : (max_open : ℕ) (s : SiteState) → IsFresh (after_restart max_open s)
+fresh_restarted max_open s n is = grind (arith, gets, common_steps, is)
 
 gone_now : (s : SiteState) (rows : List Credential) (n : ℕ) → IsFresh s → IsSome (finite.get s.sessions.expected n)
     → IsGone (record s { rows = rows; sessions = closed n s.sessions }) n
@@ -135,8 +135,8 @@ goes_closed s n = record { rows = (stays s).rows; gone = λ k h. gone_closed s s
 goes_begun : (s : SiteState) (o : Opening) → GoesOn s (after_begin s o)
 goes_begun s o = record { rows = (stays s).rows; gone = λ n h. gone_begun s o n h; rp = refl }
 
-goes_restarted : (s : SiteState) → GoesOn s (after_restart s)
-goes_restarted s = record { rows = (stays s).rows; gone = λ n h. gone_restarted s n h; rp = refl }
+goes_restarted : (max_open : ℕ) (s : SiteState) → GoesOn s (after_restart max_open s)
+goes_restarted max_open s = record { rows = (stays s).rows; gone = λ n h. gone_restarted max_open s n h; rp = refl }
 
 goes_retired : (s : SiteState) (id : List ℕ) → GoesOn s (after_retire s id)
 goes_retired s id = record {
@@ -234,7 +234,11 @@ laws valid = record {
   begins = λ s o lt fresh. record { numbered = numbered_begun s o lt; fresh = fresh_begun s o fresh; goes_on = goes_begun s o };
   abandons = λ s n fresh. record { numbered = numbered_closed s s.rows n; fresh = fresh_closed s s.rows n fresh; goes_on = goes_closed s n };
   retires = λ s id fresh. record { numbered = λ h. h; fresh = fresh; goes_on = goes_retired s id };
-  restarts = λ s fresh. record { numbered = λ _. numbered_empty (after_restart s) refl; fresh = fresh_restarted s; goes_on = goes_restarted s };
+  restarts = λ max_open s fresh. record {
+    numbered = λ _. numbered_empty (after_restart max_open s) refl;
+    fresh = fresh_restarted max_open s;
+    goes_on = goes_restarted max_open s;
+  };
   signs_in = signs_in valid;
   registers = λ s n r t fresh passes after. registers s n r t fresh after;
   stores = stores;

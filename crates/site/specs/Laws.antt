@@ -67,8 +67,8 @@ after_abandon s n = record s { sessions = closed n s.sessions }
 abbrev pub after_retire : SiteState → List ℕ → SiteState
 after_retire s id = record s { rows = with_row id retired s.rows }
 
-abbrev pub after_restart : SiteState → SiteState
-after_restart s = record s { sessions = none_open s.sessions.next }
+abbrev pub after_restart : ℕ → SiteState → SiteState
+after_restart max_open s = record s { sessions = none_open max_open s.sessions.next }
 
 pub record SiteLaws (valid : Validity) : Type 0 where
   pub stays : (s : SiteState) → GoesOn s s
@@ -79,7 +79,7 @@ pub record SiteLaws (valid : Validity) : Type 0 where
   pub begins : (s : SiteState) (o : Opening) → s.sessions.next < 2 ^ 64 - 1 → IsFresh s → Keeps s (after_begin s o)
   pub abandons : (s : SiteState) (n : ℕ) → IsFresh s → Keeps s (after_abandon s n)
   pub retires : (s : SiteState) (id : List ℕ) → IsFresh s → Keeps s (after_retire s id)
-  pub restarts : (s : SiteState) → IsFresh s → Keeps s (after_restart s)
+  pub restarts : (max_open : ℕ) (s : SiteState) → IsFresh s → Keeps s (after_restart max_open s)
   -- an acceptance takes its session
   pub signs_in : (s : SiteState) (n : ℕ) (r : AuthenticatorAssertionResponse) (t : SiteState) → IsFresh s
       → authentication.PassesSignIn valid (judged_sign_in s n r) → IsAfterSignIn s n r t → Keeps s t × Takes s t n

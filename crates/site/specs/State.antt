@@ -31,12 +31,12 @@ abbrev pub party_of : Profile → List ℕ → List (List ℕ) → RelyingParty
 party_of profile rp_id origins = record { rp_id = rp_id; origins = origins; profile = profile }
 
 -- no session is open
-abbrev pub none_open : ℕ → OpenSessions
-none_open next = record { expected = finite.empty; next = next }
+abbrev pub none_open : ℕ → ℕ → OpenSessions
+none_open max_open next = record { expected = finite.empty; next = next; max_open = max_open }
 
--- a site without open sessions, whose next session has this number
+-- a site without open sessions, whose next session has this number; at most 1,024 are open at a time
 abbrev pub idle : RelyingParty → Policy → List Credential → ℕ → SiteState
-idle rp policy rows next = record { rp = rp; policy = policy; rows = rows; sessions = none_open next }
+idle rp policy rows next = record { rp = rp; policy = policy; rows = rows; sessions = none_open 1024 next }
 
 -- what is kept over a restart
 abbrev pub saved_of : SiteState → Saved

@@ -247,8 +247,8 @@ impl Site {
     /// never used before.
     ///
     /// `BadInput` where the user handle is not of 1 to 64 bytes, an id not of 1 to 64 or in the open profile to 1,023,
-    /// or more than 8 ids are listed, then `SessionsFull` where 1,024 sessions are open, then `Exhausted` where the
-    /// next number is 2^64 - 1; `Memory` where there was none for the copies or the session. Then nothing has changed.
+    /// or more than 8 ids are listed, then `SessionsFull` where the most sessions are open, then `Exhausted` where
+    /// the next number is 2^64 - 1; `Memory` where there was none for the copies or the session. Then nothing has changed.
     pub fn begin_sign_in(
         &mut self,
         user: Option<&[u8]>,
@@ -336,6 +336,21 @@ impl Site {
         ensures { result ≡ self.now.sessions.next }
     {
         self.sessions.next()
+    }
+
+    /// Bounds the sessions that are open at a time, which are 1,024 at first. Those that are open stay so, if there are
+    /// more.
+    pub fn set_max_open(&mut self, max_open: usize)
+        ensures { self.new ≡ record self.old { sessions = record self.old.sessions { max_open = max_open } } }
+    {
+        self.sessions.set_max_open(max_open);
+    }
+
+    /// The most sessions that are open at a time.
+    pub fn max_open(&self) -> usize
+        ensures { result ≡ self.now.sessions.max_open }
+    {
+        self.sessions.max_open()
     }
 
     /// The rp id.

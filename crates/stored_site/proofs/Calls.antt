@@ -1,6 +1,6 @@
 -- What the calls of a site over a store rest on.
 use Rattle.std.proofs.Common.{◌≡◌, Bool, ◌<◌, ◌+◌, ◌⊎◌, inl, inr, false, ◌++◌, ◌∷◌, [], ℕ, List, Option, Some, None, length, refl, sym, ap, ◌∙◌, subst, arith}
-use Rattle.std.specs.Prelude.{IsSome, IsTrue, ◌^◌}
+use Rattle.std.specs.Prelude.{IsSome, IsTrue, ◌^◌, is_some}
 use Rattle.std.specs.FinMap as finite
 use Rattle.std.proofs.lemmas.Grind.{common_steps}
 use Rattle.sqlite_trees.specs.Tree.{Trees}
@@ -18,33 +18,37 @@ use Rattle.verification.specs.Records.{Credential, ExpectedRegistration}
 use Rattle.verification.specs.SignIn.{PassesSignIn}
 use Rattle.verification.specs.Registration.{Attests}
 use Rattle.credential_table.specs.Table.{retired, row_of, signed_in, with_row}
-use Rattle.ceremony_sessions.specs.Sessions.{Expected, OpenSessions, closed, for_registration, for_sign_in}
+use Rattle.ceremony_sessions.specs.Sessions.{Expected, OpenSessions, closed, expected_of, for_registration, for_sign_in}
 use Rattle.site.specs.Answers.{IsRegistered}
 use Rattle.site.specs.State.{IsAfterRegistration, IsAfterSignIn, SiteState, judged_sign_in, registered}
 use Rattle.site.specs.declared.registration.Registered.{Registered}
 use Rattle.site.proofs.Kept.{row_changed}
 use Rattle.stored_site.specs.Holds.{AreRowids, Holds, IsCommitted, StoredState, Survives}
+use Rattle.stored_site.specs.SessionRows.{HaveMoments, Moments}
 use Rattle.stored_site.specs.Private.{Accepts, Added, Changed, Changes, Opens}
+use Rattle.stored_site.proofs.Ages.{have_inserted, have_removed, removed_absent}
 use Rattle.stored_site.proofs.Transactions.{at_place, closed_absent, is_opened, last_there, rowids_begun, rowids_closed}
 
 -- where the store is open, a crash leaves the site that is committed
 pub settles : {S : Type 0} (view : S → View) (recovers : S → Trees → Type 0)
     → ((s : S) (db : Trees) → IsTrue (view s).is_open → recovers s db → db ≡ (view s).committed)
-    → (s : SiteState) (store : S) → IsCommitted s (view store) → (db : Trees) → recovers store db → Holds s db
-settles view recovers settled s store is db r = subst (Holds s) (sym (settled store db is.is_open r)) is.holds
+    → (s : SiteState) (began : Moments) (store : S) → IsCommitted s began (view store) → (db : Trees) → recovers store db → Holds s began db
+settles view recovers settled s began store is db r = subst (Holds s began) (sym (settled store db is.is_open r)) is.holds
 
 -- where nothing has changed a crash leaves the site as it was
 pub unchanged_survives : {S : Type 0} (view : S → View) (recovers : S → Trees → Type 0)
     → ((s : S) (db : Trees) → IsTrue (view s).is_open → recovers s db → db ≡ (view s).committed)
-    → (old : StoredState S) (After : SiteState → Type 0)
-    → (old.is_shut ≡ false → IsClean (view old.store) → IsCommitted old.site (view old.store)) → Survives view recovers old old After
-unchanged_survives view recovers settled old After is =
-    λ db open_before clean r. inl (settles view recovers settled old.site old.store (is open_before clean) db r)
+    → (old : StoredState S) (began : Moments) (After : SiteState → Type 0)
+    → (old.is_shut ≡ false → IsClean (view old.store) → IsCommitted old.site old.began (view old.store)) → Survives view recovers old old began After
+unchanged_survives view recovers settled old began After is =
+    λ db open_before clean r. inl (settles view recovers settled old.site old.began old.store (is open_before clean) db r)
 
 -- where a call has written, the site as it was or as the call makes it
-pub call_survives : {S : Type 0} (view : S → View) (recovers : S → Trees → Type 0) (old new : StoredState S) (t : SiteState) (After : SiteState → Type 0)
-    → ((db : Trees) → IsClean (view new.store) → recovers new.store db → Holds old.site db ⊎ Holds t db) → After t → Survives view recovers old new After
-call_survives view recovers old new t After leaves after = λ db open_before clean r. elim (leaves db clean r) [
+pub call_survives : {S : Type 0} (view : S → View) (recovers : S → Trees → Type 0) (old new : StoredState S) (began : Moments) (t : SiteState)
+    (After : SiteState → Type 0)
+    → ((db : Trees) → IsClean (view new.store) → recovers new.store db → Holds old.site old.began db ⊎ Holds t began db) → After t
+    → Survives view recovers old new began After
+call_survives view recovers old new began t After leaves after = λ db open_before clean r. elim (leaves db clean r) [
   | inl before ↦ inl before
   | inr now ↦ inr (t, after, now)
 ]
@@ -165,13 +169,35 @@ told_as s t n id {k} e a = subst (λ (x : List ℕ). Accepts s t x n) e a
 
 -- ---- a refusal of the site's own
 
-abbrev state_with : {S : Type 0} → S → Bool → SiteState → StoredState S
-state_with store is_shut site = record { site = site; store = store; is_shut = is_shut }
+abbrev state_with : {S : Type 0} → S → Bool → Moments → SiteState → StoredState S
+state_with store is_shut began site = record { site = site; began = began; store = store; is_shut = is_shut }
 
-pub same_stored : {S : Type 0} (store : S) (is_shut : Bool) (s t : SiteState) → s ≡ t → state_with store is_shut s ≡ state_with store is_shut t
-same_stored store is_shut s t e = ap (state_with store is_shut) e
+pub same_stored : {S : Type 0} (store : S) (is_shut : Bool) (began : Moments) (s t : SiteState) → s ≡ t
+    → state_with store is_shut began s ≡ state_with store is_shut began t
+same_stored store is_shut began s t e = ap (state_with store is_shut began) e
 
 -- ---- a session that is not open
 
 pub unclosed : (s : SiteState) (n : ℕ) → finite.get s.sessions.expected n ≡ None → s ≡ record s { sessions = closed n s.sessions }
 unclosed s n none = sym (ap (λ (o : OpenSessions). record s { sessions = o }) (closed_absent s.sessions n none))
+
+-- and has no moment
+pub unmarked : (s : OpenSessions) (began : Moments) (n : ℕ) → HaveMoments s began → finite.get s.expected n ≡ None → began ≡ finite.remove began n
+unmarked s began n have none = sym (removed_absent began n (no_moment (finite.get began n) (have n ∙ ap is_some none)))
+  where
+    no_moment : (o : Option ℕ) → is_some o ≡ false → o ≡ None
+    no_moment None e = refl
+    no_moment (Some m) e = absurd cc
+
+-- ---- moments
+
+pub have_begun : (s t : SiteState) (began : Moments) (n moment : ℕ) → Opens s t n → HaveMoments s.sessions began
+    → HaveMoments t.sessions (finite.insert began n moment)
+have_begun s t began n moment o have =
+    subst (λ k. HaveMoments t.sessions (finite.insert began k moment)) (sym o.number)
+    (subst (λ (x : SiteState). HaveMoments x.sessions (finite.insert began s.sessions.next moment)) (sym o.is)
+    (have_inserted s.sessions began s.sessions.next moment (expected_of s.sessions.next o.opening) have))
+
+pub have_accepted : (s t : SiteState) (began : Moments) (id : List ℕ) (n : ℕ) → Accepts s t id n → HaveMoments s.sessions began
+    → HaveMoments t.sessions (finite.remove began n)
+have_accepted s t began id n a have = subst (λ x. HaveMoments x (finite.remove began n)) (sym a.sessions) (have_removed s.sessions began n have)

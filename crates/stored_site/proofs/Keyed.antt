@@ -15,12 +15,12 @@ use Rattle.stored_site.proofs.Trees.{within}
 pub keyed_credential : (place : ℕ) (c : Credential) (row : Row) → row ≡ credential_row place c → IsTrue (is_int (rowid row))
 keyed_credential place c row e = rw e refl
 
-keyed_expected : (n : ℕ) (x : Expected) → IsTrue (is_int (rowid (session_row n x)))
-keyed_expected n (ForSignIn x) = refl
-keyed_expected n (ForRegistration x) = refl
+keyed_expected : (n m : ℕ) (x : Expected) → IsTrue (is_int (rowid (session_row n m x)))
+keyed_expected n m (ForSignIn x) = refl
+keyed_expected n m (ForRegistration x) = refl
 
-pub keyed_session : (n : ℕ) (x : Expected) (row : Row) → row ≡ session_row n x → IsTrue (is_int (rowid row))
-keyed_session n x row e = rw e (keyed_expected n x)
+pub keyed_session : (n m : ℕ) (x : Expected) (row : Row) → row ≡ session_row n m x → IsTrue (is_int (rowid row))
+keyed_session n m x row e = rw e (keyed_expected n m x)
 
 pub keyed_site : (id : List ℕ) (n : ℕ) (row : Row) → row ≡ site_row id n → IsTrue (is_int (rowid row))
 keyed_site id n row e = rw e refl

@@ -7,27 +7,27 @@ use Rattle.ceremony_sessions.specs.Sessions.{ForSignIn}
 use Rattle.stored_site.specs.SessionRows.{blob_or_null, session_row}
 use Rattle.stored_site.specs.Private.{blob_in}
 
-pub listed_at : (n : ℕ) (e : ExpectedSignIn) (i : ℕ) → i < 8 → column (session_row n (ForSignIn e)) (8 + i) ≡ blob_or_null (slice_get e.allow i)
-listed_at n e zero lt = refl
-listed_at n e (suc zero) lt = refl
-listed_at n e (suc (suc zero)) lt = refl
-listed_at n e (suc (suc (suc zero))) lt = refl
-listed_at n e (suc (suc (suc (suc zero)))) lt = refl
-listed_at n e (suc (suc (suc (suc (suc zero))))) lt = refl
-listed_at n e (suc (suc (suc (suc (suc (suc zero)))))) lt = refl
-listed_at n e (suc (suc (suc (suc (suc (suc (suc zero))))))) lt = refl
-listed_at n e (suc (suc (suc (suc (suc (suc (suc (suc i)))))))) lt = absurd (omega (arith, lt))
+pub listed_at : (n m : ℕ) (e : ExpectedSignIn) (i : ℕ) → i < 8 → column (session_row n m (ForSignIn e)) (8 + i) ≡ blob_or_null (slice_get e.allow i)
+listed_at n m e zero lt = refl
+listed_at n m e (suc zero) lt = refl
+listed_at n m e (suc (suc zero)) lt = refl
+listed_at n m e (suc (suc (suc zero))) lt = refl
+listed_at n m e (suc (suc (suc (suc zero)))) lt = refl
+listed_at n m e (suc (suc (suc (suc (suc zero))))) lt = refl
+listed_at n m e (suc (suc (suc (suc (suc (suc zero)))))) lt = refl
+listed_at n m e (suc (suc (suc (suc (suc (suc (suc zero))))))) lt = refl
+listed_at n m e (suc (suc (suc (suc (suc (suc (suc (suc i)))))))) lt = absurd (omega (arith, lt))
 
 pub bytes_of : (o : Option (List ℕ)) → blob_in (blob_or_null o) ≡ o
 bytes_of None = refl
 bytes_of (Some x) = refl
 
-pub listed_in_column : (n : ℕ) (e : ExpectedSignIn) (at : ℕ) → 8 ≤ at → at < 16
-    → blob_in (column (session_row n (ForSignIn e)) at) ≡ slice_get e.allow (at - 8)
-listed_in_column n e at le lt =
+pub listed_in_column : (n m : ℕ) (e : ExpectedSignIn) (at : ℕ) → 8 ≤ at → at < 16
+    → blob_in (column (session_row n m (ForSignIn e)) at) ≡ slice_get e.allow (at - 8)
+listed_in_column n m e at le lt =
     let place : at ≡ 8 + (at - 8) = omega (arith, le) in
     let within : at - 8 < 8 = omega (arith, le, lt) in
-    ap (λ k. blob_in (column (session_row n (ForSignIn e)) k)) place ∙ ap blob_in (listed_at n e (at - 8) within) ∙ bytes_of (slice_get e.allow (at - 8))
+    ap (λ k. blob_in (column (session_row n m (ForSignIn e)) k)) place ∙ ap blob_in (listed_at n m e (at - 8) within) ∙ bytes_of (slice_get e.allow (at - 8))
 
 pub all_taken : (xs : List (List ℕ)) (i : ℕ) → None ≡ slice_get xs i → take i xs ≡ xs
 all_taken [] zero is = refl

@@ -1,7 +1,8 @@
 -- A site in a store without rows.
 use Rattle.std.proofs.Common.{◌≡◌, [], map, ℕ, None, IsTrue, sym, ap, ◌∙◌, subst, arith}
+use Rattle.std.specs.Prelude.{is_some}
 use Rattle.std.specs.FinMap as finite
-use Rattle.std.specs.FinMap.{gets, same_map, get-from_sorted, entries-from_sorted, nat_cmp-IsAntisymmetric}
+use Rattle.std.specs.FinMap.{gets, get-empty, same_map, get-from_sorted, entries-from_sorted, nat_cmp-IsAntisymmetric}
 use Rattle.std.specs.Cmp.{nat_cmp_total}
 use Rattle.std.specs.Ordering.{nat_cmp}
 use Rattle.std.proofs.lemmas.Grind.{common_steps}
@@ -11,7 +12,7 @@ use Rattle.sqlite_trees.specs.View.{View, IsClean}
 use Rattle.ceremony_sessions.specs.Sessions.{Expected, OpenSessions}
 use Rattle.site.specs.State.{SiteState}
 use Rattle.stored_site.specs.Rows.{credential_rows}
-use Rattle.stored_site.specs.SessionRows.{session_row, session_rows}
+use Rattle.stored_site.specs.SessionRows.{HaveMoments, Moments, moment_of, session_row, session_rows}
 use Rattle.stored_site.specs.Holds.{AreRowids, HasNoRow, HasTables, Holds, IsCommitted, site_row}
 use Rattle.stored_site.specs.Writes.{IsWritten, set}
 use Rattle.stored_site.specs.Private.{IsAtRest, IsSameView}
@@ -40,22 +41,22 @@ none_entered =
     none ∙ sym (get-from_sorted nat_cmp [] q tt)))
     ∙ entries-from_sorted nat_cmp [] tt
 
-none_open : session_rows finite.empty ≡ []
-none_open = ap (map (λ (e : ℕ × Expected). session_row e.0 e.1)) none_entered
+none_open : (began : Moments) → session_rows finite.empty began ≡ []
+none_open began = ap (map (λ (e : ℕ × Expected). session_row e.0 (moment_of began e.0) e.1)) none_entered
 
 -- the row of the site is all that a store holds of a site without credentials and sessions
 pub holds_new : (s : SiteState) (row : Row) (db : Trees) → s.rows ≡ [] → s.sessions.expected ≡ finite.empty → row ≡ site_row s.rp.rp_id s.sessions.next
-    → HasNoRow db → Holds s (set 2 row db)
+    → HasNoRow db → Holds s finite.empty (set 2 row db)
 holds_new s row db rows sessions is none = record {
   credentials = none.credentials ∙ sym (ap (credential_rows 1) rows);
-  sessions = none.sessions ∙ sym (ap session_rows sessions ∙ none_open);
+  sessions = none.sessions ∙ sym (ap (λ m. session_rows m finite.empty) sessions ∙ none_open finite.empty);
   site = ap (λ r. put_row r (db 2)) is ∙ ap (put_row (site_row s.rp.rp_id s.sessions.next)) none.site;
 }
 
 pub committed_new : (s : SiteState) (v w new : View) (row : Row) → IsAtRest v → HasTables v → IsSameView v w → IsClean w
-    → IsWritten w new (set 2 row w.trees) → Holds s (set 2 row w.trees) → IsCommitted s new
+    → IsWritten w new (set 2 row w.trees) → Holds s finite.empty (set 2 row w.trees) → IsCommitted s finite.empty new
 committed_new s v w new row rest t same clean written h = record {
-  holds = subst (Holds s) (sym written.committed) h;
+  holds = subst (Holds s finite.empty) (sym written.committed) h;
   begun = written.trees ∙ sym written.committed;
   sound = written.sound;
   is_open = subst IsTrue (sym (written.is_open ∙ ap (λ (u : View). u.is_open) (same.view clean))) rest.is_open;
@@ -71,3 +72,7 @@ pub rowids_none : (s : OpenSessions) → s.expected ≡ finite.empty → AreRowi
 rowids_none s e n is =
     let none : finite.get s.expected n ≡ None = rw e (grind (arith, gets, common_steps)) in
     absurd (grind (arith, common_steps, is, none))
+
+-- and none has a moment
+pub moments_none : (s : OpenSessions) → s.expected ≡ finite.empty → HaveMoments s finite.empty
+moments_none s e n = rw e (ap is_some (get-empty {X = ℕ} nat_cmp n) ∙ sym (ap is_some (get-empty {X = Expected} nat_cmp n)))

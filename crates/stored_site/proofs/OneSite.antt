@@ -5,10 +5,10 @@ use Rattle.sqlite_trees.specs.Tree.{Trees}
 use Rattle.verification.specs.Records.{Credential}
 use Rattle.site.specs.State.{SiteState}
 use Rattle.stored_site.specs.Rows.{credential_row, credential_rows}
-use Rattle.stored_site.specs.SessionRows.{ListFew}
+use Rattle.stored_site.specs.SessionRows.{HaveMoments, ListFew, Moments}
 use Rattle.stored_site.specs.Holds.{Holds, site_row}
 use Rattle.stored_site.proofs.One.{number_once, one_credential}
-use Rattle.stored_site.proofs.OneMap.{one_map}
+use Rattle.stored_site.proofs.OneMap.{one_map, one_moments}
 
 -- rows of credentials are those of one list
 pub rows_once : (p : ℕ) (cs ds : List Credential) → credential_rows p cs ≡ credential_rows p ds → cs ≡ ds
@@ -20,14 +20,25 @@ rows_once p (c ∷ cs) (d ∷ ds) is =
     let more : credential_rows (p + 1) cs ≡ credential_rows (p + 1) ds = ap (λ rs. drop 1 rs) is in
     ap (λ x. x ∷ cs) (one_credential p p c d here).1 ∙ ap (λ xs. d ∷ xs) (rows_once (p + 1) cs ds more)
 
-pub one_site : (s t : SiteState) (db : Trees) → ListFew s.sessions → ListFew t.sessions → Holds s db → Holds t db
-    → (s.rp.rp_id ≡ t.rp.rp_id) × (record s { rp = t.rp; policy = t.policy } ≡ t)
-one_site s t db a b hs ht =
+pub one_site : (s t : SiteState) (p q : Moments) (db : Trees) → ListFew s.sessions → ListFew t.sessions → HaveMoments s.sessions p → HaveMoments t.sessions q
+    → Holds s p db → Holds t q db
+    → (s.rp.rp_id ≡ t.rp.rp_id) × (record s { rp = t.rp; policy = t.policy; sessions = record s.sessions { max_open = t.sessions.max_open } } ≡ t)
+    × (p ≡ q)
+one_site s t p q db a b have keep hs ht =
     let site : site_row s.rp.rp_id s.sessions.next ∷ [] ≡ site_row t.rp.rp_id t.sessions.next ∷ [] = sym hs.site ∙ ht.site in
     let rp_id : s.rp.rp_id ≡ t.rp.rp_id = ap (λ rs. bytes (column (get_or rs 0 []) 3)) site in
     let next : s.sessions.next ≡ t.sessions.next = number_once s.sessions.next t.sessions.next (ap (λ rs. column (get_or rs 0 []) 4) site) in
     let rows : s.rows ≡ t.rows = rows_once 1 s.rows t.rows (sym hs.credentials ∙ ht.credentials) in
-    let sessions : s.sessions.expected ≡ t.sessions.expected = one_map s.sessions.expected t.sessions.expected a b (sym hs.sessions ∙ ht.sessions) in
-    let same : record { rp = t.rp; policy = t.policy; rows = s.rows; sessions = record { expected = s.sessions.expected; next = s.sessions.next } } ≡ t =
+    let sessions : s.sessions.expected ≡ t.sessions.expected = one_map s.sessions.expected t.sessions.expected p q a b (sym hs.sessions ∙ ht.sessions) in
+    let same : record {
+      rp = t.rp;
+      policy = t.policy;
+      rows = s.rows;
+      sessions = record {
+        expected = s.sessions.expected;
+        next = s.sessions.next;
+        max_open = t.sessions.max_open;
+      };
+    } ≡ t =
     rw (rows, sessions, next) refl in
-    (rp_id, same)
+    (rp_id, same, one_moments s.sessions t.sessions p q a b have keep (sym hs.sessions ∙ ht.sessions))

@@ -12,7 +12,7 @@ use Rattle.verification.specs.Records.{RelyingParty}
 use Rattle.ceremony_sessions.specs.Sessions.{Expected, ForSignIn, ForRegistration, AreLimits}
 use Rattle.credential_table.specs.Table.{IsWithin}
 use Rattle.site.specs.State.{SiteState}
-use Rattle.stored_site.specs.SessionRows.{session_row}
+use Rattle.stored_site.specs.SessionRows.{Moments, session_row}
 use Rattle.stored_site.specs.Holds.{Holds, HasTables, IsCommitted}
 use Rattle.stored_site.specs.Opened.{HoldsNone, IsKept, IsLeft, IsNamed, NoSiteIn}
 use Rattle.stored_site.specs.Opening.{of_row, of_table}
@@ -42,11 +42,11 @@ bad_table tables.Memory named = absurd named
 -- ---- sessions
 
 -- a row is of a session that is within its limits, or of one that is not
-pub limits_alike : (m n : ℕ) (d e : Expected) → session_row m d ≡ session_row n e → AreLimits (Some d) → AreLimits (Some e)
-limits_alike m n d (ForSignIn e) is limits = tt
-limits_alike m n (ForSignIn d) (ForRegistration e) is limits =
+pub limits_alike : (m n a b : ℕ) (d e : Expected) → session_row m a d ≡ session_row n b e → AreLimits (Some d) → AreLimits (Some e)
+limits_alike m n a b d (ForSignIn e) is limits = tt
+limits_alike m n a b (ForSignIn d) (ForRegistration e) is limits =
     let lengths : 7 ≡ 12 = ap (λ r. length (bytes (column r 2))) is in absurd (omega (arith, lengths))
-limits_alike m n (ForRegistration d) (ForRegistration e) is limits = subst (IsWithin 64) (blob_once d.user e.user (ap (λ r. column r 4) is)) limits
+limits_alike m n a b (ForRegistration d) (ForRegistration e) is limits = subst (IsWithin 64) (blob_once d.user e.user (ap (λ r. column r 4) is)) limits
 
 -- what holds of each open number holds with one that is opened
 pub inserted : (P : ℕ → Type 0) (m : finite.FinMap nat_cmp Expected) (n : ℕ) (e : Expected) → ((k : ℕ) → IsSome (finite.get m k) → P k) → P n
@@ -60,22 +60,22 @@ inserted P m n e all here k some = go (nat_cmp k n) refl (subst IsSome (get-inse
 
 -- ---- more rows than a site has
 
-pub credentials_fit : (s : SiteState) (db : Trees) → IsKept s → Holds s db → 65537 ≤ length (db 0) → ⊥
-credentials_fit s db kept holds many =
+pub credentials_fit : (s : SiteState) (began : Moments) (db : Trees) → IsKept s began → Holds s began db → 65537 ≤ length (db 0) → ⊥
+credentials_fit s began db kept holds many =
     let is = ap length holds.credentials in
     let rows = length_rows 1 s.rows in
     let most = kept.table.0 in
     omega (arith, is, rows, most, many)
 
-pub sessions_fit : (s : SiteState) (db : Trees) → IsKept s → Holds s db → 1025 ≤ length (db 1) → ⊥
-sessions_fit s db kept holds many =
+pub sessions_fit : (s : SiteState) (began : Moments) (db : Trees) → IsKept s began → Holds s began db → 1000001 ≤ length (db 1) → ⊥
+sessions_fit s began db kept holds many =
     let is = ap length holds.sessions in
-    let rows = length_sessions s.sessions.expected in
+    let rows = length_sessions s.sessions.expected began in
     let most = kept.count in
     omega (arith, is, rows, most, many)
 
-pub site_fits : (s : SiteState) (db : Trees) → Holds s db → 2 ≤ length (db 2) → ⊥
-site_fits s db holds many = let is : length (db 2) ≡ 1 = ap length holds.site in omega (arith, is, many)
+pub site_fits : (s : SiteState) (began : Moments) (db : Trees) → Holds s began db → 2 ≤ length (db 2) → ⊥
+site_fits s began db holds many = let is : length (db 2) ≡ 1 = ap length holds.site in omega (arith, is, many)
 
 -- ---- views
 
@@ -108,13 +108,13 @@ tables_same old new tables is = record {
   site = ap (λ f. f 2) is ∙ tables.site;
 }
 
-pub committed_left : (s : SiteState) (old mid new : View) → IsLeft old mid → IsSameView mid new → IsClean new → HasTables mid → Holds s mid.trees
-    → IsCommitted s new
-committed_left s old mid new left same clean tables holds =
+pub committed_left : (s : SiteState) (began : Moments) (old mid new : View) → IsLeft old mid → IsSameView mid new → IsClean new → HasTables mid → Holds s began mid.trees
+    → IsCommitted s began new
+committed_left s began old mid new left same clean tables holds =
     let is = same.view clean in
     let now = left_same old mid new left same clean in
     record {
-      holds = subst (Holds s) (sym (sym now.begun ∙ ap (λ v. v.trees) is)) holds;
+      holds = subst (Holds s began) (sym (sym now.begun ∙ ap (λ v. v.trees) is)) holds;
       begun = now.begun;
       sound = now.sound;
       is_open = now.is_open;
@@ -122,6 +122,6 @@ committed_left s old mid new left same clean tables holds =
     }
 
 pub none_left : (rp : RelyingParty) (old mid new : View) → IsLeft old mid → IsSameView mid new → IsClean new → NoSiteIn rp mid.trees → HoldsNone rp new
-none_left rp old mid new left same clean none tables s rp_id profile kept holds =
+none_left rp old mid new left same clean none tables s began rp_id profile kept holds =
     let now = left_same old mid new left same clean in
-    none s rp_id profile kept (subst (Holds s) (sym now.begun ∙ ap (λ v. v.trees) (same.view clean)) holds)
+    none s began rp_id profile kept (subst (Holds s began) (sym now.begun ∙ ap (λ v. v.trees) (same.view clean)) holds)

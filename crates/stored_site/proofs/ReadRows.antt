@@ -9,7 +9,7 @@ use Rattle.verification.specs.Records.{Credential}
 use Rattle.ceremony_sessions.specs.Sessions.{Expected}
 use Rattle.std.specs.List.{AllByRecursion}
 use Rattle.stored_site.specs.Rows.{IsStored, credential_row, credential_rows}
-use Rattle.stored_site.specs.SessionRows.{session_row, session_rows}
+use Rattle.stored_site.specs.SessionRows.{Moments, moment_of, session_row, session_rows}
 use Rattle.stored_site.specs.Private.{AreBelow}
 use Rattle.stored_site.proofs.Trees.{below, put_session, rowid_of}
 
@@ -54,26 +54,27 @@ next_row place row rows l = go l.left l.are l.stored
 
 -- ---- sessions
 
-pub length_sessions : (m : finite.FinMap nat_cmp Expected) → length (session_rows m) ≡ finite.len m
-length_sessions m = length_map (finite.entries m) ∙ sym (len-entries m)
+pub length_sessions : (m : finite.FinMap nat_cmp Expected) (began : Moments) → length (session_rows m began) ≡ finite.len m
+length_sessions m began = length_map (finite.entries m) ∙ sym (len-entries m)
   where
-    length_map : (es : List (ℕ × Expected)) → length (map (λ e. session_row e.0 e.1) es) ≡ length es
+    length_map : (es : List (ℕ × Expected)) → length (map (λ e. session_row e.0 (moment_of began e.0) e.1) es) ≡ length es
     length_map [] = refl
     length_map (e ∷ es) = let inner = length_map es in omega (arith, inner)
 
-put_last : (rows : List Row) (least n : ℕ) (e : Expected) → AreBelow least rows → least ≤ n → put_row (session_row n e) rows ≡ rows ++ session_row n e ∷ []
-put_last [] least n e are le = refl
-put_last (r ∷ rows) least n e ((m, x, is, lt), are) le =
-    let less : m < n = omega (arith, lt, le) in
-    rw (is, rowid_of m x, rowid_of n e, below m n less) (ap (λ rs. session_row m x ∷ rs) (put_last rows least n e are le))
+put_last : (rows : List Row) (least n m : ℕ) (e : Expected) → AreBelow least rows → least ≤ n → put_row (session_row n m e) rows ≡ rows ++ session_row n m e ∷ []
+put_last [] least n m e are le = refl
+put_last (r ∷ rows) least n m e ((k, a, x, is, lt), are) le =
+    let less : k < n = omega (arith, lt, le) in
+    rw (is, rowid_of k (a, x), rowid_of n (m, e), below k n less) (ap (λ rs. session_row k a x ∷ rs) (put_last rows least n m e are le))
 
 -- the row of a session behind the others is one more of the open sessions
-pub one_more_session : (rows : List Row) (m : finite.FinMap nat_cmp Expected) (least n : ℕ) (e : Expected) → rows ≡ session_rows m → AreBelow least rows
-    → least ≤ n → rows ++ session_row n e ∷ [] ≡ session_rows (finite.insert m n e)
-one_more_session rows m least n e is are le = sym (put_last rows least n e are le) ∙ ap (put_row (session_row n e)) is ∙ put_session m n e
+pub one_more_session : (rows : List Row) (s : finite.FinMap nat_cmp Expected) (began : Moments) (least n m : ℕ) (e : Expected) → rows ≡ session_rows s began
+    → AreBelow least rows → least ≤ n → rows ++ session_row n m e ∷ [] ≡ session_rows (finite.insert s n e) (finite.insert began n m)
+one_more_session rows s began least n m e is are le =
+    sym (put_last rows least n m e are le) ∙ ap (put_row (session_row n m e)) is ∙ put_session s began n m e
 
-pub below_more : (rows : List Row) (least n : ℕ) (e : Expected) → AreBelow least rows → least ≤ n → AreBelow (n + 1) (rows ++ session_row n e ∷ [])
-below_more [] least n e are le = ((n, e, refl, omega arith), tt)
-below_more (r ∷ rows) least n e ((m, x, is, lt), are) le =
-    let less : m < n + 1 = omega (arith, lt, le) in
-    ((m, x, is, less), below_more rows least n e are le)
+pub below_more : (rows : List Row) (least n m : ℕ) (e : Expected) → AreBelow least rows → least ≤ n → AreBelow (n + 1) (rows ++ session_row n m e ∷ [])
+below_more [] least n m e are le = ((n, m, e, refl, omega arith), tt)
+below_more (r ∷ rows) least n m e ((k, a, x, is, lt), are) le =
+    let less : k < n + 1 = omega (arith, lt, le) in
+    ((k, a, x, is, less), below_more rows least n m e are le)

@@ -18,7 +18,8 @@ use Rattle.authdata.specs.declared.profile.Profile.{Profile}
 use Rattle.credential_table.specs.Table.{AreRows, with_row}
 use Rattle.credential_table.proofs.RowLemmas.{set_at, changed_at}
 use Rattle.stored_site.specs.Rows.{credential_row, credential_rows}
-use Rattle.stored_site.specs.SessionRows.{session_row, session_rows}
+use Rattle.stored_site.specs.SessionRows.{Moments, session_row, session_rows}
+use Rattle.stored_site.proofs.Joined.{Timed, joined, joined_insert, joined_remove, rows_joined, timed_row, timed_rows}
 
 -- two numbers as rowids
 by_number : (m n : ℕ) → value_cmp (Int (pos m)) (Int (pos n)) ≡ nat_cmp m n
@@ -74,49 +75,52 @@ pushed rows row = put_behind 1 rows (length rows + 1) row (omega arith)
 
 -- ---- sessions
 
-pub rowid_of : (n : ℕ) (x : Expected) → rowid (session_row n x) ≡ Int (pos n)
-rowid_of n (ForSignIn x) = refl
-rowid_of n (ForRegistration x) = refl
+rowid_at : (n m : ℕ) (x : Expected) → rowid (session_row n m x) ≡ Int (pos n)
+rowid_at n m (ForSignIn x) = refl
+rowid_at n m (ForRegistration x) = refl
 
-compared : (n : ℕ) (x : Expected) (k : ℕ) (y : Expected) → value_cmp (rowid (session_row k y)) (rowid (session_row n x)) ≡ ordering_reverse (nat_cmp n k)
+pub rowid_of : (n : ℕ) (x : Timed) → rowid (timed_row n x) ≡ Int (pos n)
+rowid_of n x = rowid_at n x.0 x.1
+
+compared : (n : ℕ) (x : Timed) (k : ℕ) (y : Timed) → value_cmp (rowid (timed_row k y)) (rowid (timed_row n x)) ≡ ordering_reverse (nat_cmp n k)
 compared n x k y = rw (rowid_of n x, rowid_of k y) (by_number k n ∙ nat_cmp_total.antisymm k n)
 
-has_number : (n k : ℕ) (y : Expected) → has_rowid (pos n) (session_row k y) ≡ eq_by_cmp nat_cmp n k
+has_number : (n k : ℕ) (y : Timed) → has_rowid (pos n) (timed_row k y) ≡ eq_by_cmp nat_cmp n k
 has_number n k y = rw (rowid_of k y) (ap is_eq (by_number k n) ∙ (eq_by_cmp_equiv nat_cmp_total).symm k n)
 
-put_entry : (n : ℕ) (x : Expected) (es : List (ℕ × Expected))
-    → put_row (session_row n x) (map (λ e. session_row e.0 e.1) es) ≡ map (λ e. session_row e.0 e.1) (put nat_cmp n x es)
+put_entry : (n : ℕ) (x : Timed) (es : List (ℕ × Timed))
+    → put_row (timed_row n x) (map (λ e. timed_row e.0 e.1) es) ≡ map (λ e. timed_row e.0 e.1) (put nat_cmp n x es)
 put_entry n x [] = refl
 put_entry n x (e ∷ es) = go (nat_cmp n e.0) refl (put_entry n x es)
   where
     go : (o : Ordering) → nat_cmp n e.0 ≡ o
-        → put_row (session_row n x) (map (λ e. session_row e.0 e.1) es) ≡ map (λ e. session_row e.0 e.1) (put nat_cmp n x es)
-        → put_row (session_row n x) (map (λ e. session_row e.0 e.1) (e ∷ es)) ≡ map (λ e. session_row e.0 e.1) (put nat_cmp n x (e ∷ es))
+        → put_row (timed_row n x) (map (λ e. timed_row e.0 e.1) es) ≡ map (λ e. timed_row e.0 e.1) (put nat_cmp n x es)
+        → put_row (timed_row n x) (map (λ e. timed_row e.0 e.1) (e ∷ es)) ≡ map (λ e. timed_row e.0 e.1) (put nat_cmp n x (e ∷ es))
     go Less t more = rw (compared n x e.0 e.1, t) refl
-    go Equal t more = rw (compared n x e.0 e.1, t) (ap (λ k. session_row k x ∷ map (λ e. session_row e.0 e.1) es) (nat_cmp-IsAntisymmetric n e.0 t))
-    go Greater t more = rw (compared n x e.0 e.1, t) (ap (λ rs. session_row e.0 e.1 ∷ rs) more)
+    go Equal t more = rw (compared n x e.0 e.1, t) (ap (λ k. timed_row k x ∷ map (λ e. timed_row e.0 e.1) es) (nat_cmp-IsAntisymmetric n e.0 t))
+    go Greater t more = rw (compared n x e.0 e.1, t) (ap (λ rs. timed_row e.0 e.1 ∷ rs) more)
 
 -- the row that is written of a session is one more of the open sessions
-pub put_session : (m : finite.FinMap nat_cmp Expected) (n : ℕ) (x : Expected) → put_row (session_row n x) (session_rows m) ≡ session_rows (finite.insert m n x)
-put_session m n x = put_entry n x (finite.entries m) ∙ ap (map (λ e. session_row e.0 e.1)) (sym (entries-insert nat_cmp_total m n x))
+pub put_timed : (m : finite.FinMap nat_cmp Timed) (n : ℕ) (x : Timed) → put_row (timed_row n x) (timed_rows m) ≡ timed_rows (finite.insert m n x)
+put_timed m n x = put_entry n x (finite.entries m) ∙ ap (map (λ e. timed_row e.0 e.1)) (sym (entries-insert nat_cmp_total m n x))
 
-without_entry : (n : ℕ) (es : List (ℕ × Expected))
-    → without_rowid (pos n) (map (λ e. session_row e.0 e.1) es) ≡ map (λ e. session_row e.0 e.1) (filter (λ e. not (eq_by_cmp nat_cmp n e.0)) es)
+without_entry : (n : ℕ) (es : List (ℕ × Timed))
+    → without_rowid (pos n) (map (λ e. timed_row e.0 e.1) es) ≡ map (λ e. timed_row e.0 e.1) (filter (λ e. not (eq_by_cmp nat_cmp n e.0)) es)
 without_entry n [] = refl
 without_entry n (e ∷ es) = go (eq_by_cmp nat_cmp n e.0) refl (without_entry n es)
   where
     go : (b : Bool) → eq_by_cmp nat_cmp n e.0 ≡ b
-        → without_rowid (pos n) (map (λ e. session_row e.0 e.1) es) ≡ map (λ e. session_row e.0 e.1) (filter (λ e. not (eq_by_cmp nat_cmp n e.0)) es)
-        → without_rowid (pos n) (map (λ e. session_row e.0 e.1) (e ∷ es))
-        ≡ map (λ e. session_row e.0 e.1) (filter (λ e. not (eq_by_cmp nat_cmp n e.0)) (e ∷ es))
+        → without_rowid (pos n) (map (λ e. timed_row e.0 e.1) es) ≡ map (λ e. timed_row e.0 e.1) (filter (λ e. not (eq_by_cmp nat_cmp n e.0)) es)
+        → without_rowid (pos n) (map (λ e. timed_row e.0 e.1) (e ∷ es))
+        ≡ map (λ e. timed_row e.0 e.1) (filter (λ e. not (eq_by_cmp nat_cmp n e.0)) (e ∷ es))
     go true t more = rw (has_number n e.0 e.1, t) more
-    go false t more = rw (has_number n e.0 e.1, t) (ap (λ rs. session_row e.0 e.1 ∷ rs) more)
+    go false t more = rw (has_number n e.0 e.1, t) (ap (λ rs. timed_row e.0 e.1 ∷ rs) more)
 
-turned : (b : Bool) (x : Option Expected) → cond (not b) x None ≡ cond b None x
+turned : (b : Bool) (x : Option Timed) → cond (not b) x None ≡ cond b None x
 turned true x = refl
 turned false x = refl
 
-left : (m : finite.FinMap nat_cmp Expected) (n : ℕ) → finite.entries (finite.remove m n) ≡ filter (λ e. not (eq_by_cmp nat_cmp n e.0)) (finite.entries m)
+left : (m : finite.FinMap nat_cmp Timed) (n : ℕ) → finite.entries (finite.remove m n) ≡ filter (λ e. not (eq_by_cmp nat_cmp n e.0)) (finite.entries m)
 left m n =
     let keep : ℕ → Bool = λ x. not (eq_by_cmp nat_cmp n x) in
     let es = finite.entries m in
@@ -132,5 +136,22 @@ left m n =
     ap finite.entries (sym same) ∙ entries-from_sorted nat_cmp (filter (λ e. keep e.0) es) sorted
 
 -- the row that is deleted of a session is one less of the open sessions
-pub without_session : (m : finite.FinMap nat_cmp Expected) (n : ℕ) → without_rowid (pos n) (session_rows m) ≡ session_rows (finite.remove m n)
-without_session m n = without_entry n (finite.entries m) ∙ ap (map (λ e. session_row e.0 e.1)) (sym (left m n))
+without_timed : (m : finite.FinMap nat_cmp Timed) (n : ℕ) → without_rowid (pos n) (timed_rows m) ≡ timed_rows (finite.remove m n)
+without_timed m n = without_entry n (finite.entries m) ∙ ap (map (λ e. timed_row e.0 e.1)) (sym (left m n))
+
+-- the same of the sessions and their moments
+pub put_session : (m : finite.FinMap nat_cmp Expected) (began : Moments) (n moment : ℕ) (x : Expected)
+    → put_row (session_row n moment x) (session_rows m began) ≡ session_rows (finite.insert m n x) (finite.insert began n moment)
+put_session m began n moment x =
+    ap (put_row (session_row n moment x)) (sym (rows_joined m began))
+    ∙ put_timed (joined m began) n (moment, x)
+    ∙ ap timed_rows (sym (joined_insert m began n moment x))
+    ∙ rows_joined (finite.insert m n x) (finite.insert began n moment)
+
+pub without_session : (m : finite.FinMap nat_cmp Expected) (began : Moments) (n : ℕ)
+    → without_rowid (pos n) (session_rows m began) ≡ session_rows (finite.remove m n) (finite.remove began n)
+without_session m began n =
+    ap (without_rowid (pos n)) (sym (rows_joined m began))
+    ∙ without_timed (joined m began) n
+    ∙ ap timed_rows (sym (joined_remove m began n))
+    ∙ rows_joined (finite.remove m n) (finite.remove began n)

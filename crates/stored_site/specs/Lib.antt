@@ -4,5 +4,6 @@ pub mod Laws
 pub mod Private
 pub mod Writes
 pub mod Holds
+pub mod Expiry
 pub mod Opened
 pub mod Opening

@@ -9,7 +9,7 @@ use Rattle.credential_table.specs.Table.{IsTable}
 use Rattle.ceremony_sessions.specs.Sessions.{Expected, OpenSessions, AreLimits}
 use Rattle.site.specs.State.{SiteState}
 use Rattle.stored_site.specs.Rows.{IsStored}
-use Rattle.stored_site.specs.SessionRows.{IsStoredSession}
+use Rattle.stored_site.specs.SessionRows.{AreMoments, HaveMoments, IsStoredSession, Moments}
 use Rattle.stored_site.specs.Holds.{Holds, HasTables}
 use Rattle.stored_site.specs.declared.failure.OpenFailure.{OpenFailure}
 use Rattle.stored_site.specs.declared.failure.OpenFailure.TheVariants as opens
@@ -23,17 +23,18 @@ abbrev pub AreKept : OpenSessions → Type 0
 AreKept s = (n : ℕ) (e : Expected) → finite.get s.expected n ≡ Some e → (n < s.next) × IsStoredSession e × AreLimits (Some e)
 
 -- a site as the calls of `Site` leave one, which rows can hold: its credentials are a table of its profile, its sessions are kept
--- as above, at most 1,024 of them, and the number of the next is one that a rowid can be
-pub record IsKept (s : SiteState) : Type 0 where
+-- as above, at most 1,000,000 of them, which began at these moments, and the number of the next is one that a rowid can be
+pub record IsKept (s : SiteState) (began : Moments) : Type 0 where
   pub table : IsTable s.rp.profile s.rows
   pub credentials : AllByRecursion IsStored s.rows
   pub sessions : AreKept s.sessions
-  pub count : finite.len s.sessions.expected ≤ 1024
+  pub moments : HaveMoments s.sessions began × AreMoments began
+  pub count : finite.len s.sessions.expected ≤ 1000000
   pub next : (1 ≤ s.sessions.next) × (s.sessions.next < 2 ^ 63)
 
 -- these trees hold no site of a relying party and its profile
 abbrev pub NoSiteIn : RelyingParty → Trees → Type 0
-NoSiteIn rp db = (s : SiteState) → s.rp.rp_id ≡ rp.rp_id → s.rp.profile ≡ rp.profile → IsKept s → Holds s db → ⊥
+NoSiteIn rp db = (s : SiteState) (began : Moments) → s.rp.rp_id ≡ rp.rp_id → s.rp.profile ≡ rp.profile → IsKept s began → Holds s began db → ⊥
 
 -- a store holds no site of a relying party and its profile: its trees are no tables, or they hold none
 abbrev pub HoldsNone : RelyingParty → View → Type 0
@@ -49,6 +50,7 @@ pub record IsLeft (old new : View) : Type 0 where
 
 -- a refusal of what is stored, by its name, and no failure of the disk or of memory
 abbrev pub IsNamed : OpenFailure → Type 0
+IsNamed opens.BadBound = ⊥
 IsNamed opens.NoSite = Unit {0}
 IsNamed opens.OtherSite = Unit {0}
 IsNamed opens.TooMany = Unit {0}

@@ -1,8 +1,10 @@
 -- What private functions are proved against; no public clause cites it.
-use Rattle.std.specs.Prelude.{◌<◌, ◌≡◌, ◌+◌, ℕ, ℤ, List, [], ◌∷◌, ◌++◌, Option, Some, None, slice_get, IsTrue, false}
+use Rattle.std.specs.Prelude.{◌<◌, ◌≡◌, ◌+◌, ℕ, ℤ, pos, List, [], ◌∷◌, ◌++◌, Bool, Option, Some, None, slice_get, IsTrue, false, nat_lt}
 use Rattle.std.specs.FinMap as finite
-use Rattle.std.specs.List.{AllByRecursion}
+use Rattle.std.specs.List.{AllByRecursion, list_any}
+use Rattle.std.specs.Ordering.{eq_by_cmp, nat_cmp}
 use Rattle.sqlite_value.specs.Order.{Row}
+use Rattle.sqlite_trees.specs.Tree.{Trees}
 use Rattle.sqlite_trees.specs.View.{View, IsClean}
 use Rattle.verification.specs.Records.{Credential}
 use Rattle.credential_table.specs.Table.{AreRows, row_of, with_row}
@@ -10,6 +12,7 @@ use Rattle.ceremony_sessions.specs.Sessions.{Expected, Opening, begun, closed}
 use Rattle.site.specs.State.{SiteState}
 use Rattle.stored_site.specs.Rows.{credential_row}
 use Rattle.stored_site.specs.SessionRows.{session_row}
+use Rattle.stored_site.specs.Writes.{gone}
 use Rattle.sqlite_value.specs.declared.value.Value.{Value}
 use Rattle.sqlite_value.specs.declared.value.Value.TheVariants.{Null, Int, Real, Text, Blob}
 
@@ -44,11 +47,11 @@ pub record IsRowAt (s : SiteState) (id : List ℕ) (row : Row) : Type 0 where
   pub are : AreRows s.rp.profile s.rows
   pub is : row ≡ credential_row (place + 1) credential
 
--- the row of the session with a number
-pub record IsSessionRowAt (s : SiteState) (number : ℕ) (row : Row) : Type 0 where
+-- the row of the session with a number, which began at a moment
+pub record IsSessionRowAt (s : SiteState) (number began : ℕ) (row : Row) : Type 0 where
   pub session : Expected
   pub found : finite.get s.sessions.expected number ≡ Some session
-  pub is : row ≡ session_row number session
+  pub is : row ≡ session_row number began session
 
 -- a session was begun, with this number
 pub record Opens (s t : SiteState) (session : ℕ) : Type 0 where
@@ -87,4 +90,21 @@ pub record IsAtRest (v : View) : Type 0 where
 
 -- each row is of a session whose number is below this
 abbrev pub AreBelow : ℕ → List Row → Type 0
-AreBelow least rows = AllByRecursion (λ row. (n : ℕ) × (e : Expected) × (row ≡ session_row n e) × (n < least)) rows
+AreBelow least rows = AllByRecursion (λ row. (n : ℕ) × (m : ℕ) × (e : Expected) × (row ≡ session_row n m e) × (n < least)) rows
+
+-- whether a number stands in a list; whether there is a moment, and it is earlier than this
+abbrev pub is_in : ℕ → List ℕ → Bool
+is_in n numbers = list_any (eq_by_cmp nat_cmp n) numbers
+
+abbrev pub is_older : ℕ → Option ℕ → Bool
+is_older before None = false
+is_older before (Some moment) = nat_lt moment before
+
+-- the rows of these rowids are gone, and these numbers are out of a map, one after the other
+abbrev pub all_gone : List ℕ → Trees → Trees
+all_gone [] db = db
+all_gone (n ∷ ns) db = all_gone ns (gone 1 (pos n) db)
+
+abbrev pub removed : {X : Type 0} → List ℕ → finite.FinMap nat_cmp X → finite.FinMap nat_cmp X
+removed [] m = m
+removed (n ∷ ns) m = removed ns (finite.remove m n)

@@ -1,5 +1,5 @@
 -- A relying party's open sessions as rows of a table of a SQLite file.
-use Rattle.std.specs.Prelude.{◌≡◌, ◌≤◌, length, ℕ, pos, Option, Some, None, List, [], ◌∷◌, map, slice_get, codes}
+use Rattle.std.specs.Prelude.{◌≡◌, ◌≤◌, ◌<◌, ◌^◌, length, ℕ, pos, Option, Some, None, List, [], ◌∷◌, is_some, map, slice_get, codes}
 use Rattle.std.specs.List.{flat_map}
 use Rattle.std.specs.FinMap as finite
 use Rattle.std.specs.Ordering.{nat_cmp}
@@ -26,12 +26,12 @@ abbrev pub listed : List (List ℕ) → Row
 listed allow = map (λ i. blob_or_null (slice_get allow i)) (0 ∷ 1 ∷ 2 ∷ 3 ∷ 4 ∷ 5 ∷ 6 ∷ 7 ∷ [])
 
 -- the columns: number, ceremony, challenge, user_handle, user_verification, algorithms, began_at, allow_1 to allow_8
-abbrev pub session_row : ℕ → Expected → Row
-session_row number (ForSignIn e) =
-    Int (pos number) ∷ Null ∷ Text (codes "sign-in") ∷ Blob e.challenge ∷ blob_or_null e.user ∷ truth_value e.uv ∷ Null ∷ Null ∷ listed e.allow
-session_row number (ForRegistration e) =
+abbrev pub session_row : ℕ → ℕ → Expected → Row
+session_row number began (ForSignIn e) =
+    Int (pos number) ∷ Null ∷ Text (codes "sign-in") ∷ Blob e.challenge ∷ blob_or_null e.user ∷ truth_value e.uv ∷ Null ∷ Int (pos began) ∷ listed e.allow
+session_row number began (ForRegistration e) =
     Int (pos number) ∷ Null ∷ Text (codes "registration") ∷ Blob e.challenge ∷ Blob e.user ∷ truth_value e.uv
-    ∷ Text (flat_map number_text e.algorithms) ∷ Null ∷ listed []
+    ∷ Text (flat_map number_text e.algorithms) ∷ Int (pos began) ∷ listed []
 
 -- it lists no more credentials than a row has columns for
 abbrev pub ListsFew : Expected → Type 0
@@ -41,11 +41,30 @@ ListsFew (ForRegistration e) = Unit {0}
 abbrev pub ListFew : OpenSessions → Type 0
 ListFew s = (n : ℕ) (e : Expected) → finite.get s.expected n ≡ Some e → ListsFew e
 
+-- when each open session began, in seconds of the host's clock, by its number
+abbrev pub Moments : Type 0
+Moments = finite.FinMap nat_cmp ℕ
+
+abbrev pub or_0 : Option ℕ → ℕ
+or_0 None = 0
+or_0 (Some moment) = moment
+
+abbrev pub moment_of : Moments → ℕ → ℕ
+moment_of began n = or_0 (finite.get began n)
+
+-- just the open sessions have moments
+abbrev pub HaveMoments : OpenSessions → Moments → Type 0
+HaveMoments s began = (n : ℕ) → is_some (finite.get began n) ≡ is_some (finite.get s.expected n)
+
+-- each moment is one that a column can hold
+abbrev pub AreMoments : Moments → Type 0
+AreMoments began = (n : ℕ) → moment_of began n < 2 ^ 63
+
 -- what a row can hold: a challenge of 32 bytes, and at most 8 credentials that may answer
 abbrev pub IsStoredSession : Expected → Type 0
 IsStoredSession (ForSignIn e) = (length e.challenge ≡ 32) × (length e.allow ≤ 8)
 IsStoredSession (ForRegistration e) = length e.challenge ≡ 32
 
 -- the rows of the open sessions, in the order of their numbers
-abbrev pub session_rows : finite.FinMap nat_cmp Expected → List Row
-session_rows sessions = map (λ e. session_row e.0 e.1) (finite.entries sessions)
+abbrev pub session_rows : finite.FinMap nat_cmp Expected → Moments → List Row
+session_rows sessions began = map (λ e. session_row e.0 (moment_of began e.0) e.1) (finite.entries sessions)

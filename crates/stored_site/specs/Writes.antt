@@ -11,6 +11,10 @@ set tree row db = with_tree db tree (put_row row (db tree))
 abbrev pub gone : ℕ → ℤ → Trees → Trees
 gone tree id db = with_tree db tree (without_rowid id (db tree))
 
+-- the transaction made these trees so far
+abbrev pub IsPending : View → View → Trees → Type 0
+IsPending old new db = new ≡ record old { trees = db; cursors = new.cursors }
+
 -- the transaction made these trees, and they are committed
 pub record IsWritten (old new : View) (db : Trees) : Type 0 where
   pub committed : new.committed ≡ db

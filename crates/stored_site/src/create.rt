@@ -9,6 +9,7 @@ ghost use Rattle.stored_site.specs.Holds.{HasNoRow, HasTables, Holds, IsCommitte
 ghost use Rattle.stored_site.specs.declared.failure.CreateFailure.TheVariants as creates;
 ghost use Rattle.stored_site.specs.Private.{IsAtRest, IsSameView};
 
+use crate::began_at::BeganAt;
 use crate::failure::CreateFailure;
 use crate::held::site_row;
 use crate::scan::read_rows;
@@ -78,13 +79,16 @@ fn is_rowid(number: u64) -> bool
     number < 9_223_372_036_854_775_808
 }
 
+/// The most sessions that a site over a store may be bound to.
+pub const MAX_BOUND: usize = 1_000_000;
+
 /// Commits a site in a store whose tables are empty.
 fn write_new<S: Store>(alloc: Global, site: &Site, store: &mut S) -> Result<(), CreateFailure>
     requires no_credential { site.now.rows ≡ [] }
     requires no_session { site.now.sessions.expected ≡ finite.empty }
-    ensures stored { OnOk result (IsClean (S.Store.view store.new) → IsCommitted site.now (S.Store.view store.new)) }
-    ensures crash { (db : Trees) → IsClean (S.Store.view store.new) → S.Store.recovers store.new db → S.Store.recovers store.old db ⊎ Holds site.now db }
-    ensures kept { IfErr result (λ e. (e ≡ creates.NotNew) ⊎ (e ≡ creates.BadNumber) → (db : Trees) → S.Store.recovers store.new db
+    ensures stored { OnOk result (IsClean (S.Store.view store.new) → IsCommitted site.now finite.empty (S.Store.view store.new)) }
+    ensures crash { (db : Trees) → IsClean (S.Store.view store.new) → S.Store.recovers store.new db → S.Store.recovers store.old db ⊎ Holds site.now finite.empty db }
+    ensures kept { IfErr result (λ e. (e ≡ creates.BadBound) ⊎ (e ≡ creates.NotNew) ⊎ (e ≡ creates.BadNumber) → (db : Trees) → S.Store.recovers store.new db
         → S.Store.recovers store.old db) }
     ensures not_new { IfErr result (λ e. e ≡ creates.NotNew → IsClean (S.Store.view store.new) → HasTables (S.Store.view store.new)
         → HasNoRow (S.Store.view store.new).committed → ⊥) }
@@ -110,8 +114,9 @@ impl<S: Store> StoredSite<S> {
     /// A site without credentials and sessions, in a store whose trees 0, 1 and 2 are tables without rows. What an
     /// earlier transaction of the store has not committed is undone.
     ///
-    /// `NotNew` where a tree is no table, or has a row, and `BadNumber` where the number of the next session is 2^63 or
-    /// more; nothing is written then. `Failed` where the disk or memory failed. The store is handed back.
+    /// `BadBound` where more than 1,000,000 sessions could be open, `NotNew` where a tree is no table, or has a row, and
+    /// `BadNumber` where the number of the next session is 2^63 or more; nothing is written then. `Failed` where the disk
+    /// or memory failed. The store is handed back.
     pub fn create(
         alloc: Global,
         site: Site,
@@ -119,23 +124,28 @@ impl<S: Store> StoredSite<S> {
     ) -> Result<StoredSite<S>, (CreateFailure, S)>
         requires no_credential { site.rows ≡ [] }
         requires no_session { site.sessions.expected ≡ finite.empty }
-        ensures made { IfOk result (λ s. (s.site ≡ site) × (s.is_shut ≡ false)) }
+        ensures made { IfOk result (λ s. (s.site ≡ site) × (s.began ≡ finite.empty) × (s.is_shut ≡ false)) }
+        ensures bound { IfOk result (λ s. s.site.sessions.max_open ≤ 1000000) }
         ensures stored { IfOk result (Stored S.Store.view) }
         // An open after a crash finds what it could find before, or the new site.
         ensures crash { IfOk result (λ s. (db : Trees) → IsClean (S.Store.view s.store) → S.Store.recovers s.store db
-            → S.Store.recovers store db ⊎ Holds site db) }
-        ensures failed { IfErr result (λ e. (db : Trees) → IsClean (S.Store.view e.1) → S.Store.recovers e.1 db → S.Store.recovers store db ⊎ Holds site db) }
+            → S.Store.recovers store db ⊎ Holds site finite.empty db) }
+        ensures failed { IfErr result (λ e. (db : Trees) → IsClean (S.Store.view e.1) → S.Store.recovers e.1 db → S.Store.recovers store db ⊎ Holds site finite.empty db) }
         // Where it is refused nothing has changed, and there is a cause.
-        ensures kept { IfErr result (λ e. (e.0 ≡ creates.NotNew) ⊎ (e.0 ≡ creates.BadNumber) → (db : Trees) → S.Store.recovers e.1 db
+        ensures kept { IfErr result (λ e. (e.0 ≡ creates.BadBound) ⊎ (e.0 ≡ creates.NotNew) ⊎ (e.0 ≡ creates.BadNumber) → (db : Trees) → S.Store.recovers e.1 db
             → S.Store.recovers store db) }
         ensures not_new { IfErr result (λ e. e.0 ≡ creates.NotNew → IsClean (S.Store.view e.1) → HasTables (S.Store.view e.1)
             → HasNoRow (S.Store.view e.1).committed → ⊥) }
         ensures number { IfErr result (λ e. e.0 ≡ creates.BadNumber → 2 ^ 63 ≤ site.sessions.next) }
     {
+        if MAX_BOUND < site.max_open() {
+            return Err((CreateFailure::BadBound, store));
+        }
         match write_new(alloc, &site, &mut store) {
             Ok(()) => Ok(StoredSite {
                 alloc,
                 site,
+                began: BeganAt::new(alloc),
                 store,
                 is_shut: false,
             }),

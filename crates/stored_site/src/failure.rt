@@ -8,6 +8,7 @@ ghost use Rattle.stored_site.specs.declared.failure.OpenFailure.TheVariants as o
 ghost use Rattle.stored_site.specs.Opening.{of_begin, of_row, of_table};
 ghost use Rattle.stored_site.specs.declared.failure.BeginFailure.TheVariants as begin_failures;
 ghost use Rattle.stored_site.specs.declared.failure.FinishFailure.TheVariants as finish_failures;
+ghost use Rattle.stored_site.specs.declared.failure.PacketFailure.TheVariants as packet_failures;
 
 use crate::error::RowError;
 use site::{BeginError, VerificationError};
@@ -46,6 +47,9 @@ impl From<AllocError> for Failure {
 /// Why no site is made over a store.
 #[derive(Clone, Copy, Debug, PartialEq, Eq, Drop, thiserror::Error)]
 pub enum CreateFailure {
+    /// More than 1,000,000 sessions could be open.
+    #[error("the bound on open sessions is too high")]
+    BadBound,
     /// A tree of the store is no table, or has a row.
     #[error("the tables are not those of a new site")]
     NotNew,
@@ -76,6 +80,9 @@ impl From<AllocError> for CreateFailure {
 /// Why a store is not opened as a site's.
 #[derive(Clone, Copy, Debug, PartialEq, Eq, Drop, thiserror::Error)]
 pub enum OpenFailure {
+    /// More than 1,000,000 sessions could be open.
+    #[error("the bound on open sessions is too high")]
+    BadBound,
     /// A tree of the store is no table, or there is no row of a site.
     #[error("the tables are not those of a site")]
     NoSite,
@@ -156,6 +163,9 @@ pub enum BeginFailure {
     /// The site refuses it, or had no memory for it. Nothing has changed.
     #[error("the site refuses it")]
     Site(BeginError),
+    /// The moment in which it begins is 2^63 seconds or more, which no row can have. Nothing has changed.
+    #[error("the moment fits no row")]
+    BadMoment,
     /// The number behind the session's would be 2^63, which no row can have. Nothing has changed.
     #[error("the next session's number fits no row")]
     BadNumber,
@@ -169,6 +179,14 @@ impl From<BeginError> for BeginFailure {
 
     fn from(e: BeginError) -> BeginFailure {
         BeginFailure::Site(e)
+    }
+}
+
+impl From<AllocError> for BeginFailure {
+    ghost from_gives = { λ _ f. f ≡ begin_failures.Store (failures.Failed stores.OutOfMemory) };
+
+    fn from(e: AllocError) -> BeginFailure {
+        BeginFailure::Store(Failure::from(e))
     }
 }
 
@@ -205,5 +223,33 @@ impl<W> From<Failure> for FinishFailure<W> {
 
     fn from(e: Failure) -> FinishFailure<W> {
         FinishFailure::Store(e)
+    }
+}
+
+/// Why a ceremony by packets is not finished, whose steps have refusals `W`.
+#[derive(Clone, Copy, Debug, PartialEq, Eq, Drop, thiserror::Error)]
+#[error_bound(W: Display)]
+pub enum PacketFailure<W> {
+    /// The packets, their message or the site refuse it, or there was no memory for it. Nothing has changed.
+    #[error("{0}")]
+    Site(ceremony::Error<W>),
+    /// It was not asked, or what it answered is not stored.
+    #[error("it is not stored")]
+    Store(Failure),
+}
+
+impl<W> From<ceremony::Error<W>> for PacketFailure<W> {
+    ghost from_gives = { λ e f. f ≡ packet_failures.Site e };
+
+    fn from(e: ceremony::Error<W>) -> PacketFailure<W> {
+        PacketFailure::Site(e)
+    }
+}
+
+impl<W> From<Failure> for PacketFailure<W> {
+    ghost from_gives = { λ e f. f ≡ packet_failures.Store e };
+
+    fn from(e: Failure) -> PacketFailure<W> {
+        PacketFailure::Store(e)
     }
 }

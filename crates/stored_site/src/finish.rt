@@ -1,6 +1,7 @@
 //! Finishing a ceremony over a store.
 
 ghost use Rattle.std.specs.Prelude.{◌≡◌, ◌⊎◌, ◌<◌, ◌^◌, IfErr, IfOk, IsErrOf, IsSome, OnOk, true};
+ghost use Rattle.std.specs.FinMap as finite;
 ghost use Rattle.sqlite_trees.specs.Tree.{Trees};
 ghost use Rattle.sqlite_trees.specs.View.{IsClean};
 ghost use Rattle.credential_table.specs.Table.{row_of};
@@ -16,6 +17,7 @@ ghost use Rattle.site.specs.Answers.{IsRegistered, IsSignedIn};
 ghost use Rattle.site.specs.State.{IsAfterRegistration, IsAfterSignIn, SiteState, judged_registration, judged_sign_in};
 ghost use Rattle.stored_site.specs.Holds.{HasTables, Holds, IsCommitted, IsFailure, Stored, Survives};
 ghost use Rattle.stored_site.specs.Private.{Accepts};
+ghost use Rattle.stored_site.specs.SessionRows.{Moments};
 ghost use Rattle.stored_site.specs.declared.failure.Failure.{Failure as Cause};
 ghost use Rattle.stored_site.specs.declared.failure.Failure.TheVariants as failures;
 ghost use Rattle.stored_site.specs.declared.failure.FinishFailure.TheVariants as finishes;
@@ -33,7 +35,7 @@ use sqlite_trees::store::Store;
 use std::alloc::Global;
 
 /// Commits the credential of an id as the site has it now, and that the session of a number is closed.
-fn store_acceptance<S: Store>(
+pub fn store_acceptance<S: Store>(
     alloc: Global,
     site: &Site,
     store: &mut S,
@@ -43,10 +45,13 @@ fn store_acceptance<S: Store>(
     requires fits { number < 2 ^ 63 }
     requires there { IsSome (row_of id.now site.now.rows) }
     requires tables { IsClean (S.Store.view store.old) → HasTables (S.Store.view store.old) }
-    ensures stored { (s : SiteState) → Accepts s site.now id.now number → (IsClean (S.Store.view store.old) → IsCommitted s (S.Store.view store.old))
-        → OnOk result (IsClean (S.Store.view store.new) → IsCommitted site.now (S.Store.view store.new)) }
-    ensures crash { (s : SiteState) → Accepts s site.now id.now number → (IsClean (S.Store.view store.old) → IsCommitted s (S.Store.view store.old))
-        → (db : Trees) → IsClean (S.Store.view store.new) → S.Store.recovers store.new db → Holds s db ⊎ Holds site.now db }
+    ensures stored { (s : SiteState) (began : Moments) → Accepts s site.now id.now number
+        → (IsClean (S.Store.view store.old) → IsCommitted s began (S.Store.view store.old))
+        → OnOk result (IsClean (S.Store.view store.new) → IsCommitted site.now (finite.remove began number) (S.Store.view store.new)) }
+    ensures crash { (s : SiteState) (began : Moments) → Accepts s site.now id.now number
+        → (IsClean (S.Store.view store.old) → IsCommitted s began (S.Store.view store.old))
+        → (db : Trees) → IsClean (S.Store.view store.new) → S.Store.recovers store.new db
+        → Holds s began db ⊎ Holds site.now (finite.remove began number) db }
     ensures failed { IfErr result (λ e. e ≡ failures.Shut → ⊥) }
 {
     let row = row_at(alloc, site, id)?;
@@ -69,11 +74,12 @@ impl<S: Store> StoredSite<S> {
         ensures refused { IfErr result (λ e. (why : Refusal SignInStep) → e ≡ finishes.Site why → (self.new ≡ self.old)
             × sign_in.IsRefused (V.valid verifier.now) (judged_sign_in self.old.site session (assertion_parts_view response.now)) why) }
         ensures after { OnOk result (IsAfterSignIn self.old.site session (assertion_parts_view response.now) self.new.site) }
+        ensures moments { OnOk result (self.new.began ≡ finite.remove self.old.began session) }
         ensures failed { IfErr result (λ e. (why : Cause) → e ≡ finishes.Store why → IsFailure self.old self.new why) }
         ensures shut { self.old.is_shut ≡ true → IsErrOf result (finishes.Store failures.Shut) }
         ensures stored { OnOk result (Stored S.Store.view self.new) }
         // A crash leaves the site from after it only where the response passes.
-        ensures crash { Survives S.Store.view S.Store.recovers self.old self.new (λ t.
+        ensures crash { Survives S.Store.view S.Store.recovers self.old self.new (finite.remove self.old.began session) (λ t.
             PassesSignIn (V.valid verifier.now) (judged_sign_in self.old.site session (assertion_parts_view response.now))
             × IsAfterSignIn self.old.site session (assertion_parts_view response.now) t) }
     {
@@ -82,6 +88,7 @@ impl<S: Store> StoredSite<S> {
         }
         let signed_in = self.site.finish_parts(verifier, session, response)?;
         self.is_shut = true;
+        self.began.remove(session);
         store_acceptance(
             self.alloc,
             &self.site,
@@ -107,11 +114,12 @@ impl<S: Store> StoredSite<S> {
         ensures refused { IfErr result (λ e. (why : Refusal RegistrationStep) → e ≡ finishes.Site why → (self.new ≡ self.old)
             × registration.IsRefused (V.valid verifier.now) (judged_registration self.old.site session (registration_parts_view response.now)) why) }
         ensures after { OnOk result (IsAfterRegistration self.old.site session (registration_parts_view response.now) self.new.site) }
+        ensures moments { OnOk result (self.new.began ≡ finite.remove self.old.began session) }
         ensures failed { IfErr result (λ e. (why : Cause) → e ≡ finishes.Store why → IsFailure self.old self.new why) }
         ensures shut { self.old.is_shut ≡ true → IsErrOf result (finishes.Store failures.Shut) }
         ensures stored { OnOk result (Stored S.Store.view self.new) }
         // A crash leaves the site from after it only where the response passes.
-        ensures crash { Survives S.Store.view S.Store.recovers self.old self.new (λ t.
+        ensures crash { Survives S.Store.view S.Store.recovers self.old self.new (finite.remove self.old.began session) (λ t.
             PassesRegistration (V.valid verifier.now) (judged_registration self.old.site session (registration_parts_view response.now))
             × IsAfterRegistration self.old.site session (registration_parts_view response.now) t) }
     {
@@ -122,6 +130,7 @@ impl<S: Store> StoredSite<S> {
             .site
             .finish_registration_parts(verifier, session, response)?;
         self.is_shut = true;
+        self.began.remove(session);
         store_acceptance(
             self.alloc,
             &self.site,

@@ -33,14 +33,20 @@ pub fn row_at(alloc: Global, site: &Site, id: &[u8]) -> Result<Row, AllocError>
     credential_row(alloc, place as u32 + 1, &credential)
 }
 
-/// The row of the session with a number.
-pub fn session_row_at(alloc: Global, site: &Site, number: u64) -> Result<Row, AllocError>
+/// The row of the session with a number, which began at a moment.
+pub fn session_row_at(
+    alloc: Global,
+    site: &Site,
+    number: u64,
+    began_at: u64,
+) -> Result<Row, AllocError>
     requires fits { number < 2 ^ 63 }
+    requires moment { began_at < 2 ^ 63 }
     requires there { IsSome (finite.get site.now.sessions.expected number) }
-    ensures row { IfOk result (IsSessionRowAt site.now number) }
+    ensures row { IfOk result (IsSessionRowAt site.now number began_at) }
     ensures keyed { IfOk result (λ row. IsTrue (is_int (rowid row))) }
 {
-    session_row(alloc, number, site.session(number).unwrap())
+    session_row(alloc, number, began_at, site.session(number).unwrap())
 }
 
 /// The row of a relying party whose next session has this number.

@@ -1,15 +1,18 @@
 //! A relying party's credentials and sessions as rows of a SQLite file.
 #![tactic(auto)]
 
+mod began_at;
 mod begin;
 mod create;
 mod credentials;
 mod error;
+mod expire;
 mod failure;
 mod finish;
 mod held;
 mod law;
 mod open;
+mod packets;
 mod reading;
 mod restoring;
 mod retire;
@@ -17,16 +20,15 @@ mod scan;
 mod session_reading;
 mod sessions;
 mod stored;
-#[cfg(test)]
-mod tests;
-#[cfg(test)]
-mod tests_stored;
 mod values;
 mod writes;
 
+pub use create::MAX_BOUND;
 pub use credentials::{credential_row, read_credential};
 pub use error::RowError;
-pub use failure::{BeginFailure, CreateFailure, Failure, FinishFailure, OpenFailure};
+pub use failure::{
+    BeginFailure, CreateFailure, Failure, FinishFailure, OpenFailure, PacketFailure,
+};
 pub use law::row_laws;
 pub use session_reading::read_session;
 pub use sessions::session_row;

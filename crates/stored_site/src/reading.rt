@@ -8,9 +8,11 @@ ghost use Rattle.sqlite_trees.specs.declared.store.Shape.TheVariants.{Table};
 ghost use Rattle.verification.specs.Records.{RelyingParty};
 ghost use Rattle.stored_site.specs.Holds.{AreRowids, HasTables, Holds};
 ghost use Rattle.stored_site.specs.Opened.{AreGiven, IsLeft, IsNamed, NoSiteIn};
+ghost use Rattle.stored_site.specs.SessionRows.{HaveMoments};
 ghost use Rattle.stored_site.specs.Opening.{HasRows};
 ghost use Rattle.stored_site.specs.Private.{IsSameView};
 
+use crate::began_at::BeganAt;
 use crate::failure::OpenFailure;
 use crate::restoring::{next_in, sessions_of, table_of};
 use crate::scan::read_rows;
@@ -72,7 +74,7 @@ pub fn read_tables<S: Store>(alloc: Global, store: &mut S) -> Result<TableRows, 
     ensures crash { (db : Trees) → S.Store.recovers store.new db → S.Store.recovers store.old db }
 {
     let credentials = rows_of(alloc, store, 0, 65_537)?;
-    let sessions = rows_of(alloc, store, 1, 1_025)?;
+    let sessions = rows_of(alloc, store, 1, 1_000_001)?;
     let site = rows_of(alloc, store, 2, 2)?;
     Ok(TableRows {
         credentials,
@@ -81,19 +83,27 @@ pub fn read_tables<S: Store>(alloc: Global, store: &mut S) -> Result<TableRows, 
     })
 }
 
-/// Puts the credentials and sessions of these rows in the place of a site's.
-pub fn restore_rows(alloc: Global, site: &mut Site, rows: &TableRows) -> Result<(), OpenFailure>
-    ensures holds { OnOk result ((db : Trees) → HasRows db rows.now.credentials.items rows.now.sessions.items rows.now.site.items → Holds site.new db) }
-    ensures party { OnOk result ((site.new.rp ≡ site.old.rp) × (site.new.policy ≡ site.old.policy)) }
+/// Puts the credentials and sessions of these rows in the place of a site's; answers when the sessions began.
+pub fn restore_rows(
+    alloc: Global,
+    site: &mut Site,
+    rows: &TableRows,
+) -> Result<BeganAt, OpenFailure>
+    ensures holds { IfOk result (λ began. (db : Trees) → HasRows db rows.now.credentials.items rows.now.sessions.items rows.now.site.items
+        → Holds site.new began db) }
+    ensures moments { IfOk result (λ began. HaveMoments site.new.sessions began) }
+    ensures party { OnOk result ((site.new.rp ≡ site.old.rp) × (site.new.policy ≡ site.old.policy)
+        × (site.new.sessions.max_open ≡ site.old.sessions.max_open)) }
     ensures numbers { OnOk result (AreRowids site.new.sessions × AreGiven site.new.sessions) }
     ensures none { IfErr result (λ e. IsNamed e → (db : Trees) → HasRows db rows.now.credentials.items rows.now.sessions.items rows.now.site.items
         → NoSiteIn site.old.rp db) }
 {
     let next = next_in(alloc, site.rp_id(), &rows.site)?;
     let table = table_of(alloc, site.profile(), &rows.credentials)?;
-    let sessions = sessions_of(alloc, &rows.sessions, next)?;
+    let (mut sessions, began) = sessions_of(alloc, &rows.sessions, next)?;
+    sessions.set_max_open(site.max_open());
     if !site.restore(table, sessions) {
         return Err(OpenFailure::BadRow);
     }
-    Ok(())
+    Ok(began)
 }

@@ -11,9 +11,10 @@ ghost use Rattle.credential_table.specs.Views.{rows_view};
 ghost use Rattle.ceremony_sessions.specs.Sessions.{AreLimits, Expected, OpenSessions};
 ghost use Rattle.stored_site.specs.Holds.{AreRowids, site_row};
 ghost use Rattle.stored_site.specs.Rows.{IsStored, credential_rows};
-ghost use Rattle.stored_site.specs.SessionRows.{IsStoredSession, session_row, session_rows};
+ghost use Rattle.stored_site.specs.SessionRows.{HaveMoments, IsStoredSession, Moments, session_row, session_rows};
 ghost use Rattle.stored_site.specs.Opened.{AreGiven, AreKept, IsNamed};
 
+use crate::began_at::BeganAt;
 use crate::credentials::read_credential;
 use crate::failure::OpenFailure;
 use crate::held::party_row;
@@ -87,19 +88,21 @@ pub fn table_of(alloc: Global, profile: Profile, rows: &[Row]) -> Result<Table, 
     Ok(table)
 }
 
-/// Opens the session of a row again, whose number is at least this; answers the number behind it.
+/// Opens the session of a row again, whose number is at least this, with its moment; answers the number behind it.
 fn restore_session(
     alloc: Global,
     row: &Row,
     least: u64,
     sessions: &mut Sessions,
+    began: &mut BeganAt,
 ) -> Result<u64, OpenFailure>
-    ensures restored { IfOk result (λ behind. (n : ℕ) × (e : Expected) × (row.now ≡ session_row n e) × (least ≤ n) × (n < sessions.old.next)
-        × (behind ≡ n + 1) × (n < 2 ^ 63) × (sessions.new ≡ record sessions.old { expected = finite.insert sessions.old.expected n e })) }
-    ensures none { IfErr result (λ err. IsNamed err → (n : ℕ) (e : Expected) → row.now ≡ session_row n e → IsStoredSession e → AreLimits (Some e)
+    ensures restored { IfOk result (λ behind. (n : ℕ) × (m : ℕ) × (e : Expected) × (row.now ≡ session_row n m e) × (least ≤ n) × (n < sessions.old.next)
+        × (behind ≡ n + 1) × (n < 2 ^ 63) × (sessions.new ≡ record sessions.old { expected = finite.insert sessions.old.expected n e })
+        × (began.new ≡ finite.insert began.old n m)) }
+    ensures none { IfErr result (λ err. IsNamed err → (n m : ℕ) (e : Expected) → row.now ≡ session_row n m e → IsStoredSession e → AreLimits (Some e)
         → least ≤ n → n < sessions.old.next → ⊥) }
 {
-    let (number, session) = read_session(alloc, row)?;
+    let (number, moment, session) = read_session(alloc, row)?;
     if number < least {
         return Err(OpenFailure::BadRow);
     }
@@ -107,22 +110,29 @@ fn restore_session(
         return Err(OpenFailure::BadRow);
     }
     sessions.restore(number, session)?;
+    began.insert(number, moment)?;
     Ok(number + 1)
 }
 
-/// The open sessions of these rows, where the next has this number.
-pub fn sessions_of(alloc: Global, rows: &[Row], next: u64) -> Result<Sessions, OpenFailure>
+/// The open sessions of these rows, where the next has this number, and when they began.
+pub fn sessions_of(
+    alloc: Global,
+    rows: &[Row],
+    next: u64,
+) -> Result<(Sessions, BeganAt), OpenFailure>
     requires { 1 ≤ next }
-    ensures rows { IfOk result (λ sessions. rows.now ≡ session_rows sessions.expected) }
-    ensures next { IfOk result (λ sessions. sessions.next ≡ next) }
-    ensures numbers { IfOk result (λ sessions. AreRowids sessions × AreGiven sessions) }
-    ensures none { IfErr result (λ err. IsNamed err → (sessions : OpenSessions) → sessions.next ≡ next → AreKept sessions
-        → rows.now ≡ session_rows sessions.expected → ⊥) }
+    ensures rows { IfOk result (λ x. rows.now ≡ session_rows x.0.expected x.1) }
+    ensures next { IfOk result (λ x. x.0.next ≡ next) }
+    ensures numbers { IfOk result (λ x. AreRowids x.0 × AreGiven x.0) }
+    ensures moments { IfOk result (λ x. HaveMoments x.0 x.1) }
+    ensures none { IfErr result (λ err. IsNamed err → (sessions : OpenSessions) (began : Moments) → sessions.next ≡ next → AreKept sessions
+        → rows.now ≡ session_rows sessions.expected began → ⊥) }
 {
     let mut sessions = Sessions::new(alloc, next);
+    let mut began = BeganAt::new(alloc);
     let mut least = 0;
     for row in rows {
-        least = restore_session(alloc, row, least, &mut sessions)?;
+        least = restore_session(alloc, row, least, &mut sessions, &mut began)?;
     }
-    Ok(sessions)
+    Ok((sessions, began))
 }

@@ -72,7 +72,7 @@ fn user_in(alloc: Global, row: &Row) -> Result<Option<Vec<u8>>, AllocError>
 
 /// Copies of the ids of the credentials that may answer.
 fn listed_in(alloc: Global, row: &Row) -> Result<Vec<Vec<u8>>, AllocError>
-    ensures { (n : ℕ) (e : ExpectedSignIn) → length e.allow ≤ 8 → row.now ≡ session_row n (ForSignIn e)
+    ensures { (n m : ℕ) (e : ExpectedSignIn) → length e.allow ≤ 8 → row.now ≡ session_row n m (ForSignIn e)
         → IfOk result (λ v. map (λ id. id.items) v.items ≡ e.allow) }
 {
     let mut allow = Vec::new(alloc);
@@ -87,7 +87,7 @@ fn listed_in(alloc: Global, row: &Row) -> Result<Vec<Vec<u8>>, AllocError>
 
 /// The session for sign-in that a row seems to be.
 fn seen_sign_in(alloc: Global, row: &Row) -> Result<Option<Session>, AllocError>
-    ensures { (n : ℕ) (e : ExpectedSignIn) → IsStoredSession (ForSignIn e) → row.now ≡ session_row n (ForSignIn e)
+    ensures { (n m : ℕ) (e : ExpectedSignIn) → IsStoredSession (ForSignIn e) → row.now ≡ session_row n m (ForSignIn e)
         → IfOk result (λ s. option_map session_view s ≡ Some (ForSignIn e)) }
 {
     let Some(challenge) = challenge_in(row) else {
@@ -106,7 +106,7 @@ fn seen_sign_in(alloc: Global, row: &Row) -> Result<Option<Session>, AllocError>
 
 /// The session for registration that a row seems to be.
 fn seen_registration(alloc: Global, row: &Row) -> Result<Option<Session>, AllocError>
-    ensures { (n : ℕ) (e : ExpectedRegistration) → IsStoredSession (ForRegistration e) → row.now ≡ session_row n (ForRegistration e)
+    ensures { (n m : ℕ) (e : ExpectedRegistration) → IsStoredSession (ForRegistration e) → row.now ≡ session_row n m (ForRegistration e)
         → IfOk result (λ s. option_map session_view s ≡ Some (ForRegistration e)) }
 {
     let Some(challenge) = challenge_in(row) else {
@@ -128,8 +128,8 @@ fn seen_registration(alloc: Global, row: &Row) -> Result<Option<Session>, AllocE
 
 /// Whether a row is one of a session for sign-in, if it is one of a session.
 fn is_for_sign_in(row: &Row) -> bool
-    ensures sign_in { (n : ℕ) (e : ExpectedSignIn) → row.now ≡ session_row n (ForSignIn e) → IsTrue result }
-    ensures registration { (n : ℕ) (e : ExpectedRegistration) → row.now ≡ session_row n (ForRegistration e) → ¬ IsTrue result }
+    ensures sign_in { (n m : ℕ) (e : ExpectedSignIn) → row.now ≡ session_row n m (ForSignIn e) → IsTrue result }
+    ensures registration { (n m : ℕ) (e : ExpectedRegistration) → row.now ≡ session_row n m (ForRegistration e) → ¬ IsTrue result }
 {
     match text_at(row, 2) {
         Some(ceremony) => ceremony == b"sign-in".as_slice(),
@@ -139,7 +139,7 @@ fn is_for_sign_in(row: &Row) -> bool
 
 /// The session that a row seems to be.
 fn seen(alloc: Global, row: &Row) -> Result<Option<Session>, AllocError>
-    ensures { (n : ℕ) (e : Expected) → IsStoredSession e → row.now ≡ session_row n e → IfOk result (λ s. option_map session_view s ≡ Some e) }
+    ensures { (n m : ℕ) (e : Expected) → IsStoredSession e → row.now ≡ session_row n m e → IfOk result (λ s. option_map session_view s ≡ Some e) }
 {
     if is_for_sign_in(row) {
         seen_sign_in(alloc, row)
@@ -151,7 +151,7 @@ fn seen(alloc: Global, row: &Row) -> Result<Option<Session>, AllocError>
 /// The number of a session in its row.
 fn number_in(row: &Row) -> Option<u64>
     ensures fits { (n : ℕ) → result ≡ Some n → n < 2 ^ 63 }
-    ensures number { (n : ℕ) (e : Expected) → row.now ≡ session_row n e → result ≡ Some n }
+    ensures number { (n m : ℕ) (e : Expected) → row.now ≡ session_row n m e → result ≡ Some n }
 {
     match u64::try_from(int_at(row, 0)?) {
         Ok(number) => Some(number),
@@ -159,33 +159,55 @@ fn number_in(row: &Row) -> Option<u64>
     }
 }
 
-/// Whether a row is that of this session.
-fn is_row_of(alloc: Global, number: u64, session: &Session, row: &Row) -> Result<bool, AllocError>
-    requires { number < 2 ^ 63 }
-    ensures { IfOk result (λ same. IsTrue same ↔ (row.now ≡ session_row number (session_view session.now))) }
+/// The moment in which a session began, in its row.
+fn moment_in(row: &Row) -> Option<u64>
+    ensures fits { (m : ℕ) → result ≡ Some m → m < 2 ^ 63 }
+    ensures moment { (n m : ℕ) (e : Expected) → row.now ≡ session_row n m e → result ≡ Some m }
 {
-    let written = session_row(alloc, number, session)?;
+    match u64::try_from(int_at(row, 7)?) {
+        Ok(moment) => Some(moment),
+        Err(_) => None,
+    }
+}
+
+/// Whether a row is that of this session.
+fn is_row_of(
+    alloc: Global,
+    number: u64,
+    began_at: u64,
+    session: &Session,
+    row: &Row,
+) -> Result<bool, AllocError>
+    requires fits { number < 2 ^ 63 }
+    requires moment { began_at < 2 ^ 63 }
+    ensures { IfOk result (λ same. IsTrue same ↔ (row.now ≡ session_row number began_at (session_view session.now))) }
+{
+    let written = session_row(alloc, number, began_at, session)?;
     Ok(row.is_same(&written))
 }
 
-/// The open session of a row, copied out, and its number.
+/// The number of the session of a row, the moment in which it began, in seconds, and the session, copied out.
 ///
 /// `BadRow` exactly where the row is no session's: a value of another type or length, a column too many or too few, a
 /// ceremony or an algorithm that is not known.
-pub fn read_session(alloc: Global, row: &Row) -> Result<(u64, Session), RowError>
-    ensures read { IfOk result (λ x. row.now ≡ session_row x.0 (session_view x.1)) }
+pub fn read_session(alloc: Global, row: &Row) -> Result<(u64, u64, Session), RowError>
+    ensures read { IfOk result (λ x. row.now ≡ session_row x.0 x.1 (session_view x.2)) }
     ensures fits { IfOk result (λ x. x.0 < 2 ^ 63) }
+    ensures moment { IfOk result (λ x. x.1 < 2 ^ 63) }
     // It is refused only if it is no session's.
-    ensures none { IsErrOf result errors.BadRow → (n : ℕ) (e : Expected) → IsStoredSession e → row.now ≡ session_row n e → ⊥ }
+    ensures none { IsErrOf result errors.BadRow → (n m : ℕ) (e : Expected) → IsStoredSession e → row.now ≡ session_row n m e → ⊥ }
 {
     let Some(number) = number_in(row) else {
+        return Err(RowError::BadRow);
+    };
+    let Some(began_at) = moment_in(row) else {
         return Err(RowError::BadRow);
     };
     let Some(session) = seen(alloc, row)? else {
         return Err(RowError::BadRow);
     };
-    if !is_row_of(alloc, number, &session, row)? {
+    if !is_row_of(alloc, number, began_at, &session, row)? {
         return Err(RowError::BadRow);
     }
-    Ok((number, session))
+    Ok((number, began_at, session))
 }

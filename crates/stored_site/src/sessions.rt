@@ -73,8 +73,13 @@ fn push_listed(row: &mut Row, allow: &[Vec<u8>]) -> Result<(), AllocError>
 }
 
 /// The row of a session that is open for sign-in.
-fn sign_in_row(alloc: Global, number: i64, session: &SignInSession) -> Result<Row, AllocError>
-    ensures { IfOk result (λ row. (n : ℕ) → number ≡ pos n → row ≡ session_row n (ForSignIn (sign_in_view session.now))) }
+fn sign_in_row(
+    alloc: Global,
+    number: i64,
+    began_at: i64,
+    session: &SignInSession,
+) -> Result<Row, AllocError>
+    ensures { IfOk result (λ row. (n m : ℕ) → number ≡ pos n → began_at ≡ pos m → row ≡ session_row n m (ForSignIn (sign_in_view session.now))) }
 {
     let mut row = Row::new(alloc);
     row.push(ValueRef::Int(number))?;
@@ -84,7 +89,7 @@ fn sign_in_row(alloc: Global, number: i64, session: &SignInSession) -> Result<Ro
     row.push(user_or_null(session.user.as_deref()))?;
     row.push(truth(session.uv))?;
     row.push(ValueRef::Null)?;
-    row.push(ValueRef::Null)?;
+    row.push(ValueRef::Int(began_at))?;
     push_listed(&mut row, &session.allow)?;
     Ok(row)
 }
@@ -93,9 +98,10 @@ fn sign_in_row(alloc: Global, number: i64, session: &SignInSession) -> Result<Ro
 fn registration_row(
     alloc: Global,
     number: i64,
+    began_at: i64,
     session: &RegistrationSession,
 ) -> Result<Row, AllocError>
-    ensures { IfOk result (λ row. (n : ℕ) → number ≡ pos n → row ≡ session_row n (ForRegistration (registration_view session.now))) }
+    ensures { IfOk result (λ row. (n m : ℕ) → number ≡ pos n → began_at ≡ pos m → row ≡ session_row n m (ForRegistration (registration_view session.now))) }
 {
     let algorithms = algorithms_text(alloc, &session.algorithms)?;
     let mut row = Row::new(alloc);
@@ -106,19 +112,27 @@ fn registration_row(
     row.push(ValueRef::Blob(&session.user))?;
     row.push(truth(session.uv))?;
     row.push(ValueRef::Text(&algorithms))?;
-    row.push(ValueRef::Null)?;
+    row.push(ValueRef::Int(began_at))?;
     push_listed(&mut row, &[])?;
     Ok(row)
 }
 
-/// The row of an open session with its number, which is one that a rowid can be.
-pub fn session_row(alloc: Global, number: u64, session: &Session) -> Result<Row, AllocError>
-    requires { number < 2 ^ 63 }
-    ensures { IfOk result (λ row. row ≡ session_row number (session_view session.now)) }
+/// The row of an open session with its number, which is one that a rowid can be, and the moment in which it began, in
+/// seconds below 2^63.
+pub fn session_row(
+    alloc: Global,
+    number: u64,
+    began_at: u64,
+    session: &Session,
+) -> Result<Row, AllocError>
+    requires fits { number < 2 ^ 63 }
+    requires moment { began_at < 2 ^ 63 }
+    ensures { IfOk result (λ row. row ≡ session_row number began_at (session_view session.now)) }
 {
     let number = number as i64;
+    let began_at = began_at as i64;
     match session {
-        Session::SignIn(session) => sign_in_row(alloc, number, session),
-        Session::Registration(session) => registration_row(alloc, number, session),
+        Session::SignIn(session) => sign_in_row(alloc, number, began_at, session),
+        Session::Registration(session) => registration_row(alloc, number, began_at, session),
     }
 }

@@ -1,20 +1,22 @@
 //! A relying party over a store.
 
-ghost use Rattle.std.specs.Prelude.{◌≡◌, IfErr, IfOk, IsErrOf, OnOk, is_some, false, true};
+ghost use Rattle.std.specs.Prelude.{◌≡◌, IfErr, IfOk, IsErrOf, OnOk, is_some, map, false, true};
 ghost use Rattle.std.specs.FinMap as finite;
+ghost use Rattle.credential_table.specs.Views.{stored_row_view};
 ghost use Rattle.ceremony_sessions.specs.Sessions.{closed};
 ghost use Rattle.stored_site.specs.Holds.{IsFailure, Stored, Survives};
 ghost use Rattle.stored_site.specs.declared.failure.Failure.TheVariants as failures;
 
+use crate::began_at::BeganAt;
 use crate::failure::Failure;
 use crate::held::rowid_of;
 use crate::writes::write_end;
-use site::Site;
+use site::{Rows, Site};
 use sqlite_trees::store::Store;
 use std::alloc::Global;
 use std::marker::Model;
 
-/// A relying party whose credentials and sessions are rows of a store.
+/// A relying party whose credentials and sessions, with the moments in which they began, are rows of a store.
 ///
 /// What a call answers is committed before it answers. A failure of the disk or of memory while it writes shuts the
 /// site: each further call says so, and what an open of the file finds is the site from before the call or from after.
@@ -22,6 +24,7 @@ use std::marker::Model;
 pub struct StoredSite<S: Store> {
     pub(crate) alloc: Global,
     pub(crate) site: Site,
+    pub(crate) began: BeganAt,
     pub(crate) store: S,
     pub(crate) is_shut: bool,
 }
@@ -30,15 +33,16 @@ impl<S: Store> Model for StoredSite<S> {
     ghost use Rattle.std.specs.Prelude.{◌≡◌, false};
     ghost use Rattle.sqlite_trees.specs.View.{IsClean};
     ghost use Rattle.stored_site.specs.Holds.{AreRowids, IsCommitted, StoredState, stored_code};
+    ghost use Rattle.stored_site.specs.SessionRows.{HaveMoments};
 
     ghost Value = { StoredState S };
 
     ghost coded = { stored_code S.code };
 
-    ghost view = { λ s. record { site = s.site; store = s.store; is_shut = s.is_shut } };
+    ghost view = { λ s. record { site = s.site; began = s.began; store = s.store; is_shut = s.is_shut } };
 
-    ghost invariant = { λ s. (s.is_shut ≡ false → IsClean (S.Store.view s.store) → IsCommitted s.site (S.Store.view s.store))
-        × AreRowids s.site.sessions };
+    ghost invariant = { λ s. (s.is_shut ≡ false → IsClean (S.Store.view s.store) → IsCommitted s.site s.began (S.Store.view s.store))
+        × AreRowids s.site.sessions × (s.is_shut ≡ false → HaveMoments s.site.sessions s.began) };
 }
 
 impl<S: Store> StoredSite<S> {
@@ -57,6 +61,13 @@ impl<S: Store> StoredSite<S> {
         &self.site
     }
 
+    /// The credentials in order of registration, as `Site::rows`.
+    pub fn rows(&self) -> Rows<'_>
+        ensures { map (λ e. stored_row_view e.0.items e.1) result.0 ≡ self.now.site.rows }
+    {
+        self.site.rows()
+    }
+
     /// Ends it, and gives the store back.
     pub fn close(self) -> S
         ensures { result ≡ self.store }
@@ -68,8 +79,9 @@ impl<S: Store> StoredSite<S> {
     pub fn abandon(&mut self, session: u64) -> Result<bool, Failure>
         ensures told { IfOk result (λ was_open. was_open ≡ is_some (finite.get self.old.site.sessions.expected session)) }
         ensures closed { OnOk result (self.new.site ≡ record self.old.site { sessions = closed session self.old.site.sessions }) }
+        ensures moments { OnOk result (self.new.began ≡ finite.remove self.old.began session) }
         ensures stored { OnOk result (Stored S.Store.view self.new) }
-        ensures crash { Survives S.Store.view S.Store.recovers self.old self.new
+        ensures crash { Survives S.Store.view S.Store.recovers self.old self.new (finite.remove self.old.began session)
             (λ t. t ≡ record self.old.site { sessions = closed session self.old.site.sessions }) }
         ensures failed { IfErr result (IsFailure self.old self.new) }
         ensures shut { self.old.is_shut ≡ true → IsErrOf result failures.Shut }
@@ -82,6 +94,7 @@ impl<S: Store> StoredSite<S> {
         }
         self.is_shut = true;
         self.site.abandon(session);
+        self.began.remove(session);
         write_end(&mut self.store, rowid_of(session))?;
         self.is_shut = false;
         Ok(true)

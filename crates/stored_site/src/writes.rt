@@ -1,11 +1,14 @@
 //! The transactions of a site over a store: each is committed whole, or not at all.
 
-ghost use Rattle.std.specs.Prelude.{◌≡◌, ◌⊎◌, OnOk, IsTrue};
+ghost use Rattle.std.specs.Prelude.{◌≡◌, ◌⊎◌, ◌<◌, ◌^◌, OnOk, IsTrue};
+ghost use Rattle.std.specs.List.{AllByRecursion};
 ghost use Rattle.sqlite_trees.specs.Tree.{Trees, rowid};
 ghost use Rattle.sqlite_trees.specs.View.{IsClean, is_int};
 ghost use Rattle.stored_site.specs.Holds.{HasTables};
-ghost use Rattle.stored_site.specs.Writes.{IsWritten, gone, set};
+ghost use Rattle.stored_site.specs.Private.{all_gone};
+ghost use Rattle.stored_site.specs.Writes.{IsPending, IsWritten, gone, set};
 
+use crate::held::rowid_of;
 use sqlite_trees::error::StoreError;
 use sqlite_trees::store::Store;
 use sqlite_value::row::Row;
@@ -20,6 +23,35 @@ pub fn write_end<S: Store>(store: &mut S, session: i64) -> Result<(), StoreError
     ensures clean { IsClean (S.Store.view store.new) → IsClean (S.Store.view store.old) }
 {
     store.delete(1, session)?;
+    store.commit()
+}
+
+/// Deletes the rows of sessions.
+fn delete_all<S: Store>(store: &mut S, sessions: &[u64]) -> Result<(), StoreError>
+    requires tables { IsClean (S.Store.view store.old) → HasTables (S.Store.view store.old) }
+    requires fits { AllByRecursion (λ n. n < 2 ^ 63) sessions.now }
+    ensures deleted { OnOk result (IsClean (S.Store.view store.new)
+        → IsPending (S.Store.view store.old) (S.Store.view store.new) (all_gone sessions.now (S.Store.view store.old).trees)) }
+    ensures crash { (db : Trees) → S.Store.recovers store.new db → S.Store.recovers store.old db }
+    ensures clean { IsClean (S.Store.view store.new) → IsClean (S.Store.view store.old) }
+{
+    for session in sessions {
+        store.delete(1, rowid_of(*session))?;
+    }
+    Ok(())
+}
+
+/// Ends sessions.
+pub fn write_ends<S: Store>(store: &mut S, sessions: &[u64]) -> Result<(), StoreError>
+    requires tables { IsClean (S.Store.view store.old) → HasTables (S.Store.view store.old) }
+    requires fits { AllByRecursion (λ n. n < 2 ^ 63) sessions.now }
+    ensures stored { OnOk result (IsClean (S.Store.view store.new)
+        → IsWritten (S.Store.view store.old) (S.Store.view store.new) (all_gone sessions.now (S.Store.view store.old).trees)) }
+    ensures crash { (db : Trees) → IsClean (S.Store.view store.new) → S.Store.recovers store.new db
+        → S.Store.recovers store.old db ⊎ (db ≡ all_gone sessions.now (S.Store.view store.old).trees) }
+    ensures clean { IsClean (S.Store.view store.new) → IsClean (S.Store.view store.old) }
+{
+    delete_all(store, sessions)?;
     store.commit()
 }
 

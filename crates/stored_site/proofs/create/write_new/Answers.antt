@@ -1,5 +1,6 @@
 -- What is owed of `write_new`.
 use Rattle.std.proofs.Common.{inl, inr, rules, subst, sym}
+use Rattle.std.specs.FinMap as finite
 use Rattle.stored_site.specs.Holds.{HasNoRow, HasTables, Holds}
 use Rattle.stored_site.proofs.New.{committed_new, holds_new, same_rows}
 use Rattle.stored_site.proofs.create.write_new.Goals as goal
@@ -23,7 +24,7 @@ returns-clause-crash g c db clean r =
     let rows = same_rows _ _ same clean_1 none in
     elim (c.in_ok-write_site.ensures.crash db clean r) [
       | inl before ↦ inl (c.rest.ensures.crash db (c.in_ok-are_empty.ensures.crash db before))
-      | inr now ↦ inr (subst (Holds c.args.site.now) (sym now) (holds_new _ _ _ c.requires.no_credential c.requires.no_session c.in_ok-row.ensures.row rows))
+      | inr now ↦ inr (subst (Holds c.args.site.now finite.empty) (sym now) (holds_new _ _ _ c.requires.no_credential c.requires.no_session c.in_ok-row.ensures.row rows))
     ]
 
 pub returns-in_err-write_site-clause-crash : goal.returns-in_err-write_site-clause-crash
@@ -34,5 +35,5 @@ returns-in_err-write_site-clause-crash g c db clean r =
     let rows = same_rows _ _ same clean_1 none in
     elim (c.in_err-write_site.ensures.crash db clean r) [
       | inl before ↦ inl (c.rest.ensures.crash db (c.in_ok-are_empty.ensures.crash db before))
-      | inr now ↦ inr (subst (Holds c.args.site.now) (sym now) (holds_new _ _ _ c.requires.no_credential c.requires.no_session c.in_ok-row.ensures.row rows))
+      | inr now ↦ inr (subst (Holds c.args.site.now finite.empty) (sym now) (holds_new _ _ _ c.requires.no_credential c.requires.no_session c.in_ok-row.ensures.row rows))
     ]

@@ -1,4 +1,5 @@
 -- What is owed of `row_laws`.
+use Rattle.stored_site.proofs.Ages.{left}
 use Rattle.stored_site.proofs.One.{one_credential}
 use Rattle.stored_site.proofs.OneSession.{one_session}
 use Rattle.stored_site.proofs.OneSite.{one_site}
@@ -14,4 +15,5 @@ returns c = record {
   closed = without_session;
   one_session = one_session;
   one_site = one_site;
+  left = left;
 }

@@ -10,5 +10,5 @@ pub returns-in_err-number-clause-none : goal.returns-in_err-number-clause-none
 returns-in_err-number-clause-none c =
     let p = err_from_is_err_and c.from_residual.result c.from_residual.ensures.1 in
     let same : p.0 ≡ of_row c.in_err-number.field-0.0 = cc in
-    exit c.from_residual.result p.0 _ p.1 (λ named n e is stored limits le given.
-    c.in_err-number.ensures.none (ap Err (bad_row c.in_err-number.field-0.0 (subst IsNamed same named))) n e stored is)
+    exit c.from_residual.result p.0 _ p.1 (λ named n m e is stored limits le given.
+    c.in_err-number.ensures.none (ap Err (bad_row c.in_err-number.field-0.0 (subst IsNamed same named))) n m e stored is)

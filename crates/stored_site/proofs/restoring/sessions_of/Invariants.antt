@@ -3,4 +3,4 @@ use Rattle.stored_site.proofs.Steps.{SessionsRead}
 use Rattle.stored_site.proofs.restoring.sessions_of.Given as goal
 
 abbrev pub invariant-loop-row : goal.invariant-loop-row
-invariant-loop-row l = SessionsRead l.rows l.row-index l.next l.least l.sessions
+invariant-loop-row l = SessionsRead l.rows l.row-index l.next l.least l.sessions l.began

@@ -5,25 +5,25 @@ use Rattle.stored_site.proofs.Transactions.{committed_by, held, changed_only}
 use Rattle.stored_site.proofs.retire.store_credential.Goals as goal
 
 pub returns-clause-stored : goal.returns-clause-stored
-returns-clause-stored g c s o was clean =
+returns-clause-stored g c s w o was clean =
     let old = was (c.in_ok-write_credential.ensures.clean clean) in
-    committed_by _ _ _ _ _ old (c.in_ok-write_credential.ensures.stored clean)
-    (changed_only s c.args.site.now _ _ _ o c.in_ok-row.ensures.row (held _ _ old))
+    committed_by _ _ _ _ _ _ _ old (c.in_ok-write_credential.ensures.stored clean)
+    (changed_only s c.args.site.now w _ _ _ o c.in_ok-row.ensures.row (held _ _ _ old))
 
 pub returns-clause-crash : goal.returns-clause-crash
-returns-clause-crash g c s o was db clean r =
+returns-clause-crash g c s w o was db clean r =
     let old = was (c.in_ok-write_credential.ensures.clean clean) in
     elim (c.in_ok-write_credential.ensures.crash db clean r) [
-      | inl before ↦ inl (subst (Holds s) (sym (g.met.S.Store.settled c.args.store.now db old.is_open before)) old.holds)
-      | inr now ↦ inr (subst (Holds c.args.site.now) (sym now)
-          (changed_only s c.args.site.now _ _ _ o c.in_ok-row.ensures.row (held _ _ old)))
+      | inl before ↦ inl (subst (Holds s w) (sym (g.met.S.Store.settled c.args.store.now db old.is_open before)) old.holds)
+      | inr now ↦ inr (subst (Holds c.args.site.now w) (sym now)
+          (changed_only s c.args.site.now w _ _ _ o c.in_ok-row.ensures.row (held _ _ _ old)))
     ]
 
 pub returns-in_err-write_credential-clause-crash : goal.returns-in_err-write_credential-clause-crash
-returns-in_err-write_credential-clause-crash g c s o was db clean r =
+returns-in_err-write_credential-clause-crash g c s w o was db clean r =
     let old = was (c.in_err-write_credential.ensures.clean clean) in
     elim (c.in_err-write_credential.ensures.crash db clean r) [
-      | inl before ↦ inl (subst (Holds s) (sym (g.met.S.Store.settled c.args.store.now db old.is_open before)) old.holds)
-      | inr now ↦ inr (subst (Holds c.args.site.now) (sym now)
-          (changed_only s c.args.site.now _ _ _ o c.in_ok-row.ensures.row (held _ _ old)))
+      | inl before ↦ inl (subst (Holds s w) (sym (g.met.S.Store.settled c.args.store.now db old.is_open before)) old.holds)
+      | inr now ↦ inr (subst (Holds c.args.site.now w) (sym now)
+          (changed_only s c.args.site.now w _ _ _ o c.in_ok-row.ensures.row (held _ _ _ old)))
     ]

@@ -7,21 +7,21 @@ use Rattle.stored_site.proofs.Listed.{all_taken, listed_in_column, one_more_id, 
 use Rattle.stored_site.proofs.session_reading.listed_in.Goals as goal
 
 pub returns-in_default : goal.returns-in_default
-returns-in_default c n e le is =
+returns-in_default c n m e le is =
     let none : None ≡ slice_get e.allow (c.loop-at.at - 8) =
-    c.in_default.ensures ∙ ap (λ r. blob_in (column r c.loop-at.at)) is ∙ listed_in_column n e c.loop-at.at c.loop-at.auto.at c.loop-at-test.true in
-    c.loop-at.invariant n e is ∙ all_taken e.allow (c.loop-at.at - 8) none
+    c.in_default.ensures ∙ ap (λ r. blob_in (column r c.loop-at.at)) is ∙ listed_in_column n m e c.loop-at.at c.loop-at.auto.at c.loop-at-test.true in
+    c.loop-at.invariant n m e is ∙ all_taken e.allow (c.loop-at.at - 8) none
 
 pub loop-at-preserved : goal.loop-at-preserved
-loop-at-preserved c n e is =
+loop-at-preserved c n m e is =
     let given : Some c.in-Some.id.now ≡ slice_get e.allow (c.loop-at.at - 8) =
-    c.in-Some.ensures ∙ ap (λ r. blob_in (column r c.loop-at.at)) is ∙ listed_in_column n e c.loop-at.at c.loop-at.auto.at c.loop-at-test.true in
+    c.in-Some.ensures ∙ ap (λ r. blob_in (column r c.loop-at.at)) is ∙ listed_in_column n m e c.loop-at.at c.loop-at.auto.at c.loop-at-test.true in
     let next : (c.loop-at.at + 1) - 8 ≡ (c.loop-at.at - 8) + 1 = omega (arith, c.loop-at.auto.at) in
     ap (map (λ id. id.items)) c.in_ok-push.ensures.items
-    ∙ one_more_id c.loop-at.allow.items c.in_ok-from_slice.field-0 (take (c.loop-at.at - 8) e.allow) c.in-Some.id.now (c.loop-at.invariant n e is)
+    ∙ one_more_id c.loop-at.allow.items c.in_ok-from_slice.field-0 (take (c.loop-at.at - 8) e.allow) c.in-Some.id.now (c.loop-at.invariant n m e is)
     c.in_ok-from_slice.ensures.items
     ∙ sym (one_more_taken e.allow (c.loop-at.at - 8) c.in-Some.id.now given) ∙ ap (λ k. take k e.allow) (sym next)
 
 pub returns : goal.returns
-returns c n e le is =
-    c.loop-at.invariant n e is ∙ taken_whole e.allow (c.loop-at.at - 8) (omega (arith, le, c.loop-at-test.false))
+returns c n m e le is =
+    c.loop-at.invariant n m e is ∙ taken_whole e.allow (c.loop-at.at - 8) (omega (arith, le, c.loop-at-test.false))

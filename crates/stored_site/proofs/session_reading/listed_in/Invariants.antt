@@ -7,5 +7,5 @@ use Rattle.stored_site.proofs.session_reading.listed_in.Given as goal
 
 abbrev pub invariant-loop-at : goal.invariant-loop-at
 invariant-loop-at l =
-    (n : ℕ) (e : ExpectedSignIn) → l.row ≡ session_row n (ForSignIn e)
+    (n m : ℕ) (e : ExpectedSignIn) → l.row ≡ session_row n m (ForSignIn e)
     → map (λ id. id.items) l.allow.items ≡ take (l.at - 8) e.allow

@@ -10,5 +10,5 @@ invariant_of-self-2 c =
 
 pub returns-clause-opened : goal.returns-clause-opened
 returns-clause-opened c =
-    rw (← c.self.view_is) (ap (open_with (c.self.inside.next + 1))
+    rw (← c.self.view_is) (ap (open_with c.self.inside.max_open (c.self.inside.next + 1))
     (opened c.self.inside.by_number c.insert.new.self c.self.inside.next c.args.session c.in_ok-insert.ensures.updates.0))

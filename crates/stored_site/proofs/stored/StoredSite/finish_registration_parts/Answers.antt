@@ -6,7 +6,9 @@ use Rattle.verification.specs.RegistrationAnswers.{IsRefused}
 use Rattle.site.specs.State.{judged_registration}
 use Rattle.verification.specs.Views.{registration_parts_view}
 use Rattle.credential_table.specs.Table.{row_of}
-use Rattle.stored_site.proofs.Calls.{accepts_registration, fits_registration, rowids_accepted, same_stored, there_registered, told_as}
+use Rattle.stored_site.specs.Holds.{IsCommitted}
+use Rattle.stored_site.specs.SessionRows.{HaveMoments}
+use Rattle.stored_site.proofs.Calls.{have_accepted, accepts_registration, fits_registration, rowids_accepted, same_stored, there_registered, told_as}
 use Rattle.stored_site.proofs.stored.StoredSite.finish_registration_parts.Goals as goal
 
 pub store_acceptance-requires-clause-fits : goal.store_acceptance-requires-clause-fits
@@ -26,6 +28,7 @@ invariant_of-self-in_err-store_acceptance g c = (
   rowids_accepted _ _ _ _ (told_as _ _ _ _ (sym c.deref.ensures.value) (accepts_registration c.self.inside.site
       c.args.session (registration_parts_view c.args.response.now) c.finish_registration_parts.new.self
       c.in_ok-registered.registered c.in_ok-registered.ensures.after c.in_ok-registered.ensures.accepted.1)) c.self.invariant.1,
+  λ shut. absurd (cc),
 )
 
 pub invariant_of-self-2 : goal.invariant_of-self-2
@@ -33,8 +36,11 @@ invariant_of-self-2 g c =
     let accepts = told_as _ _ _ _ (sym c.deref.ensures.value) (accepts_registration c.self.inside.site
     c.args.session (registration_parts_view c.args.response.now) c.finish_registration_parts.new.self
     c.in_ok-registered.registered c.in_ok-registered.ensures.after c.in_ok-registered.ensures.accepted.1) in (
-      λ shut clean. c.in_ok-store_acceptance.ensures.stored c.self.inside.site accepts (c.self.invariant.0 c.if-self.false) clean,
+      λ shut clean. subst (λ b. IsCommitted c.finish_registration_parts.new.self b (g.S.Store.view c.store_acceptance.new.store)) (sym c.remove.ensures)
+          (c.in_ok-store_acceptance.ensures.stored c.self.inside.site c.self.inside.began accepts (c.self.invariant.0 c.if-self.false) clean),
       rowids_accepted _ _ _ _ accepts c.self.invariant.1,
+      λ shut. subst (HaveMoments c.finish_registration_parts.new.self.sessions) (sym c.remove.ensures)
+          (have_accepted c.self.inside.site c.finish_registration_parts.new.self c.self.inside.began _ c.args.session accepts (c.self.invariant.2 c.if-self.false)),
     )
 
 pub returns-clause-stored : goal.returns-clause-stored
@@ -45,7 +51,7 @@ returns-clause-crash g c db shut clean r =
     let accepts = told_as _ _ _ _ (sym c.deref.ensures.value) (accepts_registration c.self.inside.site
     c.args.session (registration_parts_view c.args.response.now) c.finish_registration_parts.new.self
     c.in_ok-registered.registered c.in_ok-registered.ensures.after c.in_ok-registered.ensures.accepted.1) in
-    rw (← c.self.view_is) (elim (c.in_ok-store_acceptance.ensures.crash c.self.inside.site accepts (c.self.invariant.0 c.if-self.false) db clean r) [
+    rw (← c.self.view_is) (elim (c.in_ok-store_acceptance.ensures.crash c.self.inside.site c.self.inside.began accepts (c.self.invariant.0 c.if-self.false) db clean r) [
       | inl before ↦ inl before
       | inr now ↦ inr (c.finish_registration_parts.new.self, (c.in_ok-registered.ensures.accepted.0, c.in_ok-registered.ensures.after), now)
     ])
@@ -55,7 +61,7 @@ returns-in_err-store_acceptance-clause-crash g c db shut clean r =
     let accepts = told_as _ _ _ _ (sym c.deref.ensures.value) (accepts_registration c.self.inside.site
     c.args.session (registration_parts_view c.args.response.now) c.finish_registration_parts.new.self
     c.in_ok-registered.registered c.in_ok-registered.ensures.after c.in_ok-registered.ensures.accepted.1) in
-    rw (← c.self.view_is) (elim (c.in_err-store_acceptance.ensures.crash c.self.inside.site accepts (c.self.invariant.0 c.if-self.false) db clean r) [
+    rw (← c.self.view_is) (elim (c.in_err-store_acceptance.ensures.crash c.self.inside.site c.self.inside.began accepts (c.self.invariant.0 c.if-self.false) db clean r) [
       | inl before ↦ inl before
       | inr now ↦ inr (c.finish_registration_parts.new.self, (c.in_ok-registered.ensures.accepted.0, c.in_ok-registered.ensures.after), now)
     ])
@@ -66,7 +72,7 @@ returns-in_err-registered-clause-refused g c =
     let judged = judged_registration c.self.inside.site c.args.session (registration_parts_view c.args.response.now) in
     rw (p.1, p.2, ← c.self.view_is) (λ why is.
     let same : c.in_err-registered.field-0.0 ≡ why = cc in (
-      same_stored c.self.inside.store c.self.inside.is_shut c.finish_registration_parts.new.self c.self.inside.site c.in_err-registered.ensures.unchanged,
+      same_stored c.self.inside.store c.self.inside.is_shut c.self.inside.began c.finish_registration_parts.new.self c.self.inside.site c.in_err-registered.ensures.unchanged,
       subst (IsRefused (g.V.Verifier.valid c.args.verifier.now) judged) same c.in_err-registered.ensures.refused,
     ))
 

@@ -1,6 +1,8 @@
 -- What is owed of `StoredSite::retire`.
 use Rattle.std.proofs.Common.{◌≡◌, inl, inr, refl, rules, subst, sym, true}
+use Rattle.site.specs.State.{SiteState}
 use Rattle.stored_site.specs.Holds.{AreRowids}
+use Rattle.stored_site.specs.SessionRows.{HaveMoments}
 use Rattle.stored_site.proofs.Calls.{changes_retired, there_retired}
 use Rattle.stored_site.proofs.stored.StoredSite.retire.Goals as goal
 
@@ -13,9 +15,10 @@ pub invariant_of-self-2 : goal.invariant_of-self-2
 invariant_of-self-2 g c =
     let yes : c.retire.result ≡ true = search rules in
     let after = c.retire.ensures.after yes in (
-      λ shut clean. c.in_ok-store_credential.ensures.stored c.self.inside.site (changes_retired c.self.inside.site c.retire.new.self c.args.id.now after)
+      λ shut clean. c.in_ok-store_credential.ensures.stored c.self.inside.site c.self.inside.began (changes_retired c.self.inside.site c.retire.new.self c.args.id.now after)
           (c.self.invariant.0 c.if-self.false) clean,
       subst (λ t. AreRowids t.sessions) (sym after) c.self.invariant.1,
+      λ shut. subst (λ (t : SiteState). HaveMoments t.sessions c.self.inside.began) (sym after) (c.self.invariant.2 c.if-self.false),
     )
 
 pub returns-clause-stored : goal.returns-clause-stored
@@ -26,7 +29,7 @@ returns-clause-crash g c db shut clean r =
     let yes : c.retire.result ≡ true = search rules in
     let after = c.retire.ensures.after yes in
     let changes = changes_retired c.self.inside.site c.retire.new.self c.args.id.now after in
-    rw (← c.self.view_is) (elim (c.in_ok-store_credential.ensures.crash c.self.inside.site changes (c.self.invariant.0 c.if-self.false) db clean r) [
+    rw (← c.self.view_is) (elim (c.in_ok-store_credential.ensures.crash c.self.inside.site c.self.inside.began changes (c.self.invariant.0 c.if-self.false) db clean r) [
       | inl before ↦ inl before
       | inr now ↦ inr (c.retire.new.self, after, now)
     ])
@@ -36,7 +39,7 @@ returns-in_err-store_credential-clause-crash g c db shut clean r =
     let yes : c.retire.result ≡ true = search rules in
     let after = c.retire.ensures.after yes in
     let changes = changes_retired c.self.inside.site c.retire.new.self c.args.id.now after in
-    rw (← c.self.view_is) (elim (c.in_err-store_credential.ensures.crash c.self.inside.site changes (c.self.invariant.0 c.if-self.false) db clean r) [
+    rw (← c.self.view_is) (elim (c.in_err-store_credential.ensures.crash c.self.inside.site c.self.inside.began changes (c.self.invariant.0 c.if-self.false) db clean r) [
       | inl before ↦ inl before
       | inr now ↦ inr (c.retire.new.self, after, now)
     ])

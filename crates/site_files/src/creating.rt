@@ -1,0 +1,88 @@
+//! Making a site's file.
+
+ghost use Rattle.std.specs.Prelude.{◌≡◌, [], IfOk, false};
+ghost use Rattle.std.specs.FinMap as finite;
+ghost use Rattle.sqlite_store.specs.FileStore.{view};
+ghost use Rattle.stored_site.specs.Holds.{Stored};
+
+use crate::FileSite;
+use crate::error::FileError;
+use crate::path::is_free;
+use crate::tables::{lists_tables, make_tables};
+use site::Site;
+use sqlite::{Alter, Connection, FileFrom, FileStore, Start};
+use std::alloc::Global;
+use stored_site::{MAX_BOUND, StoredSite};
+
+/// Makes a file with the tables of a site, which have no row.
+fn new_file<S: Start>(
+    rt: &HostRuntime,
+    path: &str,
+    start: S,
+) -> Result<FileStore<FileFrom<S>>, FileError> {
+    let mut conn = match Connection::open_from(rt, path, false, start) {
+        Ok(conn) => conn,
+        Err((e, _)) => return Err(e.into()),
+    };
+    make_tables(&mut conn)?;
+    let mut store = conn.into_store();
+    if !lists_tables(rt.alloc(), &store)? {
+        return Err(FileError::OtherTables);
+    }
+    // From now on the file begins as a SQLite file does, which `open` asks.
+    match store.checkpoint() {
+        Ok(()) => Ok(store),
+        Err(e) => {
+            drop(store.close());
+            Err(e.into())
+        }
+    }
+}
+
+/// A site without credentials and sessions over a store that was made for it.
+fn site_over<S: Alter + Drop>(
+    alloc: Global,
+    site: Site,
+    store: S,
+) -> Result<StoredSite<S>, FileError>
+    requires no_credential { site.rows ≡ [] }
+    requires no_session { site.sessions.expected ≡ finite.empty }
+    ensures made { IfOk result (λ s. (s.site ≡ site) × (s.began ≡ finite.empty) × (s.is_shut ≡ false)) }
+    ensures stored { IfOk result (Stored S.Store.view) }
+{
+    match StoredSite::create(alloc, site, store) {
+        Ok(site) => Ok(site),
+        Err((e, _)) => Err(e.into()),
+    }
+}
+
+/// Makes a site's file at a path, and its log beside it (the path and `-wal`). A program passes `Unknown` as `start`, which
+/// stands for what the files held.
+///
+/// `BadBound` where more than 1,000,000 sessions could be open, `BadNumber` where the number of the next session is 2^63 or
+/// more, and `Exists` where a file or a log is there; nothing is made then. `InUse`, `CannotOpen` and `Failed` where the
+/// system, the disk or memory failed: a file that is not finished may stand at the path then, which `open` refuses as
+/// `NotSqlite` or `NoSite`.
+pub fn create<S: Start>(
+    rt: &HostRuntime,
+    path: &str,
+    site: Site,
+    start: S,
+) -> Result<FileSite<S>, FileError>
+    requires no_credential { site.rows ≡ [] }
+    requires no_session { site.sessions.expected ≡ finite.empty }
+    ensures made { IfOk result (λ s. (s.site ≡ site) × (s.began ≡ finite.empty) × (s.is_shut ≡ false)) }
+    ensures stored { IfOk result (Stored view) }
+{
+    if MAX_BOUND < site.max_open() {
+        return Err(FileError::BadBound);
+    }
+    if site.next_session() >= 9_223_372_036_854_775_808 {
+        return Err(FileError::BadNumber);
+    }
+    if !is_free(rt, path)? {
+        return Err(FileError::Exists);
+    }
+    let store = new_file(rt, path, start)?;
+    site_over(rt.alloc(), site, store)
+}

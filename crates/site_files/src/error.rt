@@ -1,0 +1,120 @@
+//! Why a file is not made or opened as a site's.
+
+use sqlite::{Error, ErrorCode};
+use sqlite_trees::error::StoreError;
+use std::alloc::{AllocError, AllocFailed};
+use std::io;
+use stored_site::{CreateFailure, OpenFailure};
+
+/// Why a file is not made or opened as a site's.
+#[derive(Clone, Copy, Debug, PartialEq, Eq, Drop, thiserror::Error)]
+pub enum FileError {
+    /// No file stands at the path.
+    #[error("there is no file at this path")]
+    NoFile,
+    /// A file stands at the path, or one at that of its log.
+    #[error("there is a file at this path, or one of its log")]
+    Exists,
+    /// Another handle or another process has the file open.
+    #[error("the file is in use")]
+    InUse,
+    /// The system doesn't open the file, or a second name, a link or a rollback journal stands in the way.
+    #[error("the file can't be opened")]
+    CannotOpen,
+    /// The file is no sound SQLite file.
+    #[error("the file is no sound SQLite file")]
+    NotSqlite,
+    /// The file has other tables than a site's.
+    #[error("the file has other tables than a site's")]
+    OtherTables,
+    /// The tables have no row of a site.
+    #[error("the tables have no row of a site")]
+    NoSite,
+    /// The version or the rp id is another.
+    #[error("the file is of another site or version")]
+    OtherSite,
+    /// There are more credentials or sessions than a site has.
+    #[error("there are more rows than a site has")]
+    TooMany,
+    /// A row is none that a site of this profile has written.
+    #[error("a row is not one that this site has written")]
+    BadRow,
+    /// More than 1,000,000 sessions could be open.
+    #[error("the bound on open sessions is too high")]
+    BadBound,
+    /// The number of the next session is 2^63 or more.
+    #[error("the number of the next session fits no column")]
+    BadNumber,
+    /// The disk or memory failed.
+    #[error("{0}")]
+    Failed(StoreError),
+}
+
+impl From<io::Error> for FileError {
+    fn from(e: io::Error) -> FileError {
+        match e.kind() {
+            io::ErrorKind::NotFound => FileError::NoFile,
+            io::ErrorKind::OutOfMemory => FileError::Failed(StoreError::OutOfMemory),
+            _ => FileError::CannotOpen,
+        }
+    }
+}
+
+impl From<AllocError> for FileError {
+    fn from(_e: AllocError) -> FileError {
+        FileError::Failed(StoreError::OutOfMemory)
+    }
+}
+
+impl<T: Drop> From<AllocFailed<T>> for FileError {
+    fn from(_e: AllocFailed<T>) -> FileError {
+        FileError::Failed(StoreError::OutOfMemory)
+    }
+}
+
+impl From<StoreError> for FileError {
+    fn from(e: StoreError) -> FileError {
+        FileError::Failed(e)
+    }
+}
+
+impl From<Error> for FileError {
+    fn from(e: Error) -> FileError {
+        let Error::SqliteFailure(code) = e else {
+            return FileError::CannotOpen;
+        };
+        match code {
+            ErrorCode::DatabaseBusy => FileError::InUse,
+            ErrorCode::NotADatabase | ErrorCode::DatabaseCorrupt => FileError::NotSqlite,
+            ErrorCode::OutOfMemory => FileError::Failed(StoreError::OutOfMemory),
+            ErrorCode::SystemIoFailure => FileError::Failed(StoreError::Io),
+            ErrorCode::DiskFull => FileError::Failed(StoreError::Full),
+            ErrorCode::Closed => FileError::Failed(StoreError::Broken),
+            _ => FileError::CannotOpen,
+        }
+    }
+}
+
+impl From<CreateFailure> for FileError {
+    fn from(e: CreateFailure) -> FileError {
+        match e {
+            CreateFailure::BadBound => FileError::BadBound,
+            CreateFailure::NotNew => FileError::OtherTables,
+            CreateFailure::BadNumber => FileError::BadNumber,
+            CreateFailure::Failed(e) => FileError::Failed(e),
+        }
+    }
+}
+
+impl From<OpenFailure> for FileError {
+    fn from(e: OpenFailure) -> FileError {
+        match e {
+            OpenFailure::BadBound => FileError::BadBound,
+            OpenFailure::NoSite => FileError::NoSite,
+            OpenFailure::OtherSite => FileError::OtherSite,
+            OpenFailure::TooMany => FileError::TooMany,
+            OpenFailure::BadRow => FileError::BadRow,
+            OpenFailure::Failed(e) => FileError::Failed(e),
+        }
+    }
+}

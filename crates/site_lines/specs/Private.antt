@@ -1,0 +1,54 @@
+-- What private functions are proved against; no public clause cites it.
+use Rattle.std.specs.Prelude.{◌≡◌, ℕ, List, Some, None}
+use Rattle.cose.specs.declared.key.CoseKey.{CoseKey}
+use Rattle.authdata.specs.declared.profile.Profile.{Profile}
+use Rattle.authdata.specs.Layout.{AttestedCredential, AuthenticatorData, AuthOf}
+use Rattle.authdata.specs.Responses.{assertion_response_view, registration_response_view}
+use Rattle.verification.specs.declared.refusal.SignInRefusal.{SignInRefusal}
+use Rattle.verification.specs.declared.refusal.SignInRefusal.TheVariants as sign_in
+use Rattle.verification.specs.declared.refusal.RegistrationRefusal.{RegistrationRefusal}
+use Rattle.verification.specs.declared.refusal.RegistrationRefusal.TheVariants as register
+use Rattle.site.specs.State.{SiteState}
+use Rattle.stored_site.specs.Holds.{IsFailure, StoredState}
+use Rattle.stored_site.specs.declared.failure.BeginFailure.{BeginFailure}
+use Rattle.stored_site.specs.declared.failure.BeginFailure.TheVariants as begins
+use Rattle.site_lines.specs.declared.act.FinishRegistration.{FinishRegistration}
+use Rattle.site_lines.specs.declared.act.FinishSignIn.{FinishSignIn}
+use Rattle.site_lines.specs.declared.answer.Answer.{Answer}
+use Rattle.site_lines.specs.declared.answer.Answer.TheVariants as answers
+use Rattle.site_lines.specs.declared.error.LineError.TheVariants as errors
+use Rattle.site_lines.specs.Answers.{RegistrationAsks, SignInAsks}
+
+-- what is answered where no session begins
+abbrev pub not_begun : BeginFailure → Answer
+not_begun (begins.Site why) = answers.Error (errors.NotBegun why)
+not_begun begins.BadMoment = answers.Error errors.BadClock
+not_begun begins.BadNumber = answers.Error errors.NoNumber
+not_begun (begins.Store why) = answers.Failed why
+
+-- no session has begun
+abbrev pub IsNotBegun : {S : Type 0} → StoredState S → StoredState S → BeginFailure → Type 0
+IsNotBegun old new (begins.Site why) = new ≡ old
+IsNotBegun old new begins.BadMoment = new ≡ old
+IsNotBegun old new begins.BadNumber = new ≡ old
+IsNotBegun old new (begins.Store why) = IsFailure old new why
+
+-- what is answered where a step refuses a sign-in: the step, a question, or want of memory
+abbrev pub IsRefusedSignIn : SiteState → SignInRefusal → FinishSignIn → Answer → Type 0
+IsRefusedSignIn s step f (answers.SignInRefused told id) = (told ≡ step) × (id.items ≡ f.response.credential.items)
+IsRefusedSignIn s step f (answers.Verify t) =
+    (step ≡ sign_in.BadSignature) × (f.verified.triple ≡ None) × SignInAsks s (assertion_response_view f.response) t
+IsRefusedSignIn s step f (answers.Error why) = Unit {0}
+IsRefusedSignIn s step f _ = ⊥
+
+-- the same of a registration
+abbrev pub IsRefusedRegistration : SiteState → RegistrationRefusal → FinishRegistration → Answer → Type 0
+IsRefusedRegistration s step f (answers.RegistrationRefused told id) = (told ≡ step) × (id.items ≡ f.credential.items)
+IsRefusedRegistration s step f (answers.Verify t) =
+    (step ≡ register.BadStatement) × (f.verified.triple ≡ None) × RegistrationAsks s.rp.profile (registration_response_view f.response) t
+IsRefusedRegistration s step f (answers.Error why) = Unit {0}
+IsRefusedRegistration s step f _ = ⊥
+
+-- authenticator data attest a key
+abbrev pub AttestsKey : Profile → List ℕ → CoseKey → Type 0
+AttestsKey profile bs key = (a : AuthenticatorData) × (c : AttestedCredential) × AuthOf profile a bs × (a.attested ≡ Some c) × (c.key ≡ key)

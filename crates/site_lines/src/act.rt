@@ -1,0 +1,76 @@
+//! What a line asks for.
+
+use crate::triple::Verified;
+use authdata::{AssertionResponse, RegistrationResponse};
+use cose::Alg;
+
+/// A registration that is to begin.
+#[derive(Debug, Drop)]
+pub struct BeginRegistration {
+    /// The user handle of the account.
+    pub user: Vec<u8>,
+    /// The account's name, which the page shows.
+    pub user_name: String,
+    /// The user's name, which the page shows.
+    pub display_name: String,
+    /// The ids of the credentials that the account has.
+    pub exclude: Vec<Vec<u8>>,
+    /// Whether the user is to be verified.
+    pub user_verification: bool,
+    /// Whether the credential is to be found without an id.
+    pub resident: bool,
+    /// The algorithms that are offered.
+    pub algorithms: Vec<Alg>,
+}
+
+/// A sign-in that is to begin.
+#[derive(Debug, Drop)]
+pub struct BeginSignIn {
+    /// The user handle of the account, where it is known.
+    pub user: Option<Vec<u8>>,
+    /// The ids of the credentials that may answer; none for any.
+    pub allow: Vec<Vec<u8>>,
+    /// Whether the user is to be verified.
+    pub user_verification: bool,
+}
+
+/// A registration that is to be finished.
+#[derive(Debug, Drop)]
+pub struct FinishRegistration {
+    /// The number of the session.
+    pub session: u64,
+    /// The credential id that the client names. It is shown, and judged by nothing.
+    pub credential: Vec<u8>,
+    /// The response.
+    pub response: RegistrationResponse,
+    /// What the host verified.
+    pub verified: Verified,
+}
+
+/// A sign-in that is to be finished.
+#[derive(Debug, Drop)]
+pub struct FinishSignIn {
+    /// The number of the session.
+    pub session: u64,
+    /// The response.
+    pub response: AssertionResponse,
+    /// What the host verified.
+    pub verified: Verified,
+}
+
+/// What a line asks for.
+#[derive(Debug, Drop)]
+pub enum Act {
+    BeginRegistration(BeginRegistration),
+    FinishRegistration(FinishRegistration),
+    BeginSignIn(BeginSignIn),
+    FinishSignIn(FinishSignIn),
+    /// Retire the credential of an id.
+    Retire(Vec<u8>),
+    /// Close the session of a number.
+    Abandon(u64),
+    /// End the sessions that began more than this many seconds ago.
+    Expire(u64),
+    /// Tell the credentials of a user, or all.
+    Rows(Option<Vec<u8>>),
+}

@@ -1,0 +1,292 @@
+//! The acts, and what each takes: the one table that the help shows and the parser reads.
+
+use crate::error::LineError;
+use serde_json::Value;
+use std::alloc::{AllocError, Global};
+use std::fmt::Write;
+
+/// The kind of an act.
+#[derive(Clone, Copy, Debug, PartialEq, Eq, Drop)]
+pub(crate) enum ActKind {
+    BeginRegistration,
+    FinishRegistration,
+    BeginSignIn,
+    FinishSignIn,
+    Retire,
+    Abandon,
+    Expire,
+    Rows,
+}
+
+/// A member that lines of an act have.
+struct Member {
+    act: ActKind,
+    name: &'static str,
+    is_needed: bool,
+    meaning: &'static str,
+}
+
+/// An act.
+struct Form {
+    kind: ActKind,
+    name: &'static str,
+    meaning: &'static str,
+    answer: &'static str,
+}
+
+/// Each act.
+static FORMS: [Form; 8] = [
+    Form {
+        kind: ActKind::BeginRegistration,
+        name: "begin_registration",
+        meaning: "a registration begins",
+        answer: "session, options",
+    },
+    Form {
+        kind: ActKind::FinishRegistration,
+        name: "finish_registration",
+        meaning: "its response is judged",
+        answer: "verify, accepted or refused",
+    },
+    Form {
+        kind: ActKind::BeginSignIn,
+        name: "begin_sign_in",
+        meaning: "a sign-in begins",
+        answer: "session, options",
+    },
+    Form {
+        kind: ActKind::FinishSignIn,
+        name: "finish_sign_in",
+        meaning: "its response is judged",
+        answer: "verify, accepted or refused",
+    },
+    Form {
+        kind: ActKind::Retire,
+        name: "retire",
+        meaning: "a credential signs in no more",
+        answer: "retired: whether it did until now",
+    },
+    Form {
+        kind: ActKind::Abandon,
+        name: "abandon",
+        meaning: "a session ends",
+        answer: "abandoned: whether it was open",
+    },
+    Form {
+        kind: ActKind::Expire,
+        name: "expire",
+        meaning: "sessions end by their age",
+        answer: "expired: how many",
+    },
+    Form {
+        kind: ActKind::Rows,
+        name: "rows",
+        meaning: "the credentials of a user, or all",
+        answer: "rows",
+    },
+];
+
+/// Each act's members, beside `id` and `act`.
+static MEMBERS: [Member; 20] = [
+    Member {
+        act: ActKind::BeginRegistration,
+        name: "user",
+        is_needed: true,
+        meaning: "the account's user handle",
+    },
+    Member {
+        act: ActKind::BeginRegistration,
+        name: "user_name",
+        is_needed: true,
+        meaning: "the account's name",
+    },
+    Member {
+        act: ActKind::BeginRegistration,
+        name: "display_name",
+        is_needed: false,
+        meaning: "the user's name; as user_name",
+    },
+    Member {
+        act: ActKind::BeginRegistration,
+        name: "exclude",
+        is_needed: false,
+        meaning: "the ids of the account's credentials",
+    },
+    Member {
+        act: ActKind::BeginRegistration,
+        name: "user_verification",
+        is_needed: false,
+        meaning: "true: the user is to be verified",
+    },
+    Member {
+        act: ActKind::BeginRegistration,
+        name: "resident",
+        is_needed: false,
+        meaning: "false: it need not be found without an id",
+    },
+    Member {
+        act: ActKind::BeginRegistration,
+        name: "algorithms",
+        is_needed: false,
+        meaning: "some of -7, -8, -257; all",
+    },
+    Member {
+        act: ActKind::FinishRegistration,
+        name: "session",
+        is_needed: true,
+        meaning: "the session's number",
+    },
+    Member {
+        act: ActKind::FinishRegistration,
+        name: "response",
+        is_needed: true,
+        meaning: "the browser's credential.toJSON()",
+    },
+    Member {
+        act: ActKind::FinishRegistration,
+        name: "verified",
+        is_needed: false,
+        meaning: "what verify had, where the signature is valid",
+    },
+    Member {
+        act: ActKind::BeginSignIn,
+        name: "user",
+        is_needed: false,
+        meaning: "the account's user handle",
+    },
+    Member {
+        act: ActKind::BeginSignIn,
+        name: "allow",
+        is_needed: false,
+        meaning: "the ids that may answer; any",
+    },
+    Member {
+        act: ActKind::BeginSignIn,
+        name: "user_verification",
+        is_needed: false,
+        meaning: "true: the user is to be verified",
+    },
+    Member {
+        act: ActKind::FinishSignIn,
+        name: "session",
+        is_needed: true,
+        meaning: "the session's number",
+    },
+    Member {
+        act: ActKind::FinishSignIn,
+        name: "response",
+        is_needed: true,
+        meaning: "the browser's credential.toJSON()",
+    },
+    Member {
+        act: ActKind::FinishSignIn,
+        name: "verified",
+        is_needed: false,
+        meaning: "what verify had, where the signature is valid",
+    },
+    Member {
+        act: ActKind::Retire,
+        name: "credential",
+        is_needed: true,
+        meaning: "the credential's id",
+    },
+    Member {
+        act: ActKind::Abandon,
+        name: "session",
+        is_needed: true,
+        meaning: "the session's number",
+    },
+    Member {
+        act: ActKind::Expire,
+        name: "older_than",
+        is_needed: true,
+        meaning: "seconds; those that began earlier end",
+    },
+    Member {
+        act: ActKind::Rows,
+        name: "user",
+        is_needed: false,
+        meaning: "the account's user handle",
+    },
+];
+
+/// The act of this name.
+pub(crate) fn act_named(name: &str) -> Option<ActKind> {
+    for form in &FORMS {
+        if form.name == name {
+            return Some(form.kind);
+        }
+    }
+    None
+}
+
+/// Whether a line of this act may have a member of this name.
+fn takes(act: ActKind, name: &str) -> bool {
+    if name == "id" || name == "act" {
+        return true;
+    }
+    for member in &MEMBERS {
+        if member.act == act && member.name == name {
+            return true;
+        }
+    }
+    false
+}
+
+/// That a line has no member that its act does not take.
+fn check_names(act: ActKind, line: &Value) -> Result<(), LineError> {
+    let Some(members) = line.as_object() else {
+        return Err(LineError::NotAnObject);
+    };
+    for (name, _) in members {
+        if !takes(act, name.as_str()) {
+            return Err(LineError::UnknownMember);
+        }
+    }
+    Ok(())
+}
+
+/// That a line has each member that its act needs, and none that it does not take.
+pub(crate) fn check_members(act: ActKind, line: &Value) -> Result<(), LineError> {
+    check_names(act, line)?;
+    for member in &MEMBERS {
+        if member.act == act && member.is_needed && line.get(member.name).is_none() {
+            return Err(LineError::Missing(member.name));
+        }
+    }
+    Ok(())
+}
+
+/// The lines of the help on one act.
+fn act_help(help: &mut String, form: &Form) -> Result<(), AllocError> {
+    let (name, meaning, answer) = (form.name, form.meaning, form.answer);
+    writeln!(help, "\n  {name:<20} {meaning}")?;
+    for member in &MEMBERS {
+        if member.act == form.kind {
+            let (name, meaning) = (member.name, member.meaning);
+            let left_out = if member.is_needed {
+                ""
+            } else {
+                " (may be left out)"
+            };
+            writeln!(help, "    {name:<18} {meaning}{left_out}")?;
+        }
+    }
+    writeln!(help, "    answers            {answer}")
+}
+
+/// Each act with its members and its answer, as the help shows them.
+pub fn acts_help(alloc: Global) -> Result<String, AllocError> {
+    let mut help = String::from_str(
+        alloc,
+        "A line in is {\"id\": NUMBER, \"act\": NAME, ..}, and its answer has the same id. Bytes are in base64url without
+padding. Any answer may be an error, which changes nothing, or failed: the site is shut.
+
+Acts:
+",
+    )?;
+    for form in &FORMS {
+        act_help(&mut help, form)?;
+    }
+    Ok(help)
+}

@@ -1,0 +1,117 @@
+//! Finishing a ceremony.
+
+ghost use Rattle.std.specs.Prelude.{◌≡◌};
+ghost use Rattle.authdata.specs.Responses.{assertion_response_view, registration_response_view};
+ghost use Rattle.verification.specs.Views.{assertion_parts_view, registration_parts_view};
+ghost use Rattle.site_lines.specs.Answers.{Keeps, TellsRegistration, TellsSignIn};
+ghost use Rattle.site_lines.specs.Private.{IsRefusedRegistration, IsRefusedSignIn};
+
+use crate::act::{FinishRegistration, FinishSignIn};
+use crate::answer::Answer;
+use crate::asking::{registration_asks, sign_in_asks};
+use crate::error::LineError;
+use authdata::{AssertionResponse, RegistrationResponse};
+use site::{
+    AssertionParts, RegistrationParts, RegistrationRefusal, SignInRefusal, Site, VerificationError,
+};
+use sqlite_trees::store::Store;
+use std::alloc::Global;
+use stored_site::{FinishFailure, StoredSite};
+
+/// A sign-in's response, lent.
+fn assertion_parts(response: &AssertionResponse) -> AssertionParts<'_>
+    ensures { assertion_parts_view result ≡ assertion_response_view response.now }
+{
+    AssertionParts {
+        credential: response.credential.as_slice(),
+        user: response.user.as_deref(),
+        auth_data: response.auth_data.as_slice(),
+        signature: response.signature.as_slice(),
+        client_data: response.client_data.as_slice(),
+    }
+}
+
+/// A registration's response, lent.
+fn registration_parts(response: &RegistrationResponse) -> RegistrationParts<'_>
+    ensures { registration_parts_view result ≡ registration_response_view response.now }
+{
+    RegistrationParts {
+        object: response.object.as_slice(),
+        client_data: response.client_data.as_slice(),
+    }
+}
+
+/// What is answered where a step refuses a sign-in: which signature is to be verified, where the host has verified none and
+/// that is the step, or else the step.
+fn refused_sign_in(alloc: Global, site: &Site, step: SignInRefusal, finish: FinishSignIn) -> Answer
+    ensures { IsRefusedSignIn site.now step finish result }
+{
+    let response = finish.response;
+    if step != SignInRefusal::BadSignature || !finish.verified.is_none() {
+        return Answer::SignInRefused(step, response.credential);
+    }
+    match sign_in_asks(alloc, site, &response) {
+        Ok(Some(triple)) => Answer::Verify(triple),
+        Ok(None) => Answer::SignInRefused(step, response.credential),
+        Err(_) => Answer::Error(LineError::Memory),
+    }
+}
+
+/// The same of a registration.
+fn refused_registration(
+    alloc: Global,
+    site: &Site,
+    step: RegistrationRefusal,
+    finish: FinishRegistration,
+) -> Answer
+    ensures { IsRefusedRegistration site.now step finish result }
+{
+    if step != RegistrationRefusal::BadStatement || !finish.verified.is_none() {
+        return Answer::RegistrationRefused(step, finish.credential);
+    }
+    match registration_asks(alloc, site, &finish.response) {
+        Ok(Some(triple)) => Answer::Verify(triple),
+        Ok(None) => Answer::RegistrationRefused(step, finish.credential),
+        Err(_) => Answer::Error(LineError::Memory),
+    }
+}
+
+/// Finishes a sign-in, or asks for its signature.
+pub(crate) fn finish_sign_in<S: Store>(
+    alloc: Global,
+    site: &mut StoredSite<S>,
+    finish: FinishSignIn,
+) -> Answer
+    ensures told { TellsSignIn S.Store.view finish site.old site.new result }
+    ensures kept { Keeps site.old site.new result }
+{
+    let parts = assertion_parts(&finish.response);
+    match site.finish_parts(&finish.verified, finish.session, &parts) {
+        Ok(signed_in) => Answer::SignedIn(signed_in),
+        Err(FinishFailure::Site(VerificationError::Refused(step))) => {
+            refused_sign_in(alloc, site.site(), step, finish)
+        }
+        Err(FinishFailure::Site(VerificationError::Memory)) => Answer::Error(LineError::Memory),
+        Err(FinishFailure::Store(why)) => Answer::Failed(why),
+    }
+}
+
+/// Finishes a registration, or asks for its signature.
+pub(crate) fn finish_registration<S: Store>(
+    alloc: Global,
+    site: &mut StoredSite<S>,
+    finish: FinishRegistration,
+) -> Answer
+    ensures told { TellsRegistration S.Store.view finish site.old site.new result }
+    ensures kept { Keeps site.old site.new result }
+{
+    let parts = registration_parts(&finish.response);
+    match site.finish_registration_parts(&finish.verified, finish.session, &parts) {
+        Ok(registered) => Answer::Registered(registered),
+        Err(FinishFailure::Site(VerificationError::Refused(step))) => {
+            refused_registration(alloc, site.site(), step, finish)
+        }
+        Err(FinishFailure::Site(VerificationError::Memory)) => Answer::Error(LineError::Memory),
+        Err(FinishFailure::Store(why)) => Answer::Failed(why),
+    }
+}

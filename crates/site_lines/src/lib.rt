@@ -1,0 +1,29 @@
+//! A site over lines: from a line of bytes to a line of bytes, each a JSON object. It does no input and no output.
+#![tactic(auto)]
+
+mod act;
+mod acts;
+mod answer;
+mod asking;
+mod beginning;
+mod error;
+mod finishing;
+mod keys;
+mod line;
+mod log;
+mod members;
+mod options;
+mod reading;
+mod response;
+mod triple;
+mod writing;
+
+pub use act::{Act, BeginRegistration, BeginSignIn, FinishRegistration, FinishSignIn};
+pub use acts::acts_help;
+pub use answer::Answer;
+pub use error::LineError;
+pub use line::{answer_line, carry_out};
+pub use log::log_line;
+pub use reading::{Line, LineFault, MAX_LINE, read_line};
+pub use triple::{Triple, Verified};
+pub use writing::write_answer;

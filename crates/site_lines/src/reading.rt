@@ -1,0 +1,155 @@
+//! Reading a line.
+
+use crate::act::{Act, BeginRegistration, BeginSignIn, FinishRegistration, FinishSignIn};
+use crate::acts::{ActKind, act_named, check_members};
+use crate::error::LineError;
+use crate::keys::key;
+use crate::members::{
+    algorithms, bytes, flag, list_of_bytes, member, needed, number, optional_bytes, text,
+};
+use crate::response::{assertion_response, credential_id, registration_response};
+use crate::triple::{Triple, Verified};
+use serde_json::Value;
+use std::alloc::Global;
+
+/// The most bytes of a line.
+pub const MAX_LINE: usize = 65_536;
+
+/// What a line says.
+#[derive(Debug, Drop)]
+pub struct Line {
+    /// The number that the answer repeats.
+    pub id: u64,
+    /// What it asks for.
+    pub act: Act,
+}
+
+/// Why a line is refused, and its number, where it has one.
+#[derive(Clone, Copy, Debug, Drop)]
+pub struct LineFault {
+    pub id: Option<u64>,
+    pub error: LineError,
+}
+
+/// What the host verified, where it says so.
+fn verified(alloc: Global, line: &Value) -> Result<Verified, LineError> {
+    let Some(object) = member(line, "verified") else {
+        return Ok(Verified { triple: None });
+    };
+    let triple = Triple {
+        key: key(alloc, object)?,
+        message: bytes(alloc, object, "message")?,
+        signature: bytes(alloc, object, "signature")?,
+    };
+    Ok(Verified {
+        triple: Some(triple),
+    })
+}
+
+/// A registration that is to begin.
+fn begin_registration(alloc: Global, line: &Value) -> Result<BeginRegistration, LineError> {
+    let user_name = text(line, "user_name")?;
+    let display_name = match member(line, "display_name") {
+        Some(_) => text(line, "display_name")?,
+        None => user_name,
+    };
+    Ok(BeginRegistration {
+        user: bytes(alloc, line, "user")?,
+        user_name: String::from_str(alloc, user_name)?,
+        display_name: String::from_str(alloc, display_name)?,
+        exclude: list_of_bytes(alloc, line, "exclude")?,
+        user_verification: flag(line, "user_verification", false)?,
+        resident: flag(line, "resident", true)?,
+        algorithms: algorithms(alloc, line)?,
+    })
+}
+
+/// A sign-in that is to begin.
+fn begin_sign_in(alloc: Global, line: &Value) -> Result<BeginSignIn, LineError> {
+    Ok(BeginSignIn {
+        user: optional_bytes(alloc, line, "user")?,
+        allow: list_of_bytes(alloc, line, "allow")?,
+        user_verification: flag(line, "user_verification", false)?,
+    })
+}
+
+/// A registration that is to be finished.
+fn finish_registration(alloc: Global, line: &Value) -> Result<FinishRegistration, LineError> {
+    let response = needed(line, "response")?;
+    Ok(FinishRegistration {
+        session: number(line, "session")?,
+        credential: credential_id(alloc, response)?,
+        response: registration_response(alloc, response)?,
+        verified: verified(alloc, line)?,
+    })
+}
+
+/// A sign-in that is to be finished.
+fn finish_sign_in(alloc: Global, line: &Value) -> Result<FinishSignIn, LineError> {
+    Ok(FinishSignIn {
+        session: number(line, "session")?,
+        response: assertion_response(alloc, needed(line, "response")?)?,
+        verified: verified(alloc, line)?,
+    })
+}
+
+/// The act of this kind.
+fn act_of(alloc: Global, kind: ActKind, line: &Value) -> Result<Act, LineError> {
+    Ok(match kind {
+        ActKind::BeginRegistration => Act::BeginRegistration(begin_registration(alloc, line)?),
+        ActKind::FinishRegistration => Act::FinishRegistration(finish_registration(alloc, line)?),
+        ActKind::BeginSignIn => Act::BeginSignIn(begin_sign_in(alloc, line)?),
+        ActKind::FinishSignIn => Act::FinishSignIn(finish_sign_in(alloc, line)?),
+        ActKind::Retire => Act::Retire(bytes(alloc, line, "credential")?),
+        ActKind::Abandon => Act::Abandon(number(line, "session")?),
+        ActKind::Expire => Act::Expire(number(line, "older_than")?),
+        ActKind::Rows => Act::Rows(optional_bytes(alloc, line, "user")?),
+    })
+}
+
+/// What a line's object asks for.
+fn act_in(alloc: Global, line: &Value) -> Result<Act, LineError> {
+    let Some(kind) = act_named(text(line, "act")?) else {
+        return Err(LineError::UnknownAct);
+    };
+    check_members(kind, line)?;
+    act_of(alloc, kind, line)
+}
+
+/// The object that a line is.
+fn object_of(alloc: Global, line: &[u8]) -> Result<Value, LineError> {
+    if line.len() > MAX_LINE {
+        return Err(LineError::TooLong);
+    }
+    let Ok(text) = str::from_utf8(line) else {
+        return Err(LineError::NotUtf8);
+    };
+    match Value::from_str(alloc, text) {
+        Ok(value) if value.is_object() => Ok(value),
+        Err(error) if error.is_memory() => Err(LineError::Memory),
+        _ => Err(LineError::NotAnObject),
+    }
+}
+
+/// Reads a line: at most `MAX_LINE` bytes of UTF-8, a JSON object that nests at most 127 deep, with a number `id`, the name
+/// of an `act`, and the members that the act takes. A member that it does not take is refused: so a misspelled one is not
+/// passed over. Of members with one name the last stands.
+pub fn read_line(alloc: Global, line: &[u8]) -> Result<Line, LineFault> {
+    let object = match object_of(alloc, line) {
+        Ok(object) => object,
+        Err(error) => return Err(LineFault { id: None, error }),
+    };
+    let Some(id) = object.get("id").and_then(Value::as_u64) else {
+        return Err(LineFault {
+            id: None,
+            error: LineError::BadId,
+        });
+    };
+    match act_in(alloc, &object) {
+        Ok(act) => Ok(Line { id, act }),
+        Err(error) => Err(LineFault {
+            id: Some(id),
+            error,
+        }),
+    }
+}

@@ -1,0 +1,51 @@
+//! Responses as the browser gives them: `RegistrationResponseJSON` and `AuthenticationResponseJSON` (WebAuthn Level 3,
+//! section 5.1), each value of bytes in base64url without padding.
+
+use crate::error::LineError;
+use crate::members::{bytes, member, needed, optional_bytes};
+use authdata::{AssertionResponse, RegistrationResponse};
+use serde_json::Value;
+use std::alloc::Global;
+
+/// The credential id: `rawId`, or `id` where there is none.
+pub(crate) fn credential_id(alloc: Global, response: &Value) -> Result<Vec<u8>, LineError> {
+    if member(response, "rawId").is_some() {
+        bytes(alloc, response, "rawId")
+    } else {
+        bytes(alloc, response, "id")
+    }
+}
+
+/// The parts of a registration's response.
+pub(crate) fn registration_response(
+    alloc: Global,
+    response: &Value,
+) -> Result<RegistrationResponse, LineError> {
+    let parts = needed(response, "response")?;
+    let object = bytes(alloc, parts, "attestationObject")?;
+    let client_data = bytes(alloc, parts, "clientDataJSON")?;
+    Ok(RegistrationResponse {
+        object,
+        client_data,
+    })
+}
+
+/// The parts of a sign-in's response.
+pub(crate) fn assertion_response(
+    alloc: Global,
+    response: &Value,
+) -> Result<AssertionResponse, LineError> {
+    let parts = needed(response, "response")?;
+    let credential = credential_id(alloc, response)?;
+    let user = optional_bytes(alloc, parts, "userHandle")?;
+    let auth_data = bytes(alloc, parts, "authenticatorData")?;
+    let signature = bytes(alloc, parts, "signature")?;
+    let client_data = bytes(alloc, parts, "clientDataJSON")?;
+    Ok(AssertionResponse {
+        credential,
+        user,
+        auth_data,
+        signature,
+        client_data,
+    })
+}

@@ -1,0 +1,86 @@
+//! A site over lines: one JSON object in, one out, over a file.
+#![tactic(auto)]
+
+mod fault;
+mod file;
+mod input;
+mod options;
+mod serving;
+
+use clap::error::ErrorKind;
+use fault::Fault;
+use file::site_of;
+use options::{Options, command_line, options_of};
+use serving::serve;
+use site_files::close;
+use site_lines::acts_help;
+use std::io::Write;
+use std::process::ExitCode;
+use std::{env, io};
+
+/// The arguments of the command line, the program's name first.
+fn arguments(rt: &HostRuntime) -> io::Result<Vec<String>> {
+    let mut arguments = Vec::new(rt.alloc());
+    for word in env::args(rt)? {
+        arguments.push(word)?;
+    }
+    Ok(arguments)
+}
+
+/// Serves lines over the site's file, and closes it.
+fn serve_file(rt: &HostRuntime, options: &Options<'_>) -> Result<(), Fault> {
+    let mut site = site_of(rt, options)?;
+    let served = serve(rt, options, &mut site);
+    close(site)?;
+    served
+}
+
+/// The status of serving with these options; a fault is told on standard error.
+fn run_options(rt: &HostRuntime, options: &Options<'_>) -> u8 {
+    match serve_file(rt, options) {
+        Ok(()) => 0,
+        Err(fault) => {
+            let _ = writeln!(rt.stderr(), "{fault}");
+            fault.status()
+        }
+    }
+}
+
+/// Runs the program on its arguments.
+fn run(rt: &HostRuntime) -> io::Result<u8> {
+    let owned = arguments(rt)?;
+    let mut words = Vec::new(rt.alloc());
+    for word in &owned {
+        words.push(word.as_str())?;
+    }
+    let help = acts_help(rt.alloc())?;
+    let matches = match command_line(rt.alloc(), help.as_str(), words.as_slice()) {
+        Ok(matches) => matches,
+        Err(error) if error.kind() == ErrorKind::DisplayHelp => {
+            write!(rt.stdout(), "{error}")?;
+            return Ok(0);
+        }
+        Err(error) => {
+            write!(rt.stderr(), "{error}")?;
+            return Ok(2);
+        }
+    };
+    match options_of(rt.alloc(), &matches)? {
+        Some(options) => Ok(run_options(rt, &options)),
+        None => {
+            writeln!(rt.stderr(), "the value of --max-open is no number")?;
+            Ok(2)
+        }
+    }
+}
+
+fn main(rt: HostRuntime) -> ExitCode {
+    let status = match run(&rt) {
+        Ok(status) => status,
+        Err(error) => {
+            let _ = writeln!(rt.stderr(), "{error}");
+            3
+        }
+    };
+    ExitCode::from(status)
+}

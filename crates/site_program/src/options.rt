@@ -1,0 +1,182 @@
+//! The command line.
+
+use authdata::Profile;
+use clap::{Arg, ArgAction, ArgMatches, Command, Error};
+use site::Policy;
+use std::alloc::{AllocError, Global};
+
+/// The profiles.
+static PROFILES: [&str; 2] = ["open", "strict"];
+
+/// The attestations that are accepted.
+static ATTESTATIONS: [&str; 3] = ["any", "none", "self"];
+
+/// What the command line asks for.
+#[derive(Drop)]
+pub(crate) struct Options<'a> {
+    /// The path of the site's file.
+    pub(crate) file: &'a str,
+    /// The rp id.
+    pub(crate) rp_id: &'a str,
+    /// The relying party's name, which the page shows.
+    pub(crate) rp_name: &'a str,
+    /// The origins of its pages.
+    pub(crate) origins: Vec<&'a str>,
+    /// Which responses it takes.
+    pub(crate) profile: Profile,
+    /// Which attestations it accepts.
+    pub(crate) policy: Policy,
+    /// The most sessions that are open at a time.
+    pub(crate) max_open: usize,
+    /// Whether the file must not be there yet.
+    pub(crate) is_new: bool,
+    /// Whether the file must be there.
+    pub(crate) is_existing: bool,
+    /// Whether refusals are told on standard error.
+    pub(crate) logs: bool,
+}
+
+/// An option with a value.
+fn option<'a>(alloc: Global, name: &'a str, value: &'a str, help: &'a str) -> Arg<'a> {
+    Arg::new(alloc, name)
+        .long(name)
+        .value_name(value)
+        .help(help)
+}
+
+/// An option without a value.
+fn switch<'a>(alloc: Global, name: &'a str, help: &'a str) -> Arg<'a> {
+    Arg::new(alloc, name)
+        .long(name)
+        .action(ArgAction::SetTrue)
+        .help(help)
+}
+
+/// The program's parser with the relying party's options.
+fn party_options<'a>(alloc: Global, help: &'a str) -> Result<Command<'a>, AllocError> {
+    let file = Arg::new(alloc, "FILE")
+        .required(true)
+        .help("The site's SQLite file");
+    let rp_id = option(alloc, "rp-id", "ID", "The rp id").required(true);
+    let origin = option(
+        alloc,
+        "origin",
+        "ORIGIN",
+        "An origin of its pages; may come again",
+    )
+    .required(true)
+    .action(ArgAction::Append);
+    Command::new(alloc, "site")
+        .about("A relying party over lines: one JSON object in, one out")
+        .after_help(help)
+        .arg(file)?
+        .arg(rp_id)?
+        .arg(origin)
+}
+
+/// The same with the options of what it accepts.
+fn policy_options<'a>(alloc: Global, help: &'a str) -> Result<Command<'a>, AllocError> {
+    let name = option(
+        alloc,
+        "rp-name",
+        "NAME",
+        "The name that the page shows; as the rp id",
+    );
+    let profile = option(
+        alloc,
+        "profile",
+        "PROFILE",
+        "Which responses it takes; open",
+    )
+    .value_parser(PROFILES.as_slice());
+    let attestation = option(
+        alloc,
+        "attestation",
+        "WHICH",
+        "Which attestations it accepts; any",
+    )
+    .value_parser(ATTESTATIONS.as_slice());
+    let max_open = option(alloc, "max-open", "N", "The most open sessions; 1024");
+    party_options(alloc, help)?
+        .arg(name)?
+        .arg(profile)?
+        .arg(attestation)?
+        .arg(max_open)
+}
+
+/// The program's parser, with this text behind its help.
+fn parser<'a>(alloc: Global, help: &'a str) -> Result<Command<'a>, AllocError> {
+    let new = switch(
+        alloc,
+        "new",
+        "The file is to be made, and must not be there",
+    );
+    let existing = switch(alloc, "existing", "The file must be there").conflicts_with("new")?;
+    let log = switch(alloc, "log", "Tell refusals on standard error");
+    policy_options(alloc, help)?
+        .arg(new)?
+        .arg(existing)?
+        .arg(log)
+}
+
+/// What clap reads of the arguments, the program's name first, with this text behind the help.
+pub(crate) fn command_line<'a>(
+    alloc: Global,
+    help: &'a str,
+    arguments: &'a [&'a str],
+) -> Result<ArgMatches<'a>, Error> {
+    let mut parser = parser(alloc, help)?;
+    parser.try_get_matches_from_mut(arguments)
+}
+
+/// The attestations of their word; any where there is none.
+fn policy_named(word: Option<&str>) -> Policy {
+    Policy {
+        accept_none: word != Some("self"),
+        accept_self: word != Some("none"),
+    }
+}
+
+/// The profile of its word; the open one where there is none.
+fn profile_named(word: Option<&str>) -> Profile {
+    if word == Some("strict") {
+        Profile::Strict
+    } else {
+        Profile::Open
+    }
+}
+
+/// The most open sessions; nothing where it is no number.
+fn max_open(word: Option<&str>) -> Option<usize> {
+    match word {
+        Some(word) => word.parse::<usize>().ok(),
+        None => Some(1024),
+    }
+}
+
+/// The options that were read; nothing where a value is missing or no number.
+pub(crate) fn options_of<'a>(
+    alloc: Global,
+    matches: &ArgMatches<'a>,
+) -> Result<Option<Options<'a>>, AllocError> {
+    let (Some(file), Some(rp_id), Some(origins), Some(max_open)) = (
+        matches.get_str("FILE"),
+        matches.get_str("rp-id"),
+        matches.get_strs("origin"),
+        max_open(matches.get_str("max-open")),
+    ) else {
+        return Ok(None);
+    };
+    Ok(Some(Options {
+        file,
+        rp_id,
+        rp_name: matches.get_str("rp-name").unwrap_or(rp_id),
+        origins: Vec::from_slice(alloc, origins)?,
+        profile: profile_named(matches.get_str("profile")),
+        policy: policy_named(matches.get_str("attestation")),
+        max_open,
+        is_new: matches.get_flag("new"),
+        is_existing: matches.get_flag("existing"),
+        logs: matches.get_flag("log"),
+    }))
+}
