@@ -39,13 +39,12 @@ impl Error {
         ensures { result ≡ refusal_number self.now }
     {
         match self {
-            Error::Memory => None,
+            Error::Memory | Error::Status(_) => None,
             Error::Unfit => Some(1),
             Error::NotCanonical => Some(2),
             Error::Shape => Some(13),
             Error::Empty => Some(17),
             Error::Refused(_) => Some(18),
-            Error::Status(_) => None,
         }
     }
 }
