@@ -29,6 +29,7 @@ use ctap_status::status::{
     CREDENTIAL_EXCLUDED, INVALID_OPTION, KEY_STORE_FULL, OPERATION_DENIED, OTHER,
     UNSUPPORTED_ALGORITHM,
 };
+use sha2::{Digest, Sha256};
 use std::alloc::AllocError;
 
 /// The most credentials of one authenticator.
@@ -129,6 +130,7 @@ fn put(
     let User { id: user, .. } = user;
     let credential = StoredCredential {
         id: words.id,
+        rp_id_hash: Sha256::digest(rp_id.as_bytes()),
         rp_id,
         user,
         secret: words.secret,
