@@ -152,6 +152,7 @@ waited links valid public (suc k) c m e f rest sent low works reading x =
 -- the authenticator's reply to the message, and what is sent with it
 pub record Replied (valid : Validity) (public : Keys) (c : ℕ) (m : List ℕ) (consent : Consent) (words : Words) (e : AuthenticatorEnd) (sent : List Packet)
     (f : AuthenticatorEnd) : Type 0 where
+  pub low : c < 2 ^ 32
   pub reply : List ℕ
   pub payload : IsPayload reply
   pub steps : Steps valid public e.authenticator c m consent words reply f.authenticator
@@ -196,6 +197,7 @@ replied links valid public c m ps waits consent words e f sent idle some frames 
     let is_idle = links.one_state k.0.history k.0.channels b.there.channels k.0.device Idle k.3.reading ends in
     let channels : k.0.channels ≡ e.channels = is_idle.0 ∙ b.channels ∙ works.0 in
     record {
+      low = low;
       reply = reply;
       payload = s.4;
       steps =

@@ -209,6 +209,20 @@ module _ (valid : Validity) (public : Keys) (b : SavingLaws) where
     asked : (q : RequestMessage) → IsRequest q bs → IsAsked k channel consent words q m
     asked q is = record { bytes = bs; event = event; done = done; request = is }
 
+    -- an entry of this call
+    signed_now : (purpose : Purpose) (q : RequestMessage) (hash : List ℕ) (e : Entry) → IsAsked k channel e.consent words q m
+        → Signs k purpose hash e m → IsSignedAt k purpose q hash all e
+    signed_now purpose q hash e is signs = record {
+      before = past;
+      moment = m;
+      later = [];
+      here = refl;
+      channel = channel;
+      words = words;
+      asked = is;
+      signs = signs;
+    }
+
     -- what the call adds
     record Adds : Type 0 where
       pub signed : All (IsSignedInRun k all) out.signed
@@ -285,24 +299,16 @@ module _ (valid : Validity) (public : Keys) (b : SavingLaws) where
               purpose = attestation;
               consent = consent;
             } in
-            let entry : IsSignedAt k attestation (make_credential q) q.client_data_hash all e = record {
-              before = past;
-              moment = m;
-              later = [];
-              here = refl;
-              channel = channel;
-              words = words;
-              asked = asked (make_credential q) is;
-              signs = record {
-                signed = ap (λ (h : Holder). h.signed) now ∙ ap (λ l. (m.old.holder k).signed ++ l) h.2;
-                is_for = refl;
-                key = made;
-                auth = creation_data old q words.id (public c.alg words.secret);
-                bytes = c.shown.auth_data;
-                spelled = c.spelled;
-                message = refl;
-              };
+            let signs : Signs k attestation q.client_data_hash e m = record {
+              signed = ap (λ (h : Holder). h.signed) now ∙ ap (λ l. (m.old.holder k).signed ++ l) h.2;
+              is_for = refl;
+              key = made;
+              auth = creation_data old q words.id (public c.alg words.secret);
+              bytes = c.shown.auth_data;
+              spelled = c.spelled;
+              message = refl;
             } in
+            let entry = signed_now attestation (make_credential q) q.client_data_hash e (asked (make_credential q) is) signs in
             All-same (IsSignedInRun k all) out.signed (e ∷ []) h.2 (All-cons (IsSignedInRun k all) e [] (inl (q, entry)) (All-nil (IsSignedInRun k all)))
 
     -- ---- a credential answers
@@ -345,16 +351,8 @@ module _ (valid : Validity) (public : Keys) (b : SavingLaws) where
         answered id (asked_by channel q consent) ids _ _ q.client_data_hash refl
         (λ e given signs. inr (inl (
           q,
-          record {
-            before = past;
-            moment = m;
-            later = [];
-            here = refl;
-            channel = channel;
-            words = words;
-            asked = subst (λ (c : Consent). IsAsked k channel c words (get_assertion q) m) (sym given) (asked (get_assertion q) is);
-            signs = signs;
-          },
+          signed_now assertion (get_assertion q) q.client_data_hash e
+              (subst (λ (c : Consent). IsAsked k channel c words (get_assertion q) m) (sym given) (asked (get_assertion q) is)) signs,
         )))
         (record {
           before = past;

@@ -1,5 +1,5 @@
 -- An honest registration is accepted.
-use Rattle.std.proofs.Common.{◌≡◌, ◌≢◌, ◌⊎◌, inl, inr, ℕ, ◌<◌, ◌≤◌, ◌+◌, ◌^◌, List, [], ◌∷◌, ◌++◌, length, Bool, true, false, not, is_some, Option}
+use Rattle.std.proofs.Common.{◌≡◌, ◌≢◌, ◌⊎◌, inl, inr, ℕ, ◌<◌, ◌+◌, List, [], ◌∷◌, ◌++◌, length, Bool, true, false, not, is_some, Option}
 use Rattle.std.proofs.Common.{Some, codes, refl, sym, ◌∙◌, ap, subst, arith, rules, Contains}
 use Rattle.std.specs.Prelude.{nat_lt}
 use Rattle.sha2.specs.Sha256.{sha256}
@@ -187,14 +187,8 @@ module _ (valid : Validity) (public : Keys) (b : Below valid public) (keeps : Ke
     not_full = room_for (length x.site.rows) h.site_room;
   }
 
-  low : x.channel < 2 ^ 32
-  low =
-      let few : x.after.channels ≤ 65535 = b.links.most x.after.history x.after.channels x.after.device came.idle.reading in
-      let within : x.channel ≤ x.after.channels = came.idle.out.1 in
-      omega (arith, few, within)
-
   delivered : Delivers x.channel x.packets (length x.packets) came.reply
-  delivered = delivers b.links x.channel came.reply came.waits x.packets low came.payload came.are_waits came.all
+  delivered = delivers b.links x.channel came.reply came.waits x.packets came.low came.payload came.are_waits came.all
 
   -- the row that is registered
   abbrev row : expects.Credential

@@ -1,5 +1,5 @@
 -- An honest sign-in is accepted.
-use Rattle.std.proofs.Common.{◌≡◌, ◌≢◌, ◌⊎◌, inl, inr, ℕ, ◌<◌, ◌≤◌, ◌+◌, ◌-◌, ◌^◌, List, [], ◌∷◌, ◌++◌, length, Bool, true, false, not}
+use Rattle.std.proofs.Common.{◌≡◌, ◌≢◌, ◌⊎◌, inl, inr, ℕ, ◌<◌, ◌+◌, ◌-◌, ◌^◌, List, [], ◌∷◌, ◌++◌, length, Bool, true, false, not}
 use Rattle.std.proofs.Common.{if◌then◌else◌, Option, Some, None, refl, sym, ◌∙◌, ap, subst, arith, get_or, Contains}
 use Rattle.std.specs.Option.{ForSome}
 use Rattle.sha2.specs.Sha256.{sha256}
@@ -254,14 +254,8 @@ module _ (valid : Validity) (public : Keys) (b : Below valid public) (x : Signin
     eligible = λ known is. let false_is : false ≡ known = cc in eligible_is ∙ false_is;
   }
 
-  low : x.channel < 2 ^ 32
-  low =
-      let few : x.after.channels ≤ 65535 = b.links.most x.after.history x.after.channels x.after.device came.idle.reading in
-      let within : x.channel ≤ x.after.channels = came.idle.out.1 in
-      omega (arith, few, within)
-
   delivered : Delivers x.channel x.packets (length x.packets) came.reply
-  delivered = delivers b.links x.channel came.reply came.waits x.packets low came.payload came.are_waits came.all
+  delivered = delivers b.links x.channel came.reply came.waits x.packets came.low came.payload came.are_waits came.all
 
   abbrev next : CredentialSource
   next = record c { sign_count = n + 1 }

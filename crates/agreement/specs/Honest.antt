@@ -52,23 +52,28 @@ pub record IsShared (public : Keys) (s : site.SiteState) (a : AuthenticatorState
   pub registered : row_of c.id s.rows ≡ Some
       (record { id = c.id; user = c.user; key = key_of public c; sign_count = n; eligible = Some false; retired = false })
 
--- ---- a registration
+-- ---- a ceremony
 
 -- what the site is and expects; what the client is asked for, on which channel; the authenticator's end, and the words
 -- for the new credential; the client data and the packets of the client; the packets that come back, and the
 -- authenticator's end then
-pub record Registering : Type 0 where
+pub record Ceremony (Expected Options : Type 0) : Type 0 where
   pub site : site.SiteState
   pub session : ℕ
-  pub expected : expects.ExpectedRegistration
+  pub expected : Expected
   pub origin : List ℕ
-  pub options : options.RegistrationOptions
+  pub options : Options
   pub channel : ℕ
   pub before : AuthenticatorEnd
   pub words : Words
   pub out : Sent
   pub packets : List Packet
   pub after : AuthenticatorEnd
+
+-- ---- a registration
+
+abbrev pub Registering : Type 0
+Registering = Ceremony expects.ExpectedRegistration options.RegistrationOptions
 
 -- an algorithm is offered that an authenticator signs by
 abbrev pub OffersSigning : List Alg → Type 0
@@ -113,18 +118,8 @@ pub record Registers (valid : Validity) (public : Keys) (x : Registering) : Type
 
 -- ---- a sign-in
 
-pub record SigningIn : Type 0 where
-  pub site : site.SiteState
-  pub session : ℕ
-  pub expected : expects.ExpectedSignIn
-  pub origin : List ℕ
-  pub options : options.SignInOptions
-  pub channel : ℕ
-  pub before : AuthenticatorEnd
-  pub words : Words
-  pub out : Sent
-  pub packets : List Packet
-  pub after : AuthenticatorEnd
+abbrev pub SigningIn : Type 0
+SigningIn = Ceremony expects.ExpectedSignIn options.SignInOptions
 
 -- the credential is asked for by its id, for a user that the session names; or none is asked for, it is the most recent
 -- resident one, and the session names its user or none

@@ -9,7 +9,7 @@ use Rattle.std.proofs.lemmas.Grind.{common_steps}
 use Rattle.std.proofs.lemmas.List.{length-append}
 use Rattle.refusal_order.specs.Lines.{Each}
 use Rattle.ccbor.specs.Item.{Item, Items, no_items, item, uint, bytes, array, map, boolean, Pairs, no_pairs, pair}
-use Rattle.ccbor.specs.Access.{items_first, split_key, is_end, uint_in, bool_in, items_in, pairs_in}
+use Rattle.ccbor.specs.Access.{split_key, is_end, uint_in, bool_in, items_in, pairs_in}
 use Rattle.ccbor.specs.Canon.{Canon, Fits, ItemsFit, before, count_of_items, head}
 use Rattle.ccbor.specs.View.{items_of}
 use Rattle.ccbor.proofs.AccessLemmas.{split_key_takes, pairs_in_is, uint_in_is, items_in_is, end_is}
@@ -42,17 +42,6 @@ in_front-none (c ∷ cs) = ap (λ (l : Items). item (source_item c) l) (in_front
 pub in_front-one_more : (cs : List CredentialSource) (c : CredentialSource) (xs : Items) → in_front (cs ++ c ∷ []) xs ≡ in_front cs (item (source_item c) xs)
 in_front-one_more [] c xs = refl
 in_front-one_more (d ∷ cs) c xs = ap (λ (l : Items). item (source_item d) l) (in_front-one_more cs c xs)
-
--- the first of some items, and none
-pub first_item : (xs : Items) (x : Item) (rest : Items) → items_first xs ≡ Some (x, rest) → xs ≡ item x rest
-first_item no_items x rest e = absurd cc
-first_item (item y ys) x rest e =
-    let both = same_Some (y, ys) (x, rest) e in
-    ap (λ (p : Item × Items). item p.0 p.1) both
-
-pub no_item : (xs : Items) → items_first xs ≡ None → xs ≡ no_items
-no_item no_items e = refl
-no_item (item y ys) e = absurd cc
 
 -- the error that an answer is refused by
 pub same_error : {X : Type 0} (r : Result X LoadError) (y f e : LoadError) → r ≡ Err y → y ≡ f → r ≡ Err e → f ≡ e

@@ -1,6 +1,6 @@
 -- The credentials that stored ones stand for.
-use Rattle.std.proofs.Common.{◌≡◌, ◌<◌, ℕ, zero, suc, List, [], ◌∷◌, ◌++◌, Bool, true, false, Some, None, sym, ◌∙◌, ap, arith, refl, length}
-use Rattle.std.proofs.Common.{slice_index_or, slice_set, drop, map, reverse, append-nil, Bor, Vec, Global}
+use Rattle.std.proofs.Common.{◌≡◌, ◌<◌, ℕ, zero, suc, List, [], ◌∷◌, ◌++◌, Bool, true, false, ◌≤◌, Some, None, sym, ◌∙◌, ap, arith, refl, length}
+use Rattle.std.proofs.Common.{slice_index_or, slice_set, drop, map, reverse, take, take_all, append-nil, Bor, Vec, Global}
 use Rattle.std.specs.Prelude.{Option, filter, find, option_map, option_to_list, position, remove, IfSome, MatchOption}
 use Rattle.std.proofs.Math.Seq.{drop-cons}
 use Rattle.std.proofs.lemmas.List.{length-map, map-append, reverse-append}
@@ -123,11 +123,16 @@ resident_ids_are rp xs ids is =
     ∙ ap (map (λ (c : CredentialSource). c.id)) (sym (filter_mapped credential_source_view (is_resident_for rp) xs)))
 
 -- the last of them comes first
-pub ids_with : (rp : List ℕ) (xs : List StoredCredential) (ids later : List (List ℕ)) (last : Option (List ℕ))
-    → ids ≡ map (λ c. c.id) (filter (λ c. is_resident_for rp (credential_source_view c)) xs)
-    → ids ≡ later ++ option_to_list last → option_to_list last ++ reverse later ≡ resident_ids rp (credential_sources_view xs)
-ids_with rp xs ids later None is cut = ap reverse (sym (append-nil later) ∙ sym cut) ∙ resident_ids_are rp xs ids is
-ids_with rp xs ids later (Some id) is cut = sym (reverse-append later (id ∷ [])) ∙ ap reverse (sym cut) ∙ resident_ids_are rp xs ids is
+pub ids_found : (rp : List ℕ) (xs : List StoredCredential) (i : ℕ) → length xs ≤ i → (later : List (List ℕ)) (last : Option (List ℕ))
+    → later ++ option_to_list last ≡ map (λ c. c.id) (filter (λ c. is_resident_for rp (credential_source_view c)) (take i xs))
+    → option_to_list last ++ reverse later ≡ resident_ids rp (credential_sources_view xs)
+ids_found rp xs i all later last found =
+    ends last ∙ resident_ids_are rp xs (later ++ option_to_list last)
+    (found ∙ ap (λ t. map (λ (c : StoredCredential). c.id) (filter (λ (c : StoredCredential). is_resident_for rp (credential_source_view c)) t)) (take_all i xs all))
+  where
+    ends : (last : Option (List ℕ)) → option_to_list last ++ reverse later ≡ reverse (later ++ option_to_list last)
+    ends None = ap reverse (sym (append-nil later))
+    ends (Some id) = sym (reverse-append later (id ∷ []))
 
 -- ---- descriptors
 

@@ -14,7 +14,6 @@ use crate::remembered::AskedAssertion;
 use authdata::AuthData;
 use authdata::flags::{UP, UV};
 use ctap_replies::AssertionView;
-use sha2::{Digest, Sha256};
 use std::alloc::{AllocError, Global};
 
 /// The flags of an assertion.
@@ -42,7 +41,7 @@ pub(crate) fn auth_data(
     ensures size { IfOk result (λ bytes. length bytes.items ≡ 37) }
 {
     let data = AuthData {
-        rp_id_hash: Sha256::digest(credential.rp_id.as_bytes()),
+        rp_id_hash: credential.rp_id_hash,
         flags: flags(asked.up, asked.uv),
         sign_count: credential.sign_count + 1,
         attested: None,

@@ -155,25 +155,7 @@ fn count_residents(credentials: &[StoredCredential], rp_id: &str) -> usize
         .count()
 }
 
-/// The ids of the relying party's resident credentials, in order of creation.
-fn resident_ids(
-    alloc: Global,
-    credentials: &[StoredCredential],
-    rp_id: &str,
-) -> Result<Vec<[u8; 32]>, AllocError>
-    ensures { IfOk result (λ v. v.items ≡ map (λ c. c.id) (filter (λ c. is_resident_for rp_id.now (credential_source_view c)) credentials.now)) }
-{
-    let count = count_residents(credentials, rp_id);
-    let mut ids = Vec::with_capacity(alloc, count)?;
-    for credential in credentials {
-        if credential.is_resident_for(rp_id) {
-            ids.push(credential.id)?;
-        }
-    }
-    Ok(ids)
-}
-
-/// The relying party's resident credentials, the most recent first.
+/// The relying party's resident credentials, the most recent first. It takes memory where there are two.
 fn residents(
     alloc: Global,
     credentials: &[StoredCredential],
@@ -181,8 +163,18 @@ fn residents(
 ) -> Result<Option<Candidates>, AllocError>
     ensures { IfOk result (λ o. candidates_view o ≡ resident_ids rp_id.now (credential_sources_view credentials.now)) }
 {
-    let mut later = resident_ids(alloc, credentials, rp_id)?;
-    match later.pop() {
+    let count = count_residents(credentials, rp_id);
+    let mut later = Vec::with_capacity(alloc, count.saturating_sub(1))?;
+    let mut last = None;
+    for credential in credentials {
+        if credential.is_resident_for(rp_id) {
+            if let Some(earlier) = last {
+                later.push(earlier)?;
+            }
+            last = Some(credential.id);
+        }
+    }
+    match last {
         Some(first) => Ok(Some(Candidates { first, later })),
         None => Ok(None),
     }

@@ -21,6 +21,7 @@ use crate::members::SourceView;
 use crate::reading::{members, source};
 use authdata::AttestationType;
 use ccbor::{ArrayView, View};
+use sha2::{Digest, Sha256};
 use std::alloc::{AllocError, Global};
 
 /// How new credentials are attested.
@@ -46,6 +47,7 @@ fn push_copy(
     credentials.push(StoredCredential {
         id: source.id,
         rp_id: String::from_str(alloc, source.rp_id)?,
+        rp_id_hash: Sha256::digest(source.rp_id.as_bytes()),
         user: Vec::from_slice(alloc, source.user)?,
         secret: source.secret,
         alg: source.alg,

@@ -29,6 +29,7 @@ use ctap_status::status::{
     CREDENTIAL_EXCLUDED, INVALID_OPTION, KEY_STORE_FULL, OPERATION_DENIED, OTHER,
     UNSUPPORTED_ALGORITHM,
 };
+use sha2::{Digest, Sha256};
 use std::alloc::AllocError;
 
 /// The most credentials of one authenticator.
@@ -110,33 +111,25 @@ fn is_full(credentials: &[StoredCredential], overwritten: Option<usize>) -> bool
     }
 }
 
-/// Stores the new credential, in place of the one that it overwrites.
-fn put(
-    credentials: &mut Vec<StoredCredential>,
-    request: MakeCredential,
-    choice: Choice,
-    words: &Words,
-) -> Result<(), AllocError>
-    requires user { IsUser request.user.id.items }
-    requires resident { choice.resident ≡ asks_resident (creation_view request) }
-    requires overwritten { Overwrites (credential_sources_view credentials.old.items) (creation_view request) choice.overwritten }
-    ensures ok { OnOk result (credential_sources_view credentials.new.items ≡ kept (credential_sources_view credentials.old.items) (creation_view request)
-        ++ new_credential (creation_view request) choice.alg words.now ∷ []) }
-    ensures err { OnErr result (credentials.new.items ≡ credentials.old.items) }
+/// The new credential.
+fn new_credential(request: MakeCredential, choice: Choice, words: &Words) -> StoredCredential
+    requires { IsUser request.user.id.items }
+    ensures { credential_source_view result
+        ≡ record (new_credential (creation_view request) choice.alg words.now) { resident = choice.resident } }
 {
     let MakeCredential { rp, user, .. } = request;
     let RelyingParty { id: rp_id, .. } = rp;
     let User { id: user, .. } = user;
-    let credential = StoredCredential {
+    StoredCredential {
         id: words.id,
+        rp_id_hash: Sha256::digest(rp_id.as_bytes()),
         rp_id,
         user,
         secret: words.secret,
         alg: choice.alg,
         resident: choice.resident,
         sign_count: 0,
-    };
-    store(credentials, credential, choice.overwritten)
+    }
 }
 
 impl Authenticator {
@@ -182,7 +175,7 @@ impl Authenticator {
         })
     }
 
-    /// Stores the new credential; what was remembered is forgotten.
+    /// Stores the new credential, in place of the one that it overwrites; what was remembered is forgotten.
     fn add(
         &mut self,
         request: MakeCredential,
@@ -196,7 +189,8 @@ impl Authenticator {
             { credentials = kept self.old.credentials (creation_view request) ++ new_credential (creation_view request) choice.alg words.now ∷ [] }) }
         ensures err { OnErr result (self.new ≡ self.old) }
     {
-        put(&mut self.credentials, request, choice, words)?;
+        let credential = new_credential(request, choice, words);
+        store(&mut self.credentials, credential, choice.overwritten)?;
         self.remembered = None;
         Ok(())
     }

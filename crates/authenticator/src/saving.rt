@@ -96,10 +96,10 @@ impl Authenticator {
         let value = self.saved_value()?;
         match encode(&value, out) {
             Ok(()) => Ok(()),
-            Err(ccbor::Error::Memory) => Err(AllocError),
-            Err(ccbor::Error::Unfit) => unreachable!(),
-            Err(ccbor::Error::NotCanonical) => unreachable!(),
-            Err(ccbor::Error::Trailing) => unreachable!(),
+            Err(error) => match error {
+                ccbor::Error::Memory => Err(AllocError),
+                _ => unreachable!(),
+            },
         }
     }
 }

@@ -1,9 +1,9 @@
--- What a look-up says of the pairs.
+-- What a look-up says of the pairs, and of the items.
 use Rattle.std.proofs.Common.{◌≡◌, ℕ, List, true, false, cond, Some, None, refl, ap, ◌∙◌}
 use Rattle.std.proofs.lemmas.Bool.{eqb-true}
 use Rattle.std.proofs.lemmas.Slice.Eq.{bytes_eq-Decides}
-use Rattle.ccbor.specs.Item.{Item, uint, nint, bytes, text, array, map, Items, Pairs, no_pairs, pair}
-use Rattle.ccbor.specs.Access.{is_same_key, split_key, pairs_in, bytes_in, text_in, uint_in, items_in, is_end}
+use Rattle.ccbor.specs.Item.{Item, uint, nint, bytes, text, array, map, Items, no_items, item, Pairs, no_pairs, pair}
+use Rattle.ccbor.specs.Access.{is_same_key, split_key, pairs_in, bytes_in, text_in, uint_in, items_in, items_first, is_end}
 
 pub same_key : (a b : Item) → is_same_key a b ≡ true → a ≡ b
 same_key (uint n) (uint m) e = ap uint (eqb-true n m e)
@@ -39,6 +39,14 @@ uint_in_is _ n e = absurd cc
 pub items_in_is : (x : Item) (xs : Items) → items_in x ≡ Some xs → x ≡ array xs
 items_in_is (array ys) xs e = cc
 items_in_is _ xs e = absurd cc
+
+pub first_is : (xs : Items) (x : Item) (rest : Items) → items_first xs ≡ Some (x, rest) → xs ≡ item x rest
+first_is no_items x rest e = absurd cc
+first_is (item y ys) x rest e = let both : (y, ys) ≡ (x, rest) = cc in ap (λ (p : Item × Items). item p.0 p.1) both
+
+pub none_is : (xs : Items) → items_first xs ≡ None → xs ≡ no_items
+none_is no_items e = refl
+none_is (item y ys) e = absurd cc
 
 pub end_is : (ps : Pairs) → is_end ps ≡ true → ps ≡ no_pairs
 end_is no_pairs e = refl

@@ -1,12 +1,15 @@
 -- What the bytes of a view show.
 use Rattle.std.proofs.Common.{◌≡◌, ◌≢◌, ℕ, zero, suc, ◌<◌, ◌≤◌, drop, false, cond, eqb, List, [], ◌++◌, length, take, Some, None, refl, sym, ap, ◌∙◌}
-use Rattle.std.proofs.Common.{append-nil, arith}
+use Rattle.std.proofs.Common.{append-nil, arith, ◌⊎◌, inl, inr, Result, Err}
+use Rattle.std.proofs.Math.Seq.{take-length}
 use Rattle.std.proofs.lemmas.Option.{same_Some}
 use Rattle.std.proofs.lemmas.List.{take_at, take-append-drop, length-append, length-drop, nil_from_length}
 use Rattle.ccbor.specs.Item.{Item, uint, nint, bytes, text, array, map, boolean, Items, no_items, item, Pairs, no_pairs, pair}
 use Rattle.ccbor.specs.Canon.{spelling, count_of_items, count_of_pairs, Fits, ItemsFit, PairsFit, Canon}
 use Rattle.ccbor.specs.Reading.{head_at, item_at}
 use Rattle.ccbor.specs.Viewing.{shown, major_in, argument_in, body_in, parts_in}
+use Rattle.ccbor.specs.declared.error.Error.{Error}
+use Rattle.ccbor.specs.declared.error.Error.TheVariants as errors
 use Rattle.ccbor.proofs.Numbers.{head_again}
 use Rattle.ccbor.proofs.Leaves.{boolean_head}
 use Rattle.ccbor.proofs.Decoding.{front_read, one_front}
@@ -81,3 +84,10 @@ module _ (v : Item) (bs a rest : List ℕ) (c : Canon v a) (e : bs ≡ a ++ rest
 
   pub part_front : length rest ≢ 0 → (w : Item) × (n : ℕ) × (n < length bs) × Canon w (take n bs)
   part_front some = (v, length a, omega (arith, ap length e, length-append a rest, some), rw front_is c)
+
+-- where checking the whole input is refused, no value is it
+pub none_refused : {X : Type 0} (e : Error) (bs : List ℕ) → (e ≡ errors.NotCanonical) ⊎ (e ≡ errors.Trailing)
+    → (◌≡◌ {A = Result X Error} (Err e) (Err errors.NotCanonical) → (v : Item) (n : ℕ) → Canon v (take n bs) → ⊥)
+    → (◌≡◌ {A = Result X Error} (Err e) (Err errors.Trailing) → (v : Item) → Canon v bs → ⊥) → (v : Item) → Canon v bs → ⊥
+none_refused e bs (inl is) none front = λ v canon. none (ap Err is) v (length bs) (canon.0, take-length bs ∙ canon.1)
+none_refused e bs (inr is) none front = front (ap Err is)

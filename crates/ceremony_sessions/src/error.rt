@@ -4,7 +4,7 @@ ghost use Rattle.std.specs.Prelude.{◌≡◌};
 ghost use Rattle.ceremony_sessions.specs.Numbers.{refusal_number};
 ghost use Rattle.ceremony_sessions.specs.declared.error.Error.TheVariants as errors;
 
-use std::alloc::{AllocError, AllocFailed};
+use std::alloc::AllocError;
 
 /// Why no session begins; the first of these that applies.
 #[derive(Clone, Copy, Debug, PartialEq, Eq, Drop, thiserror::Error)]
@@ -42,14 +42,6 @@ impl From<AllocError> for Error {
     ghost from_gives = { λ _ e. e ≡ errors.Memory };
 
     fn from(_e: AllocError) -> Error {
-        Error::Memory
-    }
-}
-
-impl<T: Drop> From<AllocFailed<T>> for Error {
-    ghost from_gives = { λ _ e. e ≡ errors.Memory };
-
-    fn from(_e: AllocFailed<T>) -> Error {
         Error::Memory
     }
 }

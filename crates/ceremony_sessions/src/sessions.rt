@@ -202,6 +202,16 @@ impl Sessions {
         Ok(())
     }
 
+    /// Opens a session under a number. One that was open there is dropped.
+    fn open(&mut self, number: u64, session: Session) -> Result<(), AllocError>
+        requires { AreLimits (Some (session_view session)) }
+        ensures opened { OnOk result (self.new ≡ record self.old { expected = finite.insert self.old.expected number (session_view session) }) }
+        ensures unchanged { OnErr result (self.new ≡ self.old) }
+    {
+        self.by_number.insert(number, session)?;
+        Ok(())
+    }
+
     /// Opens the next number, which is not the last.
     fn add(&mut self, session: Session) -> Result<(), Error>
         requires number { self.old.next < 2 ^ 64 - 1 }
@@ -212,7 +222,7 @@ impl Sessions {
         ensures memory { IfErr result (λ e. e ≡ errors.Memory) }
     {
         let number = self.next;
-        self.by_number.insert(number, session)?;
+        self.open(number, session)?;
         self.next = number + 1;
         Ok(())
     }
@@ -230,7 +240,7 @@ impl Sessions {
         if !are_limits(&session) {
             return Err(Error::BadInput);
         }
-        self.by_number.insert(number, session)?;
+        self.open(number, session)?;
         Ok(())
     }
 

@@ -1,6 +1,6 @@
 -- The entries of a map as the credentials that they keep.
 use Rattle.std.proofs.Common.{◌≡◌, ◌↔◌, ℕ, zero, suc, Bool, false, List, [], ◌∷◌, ◌++◌, map, Some, None, is_some, Vec, Global, slice_get, arith}
-use Rattle.std.proofs.Common.{refl, sym, ap, subst, ◌∙◌}
+use Rattle.std.proofs.Common.{refl, sym, ap, subst, ◌∙◌, append_assoc}
 use Rattle.std.proofs.lemmas.Grind.{common_steps}
 use Rattle.std.proofs.lemmas.List.{map-append}
 use Rattle.std.specs.Str.{bytes_eq}
@@ -51,6 +51,13 @@ has_not id es b is = grind (arith, common_steps, is, absent id es, none_kept id 
 
 pub one_entry_more : (es new : List Entry) (e : Entry) → new ≡ es ++ e ∷ [] → map entry_view new ≡ map entry_view es ++ entry_view e ∷ []
 one_entry_more es new e is = ap (map entry_view) is ∙ map-append entry_view es (e ∷ [])
+
+-- of all rows one more was gone over
+pub gone_over : {A : Type 0} (view : A → Credential) (all : List Credential) (front : List A) (row : A) (left rest : List Credential)
+    → all ≡ map view front ++ left → left ≡ view row ∷ rest → all ≡ map view (front ++ row ∷ []) ++ rest
+gone_over view all front row left rest before next =
+    before ∙ ap (λ l. map view front ++ l) next ∙ sym (append_assoc (map view front) (view row ∷ []) rest)
+    ∙ ap (λ l. l ++ rest) (sym (map-append view front (row ∷ [])))
 
 -- ---- a value written at a place
 

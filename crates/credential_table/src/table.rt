@@ -209,22 +209,14 @@ impl Table {
         ensures limits { OnOk result ((profile : IdProfile) → IsTable profile self.old → IsRow profile (row_view row) → IsTable profile self.new) }
         ensures unchanged { OnErr result (self.new ≡ self.old) }
     {
-        let Row {
-            id,
-            user,
-            key,
-            sign_count,
-            eligible,
-            retired,
-        } = row;
         let kept = StoredRow {
-            user,
-            key,
-            sign_count,
-            eligible,
-            retired,
+            user: row.user,
+            key: row.key,
+            sign_count: row.sign_count,
+            eligible: row.eligible,
+            retired: row.retired,
         };
-        self.rows.insert(id, kept)?;
+        self.rows.insert(row.id, kept)?;
         Ok(())
     }
 

@@ -20,8 +20,7 @@ use std::alloc::{AllocError, Global};
 fn with_value(alloc: Global, value: &Value) -> Result<Vec<u8>, Error>
     ensures { WrittenValue (λ v. v.items) (view value.now) result }
 {
-    let mut out = Vec::new(alloc);
-    out.push(OK)?;
+    let mut out = status_alone(alloc)?;
     match encode(value, &mut out) {
         Ok(()) => Ok(out),
         Err(ccbor::Error::Unfit) => Err(Error::Unfit),

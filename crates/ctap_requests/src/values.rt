@@ -133,7 +133,7 @@ pub fn parameter_list_value(alloc: Global, list: &[Parameters]) -> Result<Value,
     for parameters in list {
         // A match, since `?` would hide that the refusal is the callee's.
         match parameters_value(alloc, parameters) {
-            Ok(value) => items.push(value)?,
+            Ok(value) => items.push(value).map_err(AllocError::from)?,
             Err(e) => return Err(e),
         }
     }

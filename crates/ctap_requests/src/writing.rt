@@ -68,8 +68,7 @@ fn with_value(alloc: Global, command: u8, value: &Value) -> Result<Vec<u8>, Erro
     ensures unfit { IsErrOf result errors.Unfit → (rest : List ℕ) → Canon (view value.now) rest → ⊥ }
     ensures errors { IfErr result (λ e. (e ≡ errors.Unfit) ⊎ (e ≡ errors.Memory)) }
 {
-    let mut out = Vec::new(alloc);
-    out.push(command)?;
+    let mut out = command_alone(alloc, command)?;
     match encode(value, &mut out) {
         Ok(()) => Ok(out),
         Err(ccbor::Error::Unfit) => Err(Error::Unfit),

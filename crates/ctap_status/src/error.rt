@@ -4,7 +4,7 @@ ghost use Rattle.std.specs.Prelude.{◌≡◌};
 ghost use Rattle.ctap_status.specs.Numbers.{refusal_number};
 ghost use Rattle.ctap_status.specs.declared.error.Error.TheVariants as errors;
 
-use std::alloc::{AllocError, AllocFailed};
+use std::alloc::AllocError;
 
 /// Why a message is not read or not written.
 #[derive(Clone, Copy, Debug, PartialEq, Eq, Drop, thiserror::Error)]
@@ -39,13 +39,12 @@ impl Error {
         ensures { result ≡ refusal_number self.now }
     {
         match self {
-            Error::Memory => None,
+            Error::Memory | Error::Status(_) => None,
             Error::Unfit => Some(1),
             Error::NotCanonical => Some(2),
             Error::Shape => Some(13),
             Error::Empty => Some(17),
             Error::Refused(_) => Some(18),
-            Error::Status(_) => None,
         }
     }
 }
@@ -54,14 +53,6 @@ impl From<AllocError> for Error {
     ghost from_gives = { λ _ e. e ≡ errors.Memory };
 
     fn from(_e: AllocError) -> Error {
-        Error::Memory
-    }
-}
-
-impl<T: Drop> From<AllocFailed<T>> for Error {
-    ghost from_gives = { λ _ e. e ≡ errors.Memory };
-
-    fn from(_e: AllocFailed<T>) -> Error {
         Error::Memory
     }
 }

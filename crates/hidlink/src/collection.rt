@@ -246,21 +246,14 @@ impl Collector {
         ensures whole { IsPacket packet.now }
     {
         match packet.read() {
+            Head::Init { cid, .. } | Head::Cont { cid, .. } if cid != self.cid => {}
             Head::Init {
-                cid,
                 cmd,
                 len,
                 bytes,
-            } => {
-                if cid == self.cid {
-                    self.take_initial(cmd, len, bytes);
-                }
-            }
-            Head::Cont { cid, seq, bytes } => {
-                if cid == self.cid {
-                    self.take_continuation(seq, bytes);
-                }
-            }
+                ..
+            } => self.take_initial(cmd, len, bytes),
+            Head::Cont { seq, bytes, .. } => self.take_continuation(seq, bytes),
         }
     }
 

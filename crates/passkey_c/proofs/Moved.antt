@@ -1,15 +1,12 @@
 -- A verdict on what is judged holds of what it stands for.
 use Rattle.std.proofs.Common.{◌≡◌, ◌∙◌, ℕ, Bool, List, Option, ap, subst}
-use Rattle.refusal_order.specs.Lines.{Each, FirstFailing}
-use Rattle.refusal_order.proofs.Laws.{each_joined, first_along, first_behind}
+use Rattle.refusal_order.specs.Lines.{Each}
 use Rattle.authdata.specs.Responses as responses
-use Rattle.cose.specs.Schemes.{Validity}
 use Rattle.verification.specs.Records.{Credential, ExpectedRegistration, ExpectedSignIn, RelyingParty}
 use Rattle.verification.specs.Registration as registrations
-use Rattle.verification.specs.Registration.{JudgedRegistration, PassesRegistration, PassesRegistrationStep, response_steps, table_steps}
+use Rattle.verification.specs.Registration.{JudgedRegistration, PassesRegistrationStep, response_steps}
 use Rattle.verification.specs.SignIn as sign_ins
 use Rattle.verification.specs.SignIn.{JudgedSignIn, PassesSignIn}
-use Rattle.verification.specs.Shared.{never}
 use Rattle.verification.specs.declared.party.Policy.{Policy}
 use Rattle.verification.specs.declared.refusal.RegistrationRefusal.{RegistrationRefusal}
 use Rattle.verification.specs.declared.refusal.SignInRefusal.{SignInRefusal}
@@ -64,19 +61,3 @@ pub registration_fails : (h k : Bool) (t u : TripleParts) (x y : JudgedRegistrat
 registration_fails h k t u x y w flags triples same fails =
     subst (λ z. registrations.IsFirstFailing (verified k u) z w) same (subst (λ v. registrations.IsFirstFailing (verified k v) x w) triples
     (subst (λ g. registrations.IsFirstFailing (verified g t) x w) flags fails))
-
--- the steps on the table do not look at signatures
-abbrev Same : Validity → JudgedRegistration → RegistrationRefusal → Type 0
-Same valid x w = (PassesRegistrationStep never x w → PassesRegistrationStep valid x w)
-    × ((PassesRegistrationStep never x w → ⊥) → PassesRegistrationStep valid x w → ⊥)
-
-table_same : (valid : Validity) (x : JudgedRegistration) → Each (Same valid x) table_steps
-table_same valid x = ((λ h. h, λ h. h), ((λ h. h, λ h. h), tt))
-
-pub table_fails : (valid : Validity) (x : JudgedRegistration) (w : RegistrationRefusal) → Each (PassesRegistrationStep valid x) response_steps
-    → FirstFailing (PassesRegistrationStep never x) table_steps w → registrations.IsFirstFailing valid x w
-table_fails valid x w passes first = first_behind response_steps passes (first_along (table_same valid x) first)
-
-pub all_pass : (valid : Validity) (x : JudgedRegistration) → Each (PassesRegistrationStep valid x) response_steps
-    → Each (PassesRegistrationStep never x) table_steps → PassesRegistration valid x
-all_pass valid x passes table = each_joined (PassesRegistrationStep valid x) response_steps table_steps passes table

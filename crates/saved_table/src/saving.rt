@@ -134,9 +134,9 @@ pub fn save(rp_id: &str, next: u64, table: &Table, out: &mut Vec<u8>) -> Result<
     let value = table_value(*out.allocator(), rp_id, next, table)?;
     match encode(&value, out) {
         Ok(()) => Ok(()),
-        Err(ccbor::Error::Memory) => Err(AllocError),
-        Err(ccbor::Error::Unfit) => unreachable!(),
-        Err(ccbor::Error::NotCanonical) => unreachable!(),
-        Err(ccbor::Error::Trailing) => unreachable!(),
+        Err(error) => match error {
+            ccbor::Error::Memory => Err(AllocError),
+            _ => unreachable!(),
+        },
     }
 }

@@ -1,10 +1,8 @@
 -- A response as it is judged, by what the table and the sessions answer.
-use Rattle.std.proofs.Common.{◌≡◌, ◌<◌, ◌≤◌, ◌↔◌, ℕ, List, ◌∙◌, ap, refl, inl, inr, arith, nat_lt, length}
+use Rattle.std.proofs.Common.{◌≡◌, ◌<◌, ◌≤◌, ◌↔◌, ℕ, List, ◌∙◌, ap, refl, sym, subst, inl, inr, arith, nat_lt, length}
 use Rattle.std.proofs.lemmas.Grind.{common_steps}
 use Rattle.std.proofs.lemmas.Bool.{cases_Bool}
 use Rattle.std.specs.Prelude.{Bool, true, false, not, Option, Some, None, IsSome, IsTrue, is_some, option_map}
-use Rattle.refusal_order.specs.Lines.{Each, FirstFailing}
-use Rattle.refusal_order.proofs.Laws.{each_joined, first_along, first_behind}
 use Rattle.authdata.specs.declared.profile.Profile.{Profile}
 use Rattle.authdata.specs.declared.profile.Profile.TheVariants.{Open, Strict}
 use Rattle.authdata.specs.Profiles.{max_id}
@@ -14,12 +12,9 @@ use Rattle.authdata.specs.Responses.{AuthenticatorAssertionResponse}
 use Rattle.authdata.specs.Responses as responses
 use Rattle.cose.specs.declared.key.CoseKey.{CoseKey}
 use Rattle.verification.specs.Records.{RelyingParty, Credential, ExpectedSignIn, ExpectedRegistration}
-use Rattle.cose.specs.Schemes.{Validity}
-use Rattle.verification.specs.Shared.{never}
 use Rattle.verification.specs.SignIn.{JudgedSignIn}
-use Rattle.verification.specs.Registration.{JudgedRegistration, PassesRegistrationStep, PassesRegistration, IsFirstFailing, response_steps, table_steps}
+use Rattle.verification.specs.Registration.{JudgedRegistration}
 use Rattle.verification.specs.declared.party.Policy.{Policy}
-use Rattle.verification.specs.declared.refusal.RegistrationRefusal.{RegistrationRefusal}
 use Rattle.credential_table.specs.Table.{IsWithin, row_of, signed_in, with_row}
 use Rattle.ceremony_sessions.specs.Sessions.{OpenSessions}
 use Rattle.site.specs.State.{SiteState}
@@ -45,22 +40,6 @@ pub same_registration : (rp : RelyingParty) (policy : Policy) (r : responses.Aut
     (s t : Option ExpectedRegistration) → s ≡ t
     → registration_with rp policy r is_registered is_full s ≡ registration_with rp policy r is_registered is_full t
 same_registration rp policy r is_registered is_full s t sessions = ap (registration_with rp policy r is_registered is_full) sessions
-
--- the steps on the table do not look at signatures
-abbrev Same : Validity → JudgedRegistration → RegistrationRefusal → Type 0
-Same valid x w = (PassesRegistrationStep never x w → PassesRegistrationStep valid x w)
-    × ((PassesRegistrationStep never x w → ⊥) → PassesRegistrationStep valid x w → ⊥)
-
-table_same : (valid : Validity) (x : JudgedRegistration) → Each (Same valid x) table_steps
-table_same valid x = ((λ h. h, λ h. h), ((λ h. h, λ h. h), tt))
-
-pub table_fails : (valid : Validity) (x : JudgedRegistration) (w : RegistrationRefusal) → Each (PassesRegistrationStep valid x) response_steps
-    → FirstFailing (PassesRegistrationStep never x) table_steps w → IsFirstFailing valid x w
-table_fails valid x w passes first = first_behind response_steps passes (first_along (table_same valid x) first)
-
-pub all_pass : (valid : Validity) (x : JudgedRegistration) → Each (PassesRegistrationStep valid x) response_steps
-    → Each (PassesRegistrationStep never x) table_steps → PassesRegistration valid x
-all_pass valid x passes table = each_joined (PassesRegistrationStep valid x) response_steps table_steps passes table
 
 -- whether a row is there, as it is told
 pub said_row : (b : Bool) (o : Option Credential) → b ≡ false ↔ o ≡ None → is_some o ≡ b
@@ -92,10 +71,12 @@ pub some_seen : {A B : Type 0} (f : A → B) (o : Option A) → IsSome (option_m
 some_seen f None is = is
 some_seen f (Some x) is = refl
 
--- an attested id is within its limits
-pub attested_limits : (p : Profile) (a : AuthenticatorData) (c : AttestedCredential) → IsAuthenticatorData p a → a.attested ≡ Some c
-    → IsWithin (max_id p) c.id
-attested_limits p a c is e = let l = is_credential a c is e in (l.id_low, l.id_high)
+-- an attested id is within its limits, and so is the session's user handle
+pub row_limits : (p : Profile) (a : AuthenticatorData) (c : AttestedCredential) (id user handle : List ℕ) → IsAuthenticatorData p a → a.attested ≡ Some c
+    → id ≡ c.id → handle ≡ user → IsWithin 64 user → IsWithin (max_id p) id × IsWithin 64 handle
+row_limits p a c id user handle is e ids handles low =
+    let l = is_credential a c is e in
+    (subst (IsWithin (max_id p)) (sym ids) (l.id_low, l.id_high), subst (IsWithin 64) (sym handles) low)
 
 pub looser_id : (p : Profile) (id : List ℕ) → IsWithin (max_id p) id → IsWithin 1023 id
 looser_id Strict id is = (is.0, omega (arith, is.1))

@@ -61,27 +61,19 @@ fn is_party(rp_id: &str, origins: &[&str]) -> bool
 }
 
 /// A site of a relying party that is within its limits, with this table and this next session number.
-fn site_with(
-    alloc: Global,
-    profile: Profile,
-    rp_id: &str,
-    origins: &[&str],
-    policy: Policy,
-    table: Table,
-    next: u64,
-) -> Result<Site, AllocError>
-    requires party { IsParty (party_of profile rp_id.now (texts_of origins.now)) }
-    requires table { IsTable profile table }
+fn site_with(alloc: Global, party: RelyingParty, policy: Policy, table: Table, next: u64) -> Site
+    requires party { IsParty party }
+    requires table { IsTable party.profile table }
     requires next { 1 ≤ next }
-    ensures { IfOk result (λ s. s ≡ idle (party_of profile rp_id.now (texts_of origins.now)) policy table next) }
+    ensures { result ≡ idle party policy table next }
 {
-    Ok(Site {
+    Site {
         alloc,
-        party: RelyingParty::with_profile(alloc, profile, rp_id, origins)?,
+        party,
         policy,
         table,
         sessions: Sessions::new(alloc, next),
-    })
+    }
 }
 
 impl Site {
@@ -151,7 +143,8 @@ impl Site {
         if !table.is_of(profile) {
             return Err(Error::BadTable);
         }
-        Ok(site_with(alloc, profile, rp_id, origins, policy, table, 1)?)
+        let party = RelyingParty::with_profile(alloc, profile, rp_id, origins)?;
+        Ok(site_with(alloc, party, policy, table, 1))
     }
 
     /// A site with these credentials, in order of registration, of the strict profile. For the open one make a
@@ -175,7 +168,10 @@ impl Site {
             return Err(Error::BadInput);
         }
         match Table::from_rows(alloc, rows) {
-            Ok(table) => Ok(site_with(alloc, Profile::Strict, rp_id, origins, policy, table, 1)?),
+            Ok(table) => {
+                let party = RelyingParty::new(alloc, rp_id, origins)?;
+                Ok(site_with(alloc, party, policy, table, 1))
+            }
             Err(credential_table::Error::BadTable) => Err(Error::BadTable),
             Err(credential_table::Error::Memory) => Err(Error::Memory),
         }
@@ -218,9 +214,10 @@ impl Site {
             return Err(Error::BadInput);
         }
         match saved_table::load(alloc, profile, bytes, rp_id) {
-            Ok(Loaded { table, next }) => Ok(site_with(
-                alloc, profile, rp_id, origins, policy, table, next,
-            )?),
+            Ok(Loaded { table, next }) => {
+                let party = RelyingParty::with_profile(alloc, profile, rp_id, origins)?;
+                Ok(site_with(alloc, party, policy, table, next))
+            }
             Err(saved_table::Error::BadTable) => Err(Error::BadTable),
             Err(saved_table::Error::Memory) => Err(Error::Memory),
         }

@@ -27,11 +27,11 @@ not_begun begins.BadNumber = answers.Error errors.NoNumber
 not_begun (begins.Store why) = answers.Failed why
 
 -- no session has begun
-abbrev pub IsNotBegun : {S : Type 0} → StoredState S → StoredState S → BeginFailure → Type 0
-IsNotBegun old new (begins.Site why) = new ≡ old
-IsNotBegun old new begins.BadMoment = new ≡ old
-IsNotBegun old new begins.BadNumber = new ≡ old
-IsNotBegun old new (begins.Store why) = IsFailure old new why
+abbrev pub BeginsNothing : {S : Type 0} → StoredState S → StoredState S → BeginFailure → Type 0
+BeginsNothing old new (begins.Site why) = new ≡ old
+BeginsNothing old new begins.BadMoment = new ≡ old
+BeginsNothing old new begins.BadNumber = new ≡ old
+BeginsNothing old new (begins.Store why) = IsFailure old new why
 
 -- what is answered where a step refuses a sign-in: the step, a question, or want of memory
 abbrev pub IsRefusedSignIn : SiteState → SignInRefusal → FinishSignIn → Answer → Type 0

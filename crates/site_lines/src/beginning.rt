@@ -2,7 +2,7 @@
 
 ghost use Rattle.std.specs.Prelude.{◌≡◌, IfErr, IfOk, map};
 ghost use Rattle.site_lines.specs.Answers.{Begins, Keeps, TellsRegistrationBegun, TellsSignInBegun, opens_registration, opens_sign_in};
-ghost use Rattle.site_lines.specs.Private.{IsNotBegun, not_begun as not_begun_of};
+ghost use Rattle.site_lines.specs.Private.{BeginsNothing, not_begun as not_begun_of};
 
 use crate::act::{BeginRegistration, BeginSignIn};
 use crate::answer::Answer;
@@ -33,7 +33,7 @@ fn started_sign_in<S: Store>(
 ) -> Result<Started, BeginFailure>
     ensures begun { IfOk result (λ s.
         Begins S.Store.view (opens_sign_in begin.now words) words now s.session s.challenge site.old site.new) }
-    ensures refused { IfErr result (IsNotBegun site.old site.new) }
+    ensures refused { IfErr result (BeginsNothing site.old site.new) }
 {
     let Ok(allow) = lent(alloc, begin.allow.as_slice()) else {
         return Err(BeginFailure::Site(BeginError::Memory));
@@ -85,7 +85,7 @@ fn started_registration<S: Store>(
 ) -> Result<Started, BeginFailure>
     ensures begun { IfOk result (λ s.
         Begins S.Store.view (opens_registration begin.now words) words now s.session s.challenge site.old site.new) }
-    ensures refused { IfErr result (IsNotBegun site.old site.new) }
+    ensures refused { IfErr result (BeginsNothing site.old site.new) }
 {
     site.begin_registration(
         begin.user.as_slice(),

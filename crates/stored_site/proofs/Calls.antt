@@ -1,5 +1,6 @@
 -- What the calls of a site over a store rest on.
-use Rattle.std.proofs.Common.{◌≡◌, Bool, ◌<◌, ◌+◌, ◌⊎◌, inl, inr, false, ◌++◌, ◌∷◌, [], ℕ, List, Option, Some, None, length, refl, sym, ap, ◌∙◌, subst, arith}
+use Rattle.std.proofs.Common.{◌≡◌, Bool, ◌<◌, ◌+◌, ◌⊎◌, inl, inr, true, false, ◌++◌, ◌∷◌, [], ℕ, List, Option, Some, None, length, refl, sym}
+use Rattle.std.proofs.Common.{ap, ◌∙◌, subst, arith}
 use Rattle.std.specs.Prelude.{IsSome, IsTrue, ◌^◌, is_some}
 use Rattle.std.specs.FinMap as finite
 use Rattle.std.proofs.lemmas.Grind.{common_steps}
@@ -18,12 +19,15 @@ use Rattle.verification.specs.Records.{Credential, ExpectedRegistration}
 use Rattle.verification.specs.SignIn.{PassesSignIn}
 use Rattle.verification.specs.Registration.{Attests}
 use Rattle.credential_table.specs.Table.{retired, row_of, signed_in, with_row}
-use Rattle.ceremony_sessions.specs.Sessions.{Expected, OpenSessions, closed, expected_of, for_registration, for_sign_in}
+use Rattle.ceremony_sessions.specs.Sessions.{Expected, OpenSessions, Opening, PassesOpening, begun, closed, expected_of, for_registration, for_sign_in}
 use Rattle.site.specs.Answers.{IsRegistered}
 use Rattle.site.specs.State.{IsAfterRegistration, IsAfterSignIn, SiteState, judged_sign_in, registered}
 use Rattle.site.specs.declared.registration.Registered.{Registered}
 use Rattle.site.proofs.Kept.{row_changed}
-use Rattle.stored_site.specs.Holds.{AreRowids, Holds, IsCommitted, StoredState, Survives}
+use Rattle.stored_site.specs.declared.failure.Failure.{Failure}
+use Rattle.stored_site.specs.declared.failure.Failure.TheVariants as failures
+use Rattle.stored_site.specs.Calls.{IsBegun}
+use Rattle.stored_site.specs.Holds.{AreRowids, Holds, IsCommitted, IsFailure, StoredState}
 use Rattle.stored_site.specs.SessionRows.{HaveMoments, Moments}
 use Rattle.stored_site.specs.Private.{Accepts, Added, Changed, Changes, Opens}
 use Rattle.stored_site.proofs.Ages.{have_inserted, have_removed, removed_absent}
@@ -35,23 +39,40 @@ pub settles : {S : Type 0} (view : S → View) (recovers : S → Trees → Type 
     → (s : SiteState) (began : Moments) (store : S) → IsCommitted s began (view store) → (db : Trees) → recovers store db → Holds s began db
 settles view recovers settled s began store is db r = subst (Holds s began) (sym (settled store db is.is_open r)) is.holds
 
--- where nothing has changed a crash leaves the site as it was
-pub unchanged_survives : {S : Type 0} (view : S → View) (recovers : S → Trees → Type 0)
+-- a transaction leaves the site that was committed, or the one that it makes
+pub left_by : {S : Type 0} (view : S → View) (recovers : S → Trees → Type 0)
     → ((s : S) (db : Trees) → IsTrue (view s).is_open → recovers s db → db ≡ (view s).committed)
-    → (old : StoredState S) (began : Moments) (After : SiteState → Type 0)
-    → (old.is_shut ≡ false → IsClean (view old.store) → IsCommitted old.site old.began (view old.store)) → Survives view recovers old old began After
-unchanged_survives view recovers settled old began After is =
-    λ db open_before clean r. inl (settles view recovers settled old.site old.began old.store (is open_before clean) db r)
+    → (s t : SiteState) (was now : Moments) (store : S) (db made : Trees) → IsCommitted s was (view store) → Holds t now made
+    → recovers store db ⊎ (db ≡ made) → Holds s was db ⊎ Holds t now db
+left_by view recovers settled s t was now store db made is holds found = elim found [
+  | inl before ↦ inl (settles view recovers settled s was store is db before)
+  | inr same ↦ inr (subst (Holds t now) (sym same) holds)
+]
 
--- where a call has written, the site as it was or as the call makes it
-pub call_survives : {S : Type 0} (view : S → View) (recovers : S → Trees → Type 0) (old new : StoredState S) (began : Moments) (t : SiteState)
-    (After : SiteState → Type 0)
-    → ((db : Trees) → IsClean (view new.store) → recovers new.store db → Holds old.site old.began db ⊎ Holds t began db) → After t
-    → Survives view recovers old new began After
-call_survives view recovers old new began t After leaves after = λ db open_before clean r. elim (leaves db clean r) [
+-- the site as it was, or as a call makes it
+pub before_or_after : (s : SiteState) (was began : Moments) (After : SiteState → Type 0) (t : SiteState) (db : Trees) → After t
+    → Holds s was db ⊎ Holds t began db → Holds s was db ⊎ ((u : SiteState) × After u × Holds u began db)
+before_or_after s was began After t db after found = elim found [
   | inl before ↦ inl before
   | inr now ↦ inr (t, after, now)
 ]
+
+-- ---- what a call leaves in memory
+
+-- what is kept of a site in memory, its moments, and a store, which a failure has shut or not
+abbrev IsSound : SiteState → Moments → Bool → View → Type 0
+IsSound s began is_shut v =
+    (is_shut ≡ false → IsClean v → IsCommitted s began v) × AreRowids s.sessions × (is_shut ≡ false → HaveMoments s.sessions began)
+
+-- where the store has failed
+pub sound_shut : (s : SiteState) (began : Moments) (is_shut : Bool) (v : View) → is_shut ≡ true → AreRowids s.sessions → IsSound s began is_shut v
+sound_shut s began is_shut v shut rowids = (λ no. absurd (cc), rowids, λ no. absurd (cc))
+
+-- why a call failed
+pub is_failed : {S : Type 0} (old new : StoredState S) (e : Failure) → old.is_shut ≡ false → (new.is_shut ≡ true) × (e ≡ failures.Shut → ⊥)
+    → IsFailure old new e
+is_failed old new failures.Shut before (shut, other) = absurd (other refl)
+is_failed old new (failures.Failed why) before (shut, other) = (before, shut)
 
 -- ---- numbers
 
@@ -151,6 +172,21 @@ changes_retired s t id e = record {
 
 -- ---- a session that was begun
 
+pub opens_by : (s t : SiteState) (n : ℕ) (o : Opening) → t ≡ record s { sessions = begun s.sessions o } → n ≡ s.sessions.next → Opens s t n
+opens_by s t n o is number = record { opening = o; is = is; number = number }
+
+pub begun_by : (s t : SiteState) (o : Opening) (began_at : ℕ) → PassesOpening s.rp.profile s.sessions o → t ≡ record s { sessions = begun s.sessions o }
+    → began_at < 2 ^ 63 → s.sessions.next + 1 < 2 ^ 63 → IsBegun s o began_at t
+begun_by s t o began_at passes is moment number = record { passes = passes; moment = moment; number = number; is = is }
+
+-- the site as it was, or with the session
+pub begun_or_not : (s t : SiteState) (o : Opening) (was : Moments) (n began_at : ℕ) (db : Trees) → IsBegun s o began_at t → n ≡ s.sessions.next
+    → Holds s was db ⊎ Holds t (finite.insert was n began_at) db
+    → Holds s was db ⊎ ((u : SiteState) × IsBegun s o began_at u × Holds u (finite.insert was s.sessions.next began_at) db)
+begun_or_not s t o was n began_at db is number found =
+    before_or_after s was (finite.insert was s.sessions.next began_at) (IsBegun s o began_at) t db is
+    (subst (λ k. Holds s was db ⊎ Holds t (finite.insert was k began_at) db) number found)
+
 pub opens_there : (s t : SiteState) (n : ℕ) → Opens s t n → IsSome (finite.get t.sessions.expected n)
 opens_there s t n o =
     subst (λ (k : ℕ). IsSome (finite.get t.sessions.expected k)) (sym o.number)
@@ -201,3 +237,20 @@ have_begun s t began n moment o have =
 pub have_accepted : (s t : SiteState) (began : Moments) (id : List ℕ) (n : ℕ) → Accepts s t id n → HaveMoments s.sessions began
     → HaveMoments t.sessions (finite.remove began n)
 have_accepted s t began id n a have = subst (λ x. HaveMoments x (finite.remove began n)) (sym a.sessions) (have_removed s.sessions began n have)
+
+pub sound_begun : (s t : SiteState) (was now : Moments) (n moment : ℕ) (is_shut : Bool) (v : View) → Opens s t n → AreRowids s.sessions
+    → s.sessions.next + 1 < 2 ^ 63 → HaveMoments s.sessions was → now ≡ finite.insert was n moment → (IsClean v → IsCommitted t now v)
+    → IsSound t now is_shut v
+sound_begun s t was now n moment is_shut v o rowids fits have is committed = (
+  λ no clean. committed clean,
+  rowids_after s t n o rowids fits,
+  λ no. subst (HaveMoments t.sessions) (sym is) (have_begun s t was n moment o have),
+)
+
+pub sound_accepted : (s t : SiteState) (was now : Moments) (id : List ℕ) (n : ℕ) (is_shut : Bool) (v : View) → Accepts s t id n → AreRowids s.sessions
+    → HaveMoments s.sessions was → now ≡ finite.remove was n → (IsClean v → IsCommitted t now v) → IsSound t now is_shut v
+sound_accepted s t was now id n is_shut v a rowids have is committed = (
+  λ no clean. committed clean,
+  rowids_accepted s t id n a rowids,
+  λ no. subst (HaveMoments t.sessions) (sym is) (have_accepted s t was id n a have),
+)

@@ -39,7 +39,7 @@ put_in m n k v updates = same_map nat_cmp_total nat_cmp-IsAntisymmetric _ _ (λ 
 
 -- ---- a walk over the numbers
 
-in_walk : (p : ℕ → Bool) (q : ℕ) (ks : List ℕ) → is_in q (filter p ks) ≡ is_in q ks && p q
+pub in_walk : (p : ℕ → Bool) (q : ℕ) (ks : List ℕ) → is_in q (filter p ks) ≡ is_in q ks && p q
 in_walk p q [] = refl
 in_walk p q (k ∷ ks) = go (nat_cmp q k) refl (p k) refl (in_walk p q ks)
   where
@@ -67,7 +67,7 @@ in_keys (e ∷ es) q = go (eq_by_cmp nat_cmp q e.0) (in_keys es q)
     go true more = refl
     go false more = more
 
-older_there : (before : ℕ) (o : Option ℕ) → is_some o && is_older before o ≡ is_older before o
+pub older_there : (before : ℕ) (o : Option ℕ) → is_some o && is_older before o ≡ is_older before o
 older_there before None = refl
 older_there before (Some m) = refl
 

@@ -18,3 +18,4 @@ pub mod Replies
 pub mod Joined
 pub mod Ages
 pub mod Kept
+pub mod KeptLaws

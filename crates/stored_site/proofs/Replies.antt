@@ -21,7 +21,7 @@ use Rattle.stored_site.specs.Private.{Accepts}
 use Rattle.stored_site.proofs.Calls.{accepts_registration, accepts_sign_in, fits_registration, fits_sign_in, there_registered, there_signed_in, told_as}
 
 -- of the reply that succeeds, what is known of the one that the packets carry
-of_reply : {R W : Type 0} (k : Ceremony R W) → IsOne k → (P : R → Type 0) (c n : ℕ) (ps : List Packet) (r : R) → Succeeds k c ps n r
+pub of_reply : {R W : Type 0} (k : Ceremony R W) → IsOne k → (P : R → Type 0) (c n : ℕ) (ps : List Packet) (r : R) → Succeeds k c ps n r
     → CarriesReply k.IsReply P c ps → P r
 of_reply k one P c n ps r (m, delivers, is, passes) (j, l, q, comes, spelled, known) =
     let same = one_carried c j n ps CTAPHID_CBOR CTAPHID_CBOR l m comes.0 delivers.0 comes.1 delivers.1 in

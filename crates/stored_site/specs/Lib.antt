@@ -4,6 +4,8 @@ pub mod Laws
 pub mod Private
 pub mod Writes
 pub mod Holds
+pub mod Calls
 pub mod Expiry
 pub mod Opened
+pub mod KeptLaws
 pub mod Opening

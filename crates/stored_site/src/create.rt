@@ -13,6 +13,7 @@ use crate::began_at::BeganAt;
 use crate::failure::CreateFailure;
 use crate::held::site_row;
 use crate::scan::read_rows;
+use crate::site_store::SiteStore;
 use crate::stored::StoredSite;
 use crate::writes::write_site;
 use site::Site;
@@ -143,11 +144,13 @@ impl<S: Store> StoredSite<S> {
         }
         match write_new(alloc, &site, &mut store) {
             Ok(()) => Ok(StoredSite {
-                alloc,
                 site,
-                began: BeganAt::new(alloc),
-                store,
-                is_shut: false,
+                stored: SiteStore {
+                    alloc,
+                    began: BeganAt::new(alloc),
+                    store,
+                    is_shut: false,
+                },
             }),
             Err(why) => Err((why, store)),
         }

@@ -46,18 +46,18 @@ impl<S: Store> StoredSite<S> {
         ensures failed { IfErr result (IsFailure self.old self.new) }
         ensures shut { self.old.is_shut ≡ true → IsErrOf result failures.Shut }
     {
-        if self.is_shut {
+        if self.stored.is_shut {
             return Err(Failure::Shut);
         }
-        self.is_shut = true;
-        let ended = self.began.older(self.alloc, before)?;
+        self.stored.is_shut = true;
+        let ended = self.stored.began.older(self.stored.alloc, before)?;
         if ended.is_empty() {
-            self.is_shut = false;
+            self.stored.is_shut = false;
             return Ok(0);
         }
-        write_ends(&mut self.store, &ended)?;
-        let count = end_all(&mut self.site, &mut self.began, &ended);
-        self.is_shut = false;
+        write_ends(&mut self.stored.store, &ended)?;
+        let count = end_all(&mut self.site, &mut self.stored.began, &ended);
+        self.stored.is_shut = false;
         Ok(count)
     }
 }

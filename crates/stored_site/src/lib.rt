@@ -19,6 +19,7 @@ mod retire;
 mod scan;
 mod session_reading;
 mod sessions;
+mod site_store;
 mod stored;
 mod values;
 mod writes;
@@ -29,7 +30,7 @@ pub use error::RowError;
 pub use failure::{
     BeginFailure, CreateFailure, Failure, FinishFailure, OpenFailure, PacketFailure,
 };
-pub use law::row_laws;
+pub use law::{kept_laws, row_laws};
 pub use session_reading::read_session;
 pub use sessions::session_row;
 pub use stored::StoredSite;

@@ -11,6 +11,7 @@ use crate::began_at::BeganAt;
 use crate::create::{MAX_BOUND, has_tables};
 use crate::failure::OpenFailure;
 use crate::reading::{read_tables, restore_rows, settle};
+use crate::site_store::SiteStore;
 use crate::stored::StoredSite;
 use site::Site;
 use sqlite_trees::store::Store;
@@ -70,11 +71,13 @@ impl<S: Store> StoredSite<S> {
         }
         match read_site(alloc, &mut site, &mut store) {
             Ok(began) => Ok(StoredSite {
-                alloc,
                 site,
-                began,
-                store,
-                is_shut: false,
+                stored: SiteStore {
+                    alloc,
+                    began,
+                    store,
+                    is_shut: false,
+                },
             }),
             Err(why) => Err((why, store)),
         }

@@ -54,15 +54,15 @@ impl<S: Store> StoredSite<S> {
         ensures failed { IfErr result (IsFailure self.old self.new) }
         ensures shut { self.old.is_shut ≡ true → IsErrOf result failures.Shut }
     {
-        if self.is_shut {
+        if self.stored.is_shut {
             return Err(Failure::Shut);
         }
         if !self.site.retire(id) {
             return Ok(false);
         }
-        self.is_shut = true;
-        store_credential(self.alloc, &self.site, &mut self.store, id)?;
-        self.is_shut = false;
+        self.stored.is_shut = true;
+        store_credential(self.stored.alloc, &self.site, &mut self.stored.store, id)?;
+        self.stored.is_shut = false;
         Ok(true)
     }
 }

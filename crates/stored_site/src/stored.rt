@@ -7,13 +7,12 @@ ghost use Rattle.ceremony_sessions.specs.Sessions.{closed};
 ghost use Rattle.stored_site.specs.Holds.{IsFailure, Stored, Survives};
 ghost use Rattle.stored_site.specs.declared.failure.Failure.TheVariants as failures;
 
-use crate::began_at::BeganAt;
 use crate::failure::Failure;
 use crate::held::rowid_of;
+use crate::site_store::SiteStore;
 use crate::writes::write_end;
 use site::{Rows, Site};
 use sqlite_trees::store::Store;
-use std::alloc::Global;
 use std::marker::Model;
 
 /// A relying party whose credentials and sessions, with the moments in which they began, are rows of a store.
@@ -22,11 +21,8 @@ use std::marker::Model;
 /// site: each further call says so, and what an open of the file finds is the site from before the call or from after.
 #[derive(Drop)]
 pub struct StoredSite<S: Store> {
-    pub(crate) alloc: Global,
     pub(crate) site: Site,
-    pub(crate) began: BeganAt,
-    pub(crate) store: S,
-    pub(crate) is_shut: bool,
+    pub(crate) stored: SiteStore<S>,
 }
 
 impl<S: Store> Model for StoredSite<S> {
@@ -39,10 +35,10 @@ impl<S: Store> Model for StoredSite<S> {
 
     ghost coded = { stored_code S.code };
 
-    ghost view = { λ s. record { site = s.site; began = s.began; store = s.store; is_shut = s.is_shut } };
+    ghost view = { λ s. record { site = s.site; began = s.stored.began; store = s.stored.store; is_shut = s.stored.is_shut } };
 
-    ghost invariant = { λ s. (s.is_shut ≡ false → IsClean (S.Store.view s.store) → IsCommitted s.site s.began (S.Store.view s.store))
-        × AreRowids s.site.sessions × (s.is_shut ≡ false → HaveMoments s.site.sessions s.began) };
+    ghost invariant = { λ s. (s.stored.is_shut ≡ false → IsClean (S.Store.view s.stored.store) → IsCommitted s.site s.stored.began (S.Store.view s.stored.store))
+        × AreRowids s.site.sessions × (s.stored.is_shut ≡ false → HaveMoments s.site.sessions s.stored.began) };
 }
 
 impl<S: Store> StoredSite<S> {
@@ -51,7 +47,7 @@ impl<S: Store> StoredSite<S> {
         ensures told { result ≡ self.now.is_shut }
         ensures stored { result ≡ false → Stored S.Store.view self.now }
     {
-        self.is_shut
+        self.stored.is_shut
     }
 
     /// The site in memory.
@@ -72,7 +68,8 @@ impl<S: Store> StoredSite<S> {
     pub fn close(self) -> S
         ensures { result ≡ self.store }
     {
-        self.store
+        let stored = self.stored;
+        stored.store
     }
 
     /// Closes a session: true exactly where it was open.
@@ -86,17 +83,17 @@ impl<S: Store> StoredSite<S> {
         ensures failed { IfErr result (IsFailure self.old self.new) }
         ensures shut { self.old.is_shut ≡ true → IsErrOf result failures.Shut }
     {
-        if self.is_shut {
+        if self.stored.is_shut {
             return Err(Failure::Shut);
         }
         if self.site.session(session).is_none() {
             return Ok(false);
         }
-        self.is_shut = true;
+        self.stored.is_shut = true;
         self.site.abandon(session);
-        self.began.remove(session);
-        write_end(&mut self.store, rowid_of(session))?;
-        self.is_shut = false;
+        self.stored.began.remove(session);
+        write_end(&mut self.stored.store, rowid_of(session))?;
+        self.stored.is_shut = false;
         Ok(true)
     }
 }

@@ -15,7 +15,8 @@ use Rattle.authdata.proofs.Unique.{one_value}
 use Rattle.verification.specs.Records.{ExpectedRegistration}
 use Rattle.cose.specs.Schemes.{Validity}
 use Rattle.verification.specs.Shared.{FailsIn, IsFor, IsPresent, IsVerifiedAs, never}
-use Rattle.verification.specs.Registration.{Attested, Attests, JudgedRegistration, PassesRegistrationStep, attestation_steps, auth_data_steps}
+use Rattle.verification.specs.Registration.{Attested, Attests, IsFirstFailing, JudgedRegistration, PassesRegistration, PassesRegistrationStep}
+use Rattle.verification.specs.Registration.{attestation_steps, auth_data_steps}
 use Rattle.verification.specs.Registration.{client_data_steps, hash_in, response_steps, table_steps}
 use Rattle.verification.specs.ClientData.{PassesClientDataStep, client_data_order}
 use Rattle.verification.specs.RegistrationAnswers.{AcceptsAttestation, IsNoObject, IsRefused, AttestsAs, AttestsAsNothing}
@@ -260,3 +261,15 @@ module _ (x : JudgedRegistration) (v : NewCredential) (tells : IsVerifiedRegistr
 
   pub admitted : x.is_registered v.id ≡ false → x.is_full ≡ false → Each (PassesRegistrationStep never x) table_steps
   admitted e f = (of_id false e, (f, tt))
+
+-- the steps on the table do not look at signatures
+table_same : (valid : Validity) (x : JudgedRegistration) → Each (Same never x valid x) table_steps
+table_same valid x = ((λ h. h, λ h. h), ((λ h. h, λ h. h), tt))
+
+pub table_fails : (valid : Validity) (x : JudgedRegistration) (w : RegistrationRefusal) → Each (PassesRegistrationStep valid x) response_steps
+    → FirstFailing (PassesRegistrationStep never x) table_steps w → IsFirstFailing valid x w
+table_fails valid x w passes first = first_behind response_steps passes (first_along (table_same valid x) first)
+
+pub all_pass : (valid : Validity) (x : JudgedRegistration) → Each (PassesRegistrationStep valid x) response_steps
+    → Each (PassesRegistrationStep never x) table_steps → PassesRegistration valid x
+all_pass valid x passes table = each_joined (PassesRegistrationStep valid x) response_steps table_steps passes table

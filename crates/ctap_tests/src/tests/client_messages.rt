@@ -66,6 +66,20 @@ const HASH: &[u8] =
 const CLIENT_DATA: &str =
     r#"{"type":"webauthn.create","challenge":"AAEC","origin":"https://a.example:8443","crossOrigin":false}"#;
 
+/// The options of the last; those of the two before it are told by what differs.
+const OPTIONS: CreationOptions<'static> = CreationOptions {
+    challenge: &[0, 1, 2],
+    rp_id: "a.example",
+    rp_name: "",
+    user_id: &[1, 2],
+    user_name: "",
+    display_name: "",
+    algs: &[],
+    exclude: &[],
+    rk: false,
+    uv: true,
+};
+
 const REGISTRATIONS: &[RequestRow<CreationOptions<'static>>] = &[
     RequestRow {
         origin: "https://abc",
@@ -91,16 +105,11 @@ const REGISTRATIONS: &[RequestRow<CreationOptions<'static>>] = &[
     RequestRow {
         origin: "https://a.example:8443",
         options: CreationOptions {
-            challenge: &[0, 1, 2],
-            rp_id: "a.example",
-            rp_name: "",
-            user_id: &[1, 2],
             user_name: "\u{e9}",
-            display_name: "",
             algs: &[Alg::EdDsa, Alg::Es256],
             exclude: &[&[0x0a]],
             rk: true,
-            uv: true,
+            ..OPTIONS
         },
         client_data: CLIENT_DATA,
         message: [
@@ -113,16 +122,10 @@ const REGISTRATIONS: &[RequestRow<CreationOptions<'static>>] = &[
     RequestRow {
         origin: "https://a.example:8443",
         options: CreationOptions {
-            challenge: &[0, 1, 2],
-            rp_id: "a.example",
-            rp_name: "",
-            user_id: &[1, 2],
-            user_name: "",
-            display_name: "",
             algs: &[Alg::EdDsa],
-            exclude: &[],
             rk: true,
             uv: false,
+            ..OPTIONS
         },
         client_data: CLIENT_DATA,
         message: [
@@ -133,18 +136,7 @@ const REGISTRATIONS: &[RequestRow<CreationOptions<'static>>] = &[
     },
     RequestRow {
         origin: "https://a.example:8443",
-        options: CreationOptions {
-            challenge: &[0, 1, 2],
-            rp_id: "a.example",
-            rp_name: "",
-            user_id: &[1, 2],
-            user_name: "",
-            display_name: "",
-            algs: &[],
-            exclude: &[],
-            rk: false,
-            uv: true,
-        },
+        options: OPTIONS,
         client_data: CLIENT_DATA,
         message: [
             b"\x01\xa5\x01\x58\x20",

@@ -4,9 +4,9 @@
 use super::attestation_objects::object;
 use super::made::word_value;
 use super::pieces::{Table, number, part};
-use authdata::{AttestationObject, AttestationType, check_statement};
+use authdata::{AttestationObject, AttestationType, Error, check_statement};
 use ccbor::Value;
-use cose::{BenchScheme, Signer, SigningAlg};
+use cose::{BenchScheme, KeyView, ListScheme, RsaView, Signer, SigningAlg};
 use std::alloc::{AllocError, Global};
 use std::test::Fail;
 
@@ -69,14 +69,19 @@ fn statement(alloc: Global, members: &str, own: u64, other: u64) -> Result<Value
     Ok(Value::Map(pairs))
 }
 
-/// What the object shows of the key of one byte 32 times and a hash of one byte 32 times.
-fn shown(object: &AttestationObject, alg: SigningAlg, secret: u8, hash: u8) -> usize {
-    let key = BenchScheme.public(alg, &[secret; 32]);
-    match check_statement(&BenchScheme, object, &key.view(), &[hash; 32]) {
+/// What is shown, or the number of the refusal.
+fn told(shown: Result<AttestationType, Error>) -> usize {
+    match shown {
         Ok(AttestationType::None) => 0,
         Ok(AttestationType::SelfSigned) => 1,
         Err(error) => usize::from(error.number().unwrap_or(255)),
     }
+}
+
+/// What the object shows of the key of one byte 32 times and a hash of one byte 32 times.
+fn shown(object: &AttestationObject, alg: SigningAlg, secret: u8, hash: u8) -> usize {
+    let key = BenchScheme.public(alg, &[secret; 32]);
+    told(check_statement(&BenchScheme, object, &key.view(), &[hash; 32]))
 }
 
 /// Whether the object of a line shows what it says, of each algorithm.
@@ -91,6 +96,32 @@ pub fn is_shown(alloc: Global, line: &str) -> Result<bool, Fail> {
         }
     }
     Ok(true)
+}
+
+/// The members of a packed statement, and what they show of an RSA key whose one signature is 0708.
+pub const RSA: Table = "alg=nint:256 sig=bytes:0708|1
+alg=nint:6 sig=bytes:0708|15
+alg=nint:7 sig=bytes:0708|15
+alg=nint:257 sig=bytes:0708|15
+alg=uint:256 sig=bytes:0708|15
+alg=nint:256 sig=bytes:0709|15
+alg=nint:256|15
+alg=nint:256 sig=bytes:0708 x5c=map|15";
+
+/// Whether the statement of a line shows what it says of an RSA key.
+pub fn is_shown_of_rsa(alloc: Global, line: &str) -> Result<bool, Fail> {
+    let n = [0xc1; 256];
+    let Some(numbers) = RsaView::new(&n, &[1, 0, 1]) else {
+        return Ok(false);
+    };
+    let key = KeyView::Rs256(numbers);
+    let mut message = Vec::from_slice(alloc, &AUTH_DATA)?;
+    message.extend_from_slice(&[34; 32])?;
+    let mut scheme = ListScheme::new(alloc);
+    scheme.add(key.to_key(alloc)?, &message, &[7, 8])?;
+    let statement = statement(alloc, part(line, 0), 0, 0)?;
+    let object = object(alloc, "packed", &AUTH_DATA, statement)?;
+    Ok(Some(told(check_statement(&scheme, &object, &key, &[34; 32]))) == number(line, 1))
 }
 
 /// The object of format none, read from its own bytes.

@@ -209,9 +209,15 @@ pub fn is_no_key(alloc: Global, line: &str) -> Result<bool, Fail> {
     Ok(is_key(alloc, &bytes_of(alloc, part(line, 1))?, None)?)
 }
 
-/// The members of a key in another order, which no encoding has.
-const OTHER_ORDER: &str =
-    "uint:3=nint:7 uint:1=uint:1 nint:0=uint:6 nint:1=bytes:1111111111111111111111111111111111111111111111111111111111111111";
+/// The members of an RSA key.
+const IN_ORDER: &str = "uint:1=uint:3 uint:3=nint:256 nint:0=bytes:c1*256 nint:1=bytes:010001";
+
+/// The members of keys in another order, which no encoding has.
+const OTHER_ORDERS: [&str; 3] = [
+    "uint:3=nint:7 uint:1=uint:1 nint:0=uint:6 nint:1=bytes:1111111111111111111111111111111111111111111111111111111111111111",
+    "uint:3=nint:256 uint:1=uint:3 nint:0=bytes:c1*256 nint:1=bytes:010001",
+    "uint:1=uint:3 uint:3=nint:256 nint:1=bytes:010001 nint:0=bytes:c1*256",
+];
 
 #[test]
 fn keys(rt: HostRuntime) -> Result<(), Fail> {
@@ -223,8 +229,11 @@ fn keys(rt: HostRuntime) -> Result<(), Fail> {
             "{words}"
         );
     }
-    let value = made_value(alloc, OTHER_ORDER)?;
-    assert!(rt; KeyView::from_value(&value).is_err());
+    assert!(rt; KeyView::from_value(&made_value(alloc, IN_ORDER)?).is_ok());
+    for words in OTHER_ORDERS {
+        let value = made_value(alloc, words)?;
+        assert!(rt; KeyView::from_value(&value).is_err(), "{words}");
+    }
     Ok(())
 }
 

@@ -1,8 +1,8 @@
 -- What is owed of `judge`.
 use Rattle.std.proofs.Common.{◌∙◌, ap, refl, subst, sym}
 use Rattle.verification.specs.RegistrationAnswers.{IsVerifiedRegistration}
+use Rattle.verification.proofs.Registrations.{all_pass, table_fails}
 use Rattle.passkey_c.specs.Registrations.{judged_registration, registration_validity}
-use Rattle.passkey_c.proofs.Moved.{all_pass, table_fails}
 use Rattle.passkey_c.proofs.registration.judge.Goals as goal
 
 pub returns-in-Ok-clause-accepted : goal.returns-in-Ok-clause-accepted

@@ -1,5 +1,5 @@
 -- What is owed of `save`.
-use Rattle.std.proofs.Common.{◌<◌, ◌^◌, length, Err, refl, ap, subst, arith}
+use Rattle.std.proofs.Common.{◌<◌, ◌^◌, length, Err, inl, inr, refl, ap, subst, arith}
 use Rattle.ccbor.specs.Item.{Item}
 use Rattle.ccbor.specs.Canon.{AppendsCanon, spelling}
 use Rattle.saved_table.specs.Saved.{Saved, table_item, version_of}
@@ -30,4 +30,7 @@ unreachable-requires c =
     let saved : Saved = record { rp_id = c.args.rp_id.now; next = c.args.next; rows = c.args.table.now } in
     let short : length c.args.rp_id.now < 2 ^ 64 = omega arith in
     let fits = table_fits (version_of saved.rows) saved (small_version saved.rows) (omega arith) short c.utf8.rp_id v.fit.0 (fits_written saved.rows v.fit.1) in
-    c.in-Err-Unfit.ensures.unfit (ap Err c.in-Err-Unfit.field-0-is) (spelling (table_item (version_of saved.rows) saved)) (rw v.value (fits, refl))
+    elim c.in-Err.ensures.errors [
+      | inl unfit ↦ c.in-Err.ensures.unfit (ap Err unfit) (spelling (table_item (version_of saved.rows) saved)) (rw v.value (fits, refl))
+      | inr memory ↦ c.in_default.not-Memory memory
+    ]

@@ -1,8 +1,8 @@
 -- What is owed of `version_of`.
-use Rattle.std.proofs.Common.{◌≡◌, ◌∙◌, ◌++◌, ◌∷◌, [], false, true, map, refl, sym, ap, append_assoc, append-nil}
+use Rattle.std.proofs.Common.{◌≡◌, ◌∙◌, ◌++◌, ◌∷◌, [], false, true, map, refl, sym, ap, append-nil}
 use Rattle.std.proofs.lemmas.List.{map-append}
 use Rattle.verification.specs.Views.{credential_view}
-use Rattle.credential_table.proofs.Entries.{entry_view}
+use Rattle.credential_table.proofs.Entries.{entry_view, gone_over}
 use Rattle.saved_table.specs.Saved.{has_version_4, needs_version_4}
 use Rattle.saved_table.proofs.Versions.{needed_there, none_behind}
 use Rattle.saved_table.proofs.saving.version_of.Goals as goal
@@ -21,13 +21,11 @@ pub loop-row-preserved : goal.loop-row-preserved
 loop-row-preserved c =
     let front = map credential_view c.loop-row.yielded in
     let row = credential_view c.in-Some.row in
-    let rest = map entry_view c.next.new.self.0 in
-    let more = map-append credential_view c.loop-row.yielded (c.in-Some.row ∷ []) in
     let early : needs_version_4 row.id row.key ≡ false = sym c.needs_version_4.ensures ∙ c.if-needs_version_4.false in (
       tt,
       tt,
-      ap has_version_4 more ∙ none_behind front row c.loop-row.invariant.2 early,
-      c.loop-row.invariant.3 ∙ ap (λ l. front ++ l) c.in-Some.ensures.steps ∙ sym (append_assoc front (row ∷ []) rest) ∙ ap (λ l. l ++ rest) (sym more),
+      ap has_version_4 (map-append credential_view c.loop-row.yielded (c.in-Some.row ∷ [])) ∙ none_behind front row c.loop-row.invariant.2 early,
+      gone_over credential_view _ c.loop-row.yielded c.in-Some.row _ _ c.loop-row.invariant.3 c.in-Some.ensures.steps,
     )
 
 pub returns : goal.returns

@@ -1,9 +1,11 @@
 -- What is owed of `started_registration`.
-use Rattle.site_lines.proofs.Kept.{is_not_begun_after}
+use Rattle.std.proofs.lemmas.Result.{IfErr-weaker}
+use Rattle.ceremony_sessions.specs.Sessions.{OpensRegistration}
+use Rattle.site_lines.proofs.Kept.{begins_nothing}
 use Rattle.site_lines.proofs.beginning.started_registration.Goals as goal
 
 pub returns-clause-refused : goal.returns-clause-refused
 returns-clause-refused g c =
-    is_not_begun_after c.args.site.now c.begin_registration.new.self _ _ _ c.begin_registration.result c.begin_registration.ensures.refused
-    c.begin_registration.ensures.bad_moment c.begin_registration.ensures.number
-    c.begin_registration.ensures.failed
+    IfErr-weaker c.begin_registration.result _ _ (begins_nothing c.args.site.now c.begin_registration.new.self
+    (OpensRegistration c.as_slice.result.now c.as_slice-2.result.now c.args.begin.now.user_verification c.args.words)
+    c.args.now) c.begin_registration.ensures.refused

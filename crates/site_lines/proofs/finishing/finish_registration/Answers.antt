@@ -12,7 +12,7 @@ returns-in-Ok-clause-told g c =
 
 pub returns-in-Err-Site-Refused-clause-told : goal.returns-in-Err-Site-Refused-clause-told
 returns-in-Err-Site-Refused-clause-told g c =
-    let refused = c.in-Err-Site-Refused.ensures.refused c.in-Err-Site-Refused.field-0-0 c.in-Err-Site-Refused.field-0-is in
+    let refused = rw c.in-Err-Site-Refused.field-0-is at c.in-Err-Site-Refused.ensures.refused in
     registration_refused g.S.Store.view c.args.finish c.args.site.now c.finish_registration_parts.new.self c.site.result.now
     c.in-Err-Site-Refused.step c.refused_registration.result
     (c.site.ensures ∙ ap (λ (x : StoredState _). x.site) refused.0)

@@ -1,5 +1,5 @@
 -- What is owed of `Authenticator::save`.
-use Rattle.std.proofs.Common.{Err, ap, refl, subst}
+use Rattle.std.proofs.Common.{Err, ap, inl, inr, refl, subst}
 use Rattle.ccbor.specs.Item.{Item}
 use Rattle.ccbor.specs.Canon.{AppendsCanon, spelling}
 use Rattle.authenticator.specs.Saved.{authenticator_item}
@@ -14,4 +14,7 @@ returns-in-Ok-clause-saved c =
 pub unreachable-requires : goal.unreachable-requires
 unreachable-requires c =
     let v = c.in_ok-value.ensures in
-    c.in-Err-Unfit.ensures.unfit (ap Err c.in-Err-Unfit.field-0-is) (spelling (authenticator_item c.args.self.now)) (rw v.value (v.fits, refl))
+    elim c.in-Err.ensures.errors [
+      | inl unfit ↦ c.in-Err.ensures.unfit (ap Err unfit) (spelling (authenticator_item c.args.self.now)) (rw v.value (v.fits, refl))
+      | inr memory ↦ c.in_default.not-Memory memory
+    ]

@@ -1,9 +1,9 @@
 -- What is owed of `Table::has_long_id`.
-use Rattle.std.proofs.Common.{◌≡◌, ◌≤◌, ◌<◌, ◌∙◌, ◌++◌, ◌∷◌, [], false, length, map, refl, sym, ap, arith, append_assoc, append-nil}
+use Rattle.std.proofs.Common.{◌≡◌, ◌≤◌, ◌<◌, ◌∙◌, ◌++◌, ◌∷◌, [], false, length, map, refl, sym, ap, arith, append-nil}
 use Rattle.std.proofs.lemmas.List.{map-append}
 use Rattle.verification.specs.Views.{credential_view}
 use Rattle.credential_table.specs.Table.{has_long}
-use Rattle.credential_table.proofs.Entries.{entry_view}
+use Rattle.credential_table.proofs.Entries.{entry_view, gone_over}
 use Rattle.credential_table.proofs.RowLemmas.{all_short, long_there, none_long, short_behind}
 use Rattle.credential_table.proofs.table.Table.has_long_id.Goals as goal
 
@@ -21,13 +21,11 @@ pub loop-row-preserved : goal.loop-row-preserved
 loop-row-preserved c =
     let front = map credential_view c.loop-row.yielded in
     let row = credential_view c.in-Some.row in
-    let rest = map entry_view c.next.new.self.0 in
-    let more = map-append credential_view c.loop-row.yielded (c.in-Some.row ∷ []) in
     let short : length row.id ≤ 64 = omega (arith, c.if-max_id-row.false, c.max_id.ensures) in (
       tt,
       tt,
-      ap has_long more ∙ short_behind front row c.loop-row.invariant.2 short,
-      c.loop-row.invariant.3 ∙ ap (λ l. front ++ l) c.in-Some.ensures.steps ∙ sym (append_assoc front (row ∷ []) rest) ∙ ap (λ l. l ++ rest) (sym more),
+      ap has_long (map-append credential_view c.loop-row.yielded (c.in-Some.row ∷ [])) ∙ short_behind front row c.loop-row.invariant.2 short,
+      gone_over credential_view _ c.loop-row.yielded c.in-Some.row _ _ c.loop-row.invariant.3 c.in-Some.ensures.steps,
     )
 
 pub returns-clause-strict : goal.returns-clause-strict

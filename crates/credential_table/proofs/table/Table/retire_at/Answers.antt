@@ -15,14 +15,6 @@ returns-clause-retired c = elim c.match-get_index_mut.branch [
   | in_default w ↦ λ row is. absurd (beyond c.self.inside.rows.entries c.args.place row (sym w.in_default.ensures.value) (rw c.self.view_is is))
 ]
 
-pub invariant_of-self : goal.invariant_of-self
-invariant_of-self c = elim c.match-get_index_mut.branch [
-  | in-Some w ↦ subst (λ x. IsTable Open (map entry_view x.rows.entries)) (sym w.self-inside-is)
-      (limits_stored Open retired c.self.inside.rows.entries c.args.place w.in-Some.kept.now _ c.self.invariant (sym w.in-Some.ensures.value) (λ id. refl)
-      (record { id = λ r. refl; user = λ r. refl }))
-  | in_default w ↦ subst (λ x. IsTable Open (map entry_view x.rows.entries)) (sym w.self-inside-is) c.self.invariant
-]
-
 pub returns-clause-limits : goal.returns-clause-limits
 returns-clause-limits c = λ p table.
     let here : IsTable p (map entry_view c.self.inside.rows.entries) = rw c.self.view_is table in
@@ -32,3 +24,6 @@ returns-clause-limits c = λ p table.
           (record { id = λ r. refl; user = λ r. refl }))
       | in_default w ↦ subst (λ x. IsTable p (map entry_view x.rows.entries)) (sym w.self-inside-is) here
     ]
+
+pub invariant_of-self : goal.invariant_of-self
+invariant_of-self c = returns-clause-limits c Open (rw (← c.self.view_is) c.self.invariant)

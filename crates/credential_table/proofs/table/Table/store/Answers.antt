@@ -22,15 +22,6 @@ returns-clause-unchanged c = elim c.match-get_index_mut.branch [
   | in_default w ↦ λ none. rw (← c.self.view_is) (ap (λ x. map entry_view x.rows.entries) w.self-inside-is)
 ]
 
-pub invariant_of-self : goal.invariant_of-self
-invariant_of-self c = elim c.match-get_index_mut.branch [
-  | in-Some w ↦ subst (λ x. IsTable Open (map entry_view x.rows.entries)) (sym w.self-inside-is)
-      (limits_stored Open (signed_in c.args.sign_count c.args.eligible) c.self.inside.rows.entries c.args.place w.in-Some.kept.now _ c.self.invariant
-      (sym w.in-Some.ensures.value) (λ id. refl)
-      (record { id = λ r. refl; user = λ r. refl }))
-  | in_default w ↦ subst (λ x. IsTable Open (map entry_view x.rows.entries)) (sym w.self-inside-is) c.self.invariant
-]
-
 pub returns-clause-limits : goal.returns-clause-limits
 returns-clause-limits c = λ p table.
     let here : IsTable p (map entry_view c.self.inside.rows.entries) = rw c.self.view_is table in
@@ -41,3 +32,6 @@ returns-clause-limits c = λ p table.
           (record { id = λ r. refl; user = λ r. refl }))
       | in_default w ↦ subst (λ x. IsTable p (map entry_view x.rows.entries)) (sym w.self-inside-is) here
     ]
+
+pub invariant_of-self : goal.invariant_of-self
+invariant_of-self c = returns-clause-limits c Open (rw (← c.self.view_is) c.self.invariant)

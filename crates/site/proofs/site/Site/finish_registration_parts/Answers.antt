@@ -2,13 +2,13 @@
 use Rattle.std.proofs.Common.{◌≡◌, ◌≤◌, ◌∙◌, ap, sym, subst, ◌++◌, ◌∷◌, []}
 use Rattle.std.specs.Prelude.{None, is_some, option_map}
 use Rattle.std.proofs.lemmas.Result.{err_from_is_err_and}
-use Rattle.authdata.specs.Profiles.{max_id}
 use Rattle.verification.specs.Registration.{IsFirstFailing, PassesRegistration}
 use Rattle.verification.specs.RegistrationAnswers.{IsRefused}
 use Rattle.verification.specs.Views.{registration_view, registration_parts_view}
-use Rattle.credential_table.specs.Table.{IsWithin, row_of}
-use Rattle.site.proofs.Judged.{admitted_as, same_row, all_pass, attested_limits, has_room, is_full, no_row, said_full, said_row, same_registration}
-use Rattle.site.proofs.Judged.{looser_id, same_state, some_seen, table_fails}
+use Rattle.credential_table.specs.Table.{row_of}
+use Rattle.verification.proofs.Registrations.{all_pass, table_fails}
+use Rattle.site.proofs.Judged.{admitted_as, has_room, is_full, looser_id, no_row, row_limits, said_full, said_row, same_registration, same_row}
+use Rattle.site.proofs.Judged.{same_state, some_seen}
 use Rattle.site.proofs.site.Site.finish_registration_parts.Goals as goal
 
 pub returns-in_err-verified-clause-refused : goal.returns-in_err-verified-clause-refused
@@ -42,12 +42,11 @@ unwrap-requires g c =
 pub push-requires-clause-limits : goal.push-requires-clause-limits
 push-requires-clause-limits g c =
     let tells = c.in_ok-verified.ensures.accepted.0 in
-    let brought = ap (λ v. v.id) c.in_ok-admitted.ensures.admitted ∙ tells.4 in
-    let low = attested_limits c.self.inside.party.profile tells.1 tells.2 tells.3.auth_data.0 tells.3.attested in
-    let id = subst (IsWithin (max_id c.self.inside.party.profile)) (sym brought) low in
     let open_for = sym c.registration-expected.ensures.expected ∙ ap (option_map (λ s. registration_view s.now)) c.unwrap.ensures in
-    let user = c.registration-expected.ensures.limits (registration_view c.unwrap.result.now) open_for in
-    (looser_id c.self.inside.party.profile _ id, subst (IsWithin 64) (sym (c.in_ok-user.ensures.items ∙ c.deref.ensures.value)) user)
+    let limits = row_limits c.self.inside.party.profile tells.1 tells.2 _ _ _ tells.3.auth_data.0 tells.3.attested
+    (ap (λ v. v.id) c.in_ok-admitted.ensures.admitted ∙ tells.4) (c.in_ok-user.ensures.items ∙ c.deref.ensures.value)
+    (c.registration-expected.ensures.limits (registration_view c.unwrap.result.now) open_for) in
+    (looser_id c.self.inside.party.profile _ limits.0, limits.1)
 
 pub push-requires-clause-absent : goal.push-requires-clause-absent
 push-requires-clause-absent g c =
@@ -123,13 +122,11 @@ returns-clause-after g c =
 pub invariant_of-self-2 : goal.invariant_of-self-2
 invariant_of-self-2 g c =
     let tells = c.in_ok-verified.ensures.accepted.0 in
-    let brought = ap (λ v. v.id) c.in_ok-admitted.ensures.admitted ∙ tells.4 in
-    let low = attested_limits c.self.inside.party.profile tells.1 tells.2 tells.3.auth_data.0 tells.3.attested in
-    let id = subst (IsWithin (max_id c.self.inside.party.profile)) (sym brought) low in
     let open_for = sym c.registration-expected.ensures.expected ∙ ap (option_map (λ s. registration_view s.now)) c.unwrap.ensures in
-    let user = c.registration-expected.ensures.limits (registration_view c.unwrap.result.now) open_for in
-    let handle = subst (IsWithin 64) (sym (c.in_ok-user.ensures.items ∙ c.deref.ensures.value)) user in (
-      c.in_ok-push.ensures.limits c.self.inside.party.profile c.self.invariant.0 (id, handle),
+    let limits = row_limits c.self.inside.party.profile tells.1 tells.2 _ _ _ tells.3.auth_data.0 tells.3.attested
+    (ap (λ v. v.id) c.in_ok-admitted.ensures.admitted ∙ tells.4) (c.in_ok-user.ensures.items ∙ c.deref.ensures.value)
+    (c.registration-expected.ensures.limits (registration_view c.unwrap.result.now) open_for) in (
+      c.in_ok-push.ensures.limits c.self.inside.party.profile c.self.invariant.0 limits,
       c.self.invariant.1,
       subst (λ s. 1 ≤ s.next) (sym c.close.ensures.closed) c.self.invariant.2,
     )

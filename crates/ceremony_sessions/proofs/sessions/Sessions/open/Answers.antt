@@ -1,12 +1,12 @@
--- What is owed of `Sessions::restore`.
-use Rattle.std.proofs.Common.{ap, rules}
+-- What is owed of `Sessions::open`.
+use Rattle.std.proofs.Common.{ap}
 use Rattle.ceremony_sessions.proofs.Maps.{open_with, opened, well_opened}
-use Rattle.ceremony_sessions.proofs.sessions.Sessions.restore.Goals as goal
+use Rattle.ceremony_sessions.proofs.sessions.Sessions.open.Goals as goal
 
 pub invariant_of-self-2 : goal.invariant_of-self-2
 invariant_of-self-2 c =
     well_opened c.self.inside.by_number c.insert.new.self c.args.number c.args.session c.in_ok-insert.field-0
-    c.in_ok-insert.ensures.updates.0 c.in_ok-insert.ensures.old c.in_ok-insert.ensures.len c.self.invariant (c.are_limits.ensures.0 (search rules))
+    c.in_ok-insert.ensures.updates.0 c.in_ok-insert.ensures.old c.in_ok-insert.ensures.len c.self.invariant c.requires
 
 pub returns-clause-opened : goal.returns-clause-opened
 returns-clause-opened c =
