@@ -254,6 +254,9 @@ def failing_disk(tests):
 
 def wrong_files(tests):
     """What a person does wrong, told by name."""
+    for words in ("--new", "--existing"):
+        for bound, wanted, why in ((1_000_001, 4, "the bound on open sessions is too high"), (1_000_000, 0, "")):
+            tests.ends(f"{bound} open sessions, {words}", tests.file("most.db"), wanted, why, ["--max-open", str(bound), words])
     with tests.server("used.db") as server:
         server.rows()
         tests.ends("a second process", tests.file("used.db"), 4, "the file is in use")
