@@ -303,6 +303,9 @@ def moved(tests):
 
 
 def main():
+    # What is run in the background or by nohup is handed on that these are ignored.
+    for name in (signal.SIGINT, signal.SIGHUP):
+        signal.signal(name, signal.SIG_DFL)
     tests = Tests(str(Path(sys.argv[1]).resolve()))
     for part in (start, visits, settings, other_hosts, at_once, killed, failing_disk, wrong_files, moved):
         part(tests)

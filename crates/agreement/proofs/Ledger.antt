@@ -28,7 +28,8 @@ use Rattle.authenticator.specs.Saved.{SavingLaws}
 use Rattle.authenticator.specs.declared.consent.Consent.{Consent}
 use Rattle.authenticator.specs.declared.consent.Words.{Words}
 use Rattle.authenticator.proofs.Stored.{each_weaker}
-use Rattle.agreement.specs.World.{Asks, AtSite, Done, EventEffect, EventEnd, Event, Happens, Holder, IsNew, IsRun, Moment, Nothing, Reloads, World, after_call, after_restart}
+use Rattle.agreement.specs.World.{Asks, AtSite, Done, EventEffect, EventEnd, Event, Happens, Holder, IsNew}
+use Rattle.agreement.specs.World.{IsRun, Moment, Nothing, Reloads, World, after_call, after_restart}
 use Rattle.agreement.specs.Ledger.{IsAsked, IsBetween, IsElsewhere, IsMadeIn, IsNextAsserted, IsSignedAt, IsSignedInRun, LedgerOfAllRuns}
 use Rattle.agreement.specs.Ledger.{Signs, world_after}
 

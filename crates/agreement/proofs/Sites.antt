@@ -23,7 +23,8 @@ use Rattle.ceremony.specs.Registration as registering
 use Rattle.ceremony.specs.Verdict.{Delivers}
 use Rattle.ceremony.proofs.OneVerdict.{registration_one, sign_in_one}
 use Rattle.authenticator.specs.Steps.{Keys}
-use Rattle.agreement.specs.World.{Abandons, SiteActs, Begins, Loads, Registers, RegistersBy, Reopens, Restarts, Retires, SignsIn, SignsInBy, SiteEvent, reopened, words_of}
+use Rattle.agreement.specs.World.{Abandons, SiteActs, Begins, Loads, Registers, RegistersBy, Reopens, Restarts}
+use Rattle.agreement.specs.World.{Retires, SignsIn, SignsInBy, SiteEvent, reopened, words_of}
 use Rattle.agreement.specs.Agreement.{BringsNewTo, BringsTo, Carried, CarriedNew, IsRegistration, session_in}
 use Rattle.agreement.specs.Below.{Below}
 

@@ -13,7 +13,8 @@ use Rattle.cose.proofs.KeyLemmas.{key_canon}
 use Rattle.authdata.specs.declared.error.Error.{Error}
 use Rattle.authdata.specs.declared.error.Error.TheVariants as errors
 use Rattle.authdata.specs.Flags.{is_set, HasBackup, AT, ED}
-use Rattle.authdata.specs.Layout.{AttestedCredential, AuthenticatorData, AuthOf, IsAttestedCredential, IsAuthenticatorData, attested_bytes, extension_bytes, key_bytes}
+use Rattle.authdata.specs.Layout.{AttestedCredential, AuthenticatorData, AuthOf, IsAttestedCredential, IsAuthenticatorData}
+use Rattle.authdata.specs.Layout.{attested_bytes, extension_bytes, key_bytes}
 use Rattle.authdata.specs.declared.profile.Profile.{Profile}
 use Rattle.authdata.specs.declared.profile.Profile.TheVariants.{Strict, Open}
 use Rattle.authdata.specs.Refusals.{Applies, IsAttested, flags_in, id_len_in, order}

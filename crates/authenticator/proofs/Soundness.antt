@@ -29,7 +29,8 @@ use Rattle.authenticator.specs.declared.consent.Consent.{Consent}
 use Rattle.authenticator.specs.declared.consent.Words.{Words}
 use Rattle.authenticator.proofs.Asked.{assertion_hashed, creation_hashed}
 use Rattle.authenticator.proofs.Store.{has_id}
-use Rattle.authenticator.proofs.Stored.{LaterResident, Stays, keeps_made, keeps_same, keeps_with, last_push, later_candidates, length_with, residents_with, stays}
+use Rattle.authenticator.proofs.Stored.{LaterResident, Stays, keeps_made, keeps_same, keeps_with, last_push}
+use Rattle.authenticator.proofs.Stored.{later_candidates, length_with, residents_with, stays}
 use Rattle.authenticator.proofs.Stored.{unique_made, unique_with, with_at}
 
 -- ---- flags

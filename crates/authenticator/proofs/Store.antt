@@ -128,7 +128,8 @@ pub ids_found : (rp : List ℕ) (xs : List StoredCredential) (i : ℕ) → lengt
     → option_to_list last ++ reverse later ≡ resident_ids rp (credential_sources_view xs)
 ids_found rp xs i all later last found =
     ends last ∙ resident_ids_are rp xs (later ++ option_to_list last)
-    (found ∙ ap (λ t. map (λ (c : StoredCredential). c.id) (filter (λ (c : StoredCredential). is_resident_for rp (credential_source_view c)) t)) (take_all i xs all))
+    (found ∙ ap (λ t. map (λ (c : StoredCredential). c.id)
+    (filter (λ (c : StoredCredential). is_resident_for rp (credential_source_view c)) t)) (take_all i xs all))
   where
     ends : (last : Option (List ℕ)) → option_to_list last ++ reverse later ≡ reverse (later ++ option_to_list last)
     ends None = ap reverse (sym (append-nil later))

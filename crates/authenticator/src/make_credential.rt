@@ -5,7 +5,7 @@ ghost use Rattle.ctap_requests.specs.RequestView.{creation_view, parameters_view
 ghost use Rattle.ctap_replies.specs.Replies.{ReplyOf, creation_reply};
 ghost use Rattle.cose.specs.Keys.{signed_alg};
 ghost use Rattle.authdata.specs.Statements.{none_statement, packed_statement};
-ghost use Rattle.authenticator.specs.Orders.{creation_flags, first_supported, is_false, is_true, kept, supported, supported_by};
+ghost use Rattle.authenticator.specs.Orders.{first_supported, is_false, is_true, kept, supported, supported_by};
 ghost use Rattle.authenticator.specs.Private.{CreationBegins, IsChoice, IsUser, Overwrites, asks_resident, without};
 ghost use Rattle.authenticator.specs.Signing.{HasSize};
 ghost use Rattle.authenticator.specs.State.{forgotten};

@@ -206,7 +206,8 @@ pub laws : (valid : Validity) (public : Keys) → ServingLaws valid public
 laws valid public = record { done = done_by valid public; signed = signed_by valid public; waits = waits_by public }
 
 -- an act that asks to sign is on a request
-pub asks_at_work : (public : Keys) (s : TransactionState) (a : authenticator.AuthenticatorState) (x : Act) (p : Pending) → AsksToSign public s a x p → IsWorking s
+pub asks_at_work : (public : Keys) (s : TransactionState) (a : authenticator.AuthenticatorState) (x : Act) (p : Pending)
+    → AsksToSign public s a x p → IsWorking s
 asks_at_work public s a (act.Packet packet) p asks = absurd asks
 asks_at_work public s a (act.Decide consent words) p asks = at_some s asks.0 asks.1 asks.2
   where

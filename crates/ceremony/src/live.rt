@@ -90,6 +90,7 @@ impl Live {
         ensures got { (ps : List Packet) → HasGot self.old ps → HasGot self.new (ps ++ packet.now ∷ []) }
         ensures answer { (ps : List Packet) → HasGot self.old ps → packets.LiveAnswers self.old.cid ps packet.now result }
     {
+        // A match, since `?` would hide that the refusal is the callee's.
         let fed = match collect(&mut self.collector, packet) {
             Ok(fed) => fed,
             Err(ended) => return Err(ended),

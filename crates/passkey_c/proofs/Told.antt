@@ -51,7 +51,8 @@ tells call out message signature asked asks told = rw (told.0, told.1, told.2, t
 
 -- a room that is too small for it
 pub broken : (call : SignatureCall) (m s : ℕ) (asked : AskedSignature) (limit : Limit)
-    → Asks call.is_registration call (lent_key_view asked.key) (asked.auth_data.now ++ asked.hash) asked.signature.now → IsSmall m s asked limit → IsBroken call m s limit
+    → Asks call.is_registration call (lent_key_view asked.key) (asked.auth_data.now ++ asked.hash) asked.signature.now
+    → IsSmall m s asked limit → IsBroken call m s limit
 broken call m s asked limits.MessageRoom asks small = (lent_key_view asked.key, asked.auth_data.now ++ asked.hash, asked.signature.now, asks, small)
 broken call m s asked limits.SignatureRoom asks small = (lent_key_view asked.key, asked.auth_data.now ++ asked.hash, asked.signature.now, asks, small)
 broken call m s asked limits.RpId asks small = absurd small

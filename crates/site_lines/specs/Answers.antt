@@ -151,10 +151,10 @@ TellsExpired view age now old new (answers.Expired count) =
 TellsExpired view age now old new (answers.Failed why) = Unit {0}
 TellsExpired view age now old new _ = ⊥
 
--- which credentials are to be told
-abbrev pub TellsRows : Answer → Type 0
-TellsRows (answers.Rows user) = Unit {0}
-TellsRows _ = ⊥
+-- whose credentials are to be told: those of the user that is asked for, or all where none is
+abbrev pub TellsRows : Act → Answer → Type 0
+TellsRows (acts.Rows asked) (answers.Rows told) = told ≡ asked
+TellsRows _ _ = ⊥
 
 -- what the answer to an act says
 abbrev pub Tells : {S : Type 0} → (S → View) → List ℕ → ℕ → Act → StoredState S → StoredState S → Answer → Type 0
@@ -165,7 +165,7 @@ Tells view words now (acts.FinishSignIn f) old new answer = TellsSignIn view f o
 Tells view words now (acts.Retire id) old new answer = TellsRetired view id.items old new answer
 Tells view words now (acts.Abandon session) old new answer = TellsAbandoned view session old new answer
 Tells view words now (acts.Expire age) old new answer = TellsExpired view age now old new answer
-Tells view words now (acts.Rows user) old new answer = TellsRows answer
+Tells view words now (acts.Rows user) old new answer = TellsRows (acts.Rows user) answer
 
 -- an answer is that to some act, or an error of the line
 abbrev pub IsTold : {S : Type 0} → (S → View) → List ℕ → ℕ → StoredState S → StoredState S → Answer → Type 0

@@ -1,6 +1,6 @@
 //! From a line to its answer.
 
-ghost use Rattle.std.specs.Prelude.{◌≡◌, IfOk, OnOk};
+ghost use Rattle.std.specs.Prelude.{◌≡◌, IfOk, MatchResult, OnOk, Some};
 ghost use Rattle.site_lines.specs.Answers.{IsTold, Keeps, Tells, TellsAbandoned, TellsExpired, TellsRetired};
 
 use crate::act::Act;
@@ -79,6 +79,7 @@ fn carried_out<S: Store>(
 ) -> (Option<u64>, Answer)
     ensures told { IsTold S.Store.view words now site.old site.new result.1 }
     ensures kept { Keeps site.old site.new result.1 }
+    ensures number { MatchResult read (λ line. result.0 ≡ Some line.id) (λ fault. result.0 ≡ fault.id) }
 {
     match read {
         Ok(line) => (Some(line.id), carry_out(alloc, site, words, now, line.act)),
@@ -99,7 +100,7 @@ pub fn answer_line<S: Store>(
     line: &[u8],
     out: &mut String,
 ) -> Result<Answer, AllocError>
-    // So nobody is accepted but by the contract of the act that a line asks for, and a line in error changes nothing.
+    // So nobody is accepted but by the contract of an act, and a line in error changes nothing.
     ensures told { IfOk result (IsTold S.Store.view words now site.old site.new) }
     ensures kept { IfOk result (Keeps site.old site.new) }
 {

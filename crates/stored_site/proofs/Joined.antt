@@ -2,7 +2,8 @@
 use Rattle.std.proofs.Common.{◌≡◌, ℕ, List, [], ◌∷◌, map, refl, sym, ap, subst, ◌∙◌, Ordering, Less, Equal, Greater, T}
 use Rattle.std.specs.Prelude.{Bool, true, false, ◌&&◌, cond, Option, Some, None, option_map}
 use Rattle.std.specs.FinMap as finite
-use Rattle.std.specs.FinMap.{find, is_sorted, same_map, get-entries, get-insert, get-remove, get-from_sorted, entries-from_sorted, entries_sorted, nat_cmp-IsAntisymmetric}
+use Rattle.std.specs.FinMap.{find, is_sorted, same_map, get-entries, get-insert, get-remove}
+use Rattle.std.specs.FinMap.{get-from_sorted, entries-from_sorted, entries_sorted, nat_cmp-IsAntisymmetric}
 use Rattle.std.specs.FinMap.Entries.{below_all}
 use Rattle.std.specs.Cmp.{nat_cmp_total}
 use Rattle.std.specs.Ordering.{nat_cmp, eq_by_cmp, is_eq, is_lt}

@@ -1,5 +1,6 @@
 -- The columns of the credentials that may answer.
 use Rattle.std.proofs.Common.{◌≡◌, ◌<◌, ◌≤◌, ◌+◌, ◌-◌, ℕ, zero, suc, List, [], ◌∷◌, ◌++◌, length, map, take, refl, sym, ap, ◌∙◌, arith, Vec, Global}
+use Rattle.std.proofs.lemmas.List.{length-append}
 use Rattle.std.specs.Prelude.{Bool, Option, Some, None, slice_get}
 use Rattle.sqlite_value.specs.Order.{column}
 use Rattle.verification.specs.Records.{ExpectedSignIn}
@@ -55,6 +56,13 @@ one_more_id vs v xs x is e = map-append vs v ∙ ap (λ ys. ys ++ v.items ∷ []
     map-append : (vs : List (Vec ℕ Global)) (v : Vec ℕ Global) → map (λ id. id.items) (vs ++ v ∷ []) ≡ map (λ id. id.items) vs ++ v.items ∷ []
     map-append [] v = refl
     map-append (w ∷ vs) v = ap (λ ys. w.items ∷ ys) (map-append vs v)
+
+-- one id more, one column further
+pub one_longer : (vs new : List (Vec ℕ Global)) (v : Vec ℕ Global) (at : ℕ) → new ≡ vs ++ v ∷ [] → length vs + 8 ≡ at → length new + 8 ≡ at + 1
+one_longer vs new v at is held =
+    let long = ap length is in
+    let one = length-append vs (v ∷ []) in
+    omega (arith, long, one, held)
 
 -- a session is seen by its parts
 pub sign_in_seen : (e : ExpectedSignIn) (user : Option (List ℕ)) (allow : List (List ℕ)) (uv : Bool) (challenge : List ℕ)

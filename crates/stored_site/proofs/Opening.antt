@@ -4,15 +4,16 @@ use Rattle.std.specs.Prelude.{Result, Err, IfErr, Bool, true, false, cond, Some,
 use Rattle.std.specs.FinMap as finite
 use Rattle.std.specs.FinMap.{get-insert, nat_cmp-IsAntisymmetric}
 use Rattle.std.specs.Cmp.{nat_cmp_total}
+use Rattle.std.proofs.lemmas.Option.{same_Some}
 use Rattle.std.specs.Ordering.{nat_cmp, is_eq}
 use Rattle.sqlite_value.specs.Order.{column, bytes}
 use Rattle.sqlite_trees.specs.Tree.{Trees}
 use Rattle.sqlite_trees.specs.View.{View, IsClean}
 use Rattle.verification.specs.Records.{RelyingParty}
-use Rattle.ceremony_sessions.specs.Sessions.{Expected, ForSignIn, ForRegistration, AreLimits}
+use Rattle.ceremony_sessions.specs.Sessions.{Expected, ForSignIn, ForRegistration, AreLimits, OpenSessions}
 use Rattle.credential_table.specs.Table.{IsWithin}
 use Rattle.site.specs.State.{SiteState}
-use Rattle.stored_site.specs.SessionRows.{Moments, session_row}
+use Rattle.stored_site.specs.SessionRows.{ListFew, ListsFew, Moments, session_row}
 use Rattle.stored_site.specs.Holds.{Holds, HasTables, IsCommitted}
 use Rattle.stored_site.specs.Opened.{HoldsNone, IsKept, IsLeft, IsNamed, NoSiteIn}
 use Rattle.stored_site.specs.Opening.{of_row, of_table}
@@ -57,6 +58,14 @@ inserted P m n e all here k some = go (nat_cmp k n) refl (subst IsSome (get-inse
     go Less t s = all k (subst (λ o. IsSome (cond (is_eq o) (Some e) (finite.get m k))) t s)
     go Equal t s = subst P (sym (nat_cmp-IsAntisymmetric k n t)) here
     go Greater t s = all k (subst (λ o. IsSome (cond (is_eq o) (Some e) (finite.get m k))) t s)
+
+-- no session lists more credentials than a row has columns for, where the one that is opened does not
+pub few_inserted : (s : OpenSessions) (n : ℕ) (e : Expected) → ListFew s → ListsFew e → ListFew (record s { expected = finite.insert s.expected n e })
+few_inserted s n e few here k f found = go (is_eq (nat_cmp k n)) (sym (get-insert nat_cmp_total s.expected n e k) ∙ found)
+  where
+    go : (same : Bool) → cond same (Some e) (finite.get s.expected k) ≡ Some f → ListsFew f
+    go true is = subst ListsFew (same_Some _ _ is) here
+    go false is = few k f is
 
 -- ---- more rows than a site has
 
@@ -108,7 +117,8 @@ tables_same old new tables is = record {
   site = ap (λ f. f 2) is ∙ tables.site;
 }
 
-pub committed_left : (s : SiteState) (began : Moments) (old mid new : View) → IsLeft old mid → IsSameView mid new → IsClean new → HasTables mid → Holds s began mid.trees
+pub committed_left : (s : SiteState) (began : Moments) (old mid new : View) → IsLeft old mid → IsSameView mid new → IsClean new
+    → HasTables mid → Holds s began mid.trees
     → IsCommitted s began new
 committed_left s began old mid new left same clean tables holds =
     let is = same.view clean in

@@ -61,7 +61,8 @@ length_sessions m began = length_map (finite.entries m) ∙ sym (len-entries m)
     length_map [] = refl
     length_map (e ∷ es) = let inner = length_map es in omega (arith, inner)
 
-put_last : (rows : List Row) (least n m : ℕ) (e : Expected) → AreBelow least rows → least ≤ n → put_row (session_row n m e) rows ≡ rows ++ session_row n m e ∷ []
+put_last : (rows : List Row) (least n m : ℕ) (e : Expected) → AreBelow least rows → least ≤ n
+    → put_row (session_row n m e) rows ≡ rows ++ session_row n m e ∷ []
 put_last [] least n m e are le = refl
 put_last (r ∷ rows) least n m e ((k, a, x, is, lt), are) le =
     let less : k < n = omega (arith, lt, le) in

@@ -13,7 +13,7 @@ use Rattle.credential_table.specs.Views.{rows_view}
 use Rattle.credential_table.specs.declared.row.Row.{Row as StoredRow}
 use Rattle.ceremony_sessions.specs.Sessions.{AreLimits, Expected, OpenSessions}
 use Rattle.stored_site.specs.Rows.{IsStored, credential_row, credential_rows}
-use Rattle.stored_site.specs.SessionRows.{HaveMoments, IsStoredSession, Moments, moment_of, session_row, session_rows}
+use Rattle.stored_site.specs.SessionRows.{HaveMoments, IsStoredSession, ListFew, Moments, moment_of, session_row, session_rows}
 use Rattle.stored_site.specs.Holds.{AreRowids}
 use Rattle.stored_site.specs.Opened.{AreGiven, AreKept}
 use Rattle.stored_site.specs.Private.{AreBelow}
@@ -41,7 +41,7 @@ SessionsRead rows i next least s began =
     (take i rows ≡ session_rows s.expected began)
     × (s.next ≡ next)
     × AreBelow least (take i rows)
-    × (AreRowids s × AreGiven s × HaveMoments s began)
+    × (AreRowids s × AreGiven s × HaveMoments s began × ListFew s)
     × ((m : OpenSessions) (moments : Moments) → rows ≡ session_rows m.expected moments → Left (joined m.expected moments) least (drop i rows))
 
 abbrev pub Restored : Row → ℕ → OpenSessions → OpenSessions → Moments → Moments → ℕ → Type 0
@@ -52,9 +52,10 @@ Restored row least old new was now behind =
 
 pub one_more_read : (rows : List Row) (i : ℕ) (row : Row) (next least behind : ℕ) (old new : OpenSessions) (began now : Moments) → i < length rows
     → row ≡ get_or rows i row
-    → SessionsRead rows i next least old began → Restored row least old new began now behind → SessionsRead rows (i + 1) next behind new now
-one_more_read rows i row next least behind old new began now lt here (are, nexts, below, (rowids, given, have), left)
-    (n, moment, e, is, le, within, after, fits, opened, begins) =
+    → SessionsRead rows i next least old began → Restored row least old new began now behind → (ListFew old → ListFew new)
+    → SessionsRead rows (i + 1) next behind new now
+one_more_read rows i row next least behind old new began now lt here (are, nexts, below, (rowids, given, have, few), left)
+    (n, moment, e, is, le, within, after, fits, opened, begins) one_more =
     let more : take (i + 1) rows ≡ take i rows ++ session_row n moment e ∷ [] = taken rows i row lt here ∙ ap (λ r. take i rows ++ r ∷ []) is in
     let was : (k : ℕ) → IsSome (finite.get new.expected k) → IsSome (finite.get (finite.insert old.expected n e) k) =
     λ k some. subst (λ (s : OpenSessions). IsSome (finite.get s.expected k)) opened some in (
@@ -69,6 +70,7 @@ one_more_read rows i row next least behind old new began now lt here (are, nexts
             (inserted (λ q. q < old.next) old.expected n e given within k (was k some)),
         subst (HaveMoments new) (sym begins) (subst (λ (s : OpenSessions). HaveMoments s (finite.insert began n moment)) (sym opened)
             (have_inserted old began n moment e have)),
+        one_more few,
       ),
       λ m moments all. subst (λ k. Left (joined m.expected moments) k (drop (i + 1) rows)) (sym after)
           (next_left (joined m.expected moments) least n (moment, e) row (drop (i + 1) rows)
@@ -130,12 +132,18 @@ none_open_rows began =
 none_at : (P : ℕ → Type 0) (k : ℕ) → IsSome (finite.get (finite.empty {X = Expected} {R = nat_cmp}) k) → P k
 none_at P k some = let no = subst IsSome (get-empty nat_cmp k) some in absurd cc
 
-pub sessions_begun : (rows : List Row) (next max_open : ℕ) → SessionsRead rows 0 next 0 (record { expected = finite.empty; next = next; max_open = max_open }) finite.empty
+pub sessions_begun : (rows : List Row) (next max_open : ℕ)
+    → SessionsRead rows 0 next 0 (record { expected = finite.empty; next = next; max_open = max_open }) finite.empty
 sessions_begun rows next max_open = (
   sym (none_open_rows finite.empty),
   refl,
   tt,
-  (none_at (λ k. k < 2 ^ 63), none_at (λ k. k < next), moments_none (record { expected = finite.empty; next = next; max_open = max_open }) refl),
+  (
+    none_at (λ k. k < 2 ^ 63),
+    none_at (λ k. k < next),
+    moments_none (record { expected = finite.empty; next = next; max_open = max_open }) refl,
+    λ k e found. let none = get-empty {X = Expected} nat_cmp k in absurd cc,
+  ),
   λ m moments all. all_left (joined m.expected moments) rows (all ∙ sym (rows_joined m.expected moments)),
 )
 

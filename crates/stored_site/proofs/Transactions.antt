@@ -124,7 +124,8 @@ last_place p (r ∷ rows) (suc i) c x are same is =
     let more = last_place p rows i c x are.2 same is in
     (ap suc more.0, more.1)
 
-pub added : (s t : SiteState) (began : Moments) (id : List ℕ) (c : Credential) (row : Row) (db : Trees) → c.id ≡ id → t.rows ≡ s.rows ++ c ∷ [] → IsRowAt t id row → Holds s began db
+pub added : (s t : SiteState) (began : Moments) (id : List ℕ) (c : Credential) (row : Row) (db : Trees)
+    → c.id ≡ id → t.rows ≡ s.rows ++ c ∷ [] → IsRowAt t id row → Holds s began db
     → put_row row (db 0) ≡ credential_rows 1 t.rows
 added s t began id c row db mine e at h =
     let there = subst (λ rows. slice_get rows at.place ≡ Some at.credential) e at.there in
@@ -141,7 +142,8 @@ written_row : (s t : SiteState) (began : Moments) (id : List ℕ) (row : Row) (d
 written_row s t began id row db (Changed change same e) at h = changed s t began id change row db same e at h
 written_row s t began id row db (Added c mine e) at h = added s t began id c row db mine e at h
 
-pub accepted : (s t : SiteState) (began : Moments) (id : List ℕ) (number : ℕ) (rowid : ℤ) (row : Row) (db : Trees) → rowid ≡ pos number → Accepts s t id number → IsRowAt t id row
+pub accepted : (s t : SiteState) (began : Moments) (id : List ℕ) (number : ℕ) (rowid : ℤ) (row : Row) (db : Trees)
+    → rowid ≡ pos number → Accepts s t id number → IsRowAt t id row
     → Holds s began db → Holds t (finite.remove began number) (gone 1 rowid (set 0 row db))
 accepted s t began id number rowid row db is_number a at h = record {
   credentials = written_row s t began id row db a.row at h;

@@ -94,6 +94,7 @@ fn write_new<S: Store>(alloc: Global, site: &Site, store: &mut S) -> Result<(), 
     ensures not_new { IfErr result (λ e. e ≡ creates.NotNew → IsClean (S.Store.view store.new) → HasTables (S.Store.view store.new)
         → HasNoRow (S.Store.view store.new).committed → ⊥) }
     ensures number { IfErr result (λ e. e ≡ creates.BadNumber → 2 ^ 63 ≤ site.now.sessions.next) }
+    ensures bound { IfErr result (λ e. e ≡ creates.BadBound → ⊥) }
 {
     rest(store)?;
     if !has_tables(store) {
@@ -138,6 +139,7 @@ impl<S: Store> StoredSite<S> {
         ensures not_new { IfErr result (λ e. e.0 ≡ creates.NotNew → IsClean (S.Store.view e.1) → HasTables (S.Store.view e.1)
             → HasNoRow (S.Store.view e.1).committed → ⊥) }
         ensures number { IfErr result (λ e. e.0 ≡ creates.BadNumber → 2 ^ 63 ≤ site.sessions.next) }
+        ensures many { IfErr result (λ e. e.0 ≡ creates.BadBound → 1000000 < site.sessions.max_open) }
     {
         if MAX_BOUND < site.max_open() {
             return Err((CreateFailure::BadBound, store));

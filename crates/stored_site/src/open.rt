@@ -1,11 +1,12 @@
 //! Opening the site that a store holds.
 
-ghost use Rattle.std.specs.Prelude.{◌≡◌, ◌≤◌, IfErr, IfOk, OnOk, false};
+ghost use Rattle.std.specs.Prelude.{◌≡◌, ◌<◌, ◌≤◌, IfErr, IfOk, OnOk, false};
 ghost use Rattle.sqlite_trees.specs.Tree.{Trees};
 ghost use Rattle.sqlite_trees.specs.View.{IsClean};
 ghost use Rattle.stored_site.specs.Holds.{AreRowids, IsCommitted, Stored};
-ghost use Rattle.stored_site.specs.SessionRows.{HaveMoments};
+ghost use Rattle.stored_site.specs.SessionRows.{HaveMoments, ListFew};
 ghost use Rattle.stored_site.specs.Opened.{AreGiven, IsLeft, RefusesWhatIsNone};
+ghost use Rattle.stored_site.specs.declared.failure.OpenFailure.TheVariants as opens;
 
 use crate::began_at::BeganAt;
 use crate::create::{MAX_BOUND, has_tables};
@@ -29,7 +30,9 @@ fn read_site<S: Store>(
     ensures party { OnOk result ((site.new.rp ≡ site.old.rp) × (site.new.policy ≡ site.old.policy)
         × (site.new.sessions.max_open ≡ site.old.sessions.max_open)) }
     ensures numbers { OnOk result (AreRowids site.new.sessions × AreGiven site.new.sessions) }
+    ensures few { OnOk result (ListFew site.new.sessions) }
     ensures refused { IfErr result (RefusesWhatIsNone site.old.rp (S.Store.view store.old) (S.Store.view store.new)) }
+    ensures bound { IfErr result (λ e. e ≡ opens.BadBound → ⊥) }
     ensures crash { (db : Trees) → S.Store.recovers store.new db → S.Store.recovers store.old db }
 {
     settle(store)?;
@@ -62,7 +65,9 @@ impl<S: Store> StoredSite<S> {
         ensures left { IfOk result (λ s. IsClean (S.Store.view s.store) → IsLeft (S.Store.view store) (S.Store.view s.store)) }
         ensures numbers { IfOk result (λ s. AreGiven s.site.sessions) }
         ensures moments { IfOk result (λ s. HaveMoments s.site.sessions s.began) }
+        ensures few { IfOk result (λ s. ListFew s.site.sessions) }
         ensures refused { IfErr result (λ e. RefusesWhatIsNone site.rp (S.Store.view store) (S.Store.view e.1) e.0) }
+        ensures many { IfErr result (λ e. e.0 ≡ opens.BadBound → 1000000 < site.sessions.max_open) }
         ensures crash { IfOk result (λ s. (db : Trees) → S.Store.recovers s.store db → S.Store.recovers store db) }
         ensures failed { IfErr result (λ e. (db : Trees) → S.Store.recovers e.1 db → S.Store.recovers store db) }
     {

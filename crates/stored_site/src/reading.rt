@@ -8,9 +8,10 @@ ghost use Rattle.sqlite_trees.specs.declared.store.Shape.TheVariants.{Table};
 ghost use Rattle.verification.specs.Records.{RelyingParty};
 ghost use Rattle.stored_site.specs.Holds.{AreRowids, HasTables, Holds};
 ghost use Rattle.stored_site.specs.Opened.{AreGiven, IsLeft, IsNamed, NoSiteIn};
-ghost use Rattle.stored_site.specs.SessionRows.{HaveMoments};
+ghost use Rattle.stored_site.specs.SessionRows.{HaveMoments, ListFew};
 ghost use Rattle.stored_site.specs.Opening.{HasRows};
 ghost use Rattle.stored_site.specs.Private.{IsSameView};
+ghost use Rattle.stored_site.specs.declared.failure.OpenFailure.TheVariants as opens;
 
 use crate::began_at::BeganAt;
 use crate::failure::OpenFailure;
@@ -52,6 +53,7 @@ fn rows_of<S: Store>(
     requires table { (S.Store.view store.old).shape tree ≡ Table }
     ensures read { IfOk result (λ rows. IsClean (S.Store.view store.new) → rows.items ≡ (S.Store.view store.old).trees tree) }
     ensures many { IfErr result (λ e. IsNamed e → IsClean (S.Store.view store.new) → most ≤ length ((S.Store.view store.old).trees tree)) }
+    ensures bound { IfErr result (λ e. e ≡ opens.BadBound → ⊥) }
     ensures same { OnOk result (IsSameView (S.Store.view store.old) (S.Store.view store.new)) }
     ensures kept { IfErr result (λ e. IsNamed e → IsSameView (S.Store.view store.old) (S.Store.view store.new)) }
     ensures crash { (db : Trees) → S.Store.recovers store.new db → S.Store.recovers store.old db }
@@ -69,6 +71,7 @@ pub fn read_tables<S: Store>(alloc: Global, store: &mut S) -> Result<TableRows, 
     ensures read { IfOk result (λ rows. IsClean (S.Store.view store.new)
         → HasRows (S.Store.view store.old).trees rows.credentials.items rows.sessions.items rows.site.items) }
     ensures none { IfErr result (λ e. IsNamed e → IsClean (S.Store.view store.new) → (rp : RelyingParty) → NoSiteIn rp (S.Store.view store.old).trees) }
+    ensures bound { IfErr result (λ e. e ≡ opens.BadBound → ⊥) }
     ensures same { OnOk result (IsSameView (S.Store.view store.old) (S.Store.view store.new)) }
     ensures kept { IfErr result (λ e. IsNamed e → IsSameView (S.Store.view store.old) (S.Store.view store.new)) }
     ensures crash { (db : Trees) → S.Store.recovers store.new db → S.Store.recovers store.old db }
@@ -97,6 +100,8 @@ pub fn restore_rows(
     ensures numbers { OnOk result (AreRowids site.new.sessions × AreGiven site.new.sessions) }
     ensures none { IfErr result (λ e. IsNamed e → (db : Trees) → HasRows db rows.now.credentials.items rows.now.sessions.items rows.now.site.items
         → NoSiteIn site.old.rp db) }
+    ensures few { OnOk result (ListFew site.new.sessions) }
+    ensures bound { IfErr result (λ e. e ≡ opens.BadBound → ⊥) }
 {
     let next = next_in(alloc, site.rp_id(), &rows.site)?;
     let table = table_of(alloc, site.profile(), &rows.credentials)?;

@@ -1,6 +1,6 @@
 //! A site's parts in the rows of its tables.
 
-ghost use Rattle.std.specs.Prelude.{◌≡◌, ◌≤◌, ◌<◌, ◌+◌, ◌^◌, ℕ, List, [], ◌∷◌, IfErr, IfOk, Some};
+ghost use Rattle.std.specs.Prelude.{◌≡◌, ◌≤◌, ◌<◌, ◌+◌, ◌^◌, ℕ, List, [], ◌∷◌, IfErr, IfOk, OnOk, Some};
 ghost use Rattle.std.specs.FinMap as finite;
 ghost use Rattle.std.specs.Ordering.{nat_cmp};
 ghost use Rattle.std.specs.List.{AllByRecursion};
@@ -11,8 +11,9 @@ ghost use Rattle.credential_table.specs.Views.{rows_view};
 ghost use Rattle.ceremony_sessions.specs.Sessions.{AreLimits, Expected, OpenSessions};
 ghost use Rattle.stored_site.specs.Holds.{AreRowids, site_row};
 ghost use Rattle.stored_site.specs.Rows.{IsStored, credential_rows};
-ghost use Rattle.stored_site.specs.SessionRows.{HaveMoments, IsStoredSession, Moments, session_row, session_rows};
+ghost use Rattle.stored_site.specs.SessionRows.{HaveMoments, IsStoredSession, ListFew, Moments, session_row, session_rows};
 ghost use Rattle.stored_site.specs.Opened.{AreGiven, AreKept, IsNamed};
+ghost use Rattle.stored_site.specs.declared.failure.OpenFailure.TheVariants as opens;
 
 use crate::began_at::BeganAt;
 use crate::credentials::read_credential;
@@ -31,6 +32,7 @@ fn next_of(alloc: Global, rp_id: &str, row: &Row) -> Result<u64, OpenFailure>
     ensures row { IfOk result (λ next. row.now ≡ site_row rp_id.now next) }
     ensures limits { IfOk result (λ next. (1 ≤ next) × (next < 2 ^ 63)) }
     ensures none { IfErr result (λ e. IsNamed e → (next : ℕ) → 1 ≤ next → row.now ≡ site_row rp_id.now next → ⊥) }
+    ensures bound { IfErr result (λ e. e ≡ opens.BadBound → ⊥) }
 {
     let Some(next) = int_at(row, 4) else {
         return Err(OpenFailure::NoSite);
@@ -51,6 +53,7 @@ pub fn next_in(alloc: Global, rp_id: &str, rows: &[Row]) -> Result<u64, OpenFail
     ensures row { IfOk result (λ next. rows.now ≡ site_row rp_id.now next ∷ []) }
     ensures limits { IfOk result (λ next. (1 ≤ next) × (next < 2 ^ 63)) }
     ensures none { IfErr result (λ e. IsNamed e → (next : ℕ) → 1 ≤ next → rows.now ≡ site_row rp_id.now next ∷ [] → ⊥) }
+    ensures bound { IfErr result (λ e. e ≡ opens.BadBound → ⊥) }
 {
     match rows {
         [row] => next_of(alloc, rp_id, row),
@@ -63,6 +66,7 @@ fn credentials_of(alloc: Global, rows: &[Row]) -> Result<Vec<StoredRow>, OpenFai
     ensures rows { IfOk result (λ credentials. rows.now ≡ credential_rows 1 (rows_view credentials.items)) }
     ensures none { IfErr result (λ e. IsNamed e → (profile : IdProfile) (credentials : List Credential) → IsTable profile credentials
         → AllByRecursion IsStored credentials → rows.now ≡ credential_rows 1 credentials → ⊥) }
+    ensures bound { IfErr result (λ e. e ≡ opens.BadBound → ⊥) }
 {
     if 65_536 < rows.len() {
         return Err(OpenFailure::TooMany);
@@ -82,6 +86,7 @@ pub fn table_of(alloc: Global, profile: Profile, rows: &[Row]) -> Result<Table, 
     ensures limits { IfOk result (IsTable profile) }
     ensures none { IfErr result (λ e. IsNamed e → (credentials : List Credential) → IsTable profile credentials → AllByRecursion IsStored credentials
         → rows.now ≡ credential_rows 1 credentials → ⊥) }
+    ensures bound { IfErr result (λ e. e ≡ opens.BadBound → ⊥) }
 {
     let credentials = credentials_of(alloc, rows)?;
     let table = Table::with_profile(alloc, profile, credentials)?;
@@ -101,6 +106,8 @@ fn restore_session(
         × (began.new ≡ finite.insert began.old n m)) }
     ensures none { IfErr result (λ err. IsNamed err → (n m : ℕ) (e : Expected) → row.now ≡ session_row n m e → IsStoredSession e → AreLimits (Some e)
         → least ≤ n → n < sessions.old.next → ⊥) }
+    ensures few { OnOk result (ListFew sessions.old → ListFew sessions.new) }
+    ensures bound { IfErr result (λ e. e ≡ opens.BadBound → ⊥) }
 {
     let (number, moment, session) = read_session(alloc, row)?;
     if number < least {
@@ -127,6 +134,8 @@ pub fn sessions_of(
     ensures moments { IfOk result (λ x. HaveMoments x.0 x.1) }
     ensures none { IfErr result (λ err. IsNamed err → (sessions : OpenSessions) (began : Moments) → sessions.next ≡ next → AreKept sessions
         → rows.now ≡ session_rows sessions.expected began → ⊥) }
+    ensures few { IfOk result (λ x. ListFew x.0) }
+    ensures bound { IfErr result (λ e. e ≡ opens.BadBound → ⊥) }
 {
     let mut sessions = Sessions::new(alloc, next);
     let mut began = BeganAt::new(alloc);

@@ -3,12 +3,13 @@
 ghost use Rattle.std.specs.Prelude.{◌≡◌, ◌<◌, ◌^◌, ◌++◌, ℕ, pos, None, Some, List, IfOk, IfSome, IsErrOf, IsTrue, OnOk, map, option_map};
 ghost use Rattle.std.specs.Prelude.{◌↔◌, ◌≤◌, length};
 ghost use Rattle.std.specs.List.{flat_map};
+ghost use Rattle.std.specs.Option.{ForSome};
 ghost use Rattle.sqlite_value.specs.Order.{column};
 ghost use Rattle.cose.specs.declared.key.Alg.{Alg as Algorithm};
 ghost use Rattle.verification.specs.Records.{ExpectedRegistration, ExpectedSignIn};
 ghost use Rattle.ceremony_sessions.specs.Sessions.{Expected, ForRegistration, ForSignIn};
 ghost use Rattle.ceremony_sessions.specs.Views.{session_view};
-ghost use Rattle.stored_site.specs.SessionRows.{IsStoredSession, number_text, session_row};
+ghost use Rattle.stored_site.specs.SessionRows.{IsStoredSession, ListsFew, number_text, session_row};
 ghost use Rattle.stored_site.specs.Private.{blob_in};
 ghost use Rattle.stored_site.specs.declared.error.RowError.TheVariants as errors;
 
@@ -72,8 +73,9 @@ fn user_in(alloc: Global, row: &Row) -> Result<Option<Vec<u8>>, AllocError>
 
 /// Copies of the ids of the credentials that may answer.
 fn listed_in(alloc: Global, row: &Row) -> Result<Vec<Vec<u8>>, AllocError>
-    ensures { (n m : ℕ) (e : ExpectedSignIn) → length e.allow ≤ 8 → row.now ≡ session_row n m (ForSignIn e)
+    ensures listed { (n m : ℕ) (e : ExpectedSignIn) → length e.allow ≤ 8 → row.now ≡ session_row n m (ForSignIn e)
         → IfOk result (λ v. map (λ id. id.items) v.items ≡ e.allow) }
+    ensures few { IfOk result (λ v. length v.items ≤ 8) }
 {
     let mut allow = Vec::new(alloc);
     for at in 8..16 {
@@ -87,8 +89,9 @@ fn listed_in(alloc: Global, row: &Row) -> Result<Vec<Vec<u8>>, AllocError>
 
 /// The session for sign-in that a row seems to be.
 fn seen_sign_in(alloc: Global, row: &Row) -> Result<Option<Session>, AllocError>
-    ensures { (n m : ℕ) (e : ExpectedSignIn) → IsStoredSession (ForSignIn e) → row.now ≡ session_row n m (ForSignIn e)
+    ensures seen { (n m : ℕ) (e : ExpectedSignIn) → IsStoredSession (ForSignIn e) → row.now ≡ session_row n m (ForSignIn e)
         → IfOk result (λ s. option_map session_view s ≡ Some (ForSignIn e)) }
+    ensures few { IfOk result (λ s. ForSome (option_map session_view s) ListsFew) }
 {
     let Some(challenge) = challenge_in(row) else {
         return Ok(None);
@@ -106,8 +109,9 @@ fn seen_sign_in(alloc: Global, row: &Row) -> Result<Option<Session>, AllocError>
 
 /// The session for registration that a row seems to be.
 fn seen_registration(alloc: Global, row: &Row) -> Result<Option<Session>, AllocError>
-    ensures { (n m : ℕ) (e : ExpectedRegistration) → IsStoredSession (ForRegistration e) → row.now ≡ session_row n m (ForRegistration e)
+    ensures seen { (n m : ℕ) (e : ExpectedRegistration) → IsStoredSession (ForRegistration e) → row.now ≡ session_row n m (ForRegistration e)
         → IfOk result (λ s. option_map session_view s ≡ Some (ForRegistration e)) }
+    ensures few { IfOk result (λ s. ForSome (option_map session_view s) ListsFew) }
 {
     let Some(challenge) = challenge_in(row) else {
         return Ok(None);
@@ -139,7 +143,8 @@ fn is_for_sign_in(row: &Row) -> bool
 
 /// The session that a row seems to be.
 fn seen(alloc: Global, row: &Row) -> Result<Option<Session>, AllocError>
-    ensures { (n m : ℕ) (e : Expected) → IsStoredSession e → row.now ≡ session_row n m e → IfOk result (λ s. option_map session_view s ≡ Some e) }
+    ensures seen { (n m : ℕ) (e : Expected) → IsStoredSession e → row.now ≡ session_row n m e → IfOk result (λ s. option_map session_view s ≡ Some e) }
+    ensures few { IfOk result (λ s. ForSome (option_map session_view s) ListsFew) }
 {
     if is_for_sign_in(row) {
         seen_sign_in(alloc, row)
@@ -194,6 +199,7 @@ pub fn read_session(alloc: Global, row: &Row) -> Result<(u64, u64, Session), Row
     ensures read { IfOk result (λ x. row.now ≡ session_row x.0 x.1 (session_view x.2)) }
     ensures fits { IfOk result (λ x. x.0 < 2 ^ 63) }
     ensures moment { IfOk result (λ x. x.1 < 2 ^ 63) }
+    ensures few { IfOk result (λ x. ListsFew (session_view x.2)) }
     // It is refused only if it is no session's.
     ensures none { IsErrOf result errors.BadRow → (n m : ℕ) (e : Expected) → IsStoredSession e → row.now ≡ session_row n m e → ⊥ }
 {

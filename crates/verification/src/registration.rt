@@ -232,6 +232,7 @@ impl<'a> RegistrationAttempt<'a> {
         ensures refused { IfErr result (FirstFailing (PassesRegistrationStep (V.valid verifier.now) (judged_without_table self.now)) attestation_steps) }
     {
         let hash = hash(self.response.client_data);
+        // A match, since `?` would hide that the refusal is the callee's.
         let kind = match statement(verifier, object, &credential.key, &hash) {
             Ok(kind) => kind,
             Err(refusal) => return Err(refusal),

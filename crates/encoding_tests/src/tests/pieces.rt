@@ -5,9 +5,9 @@ use std::alloc::{AllocError, Global};
 pub use test_words::{Table, number, part};
 
 /// The names: SHA-256 of "abc" (FIPS 180-4's example); the encoding of an EdDSA key before its x; that of an ES256 key
-/// before its x, and between its x and its y; an RSA key before its modulus of 256 bytes; flags 41, counter 0 and an aaguid of 16 bytes 0; an id of one byte with its
-/// length; an EdDSA key; and the signatures of the bench key of 32 bytes 7, by Python's `hashlib`: of H and 32 bytes 34,
-/// and of these alone.
+/// before its x, and between its x and its y; an RSA key before its modulus of 256 bytes; flags 41, counter 0 and an
+/// aaguid of 16 bytes 0; an id of one byte with its length; an EdDSA key; and the signatures of the bench key of 32 bytes
+/// 7, by Python's `hashlib`: of H and 32 bytes 34, and of these alone.
 const NAMES: Table = "H|ba7816bf8f01cfea414140de5dae2223b00361a396177a9cb410ff61f20015ad
 K|a4010103272006215820
 E|a5010203262001215820

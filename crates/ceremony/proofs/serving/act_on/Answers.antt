@@ -1,5 +1,5 @@
 -- What is owed of `act_on`.
-use Rattle.std.proofs.Common.{sym, refl, subst}
+use Rattle.std.proofs.Common.{refl}
 use Rattle.authenticator.specs.Signing.{no_signature}
 use Rattle.ceremony.proofs.Acting.{decided, expired, if_ok, took, waited}
 use Rattle.ceremony.proofs.serving.act_on.Goals as goal

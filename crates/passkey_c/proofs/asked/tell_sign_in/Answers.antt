@@ -10,7 +10,8 @@ returns-in-Err-clause-refused c =
     let call = c.args.call.now in
     let message = call.assertion.auth_data.now ++ c.hash.result in
     let joined = ap (λ hash. call.assertion.auth_data.now ++ hash) c.hash.ensures in
-    let asks : Asks call.is_registration call (lent_key_view c.in-Ok.key) message call.assertion.signature.now = rw c.requires (c.in-Ok.ensures.found, joined, refl) in
+    let asks : Asks call.is_registration call (lent_key_view c.in-Ok.key) message call.assertion.signature.now =
+    rw c.requires (c.in-Ok.ensures.found, joined, refl) in
     broken call _ _ (record {
       key = c.in-Ok.key;
       auth_data = call.assertion.auth_data;

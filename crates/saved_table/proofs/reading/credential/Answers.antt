@@ -16,4 +16,5 @@ returns-clause-read c =
     credential_found c.args.version (shown c.args.value.now) (shown m.key) m.id.now m.user.now m.sign_count m.eligible m.retired c.in_ok-found.ensures
     c.in_ok-from_slice.field-0.items c.in_ok-from_slice-2.field-0.items c.in_ok-to_key.field-0 c.in-Ok-try_from.sign_count c.is_some.result
     c.in_ok-from_slice.ensures.items c.in_ok-from_slice-2.ensures.items key read.1 small (c.if-not-are_marks.ensures.0 refl)
-    (subst (λ (l : CoseKey). c.args.version < 4 → needs_version_4 m.id.now l ≡ false) (sym c.in_ok-to_key.ensures) (c.if-not-is_early.ensures.0 refl)) c.is_some.ensures
+    (subst (λ (l : CoseKey). c.args.version < 4 → needs_version_4 m.id.now l ≡ false) (sym c.in_ok-to_key.ensures)
+    (c.if-not-is_early.ensures.0 refl)) c.is_some.ensures

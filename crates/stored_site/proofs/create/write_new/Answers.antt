@@ -24,7 +24,8 @@ returns-clause-crash g c db clean r =
     let rows = same_rows _ _ same clean_1 none in
     elim (c.in_ok-write_site.ensures.crash db clean r) [
       | inl before ↦ inl (c.rest.ensures.crash db (c.in_ok-are_empty.ensures.crash db before))
-      | inr now ↦ inr (subst (Holds c.args.site.now finite.empty) (sym now) (holds_new _ _ _ c.requires.no_credential c.requires.no_session c.in_ok-row.ensures.row rows))
+      | inr now ↦ inr (subst (Holds c.args.site.now finite.empty) (sym now)
+        (holds_new _ _ _ c.requires.no_credential c.requires.no_session c.in_ok-row.ensures.row rows))
     ]
 
 pub returns-in_err-write_site-clause-crash : goal.returns-in_err-write_site-clause-crash
@@ -35,5 +36,6 @@ returns-in_err-write_site-clause-crash g c db clean r =
     let rows = same_rows _ _ same clean_1 none in
     elim (c.in_err-write_site.ensures.crash db clean r) [
       | inl before ↦ inl (c.rest.ensures.crash db (c.in_ok-are_empty.ensures.crash db before))
-      | inr now ↦ inr (subst (Holds c.args.site.now finite.empty) (sym now) (holds_new _ _ _ c.requires.no_credential c.requires.no_session c.in_ok-row.ensures.row rows))
+      | inr now ↦ inr (subst (Holds c.args.site.now finite.empty) (sym now)
+        (holds_new _ _ _ c.requires.no_credential c.requires.no_session c.in_ok-row.ensures.row rows))
     ]

@@ -1,9 +1,10 @@
 -- What is owed of `restore_session`.
-use Rattle.std.proofs.Common.{◌≡◌, ap, subst, Err}
+use Rattle.std.proofs.Common.{◌≡◌, ap, subst, sym, Err}
 use Rattle.std.proofs.lemmas.Result.{err_from_is_err_and}
 use Rattle.stored_site.specs.Opened.{IsNamed}
 use Rattle.stored_site.specs.Opening.{of_row}
-use Rattle.stored_site.proofs.Opening.{bad_row, exit}
+use Rattle.stored_site.specs.SessionRows.{ListFew}
+use Rattle.stored_site.proofs.Opening.{bad_row, exit, few_inserted}
 use Rattle.stored_site.proofs.restoring.restore_session.Goals as goal
 
 pub returns-in_err-number-clause-none : goal.returns-in_err-number-clause-none
@@ -12,3 +13,7 @@ returns-in_err-number-clause-none c =
     let same : p.0 ≡ of_row c.in_err-number.field-0.0 = cc in
     exit c.from_residual.result p.0 _ p.1 (λ named n m e is stored limits le given.
     c.in_err-number.ensures.none (ap Err (bad_row c.in_err-number.field-0.0 (subst IsNamed same named))) n m e stored is)
+
+pub returns-clause-few : goal.returns-clause-few
+returns-clause-few c few =
+    subst ListFew (sym c.in_ok-restore.ensures.opened) (few_inserted c.args.sessions.now c.in_ok-number.number _ few c.in_ok-number.ensures.few)

@@ -15,7 +15,9 @@ loop-row-init c =
 pub loop-row-preserved : goal.loop-row-preserved
 loop-row-preserved c =
     one_more_read c.args.rows.now c.loop-row.row-index c.row-item.result c.args.next c.loop-row.least c.in_ok-least.least c.loop-row.sessions
-    c.restore_session.new.sessions c.loop-row.began c.restore_session.new.began c.loop-row-test.true c.row-item.is c.loop-row.invariant c.in_ok-least.ensures.restored
+    c.restore_session.new.sessions c.loop-row.began c.restore_session.new.began c.loop-row-test.true c.row-item.is
+    c.loop-row.invariant c.in_ok-least.ensures.restored
+    c.in_ok-least.ensures.few
 
 pub returns-in_err-least-clause-none : goal.returns-in_err-least-clause-none
 returns-in_err-least-clause-none c =

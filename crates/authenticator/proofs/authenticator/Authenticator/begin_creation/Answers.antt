@@ -42,10 +42,12 @@ returns-in-SelfSigned-clause-done g c =
       refl,
       λ signature reply new low high f.
           allowed c.args.self.now new reply (first_true (creation_order c.args.self.now q c.args.consent c.args.words))
-          (λ out. Creates (only (public alg c.args.words.secret) (auth ++ q.client_data_hash) signature) public c.args.self.now q c.args.consent c.args.words out)
+          (λ out. Creates (only (public alg c.args.words.secret) (auth ++ q.client_data_hash) signature)
+          public c.args.self.now q c.args.consent c.args.words out)
           c.in-Ok.ensures.0
           (creates_packed public c.args.self.now new q c.args.consent c.args.words alg auth signature reply
           (sym (ap (λ (s : AuthenticatorState). s.attest) c.self.view_is) ∙ c.in-SelfSigned.is) c.in-Ok.ensures.1
-          (subst (λ (k : CoseKey). AuthOf Strict (creation_data c.args.self.now q c.args.words.id k) auth) c.public-key.ensures c.in_ok-auth_data.ensures.spelled)
+          (subst (λ (k : CoseKey). AuthOf Strict (creation_data c.args.self.now q c.args.words.id k) auth)
+          c.public-key.ensures c.in_ok-auth_data.ensures.spelled)
           (g.met.K.PublicKeys.keeps_alg c.args.keys.now alg c.args.words.secret) low high f.0 f.1),
     )

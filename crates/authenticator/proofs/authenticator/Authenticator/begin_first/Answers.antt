@@ -25,6 +25,7 @@ returns-clause-done c = λ public.
           (λ out. FirstAnswers (only (key_of public held) (c.in_ok-auth_data.auth_data.items ++ asked.client_data_hash) signature) public c.args.self.now
           (c.args.candidates.first ∷ later) asked out)
           (past _ 0x7F [] None (not_at_end c.args.candidates.first c.args.self.now.credentials held c.in-Some.ensures.0 c.in-Some.ensures.1) refl)
-          (answers public c.args.self.now new held c.args.candidates.first asked later assertion_reply (number_with later) c.in_ok-auth_data.auth_data.items signature
+          (answers public c.args.self.now new held c.args.candidates.first asked later assertion_reply (number_with later)
+          c.in_ok-auth_data.auth_data.items signature
           reply c.in-Some.ensures.0 c.in-Some.ensures.1 c.in_ok-auth_data.ensures.spelled low high f),
     )

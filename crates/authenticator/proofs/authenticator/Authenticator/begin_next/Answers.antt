@@ -39,7 +39,8 @@ returns-clause-done c = λ public.
           (next_goes c.args.self.now c.args.channel r c.in-Some.ensures
           (not_at_end r.next c.args.self.now.credentials held c.in-Some-countable.ensures.0 c.in-Some-countable.ensures.1))
           (subst (λ (o : Option Remembered). Comes
-          (λ out. NextAnswers (only (key_of public held) (auth ++ c.in_ok-client_data_hash.client_data_hash.items) signature) public c.args.self.now o out) reply
+          (λ out. NextAnswers (only (key_of public held) (auth ++ c.in_ok-client_data_hash.client_data_hash.items) signature)
+          public c.args.self.now o out) reply
           new) c.in-Some.ensures
           (rw hash (answers public c.args.self.now new held r.next r.asked r.later next_reply None auth signature reply
           c.in-Some-countable.ensures.0 c.in-Some-countable.ensures.1 c.in_ok-auth_data.ensures.spelled low high (f r is)))),

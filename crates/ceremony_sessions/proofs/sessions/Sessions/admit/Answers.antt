@@ -1,6 +1,5 @@
 -- What is owed of `Sessions::admit`.
 use Rattle.std.proofs.Common.{◌<◌, arith, refl, rules, sym, subst}
-use Rattle.std.specs.FinMap as finite
 use Rattle.refusal_order.proofs.Laws.{first_at}
 use Rattle.ceremony_sessions.proofs.sessions.Sessions.admit.Goals as goal
 

@@ -17,4 +17,5 @@ returns-clause-told c =
 
 pub returns-clause-closed : goal.returns-clause-closed
 returns-clause-closed c =
-    rw (← c.self.view_is) (ap (open_with c.self.inside.max_open c.self.inside.next) (closed c.self.inside.by_number c.remove.new.self c.args.session c.remove.ensures.updates.0))
+    rw (← c.self.view_is) (ap (open_with c.self.inside.max_open c.self.inside.next)
+    (closed c.self.inside.by_number c.remove.new.self c.args.session c.remove.ensures.updates.0))

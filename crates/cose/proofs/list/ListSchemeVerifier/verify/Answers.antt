@@ -9,6 +9,7 @@ use Rattle.cose.proofs.list.ListSchemeVerifier.verify.Goals as goal
 pub returns : goal.returns
 returns c = (
   λ h. search rules,
-  λ h. absurd (none_found entry_triple c.deref-entry-items.result.now c.loop-entry.entry-index (lent_key_view c.args.key.now, joined c.args.parts, c.args.sig.now)
+  λ h. absurd (none_found entry_triple c.deref-entry-items.result.now c.loop-entry.entry-index
+      (lent_key_view c.args.key.now, joined c.args.parts, c.args.sig.now)
       (search rules) c.loop-entry.invariant (rw (c.deref-entry-items.ensures.value, c.self.view_is) h)),
 )

@@ -6,4 +6,5 @@ use Rattle.cose.specs.declared.list.Entry.{Entry}
 use Rattle.cose.proofs.list.ListSchemeVerifier.verify.Given as goal
 
 abbrev pub invariant-loop-entry : goal.invariant-loop-entry
-invariant-loop-entry l = (k : ℕ) (d : Entry) → k < l.entry-index → entry_triple (slice_index_or l.entry-items k d) ≢ (lent_key_view l.key, l.first ++ l.second, l.sig)
+invariant-loop-entry l = (k : ℕ) (d : Entry) → k < l.entry-index
+    → entry_triple (slice_index_or l.entry-items k d) ≢ (lent_key_view l.key, l.first ++ l.second, l.sig)

@@ -16,7 +16,8 @@ begin-requires-clause-there g c =
 
 pub returns-clause-moments : goal.returns-clause-moments
 returns-clause-moments g c =
-    rw (← c.self.view_is) (c.in_ok-begin.ensures.moments ∙ ap (λ n. finite.insert c.self.inside.stored.began n c.args.began_at) c.in_ok-started.ensures.started.0)
+    rw (← c.self.view_is) (c.in_ok-begin.ensures.moments ∙ ap (λ n. finite.insert c.self.inside.stored.began n c.args.began_at)
+    c.in_ok-started.ensures.started.0)
 
 pub invariant_of-self-in_err-begin : goal.invariant_of-self-in_err-begin
 invariant_of-self-in_err-begin g c =

@@ -15,7 +15,8 @@ pub invariant_of-self-2 : goal.invariant_of-self-2
 invariant_of-self-2 g c =
     let yes : c.retire.result ≡ true = search rules in
     let after = c.retire.ensures.after yes in (
-      λ shut clean. c.in_ok-store_credential.ensures.stored c.self.inside.site c.self.inside.stored.began (changes_retired c.self.inside.site c.retire.new.self c.args.id.now after)
+      λ shut clean. c.in_ok-store_credential.ensures.stored c.self.inside.site c.self.inside.stored.began
+          (changes_retired c.self.inside.site c.retire.new.self c.args.id.now after)
           (c.self.invariant.0 c.if-self.false) clean,
       subst (λ t. AreRowids t.sessions) (sym after) c.self.invariant.1,
       λ shut. subst (λ (t : SiteState). HaveMoments t.sessions c.self.inside.stored.began) (sym after) (c.self.invariant.2 c.if-self.false),
