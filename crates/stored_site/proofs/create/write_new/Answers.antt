@@ -25,7 +25,7 @@ returns-clause-crash g c db clean r =
     elim (c.in_ok-write_site.ensures.crash db clean r) [
       | inl before ↦ inl (c.rest.ensures.crash db (c.in_ok-are_empty.ensures.crash db before))
       | inr now ↦ inr (subst (Holds c.args.site.now finite.empty) (sym now)
-        (holds_new _ _ _ c.requires.no_credential c.requires.no_session c.in_ok-row.ensures.row rows))
+          (holds_new _ _ _ c.requires.no_credential c.requires.no_session c.in_ok-row.ensures.row rows))
     ]
 
 pub returns-in_err-write_site-clause-crash : goal.returns-in_err-write_site-clause-crash
@@ -37,5 +37,5 @@ returns-in_err-write_site-clause-crash g c db clean r =
     elim (c.in_err-write_site.ensures.crash db clean r) [
       | inl before ↦ inl (c.rest.ensures.crash db (c.in_ok-are_empty.ensures.crash db before))
       | inr now ↦ inr (subst (Holds c.args.site.now finite.empty) (sym now)
-        (holds_new _ _ _ c.requires.no_credential c.requires.no_session c.in_ok-row.ensures.row rows))
+          (holds_new _ _ _ c.requires.no_credential c.requires.no_session c.in_ok-row.ensures.row rows))
     ]

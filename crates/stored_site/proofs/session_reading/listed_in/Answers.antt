@@ -15,13 +15,13 @@ returns-in_default-clause-listed c n m e le is =
 pub loop-at-preserved : goal.loop-at-preserved
 loop-at-preserved c = (
   λ n m e is.
-    let given : Some c.in-Some.id.now ≡ slice_get e.allow (c.loop-at.at - 8) =
-    c.in-Some.ensures ∙ ap (λ r. blob_in (column r c.loop-at.at)) is ∙ listed_in_column n m e c.loop-at.at c.loop-at.auto.at c.loop-at-test.true in
-    let next : (c.loop-at.at + 1) - 8 ≡ (c.loop-at.at - 8) + 1 = omega (arith, c.loop-at.auto.at) in
-    ap (map (λ id. id.items)) c.in_ok-push.ensures.items
-    ∙ one_more_id c.loop-at.allow.items c.in_ok-from_slice.field-0 (take (c.loop-at.at - 8) e.allow) c.in-Some.id.now (c.loop-at.invariant.0 n m e is)
-    c.in_ok-from_slice.ensures.items
-    ∙ sym (one_more_taken e.allow (c.loop-at.at - 8) c.in-Some.id.now given) ∙ ap (λ k. take k e.allow) (sym next),
+      let given : Some c.in-Some.id.now ≡ slice_get e.allow (c.loop-at.at - 8) =
+      c.in-Some.ensures ∙ ap (λ r. blob_in (column r c.loop-at.at)) is ∙ listed_in_column n m e c.loop-at.at c.loop-at.auto.at c.loop-at-test.true in
+      let next : (c.loop-at.at + 1) - 8 ≡ (c.loop-at.at - 8) + 1 = omega (arith, c.loop-at.auto.at) in
+      ap (map (λ id. id.items)) c.in_ok-push.ensures.items
+      ∙ one_more_id c.loop-at.allow.items c.in_ok-from_slice.field-0 (take (c.loop-at.at - 8) e.allow) c.in-Some.id.now (c.loop-at.invariant.0 n m e is)
+      c.in_ok-from_slice.ensures.items
+      ∙ sym (one_more_taken e.allow (c.loop-at.at - 8) c.in-Some.id.now given) ∙ ap (λ k. take k e.allow) (sym next),
   one_longer c.loop-at.allow.items c.push.new.self.items c.in_ok-from_slice.field-0 c.loop-at.at c.in_ok-push.ensures.items c.loop-at.invariant.1,
 )
 
