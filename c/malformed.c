@@ -1,4 +1,4 @@
-/* The malformed responses of crates/site_tests/src/tests/malformed.rt, from C: ./malformed FILE. Each is answered by the
+/* The malformed responses of tests/site_tests/malformed.rt.txt, from C: ./malformed FILE. Each is answered by the
  * step that the line says. Prints how often each step refused, and fails where one answer is another. */
 #include "passkey.h"
 

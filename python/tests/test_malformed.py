@@ -1,4 +1,4 @@
-"""The malformed responses of crates/site_tests/src/tests/malformed.rt, from Python: each is refused by the step that the
+"""The malformed responses of tests/site_tests/malformed.rt.txt, from Python: each is refused by the step that the
 line says, as by C and by Rattle."""
 import itertools
 import os
@@ -8,7 +8,7 @@ import pytest
 
 from garvoeng import EDDSA, ES256, Credential, Refused, RegistrationSession, Server, SignInSession
 
-FILE = Path(os.environ.get("MALFORMED", Path(__file__).parents[2] / "crates/site_tests/src/tests/malformed.rt"))
+FILE = Path(os.environ.get("MALFORMED", Path(__file__).parents[2] / "tests/site_tests/malformed.rt.txt"))
 TABLE = FILE.read_text().split('r#"')[1].split('"#')[0]
 LINES = [line.split("|") for line in TABLE.splitlines()]
 CHALLENGE = bytes(7) + b"\x01" + bytes(24)
