@@ -1,16 +1,16 @@
 -- What each call keeps of a site that a store holds.
-use Rattle.std.proofs.Common.{◌≡◌, ◌⊎◌, ◌+◌, ◌-◌, ◌≤◌, ◌<◌, ◌^◌, ℕ, Bool, true, false, Option, Some, None, List, [], ◌∷◌, ◌++◌}
-use Rattle.std.proofs.Common.{filter, length, inl, inr, refl, sym, ap, subst, ◌∙◌, arith, Ordering, Less, Equal, Greater}
+use Rattle.std.proofs.Common.{◌≡◌, ◌+◌, ◌-◌, ◌≤◌, ◌<◌, ◌^◌, ℕ, Bool, true, false, Option, Some, None, List, [], ◌∷◌, ◌++◌}
+use Rattle.std.proofs.Common.{filter, length, inl, inr, refl, sym, ap, subst, ◌∙◌, arith}
 use Rattle.std.specs.Prelude.{IfSome, ◌&&◌, cond, is_some, not, nat_lt, if◌then◌else◌}
 use Rattle.std.proofs.lemmas.Grind.{common_steps}
 use Rattle.std.proofs.lemmas.List.{length-append}
 use Rattle.std.proofs.lemmas.Option.{same_Some}
 use Rattle.std.specs.FinMap as finite
-use Rattle.std.specs.FinMap.{contains_key-keys, get-empty, get-insert, get-remove, len-empty, len-insert, len-remove, nat_cmp-IsAntisymmetric}
+use Rattle.std.specs.FinMap.{contains_key-keys, get-empty, get-insert, get-remove, len-empty, len-insert, len-remove}
 use Rattle.std.specs.Cmp.{nat_cmp_total}
 use Rattle.std.specs.Int.{w64, to_be_bytes}
 use Rattle.std.specs.List.{AllByRecursion}
-use Rattle.std.specs.Ordering.{nat_cmp, eq_by_cmp, is_eq}
+use Rattle.std.specs.Ordering.{nat_cmp, eq_by_cmp}
 use Rattle.std.specs.Str.{bytes_eq}
 use Rattle.hidframe.specs.declared.Packet.{Packet}
 use Rattle.sqlite_trees.specs.Tree.{Trees}
@@ -42,6 +42,7 @@ use Rattle.stored_site.proofs.Ages.{have_inserted, have_removed}
 use Rattle.stored_site.proofs.Kept.{in_walk, older_there}
 use Rattle.stored_site.proofs.New.{moments_none}
 use Rattle.stored_site.proofs.OneSite.{one_site}
+use Rattle.stored_site.proofs.Opening.{one_entry}
 use Rattle.stored_site.proofs.Replies.{of_reply}
 use Rattle.stored_site.proofs.Transactions.{moments_older, without, without_older}
 
@@ -66,16 +67,6 @@ one_less false l k e = omega (arith, e)
 one_added : (b : Bool) (l k : ℕ) → l ≡ cond b k (k + 1) → l ≤ k + 1
 one_added true l k e = omega (arith, e)
 one_added false l k e = omega (arith, e)
-
--- of a map with one more entry each is that one, or was there
-one_entry : {X : Type 0} (m : finite.FinMap nat_cmp X) (n k : ℕ) (v x : X) → finite.get (finite.insert m n v) k ≡ Some x
-    → ((k ≡ n) × (v ≡ x)) ⊎ (finite.get m k ≡ Some x)
-one_entry m n k v x found = go (nat_cmp k n) refl (sym (get-insert nat_cmp_total m n v k) ∙ found)
-  where
-    go : (o : Ordering) → nat_cmp k n ≡ o → cond (is_eq (nat_cmp k n)) (Some v) (finite.get m k) ≡ Some x → ((k ≡ n) × (v ≡ x)) ⊎ (finite.get m k ≡ Some x)
-    go Less t is = inr (subst (λ o. cond (is_eq o) (Some v) (finite.get m k) ≡ Some x) t is)
-    go Equal t is = inl (nat_cmp-IsAntisymmetric k n t, same_Some v x (subst (λ o. cond (is_eq o) (Some v) (finite.get m k) ≡ Some x) t is))
-    go Greater t is = inr (subst (λ o. cond (is_eq o) (Some v) (finite.get m k) ≡ Some x) t is)
 
 -- ---- sessions
 

@@ -1,5 +1,5 @@
 -- What an open reads of a store, and what it refuses.
-use Rattle.std.proofs.Common.{◌≡◌, ◌≤◌, ℕ, length, refl, sym, ap, subst, ◌∙◌, arith, Less, Equal, Greater, Ordering}
+use Rattle.std.proofs.Common.{◌≡◌, ◌≤◌, ◌⊎◌, ℕ, length, inl, inr, refl, sym, ap, subst, ◌∙◌, arith, Less, Equal, Greater, Ordering}
 use Rattle.std.specs.Prelude.{Result, Err, IfErr, Bool, true, false, cond, Some, IsSome, IsTrue}
 use Rattle.std.specs.FinMap as finite
 use Rattle.std.specs.FinMap.{get-insert, nat_cmp-IsAntisymmetric}
@@ -49,6 +49,16 @@ limits_alike m n a b (ForSignIn d) (ForRegistration e) is limits =
     let lengths : 7 ≡ 12 = ap (λ r. length (bytes (column r 2))) is in absurd (omega (arith, lengths))
 limits_alike m n a b (ForRegistration d) (ForRegistration e) is limits = subst (IsWithin 64) (blob_once d.user e.user (ap (λ r. column r 4) is)) limits
 
+-- of a map with one more entry each is that one, or was there
+pub one_entry : {X : Type 0} (m : finite.FinMap nat_cmp X) (n k : ℕ) (v x : X) → finite.get (finite.insert m n v) k ≡ Some x
+    → ((k ≡ n) × (v ≡ x)) ⊎ (finite.get m k ≡ Some x)
+one_entry m n k v x found = go (nat_cmp k n) refl (sym (get-insert nat_cmp_total m n v k) ∙ found)
+  where
+    go : (o : Ordering) → nat_cmp k n ≡ o → cond (is_eq (nat_cmp k n)) (Some v) (finite.get m k) ≡ Some x → ((k ≡ n) × (v ≡ x)) ⊎ (finite.get m k ≡ Some x)
+    go Less t is = inr (subst (λ o. cond (is_eq o) (Some v) (finite.get m k) ≡ Some x) t is)
+    go Equal t is = inl (nat_cmp-IsAntisymmetric k n t, same_Some v x (subst (λ o. cond (is_eq o) (Some v) (finite.get m k) ≡ Some x) t is))
+    go Greater t is = inr (subst (λ o. cond (is_eq o) (Some v) (finite.get m k) ≡ Some x) t is)
+
 -- what holds of each open number holds with one that is opened
 pub inserted : (P : ℕ → Type 0) (m : finite.FinMap nat_cmp Expected) (n : ℕ) (e : Expected) → ((k : ℕ) → IsSome (finite.get m k) → P k) → P n
     → (k : ℕ) → IsSome (finite.get (finite.insert m n e) k) → P k
@@ -61,11 +71,10 @@ inserted P m n e all here k some = go (nat_cmp k n) refl (subst IsSome (get-inse
 
 -- no session lists more credentials than a row has columns for, where the one that is opened does not
 pub few_inserted : (s : OpenSessions) (n : ℕ) (e : Expected) → ListFew s → ListsFew e → ListFew (record s { expected = finite.insert s.expected n e })
-few_inserted s n e few here k f found = go (is_eq (nat_cmp k n)) (sym (get-insert nat_cmp_total s.expected n e k) ∙ found)
-  where
-    go : (same : Bool) → cond same (Some e) (finite.get s.expected k) ≡ Some f → ListsFew f
-    go true is = subst ListsFew (same_Some _ _ is) here
-    go false is = few k f is
+few_inserted s n e few here k f found = elim (one_entry s.expected n k e f found) [
+  | inl same ↦ subst ListsFew same.1 here
+  | inr there ↦ few k f there
+]
 
 -- ---- more rows than a site has
 
