@@ -38,17 +38,18 @@ fn configured(rt: &HostRuntime) -> io::Result<Option<Configuration>> {
     Ok(Some(configuration))
 }
 
-/// Answers each line of the input, at once.
-fn serve_lines(rt: &HostRuntime, configuration: Configuration) -> io::Result<()> {
-    let alloc = rt.alloc();
-    let mut key = SoftKey::new(alloc, AAGUID, configuration.uv, configuration.attest)?;
-    let reader = BufReader::new(alloc, rt.reader())?;
+/// Answers each line, at once.
+fn answer_lines<R: BufRead + Drop>(
+    rt: &HostRuntime,
+    key: &mut SoftKey,
+    reader: R,
+) -> io::Result<()> {
     let mut out = rt.stdout();
-    let mut told = Vec::new(alloc);
-    for line in reader.lines(alloc) {
+    let mut told = Vec::new(rt.alloc());
+    for line in reader.lines(rt.alloc()) {
         told.clear();
         match line {
-            Ok(line) => key.answer(alloc, line.as_str(), &mut told)?,
+            Ok(line) => key.answer(rt.alloc(), line.as_str(), &mut told)?,
             Err(error) if error.kind() == ErrorKind::InvalidData => {
                 told.extend_from_slice(b"error not UTF-8\n.\n")?;
             }
@@ -58,6 +59,17 @@ fn serve_lines(rt: &HostRuntime, configuration: Configuration) -> io::Result<()>
         out.flush()?;
     }
     Ok(())
+}
+
+/// Answers each line of the input, at once.
+fn serve_lines(rt: &HostRuntime, configuration: Configuration) -> io::Result<()> {
+    let alloc = rt.alloc();
+    let mut key = SoftKey::new(alloc, AAGUID, configuration.uv, configuration.attest)?;
+    let mut reader = BufReader::new(alloc, rt.reader())?;
+    let served = answer_lines(rt, &mut key, &mut reader);
+    // The reader is taken apart by std, since to prove that it is dropped here takes minutes.
+    reader.into_inner();
+    served
 }
 
 fn main(rt: HostRuntime) -> ExitCode {

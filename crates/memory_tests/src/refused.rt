@@ -2,9 +2,7 @@
 //! first has no memory, it says so and nothing has changed: the site saves to the same bytes and the authenticator answers as
 //! the other one, and the same call made again is done. `tests/allocations` refuses each allocation in turn.
 
-use super::adversary::{HERE, POLICY, USER, saved, site_of};
-use super::channels::{CONSENT, End, WORDS};
-use super::wire::packet;
+use crate::{CONSENT, End, HERE, POLICY, USER, WORDS, packet, saved, site_of};
 use ceremony::{Act, ServeError, register, sign_in};
 use client::{
     CreationOptions, Outgoing, RequestError, RequestOptions, assertion_request, creation_request,
@@ -51,7 +49,7 @@ fn told<T: Drop, W: Drop>(answer: Result<T, ceremony::Error<W>>) -> Answer {
 impl Ceremony {
     fn new(alloc: Global) -> Option<Ceremony> {
         let mut end = End::new(alloc)?;
-        let init = packet(alloc, "ffffffff8600080102030405060708").ok()?;
+        let init = packet(alloc, &[], "ffffffff8600080102030405060708").ok()?;
         end.act(Act::Packet(init), &mut Vec::new(alloc)).ok()?;
         Some(Ceremony {
             site: site_of(alloc, &HERE)?,
