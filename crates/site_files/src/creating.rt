@@ -14,28 +14,39 @@ use sqlite::{Alter, Connection, FileFrom, FileStore, Start};
 use std::alloc::Global;
 use stored_site::{MAX_BOUND, StoredSite};
 
-/// Makes a file with the tables of a site, which have no row.
-fn new_file<S: Start>(
-    rt: &HostRuntime,
-    path: &str,
-    start: S,
-) -> Result<FileStore<FileFrom<S>>, FileError> {
-    let mut conn = match Connection::open_from(rt, path, false, start) {
-        Ok(conn) => conn,
-        Err((e, _)) => return Err(e.into()),
-    };
+/// The store of a new file, with the tables of a site.
+fn with_tables<S: Alter + Drop>(alloc: Global, mut conn: Connection<S>) -> Result<S, FileError> {
     make_tables(&mut conn)?;
-    let mut store = conn.into_store();
-    if !lists_tables(rt.alloc(), &store)? {
-        return Err(FileError::OtherTables);
+    let store = conn.into_store();
+    if lists_tables(alloc, &store)? {
+        Ok(store)
+    } else {
+        Err(FileError::OtherTables)
     }
-    // From now on the file begins as a SQLite file does, which `open` asks.
+}
+
+/// The same store, whose file begins from now on as a SQLite file does, which `open` asks.
+fn written<S: Start>(
+    mut store: FileStore<FileFrom<S>>,
+) -> Result<FileStore<FileFrom<S>>, FileError> {
     match store.checkpoint() {
         Ok(()) => Ok(store),
         Err(e) => {
             drop(store.close());
             Err(e.into())
         }
+    }
+}
+
+/// Makes a file with the tables of a site, which have no row.
+fn new_file<S: Start>(
+    rt: &HostRuntime,
+    path: &str,
+    start: S,
+) -> Result<FileStore<FileFrom<S>>, FileError> {
+    match Connection::open_from(rt, path, false, start) {
+        Ok(conn) => written(with_tables(rt.alloc(), conn)?),
+        Err((e, _)) => Err(e.into()),
     }
 }
 
@@ -56,6 +67,25 @@ fn site_over<S: Alter + Drop>(
     }
 }
 
+/// The store of a new file for a site, where the site fits one and nothing stands at the path.
+fn store_for<S: Start>(
+    rt: &HostRuntime,
+    path: &str,
+    site: &Site,
+    start: S,
+) -> Result<FileStore<FileFrom<S>>, FileError> {
+    if MAX_BOUND < site.max_open() {
+        return Err(FileError::BadBound);
+    }
+    if site.next_session() >= 9_223_372_036_854_775_808 {
+        return Err(FileError::BadNumber);
+    }
+    if !is_free(rt, path)? {
+        return Err(FileError::Exists);
+    }
+    new_file(rt, path, start)
+}
+
 /// Makes a site's file at a path, and its log beside it (the path and `-wal`). A program passes `Unknown` as `start`, which
 /// stands for what the files held.
 ///
@@ -74,15 +104,6 @@ pub fn create<S: Start>(
     ensures made { IfOk result (λ s. (s.site ≡ site) × (s.began ≡ finite.empty) × (s.is_shut ≡ false)) }
     ensures stored { IfOk result (Stored view) }
 {
-    if MAX_BOUND < site.max_open() {
-        return Err(FileError::BadBound);
-    }
-    if site.next_session() >= 9_223_372_036_854_775_808 {
-        return Err(FileError::BadNumber);
-    }
-    if !is_free(rt, path)? {
-        return Err(FileError::Exists);
-    }
-    let store = new_file(rt, path, start)?;
+    let store = store_for(rt, path, &site, start)?;
     site_over(rt.alloc(), site, store)
 }

@@ -87,6 +87,14 @@ fn carried_out<S: Store>(
     }
 }
 
+/// An answer whose line is written.
+fn told(answer: Answer, written: Result<(), AllocError>) -> Result<Answer, AllocError>
+    ensures { IfOk result (λ a. a ≡ answer) }
+{
+    written?;
+    Ok(answer)
+}
+
 /// Answers a line, at this second of the host's clock: what is appended is one line, with its end.
 ///
 /// Where there is no memory for the answer's text, what the line asked for may be done; where there is none to read the line
@@ -106,6 +114,6 @@ pub fn answer_line<S: Store>(
 {
     let read = read_line(alloc, line);
     let (id, answer) = carried_out(alloc, site, words, now, read);
-    write_answer(alloc, site.site(), rp_name, id, &answer, out)?;
-    Ok(answer)
+    let written = write_answer(alloc, site.site(), rp_name, id, &answer, out);
+    told(answer, written)
 }

@@ -1,6 +1,6 @@
 -- What stays of a security key from line to line.
-use Rattle.std.proofs.Common.{◌≡◌, ◌≤◌, ℕ, List, [], ◌∷◌, ◌++◌, Option, Some, None, length, refl, sym, ◌∙◌, ap, subst}
-use Rattle.std.specs.Prelude.{IfSome, Result, Ok, Err, OnOk}
+use Rattle.std.proofs.Common.{◌≡◌, ◌≤◌, ℕ, List, [], ◌++◌, Option, Some, None, length, refl, sym, ◌∙◌, ap, subst}
+use Rattle.std.specs.Prelude.{IfSome}
 use Rattle.hidframe.specs.declared.Packet.{Packet}
 use Rattle.hidlink.specs.History.{DeviceCall, Leaves}
 use Rattle.hidlink.specs.Ranks.{DeviceState, TransactionState, Idle, Receiving, Working, IsWorking}
@@ -8,11 +8,9 @@ use Rattle.hidlink.specs.Told.{work}
 use Rattle.authenticator.specs.State.{AuthenticatorState}
 use Rattle.authenticator.specs.Signing.{message_of, only}
 use Rattle.authenticator.specs.Steps.{Keys}
-use Rattle.authenticator.specs.declared.consent.Consent.{Consent}
-use Rattle.authenticator.specs.declared.consent.Words.{Words}
 use Rattle.authenticator.specs.declared.pending.Pending.{Pending}
 use Rattle.ceremony.proofs.Acting.{signed_by}
-use Rattle.ceremony.specs.Serving.{AsksToSign, BeginsServing, Done, FinishesServing, GoesOn, IsDecided, IsDone}
+use Rattle.ceremony.specs.Serving.{AsksToSign, BeginsServing, Done, FinishesServing, GoesOn, IsDone}
 use Rattle.ceremony.specs.declared.serving.Act.{Act}
 use Rattle.ceremony.specs.declared.serving.Act.TheVariants as act
 use Rattle.ceremony.specs.declared.serving.Served.TheVariants as served

@@ -1,5 +1,5 @@
 -- What is owed of `SoftKey::act`.
-use Rattle.std.proofs.Common.{◌∙◌, Option, sym, ap, refl}
+use Rattle.std.proofs.Common.{◌∙◌, Option, ap, refl}
 use Rattle.authenticator.specs.Handed.{handed_key}
 use Rattle.authenticator.specs.Steps.{Keys}
 use Rattle.authenticator.specs.declared.pending.Pending.{Pending}
