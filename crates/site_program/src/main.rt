@@ -32,7 +32,7 @@ fn serve_file(rt: &HostRuntime, options: &Options<'_>) -> Result<(), Fault> {
     let mut site = site_of(rt, options)?;
     let served = serve(rt, options, &mut site);
     close(site)?;
-    Ok(served?)
+    served
 }
 
 /// The status of serving with these options; a fault is told on standard error.

@@ -1,11 +1,12 @@
 //! Serving lines.
 
+use crate::fault::Fault;
 use crate::input::next_line;
 use crate::options::Options;
 use site_lines::{Answer, answer_line, log_line};
 use sqlite_trees::store::Store;
 use std::fs::File;
-use std::io::{self, BufRead, BufReader, Read, Write};
+use std::io::{self, BufReader, Read, Write};
 use std::time::{SystemTime, UNIX_EPOCH};
 use stored_site::StoredSite;
 
@@ -60,34 +61,21 @@ fn answer<S: Store>(
     Ok(())
 }
 
-/// Answers each line, at once, until there is none.
-fn answer_lines<S: Store, R: BufRead>(
+/// Answers each line of the input, at once, until its end.
+pub(crate) fn serve<S: Store>(
     rt: &HostRuntime,
     options: &Options<'_>,
     site: &mut StoredSite<S>,
-    reader: &mut R,
-) -> io::Result<()> {
+) -> Result<(), Fault> {
     let mut random = File::open(rt, "/dev/urandom")?;
+    let mut reader = BufReader::new(rt.alloc(), rt.reader())?;
     let mut line = Vec::new(rt.alloc());
     for _ in 0..u64::MAX {
-        if !next_line(reader, &mut line)? {
+        if !next_line(&mut reader, &mut line)? {
             break;
         }
         let words = random_words(&mut random)?;
         answer(rt, options, site, words, seconds(rt)?, line.as_slice())?;
     }
     Ok(())
-}
-
-/// Answers each line of the input, at once, until its end.
-pub(crate) fn serve<S: Store>(
-    rt: &HostRuntime,
-    options: &Options<'_>,
-    site: &mut StoredSite<S>,
-) -> io::Result<()> {
-    let mut reader = BufReader::new(rt.alloc(), rt.reader())?;
-    let served = answer_lines(rt, options, site, &mut reader);
-    // The reader is taken apart by std, since to prove that it is dropped here takes minutes.
-    reader.into_inner();
-    served
 }
