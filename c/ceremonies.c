@@ -59,23 +59,23 @@ static passkey_verified asked(void)
     passkey_signature_call which = { is_registration, true, enrol.response, call.response, call.credential.key };
     MUST(passkey_signature_asked(&which, message, sizeof message, signature, sizeof signature, &told) == PASSKEY_ACCEPTED);
     MUST(told.is_asked);
-    passkey_verified triple = { lent_key(&told.key), bytes(message, told.message_size),
-                                bytes(signature, told.signature_size) };
-    return triple;
+    passkey_verified signed_by = { lent_key(&told.key), bytes(message, told.message_size),
+                                   bytes(signature, told.signature_size) };
+    return signed_by;
 }
 
-/* Each member of the triple changed: OpenSSL finds it not valid, and handed in nevertheless it is refused. */
-static void refused_with_another(passkey_verified triple, uint32_t step)
+/* Each member of what was verified changed: OpenSSL finds it not valid, and handed in nevertheless it is refused. */
+static void refused_with_another(passkey_verified signed_by, uint32_t step)
 {
     static uint8_t changed[ROOM + 32];
-    passkey_bytes *const members[] = { &triple.key.x, &triple.message, &triple.signature };
+    passkey_bytes *const members[] = { &signed_by.key.x, &signed_by.message, &signed_by.signature };
     for (size_t i = 0; i < 3; i++) {
         const passkey_bytes kept = *members[i];
         memcpy(changed, kept.data, kept.size);
         changed[kept.size - 1] ^= 2; /* an odd modulus stays odd */
         members[i]->data = changed;
-        MUST(!is_valid(&triple));
-        MUST(judged(&triple) == step);
+        MUST(!is_valid(&signed_by));
+        MUST(judged(&signed_by) == step);
         *members[i] = kept;
         refused++;
     }
@@ -85,10 +85,10 @@ static void is_accepted_by_its_signature_alone(uint32_t step)
 {
     MUST(judged(NULL) == step);
     refused++;
-    passkey_verified triple = asked();
-    refused_with_another(triple, step);
-    MUST(is_valid(&triple));
-    MUST(judged(&triple) == PASSKEY_ACCEPTED);
+    passkey_verified signed_by = asked();
+    refused_with_another(signed_by, step);
+    MUST(is_valid(&signed_by));
+    MUST(judged(&signed_by) == PASSKEY_ACCEPTED);
 }
 
 /* user verification, the algorithms, challenge, user, id, attestation object, client data, whether it is attested */

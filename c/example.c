@@ -288,7 +288,7 @@ int main(void)
                         .eligible = credential.eligible },
         .response = device_response(&made),
     };
-    passkey_assertion_out out = { 99, false, false };
+    passkey_assertion_out out = { .sign_count = 99 };
     answer = sign_in(&call, &out);
     show("sign-in", false, answer);
     MUST(answer == PASSKEY_ACCEPTED && out.sign_count == 1);

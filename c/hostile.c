@@ -59,7 +59,7 @@ static uint32_t assertion(const passkey_assertion_call *call)
 {
     passkey_assertion_out out, before;
     memset(&out, 0x5a, sizeof out);
-    out.eligible = out.backed_up = true;
+    out.eligible = out.backed_up = out.user_verified = true;
     before = out;
     uint32_t answer = passkey_assertion(call, &out);
     calls++;
@@ -73,7 +73,7 @@ static uint32_t registration(const passkey_registration_call *call)
     passkey_registration_out *out = malloc(sizeof *out), *before = malloc(sizeof *before);
     MUST(out != NULL && before != NULL);
     memset(out, 0x5a, sizeof *out);
-    out->eligible = true;
+    out->eligible = out->backed_up = out->user_verified = true;
     *before = *out;
     uint32_t answer = passkey_registration(call, out);
     calls++;
@@ -106,7 +106,8 @@ static void asks(const passkey_signature_call *call, size_t size, size_t message
 static passkey_bytes filled(int byte, size_t size)
 {
     passkey_bytes lent = random_bytes(size);
-    memset((uint8_t *)lent.data, byte, size);
+    if (size != 0)
+        memset((uint8_t *)lent.data, byte, size);
     return lent;
 }
 
@@ -147,7 +148,7 @@ static void nothing_at_all(void)
     calls += 6;
 }
 
-/* members behind a clear flag point nowhere */
+/* members after a clear flag point nowhere */
 static void flags_clear(void)
 {
     passkey_assertion_call call;
@@ -341,6 +342,63 @@ static void rooms(void)
     calls += 4;
 }
 
+/* keys as COSE_Key bytes: into a room of each size, back from each front of them, and with a byte changed */
+static void cose_keys(void)
+{
+    passkey_bytes x = filled(7, 32), n = filled(0xc1, 512), e = filled(3, 4), none = { NULL, 0 };
+    const struct {
+        passkey_key key;
+        size_t size;
+    } keys[] = { { { PASSKEY_ES256, x, x }, 77 }, { { PASSKEY_EDDSA, x, nowhere }, 42 }, { { PASSKEY_RS256, n, e }, 529 } };
+    for (size_t i = 0; i < sizeof keys / sizeof *keys; i++) {
+        passkey_bytes bytes = none;
+        for (size_t size = 0; size <= keys[i].size; size++, calls += 2) {
+            drop(bytes);
+            bytes = random_bytes(size);
+            MUST(passkey_key_to_cose(&keys[i].key, (uint8_t *)bytes.data, size) == (size == keys[i].size ? size : 0));
+            passkey_bytes front = random_bytes(size);
+            if (size == keys[i].size)
+                memcpy((uint8_t *)front.data, bytes.data, size);
+            passkey_key_out *out = malloc(sizeof *out);
+            MUST(out != NULL && passkey_key_from_cose(front.data, size, out) == (size == keys[i].size));
+            if (size == keys[i].size)
+                MUST(out->algorithm == keys[i].key.algorithm && out->x_size == keys[i].key.x.size &&
+                     memcmp(out->x, keys[i].key.x.data, out->x_size) == 0 &&
+                     out->y_size == (i == 1 ? 0 : keys[i].key.y.size) &&
+                     memcmp(out->y, i == 1 ? x.data : keys[i].key.y.data, out->y_size) == 0);
+            free(out), drop(front);
+        }
+        for (size_t at = 0; at < 10; at++, calls++) {
+            passkey_key_out out;
+            ((uint8_t *)bytes.data)[at] ^= 0x10;
+            MUST(!passkey_key_from_cose(bytes.data, bytes.size, &out));
+            ((uint8_t *)bytes.data)[at] ^= 0x10;
+        }
+        drop(bytes);
+    }
+    const passkey_key wrong[] = { { -6, x, x }, { PASSKEY_ES256, x, n }, { PASSKEY_EDDSA, n, x }, { PASSKEY_RS256, x, e } };
+    for (size_t i = 0; i < sizeof wrong / sizeof *wrong; i++, calls++) {
+        uint8_t room[529];
+        MUST(passkey_key_to_cose(&wrong[i], room, sizeof room) == 0);
+    }
+    MUST(!passkey_key_from_cose(NULL, 0, &(passkey_key_out){ 0 }));
+    drop(x), drop(n), drop(e);
+}
+
+/* texts in rooms of each size */
+static void texts(void)
+{
+    for (uint32_t answer = 0; answer < 130; answer++)
+        for (size_t size = 0; size <= 128; size++, calls++) {
+            passkey_bytes room = filled(0x5a, size);
+            size_t written = passkey_refusal_text(answer & 1, answer, (uint8_t *)room.data, size);
+            MUST(written <= size);
+            for (size_t i = written; i < size; i++)
+                MUST(room.data[i] == 0x5a);
+            drop(room);
+        }
+}
+
 static void random_responses(unsigned count)
 {
     for (unsigned i = 0; i < count; i++) {
@@ -373,6 +431,8 @@ int main(void)
     verified_keys();
     large();
     rooms();
+    cose_keys();
+    texts();
     random_responses(2000);
     printf("hostile: %u calls\n", calls);
     return 0;

@@ -1,6 +1,6 @@
 /* Want of memory: a registration and a sign-in of which each allocation in turn is refused answer PASSKEY_NO_MEMORY, write
- * nothing and leave nothing behind; with all of them they are accepted. Linked with --wrap=malloc and --wrap=realloc. The
- * site and the device are those of example.c. Prints one line. */
+ * nothing and leave nothing; with all of them they are accepted. A key that is written as COSE_Key bytes is tried in the same
+ * way. Linked with --wrap=malloc and --wrap=realloc. The site and the device are those of example.c. Prints one line. */
 #define main example_main
 #include "example.c"
 #undef main
@@ -44,6 +44,18 @@ static uint32_t assertion(void)
     uint32_t answer = passkey_assertion(&call, &out);
     MUST(answer == 0 || memcmp(&out, &out_before, sizeof out) == 0);
     return answer;
+}
+
+/* The key of the registration as COSE_Key bytes, in a room that is just large enough. */
+static uint32_t cose_key(void)
+{
+    uint8_t room[77];
+    memset(room, 0x5a, sizeof room);
+    passkey_key key = lent_key(&credential.key);
+    size_t size = passkey_key_to_cose(&key, room, sizeof room);
+    for (size_t i = 0; size == 0 && i < sizeof room; i++)
+        MUST(room[i] == 0x5a);
+    return size == sizeof room ? PASSKEY_ACCEPTED : PASSKEY_NO_MEMORY;
 }
 
 /* How many allocations the call makes: with so many it is accepted, and with one fewer it is not. */
@@ -94,8 +106,9 @@ int main(void)
         .verified = { lent_key(&credential.key), bytes(made.message, made.data_size + 32),
                       bytes(made.signature, made.signature_size) },
     };
-    long of_sign_in = refused(assertion);
+    long of_sign_in = refused(assertion), of_key = refused(cose_key);
     EVP_PKEY_free(device_key);
-    printf("memory: each of %ld allocations of a registration and of %ld of a sign-in refused\n", of_registration, of_sign_in);
-    return of_registration > 0 && of_sign_in > 0 ? 0 : 1;
+    printf("memory: each of %ld allocations of a registration, of %ld of a sign-in and of %ld of a key refused\n", of_registration,
+           of_sign_in, of_key);
+    return of_registration > 0 && of_sign_in > 0 && of_key > 0 ? 0 : 1;
 }

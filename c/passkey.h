@@ -12,7 +12,20 @@
  * PASSKEY_REGISTRATION_BAD_STATEMENT; one without attestation takes one call.
  *
  * The calls may be made from several threads at once, and not from a signal handler. They take memory from malloc.
- * A pointer may be null only where its size or count is 0. Texts are not terminated. A bool is 0 or 1.
+ * A pointer may be null only where its size or count is 0. Texts are not terminated.
+ *
+ * A flag that is handed in is a number: 0 is false, and each other number is true. A bool that is told is 0 or 1.
+ * What is told, `out` and the rooms, need not be initialised: nothing of it is read.
+ * What is told may not overlap what is lent or what else is told. This is not tested: where the rooms of
+ * passkey_signature_asked overlap each other or the response, it answers 0 and tells a wrong message or signature.
+ *
+ * Sizes: credential ids and user handles that are handed in are compared, and have no limit here. An id that is told has 1
+ * to 64 bytes, with open_profile 1 to 1,023.
+ * Keys: no test is made that a point lies on its curve, or that a modulus is a product of two primes. The library that
+ * verifies signatures has to refuse such a key.
+ *
+ * PASSKEY_ABI_VERSION, which is also the number in libpasskey.so.3, is another one after each change of a struct, of a
+ * call's parameters, or of what a number means. New calls and new answers leave it as it is.
  */
 #ifndef PASSKEY_H
 #define PASSKEY_H
@@ -25,11 +38,27 @@
 extern "C" {
 #endif
 
-#define PASSKEY_ABI_VERSION 2
+#define PASSKEY_ABI_VERSION 3
 
 #define PASSKEY_ES256 (-7) /* ECDSA over P-256 with SHA-256 */
 #define PASSKEY_EDDSA (-8) /* EdDSA over Ed25519 */
 #define PASSKEY_RS256 (-257) /* RSA with PKCS #1 v1.5 and SHA-256 (RFC 8812) */
+
+/* The flags of authenticator data (WebAuthn Level 2, section 6.1). */
+enum {
+    PASSKEY_FLAG_UP = 0x01, /* the user was present */
+    PASSKEY_FLAG_UV = 0x04, /* the user was verified */
+    PASSKEY_FLAG_BE = 0x08, /* eligible for backup */
+    PASSKEY_FLAG_BS = 0x10, /* backed up now */
+    PASSKEY_FLAG_AT = 0x40, /* a credential is attested */
+    PASSKEY_FLAG_ED = 0x80  /* there are extensions */
+};
+
+/* How a credential is attested. */
+enum {
+    PASSKEY_FORMAT_NONE = 0,       /* not at all (section 8.7) */
+    PASSKEY_FORMAT_PACKED_SELF = 1 /* by a packed statement with a signature of its own key (section 8.2) */
+};
 
 /* Answers. 1 to 16 are the steps, in their order. */
 enum {
@@ -102,7 +131,8 @@ typedef struct passkey_key {
                           big-endian: 1 to 4 bytes, the first not 0, the last odd, at least 3 */
 } passkey_key;
 
-/* A public key that is told: as passkey_key, the first x_size bytes of x and the first y_size bytes of y. */
+/* A public key that is told: as passkey_key, the first x_size bytes of x and the first
+ * y_size bytes of y. */
 typedef struct passkey_key_out {
     int32_t algorithm;
     size_t x_size; /* in bytes */
@@ -116,8 +146,8 @@ typedef struct passkey_party {
     passkey_bytes rp_id; /* UTF-8, as "example.com" */
     const passkey_bytes *origins; /* each UTF-8, as "https://example.com"; compared as texts */
     size_t origin_count;
-    bool open_profile; /* whether extension data, ids of up to 1,023 bytes and the status not-supported of token
-                          binding are taken, as real keys and browsers send them */
+    uint8_t open_profile; /* whether extension data, ids of up to 1,023 bytes and the status not-supported of token
+                             binding are taken, as real keys and browsers send them */
 } passkey_party;
 
 /* A public key, a message and a signature that the host's own library found to be valid. */
@@ -130,9 +160,9 @@ typedef struct passkey_verified {
 /* What a sign-in that has begun expects. */
 typedef struct passkey_sign_in_session {
     passkey_bytes challenge; /* 32 bytes, which no other session has */
-    bool user_verification;  /* UV is required */
-    bool has_user;           /* the account is known beforehand */
-    passkey_bytes user;      /* its user handle; where has_user is false not looked at */
+    uint8_t user_verification; /* UV is required */
+    uint8_t has_user;        /* the account is known beforehand */
+    passkey_bytes user;      /* its user handle; where has_user is 0 not looked at */
     const passkey_bytes *allow; /* the ids of the credentials that may answer; none for any */
     size_t allow_count;
 } passkey_sign_in_session;
@@ -143,30 +173,30 @@ typedef struct passkey_credential {
     passkey_bytes user; /* the user handle */
     passkey_key key;
     uint32_t sign_count; /* the signature counter last received */
-    bool is_eligibility_known;
-    bool eligible; /* for backup (BE); where it is not known not looked at */
-    bool retired;  /* it signs in no more */
+    uint8_t is_eligibility_known;
+    uint8_t eligible;    /* for backup (BE); where it is not known not looked at */
+    uint8_t retired;     /* it signs in no more */
 } passkey_credential;
 
 /* A client's answer to a sign-in. */
 typedef struct passkey_assertion_response {
     passkey_bytes credential; /* rawId */
-    bool has_user;
-    passkey_bytes user;      /* response.userHandle; where has_user is false not looked at */
+    uint8_t has_user;
+    passkey_bytes user;      /* response.userHandle; where has_user is 0 not looked at */
     passkey_bytes auth_data; /* response.authenticatorData */
     passkey_bytes signature; /* response.signature */
     passkey_bytes client_data; /* response.clientDataJSON */
 } passkey_assertion_response;
 
-/* A sign-in to be judged. Where a flag is false, the member behind it is not looked at. */
+/* A sign-in to be judged. Where a flag is 0, the member after it is not looked at. */
 typedef struct passkey_assertion_call {
     passkey_party party;
-    bool has_session; /* a session is open for sign-in */
+    uint8_t has_session; /* a session is open for sign-in */
     passkey_sign_in_session session;
-    bool has_credential; /* a credential was found for the response; one of another id is refused */
+    uint8_t has_credential; /* a credential was found for the response; one of another id is refused */
     passkey_credential credential;
     passkey_assertion_response response;
-    bool has_verified; /* the host verified a signature */
+    uint8_t has_verified; /* the host verified a signature */
     passkey_verified verified;
 } passkey_assertion_call;
 
@@ -175,6 +205,9 @@ typedef struct passkey_assertion_out {
     uint32_t sign_count; /* to be stored in place of the credential's */
     bool eligible;       /* for backup (BE), to be stored where it was not known */
     bool backed_up;      /* now (BS) */
+    bool user_verified;  /* UV */
+    uint8_t flags;       /* of the authenticator data: PASSKEY_FLAG_UP and so on; the reserved ones as they came */
+    size_t extensions_size; /* in bytes: the last ones of response.auth_data are the map of extensions; 0: there is none */
 } passkey_assertion_out;
 
 /* Judges a sign-in: PASSKEY_ACCEPTED, or the first step that is not passed (1 to 16), or a member that is out of its
@@ -185,10 +218,10 @@ uint32_t passkey_assertion(const passkey_assertion_call *call, passkey_assertion
 typedef struct passkey_registration_session {
     passkey_bytes challenge; /* 32 bytes, which no other session has */
     passkey_bytes user;      /* the user handle of the account */
-    bool user_verification;  /* UV is required */
-    bool offers_es256;       /* PASSKEY_ES256 was offered */
-    bool offers_eddsa;       /* PASSKEY_EDDSA was offered */
-    bool offers_rs256;       /* PASSKEY_RS256 was offered */
+    uint8_t user_verification; /* UV is required */
+    uint8_t offers_es256;    /* PASSKEY_ES256 was offered */
+    uint8_t offers_eddsa;    /* PASSKEY_EDDSA was offered */
+    uint8_t offers_rs256;    /* PASSKEY_RS256 was offered */
 } passkey_registration_session;
 
 /* A client's answer to a registration. */
@@ -197,18 +230,18 @@ typedef struct passkey_registration_response {
     passkey_bytes client_data; /* response.clientDataJSON */
 } passkey_registration_response;
 
-/* A registration to be judged. Where a flag is false, the member behind it is not looked at. */
+/* A registration to be judged. Where a flag is 0, the member after it is not looked at. */
 typedef struct passkey_registration_call {
     passkey_party party;
-    bool accept_none; /* no attestation is accepted */
-    bool accept_self; /* self attestation is accepted */
-    bool has_session; /* a session is open for registration */
+    uint8_t accept_none; /* no attestation is accepted */
+    uint8_t accept_self; /* self attestation is accepted */
+    uint8_t has_session; /* a session is open for registration */
     passkey_registration_session session;
     passkey_registration_response response;
-    bool has_free_id;      /* the host looked an id up, and no credential has it, retired or not */
+    uint8_t has_free_id;   /* the host looked an id up, and no credential has it, retired or not */
     passkey_bytes free_id; /* that id: rawId of the answer; each other id counts as registered */
-    bool is_full;          /* there is no room for another credential */
-    bool has_verified;     /* the host verified a signature, of self attestation */
+    uint8_t is_full;       /* there is no room for another credential */
+    uint8_t has_verified;  /* the host verified a signature, of self attestation */
     passkey_verified verified;
 } passkey_registration_call;
 
@@ -218,7 +251,13 @@ typedef struct passkey_registration_out {
     uint8_t id[1023]; /* the first id_size bytes are the credential id */
     passkey_key_out key;
     uint32_t sign_count;
-    bool eligible; /* for backup (BE) */
+    bool eligible;      /* for backup (BE) */
+    bool backed_up;     /* now (BS) */
+    bool user_verified; /* UV */
+    uint8_t flags;      /* of the authenticator data: PASSKEY_FLAG_UP and so on; the reserved ones as they came */
+    uint8_t aaguid[16]; /* the kind of the authenticator, by its own word */
+    uint32_t format;    /* PASSKEY_FORMAT_NONE or PASSKEY_FORMAT_PACKED_SELF */
+    size_t extensions_size; /* in bytes: the last ones of response.object are the map of extensions; 0: there is none */
 } passkey_registration_out;
 
 /* Judges a registration, as passkey_assertion a sign-in. */
@@ -226,8 +265,8 @@ uint32_t passkey_registration(const passkey_registration_call *call, passkey_reg
 
 /* A response whose signature is to be verified. */
 typedef struct passkey_signature_call {
-    bool is_registration;
-    bool open_profile;                          /* of a registration: as party.open_profile */
+    uint8_t is_registration;
+    uint8_t open_profile;                       /* of a registration: as party.open_profile */
     passkey_registration_response registration; /* of a registration */
     passkey_assertion_response assertion;       /* of a sign-in */
     passkey_key key;                            /* of a sign-in: the credential's */
@@ -235,7 +274,7 @@ typedef struct passkey_signature_call {
 
 /* Which signature the host is to verify. */
 typedef struct passkey_signature_out {
-    bool is_asked; /* false: there is nothing to verify, and the other members say nothing */
+    bool is_asked; /* 0: there is nothing to verify, and the other members say nothing */
     passkey_key_out key;
     size_t message_size; /* the first bytes of the room */
     size_t signature_size;
@@ -261,9 +300,19 @@ bool passkey_challenge_text(const uint8_t *challenge, size_t challenge_size, uin
 /* Whether the bytes are one value of canonical CBOR (CTAP 2.1), and no more. */
 bool passkey_is_canonical(const uint8_t *bytes, size_t size);
 
-/* Writes the text of an answer, of a registration or a sign-in, not terminated: how many bytes were written; 0 where
- * the answer has none, the room is too small (128 bytes are enough), or there was no memory. */
-size_t passkey_refusal_text(bool is_registration, uint32_t answer, uint8_t *text, size_t text_room);
+/* Tells the key whose COSE_Key bytes (RFC 9052, section 7) these are, as other libraries store them. False where they are
+ * not those of a key of the three algorithms in canonical CBOR, and then nothing is written. */
+bool passkey_key_from_cose(const uint8_t *bytes, size_t size, passkey_key_out *out);
+
+/* Writes the COSE_Key bytes of a key, and tells how many they are: 77 of PASSKEY_ES256, 42 of PASSKEY_EDDSA, x.size + y.size
+ * + 13 of PASSKEY_RS256. 0 where the key is out of its limits, the room is too small, or there was no memory, and then
+ * nothing is written. */
+size_t passkey_key_to_cose(const passkey_key *key, uint8_t *room, size_t room_size);
+
+/* Writes the text of an answer, of a registration where is_registration is not 0, else of a sign-in, in ASCII, not
+ * terminated: how many bytes were written; 0 where the answer has none or the room is too small (128 bytes are enough),
+ * and then nothing is. */
+size_t passkey_refusal_text(uint32_t is_registration, uint32_t answer, uint8_t *text, size_t text_room);
 
 /* PASSKEY_ABI_VERSION of the library. */
 uint32_t passkey_abi_version(void);

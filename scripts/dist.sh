@@ -1,4 +1,4 @@
-# What dist/ holds of a program that was built here. Sourced by ./test and ./release, after sources.sh.
+# What dist/ holds of a program that was built here. Sourced by ./test and ./dev release, after sources.sh.
 
 # The kit's own tools, by which programs are linked: tool NAME ARGUMENT..
 tool() {

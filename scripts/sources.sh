@@ -1,4 +1,4 @@
-# What a program of this tree is built from, and what is known of one. Sourced by ./passkey, ./test and ./release;
+# What a program of this tree is built from, and what is known of one. Sourced by ./passkey, ./test and ./dev release;
 # $top is the tree.
 
 # The programs that are handed out: the name in dist/, and the crate.

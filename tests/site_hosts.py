@@ -4,6 +4,7 @@ and a failing disk; Node and Go where they are there; a second process on one fi
 moved in and out. The last line is 'N passed, M failed'."""
 import json
 import os
+import random
 import resource
 import shutil
 import signal
@@ -12,13 +13,17 @@ import subprocess
 import sys
 import threading
 import time
+import urllib.error
+import urllib.request
+from collections import Counter
 from pathlib import Path
 
 top = Path(__file__).resolve().parent.parent
 sys.path[:0] = [str(top / "python"), str(top / "python" / "tests")]
 from device import AT, ED, UP, UV, Device, changed  # noqa: E402
-from garvoeng import EDDSA, ES256, RS256, BadInput, Credential, Refused, Server  # noqa: E402
-from garvoeng.stored import StoredServer, StoredSignIn, StoreFailed  # noqa: E402
+from garvoeng import EDDSA, ES256, RS256, BadInput, Credential, Refused, Registered, Server  # noqa: E402
+from garvoeng.forms import from_text  # noqa: E402
+from garvoeng.stored import SessionsFull, StoredServer, StoredSignIn, StoreFailed  # noqa: E402
 import site_lines  # noqa: E402
 from site_lines import ORIGIN, PARTY, RP_ID, USER, with_sessions  # noqa: E402
 
@@ -50,6 +55,11 @@ def raised(call, *words, **named):
         return type(error), getattr(error, "name", str(error))
 
 
+def signed(device, user=USER):
+    """What is told of the device's last sign-in."""
+    return StoredSignIn(device.id, user, False, True, device.count, UP | UV, b"")
+
+
 def registered(server, device, user=USER, **how):
     options, session = server.register_begin(user, "name", **how)
     return server.register_complete(session, device.register(options))
@@ -61,12 +71,13 @@ def visits(tests):
         for number, algorithm in enumerate((ES256, EDDSA, RS256)):
             device = Device(algorithm, credential=b"%d" % number)
             made = registered(server, device)
-            tests.check(f"registered {algorithm}", made, Credential(device.id, USER, algorithm, device.x, device.y, 0, False))
+            stored = Credential(device.id, USER, algorithm, device.x, device.y, 0, False)
+            tests.check(f"registered {algorithm}", made, Registered(stored, device.aaguid, "none", True, False, UP | UV | AT, b""))
             options, session = server.authenticate_begin(user=USER, allow=[device.id])
             response = device.sign_in(options)
             wrong = changed(response, "signature", lambda data: data[:-1] + bytes([data[-1] ^ 1]))
             tests.check("a wrong signature", raised(server.authenticate_complete, session, wrong), (Refused, "W14"))
-            tests.check("signed in", server.authenticate_complete(session, response), StoredSignIn(device.id, USER, False))
+            tests.check("signed in", server.authenticate_complete(session, response), signed(device))
             tests.check("once", raised(server.authenticate_complete, session, response), (Refused, "W1"))
         tests.check("rows", [(row.id, row.sign_count) for row in server.rows(USER)], [(b"0", 1), (b"1", 1), (b"2", 1)])
         tests.check("nobody's rows", server.rows(b"nobody"), [])
@@ -108,7 +119,12 @@ def settings(tests):
         with_extensions = Device(EDDSA, credential=b"with extensions")
         options, session = server.register_begin(USER, "name")
         made = with_extensions.register(options, flags=UP | UV | AT | ED, outputs=b"\xa1\x6bcredProtect\x02")
-        tests.check("extensions are read over", server.register_complete(session, made).id, with_extensions.id)
+        made = server.register_complete(session, made)
+        tests.check("extensions are handed on", (made.credential.id, made.flags, made.extensions),
+                    (with_extensions.id, UP | UV | AT | ED, b"\xa1\x6bcredProtect\x02"))
+        options, session = server.authenticate_begin(user=USER)
+        who = server.authenticate_complete(session, with_extensions.sign_in(options, flags=UP | ED, outputs=b"\xa1\x61a\x01"))
+        tests.check("and of a sign-in", (who.user_verified, who.flags, who.extensions), (False, UP | ED, b"\xa1\x61a\x01"))
     for name, how, packed, wanted in (
             ("none.db", {"accept_self": False}, True, "G14"), ("self.db", {"accept_none": False}, False, "G14"),
             ("strict.db", {"open_profile": False}, None, "G7")):
@@ -119,12 +135,12 @@ def settings(tests):
                 else device.register(options, packed=packed)
             tests.check(name, raised(server.register_complete, session, made), (Refused, wanted))
             made = device.register(options, packed=False if packed is None else not packed)
-            tests.check(f"{name}, as it takes them", server.register_complete(session, made).id, device.id)
+            tests.check(f"{name}, as it takes them", server.register_complete(session, made).credential.id, device.id)
     with tests.server("bound.db", max_open=1) as server:
         options, session = server.authenticate_begin()
         none = raised(server.authenticate_complete, None, Device(EDDSA).sign_in(options))
         tests.check("no session is not the first", (session, none), (1, (Refused, "W1")))
-        tests.check("a bound on open sessions", raised(server.authenticate_begin), (BadInput, "too many sessions are open"))
+        tests.check("a bound on open sessions", raised(server.authenticate_begin), (SessionsFull, "too many sessions are open"))
     tests.check("no attestation at all", raised(tests.server, "none.db", accept_none=False, accept_self=False)[0], BadInput)
     tests.check("one origin in place of a list", raised(StoredServer, tests.program, "x", RP_ID, ORIGIN)[0], BadInput)
 
@@ -138,16 +154,73 @@ def start(tests):
 
     with StoredServer(program, file, "example.com", ["https://example.com"]) as server:
         options, session = server.register_begin(user=b"account 7", user_name="name")
-        credential = server.register_complete(session, page(options))
+        registered = server.register_complete(session, page(options))
 
         options, session = server.authenticate_begin()
         signed_in = server.authenticate_complete(session, page(options))
-    tests.check("the lines of the pages", (signed_in.user, signed_in.credential), (b"account 7", credential.id))
+    tests.check("the lines of the pages", (signed_in.user, signed_in.credential), (b"account 7", registered.credential.id))
 
 
-def other_hosts(tests):
-    """What a browser made (python/tests/recorded.json), through hosts in Node and Go: accepted once, and with another
-    signature not at all."""
+# What reads finishes, a line of JSON each, and writes the program's answers, over the class of each host.
+NODE = """import { createInterface } from "node:readline";
+import { Site } from "SITE";
+const site = new Site(...process.argv.slice(2));
+for await (const line of createInterface({ input: process.stdin })) {
+  const { act, session, response } = JSON.parse(line);
+  console.log(JSON.stringify(await site.finish(act, session, response)));
+}
+site.end();
+"""
+GO = """package main
+
+import (
+	"encoding/json"
+	"os"
+)
+
+func main() {
+	host := &site{words: os.Args[1:]}
+	lines := json.NewDecoder(os.Stdin)
+	lines.UseNumber()
+	for line := (object{}); lines.Decode(&line) == nil; line = (object{}) {
+		answer, err := host.finish(line["act"].(string), line["session"], line["response"])
+		if err != nil {
+			panic(err)
+		}
+		json.NewEncoder(os.Stdout).Encode(answer)
+	}
+	if now, err := host.start(); err == nil {
+		now.in.Close()
+		now.command.Wait()
+	}
+}
+"""
+
+
+def hosts_here(tests):
+    """The hosts whose tools are here: the words by which each judges lines, and those by which it serves."""
+    lines = top / "examples" / "lines"
+    for tool in ("node", "go"):
+        if shutil.which(tool) is None:
+            print(f"note: there is no {tool} here")
+            continue
+        folder = Path(tests.file(f"{tool} host"))
+        folder.mkdir()
+        if tool == "node":
+            (folder / "finishes.mjs").write_text(NODE.replace("SITE", str(lines / "site.mjs")))
+            yield tool, ["node", str(folder / "finishes.mjs")], ["node", str(lines / "site.mjs")]
+        else:
+            room = {**os.environ, "GO111MODULE": "off", "GOCACHE": tests.file("go"), "HOME": tests.folder.name}
+            (folder / "main.go").write_text(GO)
+            (folder / "site.go").write_text((lines / "site.go").read_text().replace("func main() {", "func serve() {"))
+            for name, sources in (("finishes", ["main.go", "site.go"]), ("serve", [str(lines / "site.go")])):
+                subprocess.run(["go", "build", "-o", name, *sources], cwd=folder, env=room, check=True, timeout=300)
+            yield tool, [str(folder / "finishes")], [str(folder / "serve")]
+
+
+def of_a_browser(tests, tool, words):
+    """What a browser made (python/tests/recorded.json), through a host: accepted once, and with another signature
+    refused."""
     recorded = json.loads((top / "python" / "tests" / "recorded.json").read_text())
     finishes = [(act, one) for visit in recorded["visits"] for act, one in (
         ("finish_registration", visit["registration"]), *(("finish_sign_in", one) for one in visit["sign_ins"]))]
@@ -155,25 +228,119 @@ def other_hosts(tests):
     lines = [{"act": act, "session": number, "response": one["response"]} for number, (act, one) in enumerate(finishes, 1)]
     last = dict(lines[-1], response=changed(lines[-1]["response"], "signature", lambda data: data[:-1] + bytes([data[-1] ^ 1])))
     said = "".join(json.dumps(line) + "\n" for line in [*lines[:-1], last, lines[-1], *lines])
-    for tool, words in (("node", ["node", "site.mjs"]), ("go", ["go", "run", "site.go"])):
-        if shutil.which(tool) is None:
-            print(f"note: there is no {tool} here")
-            continue
-        path = tests.file(f"{tool}.db")
-        party = [path, "--rp-id", "localhost", "--origin", recorded["origin"]]
-        subprocess.run([tests.program, *party, "--new"], input=b"", check=True)
-        with_sessions(path, [(kinds[act], one["session"]) for act, one in finishes])
-        room = {**os.environ, "GO111MODULE": "off", "GOCACHE": tests.file("go"), "HOME": tests.folder.name}
-        run = subprocess.run([*words, tests.program, *party], input=said.encode(), capture_output=True, timeout=300,
-                             cwd=top / "examples" / "lines", env=room)
-        answers = [json.loads(line) for line in run.stdout.splitlines()]
-        tests.check(f"{tool}: {run.stderr.decode()[-300:]}", (run.returncode, len(answers)), (0, 2 * len(lines) + 1))
-        accepted = [answer.get("accepted", {}).get("credential") for answer in answers]
-        wanted = [line["response"]["id"] for line in lines]
-        tests.check(f"{tool}: each is accepted", accepted[:len(lines) + 1], [*wanted[:-1], None, wanted[-1]])
-        tests.check(f"{tool}: another signature is not", list(answers[len(lines) - 1]), ["id", "verify"])
-        again = {answer.get("refused", {}).get("number") for answer in answers[len(lines) + 1:]}
-        tests.check(f"{tool}: and none again", again, {1})
+    path = tests.file(f"{tool}.db")
+    party = [path, "--rp-id", "localhost", "--origin", recorded["origin"]]
+    subprocess.run([tests.program, *party, "--new"], input=b"", check=True)
+    with_sessions(path, [(kinds[act], one["session"]) for act, one in finishes])
+    run = subprocess.run([*words, tests.program, *party], input=said.encode(), capture_output=True, timeout=300)
+    answers = [json.loads(line) for line in run.stdout.splitlines()]
+    tests.check(f"{tool}: {run.stderr.decode()[-300:]}", (run.returncode, len(answers)), (0, 2 * len(lines) + 1))
+    accepted = [answer.get("accepted", {}).get("credential") for answer in answers]
+    wanted = [line["response"]["id"] for line in lines]
+    tests.check(f"{tool}: each is accepted", accepted[:len(lines) + 1], [*wanted[:-1], None, wanted[-1]])
+    tests.check(f"{tool}: another signature is not", answers[len(lines) - 1].get("refused", {}).get("name"), "W14")
+    again = {answer.get("refused", {}).get("number") for answer in answers[len(lines) + 1:]}
+    tests.check(f"{tool}: and none again", again, {1})
+
+
+class Visitor:
+    """A browser that keeps cookies."""
+
+    def __init__(self, origin):
+        self.origin, self.cookies = origin, {}
+
+    def ask(self, path, body=None):
+        """The status and the text of an answer."""
+        kept = "; ".join(f"{name}={value}" for name, value in self.cookies.items())
+        data = None if body is None else body if isinstance(body, bytes) else json.dumps(body).encode()
+        try:
+            answer = urllib.request.urlopen(urllib.request.Request(self.origin + path, data, {"Cookie": kept}), timeout=60)
+        except urllib.error.HTTPError as error:
+            answer = error
+        with answer:
+            for cookie in answer.headers.get_all("Set-Cookie", ()):
+                name, value = cookie.split(";")[0].split("=", 1)
+                self.cookies[name] = value
+            return answer.status, answer.read().decode()
+
+    def visit(self, act, device, user=None, change=lambda made: made):
+        status, text = self.ask("/begin", {"act": act, "name": "ada"})
+        assert status == 200, text
+        options = json.loads(text)
+        made = device.register(options) if act == "registration" else device.sign_in(options, user)
+        return self.ask("/finish", change(made))
+
+
+def children(process):
+    found = subprocess.run(["ps", "-o", "pid=", "--ppid", str(process.pid)], capture_output=True, text=True).stdout
+    return [int(pid) for pid in found.split()]
+
+
+def served(tests, tool, words):
+    """A whole site of a host: its page, a registration and sign-ins by cookies, what is refused, a program that dies and one
+    that answers no more."""
+    port = 8400 + os.getpid() % 500 + (tool == "go")
+    origin, path = f"http://localhost:{port}", tests.file(f"{tool} site.db")
+    party = [tests.program, path, "--rp-id", "localhost", "--origin", origin]
+    process = subprocess.Popen([*words, str(port) if tool == "node" else f"localhost:{port}", *party])
+    visitor, device = Visitor(origin), Device(ES256, rp_id="localhost", origin=origin)
+    for _ in range(100):
+        try:
+            status, page = visitor.ask("/")
+            break
+        except OSError:
+            time.sleep(0.1)
+    tests.check(f"{tool}: the page", (status, "parseCreationOptionsFromJSON" in page), (200, True))
+    status, text = visitor.visit("registration", device)
+    tests.check(f"{tool}: registered: {text[:200]}", (status, from_text(json.loads(text)["credential"], "")), (200, device.id))
+    user = from_text(json.loads(text)["user"], "user")
+    status, text = visitor.visit("sign_in", device, user)
+    tests.check(f"{tool}: signed in: {text[:200]}", (status, from_text(json.loads(text)["user"], "")), (200, user))
+    wrong = visitor.visit("sign_in", device, user, lambda made: changed(made, "signature", lambda data: data[:-1] + b"\0"))
+    tests.check(f"{tool}: a wrong signature", (wrong[0], wrong[1].strip()), (400, "W14: the signature is not valid"))
+    stranger = Visitor(origin)
+    stranger.ask("/begin", {"act": "sign_in"})
+    tests.check(f"{tool}: without the cookie", Visitor(origin).visit("sign_in", device, user, lambda made: made)[0], 200)
+    forged = Visitor(origin)
+    forged.cookies["begun"] = "sign_in-1." + "A" * 43
+    tests.check(f"{tool}: a forged cookie", forged.ask("/finish", device.sign_in({"challenge": "AA"}, user))[0:1], (400,))
+    for body in (b"no JSON", b"null", b"[]", b"{}", b'{"response":' + b"[" * 200 + b"]" * 200 + b"}", b"x" * 70_000):
+        status = visitor.ask("/finish", body)[0]
+        tests.check(f"{tool}: {body[:20]} is no response", status, 400)
+    tests.check(f"{tool}: another page", visitor.ask("/none")[0], 404)
+    first = children(process)
+    os.kill(first[0], signal.SIGKILL)
+    found = []
+    for _ in range(3):
+        try:
+            found.append(visitor.visit("sign_in", device, user)[0])
+        except AssertionError:
+            found.append(503)
+    tests.check(f"{tool}: it starts a program that died again: {found}", found[-1], 200)
+    # A program that answers no more: what was asked is rejected once it dies.
+    stopped = children(process)[0]
+    os.kill(stopped, signal.SIGSTOP)
+    answers = []
+    waiting = [threading.Thread(target=lambda: answers.append(visitor.ask("/begin", {"act": "sign_in"})[0])) for _ in range(8)]
+    for thread in waiting:
+        thread.start()
+    time.sleep(0.5)
+    os.kill(stopped, signal.SIGKILL)
+    for thread in waiting:
+        thread.join(20)
+    tests.check(f"{tool}: calls in flight are rejected", answers, [503] * 8)
+    tests.check(f"{tool}: and the next is served", visitor.visit("sign_in", device, user)[0], 200)
+    process.kill()
+    process.wait()
+    with sqlite3.connect(path) as file:
+        tests.check(f"{tool}: one credential", file.execute("select count(*) from credential").fetchone(), (1,))
+    file.close()
+
+
+def other_hosts(tests):
+    for tool, finishes, serves in hosts_here(tests):
+        of_a_browser(tests, tool, finishes)
+        served(tests, tool, serves)
 
 
 def at_once(tests, clients=16, times=10):
@@ -187,7 +354,7 @@ def at_once(tests, clients=16, times=10):
             for _ in range(times):
                 options, session = server.authenticate_begin(user=user, allow=[device.id])
                 who = server.authenticate_complete(session, device.sign_in(options))
-                if who != StoredSignIn(device.id, user, False):
+                if who != signed(device, user):
                     wrong.append(who)
         except Exception as error:  # noqa: BLE001
             wrong.append(error)
@@ -212,10 +379,10 @@ def killed(tests):
         server._process.process.wait()
         response = device.sign_in(options)
         who = raised(server.authenticate_complete, session, response)
-        if who != StoredSignIn(device.id, USER, False):
+        if who != signed(device):
             tests.check("a call that the kill cut off", who[0], StoreFailed)
             who = server.authenticate_complete(session, response)
-        tests.check("signed in after a kill", who, StoredSignIn(device.id, USER, False))
+        tests.check("signed in after a kill", who, signed(device))
         tests.check("once, after a kill", raised(server.authenticate_complete, session, response), (Refused, "W1"))
         for name in (signal.SIGTERM, signal.SIGINT, signal.SIGHUP):
             server._process.process.send_signal(name)
@@ -241,9 +408,12 @@ def failing_disk(tests):
             break
         told.append(number + 1)
     tests.check(f"a failure is told after {len(told)} sessions: {answer[:120]}", b'"failed"' in answer and len(told) > 10)
-    process.stdin.write(ROWS)
-    process.stdin.flush()
-    process.stdout.readline()
+    tests.check("it says what failed", json.loads(answer)["failed"], "the store failed, and the site is shut: disk I/O error")
+    for line in (ROWS, b'{"id":1,"act":"begin_sign_in"}\n', b'{"id":1,"act":"abandon","session":1}\n', b'{"id":1,"act":"expire","older_than":0}\n',
+                 b'{"id":1,"act":"retire","credential":"AQ"}\n', b'{"id":1,"act":"rows","user":"AQ"}\n'):
+        process.stdin.write(line)
+        process.stdin.flush()
+        tests.check(f"a shut site tells nothing: {line}", list(json.loads(process.stdout.readline())), ["failed", "id"])
     process.stdin.close()
     process.wait()
     with tests.server("full.db") as server:
@@ -265,7 +435,7 @@ def wrong_files(tests):
     tests.ends("no folder", tests.file("none/site.db"), 4, "")
     tests.ends("a file that has to be there", tests.file("absent.db"), 4, "there is no file at this path", ["--existing"])
     tests.ends("a file that must not be there", tests.file("used.db"), 4, "there is a file at this path", ["--new"])
-    run = subprocess.run([tests.program, tests.file("used.db"), "--rp-id", "example.org", "--origin", ORIGIN], input=b"",
+    run = subprocess.run([tests.program, tests.file("used.db"), "--rp-id", "example.org", "--origin", "https://example.org"], input=b"",
                          capture_output=True, timeout=60)
     tests.check("another rp id", (run.returncode, run.stderr), (4, b"the file is of another site or version\n"))
     Path(tests.file("text.db")).write_text("no database")
@@ -277,11 +447,130 @@ def wrong_files(tests):
     tests.ends("an option without its value", tests.file("used.db"), 2, "a value is required", ["--origin"])
 
 
+def cut_off(tests, kills=40):
+    """A creation that is killed at any moment leaves no file, or one that the next start takes up; one that has answered
+    is there."""
+    rng, left, told = random.Random(5), Counter(), 0
+    for number in range(kills):
+        path = Path(tests.file(f"cut{number}.db"))
+        process = subprocess.Popen([tests.program, str(path), *PARTY, *([["--new"], []][number % 2])], stdin=subprocess.PIPE,
+                                   stdout=subprocess.PIPE)
+        process.stdin.write(b'{"id":1,"act":"begin_sign_in"}\n')
+        process.stdin.flush()
+        time.sleep(rng.random() * 0.03)
+        process.kill()
+        has_answered = process.communicate()[0] != b""
+        told += has_answered
+        left["a file" if path.exists() else "no file"] += 1
+        tests.check(f"a log alone, {number}", Path(f"{path}-wal").exists() and not path.exists(), False)
+        run = subprocess.run([tests.program, str(path), *PARTY], input=b'{"id":1,"act":"begin_sign_in"}\n', capture_output=True)
+        tests.check(f"the start after kill {number}: {run.stderr}", (run.returncode, b'"session":2' in run.stdout),
+                    (0, has_answered) if has_answered else (0, b'"session":2' in run.stdout))
+        tests.ends(f"and the next, {number}", str(path), 0, "", ["--existing"])
+    print(f"note: {kills} creations were killed: {dict(left)}, of which {told} had answered")
+
+
+def lone_logs(tests):
+    """A log without its file, and what stands in a file's place."""
+    path = tests.file("lone.db")
+    tests.ends("a file", path, 0, "")
+    log = Path(f"{path}-wal")
+    tests.check("a log that has nothing is left", log.exists() and log.stat().st_size < 64)
+    os.unlink(path)
+    for words in ([], ["--new"], ["--existing"]):
+        tests.ends(f"a log alone, {words}", path, 4, "delete the log", words)
+        tests.check("which makes nothing", Path(path).exists(), False)
+    log.unlink()
+    tests.ends("without it", path, 0, "")
+    log.unlink()
+    tests.ends("a closed file without its log", path, 0, "", ["--existing"])
+    Path(tests.file("empty.db")).touch()
+    tests.ends("an empty file, where it has to be a site's", tests.file("empty.db"), 4, "the file has no site", ["--existing"])
+    tests.ends("an empty file", tests.file("empty.db"), 0, "")
+    tests.ends("which is a site's then", tests.file("empty.db"), 0, "", ["--existing"])
+    with sqlite3.connect(tests.file("other.db")) as file:
+        file.execute("create table note (id integer primary key)")
+    file.close()
+    kept = Path(tests.file("other.db")).read_bytes()
+    for words, why in (([], "the file has other tables than a site's"), (["--new"], "there is a file at this path")):
+        tests.ends(f"a file of other tables, {words}", tests.file("other.db"), 4, why, words)
+        tests.check("which is as it was", Path(tests.file("other.db")).read_bytes(), kept)
+
+
+def no_input(tests):
+    """Without standard input the program ends at once, and makes nothing."""
+    path = tests.file("closed.db")
+    run = subprocess.run([tests.program, path, *PARTY], capture_output=True, timeout=20, preexec_fn=lambda: os.close(0))
+    tests.check("standard input is closed", (run.returncode, run.stderr.decode()),
+                (3, "standard input is closed, or can't be read\n"))
+    tests.check("which makes no file", Path(path).exists(), False)
+    run = subprocess.run([tests.program, path, *PARTY], capture_output=True, timeout=20, stdin=subprocess.DEVNULL)
+    tests.check("an empty input", (run.returncode, run.stdout), (0, b""))
+
+
+def clocks(tests):
+    """A clock before 1970 ends the program, by Debian's faketime where it is there; one that goes on from there serves."""
+    if shutil.which("faketime") is None:
+        print("note: there is no faketime here")
+        return
+    path = tests.file("clock.db")
+    for moment, wanted in (("1969-12-31 23:59:00", (3, "the clock reads a time before its start\n", 0)),
+                           ("1970-01-01 00:00:10", (0, "", 1)), ("2100-01-01 00:00:00", (0, "", 1))):
+        run = subprocess.run(["faketime", "-f", f"@{moment}", tests.program, path, *PARTY], input=b'{"id":1,"act":"begin_sign_in"}\n',
+                             capture_output=True, text=False, timeout=60, env={**os.environ, "TZ": "UTC"})
+        tests.check(f"the clock at {moment}", (run.returncode, run.stderr.decode(), run.stdout.count(b"\n")), wanted)
+
+
+# An rp id and origins that no browser writes, and what refuses them.
+PARTIES = [
+    ("https://example.com", ["https://example.com"], "not a domain"), ("Example.com", ["https://example.com"], "not a domain"),
+    ("", ["https://example.com"], "not a domain"), ("example.com.", ["https://example.com"], "not a domain"),
+    (".example.com", ["https://example.com"], "not a domain"), ("example..com", ["https://example.com"], "not a domain"),
+    ("-example.com", ["https://example.com"], "not a domain"), ("example.com:8080", ["https://example.com"], "not a domain"),
+    ("a" * 254, ["https://example.com"], "not a domain"), ("b\u00fccher.example", ["https://example.com"], "not a domain"),
+    ("127.0.0.1", ["http://127.0.0.1"], "is an IP address"), ("17", ["https://17"], "is an IP address"),
+    ("example.com", ["https://example.com/"], "an origin is not"), ("example.com", ["https://example.com/page"], "an origin is not"),
+    ("example.com", ["https://Example.com"], "an origin is not"), ("example.com", ["HTTPS://example.com"], "an origin is not"),
+    ("example.com", ["example.com"], "an origin is not"), ("example.com", [""], "an origin is not"),
+    ("example.com", ["https://"], "an origin is not"), ("example.com", ["https://example.com", "x"], "an origin is not"),
+    ("example.com", ["https://user@example.com"], "an origin is not"), ("example.com", ["null"], "an origin is not"),
+    ("example.com", ["https://[::1"], "an origin is not"), ("example.com", ["android:apk-key-hash:"], "an origin is not"),
+    ("example.com", ["https://example.com:443"], "a port that browsers"), ("example.com", ["http://example.com:80"], "a port that"),
+    ("example.com", ["https://example.com:0"], "a port that browsers"), ("example.com", ["https://example.com:65536"], "a port that"),
+    ("example.com", ["https://example.com:08080"], "a port that"), ("example.com", ["https://example.com:"], "a port that"),
+    ("example.com", ["https://example.org"], "not of an origin's host"), ("example.com", ["https://notexample.com"], "not of an"),
+    ("example.com", ["https://example.com.evil.org"], "not of an"), ("login.example.com", ["https://example.com"], "not of an"),
+]
+GOOD_PARTIES = [
+    ("localhost", ["http://localhost:8080"]), ("example.com", ["https://login.example.com:8443", "https://example.com"]),
+    ("example.com", ["https://other.org", "https://example.com"]), ("example.com", ["android:apk-key-hash:A-_z09"]),
+    ("example.com", ["ios+app://x", "https://example.com:65535"]), ("a_b.example", ["https://a_b.example"]),
+    ("example.com", ["https://[::1]:8080", "https://example.com"]), ("xn--bcher-kva.example", ["https://xn--bcher-kva.example"]),
+]
+
+
+def parties(tests):
+    """A relying party that no browser meets is refused at the start, before a file is made; Python's `Server` says the
+    same of each."""
+    path = tests.file("party.db")
+    for rp_id, origins, why in [*PARTIES, *((*one, None) for one in GOOD_PARTIES)]:
+        words = [f"--rp-id={rp_id}", *(f"--origin={origin}" for origin in origins)]
+        run = subprocess.run([tests.program, path, *words], input=b"", capture_output=True, timeout=60)
+        wanted = (2, True, False) if why else (0, True, True)
+        tests.check(f"{rp_id[:40]} {origins}: {run.stderr}", (run.returncode, (why or "") in run.stderr.decode(),
+                                                              Path(path).exists()), wanted)
+        for left in (path, f"{path}-wal"):
+            Path(left).unlink(missing_ok=True)
+        tests.check(f"{rp_id[:40]} {origins}, to Python", isinstance(raised(Server, rp_id, origins), tuple), why is not None)
+    run = subprocess.run([tests.program, path, "--rp-id", "example.com"], input=b"", capture_output=True, timeout=60)
+    tests.check("no origin", (run.returncode, Path(path).exists()), (2, False))
+
+
 def moved(tests):
     """Credentials of a site's own database, written by sqlite3 while no process has the file, and read back."""
     server, device = Server(RP_ID, [ORIGIN]), Device(RS256)
     options, session = server.register_begin(USER, "name")
-    credential = server.register_complete(session, device.register(options), is_registered=lambda _: False)
+    credential = server.register_complete(session, device.register(options), is_registered=lambda _: False).credential
     tests.ends("a new file", tests.file("moved.db"), 0, "", ["--new"])
     with sqlite3.connect(tests.file("moved.db")) as file:
         file.execute("insert into credential values (1, ?, ?, ?, ?, ?, ?, ?, ?)", (
@@ -307,7 +596,8 @@ def main():
     for name in (signal.SIGINT, signal.SIGHUP):
         signal.signal(name, signal.SIG_DFL)
     tests = Tests(str(Path(sys.argv[1]).resolve()))
-    for part in (start, visits, settings, other_hosts, at_once, killed, failing_disk, wrong_files, moved):
+    for part in (start, visits, settings, other_hosts, at_once, killed, failing_disk, wrong_files, moved, cut_off,
+                 lone_logs, no_input, clocks, parties):
         part(tests)
     print(f"{tests.passed} passed, {tests.failed} failed")
     return tests.failed != 0

@@ -13,7 +13,7 @@ from pathlib import Path
 
 top = Path(__file__).resolve().parent.parent
 sys.path[:0] = [str(top / "python"), str(top / "python" / "tests")]
-from device import Device, changed  # noqa: E402
+from device import AT, BE, BS, ED, UP, UV, Device, changed  # noqa: E402
 from garvoeng import EDDSA, ES256, RS256  # noqa: E402
 from garvoeng.forms import from_text, to_text  # noqa: E402
 from garvoeng.signatures import is_valid  # noqa: E402
@@ -51,7 +51,7 @@ class Host:
         asked = answer["verify"]
         key, message, signature = (asked["x"], asked["y"]), asked["message"], asked["signature"]
         if not is_right(asked["algorithm"], *map(from_text, key, "xy"), from_text(message, ""), from_text(signature, "")):
-            return {"invalid": asked}
+            return self.ask(act, session=session, response=response, verified=False)
         return self.ask(act, session=session, response=response, verified=asked)
 
     def end(self):
@@ -90,7 +90,9 @@ def visit(tests, host, device, **how):
     made = device.register(begun["options"], **how.get("register", {}))
     accepted = host.finish("finish_registration", begun["session"], made)
     row = {"credential": to_text(device.id), "user": to_text(USER), "algorithm": device.algorithm, "x": to_text(device.x),
-           "y": to_text(device.y), "sign_count": 0, "eligible": False, "retired": False}
+           "y": to_text(device.y), "sign_count": 0, "eligible": False, "retired": False,
+           "aaguid": to_text(device.aaguid), "format": "packed" if how.get("register", {}).get("packed") else "none",
+           "user_verified": True, "backed_up": False, "flags": UP | UV | AT, "extensions": None}
     tests.check(f"registered {what}", accepted, {"accepted": row})
     again = host.finish("finish_registration", begun["session"], made)
     tests.check(f"registered again {what}", again, refused("G1", 1, "the session is not open for registration"))
@@ -98,15 +100,52 @@ def visit(tests, host, device, **how):
         begun = host.ask("begin_sign_in", user=to_text(USER), allow=[to_text(device.id)])
         answered = device.sign_in(begun["options"], user=user)
         wrong = changed(answered, "signature", lambda data: data[:-1] + bytes([data[-1] ^ 1]))
-        tests.check(f"a wrong signature {what}", "invalid" in host.finish("finish_sign_in", begun["session"], wrong))
+        invalid = refused("W14", 14, "the signature is not valid")
+        tests.check(f"a wrong signature {what}", host.finish("finish_sign_in", begun["session"], wrong), invalid)
+        tests.check(f"one that the host calls wrong {what}", host.finish("finish_sign_in", begun["session"], answered,
+                                                                         is_right=lambda *_: False), invalid)
         for misled in misleads(host.ask("finish_sign_in", session=begun["session"], response=answered)["verify"]):
-            tests.check(f"another triple {what}",
+            tests.check(f"another signature {what}",
                         host.ask("finish_sign_in", session=begun["session"], response=answered, verified=misled),
-                        refused("W14", 14, "the signature is not valid"))
+                        invalid)
         tests.check(f"signed in {what}", host.finish("finish_sign_in", begun["session"], answered),
-                    {"accepted": {"credential": to_text(device.id), "user": to_text(USER), "backed_up": False}})
+                    {"accepted": {"credential": to_text(device.id), "user": to_text(USER), "backed_up": False,
+                                  "user_verified": True, "sign_count": device.count, "flags": UP | UV, "extensions": None}})
         tests.check(f"signed in again {what}", host.finish("finish_sign_in", begun["session"], answered),
                     refused("W1", 1, "the session is not open for sign-in"))
+
+
+def told(tests):
+    """What is told of an acceptance beside the row: the flags by name, the counter, the extensions, the format."""
+    host = Host(tests.program, tests.file("told.db"), *PARTY)
+    device = Device(EDDSA)
+    begun = host.ask("begin_registration", user=to_text(USER), user_name="name")
+    made = device.register(begun["options"], flags=UP | BE | BS | AT | ED, packed=True, outputs=b"\xa1\x61a\x01")
+    found = host.finish("finish_registration", begun["session"], made)["accepted"]
+    names = ("aaguid", "format", "user_verified", "backed_up", "flags", "extensions", "eligible")
+    tests.check("of a registration", [found[name] for name in names],
+                [to_text(device.aaguid), "packed", False, True, UP | BE | BS | AT | ED, to_text(b"\xa1\x61a\x01"), True])
+    for flags, outputs, wanted in ((UP | UV | BE, b"", [True, False, 1, None]),
+                                   (UP | BE | BS | ED, b"\xa1\x61b\xf5", [False, True, 2, to_text(b"\xa1\x61b\xf5")])):
+        begun = host.ask("begin_sign_in", user=to_text(USER))
+        found = host.finish("finish_sign_in", begun["session"], device.sign_in(begun["options"], flags=flags, outputs=outputs))
+        found = found["accepted"]
+        tests.check(f"of a sign-in with {flags:#x}", [*(found[name] for name in ("user_verified", "backed_up", "sign_count",
+                                                                                 "extensions")), found["flags"]], [*wanted, flags])
+    # Self attestation whose signature the host calls wrong.
+    begun = host.ask("begin_registration", user=to_text(USER), user_name="name")
+    made = Device(EDDSA, credential=b"another").register(begun["options"], packed=True)
+    found = host.finish("finish_registration", begun["session"], made, is_right=lambda *_: False)
+    tests.check("a self attestation that is called wrong", found["refused"]["name"], "G13")
+    tests.check("which is registered afterwards", "accepted" in host.finish("finish_registration", begun["session"], made))
+    # Where an earlier step refuses, that step is told.
+    begun = host.ask("begin_sign_in", user=to_text(b"somebody else"))
+    found = host.ask("finish_sign_in", session=begun["session"], response=device.sign_in(begun["options"]), verified=False)
+    tests.check("an earlier step", found["refused"]["name"], "W4")
+    for wrong in (True, 0, 1, "no", []):
+        found = host.ask("finish_sign_in", session=begun["session"], response=made, verified=wrong)
+        tests.check(f"verified {wrong}", "error" in found)
+    tests.check("the end", host.end(), (0, b"", ""))
 
 
 def misleads(asked):
@@ -139,6 +178,7 @@ def options(tests, host):
 
 def visits(tests):
     host = Host(tests.program, tests.file("visits.db"), *PARTY, "--rp-name", "A site", "--log")
+    began = int(time.time())
     options(tests, host)
     devices = [Device(algorithm, credential=b"%d" % number) for number, algorithm in enumerate((ES256, EDDSA, RS256))]
     for device in devices:
@@ -156,14 +196,87 @@ def visits(tests):
                 refused("W3", 3, "no credential with this id is registered"))
     status, rest, errors = host.end()
     tests.check("the end", (status, rest), (0, b""))
-    tests.check("the log", errors.splitlines()[-1],
-                f"sign-in refused W3 credential {to_text(packed.id)}: no credential with this id is registered")
+    last = errors.splitlines()[-1].split(" ", 1)
+    tests.check("the log", last[1], f"line {host.number} session {begun['session']} sign-in refused W3 credential "
+                                    f"{to_text(packed.id)}: no credential with this id is registered")
+    tests.check("its second", began <= int(last[0]) <= time.time())
+    tests.check("wrong signatures are in the log", sum(" sign-in refused W14 " in line for line in errors.splitlines()) >= 8)
+    tests.check("acceptances are not", "accepted" in errors, False)
     secrets = [to_text(USER), "account 7", '"']
     tests.check("no secrets in the log", [one for one in secrets if one in errors], [])
 
 
+def logs(tests):
+    """What `--log` tells, by its value, and that no line of it is long."""
+    long = Device(EDDSA, credential=b"\xff" * 1023)
+    for words, kinds in (([], set()), (["--log"], {"W1", "failed begin"}), (["--log", "refusals"], {"W1", "failed begin"}),
+                         (["--log=all"], {"W1", "failed begin", "accepted", "error"}),
+                         (["--log", "all"], {"W1", "failed begin", "accepted", "error"})):
+        host = Host(tests.program, *words, tests.file(f"log{len(kinds)}{len(words)}.db"), *PARTY, "--max-open", "1")
+        begun = host.ask("begin_registration", user=to_text(USER), user_name="name")
+        host.ask("begin_sign_in")
+        host.finish("finish_registration", begun["session"], long.register(begun["options"]))
+        begun = host.ask("begin_sign_in")
+        answered = long.sign_in(begun["options"], user=USER)
+        host.finish("finish_sign_in", begun["session"], answered)
+        host.finish("finish_sign_in", begun["session"], answered)
+        host.raw(b'{"id":77,"act":"nothing"}')
+        status, rest, errors = host.end()
+        lines = errors.splitlines()
+        found = {kind for kind, text in (("W1", f" session {begun['session']} sign-in refused W1 credential "),
+                                         ("failed begin", " error: too many sessions are open"), ("accepted", " accepted credential "),
+                                         ("error", " line 77 session - error: there is no such act")) if text in errors}
+        tests.check(f"the log with {words}", (status, found), (0, kinds))
+        tests.check(f"acceptances with {words}", sum(" accepted " in line for line in lines), 2 * ("accepted" in kinds))
+        tests.check(f"no line is long with {words}", max(map(len, lines), default=0) <= 1000)
+        tests.check(f"a cut id with {words}", all("_" * 512 + ".." in line for line in lines if " credential " in line))
+    status = Host(tests.program, tests.file("log.db"), *PARTY, "--log=some").end()[0]
+    tests.check("another value", status, 2)
+    host = Host(tests.program, tests.file("log.db"), *PARTY, "--log")
+    large = {"id": "A" * 20_000, "rawId": "A" * 20_000, "type": "public-key",
+             "response": {"clientDataJSON": "AA", "authenticatorData": "AA", "signature": "AA"}}
+    tests.check("a large id is refused", host.ask("finish_sign_in", session=1, response=large)["refused"]["name"], "W1")
+    tests.check("and its line is short", len(host.end()[2]) <= 1000)
+
+
+def numbers(tests):
+    """A line that can't be read is told with its number, where that stands in its first 65,537 bytes."""
+    host = Host(tests.program, tests.file("numbers.db"), *PARTY)
+    deep = b"[" * 200 + b"]" * 200
+    for what, line, wanted in (
+            ("too deep", b'{"id":5,"act":"rows","user":' + deep + b"}", 5),
+            ("a lone surrogate", b'{"act":"rows","user":"\\ud800","id":6}', 6),
+            ("a number too large", b'{"id":7,"act":"rows","user":1e999}', 7),
+            ("too long", b'{"id":8,"act":"rows","user":"' + b"A" * 70_000 + b'"}', 8),
+            ("too long, at its end", b'{"act":"rows","user":"' + b"A" * 70_000 + b'","id":9}', None),
+            ("no UTF-8", b'{"id":10,"act":"rows","user":"\xff"}', 10),
+            ("an id inside", b'{"act":"rows","user":{"id":11},"x":1e999}', None),
+            ("a doubled id", b'{"id":11,"act":"rows","user":1e999,"id":12}', 12),
+            ("a NUL", b'{"id":13,"act":"rows"\0}', 13), ("a cut line", b'{"id":14,"act":"ro', 14),
+            ("an id that is cut", b'{"id":14', None), ("an id as a text", b'{"id":"5","x":1e999}', None),
+            ("a negative id", b'{"id":-5,"x":1e999}', None), ("a fraction", b'{"id":5.5,"x":1e999}', None),
+            ("2^64", b'{"id":18446744073709551616,"x":1e999}', None),
+            ("2^64 - 1", b'{"id":18446744073709551615,"x":1e999}', 2**64 - 1), ("a list", b'["id",5]', None)):
+        answer = host.raw(line)
+        tests.check(f"the number of a line: {what}", ("error" in answer, answer["id"]), (True, wanted))
+    rng = random.Random(11)
+    for number in range(500):
+        user = {"".join(rng.choice('id":,{}[]\\ \u00e4') for _ in range(rng.randrange(8))): rng.choice((1, "id", [{"id": 5}], {"id": 6}))
+                for _ in range(rng.randrange(4))}
+        value = {"act": "rows", "user": user, "id": number}
+        line = json.dumps(dict(rng.sample(list(value.items()), 3)), ensure_ascii=rng.random() < 0.5)
+        answer = host.raw(line.encode()[:-1] + rng.choice((b',"x":1e999}', b',"x":' + deep + b"}")))
+        if answer != {"error": "the line is no JSON object", "id": number}:
+            tests.check(f"a line of {line}", answer, number)
+            break
+    else:
+        tests.check("500 lines that can't be read", True)
+    tests.check("the end", host.end(), (0, b"", ""))
+
+
 def with_sessions(path, sessions):
-    """The file with these sessions open, from number 1 on, as a browser's answers want them."""
+    """The file with these sessions open, from number 1 on, as a browser's answers want them: each challenge begins with its
+    number."""
     with sqlite3.connect(path) as file:
         for number, (ceremony, session) in enumerate(sessions, 1):
             allow = [from_text(one, "allow") for one in session.get("allow", ())]
@@ -200,8 +313,8 @@ def browser(tests):
     tests.check("what was registered", len(host.ask("rows")["rows"]), len(recorded["visits"]))
     tests.check("the next session", host.ask("begin_sign_in")["session"], len(lines) + 1)
     tests.check("the end", host.end(), (0, b"", ""))
-    for words, why in ((["--new"], "there is a file at this path, or one of its log\n"),
-                       (["--rp-id", "other.example"], "")):
+    for words, why in ((["--new"], "there is a file at this path\n"),
+                       (["--rp-id", "other.example", "--origin", "https://other.example"], "")):
         status, rest, errors = Host(tests.program, *party[:1], *(words if "--rp-id" in words else party[1:3] + words),
                                     *party[3:]).end()
         tests.check(f"{words}", (status, rest, why in errors), (4, b"", True))
@@ -227,8 +340,9 @@ def ages(tests):
     """Sessions end by their age, over restarts too, and young ones stay."""
     path = tests.file("ages.db")
     tests.check("a new file's end", Host(tests.program, path, *PARTY, "--new").end(), (0, b"", ""))
-    session = {"challenge": to_text(bytes(32)), "user": None, "user_verification": False}
-    with_sessions(path, [("sign-in", session), ("sign-in", session)])
+    challenges = [number.to_bytes(8, "big") + bytes(24) for number in (1, 2)]
+    with_sessions(path, [("sign-in", {"challenge": to_text(challenge), "user": None, "user_verification": False})
+                         for challenge in challenges])
     host = Host(tests.program, path, *PARTY)
     begun = host.ask("begin_sign_in")["session"]
     tests.check("expired", host.ask("expire", older_than=3600), {"expired": 2})
@@ -244,6 +358,31 @@ def ages(tests):
     tests.check("what expired is gone", [host.ask("abandon", session=number)["abandoned"] for number in (1, 2, begun)],
                 [False, False, True])
     tests.check("the end", host.end(), (0, b"", ""))
+    with_sessions(path, [("sign-in", {"challenge": to_text(challenges[0]), "user": None, "user_verification": False})])
+    host = Host(tests.program, path, *PARTY, "--expire", "600")
+    young = host.ask("begin_sign_in")["session"]
+    tests.check("what ended by itself", [host.ask("abandon", session=number)["abandoned"] for number in (1, young)], [False, True])
+    tests.check("the end", host.end(), (0, b"", ""))
+    host = Host(tests.program, path, *PARTY, "--expire", "1")
+    old = host.ask("begin_sign_in")["session"]
+    time.sleep(2.5)
+    young = host.ask("begin_sign_in")["session"]
+    tests.check("and beside one that lives", [host.ask("abandon", session=number)["abandoned"] for number in (old, young)], [False, True])
+    tests.check("the end", host.end(), (0, b"", ""))
+    tests.check("no number of seconds", Host(tests.program, path, *PARTY, "--expire", "x").end()[0], 2)
+
+
+def other_numbers(tests):
+    """A session whose challenge begins with another number is none that a site has written: two of one challenge would let one
+    response sign in twice."""
+    path = tests.file("other_numbers.db")
+    Host(tests.program, path, *PARTY).end()
+    challenge = (1).to_bytes(8, "big") + bytes(24)
+    with_sessions(path, [("sign-in", {"challenge": to_text(challenge), "user": None, "user_verification": False})] * 2)
+    kept = path.read_bytes()
+    status, _, said = Host(tests.program, path, *PARTY).end()
+    tests.check("two sessions of one challenge", (status, said), (4, "a row is not one that this site has written\n"))
+    tests.check("the file is as it was", path.read_bytes() == kept)
 
 
 def resident(host):
@@ -334,9 +473,13 @@ def main():
     tests = Tests(str(Path(sys.argv[1]).resolve()))
     visits(tests)
     read_by_sqlite(tests)
+    told(tests)
+    logs(tests)
+    numbers(tests)
     browser(tests)
     killed(tests)
     ages(tests)
+    other_numbers(tests)
     bad_lines(tests)
     print(f"{tests.passed} passed, {tests.failed} failed")
     return tests.failed != 0

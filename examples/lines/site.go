@@ -1,39 +1,52 @@
-// A site over the lines of site_program, from Go: go run site.go PROGRAM FILE OPTION.. It reads finishes, a line of JSON
-// each ({act, session, response}), and prints what the program answers once their signatures are verified.
+// A whole site over the lines of site_program, from Go: go run site.go ADDRESS PROGRAM FILE OPTION.., as
+// go run site.go localhost:8080 dist/passkey-site site.db --rp-id localhost --origin http://localhost:8080
+// Its page registers a passkey and signs in. A browser needs PublicKeyCredential.parseCreationOptionsFromJSON.
 package main
 
 import (
+	"bufio"
+	"bytes"
 	"crypto"
 	"crypto/ecdsa"
 	"crypto/ed25519"
 	"crypto/elliptic"
+	"crypto/hmac"
+	"crypto/rand"
 	"crypto/rsa"
 	"crypto/sha256"
 	"encoding/base64"
 	"encoding/json"
+	"errors"
+	"fmt"
 	"io"
+	"log"
 	"math/big"
+	"net/http"
 	"os"
 	"os/exec"
+	"strings"
+	"sync"
+	"time"
 )
 
 type object map[string]interface{}
 
+// The object that a text is, with numbers as they are written.
+func parsed(text []byte) (object, error) {
+	found := object{}
+	decoder := json.NewDecoder(bytes.NewReader(text))
+	decoder.UseNumber()
+	return found, decoder.Decode(&found)
+}
+
 func bytesOf(asked object, name string) []byte {
 	text, _ := asked[name].(string)
-	bytes, _ := base64.RawURLEncoding.DecodeString(text)
-	return bytes
+	found, _ := base64.RawURLEncoding.DecodeString(text)
+	return found
 }
 
 func number(bytes []byte) *big.Int {
 	return new(big.Int).SetBytes(bytes)
-}
-
-// A reader of objects that keeps numbers as they are written.
-func reader(in io.Reader) *json.Decoder {
-	decoder := json.NewDecoder(in)
-	decoder.UseNumber()
-	return decoder
 }
 
 func isValid(asked object) bool {
@@ -53,48 +66,257 @@ func isValid(asked object) bool {
 	return false
 }
 
+var errEnded = errors.New("the program has ended")
+
+// A run of the program, and who waits for its answers, which come in the order of the lines.
+type run struct {
+	command *exec.Cmd
+	in      io.WriteCloser
+	asked   []chan object
+	ended   bool
+}
+
 type site struct {
-	lines   *json.Encoder
-	answers *json.Decoder
+	words   []string
+	writing sync.Mutex
+	state   sync.Mutex
+	running *run
 	number  int
 }
 
-func (s *site) ask(line object) object {
-	s.number++
-	line["id"] = s.number
-	answer := object{}
-	if s.lines.Encode(line) != nil || s.answers.Decode(&answer) != nil {
-		panic("the program has ended")
+// Starts the program where none runs. What was asked of one that ends fails: it is done or is not.
+func (s *site) start() (*run, error) {
+	s.state.Lock()
+	defer s.state.Unlock()
+	if s.running != nil && !s.running.ended {
+		return s.running, nil
 	}
-	return answer
+	now := &run{command: exec.Command(s.words[0], s.words[1:]...)}
+	now.command.Stderr = os.Stderr
+	out, err := now.command.StdoutPipe()
+	if err == nil {
+		now.in, err = now.command.StdinPipe()
+	}
+	if err == nil {
+		err = now.command.Start()
+	}
+	if err != nil {
+		return nil, err
+	}
+	s.running = now
+	go s.read(now, bufio.NewReader(out))
+	return now, nil
 }
 
-func (s *site) finish(line object) object {
-	answer := s.ask(line)
-	if asked, is := answer["verify"].(map[string]interface{}); is && isValid(asked) {
-		line["verified"] = asked
-		return s.ask(line)
+// Hands each answer to the one that asked first.
+func (s *site) read(now *run, out *bufio.Reader) {
+	for {
+		line, err := out.ReadBytes('\n')
+		answer, wrong := parsed(line)
+		s.state.Lock()
+		if err != nil || wrong != nil || len(now.asked) == 0 {
+			break
+		}
+		now.asked[0] <- answer
+		now.asked = now.asked[1:]
+		s.state.Unlock()
 	}
-	return answer
+	now.command.Process.Kill()
+	now.command.Wait()
+	now.ended = true
+	for _, waiting := range now.asked {
+		close(waiting)
+	}
+	s.state.Unlock()
+}
+
+func (s *site) write(act string, members object) (*run, chan object, error) {
+	s.writing.Lock()
+	defer s.writing.Unlock()
+	now, err := s.start()
+	if err != nil {
+		return nil, nil, err
+	}
+	s.number++
+	line := object{"id": s.number, "act": act}
+	for name, value := range members {
+		line[name] = value
+	}
+	waiting := make(chan object, 1)
+	s.state.Lock()
+	if now.ended {
+		s.state.Unlock()
+		return nil, nil, errEnded
+	}
+	now.asked = append(now.asked, waiting)
+	s.state.Unlock()
+	if json.NewEncoder(now.in).Encode(line) != nil {
+		now.command.Process.Kill()
+	}
+	return now, waiting, nil
+}
+
+// The answer to an act. After an error what was asked is done or is not, and the next call starts the program again.
+func (s *site) ask(act string, members object) (object, error) {
+	now, waiting, err := s.write(act, members)
+	if err != nil {
+		return nil, err
+	}
+	timer := time.AfterFunc(30*time.Second, func() { now.command.Process.Kill() })
+	defer timer.Stop()
+	answer, is := <-waiting
+	if !is {
+		return nil, errEnded
+	}
+	if failed, is := answer["failed"]; is {
+		now.command.Process.Kill()
+		return nil, fmt.Errorf("%v", failed)
+	}
+	return answer, nil
+}
+
+// The verdict on a response: accepted, refused or error. A wrong signature is told too, so that it is refused and logged.
+func (s *site) finish(act string, session, response interface{}) (object, error) {
+	members := object{"session": session, "response": response}
+	answer, err := s.ask(act, members)
+	if err != nil {
+		return nil, err
+	}
+	asked, is := answer["verify"].(map[string]interface{})
+	if !is {
+		return answer, nil
+	}
+	members["verified"] = false
+	if isValid(asked) {
+		members["verified"] = asked
+	}
+	return s.ask(act, members)
+}
+
+// The number of a session goes to its visitor alone, in a cookie that is signed.
+var secret = random(32)
+
+func random(size int) []byte {
+	found := make([]byte, size)
+	if _, err := rand.Read(found); err != nil {
+		panic(err)
+	}
+	return found
+}
+
+func code(text string) string {
+	sum := hmac.New(sha256.New, secret)
+	sum.Write([]byte(text))
+	return base64.RawURLEncoding.EncodeToString(sum.Sum(nil))
+}
+
+func seal(out http.ResponseWriter, name, value string) {
+	http.SetCookie(out, &http.Cookie{Name: name, Value: value + "." + code(name+value), Path: "/", HttpOnly: true,
+		SameSite: http.SameSiteStrictMode})
+}
+
+func unsealed(request *http.Request, name string) string {
+	cookie, err := request.Cookie(name)
+	if err != nil {
+		return ""
+	}
+	value, given, _ := strings.Cut(cookie.Value, ".")
+	if !hmac.Equal([]byte(given), []byte(code(name+value))) {
+		return ""
+	}
+	return value
+}
+
+const page = `<!doctype html><meta charset="utf-8"><title>A site</title>
+<p><input id="name" value="ada"> <button id="registration">Register</button> <button id="sign_in">Sign in</button> <p id="said">
+<script type="module">
+async function post(path, body) {
+  const answer = await fetch(path, { method: "POST", body: JSON.stringify(body) });
+  if (!answer.ok) throw new Error(await answer.text());
+  return answer.json();
+}
+async function visit(act) {
+  const options = await post("/begin", { act, name: document.getElementById("name").value });
+  const credential = act === "registration"
+    ? await navigator.credentials.create({ publicKey: PublicKeyCredential.parseCreationOptionsFromJSON(options) })
+    : await navigator.credentials.get({ publicKey: PublicKeyCredential.parseRequestOptionsFromJSON(options) });
+  return post("/finish", credential.toJSON());
+}
+for (const act of ["registration", "sign_in"]) {
+  document.getElementById(act).onclick = () => visit(act).then(JSON.stringify, String)
+    .then(text => document.getElementById("said").textContent = text);
+}
+</script>`
+
+func (s *site) begin(asked object) (string, object, error) {
+	if asked["act"] != "registration" {
+		answer, err := s.ask("begin_sign_in", nil)
+		return "sign_in", answer, err
+	}
+	answer, err := s.ask("begin_registration", object{
+		"user": base64.RawURLEncoding.EncodeToString(random(16)), "user_name": fmt.Sprint(asked["name"])})
+	return "registration", answer, err
+}
+
+func (s *site) serveBegin(out http.ResponseWriter, asked object) {
+	act, answer, err := s.begin(asked)
+	switch {
+	case err != nil:
+		http.Error(out, err.Error()+"; ask again", http.StatusServiceUnavailable)
+	case answer["error"] == "too many sessions are open":
+		http.Error(out, fmt.Sprint(answer["error"]), http.StatusServiceUnavailable)
+	case answer["error"] != nil:
+		http.Error(out, fmt.Sprint(answer["error"]), http.StatusBadRequest)
+	default:
+		seal(out, "begun", fmt.Sprintf("%s-%v", act, answer["session"]))
+		json.NewEncoder(out).Encode(answer["options"])
+	}
+}
+
+func (s *site) serveFinish(out http.ResponseWriter, begun string, response object) {
+	act, session, is := strings.Cut(begun, "-")
+	if !is {
+		act, session = "sign_in", "0"
+	}
+	answer, err := s.finish("finish_"+act, json.Number(session), response)
+	if err != nil {
+		http.Error(out, err.Error()+"; ask again", http.StatusServiceUnavailable)
+	} else if who, is := answer["accepted"].(map[string]interface{}); is {
+		seal(out, "user", fmt.Sprint(who["user"]))
+		json.NewEncoder(out).Encode(who)
+	} else if step, is := answer["refused"].(map[string]interface{}); is {
+		http.Error(out, fmt.Sprintf("%v: %v", step["name"], step["text"]), http.StatusBadRequest)
+	} else {
+		http.Error(out, fmt.Sprint(answer["error"]), http.StatusBadRequest)
+	}
+}
+
+func (s *site) ServeHTTP(out http.ResponseWriter, request *http.Request) {
+	if request.Method == http.MethodGet && request.URL.Path == "/" {
+		out.Header().Set("Content-Type", "text/html")
+		io.WriteString(out, page)
+		return
+	}
+	text, err := io.ReadAll(http.MaxBytesReader(out, request.Body, 60_000))
+	asked, wrong := parsed(text)
+	switch {
+	case request.Method != http.MethodPost || request.URL.Path != "/begin" && request.URL.Path != "/finish":
+		http.NotFound(out, request)
+	case err != nil || wrong != nil:
+		http.Error(out, "the request is no JSON object", http.StatusBadRequest)
+	case request.URL.Path == "/begin":
+		s.serveBegin(out, asked)
+	default:
+		s.serveFinish(out, unsealed(request, "begun"), asked)
+	}
 }
 
 func main() {
-	program := exec.Command(os.Args[1], os.Args[2:]...)
-	in, _ := program.StdinPipe()
-	out, _ := program.StdoutPipe()
-	program.Stderr = os.Stderr
-	if err := program.Start(); err != nil {
-		panic(err)
-	}
-	host := site{lines: json.NewEncoder(in), answers: reader(out)}
-	finishes, said := reader(os.Stdin), json.NewEncoder(os.Stdout)
-	for {
-		line := object{}
-		if err := finishes.Decode(&line); err == io.EOF {
-			break
+	host := &site{words: os.Args[2:]}
+	go func() {
+		for range time.Tick(time.Minute) {
+			host.ask("expire", object{"older_than": 300})
 		}
-		said.Encode(host.finish(line))
-	}
-	in.Close()
-	program.Wait()
+	}()
+	log.Fatal(http.ListenAndServe(os.Args[1], host))
 }

@@ -1,8 +1,11 @@
-// A site over the lines of site_program, from Node: node site.mjs PROGRAM FILE OPTION.. It reads finishes, a line of JSON
-// each ({act, session, response}), and prints what the program answers once their signatures are verified.
-import { createPublicKey, verify } from "node:crypto";
+// A whole site over the lines of site_program, from Node: node site.mjs PORT PROGRAM FILE OPTION.., as
+// node site.mjs 8080 dist/passkey-site site.db --rp-id localhost --origin http://localhost:8080
+// Its page registers a passkey and signs in. A browser needs PublicKeyCredential.parseCreationOptionsFromJSON.
+import { createHmac, createPublicKey, randomBytes, timingSafeEqual, verify } from "node:crypto";
 import { spawn } from "node:child_process";
+import { createServer } from "node:http";
 import { createInterface } from "node:readline";
+import { pathToFileURL } from "node:url";
 
 function isValid({ algorithm, x, y, message, signature }) {
   const bytes = text => Buffer.from(text, "base64url");
@@ -15,27 +18,131 @@ function isValid({ algorithm, x, y, message, signature }) {
   }
 }
 
-class Site {
+export class Site {
   constructor(program, ...words) {
-    this.process = spawn(program, words, { stdio: ["pipe", "pipe", "inherit"] });
-    this.waiting = [];
-    this.number = 0;
-    createInterface({ input: this.process.stdout }).on("line", line => this.waiting.shift()(JSON.parse(line)));
+    Object.assign(this, { program, words, number: 0, running: null, timeout: 30_000 });
   }
-  ask(act, members) {
-    this.process.stdin.write(JSON.stringify({ id: ++this.number, act, ...members }) + "\n");
-    return new Promise(answer => this.waiting.push(answer));
+  // Starts the program. What was asked of one that ends is rejected: it is done or is not. The next call starts it again.
+  start() {
+    const running = spawn(this.program, this.words, { stdio: ["pipe", "pipe", "inherit"] });
+    this.running = Object.assign(running, { asked: [] });
+    createInterface({ input: running.stdout }).on("line", line => {
+      const answer = JSON.parse(line);
+      const { resolve, reject, timer } = running.asked.shift();
+      clearTimeout(timer);
+      if (!("failed" in answer)) return resolve(answer);
+      running.kill("SIGKILL");
+      reject(new Error(answer.failed));
+    });
+    const ended = () => {
+      if (this.running === running) this.running = null;
+      for (const { reject, timer } of running.asked.splice(0)) {
+        clearTimeout(timer);
+        reject(new Error("the program has ended"));
+      }
+    };
+    running.on("error", ended).on("close", ended);
+    running.stdin.on("error", () => running.kill("SIGKILL"));
+    return running;
   }
+  // The answer to an act. Answers come in the order of the lines.
+  ask(act, members = {}) {
+    const running = this.running ?? this.start();
+    return new Promise((resolve, reject) => {
+      const timer = setTimeout(() => running.kill("SIGKILL"), this.timeout);
+      running.asked.push({ resolve, reject, timer });
+      running.stdin.write(JSON.stringify({ id: ++this.number, act, ...members }) + "\n");
+    });
+  }
+  // The verdict on a response: accepted, refused or error. A wrong signature is told too, so that it is refused and logged.
   async finish(act, session, response) {
     const answer = await this.ask(act, { session, response });
-    if (!answer.verify || !isValid(answer.verify)) return answer;
-    return this.ask(act, { session, response, verified: answer.verify });
+    if (!answer.verify) return answer;
+    return this.ask(act, { session, response, verified: isValid(answer.verify) && answer.verify });
+  }
+  end() {
+    this.running?.stdin.end();
   }
 }
 
-const site = new Site(...process.argv.slice(2));
-for await (const line of createInterface({ input: process.stdin })) {
-  const { act, session, response } = JSON.parse(line);
-  console.log(JSON.stringify(await site.finish(act, session, response)));
+// The number of a session goes to its visitor alone, in a cookie that is signed.
+const secret = randomBytes(32);
+const code = text => createHmac("sha256", secret).update(text).digest();
+
+function sealed(name, value) {
+  return `${name}=${value}.${code(name + value).toString("base64url")}; Path=/; HttpOnly; SameSite=Strict`;
 }
-site.process.stdin.end();
+
+function unsealed(request, name) {
+  const found = (request.headers.cookie ?? "").split("; ").find(one => one.startsWith(name + "="));
+  const [value, given] = (found ?? "").slice(name.length + 1).split(".");
+  const bytes = Buffer.from(given ?? "", "base64url");
+  return bytes.length === 32 && timingSafeEqual(bytes, code(name + value)) ? value : null;
+}
+
+const PAGE = `<!doctype html><meta charset="utf-8"><title>A site</title>
+<p><input id="name" value="ada"> <button id="registration">Register</button> <button id="sign_in">Sign in</button> <p id="said">
+<script type="module">
+async function post(path, body) {
+  const answer = await fetch(path, { method: "POST", body: JSON.stringify(body) });
+  if (!answer.ok) throw new Error(await answer.text());
+  return answer.json();
+}
+async function visit(act) {
+  const options = await post("/begin", { act, name: document.getElementById("name").value });
+  const credential = act === "registration"
+    ? await navigator.credentials.create({ publicKey: PublicKeyCredential.parseCreationOptionsFromJSON(options) })
+    : await navigator.credentials.get({ publicKey: PublicKeyCredential.parseRequestOptionsFromJSON(options) });
+  return post("/finish", credential.toJSON());
+}
+for (const act of ["registration", "sign_in"]) {
+  document.getElementById(act).onclick = () => visit(act).then(JSON.stringify, String)
+    .then(text => document.getElementById("said").textContent = text);
+}
+</script>`;
+
+async function body(request) {
+  const parts = [];
+  let size = 0;
+  for await (const part of request) {
+    if ((size += part.length) > 60_000) throw new SyntaxError("the request is too large");
+    parts.push(part);
+  }
+  return JSON.parse(Buffer.concat(parts).toString());
+}
+
+async function begin(site, { act, name }) {
+  if (act !== "registration") return ["sign_in", await site.ask("begin_sign_in")];
+  const user = randomBytes(16).toString("base64url");
+  return ["registration", await site.ask("begin_registration", { user, user_name: String(name) })];
+}
+
+async function answered(site, request) {
+  if (request.method === "POST" && request.url === "/begin") {
+    const [act, answer] = await begin(site, await body(request));
+    if (answer.error) return [answer.error === "too many sessions are open" ? 503 : 400, answer.error];
+    return [200, JSON.stringify(answer.options), [sealed("begun", `${act}-${answer.session}`)]];
+  }
+  if (request.method === "POST" && request.url === "/finish") {
+    const [act, session] = (unsealed(request, "begun") ?? "sign_in-0").split("-");
+    const answer = await site.finish(`finish_${act}`, Number(session), await body(request));
+    if (!answer.accepted) return [400, answer.error ?? `${answer.refused.name}: ${answer.refused.text}`];
+    return [200, JSON.stringify(answer.accepted), [sealed("user", answer.accepted.user)]];
+  }
+  return request.method === "GET" && request.url === "/" ? [200, PAGE] : [404, "there is no such page"];
+}
+
+export function serve(site, port) {
+  setInterval(() => site.ask("expire", { older_than: 300 }).catch(() => {}), 60_000).unref();
+  return createServer(async (request, response) => {
+    const [status, text, cookies = []] = await answered(site, request).catch(error =>
+      error instanceof SyntaxError ? [400, error.message] : [503, `${error.message}; ask again`]);
+    response.writeHead(status, { "Content-Type": text === PAGE ? "text/html" : "application/json", "Set-Cookie": cookies });
+    response.end(text);
+  }).listen(port, "localhost");
+}
+
+if (import.meta.url === pathToFileURL(process.argv[1]).href) {
+  const [port, ...words] = process.argv.slice(2);
+  serve(new Site(...words), Number(port));
+}

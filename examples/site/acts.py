@@ -8,11 +8,17 @@ from contextlib import closing
 from pathlib import Path
 from typing import Any, Dict, List, Mapping, Optional, Tuple, Union
 
-from garvoeng import Server, StoredServer
+from garvoeng import MAX_LIST, MAX_STORED_LIST, Server, StoredServer
 from storage import LIFETIME, Storage, Taken
 
 PROGRAM = os.environ.get("PROGRAM", str(Path(__file__).resolve().parents[2] / "dist" / "passkey-site"))
 """The proved program that keeps sessions and credentials in a file of its own."""
+
+
+def listed(ids: List[bytes], most: int) -> List[bytes]:
+    """The ids of an account's passkeys for a sign-in. Where there are more than a list may have it is empty: then any
+    passkey answers that the browser finds by itself, and the user handle has to be the account's."""
+    return ids if len(ids) <= most else []
 
 
 class DatabaseActs:
@@ -21,38 +27,39 @@ class DatabaseActs:
     def __init__(self, address: str, rp_id: str, origin: str, rp_name: str) -> None:
         self.server, self.storage = Server(rp_id, [origin], rp_name), Storage(address)
 
-    def register_begin(self, name: str, visitor: Optional[bytes], **how: bool) -> Tuple[Dict[str, Any], int]:
+    def register_begin(self, name: str, visitor: Optional[bytes], verified: bool, resident: bool) -> Tuple[Dict[str, Any], int]:
         """The options and the session's number. A name that is another account's is taken."""
         with self.storage.transaction() as rows:
             user, ids = rows.user_of(name)
             if user is not None and user != visitor:
                 raise Taken("the name is another account's")
-            options, began = self.server.register_begin(user or secrets.token_bytes(32), name, exclude=ids, **how)
+            options, began = self.server.register_begin(user or secrets.token_bytes(32), name, exclude=ids[:MAX_LIST],
+                                                        user_verification=verified, resident=resident)
             return options, rows.begin(began)
 
     def register_finish(self, number: Optional[int], name: str, response: Mapping[str, Any]) -> Tuple[bytes, bytes]:
         """The account's user handle and the passkey's id."""
         with self.storage.transaction() as rows:
-            began = rows.take("registration", number)
-            made = self.server.register_complete(began, response, is_registered=lambda id: rows.credential(id) is not None)
+            began = rows.take_registration(number)
+            made = self.server.register_complete(began, response,
+                                                 is_registered=lambda id: rows.credential(id) is not None).credential
             rows.add(name, made)
         return made.user, made.id
 
-    def sign_in_begin(self, name: Optional[str], **how: bool) -> Optional[Tuple[Dict[str, Any], int]]:
+    def sign_in_begin(self, name: str, verified: bool) -> Optional[Tuple[Dict[str, Any], int]]:
         """The options and the session's number; None where no account has the name."""
-        user, ids = None, []
         with self.storage.transaction() as rows:
-            if name:
-                user, ids = rows.user_of(name)
-                if user is None:
-                    return None
-            options, began = self.server.authenticate_begin(user=user, allow=ids, **how)
+            user, ids = rows.user_of(name) if name else (None, [])
+            if name and user is None:
+                return None
+            options, began = self.server.authenticate_begin(user=user, allow=listed(ids, MAX_LIST),
+                                                            user_verification=verified)
             return options, rows.begin(began)
 
     def sign_in_finish(self, number: Optional[int], response: Mapping[str, Any]) -> Tuple[bytes, int]:
         """The account's user handle, and the passkey's counter."""
         with self.storage.transaction() as rows:
-            began = rows.take("sign-in", number)
+            began = rows.take_sign_in(number)
             signed_in = self.server.authenticate_complete(began, response, credential=rows.credential)
             rows.count(signed_in)
         return signed_in.credential.user, signed_in.credential.sign_count
@@ -78,28 +85,28 @@ class ProgramActs:
         with self._accounts() as accounts:
             accounts.execute("create table if not exists accounts (user_name text primary key, user_handle blob not null unique)")
 
-    def _accounts(self) -> closing:
+    def _accounts(self) -> "closing[sqlite3.Connection]":
         return closing(sqlite3.connect(self.names, isolation_level=None, timeout=30))
 
     def _user_of(self, name: str) -> Optional[bytes]:
         with self._accounts() as accounts:
             found = accounts.execute("select user_handle from accounts where user_name = ?", (name,)).fetchone()
-        return None if found is None else found[0]
+        return None if found is None else bytes(found[0])
 
     def _ids(self, user: bytes) -> List[bytes]:
         return [row.id for row in self.server.rows(user) if not row.retired]
 
-    def register_begin(self, name: str, visitor: Optional[bytes], **how: bool) -> Tuple[Dict[str, Any], int]:
+    def register_begin(self, name: str, visitor: Optional[bytes], verified: bool, resident: bool) -> Tuple[Dict[str, Any], int]:
         self.server.expire(LIFETIME)
         user = self._user_of(name)
         if user is not None and user != visitor:
             raise Taken("the name is another account's")
-        if user is None:
-            return self.server.register_begin(secrets.token_bytes(32), name, **how)
-        return self.server.register_begin(user, name, exclude=self._ids(user), **how)
+        ids = [] if user is None else self._ids(user)
+        return self.server.register_begin(user or secrets.token_bytes(32), name, exclude=ids[:MAX_STORED_LIST],
+                                          user_verification=verified, resident=resident)
 
     def register_finish(self, number: Optional[int], name: str, response: Mapping[str, Any]) -> Tuple[bytes, bytes]:
-        made = self.server.register_complete(number, response)
+        made = self.server.register_complete(number, response).credential
         with self._accounts() as accounts:
             accounts.execute("insert into accounts values (?, ?) on conflict (user_name) do nothing", (name, made.user))
         if self._user_of(name) != made.user:
@@ -107,12 +114,13 @@ class ProgramActs:
             raise Taken("the name is another account's")
         return made.user, made.id
 
-    def sign_in_begin(self, name: Optional[str], **how: bool) -> Optional[Tuple[Dict[str, Any], int]]:
+    def sign_in_begin(self, name: str, verified: bool) -> Optional[Tuple[Dict[str, Any], int]]:
         self.server.expire(LIFETIME)
-        if not name:
-            return self.server.authenticate_begin(**how)
-        user = self._user_of(name)
-        return None if user is None else self.server.authenticate_begin(user=user, allow=self._ids(user)[:8], **how)
+        user = self._user_of(name) if name else None
+        if name and user is None:
+            return None
+        ids = [] if user is None else self._ids(user)
+        return self.server.authenticate_begin(user=user, allow=listed(ids, MAX_STORED_LIST), user_verification=verified)
 
     def sign_in_finish(self, number: Optional[int], response: Mapping[str, Any]) -> Tuple[bytes, int]:
         who = self.server.authenticate_complete(number, response)

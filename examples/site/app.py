@@ -4,98 +4,131 @@ from __future__ import annotations
 import os
 import secrets
 import sys
+from typing import Any, Dict, Optional, Tuple, Union
 
 from acts import acts_at
-from flask import Flask, jsonify, redirect, request, send_file, session as cookie
-from garvoeng import BadInput, Refused, StoreFailed
+from flask import Flask, Response, jsonify, redirect, request, send_file, session as cookie
+from garvoeng import BadInput, Refused, SessionsFull, StoreFailed
 from garvoeng.forms import from_text, to_text
 from storage import Taken
+from werkzeug.wrappers import Response as AnyResponse
 
 HERE = os.path.dirname(os.path.abspath(__file__))
+MAX_BODY = 64 * 1024
+"""The most bytes of a visitor's request."""
+Answered = Union[Response, Tuple[Response, int]]
+
+
+def body() -> Dict[str, Any]:
+    """The request's JSON object."""
+    try:
+        value = request.get_json(silent=True)
+    except RecursionError:
+        value = None
+    if not isinstance(value, dict):
+        raise BadInput("the body is no JSON object")
+    return value
+
+
+def name_in(said: Dict[str, Any]) -> str:
+    """The account's name: up to 64 characters, empty for none."""
+    name = said.get("name", "")
+    if not isinstance(name, str) or len(name) > 64 or not name.isprintable():
+        raise BadInput("a name has up to 64 characters that can be printed")
+    return name
 
 
 def site(address: str, origin: str, secret: bytes) -> Flask:
     """The site at this origin, with its rows at this address. All its processes have the same secret."""
     app = Flask(__name__)
     app.secret_key = secret
-    app.config.update(SESSION_COOKIE_HTTPONLY=True, SESSION_COOKIE_SAMESITE="Strict")
+    app.config.update(SESSION_COOKIE_HTTPONLY=True, SESSION_COOKIE_SAMESITE="Strict", MAX_CONTENT_LENGTH=MAX_BODY,
+                      SESSION_COOKIE_SECURE=origin.startswith("https:"))
     acts = acts_at(address, origin.split("//")[1].split(":")[0], origin, "A small site")
 
-    def signed_in_user():
+    def signed_in_user() -> Optional[bytes]:
         user = cookie.get("user")
         return None if user is None else from_text(user, "user")
 
     @app.get("/")
-    def page():
+    def page() -> Response:
         return send_file(os.path.join(HERE, "page.html"))
 
     @app.post("/register/begin")
-    def register_begin():
-        name = str(request.json["name"])[:64]
-        options, number = acts.register_begin(name, signed_in_user(), user_verification=bool(request.json.get("verified")),
-                                              resident=bool(request.json.get("resident", True)))
+    def register_begin() -> Answered:
+        said = body()
+        name = name_in(said)
+        if not name:
+            raise BadInput("an account has a name")
+        options, number = acts.register_begin(name, signed_in_user(), bool(said.get("verified")), bool(said.get("resident", True)))
         cookie["registration"], cookie["name"] = number, name
         return jsonify(options)
 
     @app.post("/register/finish")
-    def register_finish():
-        user, id = acts.register_finish(cookie.get("registration"), cookie["name"], request.json)
-        cookie.pop("registration")
+    def register_finish() -> Answered:
+        user, id = acts.register_finish(cookie.get("registration"), cookie.get("name", ""), body())
+        cookie.pop("registration", None)
         cookie["user"] = to_text(user)
         return jsonify(passkey=to_text(id))
 
     @app.post("/sign-in/begin")
-    def sign_in_begin():
-        begun = acts.sign_in_begin(str(request.json.get("name") or "")[:64],
-                                   user_verification=bool(request.json.get("verified")))
+    def sign_in_begin() -> Answered:
+        said = body()
+        begun = acts.sign_in_begin(name_in(said), bool(said.get("verified")))
         if begun is None:
             return jsonify(error="no account has this name"), 404
         options, cookie["sign-in"] = begun
         return jsonify(options)
 
     @app.post("/sign-in/finish")
-    def sign_in_finish():
-        user, count = acts.sign_in_finish(cookie.get("sign-in"), request.json)
+    def sign_in_finish() -> Answered:
+        user, count = acts.sign_in_finish(cookie.get("sign-in"), body())
         cookie["user"] = to_text(user)
         return jsonify(user=cookie["user"], count=count)
 
     @app.get("/passkeys")
-    def passkeys():
+    def passkeys() -> Answered:
         user = signed_in_user()
         if user is None:
             return jsonify(error="nobody is signed in"), 401
         return jsonify([{"id": to_text(id), "count": count, "retired": retired} for id, count, retired in acts.passkeys(user)])
 
     @app.post("/passkeys/retire")
-    def retire():
+    def retire() -> Answered:
         user = signed_in_user()
         if user is None:
             return jsonify(error="nobody is signed in"), 401
-        return jsonify(retired=acts.retire(user, from_text(request.json["id"], "id")))
+        return jsonify(retired=acts.retire(user, from_text(body().get("id"), "id")))
 
     @app.post("/sign-out")
-    def sign_out():
+    def sign_out() -> AnyResponse:
         cookie.clear()
         return redirect("/", 303)
 
     @app.errorhandler(Refused)
-    def refused(error):
+    def refused(error: Refused) -> Answered:
         return jsonify(error=str(error), refusal=error.name), 403
 
     @app.errorhandler(BadInput)
-    @app.errorhandler(KeyError)
-    def bad_input(error):
+    def bad_input(error: BadInput) -> Answered:
         return jsonify(error=str(error)), 400
 
     @app.errorhandler(Taken)
-    def taken(error):
+    def taken(error: Taken) -> Answered:
         return jsonify(error=str(error)), 409
 
+    @app.errorhandler(SessionsFull)
     @app.errorhandler(StoreFailed)
-    def failed(error):
+    def failed(error: Exception) -> Answered:
         return jsonify(error=str(error)), 503
 
     return app
+
+
+def of_environment() -> Flask:
+    """The site for a WSGI server, as `gunicorn "app:of_environment()"`: ROWS is the address of its rows, ORIGIN its origin,
+    SECRET the secret of its cookies, the same in each process."""
+    return site(os.environ["ROWS"], os.environ["ORIGIN"], os.environ["SECRET"].encode())
 
 
 if __name__ == "__main__":

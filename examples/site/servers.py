@@ -6,11 +6,12 @@ import sys
 import time
 import urllib.request
 from pathlib import Path
+from typing import Optional
 
 APP = Path(__file__).resolve().parent / "app.py"
 
 
-def started(address, port, origin=None):
+def started(address: str, port: int, origin: Optional[str] = None) -> "subprocess.Popen[bytes]":
     """A process that answers on this port, and ends with this one."""
     words = {"PORT": str(port), "SECRET": "the same in each process", **({"ORIGIN": origin} if origin else {})}
     site = subprocess.Popen([sys.executable, str(APP), address], stderr=subprocess.DEVNULL, stdout=subprocess.DEVNULL,
@@ -25,6 +26,6 @@ def started(address, port, origin=None):
     raise SystemExit("the site did not start")
 
 
-def ended(site):
+def ended(site: "subprocess.Popen[bytes]") -> None:
     site.kill()
     site.wait()

@@ -7,7 +7,7 @@ import json
 import sqlite3
 import time
 from contextlib import closing, contextmanager
-from typing import Callable, Iterator, List, Optional, Tuple, Union
+from typing import Any, Callable, Iterator, List, Optional, Tuple, Union
 
 from garvoeng import Credential, RegistrationSession, SignedIn, SignInSession
 from garvoeng.forms import from_text, to_text
@@ -38,15 +38,6 @@ def _shown(session: Session) -> str:
     return json.dumps([user, [to_text(one) for one in session.allow], session.user_verification])
 
 
-def _session(kind: str, challenge: bytes, expects: str) -> Session:
-    if kind == "registration":
-        user, verification, algorithms = json.loads(expects)
-        return RegistrationSession(challenge, from_text(user, "user"), verification, tuple(algorithms))
-    user, allow, verification = json.loads(expects)
-    return SignInSession(challenge, None if user is None else from_text(user, "user"),
-                         tuple(from_text(one, "allow") for one in allow), verification)
-
-
 class Storage:
     """Rows in the SQLite file or the PostgreSQL database of this address."""
 
@@ -66,19 +57,20 @@ class Storage:
     @contextmanager
     def transaction(self) -> Iterator[Rows]:
         """The rows. Commits at the end, and rolls back at an exception."""
+        connection: Any
         if self.is_postgres:
             import psycopg2
             connection = psycopg2.connect(self.address)
             cursor = connection.cursor()
 
-            def run(statement: str, *values):
+            def run(statement: str, *values: Any) -> Any:
                 cursor.execute(statement.replace("?", "%s"), values)
                 return cursor
         else:
             connection = sqlite3.connect(self.address, isolation_level=None, timeout=30)
             connection.execute("begin immediate")
 
-            def run(statement: str, *values):
+            def run(statement: str, *values: Any) -> Any:
                 return connection.execute(statement, values)
         try:
             yield Rows(run)
@@ -93,7 +85,7 @@ class Storage:
 class Rows:
     """The rows within one transaction. `run(statement, *values)` answers a cursor."""
 
-    def __init__(self, run: Callable) -> None:
+    def __init__(self, run: Callable[..., Any]) -> None:
         self.run = run
 
     # ---- sessions
@@ -102,14 +94,30 @@ class Rows:
         """Stores a session; those that have ended go. Its number never comes again."""
         kind = "registration" if isinstance(session, RegistrationSession) else "sign-in"
         self.run("delete from sessions where begun_at < ?", time.time() - LIFETIME)
-        return self.run("insert into sessions (kind, challenge, expects, begun_at) values (?, ?, ?, ?) returning number",
-                        kind, session.challenge, _shown(session), time.time()).fetchone()[0]
+        return int(self.run("insert into sessions (kind, challenge, expects, begun_at) values (?, ?, ?, ?) returning number",
+                            kind, session.challenge, _shown(session), time.time()).fetchone()[0])
 
-    def take(self, kind: str, number: Optional[int]) -> Optional[Session]:
-        """The open session of this number, whose row is deleted: it answers one response, if this transaction commits."""
+    def _take(self, kind: str, number: Optional[int]) -> Optional[Tuple[bytes, List[Any]]]:
+        """Challenge and expectations of the open session of this number, whose row is deleted: it answers one response, if
+        this transaction commits."""
         row = self.run("delete from sessions where number = ? and kind = ? and begun_at >= ? returning challenge, expects",
                        number, kind, time.time() - LIFETIME).fetchone()
-        return None if row is None else _session(kind, bytes(row[0]), row[1])
+        return None if row is None else (bytes(row[0]), json.loads(row[1]))
+
+    def take_registration(self, number: Optional[int]) -> Optional[RegistrationSession]:
+        taken = self._take("registration", number)
+        if taken is None:
+            return None
+        challenge, (user, verification, algorithms) = taken
+        return RegistrationSession(challenge, from_text(user, "user"), verification, tuple(algorithms))
+
+    def take_sign_in(self, number: Optional[int]) -> Optional[SignInSession]:
+        taken = self._take("sign-in", number)
+        if taken is None:
+            return None
+        challenge, (user, allow, verification) = taken
+        return SignInSession(challenge, None if user is None else from_text(user, "user"),
+                             tuple(from_text(one, "allow") for one in allow), verification)
 
     # ---- credentials
 
@@ -143,7 +151,7 @@ class Rows:
 
     def retire(self, user: bytes, id: bytes) -> bool:
         """Retires a passkey of this user; whether there is one of this id."""
-        return self.run("update credentials set retired = true where id = ? and user_handle = ?", id, user).rowcount == 1
+        return bool(self.run("update credentials set retired = true where id = ? and user_handle = ?", id, user).rowcount == 1)
 
     def passkeys(self, user: bytes) -> List[Tuple[bytes, int, bool]]:
         """Id, counter and whether it is retired, of each passkey of a user."""

@@ -1,5 +1,6 @@
 """What `try` does in the browser, over each storage that it is given."""
 import json
+import os
 import sqlite3
 import sys
 import time
@@ -9,14 +10,15 @@ from dataclasses import replace
 from pathlib import Path
 
 sys.path.insert(0, str(Path(__file__).resolve().parents[2] / "python" / "tests"))
-from browser import Browser  # noqa: E402
+from browser import Chromium, Firefox  # noqa: E402
 from device import RS256, Device  # noqa: E402
 from garvoeng import ES256, Credential, SignedIn, SignInSession  # noqa: E402
 from garvoeng.forms import from_text  # noqa: E402
 from servers import ended, started  # noqa: E402
 from storage import LIFETIME, Storage, Taken  # noqa: E402
 
-HERE = Path(__file__).resolve().parent
+PICTURE = os.environ.get("PICTURE")
+"""Where a picture of the page goes, if anywhere."""
 PORT, DRIVER = 8766, 8767
 ORIGIN = f"http://localhost:{PORT}"
 passed = failed = 0
@@ -46,13 +48,13 @@ def tries_rows(address, name):
         with storage.transaction() as rows:
             numbers.append(rows.begin(SignInSession(challenge)))
         with storage.transaction() as rows:
-            taken = rows.take("sign-in", numbers[-1])
+            taken = rows.take_sign_in(numbers[-1])
     see(f"{name}: a session is what was begun", taken == SignInSession(b"2" * 32))
     see(f"{name}: the number of a session that is gone never comes again", numbers[0] < numbers[1])
     with storage.transaction() as rows:
         number = rows.begin(SignInSession(b"3" * 32))
     with storage.transaction() as rows:
-        other_kind = rows.take("registration", number)
+        other_kind = rows.take_registration(number)
     see(f"{name}: a session for sign-in registers nothing", other_kind is None)
     with storage.transaction() as rows:
         rows.run("update sessions set begun_at = begun_at - ?", LIFETIME + 1)
@@ -66,14 +68,14 @@ def tries_rows(address, name):
     see(f"{name}: an id is registered once", is_taken(storage, lambda rows: rows.add("row", first)))
     other = replace(first, id=b"other", user=b"other user")
     see(f"{name}: a name is one account's", is_taken(storage, lambda rows: rows.add("row", other)))
-    signed_in = SignedIn(replace(first, sign_count=6, eligible=True), first, False)
+    signed_in = SignedIn(replace(first, sign_count=6, eligible=True), first, False, True, 5, b"")
     with storage.transaction() as rows:
         rows.count(signed_in)
     with storage.transaction() as rows:
         stored = rows.credential(b"id")
     see(f"{name}: counter and eligibility are stored", stored == signed_in.credential)
     see(f"{name}: of two sign-ins over one counter one is accepted", is_taken(storage, lambda rows: rows.count(signed_in)))
-    again = SignedIn(replace(stored, sign_count=7), stored, False)
+    again = SignedIn(replace(stored, sign_count=7), stored, False, True, 5, b"")
     with storage.transaction() as rows:
         not_own, own = rows.retire(b"other user", b"id"), rows.retire(b"user", b"id")
     see(f"{name}: nobody retires another's passkey", own and not not_own)
@@ -105,6 +107,45 @@ def tries_rsa(name, packed):
     see(f"{name}: its id not for another account (G15)", post("/register/finish", device.register(options, packed=packed)).get("refusal") == "G15")
 
 
+def tries_many(name):
+    """Nine passkeys of one account, each signed in with by name and without."""
+    visitor = urllib.request.build_opener(urllib.request.HTTPCookieProcessor())
+
+    def post(path, body):
+        asked = urllib.request.Request(ORIGIN + path, json.dumps(body).encode(), {"Content-Type": "application/json"})
+        try:
+            return json.load(visitor.open(asked))
+        except urllib.error.HTTPError as refused:
+            return json.load(refused)
+
+    devices = [Device(rp_id="localhost", origin=ORIGIN, credential=b"one of nine, %d" % number) for number in range(9)]
+    for device in devices:
+        options = post("/register/begin", {"name": "nine"})
+        post("/register/finish", device.register(options))
+    user = from_text(options["user"]["id"], "user")
+    for what, asked in (("by name", {"name": "nine"}), ("without a name", {})):
+        counts = [post("/sign-in/finish", device.sign_in(post("/sign-in/begin", asked), user)).get("count") for device in devices]
+        see(f"{name}: each of nine passkeys signs in {what}", counts == [1 + (what != "by name")] * 9)
+
+
+def tries_bodies(name):
+    """What is no request of the page: answered by 400, and by no trace."""
+    deep = b'{"name":' + b"[" * 20_000 + b"]" * 20_000 + b"}"
+    bodies = [b"[]", b"null", b"7", b'"a"', b"", b"{", b"\xff", deep, b'{"name":[]}', b'{"name":{}}', b'{"name":7}',
+              b'{"name":"\\u0000"}', b'{"name":"\\ud800"}', b'{"name":"' + b"a" * 65 + b'"}', b'{"id":null}']
+    for path in ("/register/begin", "/register/finish", "/sign-in/begin", "/sign-in/finish"):
+        statuses = []
+        for body in bodies + ([b'{"name":""}', b"{}"] if path == "/register/begin" else []):
+            if path == "/sign-in/begin" and body == b'{"id":null}':
+                continue
+            try:
+                statuses.append(urllib.request.urlopen(urllib.request.Request(
+                    ORIGIN + path, body, {"Content-Type": "application/json"})).status)
+            except urllib.error.HTTPError as refused:
+                statuses.append(refused.code)
+        see(f"{name}: bodies that are no request of {path}: {sorted(set(statuses))}", set(statuses) <= {400})
+
+
 def with_rows(site, address, statement, of_program, *values):
     """The first value of a statement on the rows, and the site. Of the program's file it is another statement, while no
     process has the file."""
@@ -121,7 +162,17 @@ def with_rows(site, address, statement, of_program, *values):
     return found and found[0], started(address, PORT)
 
 
-def tries(browser, address, name):
+def emptied(address):
+    """The address of files that are not there; of a database as it is."""
+    if not address.startswith("postgres"):
+        path = Path(address.removeprefix("program:"))
+        for file in path.parent.glob(path.name + "*"):
+            file.unlink()
+    return address
+
+
+def tries(browser, address, name, is_whole):
+    """All that a visitor does in a browser; with `is_whole` what needs none, too."""
     def run(script):
         return browser.run(script)
 
@@ -138,7 +189,8 @@ def tries(browser, address, name):
     see(f"{name}: signed in by name", run("signIn()").get("user"))
     see(f"{name}: signed in without a name", run("signIn({name: ''})").get("user"))
     see(f"{name}: signed in with verification required", run("signIn({verified: true})").get("user"))
-    browser.picture(HERE / "picture.png") if name == "SQLite" else None
+    if PICTURE and name.startswith("Chromium") and name.endswith("SQLite"):
+        browser.picture(Path(PICTURE))
     again = run("register()")
     see(f"{name}: the same key not a second time", "InvalidStateError" in again.get("error", ""))
     run("(async () => { window.kept = await assertion(); window.first = await post('/sign-in/finish', window.kept); })()")
@@ -214,20 +266,26 @@ def tries(browser, address, name):
     see(f"{name}: a passkey that is not resident", made.get("passkey") and [one["isResidentCredential"] for one in browser.credentials(third)] == [False])
     see(f"{name}: signed in with it by name", run("signIn()").get("user"))
     browser.without(third)
-    tries_rsa(name, False)
-    tries_rsa(name, True)
+    if is_whole:
+        tries_rsa(name, False)
+        tries_rsa(name, True)
+        tries_many(name)
+        tries_bodies(name)
     for process in (other, site):
         ended(process)
 
 
-browser = Browser(DRIVER)
-try:
-    for address in sys.argv[1:]:
-        name = "PostgreSQL" if address.startswith("postgres") else "the program" if address.startswith("program:") else "SQLite"
-        if name != "the program":
-            tries_rows(address, name)
-        tries(browser, address, name)
-finally:
-    browser.close()
+for kind in (Chromium, Firefox):
+    browser = kind(DRIVER)
+    try:
+        for address in sys.argv[1:]:
+            name = "PostgreSQL" if address.startswith("postgres") else "the program" if address.startswith("program:") else "SQLite"
+            if kind is Firefox and name == "PostgreSQL":
+                continue
+            if kind is Chromium and name != "the program":
+                tries_rows(address, name)
+            tries(browser, emptied(address), f"{browser.version.split('.')[0]}, {name}", kind is Chromium)
+    finally:
+        browser.close()
 print(f"{passed} passed, {failed} failed")
 sys.exit(failed != 0)

@@ -3,16 +3,18 @@ is part of this package. Signatures are verified by `cryptography`.
 
     server = Server("example.com", ["https://example.com"])
     options, session = server.register_begin(b"handle of the account", "name")
-    credential = server.register_complete(session, response, is_registered=has)
+    registered = server.register_complete(session, response, is_registered=has)
     options, session = server.authenticate_begin()
     signed_in = server.authenticate_complete(session, response, credential=find)
 
 `StoredServer` has the same four calls over the proved program, which keeps sessions and credentials in a file.
 """
 from .library import EDDSA, ES256, RS256, is_canonical
-from .records import BadInput, Credential, Refused, RegistrationSession, SignedIn, SignInSession
+from .limits import MAX_LIST, MAX_STORED_LIST
+from .records import BadInput, Credential, Refused, Registered, RegistrationSession, SignedIn, SignInSession
 from .server import Server
-from .stored import StoredServer, StoredSignIn, StoreFailed
+from .stored import SessionsFull, StoredServer, StoredSignIn, StoreFailed
 
-__all__ = ["EDDSA", "ES256", "RS256", "BadInput", "Credential", "Refused", "RegistrationSession", "Server", "SignInSession",
-           "SignedIn", "StoreFailed", "StoredServer", "StoredSignIn", "is_canonical"]
+__all__ = ["EDDSA", "ES256", "MAX_LIST", "MAX_STORED_LIST", "RS256", "BadInput", "Credential", "Refused",
+           "Registered", "RegistrationSession", "Server", "SessionsFull", "SignInSession", "SignedIn", "StoreFailed", "StoredServer",
+           "StoredSignIn", "is_canonical"]

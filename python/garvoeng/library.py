@@ -1,16 +1,31 @@
-"""The shared object of `c/passkey.h`, by ctypes: structs as there, and a function for each call."""
+"""The shared object of `c/passkey.h`, by ctypes: structs as there, and a function for each call. A flag that is handed in is
+a `c_bool`, which writes 1 for each true value."""
 from __future__ import annotations
 
+import builtins
 import ctypes
 from ctypes import POINTER, Structure, c_bool, c_char_p, c_int32, c_size_t, c_uint8, c_uint32, c_uint64, c_void_p
 from pathlib import Path
-from typing import Sequence, Tuple
+from typing import Optional, Sequence, Tuple
 
-ABI_VERSION = 2
+ABI_VERSION = 3
 ES256 = -7
 EDDSA = -8
 RS256 = -257
 MAX_ID = 1023
+MAX_COSE_KEY = 13 + 512 + 4
+"""The most bytes of a COSE_Key: of RS256 with 4,096 bits."""
+
+ACCEPTED = 0
+BAD_STATEMENT = 13
+"""Of a registration."""
+BAD_SIGNATURE = 14
+"""Of a sign-in."""
+LAST_STEP = 16
+NO_MEMORY = 127
+
+FORMATS = ("none", "packed")
+"""How a credential is attested, by the library's number: not at all, or by a packed statement of its own key."""
 
 
 class Bytes(Structure):
@@ -91,7 +106,14 @@ class AssertionCall(Structure):
 
 
 class AssertionOut(Structure):
-    _fields_ = [("sign_count", c_uint32), ("eligible", c_bool), ("backed_up", c_bool)]
+    _fields_ = [
+        ("sign_count", c_uint32),
+        ("eligible", c_bool),
+        ("backed_up", c_bool),
+        ("user_verified", c_bool),
+        ("flags", c_uint8),
+        ("extensions_size", c_size_t),
+    ]
 
 
 class RegisterParts(Structure):
@@ -132,6 +154,12 @@ class RegistrationOut(Structure):
         ("key", KeyOut),
         ("sign_count", c_uint32),
         ("eligible", c_bool),
+        ("backed_up", c_bool),
+        ("user_verified", c_bool),
+        ("flags", c_uint8),
+        ("aaguid", c_uint8 * 16),
+        ("format", c_uint32),
+        ("extensions_size", c_size_t),
     ]
 
 
@@ -160,13 +188,13 @@ class Lender:
     def __init__(self) -> None:
         self._held: list[object] = []
 
-    def bytes(self, value: bytes) -> Bytes:
+    def bytes(self, value: builtins.bytes) -> Bytes:
         """The bytes, where they lie; null where there are none."""
-        value = bytes(value)
+        value = builtins.bytes(value)
         self._held.append(value)
         return Bytes(value or None, len(value))
 
-    def list(self, values: Sequence[bytes]) -> "ctypes.Array[Bytes]":
+    def list(self, values: Sequence[builtins.bytes]) -> "ctypes.Array[Bytes]":
         array = (Bytes * len(values))(*[self.bytes(value) for value in values])
         self._held.append(array)
         return array
@@ -186,7 +214,9 @@ def _load() -> ctypes.CDLL:
         ("passkey_challenge", c_bool, [c_uint64, *room, *room]),
         ("passkey_challenge_text", c_bool, room * 2),
         ("passkey_is_canonical", c_bool, room),
-        ("passkey_refusal_text", c_size_t, [c_bool, c_uint32, *room]),
+        ("passkey_refusal_text", c_size_t, [c_uint32, c_uint32, *room]),
+        ("passkey_key_from_cose", c_bool, [*room, POINTER(KeyOut)]),
+        ("passkey_key_to_cose", c_size_t, [POINTER(Key), *room]),
     ):
         function = getattr(made, name)
         function.restype = result
@@ -215,3 +245,23 @@ def challenge(session: int, words: bytes) -> bytes:
     if not passkey.passkey_challenge(session, words, len(words), room, len(room)):
         raise ValueError("24 random bytes are wanted")
     return room.raw
+
+
+def last(value: bytes, size: int) -> bytes:
+    """The last bytes, so many."""
+    return value[len(value) - size:]
+
+
+def key_from_cose(value: bytes) -> Optional[Tuple[int, bytes, bytes]]:
+    """The algorithm, x and y of COSE_Key bytes; None where they are no key's in canonical CBOR."""
+    out = KeyOut()
+    return out.parts() if passkey.passkey_key_from_cose(value, len(value), ctypes.byref(out)) else None
+
+
+def key_to_cose(algorithm: int, x: bytes, y: bytes) -> bytes:
+    """COSE_Key bytes; none where the key is out of its limits, or there was no memory."""
+    lender = Lender()
+    room = ctypes.create_string_buffer(MAX_COSE_KEY)
+    key = Key(algorithm, lender.bytes(x), lender.bytes(y))
+    size = passkey.passkey_key_to_cose(ctypes.byref(key), room, len(room))
+    return room.raw[:size]

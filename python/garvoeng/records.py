@@ -2,8 +2,9 @@
 from __future__ import annotations
 
 from dataclasses import dataclass
-from typing import Optional, Tuple
+from typing import Any, Optional, Tuple
 
+from . import library
 from .library import EDDSA, ES256, RS256
 
 SIGN_IN_STEPS = (
@@ -66,6 +67,45 @@ class Credential:
     retired: bool = False
     """Whether it signs in no more."""
 
+    @classmethod
+    def from_cose(cls, id: bytes, user: bytes, cose_key: bytes, sign_count: int, eligible: Optional[bool] = None,
+                  retired: bool = False) -> "Credential":
+        """A credential whose key is given as COSE_Key bytes (RFC 9052, section 7), as other libraries store it. Raises
+        `BadInput` where they are not those of a key of ES256, EdDSA or RS256 in canonical CBOR."""
+        key = library.key_from_cose(bytes(cose_key))
+        if key is None:
+            raise BadInput("the key is not a COSE_Key of ES256, EdDSA or RS256 in canonical CBOR")
+        return cls(bytes(id), bytes(user), *key, sign_count, eligible, retired)
+
+    @property
+    def cose_key(self) -> bytes:
+        """The public key as COSE_Key bytes (RFC 9052, section 7), in canonical CBOR. Raises `BadInput` where the algorithm, x
+        or y is out of its limits."""
+        cose_key = library.key_to_cose(self.algorithm, self.x, self.y) if self.algorithm in (ES256, EDDSA, RS256) else b""
+        if not cose_key:
+            raise BadInput("the key is out of its limits")
+        return cose_key
+
+
+@dataclass(frozen=True)
+class Registered:
+    """A registration that was accepted."""
+
+    credential: Credential
+    """To be stored."""
+    aaguid: bytes
+    """The kind of the authenticator, by its own word: 16 bytes, of which many keys send zeros."""
+    format: str
+    """How the credential is attested: `none`, or `packed`, by a signature of its own key."""
+    user_verified: bool
+    """Whether the user was verified (UV)."""
+    backed_up: bool
+    """Whether the credential is backed up now (BS)."""
+    flags: int
+    """The flags of the authenticator data, by their bits (WebAuthn Level 2, section 6.1)."""
+    extensions: bytes
+    """The authenticator's extension outputs, one map of CBOR; none where there is none."""
+
 
 @dataclass(frozen=True)
 class SignedIn:
@@ -77,7 +117,13 @@ class SignedIn:
     """The credential that the verdict was given for. Store the new one only where the stored one still has this counter
     and isn't retired, in one transaction with the end of the session."""
     backed_up: bool
-    """Whether it is backed up now."""
+    """Whether it is backed up now (BS)."""
+    user_verified: bool
+    """Whether the user was verified (UV)."""
+    flags: int
+    """The flags of the authenticator data, by their bits (WebAuthn Level 2, section 6.1)."""
+    extensions: bytes
+    """The authenticator's extension outputs, one map of CBOR; none where there is none."""
 
 
 class Refused(Exception):
@@ -92,7 +138,11 @@ class Refused(Exception):
         """The name of the step."""
         self.name = f"{'G' if is_registration else 'W'}{number}"
         """As the program prints it: G and the number for a registration, W for a sign-in."""
+        self.text = text
         super().__init__(f"{self.name} {self.step}: {text}")
+
+    def __reduce__(self) -> Tuple[Any, ...]:
+        return type(self), (self.is_registration, self.number, self.text)
 
 
 class BadInput(ValueError):
@@ -101,4 +151,8 @@ class BadInput(ValueError):
     def __init__(self, text: str, number: int = 0) -> None:
         self.number = number
         """The number of the answer, 100 and up; 0 where the library was not asked."""
+        self.text = text
         super().__init__(text)
+
+    def __reduce__(self) -> Tuple[Any, ...]:
+        return type(self), (self.text, self.number)

@@ -5,21 +5,21 @@ import ctypes
 import secrets
 from typing import Any, Callable, Dict, Iterable, Mapping, Optional, Sequence, Tuple
 
-from . import forms, library, signatures
+from . import forms, library, limits, signatures
 from .library import EDDSA, ES256, RS256, Lender, passkey
-from .records import BadInput, Credential, Refused, RegistrationSession, SignedIn, SignInSession
+from .records import BadInput, Credential, Refused, Registered, RegistrationSession, SignedIn, SignInSession
 
 Verify = Callable[[int, bytes, bytes, bytes, bytes], bool]
 
 
 def _answer(is_registration: bool, number: int) -> None:
-    """Raises what the answer says; nothing where it is 0."""
-    if number == 0:
+    """Raises what the answer says; nothing where it is accepted."""
+    if number == library.ACCEPTED:
         return
     text = library.refusal_text(is_registration, number)
-    if number <= 16:
+    if number <= library.LAST_STEP:
         raise Refused(is_registration, number, text)
-    if number == 127:
+    if number == library.NO_MEMORY:
         raise MemoryError(text)
     raise BadInput(text, number)
 
@@ -32,11 +32,9 @@ class Server:
 
     def __init__(self, rp_id: str, origins: Sequence[str], rp_name: Optional[str] = None, *, accept_none: bool = True,
                  accept_self: bool = True, open_profile: bool = True, verify: Verify = signatures.is_valid) -> None:
-        if isinstance(origins, str):
-            raise BadInput("origins is a list of texts")
+        self.origins = limits.check_party(rp_id, origins)
         self.rp_id = rp_id
         self.rp_name = rp_name if rp_name is not None else rp_id
-        self.origins = tuple(origins)
         self.accept_none = accept_none
         self.accept_self = accept_self
         self.open_profile = open_profile
@@ -55,15 +53,14 @@ class Server:
 
         `user` is the user handle, 1 to 64 bytes that name nobody; `exclude` are the ids of the account's credentials.
         """
-        if not set(algorithms) <= {ES256, EDDSA, RS256}:
-            raise BadInput("algorithms are ES256 (-7), EDDSA (-8) and RS256 (-257)")
-        session = RegistrationSession(secrets.token_bytes(32), bytes(user), user_verification, tuple(algorithms))
+        session = RegistrationSession(secrets.token_bytes(32), limits.check_user(user), user_verification,
+                                      limits.check_algorithms(algorithms))
         options = {
             "rp": {"id": self.rp_id, "name": self.rp_name},
-            "user": {"id": forms.to_text(user), "name": user_name, "displayName": display_name or user_name},
+            "user": {"id": forms.to_text(session.user), "name": user_name, "displayName": display_name or user_name},
             "challenge": forms.to_text(session.challenge),
             "pubKeyCredParams": [{"type": "public-key", "alg": number} for number in session.algorithms],
-            "excludeCredentials": [forms.descriptor(credential_id) for credential_id in exclude],
+            "excludeCredentials": [forms.descriptor(credential_id) for credential_id in limits.check_ids(exclude)],
             "authenticatorSelection": {
                 "residentKey": "required" if resident else "discouraged",
                 "requireResidentKey": resident,
@@ -74,21 +71,21 @@ class Server:
         return options, session
 
     def register_complete(self, session: Optional[RegistrationSession], response: Mapping[str, Any], *,
-                          is_registered: Callable[[bytes], bool], is_full: bool = False) -> Credential:
-        """The credential of a RegistrationResponseJSON, to be stored.
+                          is_registered: Callable[[bytes], bool], is_full: bool = False) -> Registered:
+        """What a RegistrationResponseJSON registers: the credential, to be stored, and what is known of it.
 
         `session` is None where none is open. `is_registered(id)` tells whether a credential has the id, to anyone,
         retired or not. Raises `Refused` with the first step that is not passed, `BadInput` where the response is not
         in the form of JSON.
         """
-        parts = forms.response_in(response)
-        raw_id = forms.member(response, "rawId" if "rawId" in response else "id")
+        parts = forms.bytes_in(response, forms.REGISTRATION_MEMBERS)
+        raw_id = parts["rawId"]
         return self.register_complete_parts(
-            session, forms.member(parts, "attestationObject"), forms.member(parts, "clientDataJSON"),
+            session, parts["attestationObject"], parts["clientDataJSON"],
             free_id=None if is_registered(raw_id) else raw_id, is_full=is_full)
 
     def register_complete_parts(self, session: Optional[RegistrationSession], attestation_object: bytes,
-                                client_data: bytes, *, free_id: Optional[bytes], is_full: bool = False) -> Credential:
+                                client_data: bytes, *, free_id: Optional[bytes], is_full: bool = False) -> Registered:
         """The same of the response's parts. `free_id` is an id that no credential has; each other counts as
         registered."""
         lender = Lender()
@@ -108,13 +105,16 @@ class Server:
         call.is_full = is_full
         out = library.RegistrationOut()
         answer = passkey.passkey_registration(ctypes.byref(call), ctypes.byref(out))
-        if answer == 13 and self._verify_asked(
+        if answer == library.BAD_STATEMENT and self._verify_asked(
                 lender, call, library.SignatureCall(True, self.open_profile, registration=call.response),
                 len(attestation_object)):
             answer = passkey.passkey_registration(ctypes.byref(call), ctypes.byref(out))
         _answer(True, answer)
         assert session is not None
-        return Credential(bytes(out.id[:out.id_size]), session.user, *out.key.parts(), out.sign_count, out.eligible)
+        algorithm, x, y = out.key.parts()
+        credential = Credential(bytes(out.id[:out.id_size]), session.user, algorithm, x, y, out.sign_count, out.eligible)
+        return Registered(credential, bytes(out.aaguid), library.FORMATS[out.format], out.user_verified, out.backed_up,
+                          out.flags, library.last(attestation_object, out.extensions_size))
 
     def _verify_asked(self, lender: Lender, call: Any, asked: library.SignatureCall, size: int) -> bool:
         """Verifies the signature that a response asks for, and where it is valid hands in what was verified. `size` is
@@ -124,8 +124,9 @@ class Server:
         out = library.SignatureOut()
         _answer(asked.is_registration, passkey.passkey_signature_asked(
             ctypes.byref(asked), message, size + 32, signature, size, ctypes.byref(out)))
+        algorithm, x, y = out.key.parts()
         return bool(out.is_asked) and self._hand_in(lender, call, (
-            *out.key.parts(), message.raw[:out.message_size], signature.raw[:out.signature_size]))
+            algorithm, x, y, message.raw[:out.message_size], signature.raw[:out.signature_size]))
 
     def _hand_in(self, lender: Lender, call: Any, asked: Tuple[int, bytes, bytes, bytes, bytes]) -> bool:
         """Verifies a signature, and where it is valid hands in what was verified."""
@@ -146,7 +147,8 @@ class Server:
         `user` is the user handle of the account, where it is known; `allow` the ids of the credentials that may
         answer, none for any.
         """
-        session = SignInSession(secrets.token_bytes(32), user, tuple(allow), user_verification)
+        session = SignInSession(secrets.token_bytes(32), None if user is None else limits.check_user(user),
+                                limits.check_ids(allow), user_verification)
         options = {
             "challenge": forms.to_text(session.challenge),
             "rpId": self.rp_id,
@@ -162,12 +164,11 @@ class Server:
         `session` is None where none is open. `credential(id)` answers the site's credential of the id, or None. Raises
         `Refused` with the first step that is not passed, `BadInput` where the response is not in the form of JSON.
         """
-        parts = forms.response_in(response)
-        raw_id = forms.member(response, "rawId" if "rawId" in response else "id")
+        parts = forms.bytes_in(response, forms.SIGN_IN_MEMBERS, ("userHandle",))
+        raw_id = parts["rawId"]
         return self.authenticate_complete_parts(
-            session, credential(raw_id), raw_id, forms.optional_member(parts, "userHandle"),
-            forms.member(parts, "authenticatorData"), forms.member(parts, "signature"),
-            forms.member(parts, "clientDataJSON"))
+            session, credential(raw_id), raw_id, parts.get("userHandle"), parts["authenticatorData"],
+            parts["signature"], parts["clientDataJSON"])
 
     def authenticate_complete_parts(self, session: Optional[SignInSession], credential: Optional[Credential],
                                     raw_id: bytes, user: Optional[bytes], auth_data: bytes, signature: bytes,
@@ -183,6 +184,7 @@ class Server:
                                                session.user is not None, lender.bytes(session.user or b""), allow,
                                                len(allow))
         if credential is not None:
+            limits.check_credential(credential.algorithm, credential.sign_count)
             key = library.Key(credential.algorithm, lender.bytes(credential.x), lender.bytes(credential.y))
             call.has_credential = True
             call.credential = library.CredentialParts(
@@ -193,7 +195,7 @@ class Server:
             lender.bytes(signature), lender.bytes(client_data))
         out = library.AssertionOut()
         answer = passkey.passkey_assertion(ctypes.byref(call), ctypes.byref(out))
-        if answer == 14 and self._verify_asked(
+        if answer == library.BAD_SIGNATURE and self._verify_asked(
                 lender, call, library.SignatureCall(False, assertion=call.response, key=call.credential.key),
                 max(len(auth_data), len(signature))):
             answer = passkey.passkey_assertion(ctypes.byref(call), ctypes.byref(out))
@@ -201,4 +203,5 @@ class Server:
         assert credential is not None
         now = Credential(credential.id, credential.user, credential.algorithm, credential.x, credential.y, out.sign_count,
                          out.eligible, credential.retired)
-        return SignedIn(now, credential, out.backed_up)
+        return SignedIn(now, credential, out.backed_up, out.user_verified, out.flags,
+                        library.last(auth_data, out.extensions_size))

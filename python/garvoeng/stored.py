@@ -2,23 +2,37 @@
 runs beside this process, and answers lines of JSON."""
 from __future__ import annotations
 
+import itertools
 import json
+import logging
 import subprocess
 import threading
 from collections import deque
 from dataclasses import dataclass
-from typing import Any, Callable, Deque, Dict, Iterable, List, Mapping, Optional, Sequence, Tuple
+from subprocess import PIPE
+from typing import Any, Callable, Deque, Dict, Iterable, List, Mapping, Optional, Sequence, Tuple, Union
 
-from . import forms, signatures
+from . import forms, limits, signatures
 from .library import EDDSA, ES256, RS256
-from .records import BadInput, Credential, Refused
+from .records import BadInput, Credential, Refused, Registered
 
 Verify = Callable[[int, bytes, bytes, bytes, bytes], bool]
 
+MAX_LINE = 65_536
+"""The most bytes of a line that the program takes."""
+_FULL = "too many sessions are open"
+_log = logging.getLogger("garvoeng")
+
 
 class StoreFailed(Exception):
-    """The program ended before it answered, or its disk or memory failed: what was asked is done or is not. The next call
-    starts the program again, and it goes on with the site that the file holds."""
+    """The program could not be started, ended before it answered, or its disk or memory failed: what was asked is done or
+    is not. The text has the cause that the program told. The next call starts the program again, and it goes on with the
+    site that the file holds."""
+
+
+class SessionsFull(Exception):
+    """As many sessions are open as `max_open` allows, so no further one begins. Nothing is wrong with the request: answer
+    503, and end old sessions by `expire`."""
 
 
 @dataclass(frozen=True)
@@ -30,7 +44,19 @@ class StoredSignIn:
     user: bytes
     """The user handle."""
     backed_up: bool
-    """Whether the credential is backed up now."""
+    """Whether the credential is backed up now (BS)."""
+    user_verified: bool
+    """Whether the user was verified (UV)."""
+    sign_count: int
+    """The signature counter that was received."""
+    flags: int
+    """The flags of the authenticator data, by their bits (WebAuthn Level 2, section 6.1)."""
+    extensions: bytes
+    """The authenticator's extension outputs, one map of CBOR; none where there is none."""
+
+
+def _extensions(accepted: Mapping[str, Any]) -> bytes:
+    return forms.from_text(accepted["extensions"] or "", "extensions")
 
 
 def _credential(row: Mapping[str, Any]) -> Credential:
@@ -39,92 +65,161 @@ def _credential(row: Mapping[str, Any]) -> Credential:
                       row["sign_count"], row["eligible"], row["retired"])
 
 
+def _listed(ids: Iterable[bytes]) -> List[str]:
+    return [forms.to_text(one) for one in limits.check_ids(ids, limits.MAX_STORED_LIST)]
+
+
+def _answer(line: bytes, number: int) -> Dict[str, Any]:
+    """The answer to the line of this number. One to a line that the program could not read has no number."""
+    answer = json.loads(line)
+    if not line.endswith(b"\n") or not isinstance(answer, dict) or answer.pop("id", 0) not in (number, None):
+        raise ValueError
+    return answer
+
+
 class _Process:
-    """A run of the program. Each line has a number, by which its answer is found; one that the program can't read, as of
-    more than 65,536 bytes, is answered without it. Answers come in the order of the lines."""
+    """A run of the program. Each line has a number, and answers come in the order of the lines."""
 
     def __init__(self, words: Sequence[str]) -> None:
-        self.process = subprocess.Popen(words, stdin=subprocess.PIPE, stdout=subprocess.PIPE)
+        try:
+            self.process = subprocess.Popen(words, stdin=PIPE, stdout=PIPE, stderr=PIPE)
+        except OSError as error:
+            raise StoreFailed(f"the program can't be started: {error}") from None
         self.writing = threading.Lock()
         self.changed = threading.Condition()
+        self.numbers = itertools.count(1)
         self.asked: Deque[int] = deque()
-        self.answers: Dict[int, Dict[str, Any]] = {}
+        self.waiting: Dict[int, Optional[Dict[str, Any]]] = {}
+        self.is_killed = False
         self.has_ended = False
-        self.number = 0
-        self.reader = threading.Thread(target=self._read, daemon=True)
-        self.reader.start()
+        self.said: Deque[str] = deque(maxlen=8)
+        self.hearing = threading.Thread(target=self._hear, daemon=True)
+        self.reading = threading.Thread(target=self._read, daemon=True)
+        self.hearing.start()
+        self.reading.start()
 
     def _read(self) -> None:
+        """Hands each answer to the one that asked, up to the first that is none."""
         assert self.process.stdout is not None
-        for line in self.process.stdout:
-            if not line.endswith(b"\n"):
-                break
-            answer = json.loads(line)
+        try:
+            for line in self.process.stdout:
+                with self.changed:
+                    number = self.asked.popleft()
+                    answer = _answer(line, number)
+                    if number in self.waiting:
+                        self.waiting[number] = answer
+                        self.changed.notify_all()
+        except (IndexError, ValueError):
+            _log.error("the program answered what is no answer")
+        finally:
+            self._kill()
+            self.hearing.join()
             with self.changed:
-                number = self.asked.popleft()
-                if answer.pop("id") not in (number, None):
-                    break
-                self.answers[number] = answer
+                self.has_ended = True
                 self.changed.notify_all()
-        with self.changed:
-            self.has_ended = True
-            self.changed.notify_all()
 
-    def ask(self, act: str, members: Mapping[str, Any]) -> Dict[str, Any]:
-        with self.writing:
-            self.number += 1
-            number = self.number
+    def _hear(self) -> None:
+        assert self.process.stderr is not None
+        for line in self.process.stderr:
+            text = line.decode(errors="replace").strip()
+            if text:
+                self.said.append(text)
+                _log.warning("%s", text)
+
+    def _kill(self) -> None:
+        self.is_killed = True
+        self.process.kill()
+
+    def _failed(self, what: str) -> StoreFailed:
+        return StoreFailed(": ".join([what, *list(self.said)[-1:]]))
+
+    def _write(self, number: int, line: bytes) -> None:
+        """Counts a line and writes it. One that is not written whole ends the program, so that none is ever answered in
+        another's place."""
+        assert self.process.stdin is not None
+        try:
             self.asked.append(number)
-            line = json.dumps({"id": number, "act": act, **members}).encode() + b"\n"
-            try:
-                assert self.process.stdin is not None
-                self.process.stdin.write(line)
-                self.process.stdin.flush()
-            except (BrokenPipeError, ValueError):
-                raise StoreFailed("the program has ended") from None
-        with self.changed:
-            self.changed.wait_for(lambda: number in self.answers or self.has_ended)
-            if number not in self.answers:
-                raise StoreFailed("the program ended before it answered")
-            return self.answers.pop(number)
+            self.process.stdin.write(line)
+            self.process.stdin.flush()
+        except BaseException:
+            self._kill()
+            raise
+
+    def ask(self, act: str, members: Mapping[str, Any], timeout: float) -> Dict[str, Any]:
+        number = next(self.numbers)
+        line = json.dumps({"id": number, "act": act, **members}, allow_nan=False).encode() + b"\n"
+        if len(line) > MAX_LINE:
+            raise BadInput("the line is too long")
+        self.waiting[number] = None
+        try:
+            with self.writing:
+                self._write(number, line)
+            with self.changed:
+                answered = self.changed.wait_for(lambda: self.waiting[number] is not None or self.has_ended, timeout)
+        except (OSError, ValueError):
+            self.reading.join(timeout)
+            raise self._failed("the program has ended") from None
+        finally:
+            answer = self.waiting.pop(number)
+        if answer is not None:
+            return answer
+        if answered:
+            raise self._failed("the program ended before it answered")
+        self._kill()
+        raise StoreFailed(f"the program did not answer in {timeout:g} seconds")
 
     def is_running(self) -> bool:
-        return not self.has_ended and self.process.poll() is None
+        return not self.is_killed and self.process.poll() is None
 
-    def end(self) -> int:
-        """Ends the input, by which the program closes its file; its status."""
-        with self.writing:
-            assert self.process.stdin is not None
+    def end(self, timeout: float) -> int:
+        """Ends the input, by which the program closes its file; its status. One that has not ended in time is killed."""
+        assert self.process.stdin is not None
+        if self.writing.acquire(timeout=timeout):
             try:
                 self.process.stdin.close()
-            except BrokenPipeError:
+            except OSError:
                 pass
-        self.reader.join()
-        return self.process.wait()
+            finally:
+                self.writing.release()
+        try:
+            self.process.wait(timeout)
+        except subprocess.TimeoutExpired:
+            self._kill()
+        status = self.process.wait()
+        self.reading.join()
+        return status
 
 
 class StoredServer:
-    """A relying party over the file of `site_program`, which one process may have at a time.
+    """A relying party over the file of the proved program, which one process may have at a time.
 
-    `program` is the path of the program, `file` that of the SQLite file, which is made where there is none. Calls come
-    from any thread. Where the program has ended, the next call starts it again. `verify(algorithm, x, y, message,
-    signature)` tells whether a signature is valid; by default `cryptography` does.
+    `program` is the path of the program, `file` that of the SQLite file, which is made where there is none unless
+    `existing`. Calls come from any thread. Where the program has ended, the next call starts it again; one that does not
+    answer in `timeout` seconds is ended. `max_open` is the most sessions that are open at a time; one ends by itself `expire`
+    seconds after it began, if that is given. With `log` each refusal is
+    told, and with `log="all"` each acceptance and each error too; all that the program tells goes to the logger `garvoeng`
+    of `logging`. `verify(algorithm, x, y, message, signature)`
+    tells whether a signature is valid; by default `cryptography` does.
     """
 
     def __init__(self, program: str, file: str, rp_id: str, origins: Sequence[str], rp_name: Optional[str] = None, *,
                  accept_none: bool = True, accept_self: bool = True, open_profile: bool = True, max_open: int = 1024,
+                 existing: bool = False, log: Union[bool, str] = False, expire: Optional[int] = None, timeout: float = 30.0,
                  verify: Verify = signatures.is_valid) -> None:
-        if isinstance(origins, str):
-            raise BadInput("origins is a list of texts")
+        origins = limits.check_party(rp_id, origins)
         if not (accept_none or accept_self):
             raise BadInput("no attestation is accepted")
+        if log not in (False, True, "refusals", "all"):
+            raise BadInput("log is true or false, refusals or all")
         attestation = "any" if accept_none and accept_self else "none" if accept_none else "self"
-        self._words = [program, file, "--rp-id", rp_id, "--rp-name", rp_name if rp_name is not None else rp_id,
+        self._words = [program, f"--rp-id={rp_id}", f"--rp-name={rp_id if rp_name is None else rp_name}",
                        "--profile", "open" if open_profile else "strict", "--attestation", attestation,
-                       "--max-open", str(max_open)]
-        for origin in origins:
-            self._words += ["--origin", origin]
+                       f"--max-open={max_open}", *(f"--origin={origin}" for origin in origins),
+                       *(["--existing"] if existing else []),
+                       *([f"--log={'refusals' if log is True else log}"] if log else []),
+                       *([f"--expire={expire}"] if expire is not None else []), "--", file]
         self.verify = verify
+        self.timeout = timeout
         self._starting = threading.Lock()
         self._process: Optional[_Process] = None
 
@@ -133,7 +228,7 @@ class StoredServer:
     def _running(self) -> _Process:
         with self._starting:
             if self._process is not None and not self._process.is_running():
-                self._process.end()
+                self._process.end(self.timeout)
                 self._process = None
             if self._process is None:
                 self._process = _Process(self._words)
@@ -141,11 +236,11 @@ class StoredServer:
 
     def _ask(self, act: str, **members: Any) -> Dict[str, Any]:
         process = self._running()
-        answer = process.ask(act, {name: value for name, value in members.items() if value is not None})
+        answer = process.ask(act, {name: value for name, value in members.items() if value is not None}, self.timeout)
         if "error" in answer:
-            raise BadInput(answer["error"])
+            raise SessionsFull(_FULL) if answer["error"] == _FULL else BadInput(answer["error"])
         if "failed" in answer:
-            process.end()
+            process.end(self.timeout)
             raise StoreFailed(answer["failed"])
         return answer
 
@@ -155,7 +250,7 @@ class StoredServer:
             process, self._process = self._process, None
         if process is not None:
             was_running = process.is_running()
-            if process.end() != 0 and was_running:
+            if process.end(self.timeout) != 0 and was_running:
                 raise StoreFailed("the program could not close its file")
 
     def __enter__(self) -> "StoredServer":
@@ -168,21 +263,20 @@ class StoredServer:
             if kind is None:
                 raise
 
-    def _finish(self, is_registration: bool, act: str, session: Optional[int], response: Mapping[str, Any]) -> Dict[str, Any]:
-        """What was accepted. The program tells the signature that is asked for; where it is valid, it is handed back."""
+    def _finish(self, act: str, session: Optional[int], response: Dict[str, Any]) -> Dict[str, Any]:
+        """What was accepted. The program tells the signature that is asked for; where it is valid it is handed back, and
+        else it is told that it is not, so that its log has the refusal."""
         number = 0 if session is None else session
         answer = self._ask(act, session=number, response=response)
         if "verify" in answer:
             asked = answer["verify"]
-            key, message, signature = (asked["x"], asked["y"]), asked["message"], asked["signature"]
-            if not self.verify(asked["algorithm"], forms.from_text(key[0], "x"), forms.from_text(key[1], "y"),
-                               forms.from_text(message, "message"), forms.from_text(signature, "signature")):
-                step = 13 if is_registration else 14
-                raise Refused(is_registration, step, "the signature is not valid")
-            answer = self._ask(act, session=number, response=response, verified=asked)
+            is_valid = self.verify(asked["algorithm"], *(forms.from_text(asked[name], name) for name in (
+                "x", "y", "message", "signature")))
+            answer = self._ask(act, session=number, response=response, verified=asked if is_valid else False)
         if "refused" in answer:
-            raise Refused(is_registration, answer["refused"]["number"], answer["refused"]["text"])
-        return answer["accepted"]
+            raise Refused(act == "finish_registration", answer["refused"]["number"], answer["refused"]["text"])
+        accepted: Dict[str, Any] = answer["accepted"]
+        return accepted
 
     # ---- registration
 
@@ -193,15 +287,17 @@ class StoredServer:
 
         `user` is the user handle, 1 to 64 bytes that name nobody; `exclude` are the ids of the account's credentials.
         """
-        answer = self._ask("begin_registration", user=forms.to_text(user), user_name=user_name, display_name=display_name,
-                           exclude=[forms.to_text(one) for one in exclude], user_verification=user_verification,
-                           resident=resident, algorithms=list(algorithms))
+        answer = self._ask("begin_registration", user=forms.to_text(limits.check_user(user)), user_name=user_name,
+                           display_name=display_name, exclude=_listed(exclude), user_verification=user_verification,
+                           resident=resident, algorithms=list(limits.check_algorithms(algorithms)))
         return answer["options"], answer["session"]
 
-    def register_complete(self, session: Optional[int], response: Mapping[str, Any]) -> Credential:
-        """The credential of a RegistrationResponseJSON, which is in the file. Raises `Refused` with the first step that is
-        not passed, `BadInput` where the response is not in the form of JSON."""
-        return _credential(self._finish(True, "finish_registration", session, response))
+    def register_complete(self, session: Optional[int], response: Mapping[str, Any]) -> Registered:
+        """What a RegistrationResponseJSON registers: the credential, which is in the file, and what is known of it. Raises
+        `Refused` with the first step that is not passed, `BadInput` where the response is not in the form of JSON."""
+        made = self._finish("finish_registration", session, forms.handed_on(response, forms.REGISTRATION_MEMBERS))
+        return Registered(_credential(made), forms.from_text(made["aaguid"], "aaguid"), made["format"],
+                          made["user_verified"], made["backed_up"], made["flags"], _extensions(made))
 
     # ---- sign-in
 
@@ -212,30 +308,31 @@ class StoredServer:
         `user` is the user handle of the account, where it is known; `allow` the ids of at most 8 credentials that may
         answer, none for any.
         """
-        answer = self._ask("begin_sign_in", user=None if user is None else forms.to_text(user),
-                           allow=[forms.to_text(one) for one in allow], user_verification=user_verification)
+        answer = self._ask("begin_sign_in", user=None if user is None else forms.to_text(limits.check_user(user)),
+                           allow=_listed(allow), user_verification=user_verification)
         return answer["options"], answer["session"]
 
     def authenticate_complete(self, session: Optional[int], response: Mapping[str, Any]) -> StoredSignIn:
         """Who signed in, of an AuthenticationResponseJSON; the counter is in the file, and the session closed. Raises as
         `register_complete`."""
-        who = self._finish(False, "finish_sign_in", session, response)
+        made = forms.handed_on(response, forms.SIGN_IN_MEMBERS, ("userHandle",))
+        who = self._finish("finish_sign_in", session, made)
         return StoredSignIn(forms.from_text(who["credential"], "credential"), forms.from_text(who["user"], "user"),
-                            who["backed_up"])
+                            who["backed_up"], who["user_verified"], who["sign_count"], who["flags"], _extensions(who))
 
     # ---- sessions and credentials
 
     def retire(self, credential: bytes) -> bool:
         """A credential signs in no more; whether it did until now."""
-        return self._ask("retire", credential=forms.to_text(credential))["retired"]
+        return bool(self._ask("retire", credential=forms.to_text(credential))["retired"])
 
     def abandon(self, session: int) -> bool:
         """A session ends; whether it was open."""
-        return self._ask("abandon", session=session)["abandoned"]
+        return bool(self._ask("abandon", session=session)["abandoned"])
 
     def expire(self, older_than: int) -> int:
         """Ends the sessions that began more than so many seconds ago, by the system's clock; how many they were."""
-        return self._ask("expire", older_than=older_than)["expired"]
+        return int(self._ask("expire", older_than=older_than)["expired"])
 
     def rows(self, user: Optional[bytes] = None) -> List[Credential]:
         """The credentials of a user, or all, in order of registration."""

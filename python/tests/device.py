@@ -36,6 +36,7 @@ class Device:
                  origin="https://example.com", bits=2048, exponent=65537, counts=True):
         self.algorithm, self.id, self.rp_id, self.origin, self.count = algorithm, credential, rp_id, origin, 0
         self.counts = counts
+        self.aaguid = bytes(range(16))
         if algorithm == ES256:
             self.key = ec.generate_private_key(ec.SECP256R1())
             numbers = self.key.public_key().public_numbers()
@@ -66,7 +67,7 @@ class Device:
     def auth_data(self, flags, count, attested=False, outputs=b""):
         data = hashlib.sha256(self.rp_id.encode()).digest() + struct.pack(">BI", flags, count)
         if attested:
-            data += bytes(16) + struct.pack(">H", len(self.id)) + self.id + self.cose_key()
+            data += self.aaguid + struct.pack(">H", len(self.id)) + self.id + self.cose_key()
         return data + outputs
 
     def client_data(self, kind, challenge):

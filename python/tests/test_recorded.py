@@ -33,7 +33,7 @@ def sign_in_session(line):
 def registered(relying_party, visit):
     line = visit["registration"]
     return relying_party.register_complete(registration_session(line["session"]), line["response"],
-                                           is_registered=lambda _: False)
+                                           is_registered=lambda _: False).credential
 
 
 def sign_in(relying_party, line, credential):
@@ -78,6 +78,23 @@ def test_visit(visit):
             sign_in(server(), line, signed_in.credential)
         assert caught.value.name == "W15"
         credential = signed_in.credential
+
+
+def test_what_is_said():
+    """Flags and extensions are those of the bytes that the browser sent."""
+    for visit in VISITS:
+        line = visit["registration"]
+        made = server().register_complete(registration_session(line["session"]), line["response"], is_registered=lambda _: False)
+        sent = from_text(line["response"]["response"]["authenticatorData"], "authenticatorData")
+        assert (made.flags, made.aaguid, made.format) == (sent[32], sent[37:53], "none")
+        assert (made.user_verified, made.backed_up) == (bool(sent[32] & 4), bool(sent[32] & 16))
+        assert sent.endswith(made.extensions) and bool(made.extensions) == has_extensions(sent)
+        assert sent == sent[:55] + made.credential.id + made.credential.cose_key + made.extensions
+        for line in visit["sign_ins"]:
+            said = sign_in(server(), line, made.credential)
+            sent = data_of(line)
+            assert (said.flags, said.user_verified, said.backed_up) == (sent[32], bool(sent[32] & 4), bool(sent[32] & 16))
+            assert sent == sent[:37] + said.extensions
 
 
 def misled(line, credential, changed):

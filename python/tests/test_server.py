@@ -5,8 +5,8 @@ from dataclasses import FrozenInstanceError, replace
 import pytest
 from device import AT, BE, BS, ED, UP, UV, Device, changed
 
-from garvoeng import (EDDSA, ES256, RS256, BadInput, Credential, Refused, RegistrationSession, Server, SignInSession,
-                      is_canonical, library, signatures)
+from garvoeng import (EDDSA, ES256, RS256, BadInput, Credential, Refused, Registered, RegistrationSession, Server, SignedIn,
+                      SignInSession, is_canonical, library, signatures)
 from garvoeng.forms import to_text
 
 USER = b"account 7"
@@ -21,9 +21,13 @@ def server():
     return Server("example.com", ["https://example.com"])
 
 
-def registered(server, device, **more):
+def told(server, device, **more):
     options, session = server.register_begin(USER, "name")
     return server.register_complete(session, device.register(options, **more), is_registered=free)
+
+
+def registered(server, device, **more):
+    return told(server, device, **more).credential
 
 
 def refusal(call):
@@ -102,6 +106,67 @@ def test_open_profile(packed, size):
     other = changed(response, "authenticatorData", lambda data: data[:-1] + b"\x03")
     assert refusal(lambda: server.authenticate_complete(session, other, credential=find)) == "W14"
     assert server.authenticate_complete(session, response, credential=find).credential.sign_count == 1
+
+
+def test_what_a_registration_says(server):
+    device = Device()
+    for flags in range(256):
+        packed = flags % 2 == 0
+        flags |= UP | AT
+        if flags & BS and not flags & BE:
+            continue
+        outputs = CRED_PROTECT if flags & ED else b""
+        made = told(server, device, flags=flags, packed=packed, outputs=outputs)
+        assert made == Registered(Credential(device.id, USER, ES256, device.x, device.y, 0, bool(flags & BE)), device.aaguid,
+                                  "packed" if packed else "none", bool(flags & UV), bool(flags & BS), flags, outputs)
+
+
+def test_what_a_sign_in_says(server):
+    device = Device()
+    credential = registered(server, device)
+    for flags in range(256):
+        flags = (flags | UP) & ~AT
+        if flags & BS and not flags & BE:
+            continue
+        outputs = CRED_PROTECT if flags & ED else b""
+        options, session = server.authenticate_begin(user=USER)
+        stored = replace(credential, eligible=None)
+        said = server.authenticate_complete(session, device.sign_in(options, flags=flags, outputs=outputs),
+                                            credential={device.id: stored}.get)
+        now = replace(credential, sign_count=device.count, eligible=bool(flags & BE))
+        assert said == SignedIn(now, stored, bool(flags & BS), bool(flags & UV), flags, outputs)
+
+
+def test_any_true_value_asks_for_verification(server):
+    """A flag of a session is read as Python reads it: also 256, whose low byte is 0."""
+    device = Device()
+    credential = registered(server, device)
+    for value, wanted in ((1, "W13"), (2, "W13"), (256, "W13"), ("required", "W13"), ([0], "W13"), (0, None), (None, None)):
+        options, session = server.authenticate_begin(user=USER)
+        session = replace(session, user_verification=value)
+        response = device.sign_in(options, flags=UP)
+
+        def complete(session=session, response=response):
+            return server.authenticate_complete(session, response, credential={device.id: credential}.get)
+
+        assert (refusal(complete) if wanted else complete().user_verified) == (wanted or False)
+
+
+@pytest.mark.parametrize("algorithm", [ES256, EDDSA, RS256])
+def test_cose_keys(algorithm):
+    device = Device(algorithm)
+    credential = Credential(device.id, USER, algorithm, device.x, device.y, 7, True)
+    assert credential.cose_key == device.cose_key()
+    assert Credential.from_cose(device.id, USER, device.cose_key(), 7, True) == credential
+    for size in range(len(device.cose_key())):
+        with pytest.raises(BadInput):
+            Credential.from_cose(device.id, USER, device.cose_key()[:size], 7)
+    for bad in (device.cose_key() + b"\0", b"\xb8" + device.cose_key(), b""):
+        with pytest.raises(BadInput):
+            Credential.from_cose(device.id, USER, bad, 7)
+    for bad in ({"x": device.x[1:]}, {"algorithm": -9}, {"algorithm": 2**32 + algorithm}, {"x": b""}):
+        with pytest.raises(BadInput):
+            replace(credential, **bad).cose_key
 
 
 def test_open_profile_ends(server):
@@ -195,7 +260,8 @@ def test_empty_user_handle_is_one(server):
     """An account whose handle is empty is known all the same."""
     device = Device()
     credential = registered(server, device)
-    options, session = server.authenticate_begin(user=b"")
+    options, session = server.authenticate_begin()
+    session = replace(session, user=b"")
     response = device.sign_in(options, user=USER)
     assert refusal(lambda: server.authenticate_complete(session, response, credential=lambda _: credential)) == "W4"
 
@@ -217,13 +283,13 @@ def test_registration_refused(server):
     def complete(response=good, open_session=session, used=free, on=server, **more):
         return lambda: on.register_complete(open_session, response, is_registered=used, **more)
 
-    other = Server("other.com", ["https://example.com"])
+    other = Server("other.com", ["https://other.com", "https://example.com"])
     plain = Server("example.com", ["https://example.com"], accept_none=False)
     assert refusal(complete(open_session=None)) == "G1"
     assert refusal(complete(changed(good, "clientDataJSON", lambda _: b"{"))) == "G2"
     assert refusal(complete(changed(good, "clientDataJSON", lambda b: b.replace(b"create", b"get")))) == "G3"
     assert refusal(complete(open_session=replace(session, challenge=bytes(32)))) == "G4"
-    assert refusal(complete(on=Server("example.com", []))) == "G5"
+    assert refusal(complete(on=Server("example.com", ["https://www.example.com"]))) == "G5"
     binding = b',"tokenBinding":{"status":"present","id":"x"}}'
     assert refusal(complete(changed(good, "clientDataJSON", lambda b: b[:-1] + binding))) == "G6"
     assert refusal(complete(changed(good, "attestationObject", lambda b: b[:-1]))) == "G7"
@@ -235,9 +301,10 @@ def test_registration_refused(server):
     assert refusal(complete(device.register(options, packed=True, message=b"another"))) == "G13"
     assert refusal(complete(on=plain)) == "G14"
     assert refusal(complete(used=lambda _: True)) == "G15"
-    assert refusal(complete({**good, "rawId": to_text(b"another id")})) == "G15"
+    another = to_text(b"another id")
+    assert refusal(complete({**good, "id": another, "rawId": another})) == "G15"
     assert refusal(complete(is_full=True)) == "G16"
-    assert complete()().id == device.id
+    assert complete()().credential.id == device.id
 
 
 def test_sign_in_refused(server):
@@ -260,11 +327,11 @@ def test_sign_in_refused(server):
     assert refusal(complete(changed(good, "clientDataJSON", lambda _: b"{"))) == "W5"
     assert refusal(complete(changed(good, "clientDataJSON", lambda b: b.replace(b".get", b".create")))) == "W6"
     assert refusal(complete(open_session=replace(session, challenge=bytes(32)))) == "W7"
-    assert refusal(complete(on=Server("example.com", ["https://other.com"]))) == "W8"
+    assert refusal(complete(on=Server("example.com", ["https://www.example.com"]))) == "W8"
     binding = b',"tokenBinding":{"status":"present","id":"x"}}'
     assert refusal(complete(changed(good, "clientDataJSON", lambda b: b[:-1] + binding))) == "W9"
     assert refusal(complete(changed(good, "authenticatorData", lambda b: b + b"\0"))) == "W10"
-    assert refusal(complete(on=Server("other.com", ["https://example.com"]))) == "W11"
+    assert refusal(complete(on=Server("other.com", ["https://other.com", "https://example.com"]))) == "W11"
     assert refusal(complete(device.sign_in(options, flags=UV))) == "W12"
     assert refusal(complete(device.sign_in(options, flags=UP))) == "W13"
     assert refusal(complete(device.sign_in(options, message=b"another"))) == "W14"

@@ -13,8 +13,8 @@ def test_start(capsys):
     server = Server("example.com", ["https://example.com"])
 
     options, session = server.register_begin(user=b"account 7", user_name="name")
-    credential = server.register_complete(session, page(options), is_registered=lambda id: id in table)
-    table[credential.id] = credential
+    registered = server.register_complete(session, page(options), is_registered=lambda id: id in table)
+    table[registered.credential.id] = registered.credential
 
     options, session = server.authenticate_begin()
     signed_in = server.authenticate_complete(session, page(options), credential=table.get)

@@ -27,9 +27,9 @@ use Rattle.site.specs.Laws.{Takes}
 use Rattle.site.proofs.Goings.{none_there}
 use Rattle.authenticator.specs.Laws.{IsSound}
 use Rattle.authenticator.specs.Steps.{Entry, Keys, assertion}
-use Rattle.agreement.specs.World.{Abandons, Asks, AtSite, Begins, Done, EventEffect, EventEnd, Event, Happens, Moment, Registers, RegistersBy, Reloads}
-use Rattle.agreement.specs.World.{Reopens, Restarts, Retires, SignsIn, SignsInBy, SiteEvent, World}
-use Rattle.agreement.specs.Agreement.{Agrees, AnswersSession, Brings, BringsTo, DifferInSession, Fits, IsAccepted, IsFresh, IsIdeal, RestsOnce}
+use Rattle.agreement.specs.World.{Abandons, Asks, AtSite, Begins, Bounds, Done, Event, EventEffect, EventEnd, Expires, Happens}
+use Rattle.agreement.specs.World.{Moment, Registers, RegistersBy, Reloads, Reopens, Restarts, Retires, SignsIn, SignsInBy, SiteEvent, World}
+use Rattle.agreement.specs.Agreement.{Agrees, AnswersSession, Brings, BringsTo, DifferInSession, Fits, IsAccepted, IsFresh, IsIdeal, IsKnown, RestsOnce}
 use Rattle.agreement.specs.Agreement.{ShareNone, message_of, session_in}
 use Rattle.agreement.specs.Below.{Below}
 use Rattle.agreement.proofs.Sites.{SignedIn, signs_in, takes}
@@ -109,6 +109,13 @@ module _ (valid : Validity) (public : Keys) (b : Below valid public) where
         stored = ap (λ s. row_of r.credential s.rows) x.2 ∙ stores.2;
         count = ap (λ (d : AuthenticatorData). d.sign_count) same;
       }
+
+  pub known : (m : Moment) → Lived valid public b m → IsKnown m
+  known m l i n r brings end =
+      let x = done_by m.old m.new m.event i n r (subst (λ (e : EventEnd). Happens valid public m.old m.event e m.new) end l.happens) brings in
+      let step = x.1.passes.1.1.0 in
+      let row = the_one (row_of r.credential (m.old.site i).rows) step.0 in
+      (row.0, record { tries = record { brings = brings; found = row.1 }; done = end }, (step.1 row.0 row.1).1)
 
   -- what an entry of its message is
   pub record Matches (a : AuthenticatorData) (r : AuthenticatorAssertionResponse) (e : Entry) : Type 0 where
@@ -238,6 +245,8 @@ module _ (valid : Validity) (public : Keys) (b : Below valid public) where
   session_to (Retires id) n r brings = absurd brings
   session_to (Registers k q) n r brings = absurd brings
   session_to (RegistersBy k c ps t) n r brings = absurd brings
+  session_to Expires n r brings = absurd brings
+  session_to (Bounds k) n r brings = absurd brings
   session_to Restarts n r brings = absurd brings
   session_to Reopens n r brings = absurd brings
 

@@ -1,28 +1,31 @@
 -- The law over all runs.
-use Rattle.std.proofs.lemmas.List.Elements.{All-from_recursion, recursion_from_All}
+use Rattle.std.proofs.lemmas.List.Elements.{All-from_recursion}
 use Rattle.cose.specs.Schemes.{Validity}
 use Rattle.authenticator.specs.Steps.{Keys}
 use Rattle.authenticator.proofs.Stored.{each_weaker}
-use Rattle.agreement.specs.Agreement.{Agrees, DifferInSession, Fits, IsIdeal, OfAllRuns, Registered, RestsOnce, Retiring, ShareNone, StaysRetired}
+use Rattle.agreement.specs.Agreement.{Agrees, DifferInSession, Fits, IsIdeal, IsKnown, OfAllRuns, Registered, RestsOnce, Retiring, ShareNone, StaysRetired}
 use Rattle.agreement.specs.Below.{Below}
-use Rattle.agreement.proofs.Worlds.{Since, at_start, each_both, pairs, since, starts}
-use Rattle.agreement.proofs.Accepted.{agrees, differ, fits, rests_once, share_none}
+use Rattle.agreement.proofs.Worlds.{Since, at_start, pairs, since, starts}
+use Rattle.agreement.proofs.Accepted.{agrees, differ, fits, known, rests_once, share_none}
 use Rattle.agreement.proofs.Registered.{fits_registration}
 use Rattle.agreement.proofs.Retired.{retiring, stays_retired}
 
 pub of_all_runs : (valid : Validity) (public : Keys) → Below valid public → OfAllRuns valid public
-of_all_runs valid public b w run start is ideal =
+of_all_runs valid public b w run start is =
     let sound = starts valid public b w start in
     record {
       registered = All-from_recursion (Registered valid) run
           (each_weaker (Since valid public b w) (Registered valid) (λ m s. fits_registration valid public b m s.lived) run
           (since valid public b w w run sound (at_start valid public b w) is));
+      known = All-from_recursion IsKnown run
+          (each_weaker (Since valid public b w) IsKnown (λ m s. known valid public b m s.lived) run
+          (since valid public b w w run sound (at_start valid public b w) is));
       fits = All-from_recursion Fits run
           (each_weaker (Since valid public b w) Fits (λ m s. fits valid public b m s.lived) run
           (since valid public b w w run sound (at_start valid public b w) is));
-      agrees = All-from_recursion Agrees run
-          (each_both valid public b (Since valid public b w) (IsIdeal valid) Agrees (λ m s k. agrees valid public b m s.lived k) run
-          (since valid public b w w run sound (at_start valid public b w) is) (recursion_from_All (IsIdeal valid) run ideal));
+      agrees = All-from_recursion (λ m. IsIdeal valid m → Agrees m) run
+          (each_weaker (Since valid public b w) (λ m. IsIdeal valid m → Agrees m) (λ m s k. agrees valid public b m s.lived k) run
+          (since valid public b w w run sound (at_start valid public b w) is));
       share_none = pairs valid public b ShareNone (share_none valid public b) w run sound is;
       rests_once = pairs valid public b RestsOnce (rests_once valid public b) w run sound is;
       sessions = pairs valid public b DifferInSession (differ valid public b) w run sound is;

@@ -8,7 +8,7 @@ use Rattle.hidframe.specs.Packets.{Fields, fields}
 use Rattle.hidframe.specs.Frames.{Frames, continuations}
 use Rattle.hidframe.specs.Pieces.{frame_list}
 use Rattle.hidlink.specs.Wire.{Carries, channel_of, on}
-use Rattle.ceremony.specs.Serving.{IsPayload}
+use Rattle.security_key.specs.Serving.{IsPayload}
 use Rattle.ceremony.specs.Verdict.{Delivers}
 use Rattle.agreement.specs.Links.{Links}
 use Rattle.authenticator.proofs.Stored.{each_weaker}

@@ -18,20 +18,20 @@ use Rattle.authenticator.specs.State.{AuthenticatorState}
 use Rattle.authenticator.specs.Steps.{Entry, Keys, Step, Steps}
 use Rattle.authenticator.specs.declared.consent.Consent.{Consent}
 use Rattle.authenticator.specs.declared.consent.Words.{Words}
-use Rattle.ceremony.specs.declared.serving.Act.{Act}
-use Rattle.ceremony.specs.declared.serving.Act.TheVariants as act
-use Rattle.ceremony.specs.Serving.{Done, IsPayload}
+use Rattle.security_key.specs.declared.serving.Act.{Act}
+use Rattle.security_key.specs.declared.serving.Act.TheVariants as act
+use Rattle.security_key.specs.Serving.{Done, IsPayload}
 use Rattle.agreement.specs.Ends.{AuthenticatorEnd, Exchange, Follows, IsIdleOn}
 use Rattle.agreement.specs.Links.{Links}
 use Rattle.agreement.proofs.Keepalives.{AreWaits, one_keepalive}
 
 -- ---- packets
 
-not_cancelled : (c : ℕ) (after : List Packet) → (told_before c after).step ≢ step.Cancelled
+pub not_cancelled : (c : ℕ) (after : List Packet) → (told_before c after).step ≢ step.Cancelled
 not_cancelled c [] e = cc
 not_cancelled c (p ∷ after) e = cc
 
-silent : (c : ℕ) (after : List Packet) → (told_before c after).sent ≡ None
+pub silent : (c : ℕ) (after : List Packet) → (told_before c after).sent ≡ None
 silent c [] = refl
 silent c (p ∷ after) = refl
 

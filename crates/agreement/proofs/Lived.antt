@@ -30,10 +30,10 @@ use Rattle.agreement.proofs.Sites.{same_assertion}
 
 -- ---- a world in which one is changed
 
-site_there : (i : ℕ) (s : site.SiteState) (w : World) → (with_site i s w).site i ≡ s
+pub site_there : (i : ℕ) (s : site.SiteState) (w : World) → (with_site i s w).site i ≡ s
 site_there i s w = ap (λ b. if b then s else w.site i) (eq-eqb i i refl)
 
-changes_site : (i : ℕ) (s : site.SiteState) (w : World) → ChangesSite w (with_site i s w) i s
+pub changes_site : (i : ℕ) (s : site.SiteState) (w : World) → ChangesSite w (with_site i s w) i s
 changes_site i s w = record { now = site_there i s w; others = λ j apart. other j apart; holders = λ k. refl } where
   other : (j : ℕ) → j ≢ i → (with_site i s w).site j ≡ w.site j
   other j apart = elim (eqb_tells j i) [
@@ -41,10 +41,10 @@ changes_site i s w = record { now = site_there i s w; others = λ j apart. other
     | inr x ↦ ap (λ b. if b then s else w.site j) x.0
   ]
 
-holder_there : (k : ℕ) (h : Holder) (w : World) → (with_holder k h w).holder k ≡ h
+pub holder_there : (k : ℕ) (h : Holder) (w : World) → (with_holder k h w).holder k ≡ h
 holder_there k h w = ap (λ b. if b then h else w.holder k) (eq-eqb k k refl)
 
-changes_holder : (k : ℕ) (h g : Holder) (w : World) → h ≡ g → ChangesHolder w (with_holder k h w) k g
+pub changes_holder : (k : ℕ) (h g : Holder) (w : World) → h ≡ g → ChangesHolder w (with_holder k h w) k g
 changes_holder k h g w same = record { now = holder_there k h w ∙ same; others = λ j apart. other j apart; sites = λ i. refl } where
   other : (j : ℕ) → j ≢ k → (with_holder k h w).holder j ≡ w.holder j
   other j apart = elim (eqb_tells j k) [
@@ -53,7 +53,7 @@ changes_holder k h g w same = record { now = holder_there k h w ∙ same; others
   ]
 
 -- a call adds to what an authenticator has signed and made
-after_added : (h : Holder) (new : AuthenticatorState) (before signed : List Entry) (made more : List CoseKey) (reply : List ℕ) → h.signed ≡ before
+pub after_added : (h : Holder) (new : AuthenticatorState) (before signed : List Entry) (made more : List CoseKey) (reply : List ℕ) → h.signed ≡ before
     → h.made ≡ made
     → record { state = new; signed = before ++ signed; made = made ++ more } ≡ after_call h
     (record { reply = reply; state = new; signed = signed; made = more })

@@ -1,6 +1,7 @@
 -- What an event at a site keeps, and which session it takes.
-use Rattle.std.proofs.Common.{◌≡◌, ◌<◌, ◌-◌, ◌^◌, inl, inr, ℕ, zero, suc, List, Some, None, refl, sym, ◌∙◌, ap, subst, arith}
+use Rattle.std.proofs.Common.{◌≡◌, ◌<◌, ◌-◌, ◌^◌, inl, inr, ℕ, zero, suc, List, Option, Some, None, refl, sym, ◌∙◌, ap, subst, arith}
 use Rattle.std.specs.Int.{w64, to_be_bytes}
+use Rattle.std.specs.Prelude.{IsSome}
 use Rattle.std.specs.FinMap.{gets}
 use Rattle.std.specs.FinMap as finite
 use Rattle.std.proofs.lemmas.Grind.{common_steps}
@@ -13,17 +14,18 @@ use Rattle.authdata.specs.Responses as responses
 use Rattle.ctap_replies.specs.Replies.{Assertion, Creation, ReplyOf, assertion_reply, creation_reply}
 use Rattle.verification.specs.SignIn as authentication
 use Rattle.verification.specs.Registration as registration
-use Rattle.ceremony_sessions.specs.Sessions.{Expected, Opening, OpensRegistration, OpensSignIn, expected_of}
+use Rattle.ceremony_sessions.specs.Sessions.{Expected, Opening, OpensRegistration, OpensSignIn, challenge_in, expected_of}
 use Rattle.saved_table.specs.Saved.{version_of}
 use Rattle.site.specs.State.{IsAfterRegistration, IsAfterSignIn, SiteState, judged_sign_in, judged_registration, none_open}
-use Rattle.site.specs.Laws.{IsFresh, Keeps, Takes, after_begin, after_restart, challenge_in, GoesOn}
+use Rattle.verification.specs.Records.{Credential}
+use Rattle.site.specs.Laws.{IsFresh, IsKept, Keeps, Takes, after_begin, after_restart, GoesOn}
 use Rattle.site.proofs.Goings.{begun_or, still}
 use Rattle.client.specs.Responses.{response_of}
 use Rattle.ceremony.specs.Registration as registering
 use Rattle.ceremony.specs.Verdict.{Delivers}
 use Rattle.ceremony.proofs.OneVerdict.{registration_one, sign_in_one}
 use Rattle.authenticator.specs.Steps.{Keys}
-use Rattle.agreement.specs.World.{Abandons, SiteActs, Begins, Loads, Registers, RegistersBy, Reopens, Restarts}
+use Rattle.agreement.specs.World.{Abandons, SiteActs, Begins, Bounds, EndsSessions, Expires, Loads, Registers, RegistersBy, Reopens, Restarts}
 use Rattle.agreement.specs.World.{Retires, SignsIn, SignsInBy, SiteEvent, reopened, words_of}
 use Rattle.agreement.specs.Agreement.{BringsNewTo, BringsTo, Carried, CarriedNew, IsRegistration, session_in}
 use Rattle.agreement.specs.Below.{Below}
@@ -88,7 +90,7 @@ module _ (valid : Validity) (public : Keys) (b : Below valid public) where
     pub after : IsAfterRegistration s n r t
 
   -- by the packets, with whatever response they carry
-  signed_in_by : (s t : SiteState) (n c : ℕ) (ps : List Packet) (d : List ℕ) (r : responses.AuthenticatorAssertionResponse)
+  pub signed_in_by : (s t : SiteState) (n c : ℕ) (ps : List Packet) (d : List ℕ) (r : responses.AuthenticatorAssertionResponse)
       → SiteActs valid s (SignsInBy n c ps d) t → Carried c ps d r → SignedIn s n r t
   signed_in_by s t n c ps d r acts carried =
       let used = acts.0.0 in
@@ -104,7 +106,7 @@ module _ (valid : Validity) (public : Keys) (b : Below valid public) where
         after = subst (λ (z : responses.AuthenticatorAssertionResponse). IsAfterSignIn s n z t) (response after.2 two) after.5;
       }
 
-  registered_by : (s t : SiteState) (n c : ℕ) (ps : List Packet) (d : List ℕ) → SiteActs valid s (RegistersBy n c ps d) t
+  pub registered_by : (s t : SiteState) (n c : ℕ) (ps : List Packet) (d : List ℕ) → SiteActs valid s (RegistersBy n c ps d) t
       → (r : responses.AuthenticatorAttestationResponse) × Registered s n r t
   registered_by s t n c ps d acts =
       let used = acts.0.0 in
@@ -145,10 +147,12 @@ module _ (valid : Validity) (public : Keys) (b : Below valid public) where
   registered_in s t (Retires id) n r acts brings = absurd brings
   registered_in s t (SignsIn k q) n r acts brings = absurd brings
   registered_in s t (SignsInBy k c ps d) n r acts brings = absurd brings
+  registered_in s t Expires n r acts brings = absurd brings
+  registered_in s t (Bounds k) n r acts brings = absurd brings
   registered_in s t Restarts n r acts brings = absurd brings
   registered_in s t Reopens n r acts brings = absurd brings
 
-  carried_there : (s t : SiteState) (n c : ℕ) (ps : List Packet) (d : List ℕ) → SiteActs valid s (SignsInBy n c ps d) t
+  pub carried_there : (s t : SiteState) (n c : ℕ) (ps : List Packet) (d : List ℕ) → SiteActs valid s (SignsInBy n c ps d) t
       → (r : responses.AuthenticatorAssertionResponse) × Carried c ps d r
   carried_there s t n c ps d acts =
       let used = acts.0.0 in
@@ -168,6 +172,8 @@ module _ (valid : Validity) (public : Keys) (b : Below valid public) where
   signs_in s t (Retires id) n r acts brings = absurd brings
   signs_in s t (Registers k q) n r acts brings = absurd brings
   signs_in s t (RegistersBy k c ps d) n r acts brings = absurd brings
+  signs_in s t Expires n r acts brings = absurd brings
+  signs_in s t (Bounds k) n r acts brings = absurd brings
   signs_in s t Restarts n r acts brings = absurd brings
   signs_in s t Reopens n r acts brings = absurd brings
 
@@ -198,6 +204,48 @@ module _ (valid : Validity) (public : Keys) (b : Below valid public) where
     bytes = λ old k e h. old k e (still s n k e (subst (λ (z : SiteState). finite.get z.sessions.expected k ≡ Some e) x.after.6 h));
   }
 
+  -- what is open is what was open
+  pub left_open : (s t : SiteState) (n : ℕ) (e : Expected) → EndsSessions s t → finite.get t.sessions.expected n ≡ Some e
+      → finite.get s.sessions.expected n ≡ Some e
+  left_open s t n e ends h = elim (ends.left n) [
+    | inl gone ↦ let bad : None ≡ Some e = sym gone ∙ h in absurd cc
+    | inr same ↦ sym same ∙ h
+  ]
+
+  none_left : (s t : SiteState) (n : ℕ) → EndsSessions s t → finite.get s.sessions.expected n ≡ None → finite.get t.sessions.expected n ≡ None
+  none_left s t n ends h = elim (ends.left n) [ inl gone ↦ gone | inr same ↦ same ∙ h ]
+
+  some_left : (s t : SiteState) (n : ℕ) → EndsSessions s t → IsSome (finite.get t.sessions.expected n) → IsSome (finite.get s.sessions.expected n)
+  some_left s t n ends h = elim (ends.left n) [
+    | inl gone ↦ let bad : IsSome {T = Expected} None = subst (λ (o : Option Expected). IsSome o) gone h in absurd cc
+    | inr same ↦ subst (λ (o : Option Expected). IsSome o) same h
+  ]
+
+  ended : (s t : SiteState) → IsFresh s → EndsSessions s t → Stays s t
+  ended s t fresh ends =
+      let onward = b.sites.stays s in
+      let next : t.sessions.next ≡ s.sessions.next = ap (λ (z : SiteState). z.sessions.next) ends.same in
+      let rows : t.rows ≡ s.rows = ap (λ (z : SiteState). z.rows) ends.same in
+      record {
+        keeps = record {
+          numbered = λ old n e h. old n e (left_open s t n e ends h);
+          fresh = λ n h. subst (λ (k : ℕ). n < k) (sym next) (fresh n (some_left s t n ends h));
+          goes_on = record {
+            rows = λ id row h. subst (λ (l : List Credential). IsKept row l) (sym rows) (onward.rows id row h);
+            gone = λ n h. (subst (λ (k : ℕ). n < k) (sym next) h.0, none_left s t n ends h.1);
+            rp = ap (λ (z : SiteState). z.rp) ends.same;
+          };
+        };
+        bytes = λ old n e h. old n e (left_open s t n e ends h);
+      }
+
+  rebounded : (s t : SiteState) (max_open : ℕ) → IsFresh s → t ≡ reopened max_open s → Stays s t
+  rebounded s t max_open fresh is =
+      let onward = b.sites.stays s in
+      let goes_on : GoesOn s (reopened max_open s) = record { rows = onward.rows; gone = onward.gone; rp = onward.rp } in
+      let same : Keeps s (reopened max_open s) = record { numbered = λ h. h; fresh = fresh; goes_on = goes_on } in
+      subst (Stays s) (sym is) (record { keeps = same; bytes = λ old. old })
+
   pub stays : (s t : SiteState) (e : SiteEvent) → IsFresh s → SiteActs valid s e t → Stays s t
   stays s t (Begins o) fresh acts =
       subst (Stays s) (sym acts.2) (record { keeps = b.sites.begins s o acts.1 fresh; bytes = bytes_begun s o acts.1 acts.0 })
@@ -209,17 +257,15 @@ module _ (valid : Validity) (public : Keys) (b : Below valid public) where
       stays_signed_in s t n x.0 fresh (signed_in_by s t n c ps d x.0 acts x.1)
   stays s t (Registers n r) fresh acts = stays_registered s t n r fresh (record { passes = acts.0; after = acts.1 })
   stays s t (RegistersBy n c ps d) fresh acts = let x = registered_by s t n c ps d acts in stays_registered s t n x.0 fresh x.1
+  stays s t Expires fresh acts = ended s t fresh acts
+  stays s t (Bounds max_open) fresh acts = rebounded s t max_open fresh acts
   stays s t Restarts fresh acts =
       let max_open = t.sessions.max_open in
       subst (Stays s) (sym (loaded s t acts)) (record {
         keeps = b.sites.restarts max_open s fresh;
         bytes = λ old. empty_bytes (after_restart max_open s) refl;
       })
-  stays s t Reopens fresh acts =
-      let onward = b.sites.stays s in
-      let goes_on : GoesOn s (reopened t.sessions.max_open s) = record { rows = onward.rows; gone = onward.gone; rp = onward.rp } in
-      let same : Keeps s (reopened t.sessions.max_open s) = record { numbered = λ h. h; fresh = fresh; goes_on = goes_on } in
-      subst (Stays s) (sym acts) (record { keeps = same; bytes = λ old. old })
+  stays s t Reopens fresh acts = rebounded s t t.sessions.max_open fresh acts
 
   -- ---- which session is taken
 
@@ -236,6 +282,8 @@ module _ (valid : Validity) (public : Keys) (b : Below valid public) where
   takes s t (Begins o) n fresh acts is = let bad : None ≡ Some n = is in absurd cc
   takes s t (Abandons k) n fresh acts is = let bad : None ≡ Some n = is in absurd cc
   takes s t (Retires id) n fresh acts is = let bad : None ≡ Some n = is in absurd cc
+  takes s t Expires n fresh acts is = let bad : None ≡ Some n = is in absurd cc
+  takes s t (Bounds k) n fresh acts is = let bad : None ≡ Some n = is in absurd cc
   takes s t Restarts n fresh acts is = let bad : None ≡ Some n = is in absurd cc
   takes s t Reopens n fresh acts is = let bad : None ≡ Some n = is in absurd cc
 
@@ -249,5 +297,7 @@ module _ (valid : Validity) (public : Keys) (b : Below valid public) where
   registers s t (Retires id) acts is = absurd is
   registers s t (SignsIn n r) acts is = absurd is
   registers s t (SignsInBy n c ps d) acts is = absurd is
+  registers s t Expires acts is = absurd is
+  registers s t (Bounds k) acts is = absurd is
   registers s t Restarts acts is = absurd is
   registers s t Reopens acts is = absurd is

@@ -56,6 +56,10 @@ pub record IsAccepted (m : Moment) (i n : ℕ) (r : AuthenticatorAssertionRespon
   pub tries : Tries m i n r row
   pub done : m.end ≡ Done
 
+-- a sign-in that is accepted is for a credential that is registered at the site, and is not retired (section 7.2, step 7)
+abbrev pub IsKnown : Moment → Type 0
+IsKnown m = (i n : ℕ) (r : AuthenticatorAssertionResponse) → Brings m.event i n r → m.end ≡ Done → (row : Credential) × IsAccepted m i n r row × (row.retired ≡ false)
+
 -- ---- registrations
 
 -- the packets carry a reply that makes this response with the client data
@@ -261,8 +265,9 @@ StaysRetired m l =
 
 pub record Agreement (valid : Validity) (run : List Moment) : Type 0 where
   pub registered : All (Registered valid) run
+  pub known : All IsKnown run
   pub fits : All Fits run
-  pub agrees : All Agrees run
+  pub agrees : All (λ m. IsIdeal valid m → Agrees m) run
   pub share_none : AllPairs ShareNone run
   pub rests_once : AllPairs RestsOnce run
   pub sessions : AllPairs DifferInSession run
@@ -271,4 +276,4 @@ pub record Agreement (valid : Validity) (run : List Moment) : Type 0 where
 
 -- It is so whatever the scheme calls valid, and whichever key is a secret's.
 abbrev pub OfAllRuns : Validity → Keys → Type 0
-OfAllRuns valid public = (w : World) (run : List Moment) → IsStart w → IsRun valid public w run → All (IsIdeal valid) run → Agreement valid run
+OfAllRuns valid public = (w : World) (run : List Moment) → IsStart w → IsRun valid public w run → Agreement valid run

@@ -8,8 +8,8 @@ use Rattle.hidlink.specs.Told.{IsOut}
 use Rattle.cose.specs.Schemes.{Validity}
 use Rattle.authenticator.specs.State.{AuthenticatorState}
 use Rattle.authenticator.specs.Steps.{Keys}
-use Rattle.ceremony.specs.declared.serving.Act.{Act}
-use Rattle.ceremony.specs.Serving.{Done, Serves}
+use Rattle.security_key.specs.declared.serving.Act.{Act}
+use Rattle.security_key.specs.Serving.{Done, Serves}
 
 -- the calls that its device took, how many channels are out, and what the device is doing; and the authenticator
 pub record AuthenticatorEnd : Type 0 where

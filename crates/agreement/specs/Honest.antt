@@ -22,7 +22,7 @@ use Rattle.authenticator.specs.declared.consent.Consent.{Consent}
 use Rattle.authenticator.specs.declared.consent.Words.{Words}
 use Rattle.client.specs.Options as options
 use Rattle.client.specs.Asked.{Asks, ClientCall, Sent, descriptors_of, registration_call, sign_in_call}
-use Rattle.ceremony.specs.declared.serving.Act.TheVariants as act
+use Rattle.security_key.specs.declared.serving.Act.TheVariants as act
 use Rattle.ceremony.specs.Verdict.{Succeeds}
 use Rattle.ceremony.specs.Registration as registration
 use Rattle.ceremony.specs.SignIn as sign_in

@@ -3,6 +3,10 @@ pub mod Honest
 pub mod World
 pub mod Agreement
 pub mod Ledger
+pub mod Begun
 pub mod Lived
+pub mod Hosts
+pub mod Shown
+pub mod Calls
 pub mod Links
 pub mod Below

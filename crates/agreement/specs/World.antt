@@ -1,7 +1,7 @@
 -- Sites and authenticators, any number of each, and all that may happen to them: the packets, the client data and the
 -- requests are whatever an adversary makes of them. A site or an authenticator that begins again loads what it has saved;
 -- a site that is stored by each call finds itself as it was.
-use Rattle.std.specs.Prelude.{◌≡◌, ◌≢◌, ◌<◌, ◌-◌, ◌^◌, ℕ, Bool, List, [], ◌∷◌, ◌++◌, length}
+use Rattle.std.specs.Prelude.{◌≡◌, ◌≢◌, ◌<◌, ◌-◌, ◌^◌, ◌⊎◌, ℕ, Bool, List, [], ◌∷◌, ◌++◌, length, None}
 use Rattle.std.specs.FinMap as finite
 use Rattle.base64.specs.GeneralPurpose.{IsBytes}
 use Rattle.hidframe.specs.declared.Packet.{Packet}
@@ -40,8 +40,9 @@ pub record World : Type 0 where
 
 -- ---- events
 
--- at a site: what its calls do; that it begins again with the table that it saved; and that it is opened again where
--- each call stores it. A call that a crash cuts off has its effect or none, and then the site is opened again
+-- at a site: what its calls do; that sessions which began too long ago are ended, however many; that another bound is
+-- set on its open sessions; that it begins again with the table that it saved; and that it is opened again where each call
+-- stores it. A call that a crash cuts off has its effect or none, and then the site is opened again
 pub data SiteEvent : Type 0 where
   Begins : (opening : Opening) → SiteEvent
   Abandons : (session : ℕ) → SiteEvent
@@ -50,6 +51,8 @@ pub data SiteEvent : Type 0 where
   SignsInBy : (session c : ℕ) (ps : List Packet) (t : List ℕ) → SiteEvent
   Registers : (session : ℕ) (r : responses.AuthenticatorAttestationResponse) → SiteEvent
   RegistersBy : (session c : ℕ) (ps : List Packet) (t : List ℕ) → SiteEvent
+  Expires : SiteEvent
+  Bounds : (max_open : ℕ) → SiteEvent
   Restarts : SiteEvent
   Reopens : SiteEvent
 
@@ -75,7 +78,12 @@ pub record Loads (s t : site.SiteState) : Type 0 where
   pub policy : t.policy ≡ s.policy
   pub none_open : t.sessions ≡ none_open t.sessions.max_open t.sessions.next
 
--- opened again, with this bound on its open sessions
+-- sessions are ended, any of them; the others are as they were, and so is all else
+pub record EndsSessions (s t : site.SiteState) : Type 0 where
+  pub left : (n : ℕ) → (finite.get t.sessions.expected n ≡ None) ⊎ (finite.get t.sessions.expected n ≡ finite.get s.sessions.expected n)
+  pub same : t ≡ record s { sessions = record s.sessions { expected = t.sessions.expected } }
+
+-- with this bound on its open sessions; so it may be opened again
 abbrev pub reopened : ℕ → site.SiteState → site.SiteState
 reopened max_open s = record s { sessions = record s.sessions { max_open = max_open } }
 
@@ -90,6 +98,8 @@ SiteActs valid s (SignsInBy n c ps d) t =
 SiteActs valid s (Registers n r) t = registration.PassesRegistration valid (judged_registration s n r) × IsAfterRegistration s n r t
 SiteActs valid s (RegistersBy n c ps d) t =
     ((used : ℕ) × (r : replies.Creation) × Succeeds (registering.registration valid s n d) c ps used r) × registering.IsAfter s n d c ps t
+SiteActs valid s Expires t = EndsSessions s t
+SiteActs valid s (Bounds max_open) t = t ≡ reopened max_open s
 SiteActs valid s Restarts t = Loads s t
 SiteActs valid s Reopens t = t ≡ reopened t.sessions.max_open s
 

@@ -4,14 +4,19 @@ ghost use Rattle.std.specs.Prelude.{◌<◌, ◌-◌, ◌^◌, ℕ};
 ghost use Rattle.authenticator.specs.State.{CredentialSource};
 ghost use Rattle.authenticator.specs.Steps.{Keys};
 ghost use Rattle.agreement.specs.Agreement.{OfAllRuns};
+ghost use Rattle.agreement.specs.Begun.{SessionsOfAllRuns};
 ghost use Rattle.agreement.specs.Below.{Below};
+ghost use Rattle.agreement.specs.Calls.{CallsAct};
 ghost use Rattle.agreement.specs.Ends.{IsIdleOn};
 ghost use Rattle.agreement.specs.Honest.{AcceptsBoth, IsAskedFor, IsHonestRegistration, IsHonestRun, IsHonestSignIn, IsShared, Registering};
+ghost use Rattle.agreement.specs.Hosts.{HostsRuns};
 ghost use Rattle.agreement.specs.Honest.{Registers, Run, SigningIn, SignsIn};
 ghost use Rattle.agreement.specs.Ledger.{LedgerOfAllRuns};
 ghost use Rattle.agreement.specs.Lived.{Lives, Place, TakesPlace};
+ghost use Rattle.agreement.specs.Shown.{FullRun, HonestRunTakesPlace};
+ghost use Rattle.cose.specs.Bench.{bench_public, bench_valid};
 
-use cose::{Signer, Verifier};
+use cose::{BenchScheme, Signer, Verifier};
 
 /// What is used of the laws of the crates below.
 fn below<V: Verifier>()
@@ -37,8 +42,25 @@ fn below<V: Verifier>()
 pub fn of_all_runs<V: Verifier>()
     ensures agreement { (verifier : V) (public : Keys) → OfAllRuns (V.valid verifier) public }
     ensures ledger { (verifier : V) (public : Keys) → LedgerOfAllRuns (V.valid verifier) public }
+    ensures begun { (verifier : V) (public : Keys) → SessionsOfAllRuns (V.valid verifier) public }
+    ensures calls { (verifier : V) (public : Keys) → CallsAct (V.valid verifier) public }
 {
     below::<V>();
+}
+
+/// Calls whose signatures a host verifies elsewhere, each by a relation of its own (as the one signature that was verified
+/// for it), come to a run: what passes by a relation passes by a wider one. So the laws of all runs speak of them too.
+pub fn hosts_runs<V: Verifier, W: Verifier>()
+    ensures { (wide : W) (public : Keys) → HostsRuns V.valid (W.valid wide) public }
+{}
+
+/// The laws speak of something: an honest run takes place in some world, and there is a run in which an event of each kind is
+/// done, and sign-ins are accepted at two sites by two authenticators. Signatures are those of the scheme for tests.
+pub fn full_run()
+    ensures honest { HonestRunTakesPlace bench_valid bench_public }
+    ensures full { FullRun bench_valid bench_public }
+{
+    below::<BenchScheme>();
 }
 
 /// Where site, client, device and authenticator do what they are asked, and the user consents, the packets are accepted:

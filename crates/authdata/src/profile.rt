@@ -7,14 +7,15 @@ ghost use Rattle.authdata.specs.declared.profile.Profile.TheVariants.{Strict};
 
 use crate::flags;
 
-/// Which responses a relying party takes. Of the steps that it verifies none differs.
+/// Which responses a relying party takes. The steps are the same in both; three of them ask less in the open one: those on
+/// token binding, on authenticator data and on attestation objects.
 #[derive(Clone, Copy, Debug, PartialEq, Eq, Drop)]
 pub enum Profile {
     /// No extension data, credential ids of 1 to 64 bytes, no token binding but `supported`.
     Strict,
     /// What real keys and browsers send besides: extension data, which are not looked at (WebAuthn Level 2, sections
-    /// 7.1, step 18, and 7.2, step 18), credential ids of 1 to 1,023 bytes (section 6.1), and the status
-    /// `not-supported` of token binding, which older browsers write.
+    /// 7.1, step 17, and 7.2, step 18), credential ids of 1 to 1,023 bytes (Level 3, section 4, "Credential ID"), and the
+    /// status `not-supported` of token binding, which older browsers write.
     Open,
 }
 

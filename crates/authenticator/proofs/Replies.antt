@@ -22,7 +22,7 @@ use Rattle.authenticator.specs.Steps.{info_of}
 -- ---- at most so many bytes
 
 abbrev mutual
-  cost : Item → ℕ
+  pub cost : Item → ℕ
   cost (of.uint n) = 9
   cost (of.nint n) = 9
   cost (of.bytes bs) = 9 + length bs
@@ -31,11 +31,11 @@ abbrev mutual
   cost (of.map ps) = 9 + cost_of_pairs ps
   cost (of.boolean b) = 1
 
-  cost_of_items : Items → ℕ
+  pub cost_of_items : Items → ℕ
   cost_of_items no_items = 0
   cost_of_items (item x xs) = cost x + cost_of_items xs
 
-  cost_of_pairs : Pairs → ℕ
+  pub cost_of_pairs : Pairs → ℕ
   cost_of_pairs no_pairs = 0
   cost_of_pairs (pair k v ps) = cost k + (cost v + cost_of_pairs ps)
 
@@ -50,7 +50,7 @@ head_short m n =
     (either_short (nat_lt n (2 ^ 32)) _ _ (omega arith) (omega arith))))
 
 mutual
-  short : (x : Item) → length (spelling x) ≤ cost x
+  pub short : (x : Item) → length (spelling x) ≤ cost x
   short (of.uint n) = head_short 0 n
   short (of.nint n) = head_short 1 n
   short (of.bytes bs) = omega (arith, head_short 2 (length bs), length-append (head 2 (length bs)) bs)

@@ -1,6 +1,6 @@
 -- Each step keeps a sound state, and signs as the laws say.
 use Rattle.std.proofs.Common.{◌≡◌, ◌+◌, ◌++◌, ℕ, List, [], ◌∷◌, Option, Some, None, Bool, true, false, length, sym, refl, subst, arith, ap, ◌∙◌, inl}
-use Rattle.std.proofs.Common.{inr, ◌<◌}
+use Rattle.std.proofs.Common.{inr, ◌<◌, Contains}
 use Rattle.std.proofs.lemmas.Bool.Decides.{nat_tests}
 use Rattle.std.specs.Prelude.{if◌then◌else◌, not, ◌&&◌, ◌||◌, All, IfSome, is_some, nat_le, ◌==◌}
 use Rattle.std.proofs.lemmas.List.{length-append}
@@ -35,15 +35,19 @@ use Rattle.authenticator.proofs.Stored.{unique_made, unique_with, with_at}
 
 -- ---- flags
 
-up_set : (up uv : Bool) → is_set (up_bit up + uv_bit uv) UP ≡ true → up ≡ true
+pub up_set : (up uv : Bool) → is_set (up_bit up + uv_bit uv) UP ≡ true → up ≡ true
 up_set true uv h = refl
 up_set false true h = absurd cc
 up_set false false h = absurd cc
 
-uv_set : (up uv : Bool) → is_set (up_bit up + uv_bit uv) UV ≡ true → uv ≡ true
+pub uv_set : (up uv : Bool) → is_set (up_bit up + uv_bit uv) UV ≡ true → uv ≡ true
 uv_set up true h = refl
 uv_set true false h = absurd cc
 uv_set false false h = absurd cc
+
+pub uv_made : (uv : Bool) → is_set (0x41 + uv_bit uv) UV ≡ true → uv ≡ true
+uv_made true h = refl
+uv_made false h = absurd cc
 
 -- ---- what stays as it is
 
@@ -147,7 +151,7 @@ next_answers : (valid : Validity) (public : Keys) (old : AuthenticatorState) (o 
 next_answers valid public old None out s r h = absurd h
 next_answers valid public old (Some x) out s r h = answers valid public old x.next x.asked x.later _ _ out s r.asked r.later h
 
-on_channel : (cs : List CredentialSource) (channel : ℕ) (o : Option Remembered) → IfSome o (SoundRemembered cs)
+pub on_channel : (cs : List CredentialSource) (channel : ℕ) (o : Option Remembered) → IfSome o (SoundRemembered cs)
     → IfSome (remembered_on channel o) (SoundRemembered cs)
 on_channel cs channel None h = tt
 on_channel cs channel (Some r) h = either (r.asked.channel == channel) where
@@ -171,7 +175,7 @@ given true uv true verified e = (λ h. refl, more uv verified e)
 given true uv false verified e = absurd cc
 given false uv present verified e = (λ h. absurd cc, more uv verified e)
 
-follows : (old : AuthenticatorState) (channel : ℕ) (q : AssertionRequest) (consent : Consent) → length q.client_data_hash ≡ 32
+pub follows : (old : AuthenticatorState) (channel : ℕ) (q : AssertionRequest) (consent : Consent) → length q.client_data_hash ≡ 32
     → first_true (assertion_order old q consent) ≡ None → FollowsConsent (asked_by channel q consent)
 follows old channel q consent l e =
     let ids = candidates old.credentials q.rp_id q.allow_list in
@@ -190,9 +194,16 @@ not_some (Some x) e = absurd cc
 below : (n : ℕ) → nat_le 256 n ≡ false → n < 256
 below n e = grind (arith, nat_tests, e)
 
-new_id : (old : AuthenticatorState) (q : CreationRequest) (consent : Consent) (words : Words) → first_true (creation_order old q consent words) ≡ None
-    → (credential_of words.id old.credentials ≡ None) × (length (kept old.credentials q) < 256)
-new_id old q consent words e =
+-- what a makeCredential that no line of its order refuses has: an id that is new, room, and consent
+pub record Granted (old : AuthenticatorState) (q : CreationRequest) (consent : Consent) (words : Words) : Type 0 where
+  pub new : credential_of words.id old.credentials ≡ None
+  pub room : length (kept old.credentials q) < 256
+  pub present : consent.present ≡ true
+  pub verified : is_true (creation_flags q.options).uv ≡ true → consent.verified ≡ true
+
+pub granted : (old : AuthenticatorState) (q : CreationRequest) (consent : Consent) (words : Words) → first_true (creation_order old q consent words) ≡ None
+    → Granted old q consent words
+granted old q consent words e =
     let flags = creation_flags q.options in
     let l6 : List (Bool × ℕ) = (nat_le 256 (length (kept old.credentials q)), 0x28) ∷ [] in
     let l5 : List (Bool × ℕ) = (is_some (credential_of words.id old.credentials), 0x7F) ∷ l6 in
@@ -205,7 +216,13 @@ new_id old q consent words e =
     let d = line_none (is_excluded q.rp.id old.credentials q.exclude_list) 0x19 l5 c.1 in
     let f = line_none (is_some (credential_of words.id old.credentials)) 0x7F l6 d.1 in
     let g = line_none (nat_le 256 (length (kept old.credentials q))) 0x28 [] f.1 in
-    (not_some (credential_of words.id old.credentials) f.0, below (length (kept old.credentials q)) g.0)
+    let asked = given true (is_true flags.uv) consent.present consent.verified c.0 in
+    record {
+      new = not_some (credential_of words.id old.credentials) f.0;
+      room = below (length (kept old.credentials q)) g.0;
+      present = asked.0 refl;
+      verified = asked.1;
+    }
 
 -- ---- a credential that is made
 
@@ -219,10 +236,11 @@ attested_all valid public old q consent words key types.SelfSigned r signed P h 
     All-same P signed (entry ∷ []) is.2 (All-cons P entry [] h (All-nil P))
 
 creates : (valid : Validity) (public : Keys) (old : AuthenticatorState) (q : CreationRequest) (consent : Consent) (words : Words) (out : Outcome)
-    → SoundState old → length words.id ≡ 32 → length q.client_data_hash ≡ 32 → credential_of words.id old.credentials ≡ None
-    → length (kept old.credentials q) < 256
+    → SoundState old → length words.id ≡ 32 → length q.client_data_hash ≡ 32 → Granted old q consent words
     → Creates valid public old q consent words out → SoundOutcome public old out
-creates valid public old q consent words out s w l none room is =
+creates valid public old q consent words out s w l granted is =
+    let none : credential_of words.id old.credentials ≡ None = granted.new in
+    let room : length (kept old.credentials q) < 256 = granted.room in
     let key = public is.alg words.secret in
     let new = new_credential q is.alg words in
     let stay = kept old.credentials q in
@@ -242,6 +260,8 @@ creates valid public old q consent words out s w l none room is =
       message = refl;
       hash_length = l;
       size = omega (arith, length-append is.shown.auth_data q.client_data_hash, full, w, l);
+      present = granted.present;
+      verified = λ h. granted.verified (uv_made (is_true (creation_flags q.options).uv) h);
     }) in
     let other : IsCounted public old.credentials out.state.credentials entry = λ k. let bad : attestation ≡ assertion = k in absurd cc in
     let stored : IsStored public out.state.credentials key =
@@ -273,7 +293,7 @@ carries : (valid : Validity) (public : Keys) (old : AuthenticatorState) (channel
     → SoundState old → length words.id ≡ 32 → IsRequest q bs → CarriesOut valid public old channel consent words q out → SoundOutcome public old out
 carries valid public old channel bs consent words (make_credential q) out s w is h =
     unless public (first_true (creation_order old q consent words)) old out (Creates valid public old q consent words out) s
-    (λ e made. let new = new_id old q consent words e in creates valid public old q consent words out s w (creation_hashed q bs is) new.0 new.1 made) h
+    (λ e made. creates valid public old q consent words out s w (creation_hashed q bs is) (granted old q consent words e) made) h
 carries valid public old channel bs consent words (get_assertion q) out s w is h =
     unless public (first_true (assertion_order old q consent)) old out
     (FirstAnswers valid public old (candidates old.credentials q.rp_id q.allow_list) (asked_by channel q consent) out) s
@@ -294,5 +314,54 @@ step valid public old channel bs consent words out s w h = elim h [
   | inr read ↦ carries valid public old channel bs consent words read.0 out s w read.1 read.2
 ]
 
+-- ---- keys
+
+made_none : (xs : List CoseKey) (key : CoseKey) → xs ≡ [] → Contains xs key → ⊥
+made_none xs key e h = let bad : Contains [] key = subst (λ (l : List CoseKey). Contains l key) e h in absurd (omega (arith, bad.1))
+
+unless_made : (o : Option ℕ) (old : AuthenticatorState) (out : Outcome) (P : Type 0) (consent : Consent) (key : CoseKey)
+    → (o ≡ None → P → consent.present ≡ true) → Unless o old out P → Contains out.made key → consent.present ≡ true
+unless_made None old out P consent key f h made = f refl h
+unless_made (Some status) old out P consent key f h made = absurd (made_none out.made key (ap (λ (o : Outcome). o.made) h) made)
+
+first_makes_none : (valid : Validity) (public : Keys) (old : AuthenticatorState) (ids : List (List ℕ)) (asked : Asked) (out : Outcome)
+    → FirstAnswers valid public old ids asked out → out.made ≡ []
+first_makes_none valid public old [] asked out h = absurd h
+first_makes_none valid public old (id ∷ ids) asked out h = h.made
+
+next_makes_none : (valid : Validity) (public : Keys) (old : AuthenticatorState) (o : Option Remembered) (out : Outcome)
+    → NextAnswers valid public old o out → out.made ≡ []
+next_makes_none valid public old None out h = absurd h
+next_makes_none valid public old (Some r) out h = h.made
+
+made_by : (valid : Validity) (public : Keys) (old : AuthenticatorState) (channel : ℕ) (consent : Consent) (words : Words) (q : RequestMessage)
+    (out : Outcome) (key : CoseKey)
+    → CarriesOut valid public old channel consent words q out → Contains out.made key → consent.present ≡ true
+made_by valid public old channel consent words (make_credential q) out key h made =
+    unless_made (first_true (creation_order old q consent words)) old out (Creates valid public old q consent words out) consent key
+    (λ e is. (granted old q consent words e).present) h made
+made_by valid public old channel consent words (get_assertion q) out key h made =
+    let ids = candidates old.credentials q.rp_id q.allow_list in
+    unless_made (first_true (assertion_order old q consent)) old out (FirstAnswers valid public old ids (asked_by channel q consent) out) consent key
+    (λ e is. absurd (made_none out.made key (first_makes_none valid public old ids (asked_by channel q consent) out is) made)) h made
+made_by valid public old channel consent words get_next_assertion out key h made =
+    unless_made (first_true (next_order old channel)) old out (NextAnswers valid public old (remembered_on channel old.remembered) out) consent key
+    (λ e is. absurd (made_none out.made key (next_makes_none valid public old (remembered_on channel old.remembered) out is) made)) h made
+made_by valid public old channel consent words get_info out key h made = absurd (made_none out.made key h.made made)
+made_by valid public old channel consent words reset out key h made =
+    unless_made (first_true (reset_order consent)) old out (Resets old out) consent key (λ e is. absurd (made_none out.made key is.made made)) h made
+
+consented : (valid : Validity) (public : Keys) (old : AuthenticatorState) (channel : ℕ) (bs : List ℕ) (consent : Consent) (words : Words) (out : Outcome)
+    (key : CoseKey)
+    → Step valid public old channel bs consent words out → Contains out.made key → consent.present ≡ true
+consented valid public old channel bs consent words out key (inl unread) made =
+    absurd (made_none out.made key (ap (λ (o : Outcome). o.made) unread.2) made)
+consented valid public old channel bs consent words out key (inr read) made =
+    made_by valid public old channel consent words read.0 out key read.2 made
+
 pub laws : (valid : Validity) (public : Keys) → StepLaws valid public
-laws valid public = record { begins = λ aaguid uv attest. record { most = omega arith; unique = tt; remembered = tt }; sound = step valid public }
+laws valid public = record {
+  begins = λ aaguid uv attest. record { most = omega arith; unique = tt; remembered = tt };
+  sound = step valid public;
+  consented = consented valid public;
+}

@@ -23,7 +23,7 @@ itself xs = (bytes_eq-Decides xs xs).1 refl
 
 -- ---- each of unique ones is the one of its id
 
-abbrev Keeper : List CredentialSource → CredentialSource → Type 0
+abbrev pub Keeper : List CredentialSource → CredentialSource → Type 0
 Keeper xs c = credential_of c.id xs ≡ Some c
 
 keepers_more : (c : CredentialSource) (cs : List CredentialSource) → credential_of c.id cs ≡ None → (x : CredentialSource) → Keeper cs x → Keeper (c ∷ cs) x
@@ -33,7 +33,7 @@ pub each_weaker : {X : Type 0} (P Q : X → Type 0) → ((x : X) → P x → Q x
 each_weaker P Q f [] h = tt
 each_weaker P Q f (x ∷ xs) h = (f x h.0, each_weaker P Q f xs h.1)
 
-keepers : (cs : List CredentialSource) → IsUnique cs → Each (Keeper cs) cs
+pub keepers : (cs : List CredentialSource) → IsUnique cs → Each (Keeper cs) cs
 keepers [] h = tt
 keepers (c ∷ cs) (none, h) = (rw (itself c.id) refl, each_weaker (Keeper cs) (Keeper (c ∷ cs)) (keepers_more c cs none) cs (keepers cs h))
 
@@ -43,7 +43,7 @@ residents : (rp : List ℕ) (cs xs : List CredentialSource) → Each (Keeper cs)
 residents rp cs [] h = tt
 residents rp cs (x ∷ xs) h = grind (arith, common_steps, h.0, h.1, residents rp cs xs h.1)
 
-all_reverse : (P : List ℕ → Type 0) (xs : List (List ℕ)) → All P xs → All P (reverse xs)
+pub all_reverse : (P : List ℕ → Type 0) (xs : List (List ℕ)) → All P xs → All P (reverse xs)
 all_reverse P xs h k d lt =
     let l = length-reverse xs in
     let within : k < length xs = omega (arith, l, lt) in
@@ -79,7 +79,7 @@ pub with_at : (id : List ℕ) (n : ℕ) (cs : List CredentialSource) (c : Creden
 with_at id n [] c e = absurd cc
 with_at id n (x ∷ xs) c e = grind (arith, common_steps, e, with_at id n xs c)
 
-with_other : (id : List ℕ) (n : ℕ) (cs : List CredentialSource) (k : List ℕ) → bytes_eq id k ≡ false
+pub with_other : (id : List ℕ) (n : ℕ) (cs : List CredentialSource) (k : List ℕ) → bytes_eq id k ≡ false
     → credential_of k (with_sign_count id n cs) ≡ credential_of k cs
 with_other id n [] k ne = refl
 with_other id n (x ∷ xs) k ne = grind (arith, common_steps, ne, same_id x.id id, with_other id n xs k ne)

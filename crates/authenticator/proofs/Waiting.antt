@@ -1,6 +1,6 @@
 -- What waits for its signature, and what its signature makes of it.
 use Rattle.std.proofs.Common.{◌≡◌, ◌<◌, ◌≤◌, ◌++◌, ◌∷◌, [], ℕ, List, Option, Some, Vec, Global, length, refl, sym, ap, subst, rules, true}
-use Rattle.std.specs.Prelude.{Result, Ok, Err, IfOk, codes}
+use Rattle.std.specs.Prelude.{Result, Ok, Err, IfOk, OnErr, codes}
 use Rattle.cose.specs.Keys.{alg_of, signed_alg}
 use Rattle.cose.specs.Schemes.{Validity}
 use Rattle.cose.specs.declared.key.SigningAlg.{SigningAlg}
@@ -133,3 +133,8 @@ laws valid public = record {
   signed = λ old middle new channel bs consent words p signature reply h is f.
       (h.0, composed valid public old middle new channel bs consent words p signature reply h is f);
 }
+
+-- an error of which this holds in any case
+pub on_err : {T E : Type 0} (r : Result T E) (P : Type 0) → P → OnErr r P
+on_err (Ok x) P p = tt
+on_err (Err e) P p = p

@@ -1,5 +1,5 @@
 -- What holds of each step, from a state in which it held: the laws that an account of whole runs needs.
-use Rattle.std.specs.Prelude.{◌≡◌, ◌≤◌, ◌⊎◌, ℕ, ◌+◌, List, [], ◌∷◌, ◌++◌, length, Bool, true, Some, None, All, IfSome}
+use Rattle.std.specs.Prelude.{◌≡◌, ◌≤◌, ◌⊎◌, ℕ, ◌+◌, List, [], ◌∷◌, ◌++◌, length, Bool, true, Some, None, All, Contains, IfSome}
 use Rattle.cose.specs.Schemes.{Validity}
 use Rattle.cose.specs.declared.key.CoseKey.{CoseKey}
 use Rattle.authdata.specs.Flags.{is_set, UP, UV}
@@ -58,7 +58,8 @@ pub record SoundAssertion (e : Entry) : Type 0 where
   pub present : is_set auth.flags UP ≡ true → e.consent.present ≡ true
   pub verified : is_set auth.flags UV ≡ true → e.consent.verified ≡ true
 
--- an attestation: its message is authenticator data that attest a credential, and a hash
+-- an attestation: its message is authenticator data that attest a credential, and a hash; presence was given to the
+-- request, and UV is set only if verification was
 pub record SoundAttestation (e : Entry) : Type 0 where
   pub purpose : e.purpose ≡ attestation
   pub auth : AuthenticatorData
@@ -70,6 +71,8 @@ pub record SoundAttestation (e : Entry) : Type 0 where
   pub message : e.message ≡ bytes ++ client_data_hash
   pub hash_length : length client_data_hash ≡ 32
   pub size : 161 ≤ length e.message
+  pub present : e.consent.present ≡ true
+  pub verified : is_set auth.flags UV ≡ true → e.consent.verified ≡ true
 
 abbrev pub IsSound : Entry → Type 0
 IsSound e = SoundAssertion e ⊎ SoundAttestation e
@@ -118,3 +121,6 @@ pub record StepLaws (valid : Validity) (public : Keys) : Type 0 where
   pub sound : (old : AuthenticatorState) (channel : ℕ) (bs : List ℕ) (consent : Consent) (words : Words) (out : Outcome)
       → SoundState old → length words.id ≡ 32 → Step valid public old channel bs consent words out
       → SoundOutcome public old out
+  -- no key is made without presence
+  pub consented : (old : AuthenticatorState) (channel : ℕ) (bs : List ℕ) (consent : Consent) (words : Words) (out : Outcome) (key : CoseKey)
+      → Step valid public old channel bs consent words out → Contains out.made key → consent.present ≡ true

@@ -94,6 +94,10 @@ abbrev pub Begins : Keys → AuthenticatorState → ℕ → List ℕ → Consent
 Begins public old channel bs consent words b new =
     BeginsBy (λ valid out. Step valid public old channel bs consent words out) public old b new
 
+-- of this secret the one has the keys of the other
+abbrev pub AgreesOn : List ℕ → Keys → Keys → Type 0
+AgreesOn secret public known = (alg : SigningAlg) → public alg secret ≡ known alg secret
+
 -- a reply, where it is one, has at most 7,609 bytes
 abbrev pub HasSize : Begun → Type 0
 HasSize (begun.Replied reply) = length reply.items ≤ 7609

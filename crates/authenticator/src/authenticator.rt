@@ -4,9 +4,9 @@ ghost use Rattle.std.specs.Prelude.{◌≡◌, ◌≤◌, ◌∷◌, [], IfOk, O
 ghost use Rattle.ctap_requests.specs.RequestView.{lent_request_view};
 ghost use Rattle.ctap_requests.specs.Requests as requests;
 ghost use Rattle.authenticator.specs.Private.{HasUser, RequestBegins};
-ghost use Rattle.authenticator.specs.Signing.{Begins, Finishes, HasSize};
+ghost use Rattle.authenticator.specs.Signing.{AgreesOn, Begins, Finishes, HasSize};
 ghost use Rattle.authenticator.specs.State.{forgotten, new_state};
-ghost use Rattle.authenticator.specs.Steps.{Informs, Resets, Steps, Unless};
+ghost use Rattle.authenticator.specs.Steps.{Informs, Keys, Resets, Steps, Unless};
 ghost use Rattle.authenticator.specs.Orders.{reset_order};
 ghost use Rattle.refusal_order.specs.Lines.{first_true};
 
@@ -130,8 +130,8 @@ impl Authenticator {
         words: Words,
     ) -> Result<Begun, AllocError>
         requires { HasUser (lent_request_view request) }
-        ensures done { IfOk result (λ begun. RequestBegins (K.public_of keys.now) self.old channel consent words (lent_request_view request.entry)
-            begun self.new) }
+        ensures done { (public : Keys) → AgreesOn words.secret public (K.public_of keys.now)
+            → IfOk result (λ begun. RequestBegins public self.old channel consent words (lent_request_view request.entry) begun self.new) }
         ensures size { IfOk result HasSize }
         ensures err { OnErr result (self.new ≡ self.old) }
     {
@@ -151,7 +151,8 @@ impl Authenticator {
     /// no counter has grown, and no credential was made. So what waits may be dropped.
     ///
     /// Presence and verification are asked for here, in the orders of `handle`. The keys are asked for the public key of
-    /// the secret that is handed in, where a credential is to be made.
+    /// the secret that is handed in, where a credential is to be made, and for no other: so they may be the keys of this one
+    /// secret alone ([`HandedKeys`](crate::HandedKeys)), and a credential that is stored answers under the keys of its own.
     pub fn begin<K: PublicKeys>(
         &mut self,
         keys: &K,
@@ -160,7 +161,8 @@ impl Authenticator {
         consent: Consent,
         words: Words,
     ) -> Result<Begun, AllocError>
-        ensures begun { IfOk result (λ begun. Begins (K.public_of keys.now) self.old channel request.now consent words begun self.new) }
+        ensures begun { (public : Keys) → AgreesOn words.secret public (K.public_of keys.now)
+            → IfOk result (λ begun. Begins public self.old channel request.now consent words begun self.new) }
         ensures size { IfOk result HasSize }
         ensures memory { OnErr result (self.new ≡ self.old) }
     {

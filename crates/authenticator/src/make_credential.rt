@@ -7,9 +7,9 @@ ghost use Rattle.cose.specs.Keys.{signed_alg};
 ghost use Rattle.authdata.specs.Statements.{none_statement, packed_statement};
 ghost use Rattle.authenticator.specs.Orders.{first_supported, is_false, is_true, kept, supported, supported_by};
 ghost use Rattle.authenticator.specs.Private.{CreationBegins, IsChoice, IsUser, Overwrites, asks_resident, without};
-ghost use Rattle.authenticator.specs.Signing.{HasSize};
+ghost use Rattle.authenticator.specs.Signing.{AgreesOn, HasSize};
 ghost use Rattle.authenticator.specs.State.{forgotten};
-ghost use Rattle.authenticator.specs.Steps.{new_credential};
+ghost use Rattle.authenticator.specs.Steps.{Keys, new_credential};
 ghost use Rattle.authenticator.specs.Views.{credential_source_view, credential_sources_view};
 
 use crate::attestation::{no_statement, packed};
@@ -234,7 +234,8 @@ impl Authenticator {
         words: Words,
     ) -> Result<Begun, AllocError>
         requires { IsUser request.user.id.items }
-        ensures done { IfOk result (λ begun. CreationBegins (K.public_of keys.now) self.old (creation_view request) consent words begun self.new) }
+        ensures done { (public : Keys) → AgreesOn words.secret public (K.public_of keys.now)
+            → IfOk result (λ begun. CreationBegins public self.old (creation_view request) consent words begun self.new) }
         ensures size { IfOk result HasSize }
         ensures err { OnErr result (self.new ≡ self.old) }
     {

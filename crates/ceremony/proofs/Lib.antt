@@ -1,6 +1,5 @@
 pub mod Taken
 pub mod Feeding
-pub mod Acting
 pub mod Coming
 pub mod Judging
 pub mod Verdicts

@@ -3,5 +3,3 @@ pub mod Packets
 pub mod Verdict
 pub mod SignIn
 pub mod Registration
-pub mod Serving
-pub mod AtDevice

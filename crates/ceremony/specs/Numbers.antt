@@ -3,8 +3,6 @@ use Rattle.std.specs.Prelude.{ℕ, Option, Some, None}
 use Rattle.ctap_status.specs.Numbers as reply
 use Rattle.ceremony.specs.declared.error.Error.{Error}
 use Rattle.ceremony.specs.declared.error.Error.TheVariants as errors
-use Rattle.ceremony.specs.declared.serving.ServeError.{ServeError}
-use Rattle.ceremony.specs.declared.serving.ServeError.TheVariants as serves
 
 abbrev pub refusal_number : {W : Type 0} → Error W → Option ℕ
 refusal_number errors.Incomplete = Some 24
@@ -13,7 +11,3 @@ refusal_number (errors.DeviceError code) = Some 26
 refusal_number (errors.Reply e) = reply.refusal_number e
 refusal_number (errors.Refused w) = None
 refusal_number errors.Memory = None
-
-abbrev pub serve_number : ServeError → Option ℕ
-serve_number serves.NotWorking = Some 6
-serve_number serves.Memory = None

@@ -1,4 +1,4 @@
-//! The laws of the verdict, and of serving in two steps.
+//! The law of the verdict.
 
 ghost use Rattle.std.specs.Prelude.{◌≡◌, ◌≢◌, ◌<◌, ◌^◌, ℕ, List};
 ghost use Rattle.std.specs.List.{AllByRecursion};
@@ -8,8 +8,6 @@ ghost use Rattle.ctap_replies.specs.Replies.{Assertion, Creation};
 ghost use Rattle.verification.specs.declared.refusal.SignInRefusal.{SignInRefusal};
 ghost use Rattle.verification.specs.declared.refusal.RegistrationRefusal.{RegistrationRefusal};
 ghost use Rattle.site.specs.State.{SiteState};
-ghost use Rattle.authenticator.specs.Steps.{Keys};
-ghost use Rattle.ceremony.specs.Serving.{ServingLaws};
 ghost use Rattle.ceremony.specs.SignIn.{sign_in};
 ghost use Rattle.ceremony.specs.Registration.{registration};
 ghost use Rattle.ceremony.specs.Verdict.{Refused, Succeeds};
@@ -41,10 +39,4 @@ pub fn one_verdict<V: Verifier>()
     ensures registration_one_refusal { (verifier : V) (s : SiteState) (session : ℕ) (t : List ℕ) (c : ℕ) (ps : List Packet) (e f : Error RegistrationRefusal)
         → c < 2 ^ 32 → AllByRecursion IsPacket ps → e ≢ errors.Memory → f ≢ errors.Memory
         → Refused (registration (V.valid verifier) s session t) c ps e → Refused (registration (V.valid verifier) s session t) c ps f → e ≡ f }
-{}
-
-/// Serving in two steps is serving in one: what [`begin_serving`](crate::begin_serving) does at once is what the act does,
-/// and where it tells what is to be signed, [`finish_serving`](crate::finish_serving) does it with a signature that is valid.
-pub fn serving_laws<V: Verifier>()
-    ensures { (verifier : V) (public : Keys) → ServingLaws (V.valid verifier) public }
 {}

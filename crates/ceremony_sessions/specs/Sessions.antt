@@ -1,6 +1,6 @@
 -- The ceremonies that a relying party has begun (WebAuthn Level 2, sections 7.1 and 7.2: the options that were
 -- passed to the client, and their challenge, section 13.4.3).
-use Rattle.std.specs.Prelude.{◌≤◌, ◌<◌, ◌+◌, ◌-◌, ◌^◌, ℕ, List, [], ◌∷◌, ◌++◌, length, Bool, Option, Some, None}
+use Rattle.std.specs.Prelude.{◌≡◌, ◌≤◌, ◌<◌, ◌+◌, ◌-◌, ◌^◌, ℕ, List, [], ◌∷◌, ◌++◌, length, Bool, Option, Some, None}
 use Rattle.std.specs.Option.{ForSome}
 use Rattle.std.specs.List.{AllByRecursion}
 use Rattle.std.specs.Int.{w64, to_be_bytes}
@@ -74,6 +74,21 @@ begun s o = record s { expected = finite.insert s.expected s.next (expected_of s
 -- the session of a number is taken out
 abbrev pub closed : ℕ → OpenSessions → OpenSessions
 closed n s = record s { expected = finite.remove s.expected n }
+
+-- ---- numbers
+
+abbrev pub challenge_in : Expected → List ℕ
+challenge_in (ForSignIn e) = e.challenge
+challenge_in (ForRegistration e) = e.challenge
+
+-- the session has this number, where the next has that one: the number was given, being below the next, and its challenge
+-- begins with it
+abbrev pub HasNumber : ℕ → ℕ → Expected → Type 0
+HasNumber next n e = (n < next) × ((words : List ℕ) × (challenge_in e ≡ challenge_of n words))
+
+-- so it is of each session that is open
+abbrev pub HaveNumbers : ℕ → finite.FinMap nat_cmp Expected → Type 0
+HaveNumbers next expected = (n : ℕ) (e : Expected) → finite.get expected n ≡ Some e → HasNumber next n e
 
 -- ---- what may begin
 

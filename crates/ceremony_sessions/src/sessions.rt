@@ -10,7 +10,8 @@ ghost use Rattle.authdata.specs.Profiles.{max_id};
 ghost use Rattle.credential_table.specs.Table.{IsWithin};
 ghost use Rattle.verification.specs.Views.{registration_view, sign_in_view};
 ghost use Rattle.ceremony_sessions.specs.Sessions.{AreLimits, Opening, OpensRegistration, OpensSignIn, IsInput, IsRefused, PassesOpeningStep};
-ghost use Rattle.ceremony_sessions.specs.Sessions.{PassesOpening, begun, challenge_of, closed, registration_at, sign_in_at};
+ghost use Rattle.ceremony_sessions.specs.Sessions.{PassesOpening, HasNumber, HaveNumbers, begun, challenge_of, closed, registration_at, sign_in_at};
+ghost use Rattle.ceremony_sessions.specs.Sessions.{challenge_in as expected_challenge};
 ghost use Rattle.ceremony_sessions.specs.Views.{sessions_view, session_view};
 ghost use Rattle.ceremony_sessions.specs.declared.error.Error.TheVariants as errors;
 
@@ -52,7 +53,7 @@ pub struct Sessions {
 impl Model for Sessions {
     ghost use Rattle.std.specs.Prelude.{◌≡◌, ℕ, length};
     ghost use Rattle.std.specs.FinMap as finite;
-    ghost use Rattle.ceremony_sessions.specs.Sessions.{AreLimits, OpenSessions};
+    ghost use Rattle.ceremony_sessions.specs.Sessions.{AreLimits, HaveNumbers, OpenSessions};
     ghost use Rattle.ceremony_sessions.specs.Views.{sessions_view};
     ghost use Rattle.ceremony_sessions.specs.Codes.{open_code};
 
@@ -63,7 +64,8 @@ impl Model for Sessions {
     ghost view = { λ s. record { expected = sessions_view s.by_number.entries; next = s.next; max_open = s.max_open } };
 
     ghost invariant = { λ s. (finite.len (sessions_view s.by_number.entries) ≡ length s.by_number.entries)
-        × ((n : ℕ) → AreLimits (finite.get (sessions_view s.by_number.entries) n)) };
+        × ((n : ℕ) → AreLimits (finite.get (sessions_view s.by_number.entries) n))
+        × HaveNumbers s.next (sessions_view s.by_number.entries) };
 }
 
 /// The challenge of a session: its number in 8 big-endian bytes, then the words.
@@ -119,6 +121,24 @@ fn are_limits(session: &Session) -> bool
     }
 }
 
+/// The challenge of a session.
+fn challenge_in(session: &Session) -> &[u8]
+    ensures { result.now ≡ expected_challenge (session_view session.now) }
+{
+    match session {
+        Session::SignIn(session) => &session.challenge,
+        Session::Registration(session) => &session.challenge,
+    }
+}
+
+/// Whether a session has this number, where the next has that one.
+fn has_number(next: u64, number: u64, session: &Session) -> bool
+    ensures { IsTrue result ↔ HasNumber next number (session_view session.now) }
+{
+    let challenge = challenge_in(session);
+    number < next && challenge.starts_with(&number.to_be_bytes())
+}
+
 /// Copies of the ids.
 fn copies(alloc: Global, ids: &[&[u8]]) -> Result<Vec<Vec<u8>>, AllocError>
     ensures { IfOk result (λ v. map (λ id. id.items) v.items ≡ map (λ id. id.now) ids.now) }
@@ -169,9 +189,10 @@ impl Sessions {
         self.max_open
     }
 
-    /// The number of the next session.
+    /// The number of the next session, above each that is open.
     pub fn next(&self) -> u64
-        ensures { result ≡ self.now.next }
+        ensures next { result ≡ self.now.next }
+        ensures numbers { HaveNumbers result self.now.expected }
     {
         self.next
     }
@@ -202,13 +223,17 @@ impl Sessions {
         Ok(())
     }
 
-    /// Opens a session under a number. One that was open there is dropped.
-    fn open(&mut self, number: u64, session: Session) -> Result<(), AllocError>
-        requires { AreLimits (Some (session_view session)) }
-        ensures opened { OnOk result (self.new ≡ record self.old { expected = finite.insert self.old.expected number (session_view session) }) }
+    /// Opens a session under its number, where the next has the number that is handed in. One that was open there is dropped.
+    fn open(&mut self, number: u64, session: Session, next: u64) -> Result<(), AllocError>
+        requires limits { AreLimits (Some (session_view session)) }
+        requires number { HasNumber next number (session_view session) }
+        requires next { self.old.next ≤ next }
+        ensures opened { OnOk result (self.new
+            ≡ record self.old { expected = finite.insert self.old.expected number (session_view session); next = next }) }
         ensures unchanged { OnErr result (self.new ≡ self.old) }
     {
         self.by_number.insert(number, session)?;
+        self.next = next;
         Ok(())
     }
 
@@ -216,31 +241,33 @@ impl Sessions {
     fn add(&mut self, session: Session) -> Result<(), Error>
         requires number { self.old.next < 2 ^ 64 - 1 }
         requires limits { AreLimits (Some (session_view session)) }
+        requires challenge { HasNumber (self.old.next + 1) self.old.next (session_view session) }
         ensures opened { OnOk result (self.new
             ≡ record self.old { expected = finite.insert self.old.expected self.old.next (session_view session); next = self.old.next + 1 }) }
         ensures unchanged { OnErr result (self.new ≡ self.old) }
         ensures memory { IfErr result (λ e. e ≡ errors.Memory) }
     {
         let number = self.next;
-        self.open(number, session)?;
-        self.next = number + 1;
+        self.open(number, session, number + 1)?;
         Ok(())
     }
 
     /// Opens a session that was open before a restart, under its number. One that was open there is dropped.
     ///
-    /// `BadInput` where it is for registration and its user handle is not of 1 to 64 bytes; `Memory` where there was
-    /// none. Then nothing has changed.
+    /// `BadInput` where it is for registration and its user handle is not of 1 to 64 bytes, where the number is not below
+    /// the next, or where the challenge does not begin with the number; `Memory` where there was none. Then nothing has
+    /// changed.
     pub fn restore(&mut self, number: u64, session: Session) -> Result<(), Error>
         ensures opened { OnOk result (self.new ≡ record self.old { expected = finite.insert self.old.expected number (session_view session) }) }
-        ensures limits { IsErrOf result Error.BadInput ↔ ¬ AreLimits (Some (session_view session)) }
+        ensures limits { IsErrOf result Error.BadInput
+            ↔ ¬ (AreLimits (Some (session_view session)) × HasNumber self.old.next number (session_view session)) }
         ensures named { IfErr result (λ e. (e ≡ errors.BadInput) ⊎ (e ≡ errors.Memory)) }
         ensures unchanged { OnErr result (self.new ≡ self.old) }
     {
-        if !are_limits(&session) {
+        if !are_limits(&session) || !has_number(self.next, number, &session) {
             return Err(Error::BadInput);
         }
-        self.open(number, session)?;
+        self.open(number, session, self.next)?;
         Ok(())
     }
 

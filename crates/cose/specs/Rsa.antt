@@ -11,9 +11,11 @@ pub record RsaPublicKey : Type 0 where
 abbrev pub IsOddNumber : List ℕ → Type 0
 IsOddNumber bs = (slice_index bs 0 ≢ 0) × (slice_index bs (length bs - 1) % 2 ≡ 1)
 
--- the modulus has 256, 384 or 512 bytes, the multiples of 128 within the product's limits, and is odd
+-- the modulus has 256, 384 or 512 bytes, the multiples of 128 within the product's limits, and is odd; its highest bit is
+-- set, so that it has 2,048 bits or more (RFC 8812, section 2)
 abbrev pub IsModulus : List ℕ → Type 0
-IsModulus n = (256 ≤ length n) × (length n ≤ 512) × (length n % 128 ≡ 0) × IsOddNumber n
+IsModulus n =
+    (256 ≤ length n) × (length n ≤ 512) × (length n % 128 ≡ 0) × (128 ≤ slice_index n 0) × IsOddNumber n
 
 -- the exponent has 1 to 4 bytes, the product's limit, and is odd and at least 3
 abbrev pub IsExponent : List ℕ → Type 0

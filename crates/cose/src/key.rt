@@ -1,6 +1,6 @@
 //! Public keys, and the CBOR value of each.
 
-ghost use Rattle.std.specs.Prelude.{◌≡◌, ◌↔◌, IfOk, IsErr, IsTrue};
+ghost use Rattle.std.specs.Prelude.{◌≡◌, ◌↔◌, IfOk, IsErr, IsTrue, MatchOption};
 ghost use Rattle.ccbor.specs.Item.{map};
 ghost use Rattle.ccbor.specs.View.{view};
 ghost use Rattle.ccbor.specs.Viewing.{shown};
@@ -90,6 +90,19 @@ impl Alg {
             Alg::Es256 => 6,
             Alg::EdDsa => 7,
             Alg::Rs256 => 256,
+        }
+    }
+
+    /// The algorithm that COSE names by this number, the inverse of `number`: of -7, -8 or -257. None where it is another
+    /// number.
+    pub fn from_number(number: i64) -> Option<Alg>
+        ensures { MatchOption result ((alg : Alg) → number_of alg ≡ number → ⊥) (λ alg. number_of alg ≡ number) }
+    {
+        match number {
+            -7 => Some(Alg::Es256),
+            -8 => Some(Alg::EdDsa),
+            -257 => Some(Alg::Rs256),
+            _ => None,
         }
     }
 }

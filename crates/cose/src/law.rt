@@ -1,9 +1,10 @@
 //! Laws of the keys' values.
 
-ghost use Rattle.std.specs.Prelude.{◌≡◌, ℕ, List, length};
+ghost use Rattle.std.specs.Prelude.{◌≡◌, ◌≢◌, ◌↔◌, ◌≤◌, ◌-◌, ◌%◌, ◌∷◌, [], ℕ, List, Contains, length, slice_index};
 ghost use Rattle.ccbor.specs.Canon.{Canon, spelling};
 ghost use Rattle.ccbor.specs.Item.{Item};
 ghost use Rattle.cose.specs.Keys.{IsKey, KeyOf, item_of, encoded_length};
+ghost use Rattle.cose.specs.Rsa.{IsExponent, IsModulus};
 ghost use Rattle.cose.specs.declared.key.CoseKey.{CoseKey};
 
 /// A key has one value, and a value is that of one key at most.
@@ -17,4 +18,12 @@ pub fn one_key_each()
 pub fn sizes_of_keys()
     ensures encoded { (k : CoseKey) → IsKey k → Canon (item_of k) (spelling (item_of k)) }
     ensures sizes { (k : CoseKey) → IsKey k → length (spelling (item_of k)) ≡ encoded_length k }
+{}
+
+/// A modulus has 2,048, 3,072 or 4,096 bits and an exponent 1 to 4 bytes: exactly these are an RSA key's.
+pub fn sizes_of_rsa_keys()
+    ensures moduli { (n : List ℕ) → IsModulus n
+        ↔ (Contains (256 ∷ 384 ∷ 512 ∷ []) (length n) × (128 ≤ slice_index n 0) × (slice_index n (length n - 1) % 2 ≡ 1)) }
+    ensures exponents { (e : List ℕ) → IsExponent e
+        ↔ (Contains (1 ∷ 2 ∷ 3 ∷ 4 ∷ []) (length e) × (slice_index e 0 ≢ 0) × (slice_index e (length e - 1) % 2 ≡ 1) × (e ≢ 1 ∷ [])) }
 {}

@@ -12,7 +12,7 @@ mod scheme;
 
 pub use bench::BenchScheme;
 pub use key::{Alg, CoseKey, KeyView, NotAKey, SigningAlg};
-pub use law::{one_key_each, sizes_of_keys};
+pub use law::{one_key_each, sizes_of_keys, sizes_of_rsa_keys};
 pub use list::{ListScheme, is_joined};
 pub use rsa::{RsaKey, RsaView, is_exponent, is_modulus};
 pub use scheme::{Signer, Verifier};

@@ -14,11 +14,12 @@ fn is_odd_number(bytes: &[u8]) -> bool
     bytes[0] != 0 && bytes[bytes.len() - 1] % 2 == 1
 }
 
-/// Whether the bytes are a modulus that a key may have: 256, 384 or 512, the first not zero, the last odd.
+/// Whether the bytes are a modulus that a key may have: 256, 384 or 512, the first at least 0x80, the last odd (RFC 8812
+/// section 2: 2,048 bits or more).
 pub fn is_modulus(n: &[u8]) -> bool
     ensures { IsTrue result ↔ IsModulus n.now }
 {
-    256 <= n.len() && n.len() <= 512 && n.len() % 128 == 0 && is_odd_number(n)
+    256 <= n.len() && n.len() <= 512 && n.len() % 128 == 0 && n[0] >= 0x80 && is_odd_number(n)
 }
 
 /// Whether the bytes are an exponent that a key may have: 1 to 4, the first not zero, the last odd, at least 3.
@@ -31,7 +32,7 @@ pub fn is_exponent(e: &[u8]) -> bool
 /// A public key of RSA, lent: its numbers big-endian, in the fewest bytes (RFC 8230 section 4).
 #[derive(Clone, Copy, Debug, Drop)]
 pub struct RsaView<'a> {
-    /// The modulus: 256, 384 or 512 bytes, an odd number.
+    /// The modulus: 256, 384 or 512 bytes, an odd number of 2,048, 3,072 or 4,096 bits.
     pub n: &'a [u8],
     /// The public exponent: 1 to 4 bytes, an odd number that is at least 3.
     pub e: &'a [u8],

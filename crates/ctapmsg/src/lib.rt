@@ -1,5 +1,5 @@
-//! The messages of CTAP 2.1: requests (sections 6.1 to 6.4 and 6.6), of the crate `requests`, and their
-//! replies, of the crate `replies`, in the message encoding of section 8.
+//! The messages of CTAP 2.1, under one path: requests (sections 6.1 to 6.4 and 6.6), of the crate `ctap_requests`, and their
+//! replies, of the crate `ctap_replies`, in the message encoding of section 8.
 #![tactic(auto)]
 
 pub use ctap_replies::{

@@ -2,10 +2,10 @@
 
 use authdata::AttestationType;
 use authenticator::{Authenticator, Consent, Words};
-use ceremony::{Act, ServeError, serve};
 use cose::BenchScheme;
 use hidframe::Packet;
 use hidlink::Device;
+use security_key::{Act, ServeError, serve};
 use std::alloc::{AllocError, Global};
 use test_words::bytes_of;
 

@@ -3,12 +3,13 @@
 //! the other one, and the same call made again is done. `tests/allocations` refuses each allocation in turn.
 
 use crate::{CONSENT, End, HERE, POLICY, USER, WORDS, packet, saved, site_of};
-use ceremony::{Act, ServeError, register, sign_in};
+use ceremony::{register, sign_in};
 use client::{
     CreationOptions, Outgoing, RequestError, RequestOptions, assertion_request, creation_request,
 };
 use cose::{Alg, BenchScheme};
 use hidframe::Packet;
+use security_key::{Act, ServeError};
 use site::{BeginError, Error, Site, Started};
 use std::alloc::Global;
 use std::test::Fail;

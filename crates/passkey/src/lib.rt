@@ -8,9 +8,9 @@ mod replay;
 mod script;
 
 pub use agreement::{agreement, of_all_runs};
-pub use ceremony::{
-    Accepted, Act, Enrolled, Error, Fed, Live, ServeError, Served, begin_serving, finish_serving,
-    one_verdict, register, serve, serving_laws, sign_in,
-};
+pub use ceremony::{Accepted, Enrolled, Error, Fed, Live, one_verdict, register, sign_in};
 pub use passkey_command_line::{Inspection, Subcommand, command, unhex};
 pub use program::{MAX_INPUT, run};
+pub use security_key::{
+    Act, ServeError, Served, begin_serving, finish_serving, serve, serving_laws,
+};

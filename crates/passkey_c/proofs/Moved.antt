@@ -10,8 +10,8 @@ use Rattle.verification.specs.SignIn.{JudgedSignIn, PassesSignIn}
 use Rattle.verification.specs.declared.party.Policy.{Policy}
 use Rattle.verification.specs.declared.refusal.RegistrationRefusal.{RegistrationRefusal}
 use Rattle.verification.specs.declared.refusal.SignInRefusal.{SignInRefusal}
-use Rattle.passkey_c.specs.declared.parts.TripleParts.{TripleParts}
-use Rattle.passkey_c.specs.Parts.{verified}
+use Rattle.passkey_c.specs.declared.parts.VerifiedParts.{VerifiedParts}
+use Rattle.passkey_c.specs.Parts.{only_verified}
 
 -- ---- sign-in
 
@@ -24,17 +24,17 @@ same_sign_in p q s t c d r u parties sessions credentials answers =
     ap (λ x. sign_in_with x s c r) parties ∙ ap (λ x. sign_in_with q x c r) sessions ∙ ap (λ x. sign_in_with q t x r) credentials
     ∙ ap (λ x. sign_in_with q t d x) answers
 
-pub sign_in_passes : (h k : Bool) (t u : TripleParts) (x y : JudgedSignIn) → h ≡ k → t ≡ u → x ≡ y
-    → PassesSignIn (verified h t) x → PassesSignIn (verified k u) y
-sign_in_passes h k t u x y flags triples same passes =
-    subst (PassesSignIn (verified k u)) same (subst (λ v. PassesSignIn (verified k v) x) triples
-    (subst (λ g. PassesSignIn (verified g t) x) flags passes))
+pub sign_in_passes : (h k : Bool) (t u : VerifiedParts) (x y : JudgedSignIn) → h ≡ k → t ≡ u → x ≡ y
+    → PassesSignIn (only_verified h t) x → PassesSignIn (only_verified k u) y
+sign_in_passes h k t u x y flags signatures same passes =
+    subst (PassesSignIn (only_verified k u)) same (subst (λ v. PassesSignIn (only_verified k v) x) signatures
+    (subst (λ g. PassesSignIn (only_verified g t) x) flags passes))
 
-pub sign_in_fails : (h k : Bool) (t u : TripleParts) (x y : JudgedSignIn) (w : SignInRefusal) → h ≡ k → t ≡ u → x ≡ y
-    → sign_ins.IsFirstFailing (verified h t) x w → sign_ins.IsFirstFailing (verified k u) y w
-sign_in_fails h k t u x y w flags triples same fails =
-    subst (λ z. sign_ins.IsFirstFailing (verified k u) z w) same (subst (λ v. sign_ins.IsFirstFailing (verified k v) x w) triples
-    (subst (λ g. sign_ins.IsFirstFailing (verified g t) x w) flags fails))
+pub sign_in_fails : (h k : Bool) (t u : VerifiedParts) (x y : JudgedSignIn) (w : SignInRefusal) → h ≡ k → t ≡ u → x ≡ y
+    → sign_ins.IsFirstFailing (only_verified h t) x w → sign_ins.IsFirstFailing (only_verified k u) y w
+sign_in_fails h k t u x y w flags signatures same fails =
+    subst (λ z. sign_ins.IsFirstFailing (only_verified k u) z w) same (subst (λ v. sign_ins.IsFirstFailing (only_verified k v) x w) signatures
+    (subst (λ g. sign_ins.IsFirstFailing (only_verified g t) x w) flags fails))
 
 -- ---- registration
 
@@ -49,15 +49,15 @@ pub same_registration : (p q : RelyingParty) (policy : Policy) (s t : Option Exp
 same_registration p q policy s t r is_registered is_full parties sessions =
     ap (λ x. registration_with x policy s r is_registered is_full) parties ∙ ap (λ x. registration_with q policy x r is_registered is_full) sessions
 
-pub response_passes : (h k : Bool) (t u : TripleParts) (x y : JudgedRegistration) → h ≡ k → t ≡ u → x ≡ y
-    → Each (PassesRegistrationStep (verified h t) x) response_steps → Each (PassesRegistrationStep (verified k u) y) response_steps
-response_passes h k t u x y flags triples same passes =
-    subst (λ z. Each (PassesRegistrationStep (verified k u) z) response_steps) same
-    (subst (λ v. Each (PassesRegistrationStep (verified k v) x) response_steps) triples
-    (subst (λ g. Each (PassesRegistrationStep (verified g t) x) response_steps) flags passes))
+pub response_passes : (h k : Bool) (t u : VerifiedParts) (x y : JudgedRegistration) → h ≡ k → t ≡ u → x ≡ y
+    → Each (PassesRegistrationStep (only_verified h t) x) response_steps → Each (PassesRegistrationStep (only_verified k u) y) response_steps
+response_passes h k t u x y flags signatures same passes =
+    subst (λ z. Each (PassesRegistrationStep (only_verified k u) z) response_steps) same
+    (subst (λ v. Each (PassesRegistrationStep (only_verified k v) x) response_steps) signatures
+    (subst (λ g. Each (PassesRegistrationStep (only_verified g t) x) response_steps) flags passes))
 
-pub registration_fails : (h k : Bool) (t u : TripleParts) (x y : JudgedRegistration) (w : RegistrationRefusal) → h ≡ k → t ≡ u → x ≡ y
-    → registrations.IsFirstFailing (verified h t) x w → registrations.IsFirstFailing (verified k u) y w
-registration_fails h k t u x y w flags triples same fails =
-    subst (λ z. registrations.IsFirstFailing (verified k u) z w) same (subst (λ v. registrations.IsFirstFailing (verified k v) x w) triples
-    (subst (λ g. registrations.IsFirstFailing (verified g t) x w) flags fails))
+pub registration_fails : (h k : Bool) (t u : VerifiedParts) (x y : JudgedRegistration) (w : RegistrationRefusal) → h ≡ k → t ≡ u → x ≡ y
+    → registrations.IsFirstFailing (only_verified h t) x w → registrations.IsFirstFailing (only_verified k u) y w
+registration_fails h k t u x y w flags signatures same fails =
+    subst (λ z. registrations.IsFirstFailing (only_verified k u) z w) same (subst (λ v. registrations.IsFirstFailing (only_verified k v) x w) signatures
+    (subst (λ g. registrations.IsFirstFailing (only_verified g t) x w) flags fails))

@@ -58,7 +58,7 @@ step_range sign_in.EligibilityChanged = (omega arith, omega arith)
 abbrev limits_all : List Limit
 limits_all =
     limits.RpId ∷ limits.Origin ∷ limits.Challenge ∷ limits.KeyAlgorithm ∷ limits.KeyX ∷ limits.KeyY
-    ∷ limits.TripleAlgorithm ∷ limits.TripleX ∷ limits.TripleY ∷ limits.MessageRoom ∷ limits.SignatureRoom ∷ []
+    ∷ limits.VerifiedAlgorithm ∷ limits.VerifiedX ∷ limits.VerifiedY ∷ limits.MessageRoom ∷ limits.SignatureRoom ∷ []
 
 abbrev limit_at : ℕ → Option Limit
 limit_at n = find (λ limit. limit_number limit == n) limits_all
@@ -70,9 +70,9 @@ limit_back limits.Challenge = refl
 limit_back limits.KeyAlgorithm = refl
 limit_back limits.KeyX = refl
 limit_back limits.KeyY = refl
-limit_back limits.TripleAlgorithm = refl
-limit_back limits.TripleX = refl
-limit_back limits.TripleY = refl
+limit_back limits.VerifiedAlgorithm = refl
+limit_back limits.VerifiedX = refl
+limit_back limits.VerifiedY = refl
 limit_back limits.MessageRoom = refl
 limit_back limits.SignatureRoom = refl
 
@@ -87,9 +87,9 @@ limit_range limits.Challenge = (omega arith, omega arith)
 limit_range limits.KeyAlgorithm = (omega arith, omega arith)
 limit_range limits.KeyX = (omega arith, omega arith)
 limit_range limits.KeyY = (omega arith, omega arith)
-limit_range limits.TripleAlgorithm = (omega arith, omega arith)
-limit_range limits.TripleX = (omega arith, omega arith)
-limit_range limits.TripleY = (omega arith, omega arith)
+limit_range limits.VerifiedAlgorithm = (omega arith, omega arith)
+limit_range limits.VerifiedX = (omega arith, omega arith)
+limit_range limits.VerifiedY = (omega arith, omega arith)
 limit_range limits.MessageRoom = (omega arith, omega arith)
 limit_range limits.SignatureRoom = (omega arith, omega arith)
 

@@ -10,6 +10,7 @@ use Rattle.cose.specs.Keys.{lent_key_view}
 use Rattle.cose.specs.declared.key.CoseKey.{CoseKey}
 use Rattle.verification.specs.Registration.{hash_in}
 use Rattle.passkey_c.specs.Asked.{Asks, AsksNothing, AttestsKey, AttestsNoKey, IsBroken, IsNotSelfSigned, IsSmall, IsUnread, SelfAsks, Tells, TellsAs}
+use Rattle.passkey_c.specs.Parts.{flag_of}
 use Rattle.passkey_c.specs.declared.answers.Limit.{Limit}
 use Rattle.passkey_c.specs.declared.answers.Limit.TheVariants as limits
 use Rattle.passkey_c.specs.declared.asked.AskedSignature.{AskedSignature}
@@ -45,13 +46,15 @@ is_unread p r o spelled none = λ other a c attests.
 
 -- what is told is what was asked
 pub tells : (call : SignatureCall) (out : SignatureOut) (message signature : List ℕ) (asked : AskedSignature)
-    → Asks call.is_registration call (lent_key_view asked.key) (asked.auth_data.now ++ asked.hash) asked.signature.now → TellsAs out message signature asked
+    → Asks (flag_of call.is_registration) call (lent_key_view asked.key) (asked.auth_data.now ++ asked.hash) asked.signature.now
+    → TellsAs out message signature asked
     → Tells call out message signature out.is_asked
-tells call out message signature asked asks told = rw (told.0, told.1, told.2, told.3) asks
+tells call out message signature asked asks told =
+    rw told.0 (lent_key_view asked.key, asked.auth_data.now ++ asked.hash, asked.signature.now, asks, told.1, told.2, told.3)
 
 -- a room that is too small for it
 pub broken : (call : SignatureCall) (m s : ℕ) (asked : AskedSignature) (limit : Limit)
-    → Asks call.is_registration call (lent_key_view asked.key) (asked.auth_data.now ++ asked.hash) asked.signature.now
+    → Asks (flag_of call.is_registration) call (lent_key_view asked.key) (asked.auth_data.now ++ asked.hash) asked.signature.now
     → IsSmall m s asked limit → IsBroken call m s limit
 broken call m s asked limits.MessageRoom asks small = (lent_key_view asked.key, asked.auth_data.now ++ asked.hash, asked.signature.now, asks, small)
 broken call m s asked limits.SignatureRoom asks small = (lent_key_view asked.key, asked.auth_data.now ++ asked.hash, asked.signature.now, asks, small)
@@ -61,6 +64,6 @@ broken call m s asked limits.Challenge asks small = absurd small
 broken call m s asked limits.KeyAlgorithm asks small = absurd small
 broken call m s asked limits.KeyX asks small = absurd small
 broken call m s asked limits.KeyY asks small = absurd small
-broken call m s asked limits.TripleAlgorithm asks small = absurd small
-broken call m s asked limits.TripleX asks small = absurd small
-broken call m s asked limits.TripleY asks small = absurd small
+broken call m s asked limits.VerifiedAlgorithm asks small = absurd small
+broken call m s asked limits.VerifiedX asks small = absurd small
+broken call m s asked limits.VerifiedY asks small = absurd small

@@ -1,7 +1,8 @@
 -- Which signature a host is to verify: of a sign-in the response's own (WebAuthn Level 2, section 7.2, step 20), of a
 -- registration that of self attestation (section 8.2).
-use Rattle.std.specs.Prelude.{◌≡◌, ◌++◌, ◌<◌, ℕ, Bool, true, false, List, Some, length, take}
+use Rattle.std.specs.Prelude.{◌≡◌, ◌++◌, ◌<◌, ℕ, Bool, true, false, List, Some, length}
 use Rattle.sha2.specs.Sha256.{sha256}
+use Rattle.refusal_order.specs.Lines.{Each}
 use Rattle.cose.specs.Keys.{lent_key_view}
 use Rattle.cose.specs.declared.key.CoseKey.{CoseKey}
 use Rattle.authdata.specs.declared.profile.Profile.{Profile}
@@ -19,8 +20,8 @@ use Rattle.passkey_c.specs.declared.input.KeyLimit.TheVariants as key_limits
 use Rattle.passkey_c.specs.declared.parts.AttestationParts.{AttestationParts}
 use Rattle.passkey_c.specs.declared.parts.SignatureCall.{SignatureCall}
 use Rattle.passkey_c.specs.declared.parts.SignatureOut.{SignatureOut}
-use Rattle.passkey_c.specs.Limits.{KeyKeeps}
-use Rattle.passkey_c.specs.Parts.{key_of, key_told, profile_of}
+use Rattle.passkey_c.specs.Limits.{KeyKeeps, key_order}
+use Rattle.passkey_c.specs.Parts.{Fills, TellsKey, flag_of, key_of, profile_of}
 
 abbrev pub response_of : AttestationParts → AuthenticatorAttestationResponse
 response_of parts = record { object = parts.object.now; client_data = parts.client_data.now }
@@ -47,34 +48,42 @@ IsUnread profile r = (o : Attestation) (a : AuthenticatorData) (c : AttestedCred
 -- a sign-in asks for the response's signature, of the authenticator data as they came, then the hash of the client data,
 -- under the credential's key
 abbrev pub Asks : Bool → SignatureCall → CoseKey → List ℕ → List ℕ → Type 0
-Asks true call = SelfAsks (profile_of call.open_profile) (response_of call.registration)
+Asks true call = SelfAsks (profile_of (flag_of call.open_profile)) (response_of call.registration)
 Asks false call = λ key message signature.
-    (key ≡ key_of call.key) × (message ≡ call.assertion.auth_data.now ++ sha256 call.assertion.client_data.now)
+    (key_of call.key ≡ Some key) × (message ≡ call.assertion.auth_data.now ++ sha256 call.assertion.client_data.now)
     × (signature ≡ call.assertion.signature.now)
 
 -- what the host is told: this signature, or that there is none
 abbrev pub Tells : SignatureCall → SignatureOut → List ℕ → List ℕ → Bool → Type 0
 Tells call out message signature true =
-    Asks call.is_registration call (key_told out.key) (take out.message_length message) (take out.signature_length signature)
+    (key : CoseKey) × (m : List ℕ) × (s : List ℕ) × Asks (flag_of call.is_registration) call key m s
+    × TellsKey out.key key × Fills out.message_length message m × Fills out.signature_length signature s
 Tells call out message signature false =
-    (call.is_registration ≡ true) × AsksNothing (profile_of call.open_profile) (response_of call.registration)
+    (flag_of call.is_registration ≡ true) × AsksNothing (profile_of (flag_of call.open_profile)) (response_of call.registration)
 
 -- the signature that is asked does not fit
 abbrev pub IsRoom : SignatureCall → (List ℕ → List ℕ → Type 0) → Type 0
-IsRoom call P = (key : CoseKey) × (message : List ℕ) × (signature : List ℕ) × Asks call.is_registration call key message signature × P message signature
+IsRoom call P =
+    (key : CoseKey) × (message : List ℕ) × (signature : List ℕ) × Asks (flag_of call.is_registration) call key message signature
+    × P message signature
 
 -- a limit that is not kept, with rooms of these lengths: of a sign-in's key, or of a room
 abbrev pub IsBroken : SignatureCall → ℕ → ℕ → Limit → Type 0
-IsBroken call m s limits.KeyAlgorithm = (call.is_registration ≡ false) × (KeyKeeps call.key key_limits.Algorithm → ⊥)
-IsBroken call m s limits.KeyX = (call.is_registration ≡ false) × (KeyKeeps call.key key_limits.X → ⊥)
-IsBroken call m s limits.KeyY = (call.is_registration ≡ false) × (KeyKeeps call.key key_limits.Y → ⊥)
+IsBroken call m s limits.KeyAlgorithm = (flag_of call.is_registration ≡ false) × (KeyKeeps call.key key_limits.Algorithm → ⊥)
+IsBroken call m s limits.KeyX = (flag_of call.is_registration ≡ false) × (KeyKeeps call.key key_limits.X → ⊥)
+IsBroken call m s limits.KeyY = (flag_of call.is_registration ≡ false) × (KeyKeeps call.key key_limits.Y → ⊥)
 IsBroken call m s limits.MessageRoom = IsRoom call (λ message _. m < length message)
 IsBroken call m s limits.SignatureRoom = IsRoom call (λ _ signature. s < length signature)
 IsBroken call m s _ = ⊥
 
+-- the limits of what is handed in are kept: of a sign-in those of its key
+abbrev pub AskKeeps : Bool → SignatureCall → Type 0
+AskKeeps true call = Unit {0}
+AskKeeps false call = Each (KeyKeeps call.key) key_order
+
 -- why nothing is told: a registration attests nothing, or a limit is not kept; want of memory says nothing
 abbrev pub IsUntold : SignatureCall → ℕ → ℕ → AskError → Type 0
-IsUntold call m s errors.Unreadable = (call.is_registration ≡ true) × IsUnread (profile_of call.open_profile) (response_of call.registration)
+IsUntold call m s errors.Unreadable = (flag_of call.is_registration ≡ true) × IsUnread (profile_of (flag_of call.open_profile)) (response_of call.registration)
 IsUntold call m s (errors.Limit limit) = IsBroken call m s limit
 IsUntold call m s errors.Memory = Unit {0}
 
@@ -88,8 +97,8 @@ AttestsNoKey profile bs = (a : AuthenticatorData) (c : AttestedCredential) → A
 
 abbrev pub TellsAs : SignatureOut → List ℕ → List ℕ → AskedSignature → Type 0
 TellsAs out message signature asked =
-    (out.is_asked ≡ true) × (key_told out.key ≡ lent_key_view asked.key) × (take out.message_length message ≡ asked.auth_data.now ++ asked.hash)
-    × (take out.signature_length signature ≡ asked.signature.now)
+    (out.is_asked ≡ true) × TellsKey out.key (lent_key_view asked.key) × Fills out.message_length message (asked.auth_data.now ++ asked.hash)
+    × Fills out.signature_length signature asked.signature.now
 
 abbrev pub IsSmall : ℕ → ℕ → AskedSignature → Limit → Type 0
 IsSmall m s asked limits.MessageRoom = m < length (asked.auth_data.now ++ asked.hash)

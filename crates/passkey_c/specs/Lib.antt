@@ -4,3 +4,6 @@ pub mod Limits
 pub mod SignIns
 pub mod Registrations
 pub mod Asked
+pub mod Texts
+pub mod Cose
+pub mod Seen

@@ -1,5 +1,5 @@
 -- The limits of what a host hands in.
-use Rattle.std.specs.Prelude.{◌≡◌, ℕ, true, List, [], ◌∷◌, ◌++◌, length}
+use Rattle.std.specs.Prelude.{◌≡◌, ℕ, true, List, [], ◌∷◌, ◌++◌, IfSome, length}
 use Rattle.std.specs.Str.{IsUtf8}
 use Rattle.refusal_order.specs.Lines.{Each}
 use Rattle.cose.specs.Rsa.{IsExponent, IsModulus}
@@ -15,7 +15,7 @@ use Rattle.passkey_c.specs.declared.answers.Limit.{Limit}
 use Rattle.passkey_c.specs.declared.answers.Limit.TheVariants as limits
 use Rattle.passkey_c.specs.declared.input.KeyLimit.{KeyLimit}
 use Rattle.passkey_c.specs.declared.input.KeyLimit.TheVariants as key_limits
-use Rattle.passkey_c.specs.Parts.{IsAlg, alg_in}
+use Rattle.passkey_c.specs.Parts.{IsAlg, alg_in, flag_of}
 
 -- x: a coordinate of 32 bytes, or a modulus
 abbrev pub IsX : Alg → List ℕ → Type 0
@@ -32,8 +32,8 @@ IsY algs.Rs256 e = IsExponent e
 -- a public key: one of three algorithms, and its coordinates or its numbers
 abbrev pub KeyKeeps : KeyParts → KeyLimit → Type 0
 KeyKeeps key key_limits.Algorithm = IsAlg key.algorithm
-KeyKeeps key key_limits.X = IsX (alg_in key.algorithm) key.x.now
-KeyKeeps key key_limits.Y = IsY (alg_in key.algorithm) key.y.now
+KeyKeeps key key_limits.X = IfSome (alg_in key.algorithm) (λ alg. IsX alg key.x.now)
+KeyKeeps key key_limits.Y = IfSome (alg_in key.algorithm) (λ alg. IsY alg key.y.now)
 
 -- why they are no key of the algorithm
 abbrev pub IsNot : Alg → List ℕ → List ℕ → KeyLimit → Type 0
@@ -56,32 +56,32 @@ party_limits = limits.RpId ∷ limits.Origin ∷ []
 -- a sign-in: those of the relying party; and of what its flags say is there, a challenge of 32 bytes, the
 -- credential's key, and the key that the host verified with
 abbrev pub SignInKeeps : AssertionCall → Limit → Type 0
-SignInKeeps call limits.Challenge = call.has_session ≡ true → length call.session.challenge.now ≡ 32
-SignInKeeps call limits.KeyAlgorithm = call.has_credential ≡ true → KeyKeeps call.credential.key key_limits.Algorithm
-SignInKeeps call limits.KeyX = call.has_credential ≡ true → KeyKeeps call.credential.key key_limits.X
-SignInKeeps call limits.KeyY = call.has_credential ≡ true → KeyKeeps call.credential.key key_limits.Y
-SignInKeeps call limits.TripleAlgorithm = call.has_triple ≡ true → KeyKeeps call.triple.key key_limits.Algorithm
-SignInKeeps call limits.TripleX = call.has_triple ≡ true → KeyKeeps call.triple.key key_limits.X
-SignInKeeps call limits.TripleY = call.has_triple ≡ true → KeyKeeps call.triple.key key_limits.Y
+SignInKeeps call limits.Challenge = flag_of call.has_session ≡ true → length call.session.challenge.now ≡ 32
+SignInKeeps call limits.KeyAlgorithm = flag_of call.has_credential ≡ true → KeyKeeps call.credential.key key_limits.Algorithm
+SignInKeeps call limits.KeyX = flag_of call.has_credential ≡ true → KeyKeeps call.credential.key key_limits.X
+SignInKeeps call limits.KeyY = flag_of call.has_credential ≡ true → KeyKeeps call.credential.key key_limits.Y
+SignInKeeps call limits.VerifiedAlgorithm = flag_of call.has_verified ≡ true → KeyKeeps call.verified.key key_limits.Algorithm
+SignInKeeps call limits.VerifiedX = flag_of call.has_verified ≡ true → KeyKeeps call.verified.key key_limits.X
+SignInKeeps call limits.VerifiedY = flag_of call.has_verified ≡ true → KeyKeeps call.verified.key key_limits.Y
 SignInKeeps call limit = PartyKeeps call.party limit
 
-abbrev pub triple_limits : List Limit
-triple_limits = limits.TripleAlgorithm ∷ limits.TripleX ∷ limits.TripleY ∷ []
+abbrev pub verified_limits : List Limit
+verified_limits = limits.VerifiedAlgorithm ∷ limits.VerifiedX ∷ limits.VerifiedY ∷ []
 
 abbrev pub sign_in_limits : List Limit
-sign_in_limits = party_limits ++ (limits.Challenge ∷ limits.KeyAlgorithm ∷ limits.KeyX ∷ limits.KeyY ∷ triple_limits)
+sign_in_limits = party_limits ++ (limits.Challenge ∷ limits.KeyAlgorithm ∷ limits.KeyX ∷ limits.KeyY ∷ verified_limits)
 
 -- a registration: those of the relying party; and of what its flags say is there, a challenge of 32 bytes, and the
 -- key that the host verified with
 abbrev pub RegistrationKeeps : RegistrationCall → Limit → Type 0
-RegistrationKeeps call limits.Challenge = call.has_session ≡ true → length call.session.challenge.now ≡ 32
-RegistrationKeeps call limits.TripleAlgorithm = call.has_triple ≡ true → KeyKeeps call.triple.key key_limits.Algorithm
-RegistrationKeeps call limits.TripleX = call.has_triple ≡ true → KeyKeeps call.triple.key key_limits.X
-RegistrationKeeps call limits.TripleY = call.has_triple ≡ true → KeyKeeps call.triple.key key_limits.Y
+RegistrationKeeps call limits.Challenge = flag_of call.has_session ≡ true → length call.session.challenge.now ≡ 32
+RegistrationKeeps call limits.VerifiedAlgorithm = flag_of call.has_verified ≡ true → KeyKeeps call.verified.key key_limits.Algorithm
+RegistrationKeeps call limits.VerifiedX = flag_of call.has_verified ≡ true → KeyKeeps call.verified.key key_limits.X
+RegistrationKeeps call limits.VerifiedY = flag_of call.has_verified ≡ true → KeyKeeps call.verified.key key_limits.Y
 RegistrationKeeps call limit = PartyKeeps call.party limit
 
 abbrev pub registration_limits : List Limit
-registration_limits = party_limits ++ (limits.Challenge ∷ triple_limits)
+registration_limits = party_limits ++ (limits.Challenge ∷ verified_limits)
 
 -- the limit is not kept; want of memory says nothing
 abbrev pub IsFault : (Limit → Type 0) → InputFault → Type 0

@@ -15,9 +15,9 @@ limit_number limits.Challenge = 103
 limit_number limits.KeyAlgorithm = 104
 limit_number limits.KeyX = 105
 limit_number limits.KeyY = 106
-limit_number limits.TripleAlgorithm = 107
-limit_number limits.TripleX = 108
-limit_number limits.TripleY = 109
+limit_number limits.VerifiedAlgorithm = 107
+limit_number limits.VerifiedX = 108
+limit_number limits.VerifiedY = 109
 limit_number limits.MessageRoom = 110
 limit_number limits.SignatureRoom = 111
 

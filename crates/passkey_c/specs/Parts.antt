@@ -1,10 +1,11 @@
 -- What the parts that a host hands in stand for.
-use Rattle.std.specs.Prelude.{◌≡◌, ◌==◌, ℕ, ℤ, pos, negsuc, Bool, true, false, List, [], ◌∷◌, map, take, Option, Some, None, if◌then◌else◌}
+use Rattle.std.specs.Prelude.{◌≡◌, ◌==◌, ℕ, ℤ, pos, negsuc, Bool, true, false, not, List, [], ◌∷◌, ◌++◌, length, map, take, Option, Some, None, option_map}
+use Rattle.std.specs.Prelude.{if◌then◌else◌}
 use Rattle.cose.specs.declared.key.Alg.{Alg}
 use Rattle.cose.specs.declared.key.Alg.TheVariants as algs
 use Rattle.cose.specs.declared.key.CoseKey.{CoseKey}
 use Rattle.cose.specs.declared.key.CoseKey.TheVariants as keys
-use Rattle.cose.specs.Keys.{number_of}
+use Rattle.cose.specs.Keys.{alg_of, number_of, x_of}
 use Rattle.cose.specs.Schemes.{Validity}
 use Rattle.authdata.specs.declared.profile.Profile.{Profile}
 use Rattle.authdata.specs.declared.profile.Profile.TheVariants.{Open, Strict}
@@ -13,12 +14,21 @@ use Rattle.passkey_c.specs.declared.parts.Bytes.{Bytes}
 use Rattle.passkey_c.specs.declared.parts.KeyOut.{KeyOut}
 use Rattle.passkey_c.specs.declared.parts.KeyParts.{KeyParts}
 use Rattle.passkey_c.specs.declared.parts.PartyParts.{PartyParts}
-use Rattle.passkey_c.specs.declared.parts.TripleParts.{TripleParts}
+use Rattle.passkey_c.specs.declared.parts.VerifiedParts.{VerifiedParts}
+
+-- a flag that is handed in is a number: set unless it is 0
+abbrev pub flag_of : ℕ → Bool
+flag_of number = not (number == 0)
 
 -- the value, where the flag says that it is there
 abbrev pub given : {T : Type 0} → Bool → T → Option T
 given true x = Some x
 given false x = None
+
+-- the same of a value that may not be one
+abbrev pub given_some : {T : Type 0} → Bool → Option T → Option T
+given_some true x = x
+given_some false x = None
 
 abbrev pub lent : List Bytes → List (List ℕ)
 lent parts = map (λ part. part.bytes.now) parts
@@ -32,39 +42,63 @@ offers false alg more = more
 abbrev pub offered : Bool → Bool → Bool → List Alg
 offered es256 eddsa rs256 = offers es256 algs.Es256 (offers eddsa algs.EdDsa (offers rs256 algs.Rs256 []))
 
+-- the number is that of an algorithm
+abbrev pub IsAlg : ℤ → Type 0
+IsAlg number = (alg : Alg) × (number_of alg ≡ number)
+
 -- the number is -1 - n
 abbrev pub is_negative : ℕ → ℤ → Bool
 is_negative m (negsuc n) = n == m
 is_negative m (pos n) = false
 
--- the algorithm of a number: -7 is ES256, -8 EdDSA, -257 RS256, and nothing else is one of the three
-abbrev pub alg_in : ℤ → Alg
-alg_in number = if is_negative 6 number then algs.Es256 else if is_negative 256 number then algs.Rs256 else algs.EdDsa
-
-abbrev pub IsAlg : ℤ → Type 0
-IsAlg number = number ≡ number_of (alg_in number)
+-- the algorithm of a number: -7 is ES256, -8 EdDSA, -257 RS256, and no other number is an algorithm's
+abbrev pub alg_in : ℤ → Option Alg
+alg_in number =
+    if is_negative 6 number then Some algs.Es256
+    else if is_negative 7 number then Some algs.EdDsa
+    else if is_negative 256 number then Some algs.Rs256
+    else None
 
 abbrev pub key_with : Alg → List ℕ → List ℕ → CoseKey
 key_with algs.Es256 x y = keys.Es256 x y
 key_with algs.EdDsa x y = keys.EdDsa x
 key_with algs.Rs256 n e = keys.Rs256 (record { n = n; e = e })
 
-abbrev pub key_of : KeyParts → CoseKey
-key_of key = key_with (alg_in key.algorithm) key.x.now key.y.now
+-- the key of a number, x and y; none where the number is no algorithm's
+abbrev pub key_of : KeyParts → Option CoseKey
+key_of key = option_map (λ alg. key_with alg key.x.now key.y.now) (alg_in key.algorithm)
 
--- the key that a host is told
-abbrev pub key_told : KeyOut → CoseKey
-key_told out = key_with (alg_in out.algorithm) (take out.x_length out.x) (take out.y_length out.y)
+-- the y coordinate; of an RSA key its exponent; of EdDSA no bytes
+abbrev pub y_of : CoseKey → List ℕ
+y_of (keys.Es256 x y) = y
+y_of (keys.EdDsa x) = []
+y_of (keys.Rs256 k) = k.e
+
+-- the bytes are so many, and they are the first of the room
+abbrev pub Fills : ℕ → List ℕ → List ℕ → Type 0
+Fills size room bytes = (size ≡ length bytes) × (take size room ≡ bytes)
+
+-- the host is told this key: its algorithm's number, and as many bytes of x and y as it has
+abbrev pub TellsKey : KeyOut → CoseKey → Type 0
+TellsKey out key = (out.algorithm ≡ number_of (alg_of key)) × Fills out.x_length out.x (x_of key) × Fills out.y_length out.y (y_of key)
 
 -- the profile of its flag
 abbrev pub profile_of : Bool → Profile
 profile_of open_profile = if open_profile then Open else Strict
 
 abbrev pub party_of : PartyParts → RelyingParty
-party_of party = record { rp_id = party.rp_id.now; origins = lent party.origins.now; profile = profile_of party.open_profile }
+party_of party = record { rp_id = party.rp_id.now; origins = lent party.origins.now; profile = profile_of (flag_of party.open_profile) }
 
 -- the only valid signature is the one that the host verified, where it says that it did: of this key, this message,
 -- this signature
-abbrev pub verified : Bool → TripleParts → Validity
-verified has_triple triple key message signature =
-    (has_triple ≡ true) × (key_of triple.key ≡ key) × (triple.message.now ≡ message) × (triple.signature.now ≡ signature)
+abbrev pub only_verified : Bool → VerifiedParts → Validity
+only_verified has_verified parts key message signature =
+    (has_verified ≡ true) × (key_of parts.key ≡ Some key) × (parts.message.now ≡ message) × (parts.signature.now ≡ signature)
+
+-- the bytes end in these
+abbrev pub EndsIn : List ℕ → List ℕ → Type 0
+EndsIn whole end = (front : List ℕ) × (whole ≡ front ++ end)
+
+-- so many bytes, the last of the whole, are these
+abbrev pub IsEnd : ℕ → List ℕ → List ℕ → Type 0
+IsEnd size whole end = (size ≡ length end) × EndsIn whole end

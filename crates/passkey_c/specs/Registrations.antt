@@ -1,11 +1,15 @@
 -- What a host's registration stands for, and what is answered of it.
-use Rattle.std.specs.Prelude.{◌≡◌, ◌⊎◌, ◌&&◌, ℕ, Bool, not, List, nat_eq, take}
+use Rattle.std.specs.Prelude.{◌≡◌, ◌⊎◌, ◌&&◌, ℕ, Bool, not, List, nat_eq}
 use Rattle.std.specs.Cmp.Lexicographic.{pointwise}
 use Rattle.refusal_order.specs.Lines.{Each}
 use Rattle.cose.specs.Schemes.{Validity}
+use Rattle.cose.specs.declared.key.CoseKey.{CoseKey}
+use Rattle.authdata.specs.Flags.{is_set, BE, BS, UV}
+use Rattle.authdata.specs.Layout.{AttestedCredential, AuthenticatorData, extension_bytes}
+use Rattle.authdata.specs.Objects.{Attestation}
+use Rattle.authdata.specs.Statements.{IsNone, IsSelfSignedBy}
 use Rattle.verification.specs.Numbers.{registration_number}
-use Rattle.verification.specs.Records.{NewCredential}
-use Rattle.verification.specs.Registration.{JudgedRegistration, IsFirstFailing}
+use Rattle.verification.specs.Registration.{Attests, JudgedRegistration, IsFirstFailing}
 use Rattle.verification.specs.declared.refusal.RegistrationRefusal.{RegistrationRefusal}
 use Rattle.passkey_c.specs.declared.answers.InputFault.{InputFault}
 use Rattle.passkey_c.specs.declared.parts.RegistrationCall.{RegistrationCall}
@@ -14,7 +18,7 @@ use Rattle.passkey_c.specs.declared.registration.Refusal.{Refusal}
 use Rattle.passkey_c.specs.declared.registration.Refusal.TheVariants as refusals
 use Rattle.passkey_c.specs.Limits.{IsFault, RegistrationKeeps, registration_limits}
 use Rattle.passkey_c.specs.Numbers.{fault_number}
-use Rattle.passkey_c.specs.Parts.{given, key_told, offered, party_of, verified}
+use Rattle.passkey_c.specs.Parts.{Fills, IsEnd, TellsKey, flag_of, given, offered, only_verified, party_of}
 
 -- each id but the free one is registered
 abbrev pub registered_but : Bool → List ℕ → List ℕ → Bool
@@ -23,30 +27,40 @@ registered_but has_free free id = not (has_free && pointwise nat_eq free id)
 abbrev pub judged_registration : RegistrationCall → JudgedRegistration
 judged_registration call = record {
   rp = party_of call.party;
-  policy = record { accept_none = call.accept_none; accept_self = call.accept_self };
-  session = given call.has_session (record {
+  policy = record { accept_none = flag_of call.accept_none; accept_self = flag_of call.accept_self };
+  session = given (flag_of call.has_session) (record {
     user = call.session.user.now;
-    algorithms = offered call.session.offers_es256 call.session.offers_eddsa call.session.offers_rs256;
-    uv = call.session.user_verification;
+    algorithms = offered (flag_of call.session.offers_es256) (flag_of call.session.offers_eddsa) (flag_of call.session.offers_rs256);
+    uv = flag_of call.session.user_verification;
     challenge = call.session.challenge.now;
   });
   response = record { object = call.response.object.now; client_data = call.response.client_data.now };
-  is_registered = registered_but call.has_free_id call.free_id.now;
-  is_full = call.is_full;
+  is_registered = registered_but (flag_of call.has_free_id) call.free_id.now;
+  is_full = flag_of call.is_full;
 }
 
 -- the signatures that are valid: the one that the host verified
 abbrev pub registration_validity : RegistrationCall → Validity
-registration_validity call = verified call.has_triple call.triple
+registration_validity call = only_verified (flag_of call.has_verified) call.verified
 
--- the credential that the host is told
-abbrev pub told_registration : RegistrationOut → NewCredential
-told_registration out = record {
-  id = take out.id_length out.id;
-  key = key_told out.key;
-  sign_count = out.sign_count;
-  eligible = out.eligible;
-}
+-- the object shows how its credential is attested: 0 not at all (WebAuthn Level 2, section 8.7), 1 by a packed statement with a
+-- signature of the key itself (section 8.2)
+abbrev pub IsFormat : ℕ → Attestation → CoseKey → Type 0
+IsFormat format o key = ((format ≡ 0) × IsNone o) ⊎ ((format ≡ 1) × ((signature : List ℕ) × IsSelfSignedBy o key signature))
+
+-- what the host is told of what the response attests: the credential, and what the authenticator data and the object say
+abbrev pub TellsAttested : RegistrationOut → Attestation → AuthenticatorData → AttestedCredential → List ℕ → Type 0
+TellsAttested out o a c object =
+    Fills out.id_length out.id c.id × TellsKey out.key c.key × (out.aaguid ≡ c.aaguid)
+    × (out.sign_count ≡ a.sign_count) × (out.flags ≡ a.flags)
+    × (out.eligible ≡ is_set a.flags BE) × (out.backed_up ≡ is_set a.flags BS) × (out.user_verified ≡ is_set a.flags UV)
+    × IsFormat out.format o c.key × IsEnd out.extensions_length object (extension_bytes a.extensions)
+
+abbrev pub TellsRegistration : RegistrationCall → RegistrationOut → Type 0
+TellsRegistration call out =
+    (o : Attestation) × (a : AuthenticatorData) × (c : AttestedCredential)
+    × Attests (judged_registration call).rp.profile (judged_registration call).response o a c
+    × TellsAttested out o a c call.response.object.now
 
 -- the numbers that are answered
 abbrev pub IsRegistrationAnswer : ℕ → Type 0

@@ -1,50 +1,39 @@
 //! Answers as numbers.
 
-ghost use Rattle.std.specs.Prelude.{◌≡◌};
+ghost use Rattle.std.specs.Prelude.{◌≡◌, ◌≢◌, MatchOption};
 ghost use Rattle.passkey_c.specs.declared.answers.InputFault.TheVariants as faults;
 ghost use Rattle.passkey_c.specs.Numbers.{fault_number, limit_number};
+ghost use Rattle.passkey_c.specs.Texts.{limit_text};
 
 use std::alloc::AllocError;
-use thiserror::Error as ErrorType;
 
 /// The answer where a response is accepted.
 pub const ACCEPTED: u32 = 0;
 
 /// A member that is out of its limits.
-#[derive(Clone, Copy, Debug, PartialEq, Eq, Drop, ErrorType)]
+#[derive(Clone, Copy, Debug, PartialEq, Eq, Drop)]
 pub enum Limit {
     /// 101: the rp id is not UTF-8.
-    #[error("the rp id is not UTF-8")]
     RpId,
     /// 102: an origin is not UTF-8.
-    #[error("an origin is not UTF-8")]
     Origin,
     /// 103: the challenge is not of 32 bytes.
-    #[error("the challenge is not of 32 bytes")]
     Challenge,
     /// 104: the algorithm of the credential's key is none of -7, -8 and -257.
-    #[error("the algorithm of the credential's key is not known")]
     KeyAlgorithm,
     /// 105: the key's x is not of 32 bytes, or of RS256 no modulus that a key may have.
-    #[error("the x of the credential's key is out of its limits")]
     KeyX,
     /// 106: the key's y is not of 32 bytes, or of RS256 no exponent that a key may have.
-    #[error("the y of the credential's key is out of its limits")]
     KeyY,
     /// 107: the algorithm of the key that the host verified with is none of -7, -8 and -257.
-    #[error("the algorithm of the verified key is not known")]
-    TripleAlgorithm,
+    VerifiedAlgorithm,
     /// 108: that key's x is not of 32 bytes, or of RS256 no modulus that a key may have.
-    #[error("the x of the verified key is out of its limits")]
-    TripleX,
+    VerifiedX,
     /// 109: that key's y is not of 32 bytes, or of RS256 no exponent that a key may have.
-    #[error("the y of the verified key is out of its limits")]
-    TripleY,
+    VerifiedY,
     /// 110: the room for a message is too small.
-    #[error("the room for the message is too small")]
     MessageRoom,
     /// 111: the room for a signature is too small.
-    #[error("the room for the signature is too small")]
     SignatureRoom,
 }
 
@@ -60,11 +49,50 @@ impl Limit {
             Limit::KeyAlgorithm => 104,
             Limit::KeyX => 105,
             Limit::KeyY => 106,
-            Limit::TripleAlgorithm => 107,
-            Limit::TripleX => 108,
-            Limit::TripleY => 109,
+            Limit::VerifiedAlgorithm => 107,
+            Limit::VerifiedX => 108,
+            Limit::VerifiedY => 109,
             Limit::MessageRoom => 110,
             Limit::SignatureRoom => 111,
+        }
+    }
+
+    /// The limit of this number, the inverse of `number`: 101 to 111. None where it is another number.
+    pub fn from_number(number: u32) -> Option<Limit>
+        ensures { MatchOption result ((limit : Limit) → limit_number limit ≢ number) (λ limit. limit_number limit ≡ number) }
+    {
+        match number {
+            101 => Some(Limit::RpId),
+            102 => Some(Limit::Origin),
+            103 => Some(Limit::Challenge),
+            104 => Some(Limit::KeyAlgorithm),
+            105 => Some(Limit::KeyX),
+            106 => Some(Limit::KeyY),
+            107 => Some(Limit::VerifiedAlgorithm),
+            108 => Some(Limit::VerifiedX),
+            109 => Some(Limit::VerifiedY),
+            110 => Some(Limit::MessageRoom),
+            111 => Some(Limit::SignatureRoom),
+            _ => None,
+        }
+    }
+
+    /// The text of the answer.
+    pub fn text(self) -> &'static str
+        ensures { result.now ≡ limit_text self }
+    {
+        match self {
+            Limit::RpId => "the rp id is not UTF-8",
+            Limit::Origin => "an origin is not UTF-8",
+            Limit::Challenge => "the challenge is not of 32 bytes",
+            Limit::KeyAlgorithm => "the algorithm of the credential's key is not known",
+            Limit::KeyX => "the x of the credential's key is out of its limits",
+            Limit::KeyY => "the y of the credential's key is out of its limits",
+            Limit::VerifiedAlgorithm => "the algorithm of the verified key is not known",
+            Limit::VerifiedX => "the x of the verified key is out of its limits",
+            Limit::VerifiedY => "the y of the verified key is out of its limits",
+            Limit::MessageRoom => "the room for the message is too small",
+            Limit::SignatureRoom => "the room for the signature is too small",
         }
     }
 }

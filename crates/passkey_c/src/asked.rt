@@ -1,16 +1,16 @@
 //! Which signature a host is to verify.
 
-ghost use Rattle.std.specs.Prelude.{◌≡◌, ◌≢◌, ◌+◌, ◌++◌, ◌≤◌, IfErr, MatchOption, OnErr, OnOk, false, length, take, true};
+ghost use Rattle.std.specs.Prelude.{◌≡◌, ◌≢◌, ◌+◌, ◌++◌, ◌≤◌, ◌<◌, IfErr, MatchOption, OnErr, OnOk, false, length, true};
 ghost use Rattle.cose.specs.Keys.{lent_key_view};
 ghost use Rattle.authdata.specs.Objects.{ObjectOf, object_view};
-ghost use Rattle.passkey_c.specs.Asked.{AttestsKey, AttestsNoKey, IsBroken, IsSmall, IsUnread, IsUntold, Tells, TellsAs};
+ghost use Rattle.passkey_c.specs.Asked.{AskKeeps, AttestsKey, AttestsNoKey, IsBroken, IsSmall, IsUnread, IsUntold, Tells, TellsAs};
 ghost use Rattle.passkey_c.specs.Asked.{response_of};
 ghost use Rattle.passkey_c.specs.Numbers.{IsAskAnswer, ask_number, limit_number};
-ghost use Rattle.passkey_c.specs.Parts.{profile_of};
+ghost use Rattle.passkey_c.specs.Parts.{Fills, flag_of, profile_of};
 ghost use Rattle.passkey_c.specs.declared.answers.Limit.{Limit};
 
 use crate::answers::{ACCEPTED, Limit};
-use crate::input::{KeyLimit, key_from, profile_from, write_key};
+use crate::input::{KeyLimit, key_from, profile_from, write_front, write_key};
 use crate::parts::{SignatureCall, SignatureOut};
 use authdata::{AttestationObject, Profile, read_view, self_signature};
 use clientdata::hash;
@@ -60,16 +60,17 @@ fn attested_key(profile: Profile, auth_data: &[u8]) -> Option<KeyView<'_>>
     }
 }
 
-/// Writes two parts, one after the other, to the front of a room.
-fn write_joined(room: &mut [u8], first: &[u8], second: &[u8; 32])
+/// Writes two parts, one after the other, to the front of a room, and tells how many bytes they are.
+fn write_joined(room: &mut [u8], first: &[u8], second: &[u8; 32]) -> usize
     requires { length first.now + 32 ≤ length room.old }
-    ensures { take (length first.now + 32) room.new ≡ first.now ++ second.now }
+    ensures { Fills result room.new (first.now ++ second.now) }
 {
     let size = first.len();
     let (whole, _) = room.split_at_mut(size + 32);
     let (front, back) = whole.split_at_mut(size);
     front.copy_from_slice(first);
     back.copy_from_slice(second);
+    size + 32
 }
 
 /// Tells the signature that is asked, where there is room for it.
@@ -87,14 +88,11 @@ fn tell(
     if message.len() < 32 || message.len() - 32 < front {
         return Err(Limit::MessageRoom);
     }
-    let size = asked.signature.len();
-    if signature.len() < size {
+    if signature.len() < asked.signature.len() {
         return Err(Limit::SignatureRoom);
     }
-    write_joined(message, asked.auth_data, &asked.hash);
-    out.message_length = front + 32;
-    signature[..size].copy_from_slice(asked.signature);
-    out.signature_length = size;
+    out.message_length = write_joined(message, asked.auth_data, &asked.hash);
+    out.signature_length = write_front(asked.signature, signature);
     write_key(&asked.key, &mut out.key);
     out.is_asked = true;
     Ok(())
@@ -108,13 +106,13 @@ fn tell_object(
     signature: &mut [u8],
     out: &mut SignatureOut,
 ) -> Result<(), AskError>
-    requires registration { call.now.is_registration ≡ true }
+    requires registration { flag_of call.now.is_registration ≡ true }
     requires object { ObjectOf (object_view object.now) call.now.registration.object.now }
     ensures told { OnOk result (Tells call.now out.new message.new signature.new out.new.is_asked) }
     ensures refused { IfErr result (IsUntold call.now (length message.old) (length signature.old)) }
     ensures untouched { OnErr result ((out.new ≡ out.old) × (message.new ≡ message.old) × (signature.new ≡ signature.old)) }
 {
-    let Some(key) = attested_key(profile_from(call.open_profile), &object.auth_data) else {
+    let Some(key) = attested_key(profile_from(call.open_profile != 0), &object.auth_data) else {
         return Err(AskError::Unreadable);
     };
     let Some(self_signature) = self_signature(object, &key) else {
@@ -141,7 +139,7 @@ fn tell_registration(
     signature: &mut [u8],
     out: &mut SignatureOut,
 ) -> Result<(), AskError>
-    requires { call.now.is_registration ≡ true }
+    requires { flag_of call.now.is_registration ≡ true }
     ensures told { OnOk result (Tells call.now out.new message.new signature.new out.new.is_asked) }
     ensures refused { IfErr result (IsUntold call.now (length message.old) (length signature.old)) }
     ensures untouched { OnErr result ((out.new ≡ out.old) × (message.new ≡ message.old) × (signature.new ≡ signature.old)) }
@@ -160,8 +158,9 @@ fn tell_sign_in(
     signature: &mut [u8],
     out: &mut SignatureOut,
 ) -> Result<(), Limit>
-    requires { call.now.is_registration ≡ false }
+    requires { flag_of call.now.is_registration ≡ false }
     ensures told { OnOk result (Tells call.now out.new message.new signature.new out.new.is_asked) }
+    ensures kept { OnOk result (AskKeeps false call.now) }
     ensures refused { IfErr result (IsBroken call.now (length message.old) (length signature.old)) }
     ensures untouched { OnErr result ((out.new ≡ out.old) × (message.new ≡ message.old) × (signature.new ≡ signature.old)) }
 {
@@ -196,13 +195,14 @@ pub extern "C" fn passkey_signature_asked(
     out: &mut SignatureOut,
 ) -> u32
     ensures told { result ≡ 0 → Tells call.now out.new message.new signature.new out.new.is_asked }
-    ensures unread { result ≡ 7 → (call.now.is_registration ≡ true) × IsUnread (profile_of call.now.open_profile) (response_of call.now.registration) }
+    ensures unread { result ≡ 7 → (flag_of call.now.is_registration ≡ true) × IsUnread (profile_of (flag_of call.now.open_profile)) (response_of call.now.registration) }
     ensures limit { (limit : Limit) → result ≡ limit_number limit → IsBroken call.now (length message.old) (length signature.old) limit }
-    ensures memory { result ≡ 127 → call.now.is_registration ≡ true }
+    ensures within { result < 100 → AskKeeps (flag_of call.now.is_registration) call.now }
+    ensures memory { result ≡ 127 → flag_of call.now.is_registration ≡ true }
     ensures answer { IsAskAnswer result }
     ensures untouched { result ≢ 0 → (out.new ≡ out.old) × (message.new ≡ message.old) × (signature.new ≡ signature.old) }
 {
-    let told = if call.is_registration {
+    let told = if call.is_registration != 0 {
         tell_registration(alloc, call, message, signature, out)
     } else {
         match tell_sign_in(call, message, signature, out) {

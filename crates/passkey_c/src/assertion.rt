@@ -5,24 +5,26 @@ ghost use Rattle.refusal_order.specs.Lines.{Each};
 ghost use Rattle.cose.specs.Keys.{lent_key_view};
 ghost use Rattle.verification.specs.Numbers.{sign_in_number};
 ghost use Rattle.verification.specs.SignIn.{IsFirstFailing, PassesSignIn};
-ghost use Rattle.verification.specs.SignInAnswers.{IsVerifiedSignIn};
+ghost use Rattle.authdata.specs.Layout.{AuthOf, lent_auth_view};
 ghost use Rattle.verification.specs.Views.{assertion_parts_view, credential_view, judged_sign_in_view, sign_in_view};
 ghost use Rattle.verification.specs.declared.refusal.SignInRefusal.{SignInRefusal};
 ghost use Rattle.passkey_c.specs.declared.assertion.Refusal.TheVariants as refusals;
 ghost use Rattle.passkey_c.specs.Limits.{IsFault, SignInKeeps, sign_in_limits};
 ghost use Rattle.passkey_c.specs.Numbers.{limit_number};
-ghost use Rattle.passkey_c.specs.Parts.{given, key_of, party_of};
-ghost use Rattle.passkey_c.specs.SignIns.{IsRefused, IsSignInAnswer, judged_sign_in, sign_in_validity, told_sign_in};
+ghost use Rattle.passkey_c.specs.Parts.{flag_of, given_some, key_of, party_of};
+ghost use Rattle.passkey_c.specs.SignIns.{IsRefused, IsSignInAnswer, judged_sign_in, sign_in_validity, TellsSignIn};
 
 use crate::answers::{ACCEPTED, InputFault, Limit};
-use crate::input::{KeyLimit, copies, copy_of, exactly_32, key_from, party_from};
+use crate::input::{KeyLimit, copies, copy_of, exactly_32, key_from, party_from, profile_from};
 use crate::parts::{AnswerParts, AssertionCall, AssertionOut};
-use crate::triple::{OneTriple, triple_from};
+use crate::seen::tell_data;
+use crate::signature::{VerifiedSignature, verified_from};
+use authdata::{AuthView, read_view};
 use cose::KeyView;
 use std::alloc::Global;
 use verification::{
     AssertionParts, RelyingParty, RowView, SignInAttempt, SignInRefusal, SignInSession,
-    VerificationError, VerifiedAssertion, verify_assertion,
+    VerificationError, verify_assertion,
 };
 
 /// Why a sign-in is not accepted.
@@ -46,31 +48,31 @@ fn expected(alloc: Global, call: &AssertionCall<'_>) -> Result<Option<SignInSess
     ensures kept { OnOk result (SignInKeeps call.now Limit.Challenge) }
     ensures refused { IfErr result (IsFault (SignInKeeps call.now)) }
 {
-    if !call.has_session {
+    if call.has_session == 0 {
         return Ok(None);
     }
     let Some(challenge) = exactly_32(call.session.challenge) else {
         return Err(InputFault::Limit(Limit::Challenge));
     };
-    let user = copy_of(alloc, call.session.has_user, call.session.user)?;
+    let user = copy_of(alloc, call.session.has_user != 0, call.session.user)?;
     let allow = copies(alloc, call.session.allow)?;
     Ok(Some(SignInSession {
         user,
         allow,
-        uv: call.session.user_verification,
+        uv: call.session.user_verification != 0,
         challenge,
     }))
 }
 
 /// The key of the credential that is handed in.
 fn credential_key<'a>(call: &AssertionCall<'a>) -> Result<Option<KeyView<'a>>, InputFault>
-    ensures found { IfOk result (λ key. option_map lent_key_view key ≡ given call.now.has_credential (key_of call.now.credential.key)) }
+    ensures found { IfOk result (λ key. option_map lent_key_view key ≡ given_some (flag_of call.now.has_credential) (key_of call.now.credential.key)) }
     ensures algorithm { OnOk result (SignInKeeps call.now Limit.KeyAlgorithm) }
     ensures x { OnOk result (SignInKeeps call.now Limit.KeyX) }
     ensures y { OnOk result (SignInKeeps call.now Limit.KeyY) }
     ensures refused { IfErr result (IsFault (SignInKeeps call.now)) }
 {
-    if !call.has_credential {
+    if call.has_credential == 0 {
         return Ok(None);
     }
     match key_from(&call.credential.key) {
@@ -82,29 +84,29 @@ fn credential_key<'a>(call: &AssertionCall<'a>) -> Result<Option<KeyView<'a>>, I
 }
 
 /// The signature that the host verified.
-fn sign_in_triple<'a>(call: &AssertionCall<'a>) -> Result<OneTriple<'a>, InputFault>
-    ensures found { IfOk result (λ triple. (triple.has_triple ≡ call.now.has_triple) × (triple.parts ≡ call.now.triple)) }
-    ensures algorithm { OnOk result (SignInKeeps call.now Limit.TripleAlgorithm) }
-    ensures x { OnOk result (SignInKeeps call.now Limit.TripleX) }
-    ensures y { OnOk result (SignInKeeps call.now Limit.TripleY) }
+fn sign_in_signature<'a>(call: &AssertionCall<'a>) -> Result<VerifiedSignature<'a>, InputFault>
+    ensures found { IfOk result (λ signature. (signature.has_verified ≡ flag_of call.now.has_verified) × (signature.parts ≡ call.now.verified)) }
+    ensures algorithm { OnOk result (SignInKeeps call.now Limit.VerifiedAlgorithm) }
+    ensures x { OnOk result (SignInKeeps call.now Limit.VerifiedX) }
+    ensures y { OnOk result (SignInKeeps call.now Limit.VerifiedY) }
     ensures refused { IfErr result (IsFault (SignInKeeps call.now)) }
 {
-    match triple_from(call.has_triple, call.triple) {
-        Ok(triple) => Ok(triple),
-        Err(KeyLimit::Algorithm) => Err(InputFault::Limit(Limit::TripleAlgorithm)),
-        Err(KeyLimit::X) => Err(InputFault::Limit(Limit::TripleX)),
-        Err(KeyLimit::Y) => Err(InputFault::Limit(Limit::TripleY)),
+    match verified_from(call.has_verified != 0, call.verified) {
+        Ok(signature) => Ok(signature),
+        Err(KeyLimit::Algorithm) => Err(InputFault::Limit(Limit::VerifiedAlgorithm)),
+        Err(KeyLimit::X) => Err(InputFault::Limit(Limit::VerifiedX)),
+        Err(KeyLimit::Y) => Err(InputFault::Limit(Limit::VerifiedY)),
     }
 }
 
 /// The credential that is handed in, with its key.
 fn row<'a, 'b: 'a>(call: &AssertionCall<'b>, key: Option<KeyView<'a>>) -> Option<RowView<'a>>
-    requires { option_map lent_key_view key ≡ given call.now.has_credential (key_of call.now.credential.key) }
+    requires { option_map lent_key_view key ≡ given_some (flag_of call.now.has_credential) (key_of call.now.credential.key) }
     ensures { option_map credential_view result ≡ (judged_sign_in call.now).credential }
 {
     let credential = &call.credential;
-    let eligible = if credential.is_eligibility_known {
-        Some(credential.eligible)
+    let eligible = if credential.is_eligibility_known != 0 {
+        Some(credential.eligible != 0)
     } else {
         None
     };
@@ -115,7 +117,7 @@ fn row<'a, 'b: 'a>(call: &AssertionCall<'b>, key: Option<KeyView<'a>>) -> Option
             key,
             sign_count: credential.sign_count,
             eligible,
-            retired: credential.retired,
+            retired: credential.retired != 0,
         }),
         None => None,
     }
@@ -128,7 +130,7 @@ fn response<'a, 'b: 'a>(call: &AssertionCall<'b>) -> AssertionParts<'a>
     let parts = &call.response;
     AssertionParts {
         credential: parts.credential,
-        user: if parts.has_user {
+        user: if parts.has_user != 0 {
             Some(parts.user)
         } else {
             None
@@ -146,16 +148,15 @@ fn verified(
     party: &RelyingParty,
     session: Option<&SignInSession>,
     key: Option<KeyView<'_>>,
-    triple: &OneTriple<'_>,
-) -> Result<VerifiedAssertion, Refusal>
+    signature: &VerifiedSignature<'_>,
+) -> Result<(), Refusal>
     requires party { party.now ≡ party_of call.now.party }
     requires session { option_map (λ s. sign_in_view s.now) session ≡ (judged_sign_in call.now).session }
-    requires key { option_map lent_key_view key ≡ given call.now.has_credential (key_of call.now.credential.key) }
-    requires flag { triple.now.has_triple ≡ call.now.has_triple }
-    requires parts { triple.now.parts ≡ call.now.triple }
+    requires key { option_map lent_key_view key ≡ given_some (flag_of call.now.has_credential) (key_of call.now.credential.key) }
+    requires flag { signature.now.has_verified ≡ flag_of call.now.has_verified }
+    requires parts { signature.now.parts ≡ call.now.verified }
     requires limits { Each (SignInKeeps call.now) sign_in_limits }
-    ensures accepted { IfOk result (λ v. PassesSignIn (sign_in_validity call.now) (judged_sign_in call.now)
-        × IsVerifiedSignIn (judged_sign_in call.now) v) }
+    ensures accepted { OnOk result (PassesSignIn (sign_in_validity call.now) (judged_sign_in call.now)) }
     ensures refused { IfErr result (IsRefused call.now) }
 {
     let attempt = SignInAttempt {
@@ -164,25 +165,38 @@ fn verified(
         credential: row(call, key),
         response: response(call),
     };
-    match verify_assertion(alloc, triple, &attempt) {
-        Ok(verified) => Ok(verified),
+    match verify_assertion(alloc, signature, &attempt) {
+        Ok(_) => Ok(()),
         Err(VerificationError::Refused(step)) => Err(Refusal::Step(step)),
         Err(VerificationError::Memory) => Err(Refusal::Input(InputFault::Memory)),
     }
 }
 
 /// Judges a sign-in.
-fn judge(alloc: Global, call: &AssertionCall<'_>) -> Result<VerifiedAssertion, Refusal>
-    ensures accepted { IfOk result (λ v. PassesSignIn (sign_in_validity call.now) (judged_sign_in call.now)
-        × IsVerifiedSignIn (judged_sign_in call.now) v) }
+fn judge(alloc: Global, call: &AssertionCall<'_>) -> Result<(), Refusal>
+    ensures accepted { OnOk result (PassesSignIn (sign_in_validity call.now) (judged_sign_in call.now)) }
     ensures limits { OnOk result (Each (SignInKeeps call.now) sign_in_limits) }
     ensures refused { IfErr result (IsRefused call.now) }
 {
     let party = party_from(alloc, &call.party)?;
     let session = expected(alloc, call)?;
     let key = credential_key(call)?;
-    let triple = sign_in_triple(call)?;
-    verified(alloc, call, &party, session.as_ref(), key, &triple)
+    let signature = sign_in_signature(call)?;
+    verified(alloc, call, &party, session.as_ref(), key, &signature)
+}
+
+/// The authenticator data of a sign-in that passes each step.
+fn accepted_data<'a>(call: &AssertionCall<'a>) -> AuthView<'a>
+    requires { PassesSignIn (sign_in_validity call.now) (judged_sign_in call.now) }
+    ensures { AuthOf (judged_sign_in call.now).rp.profile (lent_auth_view result) call.now.response.auth_data.now }
+{
+    match read_view(
+        profile_from(call.party.open_profile != 0),
+        call.response.auth_data,
+    ) {
+        Ok(data) => data,
+        Err(_) => unreachable!("the data were read for their step"),
+    }
 }
 
 /// Judges a sign-in: 0 where each step of section 7.2 is passed, the only valid signature being the one that the host
@@ -195,7 +209,7 @@ pub extern "C" fn passkey_assertion(
     out: &mut AssertionOut,
 ) -> u32
     ensures accepted { result ≡ 0 → PassesSignIn (sign_in_validity call.now) (judged_sign_in call.now) }
-    ensures told { result ≡ 0 → IsVerifiedSignIn (judged_sign_in call.now) (told_sign_in out.new) }
+    ensures told { result ≡ 0 → TellsSignIn call.now out.new }
     ensures refused { (step : SignInRefusal) → result ≡ sign_in_number step
         → IsFirstFailing (sign_in_validity call.now) (judged_sign_in call.now) step }
     ensures limit { (limit : Limit) → result ≡ limit_number limit → SignInKeeps call.now limit → ⊥ }
@@ -204,10 +218,8 @@ pub extern "C" fn passkey_assertion(
     ensures untouched { result ≢ 0 → out.new ≡ out.old }
 {
     match judge(alloc, call) {
-        Ok(verified) => {
-            out.sign_count = verified.sign_count;
-            out.eligible = verified.eligible;
-            out.backed_up = verified.backed_up;
+        Ok(()) => {
+            tell_data(&accepted_data(call), out);
             ACCEPTED
         }
         Err(Refusal::Step(step)) => u32::from(step.number()),

@@ -1,11 +1,12 @@
 //! What a host hands in, as values of the crates below.
 
-ghost use Rattle.std.specs.Prelude.{◌≡◌, ◌≢◌, ◌≤◌, IfErr, IfOk, IfSome, None, OnOk, length, map, option_map, take};
+ghost use Rattle.std.specs.Prelude.{◌≡◌, ◌≢◌, ◌≤◌, [], IfErr, IfOk, IfSome, None, OnOk, Some, length, map, option_map};
 ghost use Rattle.refusal_order.specs.Lines.{Each};
 ghost use Rattle.cose.specs.Keys.{lent_key_view};
 ghost use Rattle.cose.specs.declared.key.Alg.TheVariants as algs;
+ghost use Rattle.cose.specs.declared.key.CoseKey.TheVariants as keys;
 ghost use Rattle.passkey_c.specs.Limits.{IsFault, IsNot, IsX, IsY, KeyKeeps, PartyKeeps, key_order, party_limits};
-ghost use Rattle.passkey_c.specs.Parts.{IsAlg, alg_in, given, key_of, key_told, key_with, lent, party_of, profile_of};
+ghost use Rattle.passkey_c.specs.Parts.{Fills, IsAlg, TellsKey, alg_in, flag_of, given, key_of, key_with, lent, party_of, profile_of};
 
 use crate::answers::{InputFault, Limit};
 use crate::parts::{Bytes, KeyOut, KeyParts, PartyParts};
@@ -34,26 +35,22 @@ pub(crate) fn exactly_32(bytes: &[u8]) -> Option<[u8; 32]>
 }
 
 /// The algorithm of a COSE number.
+#[tactic(auto, using(crate::proofs::Algorithms::known_alg, crate::proofs::Algorithms::unknown_alg))]
 pub(crate) fn algorithm_of(number: i32) -> Option<Alg>
-    ensures found { IfSome result (λ alg. alg ≡ alg_in number) }
+    ensures same { result ≡ alg_in number }
     ensures is { IfSome result (λ _. IsAlg number) }
     ensures none { result ≡ None → IsAlg number → ⊥ }
 {
-    if number == -7 {
-        Some(Alg::Es256)
-    } else if number == -8 {
-        Some(Alg::EdDsa)
-    } else if number == -257 {
-        Some(Alg::Rs256)
-    } else {
-        None
+    match Alg::from_number(i64::from(number)) {
+        Some(alg) => Some(alg),
+        None => None,
     }
 }
 
 /// Writes bytes to the front of a room, and tells how many they are.
-fn write_front(bytes: &[u8], room: &mut [u8]) -> usize
+pub(crate) fn write_front(bytes: &[u8], room: &mut [u8]) -> usize
     requires { length bytes.now ≤ length room.old }
-    ensures front { take result room.new ≡ bytes.now }
+    ensures front { Fills result room.new bytes.now }
     ensures same { length room.new ≡ length room.old }
 {
     let size = bytes.len();
@@ -77,6 +74,18 @@ fn es256_from<'a>(x: &[u8], y: &[u8]) -> Result<KeyView<'a>, KeyLimit>
     }
 }
 
+/// The key of EdDSA of this x; a y is not looked at.
+fn eddsa_from<'a>(x: &[u8]) -> Result<KeyView<'a>, KeyLimit>
+    ensures found { IfOk result (λ key. lent_key_view key ≡ keys.EdDsa x.now) }
+    ensures x { OnOk result (IsX algs.EdDsa x.now) }
+    ensures refused { IfErr result (IsNot algs.EdDsa x.now []) }
+{
+    match exactly_32(x) {
+        Some(x) => Ok(KeyView::EdDsa { x }),
+        None => Err(KeyLimit::X),
+    }
+}
+
 /// The RSA key of this modulus and this exponent.
 fn rsa_from<'a>(n: &'a [u8], e: &'a [u8]) -> Result<KeyView<'a>, KeyLimit>
     ensures found { IfOk result (λ key. lent_key_view key ≡ key_with algs.Rs256 n.now e.now) }
@@ -95,7 +104,7 @@ fn rsa_from<'a>(n: &'a [u8], e: &'a [u8]) -> Result<KeyView<'a>, KeyLimit>
 
 /// Tells a public key.
 pub(crate) fn write_key(key: &KeyView<'_>, out: &mut KeyOut)
-    ensures { key_told out.new ≡ lent_key_view key.now }
+    ensures { TellsKey out.new (lent_key_view key.now) }
 {
     match key {
         KeyView::Es256 { x, y } => {
@@ -118,7 +127,7 @@ pub(crate) fn write_key(key: &KeyView<'_>, out: &mut KeyOut)
 
 /// The public key of these coordinates or numbers, where they lie.
 pub(crate) fn key_from<'a>(parts: &KeyParts<'a>) -> Result<KeyView<'a>, KeyLimit>
-    ensures found { IfOk result (λ key. lent_key_view key ≡ key_of parts.now) }
+    ensures found { IfOk result (λ key. key_of parts.now ≡ Some (lent_key_view key)) }
     ensures kept { OnOk result (Each (KeyKeeps parts.now) key_order) }
     ensures refused { IfErr result (λ limit. KeyKeeps parts.now limit → ⊥) }
 {
@@ -127,10 +136,7 @@ pub(crate) fn key_from<'a>(parts: &KeyParts<'a>) -> Result<KeyView<'a>, KeyLimit
     };
     match alg {
         Alg::Es256 => es256_from(parts.x, parts.y),
-        Alg::EdDsa => match exactly_32(parts.x) {
-            Some(x) => Ok(KeyView::EdDsa { x }),
-            None => Err(KeyLimit::X),
-        },
+        Alg::EdDsa => eddsa_from(parts.x),
         Alg::Rs256 => rsa_from(parts.x, parts.y),
     }
 }
@@ -201,7 +207,7 @@ pub(crate) fn party_from(alloc: Global, parts: &PartyParts<'_>) -> Result<Relyin
         return Err(InputFault::Limit(Limit::RpId));
     };
     let origins = origins(alloc, parts)?;
-    let profile = profile_from(parts.open_profile);
+    let profile = profile_from(parts.open_profile != 0);
     match RelyingParty::with_profile(alloc, profile, rp_id, &origins) {
         Ok(party) => Ok(party),
         Err(_) => Err(InputFault::Memory),

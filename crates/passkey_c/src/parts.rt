@@ -1,5 +1,5 @@
 //! What a host hands in, lent, and what it is told. Presence is told by flags, never by emptiness: where a flag is
-//! clear, the members that go with it are not looked at.
+//! clear, the members that go with it are not looked at. A flag that is handed in is a byte, set unless it is 0.
 
 /// Bytes: where they begin, and how many they are.
 #[repr(C)]
@@ -32,13 +32,13 @@ pub struct PartyParts<'a> {
     /// The origins of its pages, each in UTF-8.
     pub origins: &'a [Bytes<'a>],
     /// Whether responses are read by the open profile; else by the strict one.
-    pub open_profile: bool,
+    pub open_profile: u8,
 }
 
 /// A public key, a message and a signature, of which the host found that the signature is valid.
 #[repr(C)]
 #[derive(Clone, Copy, Drop)]
-pub struct TripleParts<'a> {
+pub struct VerifiedParts<'a> {
     /// The public key.
     pub key: KeyParts<'a>,
     /// The message.
@@ -54,9 +54,9 @@ pub struct SignInParts<'a> {
     /// The challenge: 32 bytes.
     pub challenge: &'a [u8],
     /// Whether user verification (UV) is required.
-    pub user_verification: bool,
+    pub user_verification: u8,
     /// Whether the account that signs in is known beforehand.
-    pub has_user: bool,
+    pub has_user: u8,
     /// Its user handle.
     pub user: &'a [u8],
     /// The ids of the credentials that may answer; none for any.
@@ -76,11 +76,11 @@ pub struct CredentialParts<'a> {
     /// The signature counter last received.
     pub sign_count: u32,
     /// Whether it is known if the credential is eligible for backup.
-    pub is_eligibility_known: bool,
+    pub is_eligibility_known: u8,
     /// Whether the credential is eligible for backup (BE).
-    pub eligible: bool,
+    pub eligible: u8,
     /// Whether the credential is retired: it signs in no more.
-    pub retired: bool,
+    pub retired: u8,
 }
 
 /// A client's answer to a sign-in.
@@ -90,7 +90,7 @@ pub struct AnswerParts<'a> {
     /// The credential id.
     pub credential: &'a [u8],
     /// Whether the authenticator sent a user handle.
-    pub has_user: bool,
+    pub has_user: u8,
     /// The user handle.
     pub user: &'a [u8],
     /// The authenticator data as they came.
@@ -108,19 +108,19 @@ pub struct AssertionCall<'a> {
     /// The relying party.
     pub party: PartyParts<'a>,
     /// Whether a session is open for sign-in.
-    pub has_session: bool,
+    pub has_session: u8,
     /// What it expects.
     pub session: SignInParts<'a>,
     /// Whether a credential was found for the response.
-    pub has_credential: bool,
+    pub has_credential: u8,
     /// The credential.
     pub credential: CredentialParts<'a>,
     /// The client's answer.
     pub response: AnswerParts<'a>,
     /// Whether the host verified a signature.
-    pub has_triple: bool,
+    pub has_verified: u8,
     /// The signature that it verified, with key and message.
-    pub triple: TripleParts<'a>,
+    pub verified: VerifiedParts<'a>,
 }
 
 /// What a sign-in that is accepted says.
@@ -133,6 +133,12 @@ pub struct AssertionOut {
     pub eligible: bool,
     /// Whether the credential is backed up now (BS).
     pub backed_up: bool,
+    /// Whether the user was verified (UV).
+    pub user_verified: bool,
+    /// The flags of the authenticator data, by their bits (WebAuthn Level 2, section 6.1).
+    pub flags: u8,
+    /// How many bytes the map of extensions has, the last ones of the authenticator data: 0 where there is none.
+    pub extensions_length: usize,
 }
 
 /// What a registration that has begun expects.
@@ -144,13 +150,13 @@ pub struct RegisterParts<'a> {
     /// The user handle of the account.
     pub user: &'a [u8],
     /// Whether user verification (UV) is required.
-    pub user_verification: bool,
+    pub user_verification: u8,
     /// Whether ES256 was offered (-7).
-    pub offers_es256: bool,
+    pub offers_es256: u8,
     /// Whether EdDSA was offered (-8).
-    pub offers_eddsa: bool,
+    pub offers_eddsa: u8,
     /// Whether RS256 was offered (-257).
-    pub offers_rs256: bool,
+    pub offers_rs256: u8,
 }
 
 /// A client's answer to a registration.
@@ -170,25 +176,25 @@ pub struct RegistrationCall<'a> {
     /// The relying party.
     pub party: PartyParts<'a>,
     /// Whether no attestation is accepted.
-    pub accept_none: bool,
+    pub accept_none: u8,
     /// Whether self attestation is accepted.
-    pub accept_self: bool,
+    pub accept_self: u8,
     /// Whether a session is open for registration.
-    pub has_session: bool,
+    pub has_session: u8,
     /// What it expects.
     pub session: RegisterParts<'a>,
     /// The client's answer.
     pub response: AttestationParts<'a>,
     /// Whether the host found that no credential has the id that follows, retired or not.
-    pub has_free_id: bool,
+    pub has_free_id: u8,
     /// The id of which it found that. Each other id counts as registered.
     pub free_id: &'a [u8],
     /// Whether there is no room for another credential.
-    pub is_full: bool,
+    pub is_full: u8,
     /// Whether the host verified a signature.
-    pub has_triple: bool,
+    pub has_verified: u8,
     /// The signature that it verified, with key and message.
-    pub triple: TripleParts<'a>,
+    pub verified: VerifiedParts<'a>,
 }
 
 /// A public key that is told.
@@ -199,11 +205,11 @@ pub struct KeyOut {
     pub algorithm: i32,
     /// How many bytes the key's x has.
     pub x_length: usize,
-    /// The key's x, of RSA the modulus, and behind it what was there.
+    /// The key's x, of RSA the modulus, and after it what was there.
     pub x: [u8; 512],
     /// How many bytes the key's y has: none of EdDSA.
     pub y_length: usize,
-    /// The key's y, of RSA the public exponent, and behind it what was there.
+    /// The key's y, of RSA the public exponent, and after it what was there.
     pub y: [u8; 32],
 }
 
@@ -213,7 +219,7 @@ pub struct KeyOut {
 pub struct RegistrationOut {
     /// How many bytes the credential id has.
     pub id_length: usize,
-    /// The credential id, and behind it what was there.
+    /// The credential id, and after it what was there.
     pub id: [u8; 1023],
     /// The public key.
     pub key: KeyOut,
@@ -221,6 +227,18 @@ pub struct RegistrationOut {
     pub sign_count: u32,
     /// Whether the credential is eligible for backup (BE).
     pub eligible: bool,
+    /// Whether the credential is backed up now (BS).
+    pub backed_up: bool,
+    /// Whether the user was verified (UV).
+    pub user_verified: bool,
+    /// The flags of the authenticator data, by their bits (WebAuthn Level 2, section 6.1).
+    pub flags: u8,
+    /// The kind of the authenticator, by its own word.
+    pub aaguid: [u8; 16],
+    /// How the credential is attested: 0, not at all, or 1, by a packed statement with a signature of its own key.
+    pub format: u32,
+    /// How many bytes the map of extensions has, the last ones of the attestation object: 0 where there is none.
+    pub extensions_length: usize,
 }
 
 /// A response whose signature is to be verified.
@@ -228,9 +246,9 @@ pub struct RegistrationOut {
 #[derive(Clone, Copy, Drop)]
 pub struct SignatureCall<'a> {
     /// Whether it answers a registration; else a sign-in.
-    pub is_registration: bool,
+    pub is_registration: u8,
     /// Of a registration: whether the response is read by the open profile; else by the strict one.
-    pub open_profile: bool,
+    pub open_profile: u8,
     /// Of a registration: the client's answer.
     pub registration: AttestationParts<'a>,
     /// Of a sign-in: the client's answer.

@@ -1,28 +1,29 @@
 //! Registrations (WebAuthn Level 2, section 7.1).
 
-ghost use Rattle.std.specs.Prelude.{◌≡◌, ◌≢◌, ◌<◌, ◌≤◌, IfErr, IfOk, OnOk, length, option_map};
+ghost use Rattle.std.specs.Prelude.{◌≡◌, ◌≢◌, ◌<◌, IfErr, IfOk, OnOk, option_map};
 ghost use Rattle.refusal_order.specs.Lines.{Each};
 ghost use Rattle.verification.specs.Numbers.{registration_number};
 ghost use Rattle.verification.specs.Registration.{IsFirstFailing, PassesRegistration, PassesRegistrationStep, response_steps};
 ghost use Rattle.verification.specs.RegistrationAnswers.{IsVerifiedRegistration};
-ghost use Rattle.verification.specs.Views.{admitted_view, registration_parts_view, registration_view};
+ghost use Rattle.verification.specs.Views.{registration_parts_view, registration_view};
 ghost use Rattle.verification.specs.declared.refusal.RegistrationRefusal.{RegistrationRefusal};
 ghost use Rattle.passkey_c.specs.declared.registration.Refusal.TheVariants as refusals;
 ghost use Rattle.passkey_c.specs.Limits.{IsFault, RegistrationKeeps, registration_limits};
 ghost use Rattle.passkey_c.specs.Numbers.{limit_number};
-ghost use Rattle.passkey_c.specs.Parts.{offered, party_of};
-ghost use Rattle.passkey_c.specs.Registrations.{IsRefused, IsRegistrationAnswer, judged_registration, registration_validity, told_registration};
+ghost use Rattle.passkey_c.specs.Parts.{flag_of, offered, party_of};
+ghost use Rattle.passkey_c.specs.Seen.{IsAccepted};
+ghost use Rattle.passkey_c.specs.Registrations.{IsRefused, IsRegistrationAnswer, judged_registration, registration_validity, TellsRegistration};
 
 use crate::answers::{ACCEPTED, InputFault, Limit};
-use crate::input::{KeyLimit, exactly_32, party_from, write_key};
+use crate::input::{KeyLimit, exactly_32, party_from, profile_from};
 use crate::parts::{RegistrationCall, RegistrationOut};
-use crate::triple::{OneTriple, triple_from};
+use crate::seen::{SeenRegistration, seen_in, tell_registration};
+use crate::signature::{VerifiedSignature, verified_from};
 use cose::Alg;
 use std::alloc::{AllocError, Global};
 use verification::{
-    AdmittedCredential, Policy, RegistrationAttempt, RegistrationParts, RegistrationRefusal,
-    RegistrationSession, RelyingParty, VerificationError, VerifiedRegistration,
-    verify_registration,
+    Policy, RegistrationAttempt, RegistrationParts, RegistrationRefusal, RegistrationSession,
+    RelyingParty, VerificationError, VerifiedRegistration, verify_registration,
 };
 
 /// Why a registration is not accepted.
@@ -65,7 +66,7 @@ fn expected(
     ensures challenge { OnOk result (RegistrationKeeps call.now Limit.Challenge) }
     ensures refused { IfErr result (IsFault (RegistrationKeeps call.now)) }
 {
-    if !call.has_session {
+    if call.has_session == 0 {
         return Ok(None);
     }
     let Some(challenge) = exactly_32(call.session.challenge) else {
@@ -73,32 +74,34 @@ fn expected(
     };
     let algorithms = algorithms(
         alloc,
-        call.session.offers_es256,
-        call.session.offers_eddsa,
-        call.session.offers_rs256,
+        call.session.offers_es256 != 0,
+        call.session.offers_eddsa != 0,
+        call.session.offers_rs256 != 0,
     )?;
     let user = Vec::from_slice(alloc, call.session.user)?;
     Ok(Some(RegistrationSession {
         user,
         algorithms,
-        uv: call.session.user_verification,
+        uv: call.session.user_verification != 0,
         challenge,
     }))
 }
 
 /// The signature that the host verified.
-fn registration_triple<'a>(call: &RegistrationCall<'a>) -> Result<OneTriple<'a>, InputFault>
-    ensures found { IfOk result (λ triple. (triple.has_triple ≡ call.now.has_triple) × (triple.parts ≡ call.now.triple)) }
-    ensures algorithm { OnOk result (RegistrationKeeps call.now Limit.TripleAlgorithm) }
-    ensures x { OnOk result (RegistrationKeeps call.now Limit.TripleX) }
-    ensures y { OnOk result (RegistrationKeeps call.now Limit.TripleY) }
+fn registration_signature<'a>(
+    call: &RegistrationCall<'a>,
+) -> Result<VerifiedSignature<'a>, InputFault>
+    ensures found { IfOk result (λ signature. (signature.has_verified ≡ flag_of call.now.has_verified) × (signature.parts ≡ call.now.verified)) }
+    ensures algorithm { OnOk result (RegistrationKeeps call.now Limit.VerifiedAlgorithm) }
+    ensures x { OnOk result (RegistrationKeeps call.now Limit.VerifiedX) }
+    ensures y { OnOk result (RegistrationKeeps call.now Limit.VerifiedY) }
     ensures refused { IfErr result (IsFault (RegistrationKeeps call.now)) }
 {
-    match triple_from(call.has_triple, call.triple) {
-        Ok(triple) => Ok(triple),
-        Err(KeyLimit::Algorithm) => Err(InputFault::Limit(Limit::TripleAlgorithm)),
-        Err(KeyLimit::X) => Err(InputFault::Limit(Limit::TripleX)),
-        Err(KeyLimit::Y) => Err(InputFault::Limit(Limit::TripleY)),
+    match verified_from(call.has_verified != 0, call.verified) {
+        Ok(signature) => Ok(signature),
+        Err(KeyLimit::Algorithm) => Err(InputFault::Limit(Limit::VerifiedAlgorithm)),
+        Err(KeyLimit::X) => Err(InputFault::Limit(Limit::VerifiedX)),
+        Err(KeyLimit::Y) => Err(InputFault::Limit(Limit::VerifiedY)),
     }
 }
 
@@ -108,12 +111,12 @@ fn verified(
     call: &RegistrationCall<'_>,
     party: &RelyingParty,
     session: Option<&RegistrationSession>,
-    triple: &OneTriple<'_>,
+    signature: &VerifiedSignature<'_>,
 ) -> Result<VerifiedRegistration, Refusal>
     requires party { party.now ≡ party_of call.now.party }
     requires session { option_map (λ s. registration_view s.now) session ≡ (judged_registration call.now).session }
-    requires flag { triple.now.has_triple ≡ call.now.has_triple }
-    requires parts { triple.now.parts ≡ call.now.triple }
+    requires flag { signature.now.has_verified ≡ flag_of call.now.has_verified }
+    requires parts { signature.now.parts ≡ call.now.verified }
     requires limits { Each (RegistrationKeeps call.now) registration_limits }
     ensures accepted { IfOk result (λ v. IsVerifiedRegistration (judged_registration call.now) v
         × Each (PassesRegistrationStep (registration_validity call.now) (judged_registration call.now)) response_steps) }
@@ -122,8 +125,8 @@ fn verified(
     let attempt = RegistrationAttempt {
         party,
         policy: Policy {
-            accept_none: call.accept_none,
-            accept_self: call.accept_self,
+            accept_none: call.accept_none != 0,
+            accept_self: call.accept_self != 0,
         },
         session,
         response: RegistrationParts {
@@ -131,7 +134,7 @@ fn verified(
             client_data: call.response.client_data,
         },
     };
-    match verify_registration(alloc, triple, &attempt) {
+    match verify_registration(alloc, signature, &attempt) {
         Ok(verified) => Ok(verified),
         Err(VerificationError::Refused(step)) => Err(Refusal::Step(step)),
         Err(VerificationError::Memory) => Err(Refusal::Input(InputFault::Memory)),
@@ -142,42 +145,42 @@ fn verified(
 fn is_registered(call: &RegistrationCall<'_>, id: &[u8]) -> bool
     ensures { (judged_registration call.now).is_registered id.now ≡ result }
 {
-    !(call.has_free_id && call.free_id == id)
+    !(call.has_free_id != 0 && call.free_id == id)
 }
 
 /// Judges a registration.
-fn judge(alloc: Global, call: &RegistrationCall<'_>) -> Result<AdmittedCredential, Refusal>
-    ensures accepted { IfOk result (λ c. PassesRegistration (registration_validity call.now) (judged_registration call.now)
-        × IsVerifiedRegistration (judged_registration call.now) (admitted_view c)) }
+fn judge(alloc: Global, call: &RegistrationCall<'_>) -> Result<(), Refusal>
+    ensures accepted { OnOk result (PassesRegistration (registration_validity call.now) (judged_registration call.now)) }
     ensures limits { OnOk result (Each (RegistrationKeeps call.now) registration_limits) }
     ensures refused { IfErr result (IsRefused call.now) }
 {
     let party = party_from(alloc, &call.party)?;
     let session = expected(alloc, call)?;
-    let triple = registration_triple(call)?;
-    let verified = verified(alloc, call, &party, session.as_ref(), &triple)?;
+    let signature = registration_signature(call)?;
+    let verified = verified(alloc, call, &party, session.as_ref(), &signature)?;
     let is_registered = is_registered(call, verified.id());
-    match verified.admit(is_registered, call.is_full) {
-        Ok(credential) => Ok(credential),
+    match verified.admit(is_registered, call.is_full != 0) {
+        Ok(_) => Ok(()),
         Err(step) => Err(Refusal::Step(step)),
     }
 }
 
-/// Tells the credential that was admitted.
-fn tell(credential: &AdmittedCredential, out: &mut RegistrationOut)
-    requires { length credential.now.id.items ≤ 1023 }
-    ensures { told_registration out.new ≡ admitted_view credential.now }
+/// What a registration that passes each step attests.
+fn accepted_credential<'a>(call: &RegistrationCall<'a>) -> SeenRegistration<'a>
+    requires { PassesRegistration (registration_validity call.now) (judged_registration call.now) }
+    ensures { IsAccepted call.now result }
 {
-    let length = credential.id.len();
-    out.id_length = length;
-    out.id[..length].copy_from_slice(&credential.id);
-    write_key(&credential.key.view(), &mut out.key);
-    out.sign_count = credential.sign_count;
-    out.eligible = credential.eligible;
+    match seen_in(
+        profile_from(call.party.open_profile != 0),
+        call.response.object,
+    ) {
+        Some(seen) => seen,
+        None => unreachable!("the object was read for its step"),
+    }
 }
 
 /// Judges a registration: 0 where each step of section 7.1 is passed, the only valid signature being the one that the
-/// host verified and the only id that is not registered the one that it found to be free, and then the credential is
+/// host verified and the only id that is not registered the one that it found to be free, and then what it attests is
 /// written; else 1 to 16 for the first step that is not passed, 100 and up for a member that is out of its limits, 127
 /// where there was no memory, and nothing is written.
 #[unsafe(no_mangle)]
@@ -187,7 +190,7 @@ pub extern "C" fn passkey_registration(
     out: &mut RegistrationOut,
 ) -> u32
     ensures accepted { result ≡ 0 → PassesRegistration (registration_validity call.now) (judged_registration call.now) }
-    ensures told { result ≡ 0 → IsVerifiedRegistration (judged_registration call.now) (told_registration out.new) }
+    ensures told { result ≡ 0 → TellsRegistration call.now out.new }
     ensures refused { (step : RegistrationRefusal) → result ≡ registration_number step
         → IsFirstFailing (registration_validity call.now) (judged_registration call.now) step }
     ensures limit { (limit : Limit) → result ≡ limit_number limit → RegistrationKeeps call.now limit → ⊥ }
@@ -196,8 +199,8 @@ pub extern "C" fn passkey_registration(
     ensures untouched { result ≢ 0 → out.new ≡ out.old }
 {
     match judge(alloc, call) {
-        Ok(credential) => {
-            tell(&credential, out);
+        Ok(()) => {
+            tell_registration(&accepted_credential(call), out);
             ACCEPTED
         }
         Err(Refusal::Step(step)) => u32::from(step.number()),

@@ -1,24 +1,21 @@
-//! Challenges, canonical CBOR, texts and the version.
+//! Challenges, canonical CBOR and the version.
 
-ghost use Rattle.std.specs.Prelude.{◌≡◌, ◌↔◌, ◌≤◌, ◌++◌, IsTrue, length, true, false};
+ghost use Rattle.std.specs.Prelude.{◌≡◌, ◌↔◌, ◌++◌, IsTrue, length, true, false};
 ghost use Rattle.std.specs.Int.{to_be_bytes, w64};
 ghost use Rattle.ccbor.specs.Canon.{Canon};
 ghost use Rattle.ccbor.specs.Item.{Item};
 ghost use Rattle.clientdata.specs.Serialised.{challenge_text_of};
 
-use crate::answers::Limit;
 use crate::input::exactly_32;
 use ccbor::View;
 use clientdata::challenge_characters;
-use std::alloc::{AllocError, Global};
-use verification::{RegistrationRefusal, SignInRefusal};
 
 /// The version of these calls.
 #[unsafe(no_mangle)]
 pub extern "C" fn passkey_abi_version() -> u32
-    ensures { result ≡ 2 }
+    ensures { result ≡ 3 }
 {
-    2
+    3
 }
 
 /// Whether the bytes are one value of canonical CBOR, and no more.
@@ -63,72 +60,4 @@ pub extern "C" fn passkey_challenge_text(challenge: &[u8], text: &mut [u8]) -> b
     }
     text.copy_from_slice(&challenge_characters(&challenge));
     true
-}
-
-/// Each limit.
-const LIMITS: [Limit; 11] = [
-    Limit::RpId,
-    Limit::Origin,
-    Limit::Challenge,
-    Limit::KeyAlgorithm,
-    Limit::KeyX,
-    Limit::KeyY,
-    Limit::TripleAlgorithm,
-    Limit::TripleX,
-    Limit::TripleY,
-    Limit::MessageRoom,
-    Limit::SignatureRoom,
-];
-
-/// The text of a step; empty where none has this number.
-fn step_text(alloc: Global, is_registration: bool, number: u8) -> Result<String, AllocError> {
-    if is_registration {
-        if let Some(step) = RegistrationRefusal::from_number(number) {
-            return format!(in alloc; "{step}");
-        }
-    } else if let Some(step) = SignInRefusal::from_number(number) {
-        return format!(in alloc; "{step}");
-    }
-    Ok(String::new(alloc))
-}
-
-/// The text of another answer; empty where there is none.
-fn other_text(alloc: Global, answer: u32) -> Result<String, AllocError> {
-    for limit in LIMITS {
-        if limit.number() == answer {
-            return format!(in alloc; "{limit}");
-        }
-    }
-    match answer {
-        0 => String::from_str(alloc, "accepted"),
-        127 => String::from_str(alloc, "out of memory"),
-        _ => Ok(String::new(alloc)),
-    }
-}
-
-/// Writes the text of an answer, and tells how many bytes it has; none where the answer has no text, the room is too
-/// small, or there was no memory.
-#[unsafe(no_mangle)]
-pub extern "C" fn passkey_refusal_text(
-    alloc: Global,
-    is_registration: bool,
-    answer: u32,
-    text: &mut [u8],
-) -> usize
-    ensures { result ≤ length text.old }
-{
-    let found = match u8::try_from(answer) {
-        Ok(number) if 1 <= number && number <= 16 => step_text(alloc, is_registration, number),
-        _ => other_text(alloc, answer),
-    };
-    let Ok(found) = found else {
-        return 0;
-    };
-    let bytes = found.as_bytes();
-    if bytes.len() > text.len() {
-        return 0;
-    }
-    let (front, _) = text.split_at_mut(bytes.len());
-    front.copy_from_slice(bytes);
-    bytes.len()
 }

@@ -20,10 +20,10 @@ use Rattle.credential_table.specs.Table.{row_of, with_row, signed_in, retired}
 use Rattle.credential_table.proofs.RowLemmas.{found_id}
 use Rattle.saved_table.specs.Saved.{TableOf}
 use Rattle.saved_table.proofs.Tables.{one_saved}
-use Rattle.ceremony_sessions.specs.Sessions.{Expected, ForSignIn, Opening, OpensSignIn, OpensRegistration, begun, challenge_of, closed, expected_of}
+use Rattle.ceremony_sessions.specs.Sessions.{Expected, ForRegistration, ForSignIn, Opening, OpensSignIn, OpensRegistration, begun, challenge_in, challenge_of, closed, expected_of}
 use Rattle.ceremony_sessions.specs.Sessions.{for_registration, for_sign_in, sign_in_at}
 use Rattle.site.specs.State.{SiteState, IsAfterRegistration, IsAfterSignIn, judged_sign_in, judged_registration, registered, saved_of}
-use Rattle.site.specs.Laws.{GoesOn, IsFresh, IsGone, IsNumbered, Keeps, SiteLaws, Takes, after_abandon, after_begin, after_restart, after_retire, challenge_in}
+use Rattle.site.specs.Laws.{GoesOn, IsFresh, IsGone, IsNumbered, Keeps, SiteLaws, Takes, after_abandon, after_begin, after_restart, after_retire}
 use Rattle.site.proofs.Judged.{no_row, same_attempt}
 use Rattle.site.proofs.Kept.{KeptBy, kept_changed, kept_here, kept_onward, row_before, row_changed}
 
@@ -65,6 +65,14 @@ fresh_begun s o fresh n is = grind (arith, gets, common_steps, fresh n, is)
 
 fresh_restarted : (max_open : ℕ) (s : SiteState) → IsFresh (after_restart max_open s)
 fresh_restarted max_open s n is = grind (arith, gets, common_steps, is)
+
+stays_open : (s : SiteState) (o : Opening) (n : ℕ) (e : Expected) → IsFresh s → finite.get s.sessions.expected n ≡ Some e
+    → finite.get (after_begin s o).sessions.expected n ≡ Some e
+stays_open s o n e fresh is = let lt = fresh n (some_at (finite.get s.sessions.expected n) e is) in grind (arith, gets, common_steps, lt, is)
+  where
+    some_at : (o : Option Expected) (e : Expected) → o ≡ Some e → IsSome o
+    some_at (Some x) e is = refl
+    some_at None e is = absurd cc
 
 gone_now : (s : SiteState) (rows : List Credential) (n : ℕ) → IsFresh s → IsSome (finite.get s.sessions.expected n)
     → IsGone (record s { rows = rows; sessions = closed n s.sessions }) n
@@ -114,6 +122,9 @@ one_number n k v w ln lk e =
 
 is_open_by : (o : Option Expected) (e : ExpectedSignIn) → for_sign_in o ≡ Some e → o ≡ Some (ForSignIn e)
 is_open_by o e h = grind (arith, common_steps, h)
+
+is_open_to_register_by : (o : Option Expected) (e : ExpectedRegistration) → for_registration o ≡ Some e → o ≡ Some (ForRegistration e)
+is_open_to_register_by o e h = grind (arith, common_steps, h)
 
 some_sign_in : (o : Option Expected) → IsSome (for_sign_in o) → IsSome o
 some_sign_in o h = grind (arith, common_steps, h)
@@ -232,6 +243,7 @@ laws valid = record {
   onward = onward;
   starts = λ s e. (empty_fresh s e, numbered_empty s e);
   begins = λ s o lt fresh. record { numbered = numbered_begun s o lt; fresh = fresh_begun s o fresh; goes_on = goes_begun s o };
+  stays_open = stays_open;
   abandons = λ s n fresh. record { numbered = numbered_closed s s.rows n; fresh = fresh_closed s s.rows n fresh; goes_on = goes_closed s n };
   retires = λ s id fresh. record { numbered = λ h. h; fresh = fresh; goes_on = goes_retired s id };
   restarts = λ max_open s fresh. record {
@@ -244,6 +256,7 @@ laws valid = record {
   stores = stores;
   one_number = one_number;
   is_open = λ s n e h. is_open_by (finite.get s.sessions.expected n) e h;
+  is_open_to_register = λ s n e h. is_open_to_register_by (finite.get s.sessions.expected n) e h;
   judged = judged;
   retired_refused = retired_refused valid;
   registered_refused = registered_refused valid;

@@ -5,13 +5,13 @@ use Rattle.authdata.specs.Flags.{is_set, BE}
 use Rattle.authdata.specs.Layout.{AuthenticatorData, AuthOf}
 use Rattle.authdata.specs.Responses.{AuthenticatorAssertionResponse}
 use Rattle.authdata.specs.Responses as responses
-use Rattle.verification.specs.Records.{Credential, ExpectedSignIn}
+use Rattle.verification.specs.Records.{Credential, ExpectedRegistration, ExpectedSignIn}
 use Rattle.cose.specs.Schemes.{Validity}
 use Rattle.verification.specs.SignIn as authentication
 use Rattle.verification.specs.Registration as registration
 use Rattle.credential_table.specs.Table.{row_of, with_row, signed_in, retired}
 use Rattle.saved_table.specs.Saved.{TableOf}
-use Rattle.ceremony_sessions.specs.Sessions.{Expected, ForSignIn, ForRegistration, Opening, begun, challenge_of, closed, sign_in_at}
+use Rattle.ceremony_sessions.specs.Sessions.{Expected, ForRegistration, ForSignIn, Opening, begun, challenge_in, challenge_of, closed, registration_at, sign_in_at}
 use Rattle.site.specs.State.{SiteState, judged_sign_in, judged_registration, IsAfterSignIn, IsAfterRegistration, none_open, saved_of}
 
 -- the credential is still there: its key and its user are what they were, its counter has not fallen, what is known
@@ -38,10 +38,6 @@ pub record GoesOn (s t : SiteState) : Type 0 where
   pub rows : (id : List ℕ) (row : Credential) → row_of id s.rows ≡ Some row → IsKept row t.rows
   pub gone : (n : ℕ) → IsGone s n → IsGone t n
   pub rp : t.rp ≡ s.rp
-
-abbrev pub challenge_in : Expected → List ℕ
-challenge_in (ForSignIn e) = e.challenge
-challenge_in (ForRegistration e) = e.challenge
 
 -- each open session's challenge begins with its number
 abbrev pub IsNumbered : SiteState → Type 0
@@ -77,6 +73,9 @@ pub record SiteLaws (valid : Validity) : Type 0 where
   pub starts : (s : SiteState) → s.sessions.expected ≡ finite.empty → IsFresh s × IsNumbered s
   -- whatever happens to it, it keeps what it has
   pub begins : (s : SiteState) (o : Opening) → s.sessions.next < 2 ^ 64 - 1 → IsFresh s → Keeps s (after_begin s o)
+  -- and a session that begins is put in no other's place
+  pub stays_open : (s : SiteState) (o : Opening) (n : ℕ) (e : Expected) → IsFresh s → finite.get s.sessions.expected n ≡ Some e
+      → finite.get (after_begin s o).sessions.expected n ≡ Some e
   pub abandons : (s : SiteState) (n : ℕ) → IsFresh s → Keeps s (after_abandon s n)
   pub retires : (s : SiteState) (id : List ℕ) → IsFresh s → Keeps s (after_retire s id)
   pub restarts : (max_open : ℕ) (s : SiteState) → IsFresh s → Keeps s (after_restart max_open s)
@@ -91,7 +90,10 @@ pub record SiteLaws (valid : Validity) : Type 0 where
       → (a : AuthenticatorData) × AuthOf s.rp.profile a r.auth_data × (row_of r.credential t.rows ≡ Some (signed_in a.sign_count (is_set a.flags BE) row))
   -- two sessions have two challenges
   pub one_number : (n k : ℕ) (v w : List ℕ) → n < 2 ^ 64 → k < 2 ^ 64 → challenge_of n v ≡ challenge_of k w → (n ≡ k) × (v ≡ w)
+  -- a session for sign-in answers no registration, and one for registration no sign-in
   pub is_open : (s : SiteState) (n : ℕ) (e : ExpectedSignIn) → sign_in_at n s.sessions ≡ Some e → finite.get s.sessions.expected n ≡ Some (ForSignIn e)
+  pub is_open_to_register : (s : SiteState) (n : ℕ) (e : ExpectedRegistration) → registration_at n s.sessions ≡ Some e
+      → finite.get s.sessions.expected n ≡ Some (ForRegistration e)
   -- a sign-in is judged by the relying party, what its session expects, and its credential alone
   pub judged : (s t : SiteState) (n : ℕ) (r : AuthenticatorAssertionResponse) → t.rp ≡ s.rp → sign_in_at n t.sessions ≡ sign_in_at n s.sessions
       → row_of r.credential t.rows ≡ row_of r.credential s.rows → judged_sign_in t n r ≡ judged_sign_in s n r

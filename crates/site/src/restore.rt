@@ -2,6 +2,7 @@
 
 ghost use Rattle.std.specs.Prelude.{◌≡◌, ◌≤◌, ◌↔◌, IsTrue, false, true};
 ghost use Rattle.credential_table.specs.Table.{IsTable};
+ghost use Rattle.site.specs.Laws.{IsFresh, IsNumbered};
 
 use crate::site::Site;
 use ceremony_sessions::Sessions;
@@ -14,8 +15,13 @@ impl Site {
         requires next { 1 ≤ sessions.next }
         ensures told { IsTrue result ↔ IsTable self.old.rp.profile table }
         ensures after { result ≡ true → self.new ≡ record self.old { rows = table; sessions = sessions } }
+        // On these the laws of a site rest.
+        ensures fresh { result ≡ true → IsFresh self.new }
+        ensures numbered { result ≡ true → IsNumbered self.new }
         ensures unchanged { result ≡ false → self.new ≡ self.old }
     {
+        let next = sessions.next();
+        prove!(1 <= next);
         if !table.is_of(self.party.profile()) {
             return false;
         }

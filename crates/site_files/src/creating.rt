@@ -7,21 +7,24 @@ ghost use Rattle.stored_site.specs.Holds.{Stored};
 
 use crate::FileSite;
 use crate::error::FileError;
-use crate::path::is_free;
-use crate::tables::{lists_tables, make_tables};
+use crate::path::{Found, found_at};
+use crate::tables::{check_tables, has_nothing, make_tables};
 use site::Site;
 use sqlite::{Alter, Connection, FileFrom, FileStore, Start};
 use std::alloc::Global;
 use stored_site::{MAX_BOUND, StoredSite};
 
-/// The store of a new file, with the tables of a site.
+/// The store of a connection, with the tables of a site: they are made where it has no table, and taken as they are where a
+/// creation was cut off behind their commit. `Exists` where it has others.
 fn with_tables<S: Alter + Drop>(alloc: Global, mut conn: Connection<S>) -> Result<S, FileError> {
-    make_tables(&mut conn)?;
+    if has_nothing(&conn) {
+        make_tables(&mut conn)?;
+    }
     let store = conn.into_store();
-    if lists_tables(alloc, &store)? {
-        Ok(store)
-    } else {
-        Err(FileError::OtherTables)
+    match check_tables(alloc, &store) {
+        Ok(()) => Ok(store),
+        Err(FileError::OtherTables) => Err(FileError::Exists),
+        Err(e) => Err(e),
     }
 }
 
@@ -38,7 +41,7 @@ fn written<S: Start>(
     }
 }
 
-/// Makes a file with the tables of a site, which have no row.
+/// Makes a file with the tables of a site, or takes up one that a creation left.
 fn new_file<S: Start>(
     rt: &HostRuntime,
     path: &str,
@@ -67,7 +70,7 @@ fn site_over<S: Alter + Drop>(
     }
 }
 
-/// The store of a new file for a site, where the site fits one and nothing stands at the path.
+/// The store of a new file for a site, where the site fits one and no other file stands at the path.
 fn store_for<S: Start>(
     rt: &HostRuntime,
     path: &str,
@@ -80,19 +83,21 @@ fn store_for<S: Start>(
     if site.next_session() >= 9_223_372_036_854_775_808 {
         return Err(FileError::BadNumber);
     }
-    if !is_free(rt, path)? {
-        return Err(FileError::Exists);
+    match found_at(rt, path)? {
+        Found::Other => Err(FileError::Exists),
+        Found::Nothing | Found::Empty | Found::Sqlite => new_file(rt, path, start),
     }
-    new_file(rt, path, start)
 }
 
 /// Makes a site's file at a path, and its log beside it (the path and `-wal`). A program passes `Unknown` as `start`, which
 /// stands for what the files held.
 ///
 /// `BadBound` where more than 1,000,000 sessions could be open, `BadNumber` where the number of the next session is 2^63 or
-/// more, and `Exists` where a file or a log is there; nothing is made then. `InUse`, `CannotOpen` and `Failed` where the
-/// system, the disk or memory failed: a file that is not finished may stand at the path then, which `open` refuses as
-/// `NotSqlite` or `NoSite`.
+/// more, `Exists` where a file is there that holds something, and `LoneLog` where its log is there alone; nothing is made
+/// then. `InUse`, `CannotOpen` and `Failed` where the system, the disk or memory failed.
+///
+/// A creation that is cut off leaves no file, or one that holds nothing: it is empty, or has no table, or the tables of a
+/// site without rows. `open` refuses it as `NoSite`, and the next `create` takes it up.
 pub fn create<S: Start>(
     rt: &HostRuntime,
     path: &str,

@@ -12,9 +12,12 @@ pub enum FileError {
     /// No file stands at the path.
     #[error("there is no file at this path")]
     NoFile,
-    /// A file stands at the path, or one at that of its log.
-    #[error("there is a file at this path, or one of its log")]
+    /// A file stands at the path that holds something.
+    #[error("there is a file at this path")]
     Exists,
+    /// No file stands at the path, but its log does.
+    #[error("there is no file at this path, but its log (FILE-wal): put the file back, or delete the log")]
+    LoneLog,
     /// Another handle or another process has the file open.
     #[error("the file is in use")]
     InUse,
@@ -27,8 +30,8 @@ pub enum FileError {
     /// The file has other tables than a site's.
     #[error("the file has other tables than a site's")]
     OtherTables,
-    /// The tables have no row of a site.
-    #[error("the tables have no row of a site")]
+    /// The file is empty, or has no table, or its tables have no row of a site.
+    #[error("the file has no site")]
     NoSite,
     /// The version or the rp id is another.
     #[error("the file is of another site or version")]
@@ -99,7 +102,7 @@ impl From<CreateFailure> for FileError {
     fn from(e: CreateFailure) -> FileError {
         match e {
             CreateFailure::BadBound => FileError::BadBound,
-            CreateFailure::NotNew => FileError::OtherTables,
+            CreateFailure::NotNew => FileError::Exists,
             CreateFailure::BadNumber => FileError::BadNumber,
             CreateFailure::Failed(e) => FileError::Failed(e),
         }

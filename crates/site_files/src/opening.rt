@@ -10,13 +10,23 @@ ghost use Rattle.stored_site.specs.Holds.{Holds, Stored};
 
 use crate::FileSite;
 use crate::error::FileError;
-use crate::path::is_sqlite;
-use crate::tables::lists_tables;
+use crate::path::{Found, found_at};
+use crate::tables::check_tables;
 use site::Site;
 use sqlite::{Alter, Connection, FileFrom, FileStore, Start};
 use sqlite_trees::error::StoreError;
 use std::alloc::Global;
 use stored_site::StoredSite;
+
+/// That a file stands at a path that may be a SQLite file's.
+fn check_sqlite(rt: &HostRuntime, path: &str) -> Result<(), FileError> {
+    match found_at(rt, path)? {
+        Found::Sqlite => Ok(()),
+        Found::Nothing => Err(FileError::NoFile),
+        Found::Empty => Err(FileError::NoSite),
+        Found::Other => Err(FileError::NotSqlite),
+    }
+}
 
 /// The store of a SQLite file.
 fn store_at<S: Start>(
@@ -27,9 +37,7 @@ fn store_at<S: Start>(
     ensures found { IfOk result (λ store. IsClean (view store) → IsTrue (view store).is_open → (db : Trees) → HoldsDatabase (image_at S.Start) db
         → (view store).committed ≡ db) }
 {
-    if !is_sqlite(rt, path)? {
-        return Err(FileError::NotSqlite);
-    }
+    check_sqlite(rt, path)?;
     match Connection::open_from(rt, path, false, start) {
         Ok(conn) => Ok(conn.into_store()),
         Err((e, _)) => Err(e.into()),
@@ -47,9 +55,7 @@ fn site_in<S: Alter + Drop>(alloc: Global, site: Site, store: S) -> Result<Store
     if store.is_broken() {
         return Err(FileError::Failed(StoreError::Broken));
     }
-    if !lists_tables(alloc, &store)? {
-        return Err(FileError::OtherTables);
-    }
+    check_tables(alloc, &store)?;
     match StoredSite::open(alloc, site, store) {
         Ok(site) => Ok(site),
         Err((e, _)) => Err(e.into()),
@@ -59,10 +65,10 @@ fn site_in<S: Alter + Drop>(alloc: Global, site: Site, store: S) -> Result<Store
 /// The site of a file, with the relying party, the profile and the policy of a site that is handed in, whose own credentials
 /// and sessions go. A program passes `Unknown` as `start`, which stands for what the files held.
 ///
-/// `NoFile`, `InUse` and `CannotOpen` where the file is not opened, `NotSqlite` where it is no sound SQLite file,
-/// `OtherTables` where it lists other tables than `create` makes, `BadBound` where more than 1,000,000 sessions could be
-/// open, `NoSite` where they have no row of a site, `OtherSite`, `TooMany` and `BadRow` as `StoredSite::open`, `Failed` where
-/// the disk or memory failed.
+/// `NoFile`, `LoneLog`, `InUse` and `CannotOpen` where the file is not opened, `NotSqlite` where it is no sound SQLite file,
+/// `NoSite` where it is empty or has no table, `OtherTables` where it lists other tables than `create` makes, `BadBound`
+/// where more than 1,000,000 sessions could be open, `NoSite` where they have no row of a site, `OtherSite`, `TooMany` and
+/// `BadRow` as `StoredSite::open`, `Failed` where the disk or memory failed.
 pub fn open<S: Start>(
     rt: &HostRuntime,
     path: &str,

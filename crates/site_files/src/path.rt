@@ -7,19 +7,46 @@ use std::io::{self, Read};
 /// What a SQLite file begins with (fileformat2.html, 1.2).
 const HEAD: [u8; 16] = *b"SQLite format 3\0";
 
-/// Whether neither a file nor its log stands at a path.
-pub fn is_free(rt: &HostRuntime, path: &str) -> Result<bool, FileError> {
-    let log = format!(in rt.alloc(); "{path}-wal")?;
-    Ok(!fs::exists(rt, path)? && !fs::exists(rt, log.as_str())?)
+/// What stands at a path.
+#[derive(Clone, Copy, PartialEq, Eq, Drop)]
+pub enum Found {
+    /// No file.
+    Nothing,
+    /// An empty file, without a log: a creation was cut off before it wrote.
+    Empty,
+    /// A file that begins as a SQLite file does, or one with a log, which may have the file's first page.
+    Sqlite,
+    /// Another file.
+    Other,
 }
 
-/// Whether the file at a path begins as a SQLite file does.
-pub fn is_sqlite(rt: &HostRuntime, path: &str) -> Result<bool, FileError> {
+/// Whether the log of a file at a path is there.
+fn has_log(rt: &HostRuntime, path: &str) -> Result<bool, FileError> {
+    let log = format!(in rt.alloc(); "{path}-wal")?;
+    Ok(fs::exists(rt, log.as_str())?)
+}
+
+/// What a file without a log begins as.
+fn head_at(rt: &HostRuntime, path: &str) -> Result<Found, FileError> {
+    if fs::metadata(rt, path)?.len() == 0 {
+        return Ok(Found::Empty);
+    }
     let mut file = File::open(rt, path)?;
     let mut head = [0; 16];
     match file.read_exact(&mut head) {
-        Ok(()) => Ok(head == HEAD),
-        Err(e) if e.kind() == io::ErrorKind::UnexpectedEof => Ok(false),
+        Ok(()) if head == HEAD => Ok(Found::Sqlite),
+        Ok(()) => Ok(Found::Other),
+        Err(e) if e.kind() == io::ErrorKind::UnexpectedEof => Ok(Found::Other),
         Err(e) => Err(e.into()),
+    }
+}
+
+/// What stands at a path. `LoneLog` where no file does, but a log.
+pub fn found_at(rt: &HostRuntime, path: &str) -> Result<Found, FileError> {
+    match (fs::exists(rt, path)?, has_log(rt, path)?) {
+        (true, true) => Ok(Found::Sqlite),
+        (true, false) => head_at(rt, path),
+        (false, true) => Err(FileError::LoneLog),
+        (false, false) => Ok(Found::Nothing),
     }
 }

@@ -5,7 +5,7 @@ use sqlite::{Alter, Connection};
 use sqlite_value::order::is_same;
 use sqlite_value::row::Row;
 use sqlite_value::value::ValueRef;
-use std::alloc::{AllocError, Global};
+use std::alloc::Global;
 
 const CREDENTIAL: &str = "CREATE TABLE credential (
   place INTEGER PRIMARY KEY,
@@ -44,6 +44,14 @@ const SITE: &str = "CREATE TABLE site (
   next_session INTEGER NOT NULL
 ) STRICT";
 
+/// Whether a file has no table, no index and no view.
+pub fn has_nothing<S: Alter>(conn: &Connection<S>) -> bool {
+    let schema = conn.schema();
+    schema.tables.as_slice().is_empty()
+        && schema.indexes.as_slice().is_empty()
+        && schema.views.as_slice().is_empty()
+}
+
 /// Makes the three tables, all or none.
 pub fn make_tables<S: Alter>(conn: &mut Connection<S>) -> Result<(), FileError> {
     conn.execute_batch("BEGIN")?;
@@ -64,14 +72,27 @@ fn is_table(row: &Row, place: i64, name: &str, text: &str) -> bool {
         && is_same(row.get(4), ValueRef::Text(text.as_bytes()))
 }
 
-/// Whether a store lists the three tables in their order, and nothing else.
-pub fn lists_tables<S: Alter>(alloc: Global, store: &S) -> Result<bool, AllocError> {
-    match store.objects(alloc)?.as_slice() {
-        [one, two, three] => Ok(
+/// Whether these are the three tables in their order, and nothing else.
+fn are_tables(objects: &[Row]) -> bool {
+    match objects {
+        [one, two, three] => {
             is_table(one, 1, "credential", CREDENTIAL)
                 && is_table(two, 2, "session", SESSION)
-                && is_table(three, 3, "site", SITE),
-        ),
-        _ => Ok(false),
+                && is_table(three, 3, "site", SITE)
+        }
+        _ => false,
+    }
+}
+
+/// That a store lists the three tables in their order, and nothing else: `NoSite` where it lists nothing, `OtherTables` where
+/// it lists others.
+pub fn check_tables<S: Alter>(alloc: Global, store: &S) -> Result<(), FileError> {
+    let objects = store.objects(alloc)?;
+    if objects.is_empty() {
+        Err(FileError::NoSite)
+    } else if are_tables(objects.as_slice()) {
+        Ok(())
+    } else {
+        Err(FileError::OtherTables)
     }
 }

@@ -9,9 +9,9 @@ use Rattle.cose.specs.declared.key.CoseKey.{CoseKey}
 use Rattle.verification.specs.Registration.{hash_in}
 use Rattle.site_lines.specs.Answers.{RegistrationAsks}
 use Rattle.site_lines.specs.Private.{AttestsKey}
-use Rattle.site_lines.specs.declared.triple.Triple.{Triple}
+use Rattle.site_lines.specs.declared.verified_signature.VerifiedSignature.{VerifiedSignature}
 
-pub registration_asks : (p : Profile) (r : AuthenticatorAttestationResponse) (o : Attestation) (key : CoseKey) (t : Triple) → ObjectOf o r.object
+pub registration_asks : (p : Profile) (r : AuthenticatorAttestationResponse) (o : Attestation) (key : CoseKey) (t : VerifiedSignature) → ObjectOf o r.object
     → AttestsKey p o.auth_data key → IsSelfSignedBy o key t.signature.items → t.key ≡ key → t.message.items ≡ o.auth_data ++ hash_in r
     → RegistrationAsks p r t
 registration_asks p r o key t spelled attests signed same joined = (
@@ -25,7 +25,8 @@ registration_asks p r o key t spelled attests signed same joined = (
 )
 
 -- the same where its parts are lent
-pub lent_asks : (p : Profile) (r : AuthenticatorAttestationResponse) (o : Attestation) (key : CoseKey) (t : Triple) (front behind client signature : List ℕ)
+pub lent_asks : (p : Profile) (r : AuthenticatorAttestationResponse) (o : Attestation) (key : CoseKey) (t : VerifiedSignature)
+    (front behind client signature : List ℕ)
     → ObjectOf o r.object → front ≡ o.auth_data → behind ≡ o.auth_data → client ≡ r.client_data → AttestsKey p front key → IsSelfSignedBy o key signature
     → t.key ≡ key → t.message.items ≡ behind ++ sha256 client → t.signature.items ≡ signature → RegistrationAsks p r t
 lent_asks p r o key t front behind client signature spelled one two three attests signed same joined is =

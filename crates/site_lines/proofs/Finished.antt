@@ -1,5 +1,5 @@
 -- What is told of a ceremony that is finished, by what the site's call says.
-use Rattle.std.proofs.Common.{◌≡◌, subst, sym}
+use Rattle.std.proofs.Common.{◌≡◌, refl, subst, sym}
 use Rattle.sqlite_trees.specs.View.{View}
 use Rattle.authdata.specs.Responses.{AuthenticatorAssertionResponse, assertion_response_view, registration_response_view}
 use Rattle.authdata.specs.Responses as responses
@@ -19,7 +19,7 @@ use Rattle.site.specs.State.{IsAfterRegistration, IsAfterSignIn, SiteState, judg
 use Rattle.site.specs.declared.signing_in.SignedIn.{SignedIn}
 use Rattle.site.specs.declared.registration.Registered.{Registered}
 use Rattle.stored_site.specs.Holds.{Stored, StoredState}
-use Rattle.site_lines.specs.Triples.{is_triple}
+use Rattle.site_lines.specs.VerifiedSignatures.{is_valid}
 use Rattle.site_lines.specs.declared.act.FinishRegistration.{FinishRegistration}
 use Rattle.site_lines.specs.declared.act.FinishSignIn.{FinishSignIn}
 use Rattle.site_lines.specs.declared.answer.Answer.{Answer}
@@ -30,33 +30,33 @@ use Rattle.site_lines.specs.Private.{IsRefusedRegistration, IsRefusedSignIn}
 -- an acceptance, of the parts that were judged
 pub sign_in_accepted : {S : Type 0} (view : S → View) (f : FinishSignIn) (old new : StoredState S) (r : AuthenticatorAssertionResponse) (x : SignedIn)
     → r ≡ assertion_response_view f.response
-    → PassesSignIn (is_triple f.verified.triple) (judged_sign_in old.site f.session r) × IsSignedIn old.site r x
-    → IsAfterSignIn old.site f.session r new.site → Stored view new → TellsSignIn view f old new (answers.SignedIn x)
+    → PassesSignIn (is_valid f.verified) (judged_sign_in old.site f.session r) × IsSignedIn old.site r x
+    → IsAfterSignIn old.site f.session r new.site → Stored view new → TellsSignIn view f old new (answers.SignedIn x f.response)
 sign_in_accepted view f old new r x same accepted after stored =
-    let P : AuthenticatorAssertionResponse → Type 0 = λ r. PassesSignIn (is_triple f.verified.triple) (judged_sign_in old.site f.session r)
+    let P : AuthenticatorAssertionResponse → Type 0 = λ r. (f.response ≡ f.response) × PassesSignIn (is_valid f.verified) (judged_sign_in old.site f.session r)
     × IsSignedIn old.site r x
     × IsAfterSignIn old.site f.session r new.site × Stored view new in
-    subst P same (accepted.0, accepted.1, after, stored)
+    subst P same (refl, accepted.0, accepted.1, after, stored)
 
 -- what is told of a step that was not passed
 pub sign_in_refused : {S : Type 0} (view : S → View) (f : FinishSignIn) (old new : StoredState S) (s : SiteState) (step : SignInRefusal) (a : Answer)
-    → s ≡ old.site → IsFirstFailing (is_triple f.verified.triple) (judged_sign_in old.site f.session (assertion_response_view f.response)) step
+    → s ≡ old.site → IsFirstFailing (is_valid f.verified) (judged_sign_in old.site f.session (assertion_response_view f.response)) step
     → IsRefusedSignIn s step f a → TellsSignIn view f old new a
 sign_in_refused view f old new s step (answers.RegistrationBegun started b) same first h = absurd h
 sign_in_refused view f old new s step (answers.SignInBegun started b) same first h = absurd h
-sign_in_refused view f old new s step (answers.Registered x) same first h = absurd h
-sign_in_refused view f old new s step (answers.SignedIn x) same first h = absurd h
+sign_in_refused view f old new s step (answers.Registered x told) same first h = absurd h
+sign_in_refused view f old new s step (answers.SignedIn x told) same first h = absurd h
 sign_in_refused view f old new s step (answers.Verify t) same first h = (
   h.1,
   subst (λ (s : SiteState). SignInAsks s
       (assertion_response_view f.response) t) same h.2,
-  subst (λ known. IsFirstFailing (is_triple known) (judged_sign_in old.site f.session
-      (assertion_response_view f.response)) sign_in.BadSignature) h.1 (subst (λ w. IsFirstFailing (is_triple f.verified.triple)
+  subst (λ known. IsFirstFailing (is_valid known) (judged_sign_in old.site f.session
+      (assertion_response_view f.response)) sign_in.BadSignature) h.1 (subst (λ w. IsFirstFailing (is_valid f.verified)
       (judged_sign_in old.site f.session (assertion_response_view f.response)) w) h.0 first),
 )
 sign_in_refused view f old new s step (answers.RegistrationRefused told id) same first h = absurd h
 sign_in_refused view f old new s step (answers.SignInRefused told id) same first h = (
-  subst (λ w. IsFirstFailing (is_triple f.verified.triple)
+  subst (λ w. IsFirstFailing (is_valid f.verified)
       (judged_sign_in old.site f.session (assertion_response_view f.response)) w) (sym h.0) first,
   h.1,
 )
@@ -71,35 +71,35 @@ sign_in_refused view f old new s step (answers.Failed why) same first h = absurd
 pub registration_accepted : {S : Type 0} (view : S → View) (f : FinishRegistration) (old new : StoredState S)
     (r : responses.AuthenticatorAttestationResponse) (x : Registered)
     → r ≡ registration_response_view f.response
-    → PassesRegistration (is_triple f.verified.triple) (judged_registration old.site f.session r) × IsRegistered old.site r x
-    → IsAfterRegistration old.site f.session r new.site → Stored view new → TellsRegistration view f old new (answers.Registered x)
+    → PassesRegistration (is_valid f.verified) (judged_registration old.site f.session r) × IsRegistered old.site r x
+    → IsAfterRegistration old.site f.session r new.site → Stored view new → TellsRegistration view f old new (answers.Registered x f.response)
 registration_accepted view f old new r x same accepted after stored =
-    let P : responses.AuthenticatorAttestationResponse → Type 0 = λ r. PassesRegistration (is_triple f.verified.triple)
+    let P : responses.AuthenticatorAttestationResponse → Type 0 = λ r. (f.response ≡ f.response) × PassesRegistration (is_valid f.verified)
     (judged_registration old.site f.session r) × IsRegistered old.site r x
     × IsAfterRegistration old.site f.session r new.site × Stored view new in
-    subst P same (accepted.0, accepted.1, after, stored)
+    subst P same (refl, accepted.0, accepted.1, after, stored)
 
 -- what is told of a step that was not passed
 pub registration_refused : {S : Type 0} (view : S → View) (f : FinishRegistration) (old new : StoredState S) (s : SiteState)
     (step : RegistrationRefusal) (a : Answer)
-    → s ≡ old.site → registration.IsFirstFailing (is_triple f.verified.triple) (judged_registration old.site f.session
+    → s ≡ old.site → registration.IsFirstFailing (is_valid f.verified) (judged_registration old.site f.session
     (registration_response_view f.response)) step → IsRefusedRegistration s step f a → TellsRegistration view f old new a
 registration_refused view f old new s step (answers.RegistrationBegun started b) same first h = absurd h
 registration_refused view f old new s step (answers.SignInBegun started b) same first h = absurd h
-registration_refused view f old new s step (answers.Registered x) same first h = absurd h
-registration_refused view f old new s step (answers.SignedIn x) same first h = absurd h
+registration_refused view f old new s step (answers.Registered x told) same first h = absurd h
+registration_refused view f old new s step (answers.SignedIn x told) same first h = absurd h
 registration_refused view f old new s step (answers.Verify t) same first h = (
   h.1,
   subst (λ (s : SiteState). RegistrationAsks s.rp.profile
       (registration_response_view f.response) t) same h.2,
-  subst (λ known. registration.IsFirstFailing (is_triple known)
+  subst (λ known. registration.IsFirstFailing (is_valid known)
       (judged_registration old.site f.session (registration_response_view f.response)) register.BadStatement) h.1 (subst
-      (λ w. registration.IsFirstFailing (is_triple f.verified.triple) (judged_registration old.site f.session
+      (λ w. registration.IsFirstFailing (is_valid f.verified) (judged_registration old.site f.session
       (registration_response_view f.response)) w) h.0 first),
 )
 registration_refused view f old new s step (answers.RegistrationRefused told id) same first h = (
   subst (λ w. registration.IsFirstFailing
-      (is_triple f.verified.triple) (judged_registration old.site f.session (registration_response_view f.response)) w) (sym h.0) first,
+      (is_valid f.verified) (judged_registration old.site f.session (registration_response_view f.response)) w) (sym h.0) first,
   h.1,
 )
 registration_refused view f old new s step (answers.SignInRefused told id) same first h = absurd h
@@ -113,18 +113,18 @@ registration_refused view f old new s step (answers.Failed why) same first h = a
 -- the step that was not passed, of the parts that were judged
 pub sign_in_step : (f : FinishSignIn) (s : SiteState) (r : AuthenticatorAssertionResponse) (why : VerificationError SignInRefusal) (step : SignInRefusal)
     → r ≡ assertion_response_view f.response → why ≡ errors.Refused step
-    → sign_in_answers.IsRefused (is_triple f.verified.triple) (judged_sign_in s f.session r) why
-    → IsFirstFailing (is_triple f.verified.triple) (judged_sign_in s f.session (assertion_response_view f.response)) step
+    → sign_in_answers.IsRefused (is_valid f.verified) (judged_sign_in s f.session r) why
+    → IsFirstFailing (is_valid f.verified) (judged_sign_in s f.session (assertion_response_view f.response)) step
 sign_in_step f s r why step same is refused =
-    let P : AuthenticatorAssertionResponse → Type 0 = λ r. IsFirstFailing (is_triple f.verified.triple) (judged_sign_in s f.session r) step in
-    subst P same (subst (sign_in_answers.IsRefused (is_triple f.verified.triple) (judged_sign_in s f.session r)) is refused)
+    let P : AuthenticatorAssertionResponse → Type 0 = λ r. IsFirstFailing (is_valid f.verified) (judged_sign_in s f.session r) step in
+    subst P same (subst (sign_in_answers.IsRefused (is_valid f.verified) (judged_sign_in s f.session r)) is refused)
 
 pub registration_step : (f : FinishRegistration) (s : SiteState) (r : responses.AuthenticatorAttestationResponse)
     (why : VerificationError RegistrationRefusal) (step : RegistrationRefusal)
     → r ≡ registration_response_view f.response → why ≡ errors.Refused step
-    → registration_answers.IsRefused (is_triple f.verified.triple) (judged_registration s f.session r) why
-    → registration.IsFirstFailing (is_triple f.verified.triple) (judged_registration s f.session (registration_response_view f.response)) step
+    → registration_answers.IsRefused (is_valid f.verified) (judged_registration s f.session r) why
+    → registration.IsFirstFailing (is_valid f.verified) (judged_registration s f.session (registration_response_view f.response)) step
 registration_step f s r why step same is refused =
     let P : responses.AuthenticatorAttestationResponse → Type 0 =
-    λ r. registration.IsFirstFailing (is_triple f.verified.triple) (judged_registration s f.session r) step in
-    subst P same (subst (registration_answers.IsRefused (is_triple f.verified.triple) (judged_registration s f.session r)) is refused)
+    λ r. registration.IsFirstFailing (is_valid f.verified) (judged_registration s f.session r) step in
+    subst P same (subst (registration_answers.IsRefused (is_valid f.verified) (judged_registration s f.session r)) is refused)

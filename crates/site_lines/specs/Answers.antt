@@ -1,5 +1,5 @@
 -- What an answer says of the site from before the line and of the site from after it.
-use Rattle.std.specs.Prelude.{◌≡◌, ◌+◌, ◌-◌, ◌++◌, ◌⊎◌, ℕ, List, true, false, None, map, option_map, is_some}
+use Rattle.std.specs.Prelude.{◌≡◌, ◌+◌, ◌-◌, ◌++◌, ◌⊎◌, ℕ, List, true, false, map, option_map, is_some}
 use Rattle.std.specs.FinMap as finite
 use Rattle.std.specs.Option.{ForSome}
 use Rattle.sha2.specs.Sha256.{sha256}
@@ -21,8 +21,9 @@ use Rattle.site.specs.Answers.{IsRegistered, IsSignedIn}
 use Rattle.site.specs.State.{IsAfterRegistration, IsAfterSignIn, SiteState, judged_registration, judged_sign_in}
 use Rattle.stored_site.specs.Expiry.{moments_since, since}
 use Rattle.stored_site.specs.Holds.{IsFailure, Stored, StoredState}
-use Rattle.site_lines.specs.Triples.{is_triple}
-use Rattle.site_lines.specs.declared.triple.Triple.{Triple}
+use Rattle.site_lines.specs.VerifiedSignatures.{is_valid}
+use Rattle.site_lines.specs.declared.verified_signature.Verified.TheVariants as found
+use Rattle.site_lines.specs.declared.verified_signature.VerifiedSignature.{VerifiedSignature}
 use Rattle.site_lines.specs.declared.act.Act.{Act}
 use Rattle.site_lines.specs.declared.act.Act.TheVariants as acts
 use Rattle.site_lines.specs.declared.act.BeginRegistration.{BeginRegistration}
@@ -47,26 +48,27 @@ Keeps old new _ = Unit {0}
 
 -- the signature that a sign-in asks for: the response's, of the authenticator data and then the hash of the client data,
 -- under the key of its credential (WebAuthn Level 2, section 7.2, step 20)
-abbrev pub SignInAsks : SiteState → AuthenticatorAssertionResponse → Triple → Type 0
+abbrev pub SignInAsks : SiteState → AuthenticatorAssertionResponse → VerifiedSignature → Type 0
 SignInAsks s r t =
     ForSome (row_of r.credential s.rows) (λ c. t.key ≡ c.key)
     × (t.message.items ≡ r.auth_data ++ sha256 r.client_data) × (t.signature.items ≡ r.signature)
 
 -- what the answer to a sign-in's response says: it passes each step, where the one valid signature is the one that the host
--- verified, and the site is committed as it is after that sign-in; or the first step that it does not pass; or, only where
--- the host has verified none and this step is the signature's, which signature it is to verify
+-- verified, the site is committed as it is after that sign-in, and what is told is of this response; or the first step that it
+-- does not pass; or, only where the host has verified nothing yet and this step is the signature's, which signature it is to
+-- verify. So where the host found it invalid, the step is told.
 abbrev pub TellsSignIn : {S : Type 0} → (S → View) → FinishSignIn → StoredState S → StoredState S → Answer → Type 0
-TellsSignIn view f old new (answers.SignedIn x) =
+TellsSignIn view f old new (answers.SignedIn x told) =
     let r = assertion_response_view f.response in
-    PassesSignIn (is_triple f.verified.triple) (judged_sign_in old.site f.session r)
+    (told ≡ f.response) × PassesSignIn (is_valid f.verified) (judged_sign_in old.site f.session r)
     × IsSignedIn old.site r x × IsAfterSignIn old.site f.session r new.site × Stored view new
 TellsSignIn view f old new (answers.SignInRefused step id) =
     let r = assertion_response_view f.response in
-    IsFirstFailing (is_triple f.verified.triple) (judged_sign_in old.site f.session r) step × (id.items ≡ r.credential)
+    IsFirstFailing (is_valid f.verified) (judged_sign_in old.site f.session r) step × (id.items ≡ r.credential)
 TellsSignIn view f old new (answers.Verify t) =
     let r = assertion_response_view f.response in
-    (f.verified.triple ≡ None) × SignInAsks old.site r t
-    × IsFirstFailing (is_triple None) (judged_sign_in old.site f.session r) sign_in.BadSignature
+    (f.verified ≡ found.Nothing) × SignInAsks old.site r t
+    × IsFirstFailing (is_valid found.Nothing) (judged_sign_in old.site f.session r) sign_in.BadSignature
 TellsSignIn view f old new (answers.Error why) = Unit {0}
 TellsSignIn view f old new (answers.Failed why) = Unit {0}
 TellsSignIn view f old new _ = ⊥
@@ -75,24 +77,24 @@ TellsSignIn view f old new _ = ⊥
 
 -- the signature of self attestation: of the authenticator data and then the hash of the client data, under the key that they
 -- attest (section 8.2)
-abbrev pub RegistrationAsks : Profile → responses.AuthenticatorAttestationResponse → Triple → Type 0
+abbrev pub RegistrationAsks : Profile → responses.AuthenticatorAttestationResponse → VerifiedSignature → Type 0
 RegistrationAsks profile r t =
     (o : Attestation) × (a : AuthenticatorData) × (c : AttestedCredential) × Attests profile r o a c
     × (t.key ≡ c.key) × IsSelfSignedBy o c.key t.signature.items × (t.message.items ≡ o.auth_data ++ hash_in r)
 
 -- the same of the answer to a registration's response, whose step is that of the attestation statement
 abbrev pub TellsRegistration : {S : Type 0} → (S → View) → FinishRegistration → StoredState S → StoredState S → Answer → Type 0
-TellsRegistration view f old new (answers.Registered x) =
+TellsRegistration view f old new (answers.Registered x told) =
     let r = registration_response_view f.response in
-    PassesRegistration (is_triple f.verified.triple) (judged_registration old.site f.session r)
+    (told ≡ f.response) × PassesRegistration (is_valid f.verified) (judged_registration old.site f.session r)
     × IsRegistered old.site r x × IsAfterRegistration old.site f.session r new.site × Stored view new
 TellsRegistration view f old new (answers.RegistrationRefused step id) =
     let r = registration_response_view f.response in
-    registration.IsFirstFailing (is_triple f.verified.triple) (judged_registration old.site f.session r) step × (id.items ≡ f.credential.items)
+    registration.IsFirstFailing (is_valid f.verified) (judged_registration old.site f.session r) step × (id.items ≡ f.credential.items)
 TellsRegistration view f old new (answers.Verify t) =
     let r = registration_response_view f.response in
-    (f.verified.triple ≡ None) × RegistrationAsks old.site.rp.profile r t
-    × registration.IsFirstFailing (is_triple None) (judged_registration old.site f.session r) register.BadStatement
+    (f.verified ≡ found.Nothing) × RegistrationAsks old.site.rp.profile r t
+    × registration.IsFirstFailing (is_valid found.Nothing) (judged_registration old.site f.session r) register.BadStatement
 TellsRegistration view f old new (answers.Error why) = Unit {0}
 TellsRegistration view f old new (answers.Failed why) = Unit {0}
 TellsRegistration view f old new _ = ⊥
@@ -151,10 +153,12 @@ TellsExpired view age now old new (answers.Expired count) =
 TellsExpired view age now old new (answers.Failed why) = Unit {0}
 TellsExpired view age now old new _ = ⊥
 
--- whose credentials are to be told: those of the user that is asked for, or all where none is
-abbrev pub TellsRows : Act → Answer → Type 0
-TellsRows (acts.Rows asked) (answers.Rows told) = told ≡ asked
-TellsRows _ _ = ⊥
+-- whose credentials are to be told: those of the user that is asked for, or all where none is. They are those that are
+-- committed, of a site that is not shut; of one that is shut none are told.
+abbrev pub TellsRows : {S : Type 0} → (S → View) → Act → StoredState S → StoredState S → Answer → Type 0
+TellsRows view (acts.Rows asked) old new (answers.Rows told) = (told ≡ asked) × (old.is_shut ≡ false) × Stored view new
+TellsRows view (acts.Rows asked) old new (answers.Failed why) = old.is_shut ≡ true
+TellsRows view _ old new _ = ⊥
 
 -- what the answer to an act says
 abbrev pub Tells : {S : Type 0} → (S → View) → List ℕ → ℕ → Act → StoredState S → StoredState S → Answer → Type 0
@@ -165,7 +169,7 @@ Tells view words now (acts.FinishSignIn f) old new answer = TellsSignIn view f o
 Tells view words now (acts.Retire id) old new answer = TellsRetired view id.items old new answer
 Tells view words now (acts.Abandon session) old new answer = TellsAbandoned view session old new answer
 Tells view words now (acts.Expire age) old new answer = TellsExpired view age now old new answer
-Tells view words now (acts.Rows user) old new answer = TellsRows (acts.Rows user) answer
+Tells view words now (acts.Rows user) old new answer = TellsRows view (acts.Rows user) old new answer
 
 -- an answer is that to some act, or an error of the line
 abbrev pub IsTold : {S : Type 0} → (S → View) → List ℕ → ℕ → StoredState S → StoredState S → Answer → Type 0

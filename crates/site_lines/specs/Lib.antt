@@ -1,3 +1,3 @@
-pub mod Triples
+pub mod VerifiedSignatures
 pub mod Answers
 pub mod Private

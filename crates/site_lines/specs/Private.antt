@@ -1,5 +1,5 @@
 -- What private functions are proved against; no public clause cites it.
-use Rattle.std.specs.Prelude.{◌≡◌, ℕ, List, Some, None}
+use Rattle.std.specs.Prelude.{◌≡◌, ℕ, List, Some}
 use Rattle.cose.specs.declared.key.CoseKey.{CoseKey}
 use Rattle.authdata.specs.declared.profile.Profile.{Profile}
 use Rattle.authdata.specs.Layout.{AttestedCredential, AuthenticatorData, AuthOf}
@@ -17,6 +17,7 @@ use Rattle.site_lines.specs.declared.act.FinishSignIn.{FinishSignIn}
 use Rattle.site_lines.specs.declared.answer.Answer.{Answer}
 use Rattle.site_lines.specs.declared.answer.Answer.TheVariants as answers
 use Rattle.site_lines.specs.declared.error.LineError.TheVariants as errors
+use Rattle.site_lines.specs.declared.verified_signature.Verified.TheVariants as found
 use Rattle.site_lines.specs.Answers.{RegistrationAsks, SignInAsks}
 
 -- what is answered where no session begins
@@ -37,7 +38,7 @@ BeginsNothing old new (begins.Store why) = IsFailure old new why
 abbrev pub IsRefusedSignIn : SiteState → SignInRefusal → FinishSignIn → Answer → Type 0
 IsRefusedSignIn s step f (answers.SignInRefused told id) = (told ≡ step) × (id.items ≡ f.response.credential.items)
 IsRefusedSignIn s step f (answers.Verify t) =
-    (step ≡ sign_in.BadSignature) × (f.verified.triple ≡ None) × SignInAsks s (assertion_response_view f.response) t
+    (step ≡ sign_in.BadSignature) × (f.verified ≡ found.Nothing) × SignInAsks s (assertion_response_view f.response) t
 IsRefusedSignIn s step f (answers.Error why) = Unit {0}
 IsRefusedSignIn s step f _ = ⊥
 
@@ -45,7 +46,7 @@ IsRefusedSignIn s step f _ = ⊥
 abbrev pub IsRefusedRegistration : SiteState → RegistrationRefusal → FinishRegistration → Answer → Type 0
 IsRefusedRegistration s step f (answers.RegistrationRefused told id) = (told ≡ step) × (id.items ≡ f.credential.items)
 IsRefusedRegistration s step f (answers.Verify t) =
-    (step ≡ register.BadStatement) × (f.verified.triple ≡ None) × RegistrationAsks s.rp.profile (registration_response_view f.response) t
+    (step ≡ register.BadStatement) × (f.verified ≡ found.Nothing) × RegistrationAsks s.rp.profile (registration_response_view f.response) t
 IsRefusedRegistration s step f (answers.Error why) = Unit {0}
 IsRefusedRegistration s step f _ = ⊥
 

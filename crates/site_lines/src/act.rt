@@ -1,6 +1,6 @@
 //! What a line asks for.
 
-use crate::triple::Verified;
+use crate::verified_signature::Verified;
 use authdata::{AssertionResponse, RegistrationResponse};
 use cose::Alg;
 
@@ -43,7 +43,7 @@ pub struct FinishRegistration {
     pub credential: Vec<u8>,
     /// The response.
     pub response: RegistrationResponse,
-    /// What the host verified.
+    /// What the host found of the signature.
     pub verified: Verified,
 }
 
@@ -54,7 +54,7 @@ pub struct FinishSignIn {
     pub session: u64,
     /// The response.
     pub response: AssertionResponse,
-    /// What the host verified.
+    /// What the host found of the signature.
     pub verified: Verified,
 }
 

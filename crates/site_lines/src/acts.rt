@@ -146,7 +146,7 @@ static MEMBERS: [Member; 20] = [
         act: ActKind::FinishRegistration,
         name: "verified",
         is_needed: false,
-        meaning: "what verify had, where the signature is valid",
+        meaning: "what verify had, where the signature is valid; false where not",
     },
     Member {
         act: ActKind::BeginSignIn,
@@ -182,7 +182,7 @@ static MEMBERS: [Member; 20] = [
         act: ActKind::FinishSignIn,
         name: "verified",
         is_needed: false,
-        meaning: "what verify had, where the signature is valid",
+        meaning: "what verify had, where the signature is valid; false where not",
     },
     Member {
         act: ActKind::Retire,

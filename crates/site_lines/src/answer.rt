@@ -2,7 +2,8 @@
 
 use crate::act::{BeginRegistration, BeginSignIn};
 use crate::error::LineError;
-use crate::triple::Triple;
+use crate::verified_signature::VerifiedSignature;
+use authdata::{AssertionResponse, RegistrationResponse};
 use site::{Registered, RegistrationRefusal, SignInRefusal, SignedIn, Started};
 use stored_site::Failure;
 
@@ -13,12 +14,12 @@ pub enum Answer {
     RegistrationBegun(Started, BeginRegistration),
     /// A sign-in has begun, and what it was asked for.
     SignInBegun(Started, BeginSignIn),
-    /// A credential is registered.
-    Registered(Registered),
-    /// A user signed in.
-    SignedIn(SignedIn),
+    /// A credential is registered, by this response.
+    Registered(Registered, RegistrationResponse),
+    /// A user signed in, by this response.
+    SignedIn(SignedIn, AssertionResponse),
     /// The host is to verify a signature, and to ask again. Nothing has changed.
-    Verify(Triple),
+    Verify(VerifiedSignature),
     /// The first step that a registration does not pass, and the credential id that the client names. Nothing has changed.
     RegistrationRefused(RegistrationRefusal, Vec<u8>),
     /// The first step that a sign-in does not pass, and the credential id. Nothing has changed.

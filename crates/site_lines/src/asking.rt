@@ -8,7 +8,7 @@ ghost use Rattle.cose.specs.Keys.{lent_key_view};
 ghost use Rattle.site_lines.specs.Answers.{RegistrationAsks, SignInAsks};
 ghost use Rattle.site_lines.specs.Private.{AttestsKey};
 
-use crate::triple::Triple;
+use crate::verified_signature::VerifiedSignature;
 use authdata::{
     AssertionResponse, AttestationObject, Profile, RegistrationResponse, read_view, self_signature,
 };
@@ -18,20 +18,20 @@ use site::Site;
 use std::alloc::{AllocError, Global};
 
 /// A signature under a key of authenticator data and then the hash of client data.
-fn triple_of(
+fn signature_of(
     alloc: Global,
     key: &KeyView<'_>,
     auth_data: &[u8],
     client_data: &[u8],
     signature: &[u8],
-) -> Result<Triple, AllocError>
+) -> Result<VerifiedSignature, AllocError>
     ensures key { IfOk result (λ t. t.key ≡ lent_key_view key.now) }
     ensures message { IfOk result (λ t. t.message.items ≡ auth_data.now ++ sha256 client_data.now) }
     ensures signature { IfOk result (λ t. t.signature.items ≡ signature.now) }
 {
     let mut message = Vec::from_slice(alloc, auth_data)?;
     message.extend_from_slice(&hash(client_data))?;
-    Ok(Triple {
+    Ok(VerifiedSignature {
         key: key.to_key(alloc)?,
         message,
         signature: Vec::from_slice(alloc, signature)?,
@@ -43,13 +43,13 @@ pub(crate) fn sign_in_asks(
     alloc: Global,
     site: &Site,
     response: &AssertionResponse,
-) -> Result<Option<Triple>, AllocError>
+) -> Result<Option<VerifiedSignature>, AllocError>
     ensures { IfOk result (λ asked. IfSome asked (SignInAsks site.now (assertion_response_view response.now))) }
 {
     let Some(row) = site.row(response.credential.as_slice()) else {
         return Ok(None);
     };
-    Ok(Some(triple_of(
+    Ok(Some(signature_of(
         alloc,
         &row.key,
         response.auth_data.as_slice(),
@@ -77,7 +77,7 @@ fn self_asks(
     profile: Profile,
     object: &AttestationObject,
     response: &RegistrationResponse,
-) -> Result<Option<Triple>, AllocError>
+) -> Result<Option<VerifiedSignature>, AllocError>
     requires { ObjectOf (object_view object.now) response.now.object.items }
     ensures { IfOk result (λ asked. IfSome asked (RegistrationAsks profile (registration_response_view response.now))) }
 {
@@ -87,7 +87,7 @@ fn self_asks(
     let Some(signature) = self_signature(object, &key) else {
         return Ok(None);
     };
-    Ok(Some(triple_of(
+    Ok(Some(signature_of(
         alloc,
         &key,
         object.auth_data.as_slice(),
@@ -101,7 +101,7 @@ pub(crate) fn registration_asks(
     alloc: Global,
     site: &Site,
     response: &RegistrationResponse,
-) -> Result<Option<Triple>, AllocError>
+) -> Result<Option<VerifiedSignature>, AllocError>
     ensures { IfOk result (λ asked. IfSome asked (RegistrationAsks site.now.rp.profile (registration_response_view response.now))) }
 {
     match AttestationObject::read(alloc, response.object.as_slice()) {

@@ -41,17 +41,17 @@ fn registration_parts(response: &RegistrationResponse) -> RegistrationParts<'_>
     }
 }
 
-/// What is answered where a step refuses a sign-in: which signature is to be verified, where the host has verified none and
-/// that is the step, or else the step.
+/// What is answered where a step refuses a sign-in: which signature is to be verified, where the host has verified nothing
+/// yet and that is the step, or else the step. So it is told too where the host found the signature invalid.
 fn refused_sign_in(alloc: Global, site: &Site, step: SignInRefusal, finish: FinishSignIn) -> Answer
     ensures { IsRefusedSignIn site.now step finish result }
 {
     let response = finish.response;
-    if step != SignInRefusal::BadSignature || !finish.verified.is_none() {
+    if step != SignInRefusal::BadSignature || !finish.verified.is_nothing() {
         return Answer::SignInRefused(step, response.credential);
     }
     match sign_in_asks(alloc, site, &response) {
-        Ok(Some(triple)) => Answer::Verify(triple),
+        Ok(Some(signature)) => Answer::Verify(signature),
         Ok(None) => Answer::SignInRefused(step, response.credential),
         Err(_) => Answer::Error(LineError::Memory),
     }
@@ -66,11 +66,11 @@ fn refused_registration(
 ) -> Answer
     ensures { IsRefusedRegistration site.now step finish result }
 {
-    if step != RegistrationRefusal::BadStatement || !finish.verified.is_none() {
+    if step != RegistrationRefusal::BadStatement || !finish.verified.is_nothing() {
         return Answer::RegistrationRefused(step, finish.credential);
     }
     match registration_asks(alloc, site, &finish.response) {
-        Ok(Some(triple)) => Answer::Verify(triple),
+        Ok(Some(signature)) => Answer::Verify(signature),
         Ok(None) => Answer::RegistrationRefused(step, finish.credential),
         Err(_) => Answer::Error(LineError::Memory),
     }
@@ -87,7 +87,7 @@ pub(crate) fn finish_sign_in<S: Store>(
 {
     let parts = assertion_parts(&finish.response);
     match site.finish_parts(&finish.verified, finish.session, &parts) {
-        Ok(signed_in) => Answer::SignedIn(signed_in),
+        Ok(signed_in) => Answer::SignedIn(signed_in, finish.response),
         Err(FinishFailure::Site(VerificationError::Refused(step))) => {
             refused_sign_in(alloc, site.site(), step, finish)
         }
@@ -107,7 +107,7 @@ pub(crate) fn finish_registration<S: Store>(
 {
     let parts = registration_parts(&finish.response);
     match site.finish_registration_parts(&finish.verified, finish.session, &parts) {
-        Ok(registered) => Answer::Registered(registered),
+        Ok(registered) => Answer::Registered(registered, finish.response),
         Err(FinishFailure::Site(VerificationError::Refused(step))) => {
             refused_registration(alloc, site.site(), step, finish)
         }

@@ -4,11 +4,12 @@ use crate::act::{Act, BeginRegistration, BeginSignIn, FinishRegistration, Finish
 use crate::acts::{ActKind, act_named, check_members};
 use crate::error::LineError;
 use crate::keys::key;
+use crate::line_id::id_of;
 use crate::members::{
     algorithms, bytes, flag, list_of_bytes, member, needed, number, optional_bytes, text,
 };
 use crate::response::{assertion_response, credential_id, registration_response};
-use crate::triple::{Triple, Verified};
+use crate::verified_signature::{Verified, VerifiedSignature};
 use serde_json::Value;
 use std::alloc::Global;
 
@@ -31,19 +32,22 @@ pub struct LineFault {
     pub error: LineError,
 }
 
-/// What the host verified, where it says so.
+/// What the host found of the signature: the five members of `verify`, where it is valid, or false where it is not.
 fn verified(alloc: Global, line: &Value) -> Result<Verified, LineError> {
-    let Some(object) = member(line, "verified") else {
-        return Ok(Verified { triple: None });
+    let Some(found) = member(line, "verified") else {
+        return Ok(Verified::Nothing);
     };
-    let triple = Triple {
-        key: key(alloc, object)?,
-        message: bytes(alloc, object, "message")?,
-        signature: bytes(alloc, object, "signature")?,
-    };
-    Ok(Verified {
-        triple: Some(triple),
-    })
+    if found.as_bool() == Some(false) {
+        return Ok(Verified::Invalid);
+    }
+    if !found.is_object() {
+        return Err(LineError::BadForm("verified"));
+    }
+    Ok(Verified::Valid(VerifiedSignature {
+        key: key(alloc, found)?,
+        message: bytes(alloc, found, "message")?,
+        signature: bytes(alloc, found, "signature")?,
+    }))
 }
 
 /// A registration that is to begin.
@@ -134,10 +138,18 @@ fn object_of(alloc: Global, line: &[u8]) -> Result<Value, LineError> {
 /// Reads a line: at most `MAX_LINE` bytes of UTF-8, a JSON object that nests at most 127 deep, with a number `id`, the name
 /// of an `act`, and the members that the act takes. A member that it does not take is refused: so a misspelled one is not
 /// passed over. Of members with one name the last stands.
+///
+/// Of a line that is refused the number is told too, where it can be read: of one that is no such object, by what stands
+/// before the first `MAX_LINE` + 1 bytes end.
 pub fn read_line(alloc: Global, line: &[u8]) -> Result<Line, LineFault> {
     let object = match object_of(alloc, line) {
         Ok(object) => object,
-        Err(error) => return Err(LineFault { id: None, error }),
+        Err(error) => {
+            return Err(LineFault {
+                id: id_of(line),
+                error,
+            });
+        }
     };
     let Some(id) = object.get("id").and_then(Value::as_u64) else {
         return Err(LineFault {

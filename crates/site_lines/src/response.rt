@@ -2,18 +2,37 @@
 //! section 5.1), each value of bytes in base64url without padding.
 
 use crate::error::LineError;
-use crate::members::{bytes, member, needed, optional_bytes};
+use crate::members::{bytes, member, needed, optional_bytes, text};
 use authdata::{AssertionResponse, RegistrationResponse};
 use serde_json::Value;
 use std::alloc::Global;
 
-/// The credential id: `rawId`, or `id` where there is none.
-pub(crate) fn credential_id(alloc: Global, response: &Value) -> Result<Vec<u8>, LineError> {
-    if member(response, "rawId").is_some() {
-        bytes(alloc, response, "rawId")
-    } else {
-        bytes(alloc, response, "id")
+/// What the standard fixes beside a response's parts: `id` is `rawId`, `type` is `public-key`, the extensions' results are
+/// an object, and the attachment is a text or null.
+fn check_envelope(response: &Value) -> Result<(), LineError> {
+    if text(response, "id")? != text(response, "rawId")? {
+        return Err(LineError::BadForm("id"));
     }
+    if text(response, "type")? != "public-key" {
+        return Err(LineError::BadForm("type"));
+    }
+    if let Some(results) = response.get("clientExtensionResults")
+        && !results.is_object()
+    {
+        return Err(LineError::BadForm("clientExtensionResults"));
+    }
+    if let Some(attachment) = member(response, "authenticatorAttachment")
+        && !attachment.is_string()
+    {
+        return Err(LineError::BadForm("authenticatorAttachment"));
+    }
+    Ok(())
+}
+
+/// The credential id.
+pub(crate) fn credential_id(alloc: Global, response: &Value) -> Result<Vec<u8>, LineError> {
+    check_envelope(response)?;
+    bytes(alloc, response, "rawId")
 }
 
 /// The parts of a registration's response.

@@ -2,10 +2,14 @@
 
 use crate::answer::Answer;
 use crate::options::{base64_text, creation_options, request_options};
-use crate::triple::Triple;
+use crate::verified_signature::VerifiedSignature;
+use authdata::flags::{BS, UV, is_set};
+use authdata::{
+    AssertionResponse, AttestationObject, AuthView, Profile, RegistrationResponse, read_view,
+};
 use cose::KeyView;
 use serde_json::{Value, json};
-use site::{RegistrationRefusal, RowView, SignInRefusal, SignedIn, Site};
+use site::{Registered, RegistrationRefusal, RowView, SignInRefusal, SignedIn, Site};
 use std::alloc::{AllocError, Global};
 use std::fmt::Display;
 
@@ -24,12 +28,12 @@ fn coordinates(alloc: Global, key: &KeyView<'_>) -> Result<(Value, Value), Alloc
 }
 
 /// A signature that is to be verified.
-fn verify(alloc: Global, triple: &Triple) -> Result<Value, AllocError> {
-    let key = triple.key.view();
+fn verify(alloc: Global, asked: &VerifiedSignature) -> Result<Value, AllocError> {
+    let key = asked.key.view();
     let (x, y) = coordinates(alloc, &key)?;
     let algorithm = key.alg().number();
-    let message = base64_text(alloc, triple.message.as_slice())?;
-    let signature = base64_text(alloc, triple.signature.as_slice())?;
+    let message = base64_text(alloc, asked.message.as_slice())?;
+    let signature = base64_text(alloc, asked.signature.as_slice())?;
     json!(in alloc; {"algorithm": algorithm, "x": x, "y": y, "message": message, "signature": signature})
 }
 
@@ -50,14 +54,6 @@ fn row_value(alloc: Global, row: &RowView<'_>) -> Result<Value, AllocError> {
     })
 }
 
-/// The credential of an id.
-fn row_of(alloc: Global, site: &Site, credential: &[u8]) -> Result<Value, AllocError> {
-    match site.row(credential) {
-        Some(row) => row_value(alloc, &row),
-        None => Ok(Value::Null),
-    }
-}
-
 /// The credentials of a user, or all, in order of registration.
 fn rows(alloc: Global, site: &Site, user: Option<&[u8]>) -> Result<Value, AllocError> {
     let mut list = Vec::new(alloc);
@@ -73,12 +69,93 @@ fn rows(alloc: Global, site: &Site, user: Option<&[u8]>) -> Result<Value, AllocE
     Ok(Value::Array(list))
 }
 
-/// Who signed in.
-fn signed_in(alloc: Global, who: &SignedIn) -> Result<Value, AllocError> {
+/// The extensions of authenticator data, as they came; null where there are none.
+fn extensions(alloc: Global, data: &AuthView<'_>) -> Result<Value, AllocError> {
+    match data.extensions {
+        Some(bytes) => base64_text(alloc, bytes),
+        None => Ok(Value::Null),
+    }
+}
+
+/// The members of both objects.
+fn joined(mut front: Value, back: Value) -> Result<Value, AllocError> {
+    let Value::Object(back) = back else {
+        return Ok(front);
+    };
+    if let Some(members) = front.as_object_mut() {
+        for (name, value) in back {
+            members.insert(name, value)?;
+        }
+    }
+    Ok(front)
+}
+
+/// The row of an accepted registration, with what its response says.
+fn with_data(
+    alloc: Global,
+    row: &RowView<'_>,
+    data: &AuthView<'_>,
+    format: &str,
+) -> Result<Value, AllocError> {
+    let value = row_value(alloc, row)?;
+    let aaguid = match &data.attested {
+        Some(attested) => base64_text(alloc, &attested.aaguid)?,
+        None => Value::Null,
+    };
+    let extensions = extensions(alloc, data)?;
+    let (flags, user_verified, backed_up) = (
+        data.flags,
+        is_set(data.flags, UV),
+        is_set(data.flags, BS),
+    );
+    let data = json!(in alloc; {
+        "aaguid": aaguid, "format": format, "user_verified": user_verified, "backed_up": backed_up, "flags": flags,
+        "extensions": extensions
+    })?;
+    joined(value, data)
+}
+
+/// The credential that was registered, with what its response says.
+fn registered_row(
+    alloc: Global,
+    site: &Site,
+    registered: &Registered,
+    response: &RegistrationResponse,
+) -> Result<Value, AllocError> {
+    let Some(row) = site.row(registered.credential.as_slice()) else {
+        return Ok(Value::Null);
+    };
+    let object = match AttestationObject::read(alloc, response.object.as_slice()) {
+        Ok(object) => object,
+        Err(authdata::Error::Memory) => return Err(AllocError),
+        Err(_) => return row_value(alloc, &row),
+    };
+    match read_view(site.profile(), object.auth_data.as_slice()) {
+        Ok(data) => with_data(alloc, &row, &data, object.fmt.as_str()),
+        Err(_) => row_value(alloc, &row),
+    }
+}
+
+/// Who signed in, with what the response's authenticator data say.
+fn signed_in(
+    alloc: Global,
+    profile: Profile,
+    who: &SignedIn,
+    response: &AssertionResponse,
+) -> Result<Value, AllocError> {
     let credential = base64_text(alloc, who.credential.as_slice())?;
     let user = base64_text(alloc, who.user.as_slice())?;
     let backed_up = who.backed_up;
-    json!(in alloc; {"credential": credential, "user": user, "backed_up": backed_up})
+    let value = json!(in alloc; {"credential": credential, "user": user, "backed_up": backed_up})?;
+    let Ok(data) = read_view(profile, response.auth_data.as_slice()) else {
+        return Ok(value);
+    };
+    let extensions = extensions(alloc, &data)?;
+    let (flags, sign_count, user_verified) = (data.flags, data.sign_count, is_set(data.flags, UV));
+    let data = json!(in alloc; {
+        "user_verified": user_verified, "flags": flags, "sign_count": sign_count, "extensions": extensions
+    })?;
+    joined(value, data)
 }
 
 /// The step of a sign-in, by number, name and text.
@@ -116,17 +193,17 @@ fn answer_value(
             let session = started.session;
             json!(in alloc; {"id": id, "session": session, "options": options})
         }
-        Answer::Registered(registered) => {
-            let row = row_of(alloc, site, registered.credential.as_slice())?;
+        Answer::Registered(registered, response) => {
+            let row = registered_row(alloc, site, registered, response)?;
             json!(in alloc; {"id": id, "accepted": row})
         }
-        Answer::SignedIn(who) => {
-            let who = signed_in(alloc, who)?;
+        Answer::SignedIn(who, response) => {
+            let who = signed_in(alloc, site.profile(), who, response)?;
             json!(in alloc; {"id": id, "accepted": who})
         }
-        Answer::Verify(triple) => {
-            let triple = verify(alloc, triple)?;
-            json!(in alloc; {"id": id, "verify": triple})
+        Answer::Verify(asked) => {
+            let asked = verify(alloc, asked)?;
+            json!(in alloc; {"id": id, "verify": asked})
         }
         Answer::RegistrationRefused(step, _) => {
             let step = registration_step(alloc, *step)?;

@@ -1,7 +1,16 @@
 //! Lines of the input, in bounded memory.
 
+use crate::fault::Fault;
 use site_lines::MAX_LINE;
 use std::io::{self, BufRead, Read};
+
+/// That standard input is open, before any file is: a file that is opened would stand in its place.
+pub(crate) fn check_input(rt: &HostRuntime) -> Result<(), Fault> {
+    match rt.reader().read(&mut []) {
+        Ok(_) => Ok(()),
+        Err(_) => Err(Fault::NoInput),
+    }
+}
 
 /// The next line into a buffer, without its end: false where none is left. Of a line of more than `MAX_LINE` bytes one byte
 /// more than those is kept, and the rest is read over.

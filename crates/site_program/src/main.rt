@@ -5,15 +5,18 @@ mod fault;
 mod file;
 mod input;
 mod options;
+mod party;
 mod serving;
 
 use clap::error::ErrorKind;
 use fault::Fault;
 use file::site_of;
+use input::check_input;
 use options::{Options, command_line, options_of};
 use serving::serve;
 use site_files::close;
 use site_lines::acts_help;
+use std::alloc::{AllocError, Global};
 use std::io::Write;
 use std::process::ExitCode;
 use std::{env, io};
@@ -27,8 +30,27 @@ fn arguments(rt: &HostRuntime) -> io::Result<Vec<String>> {
     Ok(arguments)
 }
 
+/// The words with the value of `--log` joined to it, as the parser takes it: the word behind it is its value only where it
+/// is one.
+fn joined<'a>(alloc: Global, owned: &'a [String]) -> Result<Vec<&'a str>, AllocError> {
+    let mut words: Vec<&'a str> = Vec::with_capacity(alloc, owned.len())?;
+    for word in owned {
+        let word = match (words.last(), word.as_str()) {
+            (Some(&"--log"), "all") => "--log=all",
+            (Some(&"--log"), "refusals") => "--log=refusals",
+            (_, word) => word,
+        };
+        if word.starts_with("--log=") && words.last() == Some(&"--log") {
+            words.pop();
+        }
+        words.push(word)?;
+    }
+    Ok(words)
+}
+
 /// Serves lines over the site's file, and closes it.
 fn serve_file(rt: &HostRuntime, options: &Options<'_>) -> Result<(), Fault> {
+    check_input(rt)?;
     let mut site = site_of(rt, options)?;
     let served = serve(rt, options, &mut site);
     close(site)?;
@@ -49,10 +71,7 @@ fn run_options(rt: &HostRuntime, options: &Options<'_>) -> u8 {
 /// Runs the program on its arguments.
 fn run(rt: &HostRuntime) -> io::Result<u8> {
     let owned = arguments(rt)?;
-    let mut words = Vec::new(rt.alloc());
-    for word in &owned {
-        words.push(word.as_str())?;
-    }
+    let words = joined(rt.alloc(), owned.as_slice())?;
     let help = acts_help(rt.alloc())?;
     let matches = match command_line(rt.alloc(), help.as_str(), words.as_slice()) {
         Ok(matches) => matches,
@@ -68,7 +87,10 @@ fn run(rt: &HostRuntime) -> io::Result<u8> {
     match options_of(rt.alloc(), &matches)? {
         Some(options) => Ok(run_options(rt, &options)),
         None => {
-            writeln!(rt.stderr(), "the value of --max-open is no number")?;
+            writeln!(
+                rt.stderr(),
+                "the value of --max-open or --expire is no number"
+            )?;
             Ok(2)
         }
     }

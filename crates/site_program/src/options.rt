@@ -3,6 +3,7 @@
 use authdata::Profile;
 use clap::{Arg, ArgAction, ArgMatches, Command, Error};
 use site::Policy;
+use site_lines::Logged;
 use std::alloc::{AllocError, Global};
 
 /// The profiles.
@@ -10,6 +11,9 @@ static PROFILES: [&str; 2] = ["open", "strict"];
 
 /// The attestations that are accepted.
 static ATTESTATIONS: [&str; 3] = ["any", "none", "self"];
+
+/// What is logged.
+static LOGS: [&str; 2] = ["refusals", "all"];
 
 /// What the command line asks for.
 #[derive(Drop)]
@@ -32,8 +36,10 @@ pub(crate) struct Options<'a> {
     pub(crate) is_new: bool,
     /// Whether the file must be there.
     pub(crate) is_existing: bool,
-    /// Whether refusals are told on standard error.
-    pub(crate) logs: bool,
+    /// What is told on standard error, if anything.
+    pub(crate) log: Option<Logged>,
+    /// After how many seconds an open session ends by itself, if it does.
+    pub(crate) expire: Option<u64>,
 }
 
 /// An option with a value.
@@ -104,6 +110,20 @@ fn policy_options<'a>(alloc: Global, help: &'a str) -> Result<Command<'a>, Alloc
         .arg(max_open)
 }
 
+/// The option of the log, which may come without a value.
+fn log_option<'a>(alloc: Global) -> Arg<'a> {
+    option(
+        alloc,
+        "log",
+        "WHICH",
+        "Tell refusals on standard error, or all: acceptances and errors too; refusals",
+    )
+    .num_args(0..=1)
+    .require_equals(true)
+    .default_missing_value("refusals")
+    .value_parser(LOGS.as_slice())
+}
+
 /// The program's parser, with this text behind its help.
 fn parser<'a>(alloc: Global, help: &'a str) -> Result<Command<'a>, AllocError> {
     let new = switch(
@@ -112,11 +132,18 @@ fn parser<'a>(alloc: Global, help: &'a str) -> Result<Command<'a>, AllocError> {
         "The file is to be made, and must not be there",
     );
     let existing = switch(alloc, "existing", "The file must be there").conflicts_with("new")?;
-    let log = switch(alloc, "log", "Tell refusals on standard error");
+    let log = log_option(alloc);
+    let expire = option(
+        alloc,
+        "expire",
+        "SECONDS",
+        "After how long a session ends by itself; never",
+    );
     policy_options(alloc, help)?
         .arg(new)?
         .arg(existing)?
-        .arg(log)
+        .arg(log)?
+        .arg(expire)
 }
 
 /// What clap reads of the arguments, the program's name first, with this text behind the help.
@@ -146,6 +173,15 @@ fn profile_named(word: Option<&str>) -> Profile {
     }
 }
 
+/// What is logged, of its word; nothing where there is none.
+fn log_named(word: Option<&str>) -> Option<Logged> {
+    match word {
+        Some("all") => Some(Logged::All),
+        Some(_) => Some(Logged::Refusals),
+        None => None,
+    }
+}
+
 /// The most open sessions; nothing where it is no number.
 fn max_open(word: Option<&str>) -> Option<usize> {
     match word {
@@ -154,16 +190,28 @@ fn max_open(word: Option<&str>) -> Option<usize> {
     }
 }
 
+/// The seconds of their word, where there is one; nothing where it is no number.
+fn seconds(word: Option<&str>) -> Option<Option<u64>> {
+    match word {
+        Some(word) => match word.parse::<u64>() {
+            Ok(seconds) => Some(Some(seconds)),
+            Err(_) => None,
+        },
+        None => Some(None),
+    }
+}
+
 /// The options that were read; nothing where a value is missing or no number.
 pub(crate) fn options_of<'a>(
     alloc: Global,
     matches: &ArgMatches<'a>,
 ) -> Result<Option<Options<'a>>, AllocError> {
-    let (Some(file), Some(rp_id), Some(origins), Some(max_open)) = (
+    let (Some(file), Some(rp_id), Some(origins), Some(max_open), Some(expire)) = (
         matches.get_str("FILE"),
         matches.get_str("rp-id"),
         matches.get_strs("origin"),
         max_open(matches.get_str("max-open")),
+        seconds(matches.get_str("expire")),
     ) else {
         return Ok(None);
     };
@@ -177,6 +225,7 @@ pub(crate) fn options_of<'a>(
         max_open,
         is_new: matches.get_flag("new"),
         is_existing: matches.get_flag("existing"),
-        logs: matches.get_flag("log"),
+        log: log_named(matches.get_str("log")),
+        expire,
     }))
 }

@@ -1,8 +1,8 @@
 //! The lines that are read.
 
 use authenticator::{Consent, HandedKeys, Words};
-use ceremony::Act;
 use hidframe::Packet;
+use security_key::Act;
 use std::alloc::{AllocError, Global};
 
 /// The keys that come with an act by which no credential is made.

@@ -1,17 +1,20 @@
 //! The security key: a device, its authenticator, and at most one request that waits for its signature.
 
 ghost use Rattle.std.specs.Prelude.{◌≡◌, ◌≢◌, IfErr, IfOk, OnOk};
-ghost use Rattle.authenticator.specs.Handed.{handed_key};
-ghost use Rattle.softkey.specs.Key.{ActsOn, IsLoaded, IsSaved, IsSigned, still_waiting};
+ghost use Rattle.authenticator.specs.Steps.{Keys};
+ghost use Rattle.security_key.specs.Serving.{AgreesFor};
+ghost use Rattle.softkey.specs.Key.{ActsOn, HasSize, IsCarriedOut, IsLoaded, IsNew, IsRefusedLoad, IsRefusedSignature, IsSaved, IsSigned};
+ghost use Rattle.softkey.specs.Key.{keys_of, still_waiting};
 ghost use Rattle.softkey.specs.declared.key.Fault.TheVariants as faults;
+ghost use Rattle.softkey.specs.declared.key.Given.TheVariants as given;
 
 use crate::command::{LineCommand, line_command};
 use authdata::AttestationType;
 use authenticator::{Authenticator, HandedKeys, LoadError, MAX_SIGNATURE, Pending};
-use ceremony::{Act, ServeError, Served, begin_serving, finish_serving};
 use cose::SigningAlg;
 use hidframe::Packet;
 use hidlink::{Device, DeviceEvent};
+use security_key::{Act, ServeError, Served, begin_serving, finish_serving};
 use std::alloc::{AllocError, Global};
 use std::marker::Model;
 
@@ -58,6 +61,10 @@ impl From<ServeError> for Fault {
 }
 
 impl From<LoadError> for Fault {
+    ghost use Rattle.softkey.specs.Key.{told_of_load};
+
+    ghost from_gives = { λ e f. f ≡ told_of_load e };
+
     fn from(error: LoadError) -> Fault {
         match error {
             LoadError::BadAuthenticator => Fault::BadAuthenticator,
@@ -184,7 +191,9 @@ impl SoftKey {
         aaguid: [u8; 16],
         uv: bool,
         attest: AttestationType,
-    ) -> Result<SoftKey, AllocError> {
+    ) -> Result<SoftKey, AllocError>
+        ensures created { IfOk result (IsNew aaguid uv attest) }
+    {
         let device = Device::new(alloc)?;
         Ok(SoftKey {
             device,
@@ -196,7 +205,8 @@ impl SoftKey {
 
     /// Does an act, or asks for the signature of its request. What waits for one goes with its request.
     fn act(&mut self, keys: &HandedKeys, act: Act) -> Result<Given, Fault>
-        ensures acted { IfOk result (λ given. ActsOn (λ alg secret. handed_key keys.now alg) self.old act given self.new) }
+        // by each function from secrets to keys that has these for the secret that is handed in
+        ensures acted { (public : Keys) → AgreesFor act public (keys_of keys.now) → IfOk result (λ given. ActsOn public self.old act given self.new) }
         ensures unchanged { IfErr result (λ fault. self.new ≡ self.old) }
     {
         let served = begin_serving(
@@ -221,6 +231,9 @@ impl SoftKey {
     /// Takes the signature that is waited for, and answers the request.
     fn sign(&mut self, signature: &[u8]) -> Result<Given, Fault>
         ensures signed { OnOk result (IsSigned self.old signature.now self.new) }
+        ensures given { IfOk result (λ g. g ≡ given.Nothing) }
+        ensures size { OnOk result (HasSize signature.now) }
+        ensures refused { IfErr result (IsRefusedSignature self.old signature.now) }
         // Only want of memory changes something, and then what waited alone: it is gone.
         ensures unchanged { IfErr result (λ fault. fault ≢ faults.Memory → self.new ≡ self.old) }
         ensures device { IfErr result (λ fault. self.new.device ≡ self.old.device) }
@@ -254,6 +267,8 @@ impl SoftKey {
     /// Takes the authenticator that was saved in place of its own. A request that waits for its signature is to be decided anew.
     fn load(&mut self, alloc: Global, bytes: &[u8]) -> Result<Given, Fault>
         ensures loaded { OnOk result (IsLoaded self.old bytes.now self.new) }
+        ensures given { IfOk result (λ g. g ≡ given.Nothing) }
+        ensures refused { IfErr result (IsRefusedLoad bytes.now) }
         ensures unchanged { IfErr result (λ fault. self.new ≡ self.old) }
     {
         self.authenticator = Authenticator::load(alloc, bytes)?;
@@ -263,6 +278,7 @@ impl SoftKey {
 
     /// Does what a line asks for, but for telling it.
     fn carry_out(&mut self, alloc: Global, line: &str) -> Result<Given, Fault>
+        ensures done { IfOk result (λ g. IsCarriedOut self.old g self.new) }
         ensures unchanged { IfErr result (λ fault. fault ≢ faults.Memory → self.new ≡ self.old) }
         ensures device { IfErr result (λ fault. self.new.device ≡ self.old.device) }
         ensures authenticator { IfErr result (λ fault. self.new.authenticator ≡ self.old.authenticator) }
@@ -291,7 +307,8 @@ impl SoftKey {
         }
     }
 
-    /// Answers a line: what it gives, or an error and then nothing has changed; and behind that a line of a dot.
+    /// Answers a line: what it gives, or an error; and after that a line of a dot. After an error device and authenticator are as
+    /// they were, and want of memory alone may drop what waited for its signature.
     pub(crate) fn answer(
         &mut self,
         alloc: Global,

@@ -12,9 +12,7 @@ use Rattle.std.specs.Int.{w64, to_be_bytes}
 use Rattle.std.specs.List.{AllByRecursion}
 use Rattle.std.specs.Ordering.{nat_cmp, eq_by_cmp}
 use Rattle.std.specs.Str.{bytes_eq}
-use Rattle.hidframe.specs.declared.Packet.{Packet}
 use Rattle.sqlite_trees.specs.Tree.{Trees}
-use Rattle.client.specs.Responses.{response_of}
 use Rattle.authdata.specs.declared.profile.Profile.{Profile}
 use Rattle.authdata.specs.Layout.{IsAttestedCredential}
 use Rattle.authdata.specs.Responses as responses
@@ -23,14 +21,12 @@ use Rattle.authdata.specs.Flags.{is_set, BE}
 use Rattle.cose.specs.Schemes.{Validity}
 use Rattle.verification.specs.Records.{Credential, ExpectedRegistration}
 use Rattle.credential_table.specs.Table.{IsTable, retired, row_of, signed_in, with_row}
+use Rattle.ceremony_sessions.proofs.Numbered.{one_entry, one_left}
 use Rattle.credential_table.proofs.RowLemmas.{Keeps, length-changed, one_more, rows_changed}
-use Rattle.ceremony_sessions.specs.Sessions.{AreLimits, Expected, ForRegistration, ForSignIn, IsInput, OpenSessions, Opening, OpensRegistration, OpensSignIn}
+use Rattle.ceremony_sessions.specs.Sessions.{AreLimits, Expected, ForRegistration, ForSignIn, HasNumber, IsInput, OpenSessions, Opening, OpensRegistration, OpensSignIn}
 use Rattle.ceremony_sessions.specs.Sessions.{begun, challenge_of, closed, expected_of, for_registration}
-use Rattle.site.specs.State.{IsAfterRegistration, IsAfterSignIn, SiteState, registered}
-use Rattle.ceremony.specs.SignIn as signing_in
-use Rattle.ceremony.specs.Registration as registering
-use Rattle.ceremony.proofs.OneVerdict.{registration_one}
-use Rattle.stored_site.specs.Calls.{ArePassing, IsBegun, Registers}
+use Rattle.site.specs.State.{IsAfterSignIn, SiteState, registered}
+use Rattle.stored_site.specs.Calls.{IsBegun, Registers}
 use Rattle.stored_site.specs.Expiry.{moments_since, since}
 use Rattle.stored_site.specs.Opened.{AreKept, IsKept}
 use Rattle.stored_site.specs.KeptLaws.{words_of}
@@ -42,15 +38,9 @@ use Rattle.stored_site.proofs.Ages.{have_inserted, have_removed}
 use Rattle.stored_site.proofs.Kept.{in_walk, older_there}
 use Rattle.stored_site.proofs.New.{moments_none}
 use Rattle.stored_site.proofs.OneSite.{one_site}
-use Rattle.stored_site.proofs.Opening.{one_entry}
-use Rattle.stored_site.proofs.Replies.{of_reply}
 use Rattle.stored_site.proofs.Transactions.{moments_older, without, without_older}
 
 -- ---- maps of which some entries are taken out
-
-some_kept : {X : Type 0} (b : Bool) (o : Option X) (x : X) → cond b None o ≡ Some x → o ≡ Some x
-some_kept true o x is = absurd cc
-some_kept false o x is = is
 
 small_kept : (b : Bool) (o : Option ℕ) → or_0 o < 2 ^ 63 → or_0 (cond b None o) < 2 ^ 63
 small_kept true o lt = omega arith
@@ -72,7 +62,7 @@ one_added false l k e = omega (arith, e)
 
 kept_closed : (s : OpenSessions) (n : ℕ) → AreKept s → AreKept (closed n s)
 kept_closed s n kept k e found =
-    kept k e (some_kept (eq_by_cmp nat_cmp k n) (finite.get s.expected k) e (sym (get-remove nat_cmp_total s.expected n k) ∙ found))
+    kept k e (one_left s.expected n k e found)
 
 moments_closed : (began : Moments) (n : ℕ) → AreMoments began → AreMoments (finite.remove began n)
 moments_closed began n are k =
@@ -90,15 +80,21 @@ opening_fits : (p : Profile) (n : ℕ) (o : Opening) → IsInput p o → length 
 opening_fits p n (OpensSignIn user allow uv words) (named, few, within) long = ((challenge_long n words long, few), tt)
 opening_fits p n (OpensRegistration user algorithms uv words) (within, some) long = (challenge_long n words long, within)
 
+-- and it has the number that was the next
+opening_number : (n : ℕ) (o : Opening) → HasNumber (n + 1) n (expected_of n o)
+opening_number n (OpensSignIn user allow uv words) = (omega arith, (words, refl))
+opening_number n (OpensRegistration user algorithms uv words) = (omega arith, (words, refl))
+
 kept_begun : (p : Profile) (s : OpenSessions) (o : Opening) → IsInput p o → length (words_of o) ≡ 24 → AreKept s → AreKept (begun s o)
 kept_begun p s o input long kept k e found = elim (one_entry s.expected s.next k (expected_of s.next o) e found) [
   | inl here ↦
       let fits = opening_fits p s.next o input long in
-      subst (λ (x : Expected). (k < s.next + 1) × IsStoredSession x × AreLimits (Some x)) here.1 (let at = here.0 in omega (arith, at), fits.0, fits.1)
+      let number = subst (λ q. HasNumber (s.next + 1) q (expected_of s.next o)) (sym here.0) (opening_number s.next o) in
+      subst (λ (x : Expected). HasNumber (s.next + 1) k x × IsStoredSession x × AreLimits (Some x)) here.1 (number, fits.0, fits.1)
   | inr there ↦
       let was = kept k e there in
-      let lt = was.0 in
-      (omega (arith, lt), was.1, was.2)
+      let lt = was.0.0 in
+      ((omega (arith, lt), was.0.1), was.1, was.2)
 ]
 
 moments_begun : (began : Moments) (n moment : ℕ) → moment < 2 ^ 63 → AreMoments began → AreMoments (finite.insert began n moment)
@@ -223,20 +219,6 @@ kept_retired s began id kept = record {
   count = kept.count;
   next = kept.next;
 }
-
--- ---- the calls by packets
-
-pub kept_signed_in_by : (s t : SiteState) (began : Moments) (n : ℕ) (client_data : List ℕ) (cid : ℕ) (packets : List Packet) → IsKept s began
-    → signing_in.IsAfter s n client_data cid packets t → IsKept t (finite.remove began n)
-kept_signed_in_by s t began n d c ps kept (m, l, r, delivers, spelled, after) = kept_signed_in s t began n (response_of r d) kept after
-
-pub kept_registered_by : (valid : Validity) (s t : SiteState) (began : Moments) (n : ℕ) (client_data : List ℕ) (cid : ℕ) (packets : List Packet)
-    → IsKept s began → ArePassing (registering.registration valid s n client_data) cid packets → registering.IsAfter s n client_data cid packets t
-    → IsKept t (finite.remove began n)
-kept_registered_by valid s t began n d c ps kept (m, r, succeeds) after =
-    let is = of_reply (registering.registration valid s n d) (registration_one valid s n d) (λ q. IsAfterRegistration s n (registering.response q d) t)
-    c m ps r succeeds after in
-    kept_registered valid s t began n (registering.response r d) kept (succeeds.3, is)
 
 -- ---- sessions that end by their age
 

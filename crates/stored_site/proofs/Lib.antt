@@ -14,7 +14,6 @@ pub mod OneSite
 pub mod ReadRows
 pub mod Opening
 pub mod Steps
-pub mod Replies
 pub mod Joined
 pub mod Ages
 pub mod Kept

@@ -1,22 +1,24 @@
 -- What an open reads of a store, and what it refuses.
-use Rattle.std.proofs.Common.{◌≡◌, ◌≤◌, ◌⊎◌, ℕ, length, inl, inr, refl, sym, ap, subst, ◌∙◌, arith, Less, Equal, Greater, Ordering}
+use Rattle.std.proofs.Common.{◌≡◌, ◌≤◌, ◌<◌, ◌⊎◌, ℕ, length, inl, inr, refl, sym, ap, subst, ◌∙◌, arith, Less, Equal, Greater, Ordering}
 use Rattle.std.specs.Prelude.{Result, Err, IfErr, Bool, true, false, cond, Some, IsSome, IsTrue}
 use Rattle.std.specs.FinMap as finite
 use Rattle.std.specs.FinMap.{get-insert, nat_cmp-IsAntisymmetric}
 use Rattle.std.specs.Cmp.{nat_cmp_total}
-use Rattle.std.proofs.lemmas.Option.{same_Some}
 use Rattle.std.specs.Ordering.{nat_cmp, is_eq}
 use Rattle.sqlite_value.specs.Order.{column, bytes}
 use Rattle.sqlite_trees.specs.Tree.{Trees}
 use Rattle.sqlite_trees.specs.View.{View, IsClean}
 use Rattle.verification.specs.Records.{RelyingParty}
-use Rattle.ceremony_sessions.specs.Sessions.{Expected, ForSignIn, ForRegistration, AreLimits, OpenSessions}
+use Rattle.ceremony_sessions.specs.Sessions.{Expected, ForSignIn, ForRegistration, AreLimits, HasNumber, OpenSessions, challenge_in, challenge_of}
+use Rattle.ceremony_sessions.proofs.Numbered.{one_entry}
+use Rattle.ceremony_sessions.specs.declared.error.Error.{Error as BeginError}
+use Rattle.ceremony_sessions.specs.declared.error.Error.TheVariants as begins
 use Rattle.credential_table.specs.Table.{IsWithin}
 use Rattle.site.specs.State.{SiteState}
 use Rattle.stored_site.specs.SessionRows.{ListFew, ListsFew, Moments, session_row}
 use Rattle.stored_site.specs.Holds.{Holds, HasTables, IsCommitted}
 use Rattle.stored_site.specs.Opened.{HoldsNone, IsKept, IsLeft, IsNamed, NoSiteIn}
-use Rattle.stored_site.specs.Opening.{of_row, of_table}
+use Rattle.stored_site.specs.Opening.{of_begin, of_row, of_table}
 use Rattle.stored_site.specs.Private.{IsSameView}
 use Rattle.stored_site.specs.declared.failure.OpenFailure.{OpenFailure}
 use Rattle.stored_site.specs.declared.error.RowError.{RowError}
@@ -24,6 +26,7 @@ use Rattle.stored_site.specs.declared.error.RowError.TheVariants as rows
 use Rattle.credential_table.specs.declared.table.Error.{Error as TableError}
 use Rattle.credential_table.specs.declared.table.Error.TheVariants as tables
 use Rattle.stored_site.proofs.One.{blob_once}
+use Rattle.stored_site.proofs.OneSession.{same_number}
 use Rattle.stored_site.proofs.ReadRows.{length_rows, length_sessions}
 
 -- what a `?` hands on
@@ -40,6 +43,10 @@ pub bad_table : (e : TableError) → IsNamed (of_table e) → e ≡ tables.BadTa
 bad_table tables.BadTable named = refl
 bad_table tables.Memory named = absurd named
 
+pub bad_session : (e : BeginError) → (e ≡ begins.BadInput) ⊎ (e ≡ begins.Memory) → IsNamed (of_begin e) → e ≡ begins.BadInput
+bad_session e (inl is) named = is
+bad_session e (inr is) named = absurd (subst (λ x. IsNamed (of_begin x)) is named)
+
 -- ---- sessions
 
 -- a row is of a session that is within its limits, or of one that is not
@@ -49,15 +56,17 @@ limits_alike m n a b (ForSignIn d) (ForRegistration e) is limits =
     let lengths : 7 ≡ 12 = ap (λ r. length (bytes (column r 2))) is in absurd (omega (arith, lengths))
 limits_alike m n a b (ForRegistration d) (ForRegistration e) is limits = subst (IsWithin 64) (blob_once d.user e.user (ap (λ r. column r 4) is)) limits
 
--- of a map with one more entry each is that one, or was there
-pub one_entry : {X : Type 0} (m : finite.FinMap nat_cmp X) (n k : ℕ) (v x : X) → finite.get (finite.insert m n v) k ≡ Some x
-    → ((k ≡ n) × (v ≡ x)) ⊎ (finite.get m k ≡ Some x)
-one_entry m n k v x found = go (nat_cmp k n) refl (sym (get-insert nat_cmp_total m n v k) ∙ found)
-  where
-    go : (o : Ordering) → nat_cmp k n ≡ o → cond (is_eq (nat_cmp k n)) (Some v) (finite.get m k) ≡ Some x → ((k ≡ n) × (v ≡ x)) ⊎ (finite.get m k ≡ Some x)
-    go Less t is = inr (subst (λ o. cond (is_eq o) (Some v) (finite.get m k) ≡ Some x) t is)
-    go Equal t is = inl (nat_cmp-IsAntisymmetric k n t, same_Some v x (subst (λ o. cond (is_eq o) (Some v) (finite.get m k) ≡ Some x) t is))
-    go Greater t is = inr (subst (λ o. cond (is_eq o) (Some v) (finite.get m k) ≡ Some x) t is)
+-- and it has the number that it was given, or has not
+challenge_alike : (m n a b : ℕ) (d e : Expected) → session_row m a d ≡ session_row n b e → challenge_in d ≡ challenge_in e
+challenge_alike m n a b (ForSignIn d) (ForSignIn e) is = blob_once d.challenge e.challenge (ap (λ r. column r 3) is)
+challenge_alike m n a b (ForSignIn d) (ForRegistration e) is = blob_once d.challenge e.challenge (ap (λ r. column r 3) is)
+challenge_alike m n a b (ForRegistration d) (ForSignIn e) is = blob_once d.challenge e.challenge (ap (λ r. column r 3) is)
+challenge_alike m n a b (ForRegistration d) (ForRegistration e) is = blob_once d.challenge e.challenge (ap (λ r. column r 3) is)
+
+pub number_alike : (next m n a b : ℕ) (d e : Expected) → session_row m a d ≡ session_row n b e → HasNumber next n e → HasNumber next m d
+number_alike next m n a b d e is (lt, (words, challenge)) =
+    let same = same_number m n a b d e is in
+    (subst (λ k. k < next) (sym same) lt, (words, challenge_alike m n a b d e is ∙ challenge ∙ ap (λ k. challenge_of k words) (sym same)))
 
 -- what holds of each open number holds with one that is opened
 pub inserted : (P : ℕ → Type 0) (m : finite.FinMap nat_cmp Expected) (n : ℕ) (e : Expected) → ((k : ℕ) → IsSome (finite.get m k) → P k) → P n

@@ -11,11 +11,11 @@ use Rattle.sqlite_value.specs.Order.{Row}
 use Rattle.verification.specs.Records.{Credential}
 use Rattle.credential_table.specs.Views.{rows_view}
 use Rattle.credential_table.specs.declared.row.Row.{Row as StoredRow}
-use Rattle.ceremony_sessions.specs.Sessions.{AreLimits, Expected, OpenSessions}
+use Rattle.ceremony_sessions.specs.Sessions.{AreLimits, Expected, HasNumber, OpenSessions}
 use Rattle.stored_site.specs.Rows.{IsStored, credential_row, credential_rows}
 use Rattle.stored_site.specs.SessionRows.{HaveMoments, IsStoredSession, ListFew, Moments, moment_of, session_row, session_rows}
 use Rattle.stored_site.specs.Holds.{AreRowids}
-use Rattle.stored_site.specs.Opened.{AreGiven, AreKept}
+use Rattle.stored_site.specs.Opened.{AreKept}
 use Rattle.stored_site.specs.Private.{AreBelow}
 use Rattle.stored_site.proofs.Joined.{Timed, joined, rows_joined, timed_row}
 use Rattle.stored_site.proofs.Ages.{have_inserted}
@@ -41,12 +41,12 @@ SessionsRead rows i next least s began =
     (take i rows ≡ session_rows s.expected began)
     × (s.next ≡ next)
     × AreBelow least (take i rows)
-    × (AreRowids s × AreGiven s × HaveMoments s began × ListFew s)
+    × (AreRowids s × HaveMoments s began × ListFew s)
     × ((m : OpenSessions) (moments : Moments) → rows ≡ session_rows m.expected moments → Left (joined m.expected moments) least (drop i rows))
 
 abbrev pub Restored : Row → ℕ → OpenSessions → OpenSessions → Moments → Moments → ℕ → Type 0
 Restored row least old new was now behind =
-    (n : ℕ) × (m : ℕ) × (e : Expected) × (row ≡ session_row n m e) × (least ≤ n) × (n < old.next)
+    (n : ℕ) × (m : ℕ) × (e : Expected) × (row ≡ session_row n m e) × (least ≤ n)
     × (behind ≡ n + 1) × (n < 2 ^ 63) × (new ≡ record old { expected = finite.insert old.expected n e })
     × (now ≡ finite.insert was n m)
 
@@ -54,8 +54,8 @@ pub one_more_read : (rows : List Row) (i : ℕ) (row : Row) (next least behind :
     → row ≡ get_or rows i row
     → SessionsRead rows i next least old began → Restored row least old new began now behind → (ListFew old → ListFew new)
     → SessionsRead rows (i + 1) next behind new now
-one_more_read rows i row next least behind old new began now lt here (are, nexts, below, (rowids, given, have, few), left)
-    (n, moment, e, is, le, within, after, fits, opened, begins) one_more =
+one_more_read rows i row next least behind old new began now lt here (are, nexts, below, (rowids, have, few), left)
+    (n, moment, e, is, le, after, fits, opened, begins) one_more =
     let more : take (i + 1) rows ≡ take i rows ++ session_row n moment e ∷ [] = taken rows i row lt here ∙ ap (λ r. take i rows ++ r ∷ []) is in
     let was : (k : ℕ) → IsSome (finite.get new.expected k) → IsSome (finite.get (finite.insert old.expected n e) k) =
     λ k some. subst (λ (s : OpenSessions). IsSome (finite.get s.expected k)) opened some in (
@@ -66,8 +66,6 @@ one_more_read rows i row next least behind old new began now lt here (are, nexts
       subst (λ k. AreBelow k (take (i + 1) rows)) (sym after) (subst (AreBelow (n + 1)) (sym more) (below_more (take i rows) least n moment e below le)),
       (
         λ k some. inserted (λ q. q < 2 ^ 63) old.expected n e rowids fits k (was k some),
-        λ k some. subst (λ x. k < x) (sym (ap (λ (s : OpenSessions). s.next) opened))
-            (inserted (λ q. q < old.next) old.expected n e given within k (was k some)),
         subst (HaveMoments new) (sym begins) (subst (λ (s : OpenSessions). HaveMoments s (finite.insert began n moment)) (sym opened)
             (have_inserted old began n moment e have)),
         one_more few,
@@ -80,7 +78,7 @@ one_more_read rows i row next least behind old new began now lt here (are, nexts
 -- a row that is refused is not the next of a site's
 pub none_refused : (rows : List Row) (i : ℕ) (row : Row) (least : ℕ) (m : OpenSessions) (moments : Moments) → i < length rows → row ≡ get_or rows i row
     → Left (joined m.expected moments) least (drop i rows) → AreKept m
-    → ((n a : ℕ) (e : Expected) → row ≡ session_row n a e → IsStoredSession e → AreLimits (Some e) → least ≤ n → n < m.next → ⊥) → ⊥
+    → ((n a : ℕ) (e : Expected) → row ≡ session_row n a e → IsStoredSession e → AreLimits (Some e) → least ≤ n → HasNumber m.next n e → ⊥) → ⊥
 none_refused rows i row least m moments lt here left kept refused =
     go (first_left (joined m.expected moments) least row (drop (i + 1) rows) (subst (Left (joined m.expected moments) least) (split rows i row lt here) left))
   where
@@ -140,7 +138,6 @@ sessions_begun rows next max_open = (
   tt,
   (
     none_at (λ k. k < 2 ^ 63),
-    none_at (λ k. k < next),
     moments_none (record { expected = finite.empty; next = next; max_open = max_open }) refl,
     λ k e found. let none = get-empty {X = Expected} nat_cmp k in absurd cc,
   ),

@@ -1,6 +1,5 @@
 -- What the calls of a site over a store make of it, and why they make nothing of it.
-use Rattle.std.specs.Prelude.{◌≡◌, ◌+◌, ◌<◌, ◌≤◌, ◌^◌, ℕ, List}
-use Rattle.hidframe.specs.declared.Packet.{Packet}
+use Rattle.std.specs.Prelude.{◌≡◌, ◌+◌, ◌<◌, ◌≤◌, ◌^◌, ℕ}
 use Rattle.cose.specs.Schemes.{Validity}
 use Rattle.authdata.specs.Responses.{AuthenticatorAssertionResponse}
 use Rattle.authdata.specs.Responses as responses
@@ -9,15 +8,11 @@ use Rattle.verification.specs.Registration.{PassesRegistration}
 use Rattle.verification.specs.declared.refusal.VerificationError.{VerificationError as Refusal}
 use Rattle.ceremony_sessions.specs.Sessions.{IsRefused, Opening, PassesOpening, begun}
 use Rattle.site.specs.State.{IsAfterRegistration, IsAfterSignIn, SiteState, judged_registration, judged_sign_in}
-use Rattle.ceremony.specs.Verdict.{Ceremony, Succeeds}
-use Rattle.ceremony.specs.declared.error.Error.{Error as PacketRefusal}
 use Rattle.stored_site.specs.Holds.{IsFailure, StoredState}
 use Rattle.stored_site.specs.declared.failure.BeginFailure.{BeginFailure}
 use Rattle.stored_site.specs.declared.failure.BeginFailure.TheVariants as begins
 use Rattle.stored_site.specs.declared.failure.FinishFailure.{FinishFailure}
 use Rattle.stored_site.specs.declared.failure.FinishFailure.TheVariants as finishes
-use Rattle.stored_site.specs.declared.failure.PacketFailure.{PacketFailure}
-use Rattle.stored_site.specs.declared.failure.PacketFailure.TheVariants as packets
 
 -- ---- a session begins
 
@@ -44,16 +39,7 @@ SignsIn valid s n r t = PassesSignIn valid (judged_sign_in s n r) × IsAfterSign
 abbrev pub Registers : Validity → SiteState → ℕ → responses.AuthenticatorAttestationResponse → SiteState → Type 0
 Registers valid s n r t = PassesRegistration valid (judged_registration s n r) × IsAfterRegistration s n r t
 
--- packets carry a reply that passes each step
-abbrev pub ArePassing : {R W : Type 0} → Ceremony R W → ℕ → List Packet → Type 0
-ArePassing {R} k c ps = (n : ℕ) × (r : R) × Succeeds k c ps n r
-
 -- why it is not finished: the site's own refusal, and nothing has changed; or a failure
 abbrev pub IsNotFinished : {S W : Type 0} → StoredState S → StoredState S → (Refusal W → Type 0) → FinishFailure W → Type 0
 IsNotFinished old new IsRefusal (finishes.Site why) = (new ≡ old) × IsRefusal why
 IsNotFinished old new IsRefusal (finishes.Store why) = IsFailure old new why
-
--- the same by packets
-abbrev pub IsNotFinishedBy : {S W : Type 0} → StoredState S → StoredState S → (PacketRefusal W → Type 0) → PacketFailure W → Type 0
-IsNotFinishedBy old new IsRefusal (packets.Site why) = (new ≡ old) × IsRefusal why
-IsNotFinishedBy old new IsRefusal (packets.Store why) = IsFailure old new why

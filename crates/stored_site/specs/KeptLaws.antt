@@ -1,7 +1,6 @@
 -- What each call keeps of a site that a store holds, so that no open refuses a store that the calls wrote.
 use Rattle.std.specs.Prelude.{◌≡◌, ◌≤◌, ◌<◌, ◌^◌, ℕ, List, [], length}
 use Rattle.std.specs.FinMap as finite
-use Rattle.hidframe.specs.declared.Packet.{Packet}
 use Rattle.sqlite_trees.specs.Tree.{Trees}
 use Rattle.sqlite_trees.specs.View.{View}
 use Rattle.cose.specs.Schemes.{Validity}
@@ -11,9 +10,7 @@ use Rattle.verification.specs.Records.{RelyingParty}
 use Rattle.credential_table.specs.Table.{retired, with_row}
 use Rattle.ceremony_sessions.specs.Sessions.{Opening, OpensRegistration, OpensSignIn, closed}
 use Rattle.site.specs.State.{IsAfterSignIn, SiteState}
-use Rattle.ceremony.specs.SignIn as signing_in
-use Rattle.ceremony.specs.Registration as registering
-use Rattle.stored_site.specs.Calls.{ArePassing, IsBegun, Registers}
+use Rattle.stored_site.specs.Calls.{IsBegun, Registers}
 use Rattle.stored_site.specs.Expiry.{moments_since, since}
 use Rattle.stored_site.specs.Holds.{HasTables, Holds}
 use Rattle.stored_site.specs.Opened.{HoldsNone, IsKept}
@@ -30,16 +27,11 @@ pub record KeptLaws (valid : Validity) : Type 0 where
   -- so is one whose session has begun, of a bound that a site over a store may have, and with 24 random words
   pub begun : (s t : SiteState) (began : Moments) (o : Opening) (began_at : ℕ) → IsKept s began → s.sessions.max_open ≤ 1000000 → length (words_of o) ≡ 24
       → IsBegun s o began_at t → IsKept t (finite.insert began s.sessions.next began_at)
-  -- and one after an acceptance, of a response or by packets
+  -- and one after an acceptance
   pub signed_in : (s t : SiteState) (began : Moments) (n : ℕ) (r : AuthenticatorAssertionResponse) → IsKept s began → IsAfterSignIn s n r t
       → IsKept t (finite.remove began n)
   pub registered : (s t : SiteState) (began : Moments) (n : ℕ) (r : responses.AuthenticatorAttestationResponse) → IsKept s began
       → Registers valid s n r t → IsKept t (finite.remove began n)
-  pub signed_in_by : (s t : SiteState) (began : Moments) (n : ℕ) (client_data : List ℕ) (cid : ℕ) (packets : List Packet) → IsKept s began
-      → signing_in.IsAfter s n client_data cid packets t → IsKept t (finite.remove began n)
-  pub registered_by : (s t : SiteState) (began : Moments) (n : ℕ) (client_data : List ℕ) (cid : ℕ) (packets : List Packet) → IsKept s began
-      → ArePassing (registering.registration valid s n client_data) cid packets → registering.IsAfter s n client_data cid packets t
-      → IsKept t (finite.remove began n)
   -- and one whose session is closed, one whose sessions have ended by their age, and one whose credential is retired
   pub abandoned : (s : SiteState) (began : Moments) (n : ℕ) → IsKept s began → IsKept (record s { sessions = closed n s.sessions }) (finite.remove began n)
   pub expired : (s : SiteState) (began : Moments) (before : ℕ) → IsKept s began

@@ -1,12 +1,12 @@
 -- What an open finds in a store, and what it refuses.
-use Rattle.std.specs.Prelude.{◌≡◌, ◌<◌, ◌≤◌, ◌^◌, ℕ, Some, IsSome, IsTrue, false}
+use Rattle.std.specs.Prelude.{◌≡◌, ◌<◌, ◌≤◌, ◌^◌, ℕ, Some, IsTrue, false}
 use Rattle.std.specs.FinMap as finite
 use Rattle.std.specs.List.{AllByRecursion}
 use Rattle.sqlite_trees.specs.Tree.{Trees}
 use Rattle.sqlite_trees.specs.View.{View, IsClean}
 use Rattle.verification.specs.Records.{RelyingParty}
 use Rattle.credential_table.specs.Table.{IsTable}
-use Rattle.ceremony_sessions.specs.Sessions.{Expected, OpenSessions, AreLimits}
+use Rattle.ceremony_sessions.specs.Sessions.{Expected, HasNumber, OpenSessions, AreLimits}
 use Rattle.site.specs.State.{SiteState}
 use Rattle.stored_site.specs.Rows.{IsStored}
 use Rattle.stored_site.specs.SessionRows.{AreMoments, HaveMoments, IsStoredSession, Moments}
@@ -14,13 +14,9 @@ use Rattle.stored_site.specs.Holds.{Holds, HasTables}
 use Rattle.stored_site.specs.declared.failure.OpenFailure.{OpenFailure}
 use Rattle.stored_site.specs.declared.failure.OpenFailure.TheVariants as opens
 
--- each open session has a number that was given
-abbrev pub AreGiven : OpenSessions → Type 0
-AreGiven s = (n : ℕ) → IsSome (finite.get s.expected n) → n < s.next
-
--- each open session has a number that was given, fits a row, and is within its limits
+-- each open session has the number that it was given, fits a row, and is within its limits
 abbrev pub AreKept : OpenSessions → Type 0
-AreKept s = (n : ℕ) (e : Expected) → finite.get s.expected n ≡ Some e → (n < s.next) × IsStoredSession e × AreLimits (Some e)
+AreKept s = (n : ℕ) (e : Expected) → finite.get s.expected n ≡ Some e → HasNumber s.next n e × IsStoredSession e × AreLimits (Some e)
 
 -- a site as the calls of `Site` leave one, which rows can hold: its credentials are a table of its profile, its sessions are kept
 -- as above, at most 1,000,000 of them, which began at these moments, and the number of the next is one that a rowid can be

@@ -8,7 +8,6 @@ ghost use Rattle.stored_site.specs.declared.failure.OpenFailure.TheVariants as o
 ghost use Rattle.stored_site.specs.Opening.{of_begin, of_row, of_table};
 ghost use Rattle.stored_site.specs.declared.failure.BeginFailure.TheVariants as begin_failures;
 ghost use Rattle.stored_site.specs.declared.failure.FinishFailure.TheVariants as finish_failures;
-ghost use Rattle.stored_site.specs.declared.failure.PacketFailure.TheVariants as packet_failures;
 
 use crate::error::RowError;
 use site::{BeginError, VerificationError};
@@ -24,7 +23,7 @@ pub enum Failure {
     Shut,
     /// The disk or memory failed. From now on the site is shut; what the file holds is the site from before this call
     /// or from after it.
-    #[error("the store failed, and the site is shut")]
+    #[error("the store failed, and the site is shut: {0}")]
     Failed(StoreError),
 }
 
@@ -223,33 +222,5 @@ impl<W> From<Failure> for FinishFailure<W> {
 
     fn from(e: Failure) -> FinishFailure<W> {
         FinishFailure::Store(e)
-    }
-}
-
-/// Why a ceremony by packets is not finished, whose steps have refusals `W`.
-#[derive(Clone, Copy, Debug, PartialEq, Eq, Drop, thiserror::Error)]
-#[error_bound(W: Display)]
-pub enum PacketFailure<W> {
-    /// The packets, their message or the site refuse it, or there was no memory for it. Nothing has changed.
-    #[error("{0}")]
-    Site(ceremony::Error<W>),
-    /// It was not asked, or what it answered is not stored.
-    #[error("it is not stored")]
-    Store(Failure),
-}
-
-impl<W> From<ceremony::Error<W>> for PacketFailure<W> {
-    ghost from_gives = { λ e f. f ≡ packet_failures.Site e };
-
-    fn from(e: ceremony::Error<W>) -> PacketFailure<W> {
-        PacketFailure::Site(e)
-    }
-}
-
-impl<W> From<Failure> for PacketFailure<W> {
-    ghost from_gives = { λ e f. f ≡ packet_failures.Store e };
-
-    fn from(e: Failure) -> PacketFailure<W> {
-        PacketFailure::Store(e)
     }
 }

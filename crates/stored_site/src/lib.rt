@@ -12,7 +12,6 @@ mod finish;
 mod held;
 mod law;
 mod open;
-mod packets;
 mod reading;
 mod restoring;
 mod retire;
@@ -27,9 +26,7 @@ mod writes;
 pub use create::MAX_BOUND;
 pub use credentials::{credential_row, read_credential};
 pub use error::RowError;
-pub use failure::{
-    BeginFailure, CreateFailure, Failure, FinishFailure, OpenFailure, PacketFailure,
-};
+pub use failure::{BeginFailure, CreateFailure, Failure, FinishFailure, OpenFailure};
 pub use law::{kept_laws, row_laws};
 pub use session_reading::read_session;
 pub use sessions::session_row;

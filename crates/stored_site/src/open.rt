@@ -5,7 +5,8 @@ ghost use Rattle.sqlite_trees.specs.Tree.{Trees};
 ghost use Rattle.sqlite_trees.specs.View.{IsClean};
 ghost use Rattle.stored_site.specs.Holds.{AreRowids, IsCommitted, Stored};
 ghost use Rattle.stored_site.specs.SessionRows.{HaveMoments, ListFew};
-ghost use Rattle.stored_site.specs.Opened.{AreGiven, IsLeft, RefusesWhatIsNone};
+ghost use Rattle.site.specs.Laws.{IsFresh, IsNumbered};
+ghost use Rattle.stored_site.specs.Opened.{IsLeft, RefusesWhatIsNone};
 ghost use Rattle.stored_site.specs.declared.failure.OpenFailure.TheVariants as opens;
 
 use crate::began_at::BeganAt;
@@ -29,7 +30,7 @@ fn read_site<S: Store>(
     ensures left { OnOk result (IsClean (S.Store.view store.new) → IsLeft (S.Store.view store.old) (S.Store.view store.new)) }
     ensures party { OnOk result ((site.new.rp ≡ site.old.rp) × (site.new.policy ≡ site.old.policy)
         × (site.new.sessions.max_open ≡ site.old.sessions.max_open)) }
-    ensures numbers { OnOk result (AreRowids site.new.sessions × AreGiven site.new.sessions) }
+    ensures numbers { OnOk result (AreRowids site.new.sessions × IsFresh site.new × IsNumbered site.new) }
     ensures few { OnOk result (ListFew site.new.sessions) }
     ensures refused { IfErr result (RefusesWhatIsNone site.old.rp (S.Store.view store.old) (S.Store.view store.new)) }
     ensures bound { IfErr result (λ e. e ≡ opens.BadBound → ⊥) }
@@ -63,7 +64,8 @@ impl<S: Store> StoredSite<S> {
         // What it answers is what the last commit left.
         ensures stored { IfOk result (Stored S.Store.view) }
         ensures left { IfOk result (λ s. IsClean (S.Store.view s.store) → IsLeft (S.Store.view store) (S.Store.view s.store)) }
-        ensures numbers { IfOk result (λ s. AreGiven s.site.sessions) }
+        // The laws of a site rest on it.
+        ensures numbers { IfOk result (λ s. IsFresh s.site × IsNumbered s.site) }
         ensures moments { IfOk result (λ s. HaveMoments s.site.sessions s.began) }
         ensures few { IfOk result (λ s. ListFew s.site.sessions) }
         ensures refused { IfErr result (λ e. RefusesWhatIsNone site.rp (S.Store.view store) (S.Store.view e.1) e.0) }

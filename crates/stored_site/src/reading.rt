@@ -7,7 +7,8 @@ ghost use Rattle.sqlite_trees.specs.View.{IsClean};
 ghost use Rattle.sqlite_trees.specs.declared.store.Shape.TheVariants.{Table};
 ghost use Rattle.verification.specs.Records.{RelyingParty};
 ghost use Rattle.stored_site.specs.Holds.{AreRowids, HasTables, Holds};
-ghost use Rattle.stored_site.specs.Opened.{AreGiven, IsLeft, IsNamed, NoSiteIn};
+ghost use Rattle.site.specs.Laws.{IsFresh, IsNumbered};
+ghost use Rattle.stored_site.specs.Opened.{IsLeft, IsNamed, NoSiteIn};
 ghost use Rattle.stored_site.specs.SessionRows.{HaveMoments, ListFew};
 ghost use Rattle.stored_site.specs.Opening.{HasRows};
 ghost use Rattle.stored_site.specs.Private.{IsSameView};
@@ -97,7 +98,7 @@ pub fn restore_rows(
     ensures moments { IfOk result (λ began. HaveMoments site.new.sessions began) }
     ensures party { OnOk result ((site.new.rp ≡ site.old.rp) × (site.new.policy ≡ site.old.policy)
         × (site.new.sessions.max_open ≡ site.old.sessions.max_open)) }
-    ensures numbers { OnOk result (AreRowids site.new.sessions × AreGiven site.new.sessions) }
+    ensures numbers { OnOk result (AreRowids site.new.sessions × IsFresh site.new × IsNumbered site.new) }
     ensures none { IfErr result (λ e. IsNamed e → (db : Trees) → HasRows db rows.now.credentials.items rows.now.sessions.items rows.now.site.items
         → NoSiteIn site.old.rp db) }
     ensures few { OnOk result (ListFew site.new.sessions) }

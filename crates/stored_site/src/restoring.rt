@@ -8,11 +8,11 @@ ghost use Rattle.authdata.specs.declared.profile.Profile.{Profile as IdProfile};
 ghost use Rattle.verification.specs.Records.{Credential};
 ghost use Rattle.credential_table.specs.Table.{IsTable};
 ghost use Rattle.credential_table.specs.Views.{rows_view};
-ghost use Rattle.ceremony_sessions.specs.Sessions.{AreLimits, Expected, OpenSessions};
+ghost use Rattle.ceremony_sessions.specs.Sessions.{AreLimits, Expected, HasNumber, OpenSessions};
 ghost use Rattle.stored_site.specs.Holds.{AreRowids, site_row};
 ghost use Rattle.stored_site.specs.Rows.{IsStored, credential_rows};
 ghost use Rattle.stored_site.specs.SessionRows.{HaveMoments, IsStoredSession, ListFew, Moments, session_row, session_rows};
-ghost use Rattle.stored_site.specs.Opened.{AreGiven, AreKept, IsNamed};
+ghost use Rattle.stored_site.specs.Opened.{AreKept, IsNamed};
 ghost use Rattle.stored_site.specs.declared.failure.OpenFailure.TheVariants as opens;
 
 use crate::began_at::BeganAt;
@@ -101,19 +101,16 @@ fn restore_session(
     sessions: &mut Sessions,
     began: &mut BeganAt,
 ) -> Result<u64, OpenFailure>
-    ensures restored { IfOk result (λ behind. (n : ℕ) × (m : ℕ) × (e : Expected) × (row.now ≡ session_row n m e) × (least ≤ n) × (n < sessions.old.next)
+    ensures restored { IfOk result (λ behind. (n : ℕ) × (m : ℕ) × (e : Expected) × (row.now ≡ session_row n m e) × (least ≤ n)
         × (behind ≡ n + 1) × (n < 2 ^ 63) × (sessions.new ≡ record sessions.old { expected = finite.insert sessions.old.expected n e })
         × (began.new ≡ finite.insert began.old n m)) }
     ensures none { IfErr result (λ err. IsNamed err → (n m : ℕ) (e : Expected) → row.now ≡ session_row n m e → IsStoredSession e → AreLimits (Some e)
-        → least ≤ n → n < sessions.old.next → ⊥) }
+        → least ≤ n → HasNumber sessions.old.next n e → ⊥) }
     ensures few { OnOk result (ListFew sessions.old → ListFew sessions.new) }
     ensures bound { IfErr result (λ e. e ≡ opens.BadBound → ⊥) }
 {
     let (number, moment, session) = read_session(alloc, row)?;
     if number < least {
-        return Err(OpenFailure::BadRow);
-    }
-    if sessions.next() <= number {
         return Err(OpenFailure::BadRow);
     }
     sessions.restore(number, session)?;
@@ -130,7 +127,7 @@ pub fn sessions_of(
     requires { 1 ≤ next }
     ensures rows { IfOk result (λ x. rows.now ≡ session_rows x.0.expected x.1) }
     ensures next { IfOk result (λ x. x.0.next ≡ next) }
-    ensures numbers { IfOk result (λ x. AreRowids x.0 × AreGiven x.0) }
+    ensures numbers { IfOk result (λ x. AreRowids x.0) }
     ensures moments { IfOk result (λ x. HaveMoments x.0 x.1) }
     ensures none { IfErr result (λ err. IsNamed err → (sessions : OpenSessions) (began : Moments) → sessions.next ≡ next → AreKept sessions
         → rows.now ≡ session_rows sessions.expected began → ⊥) }

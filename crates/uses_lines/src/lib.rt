@@ -1,4 +1,5 @@
-//! What the three programs of `uses` speak with their hosts by: lines of a name, a space, and bytes in hexadecimal digits.
+//! What the programs `uses_site`, `uses_client` and `uses_key` speak with their hosts by: lines of a name, a space, and bytes
+//! in hexadecimal digits.
 #![tactic(auto)]
 
 use std::env;

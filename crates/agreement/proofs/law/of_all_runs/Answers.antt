@@ -1,5 +1,7 @@
 -- What is owed of `of_all_runs`.
 use Rattle.agreement.proofs.AllRuns.{of_all_runs}
+use Rattle.agreement.proofs.Began.{began}
+use Rattle.agreement.proofs.CallsActed.{calls_act}
 use Rattle.agreement.proofs.Ledger.{ledger}
 use Rattle.agreement.proofs.law.of_all_runs.Goals as goal
 
@@ -7,4 +9,10 @@ pub returns-clause-agreement : goal.returns-clause-agreement
 returns-clause-agreement g c = λ verifier public. of_all_runs (g.V.Verifier.valid verifier) public (c.below.ensures verifier public)
 
 pub returns-clause-ledger : goal.returns-clause-ledger
-returns-clause-ledger g c = λ verifier public. ledger (g.V.Verifier.valid verifier) public (c.below.ensures verifier public).saving
+returns-clause-ledger g c = λ verifier public. ledger (g.V.Verifier.valid verifier) public (c.below.ensures verifier public)
+
+pub returns-clause-begun : goal.returns-clause-begun
+returns-clause-begun g c = λ verifier public. began (g.V.Verifier.valid verifier) public (c.below.ensures verifier public)
+
+pub returns-clause-calls : goal.returns-clause-calls
+returns-clause-calls g c = λ verifier public. calls_act (g.V.Verifier.valid verifier) public

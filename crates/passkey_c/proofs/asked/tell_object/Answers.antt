@@ -1,26 +1,26 @@
 -- What is owed of `tell_object`.
 use Rattle.std.proofs.Common.{◌++◌, ◌∙◌, ap}
 use Rattle.cose.specs.Keys.{lent_key_view}
-use Rattle.passkey_c.specs.Parts.{profile_of}
+use Rattle.passkey_c.specs.Parts.{flag_of, profile_of}
 use Rattle.passkey_c.specs.Asked.{AttestsKey, AttestsNoKey, response_of}
 use Rattle.passkey_c.proofs.Told.{asks_nothing, broken, is_unread, self_asks, tells}
 use Rattle.passkey_c.proofs.asked.tell_object.Goals as goal
 
 pub returns-in_default-clause-refused : goal.returns-in_default-clause-refused
 returns-in_default-clause-refused c =
-    let none : AttestsNoKey (profile_of c.args.call.now.open_profile) c.args.object.now.auth_data.items =
+    let none : AttestsNoKey (profile_of (flag_of c.args.call.now.open_profile)) c.args.object.now.auth_data.items =
     rw (← c.deref.ensures.value, ← c.profile_from.ensures) c.in_default.ensures in
     (c.requires.registration, is_unread _ _ _ c.requires.object none)
 
 pub returns-in_default-self_signature-clause-told : goal.returns-in_default-self_signature-clause-told
 returns-in_default-self_signature-clause-told c =
-    let key : AttestsKey (profile_of c.args.call.now.open_profile) c.args.object.now.auth_data.items (lent_key_view c.in-Some.key) =
+    let key : AttestsKey (profile_of (flag_of c.args.call.now.open_profile)) c.args.object.now.auth_data.items (lent_key_view c.in-Some.key) =
     rw (← c.deref.ensures.value, ← c.profile_from.ensures) c.in-Some.ensures in
     (c.requires.registration, asks_nothing _ _ _ _ c.requires.object key c.in_default-self_signature.ensures)
 
 pub returns-in-Ok-clause-told : goal.returns-in-Ok-clause-told
 returns-in-Ok-clause-told c =
-    let key : AttestsKey (profile_of c.args.call.now.open_profile) c.args.object.now.auth_data.items (lent_key_view c.in-Some.key) =
+    let key : AttestsKey (profile_of (flag_of c.args.call.now.open_profile)) c.args.object.now.auth_data.items (lent_key_view c.in-Some.key) =
     rw (← c.deref.ensures.value, ← c.profile_from.ensures) c.in-Some.ensures in
     let joined = ap (λ bytes. bytes ++ c.hash.result) c.deref-2.ensures.value ∙ ap (λ hash. c.args.object.now.auth_data.items ++ hash) c.hash.ensures in
     let asks = self_asks _ (response_of c.args.call.now.registration) _ _
@@ -31,7 +31,7 @@ returns-in-Ok-clause-told c =
 
 pub returns-in-Err-clause-refused : goal.returns-in-Err-clause-refused
 returns-in-Err-clause-refused c =
-    let key : AttestsKey (profile_of c.args.call.now.open_profile) c.args.object.now.auth_data.items (lent_key_view c.in-Some.key) =
+    let key : AttestsKey (profile_of (flag_of c.args.call.now.open_profile)) c.args.object.now.auth_data.items (lent_key_view c.in-Some.key) =
     rw (← c.deref.ensures.value, ← c.profile_from.ensures) c.in-Some.ensures in
     let joined = ap (λ bytes. bytes ++ c.hash.result) c.deref-2.ensures.value ∙ ap (λ hash. c.args.object.now.auth_data.items ++ hash) c.hash.ensures in
     let asks = self_asks _ (response_of c.args.call.now.registration) _ _

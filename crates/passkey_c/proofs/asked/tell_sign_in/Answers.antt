@@ -2,6 +2,7 @@
 use Rattle.std.proofs.Common.{◌++◌, ap, refl}
 use Rattle.cose.specs.Keys.{lent_key_view}
 use Rattle.passkey_c.specs.Asked.{Asks}
+use Rattle.passkey_c.specs.Parts.{flag_of}
 use Rattle.passkey_c.proofs.Told.{broken}
 use Rattle.passkey_c.proofs.asked.tell_sign_in.Goals as goal
 
@@ -10,7 +11,7 @@ returns-in-Err-clause-refused c =
     let call = c.args.call.now in
     let message = call.assertion.auth_data.now ++ c.hash.result in
     let joined = ap (λ hash. call.assertion.auth_data.now ++ hash) c.hash.ensures in
-    let asks : Asks call.is_registration call (lent_key_view c.in-Ok.key) message call.assertion.signature.now =
+    let asks : Asks (flag_of call.is_registration) call (lent_key_view c.in-Ok.key) message call.assertion.signature.now =
     rw c.requires (c.in-Ok.ensures.found, joined, refl) in
     broken call _ _ (record {
       key = c.in-Ok.key;

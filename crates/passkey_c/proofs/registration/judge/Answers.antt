@@ -1,6 +1,5 @@
 -- What is owed of `judge`.
-use Rattle.std.proofs.Common.{◌∙◌, ap, refl, subst, sym}
-use Rattle.verification.specs.RegistrationAnswers.{IsVerifiedRegistration}
+use Rattle.std.proofs.Common.{◌∙◌, ap, refl, sym}
 use Rattle.verification.proofs.Registrations.{all_pass, table_fails}
 use Rattle.passkey_c.specs.Registrations.{judged_registration, registration_validity}
 use Rattle.passkey_c.proofs.registration.judge.Goals as goal
@@ -11,7 +10,7 @@ returns-in-Ok-clause-accepted c =
     let accepted = c.in_ok-verified.ensures.accepted in
     let taken = ap (λ id. x.is_registered id) (sym c.id.ensures) ∙ c.is_registered-is_registered.ensures in
     let steps = c.in-Ok.ensures.passes x accepted.0 taken refl in
-    (all_pass (registration_validity c.args.call.now) x accepted.1 steps, subst (IsVerifiedRegistration x) (sym c.in-Ok.ensures.admitted) accepted.0)
+    all_pass (registration_validity c.args.call.now) x accepted.1 steps
 
 pub returns-clause-refused : goal.returns-clause-refused
 returns-clause-refused c =
@@ -20,7 +19,7 @@ returns-clause-refused c =
     let taken = ap (λ id. x.is_registered id) (sym c.id.ensures) ∙ c.is_registered-is_registered.ensures in
     let kept = c.in_ok-party.ensures.kept in
     let session = c.in_ok-session.ensures in
-    let triple = c.in_ok-triple.ensures in (
+    let signature = c.in_ok-signature.ensures in (
       table_fails (registration_validity c.args.call.now) x c.in-Err.step accepted.1 (c.in-Err.ensures.refused x accepted.0 taken refl),
-      (kept.0, (kept.1.0, (session.challenge, (triple.algorithm, (triple.x, (triple.y, tt)))))),
+      (kept.0, (kept.1.0, (session.challenge, (signature.algorithm, (signature.x, (signature.y, tt)))))),
     )

@@ -2,14 +2,15 @@
 use Rattle.std.proofs.Common.{subst}
 use Rattle.verification.specs.Records.{RelyingParty}
 use Rattle.verification.specs.RegistrationAnswers.{IsVerifiedRegistration}
+use Rattle.passkey_c.specs.Parts.{flag_of}
 use Rattle.passkey_c.specs.Registrations.{judged_registration, registered_but}
 use Rattle.passkey_c.proofs.Moved.{registration_fails, response_passes, same_registration}
 use Rattle.passkey_c.proofs.registration.verified.Goals as goal
 
 pub returns-in-Ok-clause-accepted : goal.returns-in-Ok-clause-accepted
 returns-in-Ok-clause-accepted c =
-    let table = registered_but c.args.call.now.has_free_id c.args.call.now.free_id.now in
-    let full = c.args.call.now.is_full in
+    let table = registered_but (flag_of c.args.call.now.has_free_id) c.args.call.now.free_id.now in
+    let full = flag_of c.args.call.now.is_full in
     let same = same_registration _ _ _ _ _ _ table full c.requires.party c.requires.session in
     let call = c.args.call.now in
     let moved = subst (λ (rp : RelyingParty). IsVerifiedRegistration (record (judged_registration call) { rp = rp }) c.in-Ok.verified)
@@ -18,8 +19,8 @@ returns-in-Ok-clause-accepted c =
 
 pub returns-in-Err-Refused-clause-refused : goal.returns-in-Err-Refused-clause-refused
 returns-in-Err-Refused-clause-refused c =
-    let table = registered_but c.args.call.now.has_free_id c.args.call.now.free_id.now in
-    let full = c.args.call.now.is_full in
+    let table = registered_but (flag_of c.args.call.now.has_free_id) c.args.call.now.free_id.now in
+    let full = flag_of c.args.call.now.is_full in
     let same = same_registration _ _ _ _ _ _ table full c.requires.party c.requires.session in
     let refused = rw c.in-Err-Refused.field-0-is at (c.in-Err-Refused.ensures.refused table full) in (
       registration_fails _ _ _ _ _ _ _ c.requires.flag c.requires.parts same refused,

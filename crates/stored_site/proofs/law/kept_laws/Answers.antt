@@ -1,6 +1,6 @@
 -- What is owed of `kept_laws`.
-use Rattle.stored_site.proofs.KeptLaws.{kept_abandoned, kept_created, kept_expired, kept_opened, kept_opening, kept_registered, kept_registered_by}
-use Rattle.stored_site.proofs.KeptLaws.{kept_retired, kept_signed_in, kept_signed_in_by}
+use Rattle.stored_site.proofs.KeptLaws.{kept_abandoned, kept_created, kept_expired, kept_opened, kept_opening, kept_registered}
+use Rattle.stored_site.proofs.KeptLaws.{kept_retired, kept_signed_in}
 use Rattle.stored_site.proofs.law.kept_laws.Goals as goal
 
 pub returns : goal.returns
@@ -9,8 +9,6 @@ returns g c verifier = record {
   begun = kept_opening;
   signed_in = kept_signed_in;
   registered = kept_registered (g.V.Verifier.valid verifier);
-  signed_in_by = kept_signed_in_by;
-  registered_by = kept_registered_by (g.V.Verifier.valid verifier);
   abandoned = kept_abandoned;
   expired = kept_expired;
   retired = kept_retired;

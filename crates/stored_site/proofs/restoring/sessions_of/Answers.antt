@@ -1,7 +1,8 @@
 -- What is owed of `sessions_of`.
-use Rattle.std.proofs.Common.{◌≡◌, ◌<◌, ◌∙◌, subst, sym}
+use Rattle.std.proofs.Common.{◌≡◌, ◌∙◌, subst, sym}
 use Rattle.std.proofs.lemmas.Result.{err_from_is_err_and}
 use Rattle.std.specs.FinMap as finite
+use Rattle.ceremony_sessions.specs.Sessions.{HasNumber}
 use Rattle.stored_site.specs.Opened.{IsNamed}
 use Rattle.stored_site.proofs.Opening.{exit}
 use Rattle.stored_site.proofs.Steps.{SessionsRead, none_refused, one_more_read, sessions_begun}
@@ -27,4 +28,4 @@ returns-in_err-least-clause-none c =
     none_refused c.args.rows.now c.loop-row.row-index c.row-item.result c.loop-row.least m moments c.loop-row-test.true c.row-item.is
     (c.loop-row.invariant.4 m moments all) kept (λ n a e is stored limits le given.
     c.in_err-least.ensures.none (subst IsNamed same named) n a e is stored limits le
-    (subst (λ k. n < k) (nexts ∙ sym c.loop-row.invariant.1) given)))
+    (subst (λ k. HasNumber k n e) (nexts ∙ sym c.loop-row.invariant.1) given)))

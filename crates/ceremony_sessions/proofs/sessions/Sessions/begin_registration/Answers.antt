@@ -1,4 +1,5 @@
 -- What is owed of `Sessions::begin_registration`.
+use Rattle.std.proofs.Common.{arith}
 use Rattle.std.proofs.lemmas.Result.{err_from_is_err_and}
 use Rattle.authdata.specs.declared.profile.Profile.TheVariants.{Strict}
 use Rattle.ceremony_sessions.specs.Sessions.{OpensRegistration}
@@ -24,3 +25,6 @@ pub returns-clause-passes : goal.returns-clause-passes
 returns-clause-passes c = λ profile.
     let asked = OpensRegistration c.args.user.now c.args.algorithms.now c.args.uv c.args.words in
     c.in_ok-admit.ensures.passes profile asked (c.is_registration.ensures profile c.args.words c.args.uv)
+
+pub add-requires-clause-challenge : goal.add-requires-clause-challenge
+add-requires-clause-challenge c = (omega arith, (c.args.words, rw (← c.self.view_is) c.challenge_with-challenge.ensures))

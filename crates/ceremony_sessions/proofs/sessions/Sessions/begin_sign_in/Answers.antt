@@ -1,5 +1,5 @@
 -- What is owed of `Sessions::begin_sign_in`.
-use Rattle.std.proofs.Common.{map}
+use Rattle.std.proofs.Common.{arith, map}
 use Rattle.std.specs.Prelude.{option_map}
 use Rattle.std.proofs.lemmas.Result.{err_from_is_err_and}
 use Rattle.ceremony_sessions.specs.Sessions.{OpensSignIn}
@@ -20,3 +20,6 @@ pub returns-clause-passes : goal.returns-clause-passes
 returns-clause-passes c =
     let asked = OpensSignIn (option_map (λ u. u.now) c.args.user) (map (λ id. id.now) c.args.allow.now) c.args.uv c.args.words in
     c.in_ok-admit.ensures.passes c.args.profile asked (c.is_sign_in.ensures c.args.words c.args.uv)
+
+pub add-requires-clause-challenge : goal.add-requires-clause-challenge
+add-requires-clause-challenge c = (omega arith, (c.args.words, rw (← c.self.view_is) c.challenge_with-challenge.ensures))

@@ -1,0 +1,46 @@
+-- What each call does is an event.
+use Rattle.std.proofs.Common.{◌≡◌, refl, ap, sym, ◌∙◌, ℕ}
+use Rattle.ceremony_sessions.specs.Sessions.{OpenSessions}
+use Rattle.site.specs.State.{SiteState, none_open}
+use Rattle.cose.specs.Schemes.{Validity}
+use Rattle.authenticator.specs.Steps.{Keys}
+use Rattle.agreement.specs.Calls.{CallsAct}
+use Rattle.agreement.specs.World.{after_call, after_restart}
+use Rattle.agreement.proofs.Lived.{changes_holder}
+
+pub calls_act : (valid : Validity) (public : Keys) → CallsAct valid public
+calls_act valid public = record {
+  begins = λ s o bytes below. (bytes, below, refl);
+  abandons = λ s n. refl;
+  retires = λ s id. refl;
+  signs_in = λ s t n r passes after. (passes, after);
+  registers = λ s t n r passes after. (passes, after);
+  signs_in_by = λ s t n c used ps d r succeeds after. ((used, r, succeeds), after);
+  registers_by = λ s t n c used ps d r succeeds after. ((used, r, succeeds), after);
+  restarts = λ s t bytes saved loaded. record {
+    bytes = bytes;
+    saved = saved;
+    version = loaded.0.0;
+    loaded = loaded.0.1;
+    rp = ap (λ (x : SiteState). x.rp) loaded.1;
+    policy = ap (λ (x : SiteState). x.policy) loaded.1;
+    none_open =
+        let e : t.sessions ≡ none_open 1024 t.sessions.next = ap (λ (x : SiteState). x.sessions) loaded.1 in
+        let m : t.sessions.max_open ≡ 1024 = ap (λ (x : OpenSessions). x.max_open) e in
+        e ∙ ap (λ (n : ℕ). none_open n t.sessions.next) (sym m);
+  };
+  expires = λ s expected left. record { left = left; same = refl };
+  bounds = λ s n. refl;
+  restores = λ s fresh n rp policy. λ i. record {
+    rp = rp i;
+    policy = policy i;
+    rows = s.rows;
+    sessions = record s.sessions { max_open = n };
+  };
+  asks = λ w k c bs consent words out size step. (out, size, step, changes_holder k (after_call (w.holder k) out) (after_call (w.holder k) out) w refl);
+  reloads = λ w k bytes state saved loaded. (
+    state,
+    record { bytes = bytes; saved = saved; loaded = loaded },
+    changes_holder k (after_restart (w.holder k) state) (after_restart (w.holder k) state) w refl,
+  );
+}

@@ -1,6 +1,0 @@
--- What is owed of `serving_laws`.
-use Rattle.ceremony.proofs.Acting.{laws}
-use Rattle.ceremony.proofs.law.serving_laws.Goals as goal
-
-pub returns : goal.returns
-returns g c = λ verifier public. laws (g.V.Verifier.valid verifier) public

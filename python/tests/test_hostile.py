@@ -1,0 +1,153 @@
+"""What hosts, visitors and other processes do to the package."""
+import pickle
+from concurrent.futures import ProcessPoolExecutor
+
+import pytest
+from device import Device
+from hostile import changes, passed_over
+
+from garvoeng import BadInput, Credential, Refused, Server, SessionsFull, StoredServer, StoreFailed
+from garvoeng.forms import from_text, to_text
+
+USER = b"account 7"
+RP_ID, ORIGIN = "example.com", "https://example.com"
+
+
+def test_hostile_values():
+    """Each is a named refusal; none that differs in a member that the standard fixes is accepted."""
+    server, device = Server(RP_ID, [ORIGIN]), Device()
+    begun, session = server.register_begin(USER, "name")
+    made = device.register(begun)
+
+    def register(response):
+        return server.register_complete(session, response, is_registered=lambda _: False)
+
+    find = {device.id: register(made).credential}.get
+    asked, other = server.authenticate_begin(user=USER, allow=[device.id])
+    response = device.sign_in(asked, user=USER)
+
+    def sign_in(response):
+        return server.authenticate_complete(other, response, credential=find)
+
+    tried, wrong = 0, []
+    for call, good in ((register, made), (sign_in, response)):
+        for what, hostile in changes(good):
+            tried += 1
+            try:
+                call(hostile)
+            except (Refused, BadInput) as refused:
+                assert str(refused)
+            except Exception as error:  # noqa: BLE001
+                wrong.append((what, repr(error)))
+            else:
+                wrong.append((what, "accepted"))
+        for _, same in passed_over(good):
+            tried += 1
+            assert call(same)
+    assert wrong == [] and tried >= 2_000
+
+
+@pytest.mark.parametrize("text", ["AA==", "AA=", "A", "AB", "AAB", "A A", "AA\n", "+A", "/A", "\uff21A", "AAAAA", "=", "AA-_="])
+def test_one_spelling(text):
+    with pytest.raises(BadInput):
+        from_text(text, "it")
+
+
+def test_each_value_is_read():
+    for size in range(70):
+        for value in (bytes(size), b"\xff" * size, bytes(range(size))):
+            assert from_text(to_text(value), "it") == value
+    for bits in range(256):
+        assert from_text(to_text(bytes([bits])), "it") == bytes([bits])
+        assert from_text(to_text(bytes([9, bits])), "it") == bytes([9, bits])
+
+
+def test_size_of_a_response():
+    server, device = Server(RP_ID, [ORIGIN]), Device()
+    options, session = server.register_begin(USER, "name")
+    made = device.register(options)
+    rest = len(made["rawId"]) + len(made["response"]["attestationObject"])
+    fits, longer = (65_536 - rest) // 4 * 4, (65_536 - rest) // 4 * 4 + 4
+    for size, error in ((fits, Refused), (longer, BadInput)):
+        made["response"]["clientDataJSON"] = "A" * size
+        with pytest.raises(error):
+            server.register_complete(session, made, is_registered=lambda _: False)
+
+
+def refused(is_registration, number):
+    raise Refused(is_registration, number, "a text")
+
+
+@pytest.mark.parametrize("error", [Refused(False, 14, "a text"), Refused(True, 3, "a text"), BadInput("a text", 103), BadInput("a text"),
+                                   StoreFailed("the program has ended: the file is in use"), SessionsFull("a text")])
+def test_errors_between_processes(error):
+    again = pickle.loads(pickle.dumps(error))
+    assert type(again) is type(error) and str(again) == str(error) and vars(again) == vars(error)
+
+
+def test_refused_in_a_pool():
+    with ProcessPoolExecutor(1) as pool:
+        with pytest.raises(Refused) as caught:
+            pool.submit(refused, False, 7).result(60)
+        assert caught.value.name == "W7"
+        assert pool.submit(abs, -1).result(60) == 1
+
+
+@pytest.mark.parametrize("rp_id", ["https://example.com", "example.com/", "Example.com", "", "example.com:443", "example..com", ".com",
+                                   "127.0.0.1", "a" * 254, "ex\u00e4mple.com", "example.com.", None, b"example.com", "-a.com", "a b"])
+def test_rp_ids_that_are_none(rp_id):
+    with pytest.raises(BadInput):
+        Server(rp_id, ["https://example.com"])
+    with pytest.raises(BadInput):
+        StoredServer("program", "file", rp_id, ["https://example.com"])
+
+
+@pytest.mark.parametrize("origins", [
+    [], "https://example.com", ["https://example.com/"], ["https://example.com/login"], ["https://Example.com"], ["HTTPS://example.com"],
+    ["example.com"], [""], [None], ["https://example.com:443"], ["http://example.com:80"], ["https://example.com:0443"],
+    ["https://example.com:70000"], ["https://user@example.com"], ["https://example.com?x"], ["https://example.com#x"], ["null"], ["*"],
+    ["https://*.example.com"], ["https://other.com"], ["https://notexample.com"], ["https://example.com.evil.com"], ["https://com"],
+    ["https://example.com", "https://example.com/"], ["https://ex\u00e4mple.com"], ["https://example.com "], [b"https://example.com"]])
+def test_origins_that_are_none(origins):
+    with pytest.raises(BadInput):
+        Server("example.com", origins)
+    with pytest.raises(BadInput):
+        StoredServer("program", "file", "example.com", origins)
+
+
+@pytest.mark.parametrize("rp_id, origins", [
+    ("example.com", ["https://example.com:8443"]), ("example.com", ["https://a.b.example.com"]), ("localhost", ["http://localhost:8080"]),
+    ("example.com", ["https://example.com", "https://example.org"]), ("intern", ["https://intern"]),
+    ("example.com", ["android:apk-key-hash:4cE-bpyJg3DJr7kIGjMkZBPmkpXhuL9bXwGkpHv3Zgk"]), ("xn--exmple-cua.com", ["https://xn--exmple-cua.com"]),
+    ("example.com", ["https://example.com", "chrome-extension://abcdefghijklmnop"])])
+def test_parties(rp_id, origins):
+    assert Server(rp_id, origins).origins == tuple(origins)
+    StoredServer("program", "file", rp_id, origins)
+
+
+def test_limits():
+    server, device = Server(RP_ID, [ORIGIN]), Device()
+    for user in (b"", bytes(65)):
+        with pytest.raises(BadInput):
+            server.register_begin(user, "name")
+        with pytest.raises(BadInput):
+            server.authenticate_begin(user=user)
+    for user in (b"1", bytes(64)):
+        assert server.register_begin(user, "name")[1].user == user == server.authenticate_begin(user=user)[1].user
+    for ids in ([b"x"] * 65, [b""], [bytes(1024)]):
+        with pytest.raises(BadInput):
+            server.authenticate_begin(allow=ids)
+        with pytest.raises(BadInput):
+            server.register_begin(USER, "name", exclude=ids)
+    ids = [bytes(1023)] * 64
+    assert len(server.authenticate_begin(allow=ids)[1].allow) == 64
+    options, session = server.authenticate_begin()
+    response = device.sign_in(options, user=USER)
+    for algorithm, count in ((-7, -1), (-7, 2**32), (-7, 2**32 + 5), (2**32 - 7, 0), (-9, 0), (0, 0)):
+        wrong = Credential(device.id, USER, algorithm, device.x, device.y, count, None)
+        with pytest.raises(BadInput):
+            server.authenticate_complete(session, response, credential=lambda _: wrong)
+    last = Credential(device.id, USER, -7, device.x, device.y, 2**32 - 1, None)
+    with pytest.raises(Refused) as caught:
+        server.authenticate_complete(session, response, credential=lambda _: last)
+    assert caught.value.name == "W15"
