@@ -182,6 +182,20 @@ def causes(tests):
     with StoredServer(tests.program, "-dash.db", RP_ID, [ORIGIN], "-a name") as server:
         tests.check("a file and a name that begin with a dash", server.rows(), [])
         tests.check("the name", server.register_begin(USER, "name")[0]["rp"]["name"], "-a name")
+    heard, handler = [], logging.Handler()
+    handler.emit = lambda record: heard.append(record.getMessage())
+    logging.getLogger("garvoeng").addHandler(handler)
+    for log, wanted in ((False, 0), (True, 1), ("all", 1)):
+        heard.clear()
+        with tests.server(f"log{log}.db", log=log) as server:
+            raised(server.authenticate_complete, 0, Device().sign_in({"challenge": "AA"}, user=USER))
+        tests.check(f"refusals with log={log!r}", sum("sign-in refused W1 " in text for text in heard), wanted)
+    logging.getLogger("garvoeng").removeHandler(handler)
+    with tests.server("short.db", expire=1) as server:
+        old = server.authenticate_begin()[1]
+        time.sleep(2.5)
+        young = server.authenticate_begin()[1]
+        tests.check("a session ends by itself", [server.abandon(number) for number in (old, young)], [False, True])
     with tests.server("few.db", max_open=2) as server:
         found = [raised(server.authenticate_begin)[0] for _ in range(4)]
         tests.check("too many sessions", [error is SessionsFull for error in found], [False, False, True, True])

@@ -3,7 +3,7 @@ use Rattle.std.specs.Prelude.{ℕ}
 use Rattle.authdata.specs.declared.profile.Profile.{Profile}
 use Rattle.authdata.specs.declared.profile.Profile.TheVariants.{Strict, Open}
 
--- the most bytes of a credential id: 1,023 (WebAuthn Level 2, section 6.1), and 64 in the strict profile
+-- the most bytes of a credential id: 1,023 (WebAuthn Level 3, section 4, "Credential ID"), and 64 in the strict profile
 abbrev pub max_id : Profile → ℕ
 max_id Strict = 64
 max_id Open = 1023
