@@ -343,24 +343,26 @@ def other_hosts(tests):
         served(tests, tool, serves)
 
 
+def lives(server, number, times, wrong, algorithm):
+    """A visitor who registers and signs in so many times, with its passkey listed; what is not as it should be is appended to
+    the wrong ones."""
+    device, user = Device(algorithm, credential=b"of %d" % number), b"account %d" % number
+    try:
+        registered(server, device, user)
+        for _ in range(times):
+            options, session = server.authenticate_begin(user=user, allow=[device.id])
+            who = server.authenticate_complete(session, device.sign_in(options))
+            if who != signed(device, user):
+                wrong.append(who)
+    except Exception as error:  # noqa: BLE001
+        wrong.append(error)
+
+
 def at_once(tests, clients=16, times=10):
     """Many threads over one process: each gets its own answers."""
     wrong = []
-
-    def live(server, number):
-        device, user = Device(EDDSA, credential=b"of %d" % number), b"account %d" % number
-        try:
-            registered(server, device, user)
-            for _ in range(times):
-                options, session = server.authenticate_begin(user=user, allow=[device.id])
-                who = server.authenticate_complete(session, device.sign_in(options))
-                if who != signed(device, user):
-                    wrong.append(who)
-        except Exception as error:  # noqa: BLE001
-            wrong.append(error)
-
     with tests.server("at_once.db") as server:
-        threads = [threading.Thread(target=live, args=(server, number)) for number in range(clients)]
+        threads = [threading.Thread(target=lives, args=(server, number, times, wrong, EDDSA)) for number in range(clients)]
         for thread in threads:
             thread.start()
         for thread in threads:

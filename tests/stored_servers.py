@@ -13,9 +13,9 @@ from pathlib import Path
 
 import site_hosts
 from device import Device, changed
-from garvoeng import BadInput, Refused, SessionsFull, StoredServer, StoreFailed
+from garvoeng import ES256, BadInput, Refused, SessionsFull, StoredServer, StoreFailed
 from hostile import changes, nested
-from site_hosts import raised, registered, signed
+from site_hosts import lives, raised, registered
 from site_lines import ORIGIN, PARTY, RP_ID, USER, Host
 
 NO_ANSWER = "import sys, time; sys.stdin.readline(); time.sleep(600)"
@@ -109,21 +109,9 @@ def beside_attackers(tests, attackers=6, visitors=4, times=8):
                 if error[0] not in (Refused, BadInput):
                     wrong.append(error)
 
-    def visit(server, number):
-        device, user = Device(credential=b"of %d" % number), b"account %d" % number
-        try:
-            registered(server, device, user)
-            for _ in range(times):
-                options, session = server.authenticate_begin(user=user, allow=[device.id])
-                who = server.authenticate_complete(session, device.sign_in(options))
-                if who != signed(device, user):
-                    wrong.append(who)
-        except Exception as error:  # noqa: BLE001
-            wrong.append(error)
-
     with tests.server("attacked.db") as server:
         hostile = [threading.Thread(target=attack, args=(server,)) for _ in range(attackers)]
-        honest = [threading.Thread(target=visit, args=(server, number)) for number in range(visitors)]
+        honest = [threading.Thread(target=lives, args=(server, number, times, wrong, ES256)) for number in range(visitors)]
         for thread in hostile + honest:
             thread.start()
         for thread in honest:
