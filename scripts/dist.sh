@@ -14,6 +14,29 @@ tools() {
     echo "tools linker $(tool ld.lld --version)"
 }
 
+# The oldest glibc that a program runs on: glibc_of FILE.
+glibc_of() {
+    tool llvm-readelf --version-info "$1" | grep -o 'GLIBC_[0-9.]*' | sed 's/GLIBC_//' | sort -Vu | tail -n 1
+}
+
+# The lines of MANIFEST of what scripts/machines built, whose folder is c/out/machines.
+machine_lines() {
+    local file name crate program glibc
+    for file in "$top"/c/out/machines/*/*; do
+        name=${file#"$top"/c/out/machines/}
+        echo "$name sha256 $(digest "$file")"
+        echo "$name size $(stat -c %s "$file")"
+        for program in "${programs[@]}"; do
+            read -r program crate <<< "$program"
+            [ "${name#*/}" = "$program" ] || continue
+            echo "$name sources $(sources_of "$crate")"
+            glibc=$(glibc_of "$file")
+            [ -z "$glibc" ] || echo "$name glibc $glibc"
+        done
+    done
+    sed 's/^/machines /' "$top/c/out/machines/made"
+}
+
 # Writes the program of a crate that was built here into a folder, stripped, and prints its lines of dist/MANIFEST:
 # made_into FOLDER NAME CRATE SOURCES.
 made_into() {
@@ -21,7 +44,7 @@ made_into() {
     echo "$2 sha256 $(digest "$1/$2")"
     echo "$2 size $(stat -c %s "$1/$2")"
     echo "$2 sources $4"
-    echo "$2 glibc $(tool llvm-readelf --version-info "$1/$2" | grep -o 'GLIBC_[0-9.]*' | sed 's/GLIBC_//' | sort -Vu | tail -n 1)"
+    echo "$2 glibc $(glibc_of "$1/$2")"
 }
 
 # Writes each program into a folder, and prints MANIFEST: all_made_into FOLDER.

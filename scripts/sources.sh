@@ -2,7 +2,7 @@
 # $top is the tree.
 
 # The programs that are handed out: the name in dist/, and the crate.
-programs=("passkey passkey_app" "passkey-site site_program")
+programs=("passkey passkey_app" "passkey-site site_program" "softkey softkey")
 
 # The lines of crates.txt of a crate and of those that it stands on, lowest first: crates_of NAME.
 crates_of() {
@@ -30,6 +30,16 @@ sources_of() {
     ) | digest
 }
 
+# The digest of all that scripts/machines builds from.
+machine_sources() {
+    local program
+    {
+        for program in "${programs[@]}" "libpasskey passkey_c"; do sources_of "${program#* }"; done
+        cat "$top"/c/{heap.c,library} "$top"/c/machines/{heap.c,system.c,portable.c,wasm.h,retarget.py,one_file.py} \
+            "$top"/scripts/{machines,built.sh}
+    } | digest
+}
+
 # The digest of what comes in, or of a file: digest [FILE].
 digest() {
     local sum
@@ -46,7 +56,9 @@ read_manifest() {
 
 # The program of a crate as it is built here, and the stamp beside it: 'SOURCES PROGRAM BY', the digests of its sources and
 # of itself, and what proved it: 'gate' (./test) or 'build' (./passkey --build).
-built_of() { echo "$top/crates/$1/out/$1"; }
+built_of() {
+    if [ "$1" = passkey_c ]; then echo "$top/crates/passkey_c/out/libpasskey_c.a"; else echo "$top/crates/$1/out/$1"; fi
+}
 stamp_of() { echo "$top/crates/$1/out/sources"; }
 
 # Writes the stamp of a crate's program: stamp CRATE SOURCES BY.
@@ -55,6 +67,6 @@ stamp() { echo "$2 $(digest "$(built_of "$1")") $3" > "$(stamp_of "$1")"; }
 # Whether what is built here of a crate is of the sources of this digest: is_built CRATE SOURCES [BY].
 is_built() {
     local from program by
-    [ -x "$(built_of "$1")" ] && [ -r "$(stamp_of "$1")" ] && read -r from program by < "$(stamp_of "$1")" &&
+    [ -f "$(built_of "$1")" ] && [ -r "$(stamp_of "$1")" ] && read -r from program by < "$(stamp_of "$1")" &&
         [ "$from" = "$2" ] && [ "$by" = "${3-$by}" ] && [ "$program" = "$(digest "$(built_of "$1")")" ]
 }

@@ -1,13 +1,20 @@
 -- A run in which an event of each kind happens: an honest run at site 1 by responses, all else that may happen there, and the
 -- honest run at site 0 by packets.
-use Rattle.std.proofs.Common.{◌≡◌, inr, ℕ, List, [], ◌∷◌, ◌++◌, length, Some, refl, sym, ◌∙◌, ap, subst, arith, Contains}
+use Rattle.std.proofs.Common.{◌≡◌, inl, ℕ, suc, List, [], ◌∷◌, ◌++◌, length, Option, None, Some, false, refl, sym, ◌∙◌, ap, subst, arith, Contains}
+use Rattle.std.specs.Prelude.{IsSome}
+use Rattle.std.specs.FinMap as finite
+use Rattle.std.specs.FinMap.{gets}
+use Rattle.std.proofs.lemmas.Grind.{common_steps}
 use Rattle.std.proofs.lemmas.Option.{same_Some}
 use Rattle.std.proofs.lemmas.List.Elements.{All-from_recursion, Contains-push}
 use Rattle.cose.specs.Schemes.{Validity}
 use Rattle.authdata.specs.Responses as responses
 use Rattle.ctap_replies.specs.Replies.{Assertion}
 use Rattle.verification.specs.Records as registered_row
-use Rattle.credential_table.specs.Table.{row_of}
+use Rattle.credential_table.specs.Table.{row_of, signed_in as counted_row}
+use Rattle.ceremony_sessions.specs.Sessions.{Expected, for_registration}
+use Rattle.authdata.specs.Flags.{is_set, BE}
+use Rattle.site.proofs.Kept.{row_changed}
 use Rattle.saved_table.specs.Saved.{TableOf, version_of}
 use Rattle.site.specs.State as site
 use Rattle.site.specs.State.{saved_of}
@@ -171,6 +178,35 @@ module _ (valid : Validity) (public : Keys) (b : Below valid public) (keeps : Ke
       x.signing_in.out.client_data c.1 a.signs_in.accepted.0 c.2 a.signs_in.reply c.3 c.4 a.signs_in.accepted.1 a.signs_in.accepted.2 in
       (brings.0, c.5 ∙ ap (λ (z : Assertion). response_of z x.signing_in.out.client_data) one)
 
+  -- ---- sessions that end, and a credential that is retired
+
+  -- no session is left
+  abbrev none_left : site.SiteState → site.SiteState
+  none_left s = record s { sessions = record s.sessions { expected = finite.empty } }
+
+  open_there : IsSome (finite.get x.registering.site.sessions.expected x.registering.session)
+  open_there = some_of (finite.get x.registering.site.sessions.expected x.registering.session) h.honest_registration.is_open where
+    some_of : (o : Option Expected) → for_registration o ≡ Some x.registering.expected → IsSome o
+    some_of None e = absurd cc
+    some_of (Some o) e = refl
+
+  -- the site after the sign-in, with room for one session more
+  abbrev bounded : site.SiteState
+  bounded = reopened (suc p.signed_in.sessions.max_open) p.signed_in
+
+  registered_there : (r : registered_row.Credential) × (row_of response.credential bounded.rows ≡ Some r) × (r.retired ≡ false)
+  registered_there =
+      let after = signs_by_response.after in
+      let count = counted_row after.0.sign_count (is_set after.0.flags BE) in (
+        count row,
+        ap (λ (s : site.SiteState). row_of response.credential s.rows) after.2
+            ∙ row_changed response.credential count x.signing_in.site.rows row (λ r. refl) found,
+        refl,
+      )
+
+  none_there : (n : ℕ) → finite.get (none_left x.registering.site).sessions.expected n ≡ None
+  none_there n = grind (arith, gets, common_steps)
+
   -- ---- the worlds and the moments
 
   module _ (restarts : (bytes : List ℕ) × TableOf (version_of first.rows) (saved_of first) bytes)
@@ -199,49 +235,55 @@ module _ (valid : Validity) (public : Keys) (b : Below valid public) (keeps : Ke
     abbrev m6 : Moment
     m6 = done m5.new (AtSite 1 (SignsIn x.signing_in.session response)) (with_site 1 p.signed_in m5.new)
 
+    -- a session that is abandoned, and one that ends by its age
     abbrev m7 : Moment
-    m7 = done m6.new (AtSite 1 (Abandons 1)) (with_site 1 (after_abandon p.signed_in 1) m6.new)
+    m7 = done m6.new (AtSite 3 (Begins p.opening)) (with_site 3 x.registering.site m6.new)
 
     abbrev m8 : Moment
-    m8 = done m7.new (AtSite 1 Expires) (with_site 1 (after_abandon p.signed_in 1) m7.new)
+    m8 = done m7.new (AtSite 3 (Abandons x.registering.session)) (with_site 3 (after_abandon x.registering.site x.registering.session) m7.new)
 
     abbrev m9 : Moment
-    m9 = done m8.new (AtSite 1 (Bounds 1)) (with_site 1 (reopened 1 (after_abandon p.signed_in 1)) m8.new)
+    m9 = done m8.new (AtSite 4 (Begins p.opening)) (with_site 4 x.registering.site m8.new)
 
     abbrev m10 : Moment
-    m10 = done m9.new (AtSite 1 Reopens) (with_site 1 (reopened 1 (after_abandon p.signed_in 1)) m9.new)
+    m10 = done m9.new (AtSite 4 Expires) (with_site 4 (none_left x.registering.site) m9.new)
 
     abbrev m11 : Moment
-    m11 = done m10.new (AtSite 1 (Retires response.credential))
-        (with_site 1 (after_retire (reopened 1 (after_abandon p.signed_in 1)) response.credential) m10.new)
+    m11 = done m10.new (AtSite 1 (Bounds (suc p.signed_in.sessions.max_open))) (with_site 1 bounded m10.new)
 
     abbrev m12 : Moment
-    m12 = done m11.new (AtSite 2 Restarts) (with_site 2 first m11.new)
+    m12 = done m11.new (AtSite 1 Reopens) (with_site 1 bounded m11.new)
 
     abbrev m13 : Moment
-    m13 = done m12.new (Reloads 2) (with_holder 2 new_holder m12.new)
+    m13 = done m12.new (AtSite 1 (Retires response.credential)) (with_site 1 (after_retire bounded response.credential) m12.new)
 
     abbrev m14 : Moment
-    m14 = done m13.new (AtSite 0 (Begins p.opening)) (with_site 0 x.registering.site m13.new)
+    m14 = done m13.new (AtSite 2 Restarts) (with_site 2 first m13.new)
 
     abbrev m15 : Moment
-    m15 = done m14.new (asks_first 0) (with_holder 0 made_holder m14.new)
+    m15 = done m14.new (Reloads 2) (with_holder 2 new_holder m14.new)
 
     abbrev m16 : Moment
-    m16 = done m15.new (AtSite 0 registers_by) (with_site 0 x.registered m15.new)
+    m16 = done m15.new (AtSite 0 (Begins p.opening)) (with_site 0 x.registering.site m15.new)
 
     abbrev m17 : Moment
-    m17 = done m16.new (AtSite 0 (Begins h.begins.0)) (with_site 0 x.signing_in.site m16.new)
+    m17 = done m16.new (asks_first 0) (with_holder 0 made_holder m16.new)
 
     abbrev m18 : Moment
-    m18 = done m17.new (asks_then 0) (with_holder 0 signed_holder m17.new)
+    m18 = done m17.new (AtSite 0 registers_by) (with_site 0 x.registered m17.new)
 
     abbrev m19 : Moment
-    m19 = done m18.new (AtSite 0 signs_in_by) (with_site 0 p.signed_in m18.new)
+    m19 = done m18.new (AtSite 0 (Begins h.begins.0)) (with_site 0 x.signing_in.site m18.new)
+
+    abbrev m20 : Moment
+    m20 = done m19.new (asks_then 0) (with_holder 0 signed_holder m19.new)
+
+    abbrev m21 : Moment
+    m21 = done m20.new (AtSite 0 signs_in_by) (with_site 0 p.signed_in m20.new)
 
     abbrev earlier : List Moment
     earlier =
-        m1 ∷ m2 ∷ m3 ∷ m4 ∷ m5 ∷ m6 ∷ m7 ∷ m8 ∷ m9 ∷ m10 ∷ m11 ∷ m12 ∷ m13 ∷ m14 ∷ m15 ∷ m16 ∷ m17 ∷ m18 ∷ []
+        m1 ∷ m2 ∷ m3 ∷ m4 ∷ m5 ∷ m6 ∷ m7 ∷ m8 ∷ m9 ∷ m10 ∷ m11 ∷ m12 ∷ m13 ∷ m14 ∷ m15 ∷ m16 ∷ m17 ∷ m18 ∷ m19 ∷ m20 ∷ []
 
     -- ---- the effects
 
@@ -255,7 +297,7 @@ module _ (valid : Validity) (public : Keys) (b : Below valid public) (keeps : Ke
     none_open_first =
         let e = t.start.sites p.site in λ i. record { expected = e i; next = first.sessions.next; max_open = first.sessions.max_open }
 
-    is_run : IsRun valid public world (earlier ++ m19 ∷ [])
+    is_run : IsRun valid public world (earlier ++ m21 ∷ [])
     is_run = (
       refl,
       begins_at 1 world refl,
@@ -276,54 +318,37 @@ module _ (valid : Validity) (public : Keys) (b : Below valid public) (keeps : Ke
                 changed 1 (SignsIn x.signing_in.session response) x.signing_in.site p.signed_in m5.new refl (signs_by_response.passes, signs_by_response.after),
                 (
                   refl,
-                  changed 1 (Abandons 1) p.signed_in (after_abandon p.signed_in 1) m6.new refl refl,
+                  begins_at 3 m6.new refl,
                   (
                     refl,
-                    changed 1 Expires (after_abandon p.signed_in 1) (after_abandon p.signed_in 1) m7.new refl (record { left = λ n. inr refl; same = refl }),
+                    changed 3 (Abandons x.registering.session) x.registering.site (after_abandon x.registering.site x.registering.session) m7.new refl refl,
                     (
                       refl,
-                      changed 1 (Bounds 1) (after_abandon p.signed_in 1) (reopened 1 (after_abandon p.signed_in 1)) m8.new refl refl,
+                      begins_at 4 m8.new refl,
                       (
                         refl,
-                        changed 1 Reopens (reopened 1 (after_abandon p.signed_in 1)) (reopened 1 (after_abandon p.signed_in 1)) m9.new refl refl,
+                        changed 4 Expires x.registering.site (none_left x.registering.site) m9.new refl (record { left = λ n. inl (none_there n); same = refl }),
                         (
                           refl,
-                          changed 1 (Retires response.credential) (reopened 1 (after_abandon p.signed_in 1))
-                              (after_retire (reopened 1 (after_abandon p.signed_in 1)) response.credential) m10.new refl refl,
+                          changed 1 (Bounds (suc p.signed_in.sessions.max_open)) p.signed_in bounded m10.new refl refl,
                           (
                             refl,
-                            changed 2 Restarts first first m11.new refl (record {
-                              bytes = restarts.0;
-                              saved = restarts.1;
-                              version = version_of first.rows;
-                              loaded = restarts.1;
-                              rp = refl;
-                              policy = refl;
-                              none_open = none_open_first;
-                            }),
+                            changed 1 Reopens bounded bounded m11.new refl refl,
                             (
                               refl,
-                              (new_holder.state, record { bytes = reloads.0; saved = reloads.1; loaded = reloads.2 }, changes_holder 2 new_holder new_holder m12.new refl),
+                              changed 1 (Retires response.credential) bounded (after_retire bounded response.credential) m12.new refl refl,
                               (
                                 refl,
-                                begins_at 0 m13.new refl,
-                                (
-                                  refl,
-                                  makes 0 m14.new refl,
-                                  (
-                                    refl,
-                                    changed 0 registers_by x.registering.site x.registered m15.new refl by_packets,
-                                    (
-                                      refl,
-                                      begins_again_at 0 m16.new refl,
-                                      (
-                                        refl,
-                                        asserts 0 m17.new refl,
-                                        (refl, changed 0 signs_in_by x.signing_in.site p.signed_in m18.new refl signs_by_packets, tt),
-                                      ),
-                                    ),
-                                  ),
-                                ),
+                                changed 2 Restarts first first m13.new refl (record {
+                                  bytes = restarts.0;
+                                  saved = restarts.1;
+                                  version = version_of first.rows;
+                                  loaded = restarts.1;
+                                  rp = refl;
+                                  policy = refl;
+                                  none_open = none_open_first;
+                                }),
+                                (refl, (new_holder.state, record { bytes = reloads.0; saved = reloads.1; loaded = reloads.2 }, changes_holder 2 new_holder new_holder m14.new refl), (refl, begins_at 0 m15.new refl, (refl, makes 0 m16.new refl, (refl, changed 0 registers_by x.registering.site x.registered m17.new refl by_packets, (refl, begins_again_at 0 m18.new refl, (refl, asserts 0 m19.new refl, (refl, changed 0 signs_in_by x.signing_in.site p.signed_in m20.new refl signs_by_packets, tt))))))),
                               ),
                             ),
                           ),
@@ -347,8 +372,8 @@ module _ (valid : Validity) (public : Keys) (b : Below valid public) (keeps : Ke
     ideal_response : IsIdeal valid m6
     ideal_response = ideal_at m6 1 1 refl refl (λ j n r brings. (brings.0, sym brings.1.1))
 
-    ideal_packets : IsIdeal valid m19
-    ideal_packets = ideal_at m19 0 0 refl refl one_carried
+    ideal_packets : IsIdeal valid m21
+    ideal_packets = ideal_at m21 0 0 refl refl one_carried
 
     -- ---- all of it
 
@@ -362,78 +387,33 @@ module _ (valid : Validity) (public : Keys) (b : Below valid public) (keeps : Ke
       made = subst (λ (g : Holder). Contains g.made row.key) (sym held) (0, omega arith, refl);
     }
 
-    happened : (kind : Kind) → Happened (earlier ++ m19 ∷ []) kind
-    happened shown.begins = (m1, (0, omega arith, refl), refl, refl)
-    happened shown.abandons = (m7, (6, omega arith, refl), refl, refl)
-    happened shown.retires = (m11, (10, omega arith, refl), refl, refl)
-    happened shown.signs_in = (m6, (5, omega arith, refl), refl, refl)
-    happened shown.signs_in_by_packets = (m19, (18, omega arith, refl), refl, refl)
-    happened shown.registers = (m3, (2, omega arith, refl), refl, refl)
-    happened shown.registers_by_packets = (m16, (15, omega arith, refl), refl, refl)
-    happened shown.expires = (m8, (7, omega arith, refl), refl, refl)
-    happened shown.bounds = (m9, (8, omega arith, refl), refl, refl)
-    happened shown.restarts = (m12, (11, omega arith, refl), refl, refl)
-    happened shown.reopens = (m10, (9, omega arith, refl), refl, refl)
-    happened shown.asks = (m2, (1, omega arith, refl), refl, refl)
-    happened shown.reloads = (m13, (12, omega arith, refl), refl, refl)
+    happened : (kind : Kind) → Happened (earlier ++ m21 ∷ []) kind
+    happened shown.begins = (m1, (0, omega arith, refl), refl, refl, tt)
+    happened shown.abandons = (m8, (7, omega arith, refl), refl, refl, open_there)
+    happened shown.retires = (m13, (12, omega arith, refl), refl, refl, registered_there)
+    happened shown.signs_in = (m6, (5, omega arith, refl), refl, refl, tt)
+    happened shown.signs_in_by_packets = (m21, (20, omega arith, refl), refl, refl, tt)
+    happened shown.registers = (m3, (2, omega arith, refl), refl, refl, tt)
+    happened shown.registers_by_packets = (m18, (17, omega arith, refl), refl, refl, tt)
+    happened shown.expires = (m10, (9, omega arith, refl), refl, refl, (x.registering.session, open_there, none_there x.registering.session))
+    happened shown.bounds = (m11, (10, omega arith, refl), refl, refl, λ e. absurd (omega (arith, e)))
+    happened shown.restarts = (m14, (13, omega arith, refl), refl, refl, tt)
+    happened shown.reopens = (m12, (11, omega arith, refl), refl, refl, tt)
+    happened shown.asks = (m2, (1, omega arith, refl), refl, refl, tt)
+    happened shown.reloads = (m15, (14, omega arith, refl), refl, refl, tt)
 
     pub full_run : FullRun valid public
     full_run = record {
       world = world;
       start = record { sites = λ i. t.start.sites p.site; holders = λ k. t.start.holders p.holder };
       before = earlier;
-      last = m19;
+      last = m21;
       is_run = is_run;
-      ideal =
-          All-from_recursion (IsIdeal valid) (earlier ++ m19 ∷ []) (
-            quiet m1 (λ j n r e. e.1),
-            (
-              quiet m2 (λ j n r e. e),
-              (
-                quiet m3 (λ j n r e. e.1),
-                (
-                  quiet m4 (λ j n r e. e.1),
-                  (
-                    quiet m5 (λ j n r e. e),
-                    (
-                      ideal_response,
-                      (
-                        quiet m7 (λ j n r e. e.1),
-                        (
-                          quiet m8 (λ j n r e. e.1),
-                          (
-                            quiet m9 (λ j n r e. e.1),
-                            (
-                              quiet m10 (λ j n r e. e.1),
-                              (
-                                quiet m11 (λ j n r e. e.1),
-                                (
-                                  quiet m12 (λ j n r e. e.1),
-                                  (
-                                    quiet m13 (λ j n r e. e),
-                                    (
-                                      quiet m14 (λ j n r e. e.1),
-                                      (
-                                        quiet m15 (λ j n r e. e),
-                                        (quiet m16 (λ j n r e. e.1), (quiet m17 (λ j n r e. e.1), (quiet m18 (λ j n r e. e), (ideal_packets, tt)))),
-                                      ),
-                                    ),
-                                  ),
-                                ),
-                              ),
-                            ),
-                          ),
-                        ),
-                      ),
-                    ),
-                  ),
-                ),
-              ),
-            ),
-          );
+      ideal = All-from_recursion (IsIdeal valid) (earlier ++ m21 ∷ []) (quiet m1 (λ j n r e. e.1), (quiet m2 (λ j n r e. e), (quiet m3 (λ j n r e. e.1), (quiet m4 (λ j n r e. e.1), (quiet m5 (λ j n r e. e), (ideal_response, (quiet m7 (λ j n r e. e.1), (quiet m8 (λ j n r e. e.1), (quiet m9 (λ j n r e. e.1), (quiet m10 (λ j n r e. e.1), (quiet m11 (λ j n r e. e.1), (quiet m12 (λ j n r e. e.1), (quiet m13 (λ j n r e. e.1), (quiet m14 (λ j n r e. e.1), (quiet m15 (λ j n r e. e), (quiet m16 (λ j n r e. e.1), (quiet m17 (λ j n r e. e), (quiet m18 (λ j n r e. e.1), (quiet m19 (λ j n r e. e.1), (quiet m20 (λ j n r e. e), (ideal_packets, tt)))))))))))))))))))));
       each_kind = happened;
-      elsewhere = (m6, (5, omega arith, refl), signed_in_at m6 1 1 refl refl (refl, (refl, refl)) refl);
+      elsewhere = (m6, (5, omega arith, refl), refl, signed_in_at m6 1 1 refl refl (refl, (refl, refl)) refl);
+      by_packets = refl;
       signed_in =
-          signed_in_at m19 0 0 refl refl
+          signed_in_at m21 0 0 refl refl
           (refl, (refl, (length x.signing_in.packets, a.signs_in.accepted.0, a.signs_in.reply, a.signs_in.accepted.1, a.signs_in.accepted.2, refl))) refl;
     }

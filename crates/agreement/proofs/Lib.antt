@@ -12,6 +12,7 @@ pub mod Sites
 pub mod Worlds
 pub mod Own
 pub mod Ledger
+pub mod Dropped
 pub mod Began
 pub mod Accepted
 pub mod Retired

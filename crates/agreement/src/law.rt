@@ -7,6 +7,7 @@ ghost use Rattle.agreement.specs.Agreement.{OfAllRuns};
 ghost use Rattle.agreement.specs.Begun.{SessionsOfAllRuns};
 ghost use Rattle.agreement.specs.Below.{Below};
 ghost use Rattle.agreement.specs.Calls.{CallsAct};
+ghost use Rattle.agreement.specs.Dropped.{DropsOfAllRuns};
 ghost use Rattle.agreement.specs.Ends.{IsIdleOn};
 ghost use Rattle.agreement.specs.Honest.{AcceptsBoth, IsAskedFor, IsHonestRegistration, IsHonestRun, IsHonestSignIn, IsShared, Registering};
 ghost use Rattle.agreement.specs.Hosts.{HostsRuns};
@@ -38,10 +39,13 @@ fn below<V: Verifier>()
 /// No sign-in is accepted without a fresh assertion by an authenticator, in each run in which signatures can't be forged:
 /// whatever packets, client data and requests an adversary makes, of any number of sites and authenticators. And in each run,
 /// whether or not signatures can be forged, what an authenticator has signed and which keys it has made is accounted for by
-/// the requests to it. It is so for each verifier, and for each function from secrets to keys.
+/// the requests to it; and a credential that it stores no more was dropped by a request to which presence was given: a reset, or
+/// a makeCredential for a resident one of the same relying party and user. It is so for each verifier, and for each function
+/// from secrets to keys.
 pub fn of_all_runs<V: Verifier>()
     ensures agreement { (verifier : V) (public : Keys) → OfAllRuns (V.valid verifier) public }
     ensures ledger { (verifier : V) (public : Keys) → LedgerOfAllRuns (V.valid verifier) public }
+    ensures dropped { (verifier : V) (public : Keys) → DropsOfAllRuns (V.valid verifier) public }
     ensures begun { (verifier : V) (public : Keys) → SessionsOfAllRuns (V.valid verifier) public }
     ensures calls { (verifier : V) (public : Keys) → CallsAct (V.valid verifier) public }
 {
@@ -55,7 +59,8 @@ pub fn hosts_runs<V: Verifier, W: Verifier>()
 {}
 
 /// The laws speak of something: an honest run takes place in some world, and there is a run in which an event of each kind is
-/// done, and sign-ins are accepted at two sites by two authenticators. Signatures are those of the scheme for tests.
+/// done, and not in vain; a sign-in is accepted at one site by a response and at another by packets, each with a key that an
+/// authenticator of its own has made, which may be one key. Signatures are those of the scheme for tests.
 pub fn full_run()
     ensures honest { HonestRunTakesPlace bench_valid bench_public }
     ensures full { FullRun bench_valid bench_public }

@@ -198,7 +198,7 @@ impl Sessions {
     }
 
     /// Whether fewer sessions are open than the most.
-    fn has_room(&self) -> bool
+    pub fn has_room(&self) -> bool
         ensures { IsTrue result ↔ (finite.len self.now.expected < self.now.max_open) }
     {
         self.by_number.len() < self.max_open

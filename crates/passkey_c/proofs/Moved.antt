@@ -10,8 +10,7 @@ use Rattle.verification.specs.SignIn.{JudgedSignIn, PassesSignIn}
 use Rattle.verification.specs.declared.party.Policy.{Policy}
 use Rattle.verification.specs.declared.refusal.RegistrationRefusal.{RegistrationRefusal}
 use Rattle.verification.specs.declared.refusal.SignInRefusal.{SignInRefusal}
-use Rattle.passkey_c.specs.declared.parts.VerifiedParts.{VerifiedParts}
-use Rattle.passkey_c.specs.Parts.{only_verified}
+use Rattle.verified_signature.specs.Signed.{Signed, only_verified}
 
 -- ---- sign-in
 
@@ -24,17 +23,15 @@ same_sign_in p q s t c d r u parties sessions credentials answers =
     ap (λ x. sign_in_with x s c r) parties ∙ ap (λ x. sign_in_with q x c r) sessions ∙ ap (λ x. sign_in_with q t x r) credentials
     ∙ ap (λ x. sign_in_with q t d x) answers
 
-pub sign_in_passes : (h k : Bool) (t u : VerifiedParts) (x y : JudgedSignIn) → h ≡ k → t ≡ u → x ≡ y
-    → PassesSignIn (only_verified h t) x → PassesSignIn (only_verified k u) y
-sign_in_passes h k t u x y flags signatures same passes =
-    subst (PassesSignIn (only_verified k u)) same (subst (λ v. PassesSignIn (only_verified k v) x) signatures
-    (subst (λ g. PassesSignIn (only_verified g t) x) flags passes))
+pub sign_in_passes : (v u : Option Signed) (x y : JudgedSignIn) → v ≡ u → x ≡ y
+    → PassesSignIn (only_verified v) x → PassesSignIn (only_verified u) y
+sign_in_passes v u x y signatures same passes =
+    subst (PassesSignIn (only_verified u)) same (subst (λ s. PassesSignIn (only_verified s) x) signatures passes)
 
-pub sign_in_fails : (h k : Bool) (t u : VerifiedParts) (x y : JudgedSignIn) (w : SignInRefusal) → h ≡ k → t ≡ u → x ≡ y
-    → sign_ins.IsFirstFailing (only_verified h t) x w → sign_ins.IsFirstFailing (only_verified k u) y w
-sign_in_fails h k t u x y w flags signatures same fails =
-    subst (λ z. sign_ins.IsFirstFailing (only_verified k u) z w) same (subst (λ v. sign_ins.IsFirstFailing (only_verified k v) x w) signatures
-    (subst (λ g. sign_ins.IsFirstFailing (only_verified g t) x w) flags fails))
+pub sign_in_fails : (v u : Option Signed) (x y : JudgedSignIn) (w : SignInRefusal) → v ≡ u → x ≡ y
+    → sign_ins.IsFirstFailing (only_verified v) x w → sign_ins.IsFirstFailing (only_verified u) y w
+sign_in_fails v u x y w signatures same fails =
+    subst (λ z. sign_ins.IsFirstFailing (only_verified u) z w) same (subst (λ s. sign_ins.IsFirstFailing (only_verified s) x w) signatures fails)
 
 -- ---- registration
 
@@ -49,15 +46,13 @@ pub same_registration : (p q : RelyingParty) (policy : Policy) (s t : Option Exp
 same_registration p q policy s t r is_registered is_full parties sessions =
     ap (λ x. registration_with x policy s r is_registered is_full) parties ∙ ap (λ x. registration_with q policy x r is_registered is_full) sessions
 
-pub response_passes : (h k : Bool) (t u : VerifiedParts) (x y : JudgedRegistration) → h ≡ k → t ≡ u → x ≡ y
-    → Each (PassesRegistrationStep (only_verified h t) x) response_steps → Each (PassesRegistrationStep (only_verified k u) y) response_steps
-response_passes h k t u x y flags signatures same passes =
-    subst (λ z. Each (PassesRegistrationStep (only_verified k u) z) response_steps) same
-    (subst (λ v. Each (PassesRegistrationStep (only_verified k v) x) response_steps) signatures
-    (subst (λ g. Each (PassesRegistrationStep (only_verified g t) x) response_steps) flags passes))
+pub response_passes : (v u : Option Signed) (x y : JudgedRegistration) → v ≡ u → x ≡ y
+    → Each (PassesRegistrationStep (only_verified v) x) response_steps → Each (PassesRegistrationStep (only_verified u) y) response_steps
+response_passes v u x y signatures same passes =
+    subst (λ z. Each (PassesRegistrationStep (only_verified u) z) response_steps) same
+    (subst (λ s. Each (PassesRegistrationStep (only_verified s) x) response_steps) signatures passes)
 
-pub registration_fails : (h k : Bool) (t u : VerifiedParts) (x y : JudgedRegistration) (w : RegistrationRefusal) → h ≡ k → t ≡ u → x ≡ y
-    → registrations.IsFirstFailing (only_verified h t) x w → registrations.IsFirstFailing (only_verified k u) y w
-registration_fails h k t u x y w flags signatures same fails =
-    subst (λ z. registrations.IsFirstFailing (only_verified k u) z w) same (subst (λ v. registrations.IsFirstFailing (only_verified k v) x w) signatures
-    (subst (λ g. registrations.IsFirstFailing (only_verified g t) x w) flags fails))
+pub registration_fails : (v u : Option Signed) (x y : JudgedRegistration) (w : RegistrationRefusal) → v ≡ u → x ≡ y
+    → registrations.IsFirstFailing (only_verified v) x w → registrations.IsFirstFailing (only_verified u) y w
+registration_fails v u x y w signatures same fails =
+    subst (λ z. registrations.IsFirstFailing (only_verified u) z w) same (subst (λ s. registrations.IsFirstFailing (only_verified s) x w) signatures fails)

@@ -6,7 +6,7 @@ use Rattle.refusal_order.specs.Lines.{Each}
 use Rattle.cose.specs.Keys.{lent_key_view}
 use Rattle.cose.specs.declared.key.CoseKey.{CoseKey}
 use Rattle.authdata.specs.declared.profile.Profile.{Profile}
-use Rattle.authdata.specs.Layout.{AttestedCredential, AuthenticatorData, AuthOf}
+use Rattle.authdata.specs.Layout.{AttestedCredential, AuthenticatorData}
 use Rattle.authdata.specs.Objects.{Attestation}
 use Rattle.authdata.specs.Responses.{AuthenticatorAttestationResponse}
 use Rattle.authdata.specs.Statements.{IsSelfSignedBy}
@@ -88,12 +88,6 @@ IsUntold call m s (errors.Limit limit) = IsBroken call m s limit
 IsUntold call m s errors.Memory = Unit {0}
 
 -- what private functions are proved against
-
-abbrev pub AttestsKey : Profile → List ℕ → CoseKey → Type 0
-AttestsKey profile bs key = (a : AuthenticatorData) × (c : AttestedCredential) × AuthOf profile a bs × (a.attested ≡ Some c) × (c.key ≡ key)
-
-abbrev pub AttestsNoKey : Profile → List ℕ → Type 0
-AttestsNoKey profile bs = (a : AuthenticatorData) (c : AttestedCredential) → AuthOf profile a bs → a.attested ≡ Some c → ⊥
 
 abbrev pub TellsAs : SignatureOut → List ℕ → List ℕ → AskedSignature → Type 0
 TellsAs out message signature asked =

@@ -1,10 +1,8 @@
 -- The limits of what a host hands in.
-use Rattle.std.specs.Prelude.{◌≡◌, ℕ, true, List, [], ◌∷◌, ◌++◌, IfSome, length}
+use Rattle.std.specs.Prelude.{◌≡◌, true, List, [], ◌∷◌, ◌++◌, IfSome, length}
 use Rattle.std.specs.Str.{IsUtf8}
 use Rattle.refusal_order.specs.Lines.{Each}
-use Rattle.cose.specs.Rsa.{IsExponent, IsModulus}
-use Rattle.cose.specs.declared.key.Alg.{Alg}
-use Rattle.cose.specs.declared.key.Alg.TheVariants as algs
+use Rattle.verified_signature.specs.Coordinates.{IsX, IsY}
 use Rattle.passkey_c.specs.declared.parts.KeyParts.{KeyParts}
 use Rattle.passkey_c.specs.declared.parts.PartyParts.{PartyParts}
 use Rattle.passkey_c.specs.declared.parts.AssertionCall.{AssertionCall}
@@ -17,29 +15,11 @@ use Rattle.passkey_c.specs.declared.input.KeyLimit.{KeyLimit}
 use Rattle.passkey_c.specs.declared.input.KeyLimit.TheVariants as key_limits
 use Rattle.passkey_c.specs.Parts.{IsAlg, alg_in, flag_of}
 
--- x: a coordinate of 32 bytes, or a modulus
-abbrev pub IsX : Alg → List ℕ → Type 0
-IsX algs.Es256 x = length x ≡ 32
-IsX algs.EdDsa x = length x ≡ 32
-IsX algs.Rs256 n = IsModulus n
-
--- y, where it is looked at: a coordinate of 32 bytes, or an exponent
-abbrev pub IsY : Alg → List ℕ → Type 0
-IsY algs.Es256 y = length y ≡ 32
-IsY algs.EdDsa y = Unit {0}
-IsY algs.Rs256 e = IsExponent e
-
 -- a public key: one of three algorithms, and its coordinates or its numbers
 abbrev pub KeyKeeps : KeyParts → KeyLimit → Type 0
 KeyKeeps key key_limits.Algorithm = IsAlg key.algorithm
 KeyKeeps key key_limits.X = IfSome (alg_in key.algorithm) (λ alg. IsX alg key.x.now)
 KeyKeeps key key_limits.Y = IfSome (alg_in key.algorithm) (λ alg. IsY alg key.y.now)
-
--- why they are no key of the algorithm
-abbrev pub IsNot : Alg → List ℕ → List ℕ → KeyLimit → Type 0
-IsNot alg x y key_limits.Algorithm = ⊥
-IsNot alg x y key_limits.X = IsX alg x → ⊥
-IsNot alg x y key_limits.Y = IsY alg y → ⊥
 
 abbrev pub key_order : List KeyLimit
 key_order = key_limits.Algorithm ∷ key_limits.X ∷ key_limits.Y ∷ []

@@ -6,10 +6,11 @@ use Rattle.cose.specs.declared.key.Alg.TheVariants as algs
 use Rattle.cose.specs.declared.key.CoseKey.{CoseKey}
 use Rattle.cose.specs.declared.key.CoseKey.TheVariants as keys
 use Rattle.cose.specs.Keys.{alg_of, number_of, x_of}
-use Rattle.cose.specs.Schemes.{Validity}
 use Rattle.authdata.specs.declared.profile.Profile.{Profile}
 use Rattle.authdata.specs.declared.profile.Profile.TheVariants.{Open, Strict}
 use Rattle.verification.specs.Records.{RelyingParty}
+use Rattle.verified_signature.specs.Coordinates.{key_with}
+use Rattle.verified_signature.specs.Signed.{Signed}
 use Rattle.passkey_c.specs.declared.parts.Bytes.{Bytes}
 use Rattle.passkey_c.specs.declared.parts.KeyOut.{KeyOut}
 use Rattle.passkey_c.specs.declared.parts.KeyParts.{KeyParts}
@@ -59,11 +60,6 @@ alg_in number =
     else if is_negative 256 number then Some algs.Rs256
     else None
 
-abbrev pub key_with : Alg → List ℕ → List ℕ → CoseKey
-key_with algs.Es256 x y = keys.Es256 x y
-key_with algs.EdDsa x y = keys.EdDsa x
-key_with algs.Rs256 n e = keys.Rs256 (record { n = n; e = e })
-
 -- the key of a number, x and y; none where the number is no algorithm's
 abbrev pub key_of : KeyParts → Option CoseKey
 key_of key = option_map (λ alg. key_with alg key.x.now key.y.now) (alg_in key.algorithm)
@@ -89,11 +85,10 @@ profile_of open_profile = if open_profile then Open else Strict
 abbrev pub party_of : PartyParts → RelyingParty
 party_of party = record { rp_id = party.rp_id.now; origins = lent party.origins.now; profile = profile_of (flag_of party.open_profile) }
 
--- the only valid signature is the one that the host verified, where it says that it did: of this key, this message,
--- this signature
-abbrev pub only_verified : Bool → VerifiedParts → Validity
-only_verified has_verified parts key message signature =
-    (has_verified ≡ true) × (key_of parts.key ≡ Some key) × (parts.message.now ≡ message) × (parts.signature.now ≡ signature)
+-- the signature that the host verified, where it says that it did; none where its key is none
+abbrev pub verified_in : Bool → VerifiedParts → Option Signed
+verified_in has_verified parts =
+    option_map (λ key. record { key = key; message = parts.message.now; signature = parts.signature.now }) (given_some has_verified (key_of parts.key))
 
 -- the bytes end in these
 abbrev pub EndsIn : List ℕ → List ℕ → Type 0

@@ -11,6 +11,7 @@ use Rattle.authdata.specs.Statements.{IsNone, IsSelfSignedBy}
 use Rattle.verification.specs.Numbers.{registration_number}
 use Rattle.verification.specs.Registration.{Attests, JudgedRegistration, IsFirstFailing}
 use Rattle.verification.specs.declared.refusal.RegistrationRefusal.{RegistrationRefusal}
+use Rattle.verified_signature.specs.Signed.{only_verified}
 use Rattle.passkey_c.specs.declared.answers.InputFault.{InputFault}
 use Rattle.passkey_c.specs.declared.parts.RegistrationCall.{RegistrationCall}
 use Rattle.passkey_c.specs.declared.parts.RegistrationOut.{RegistrationOut}
@@ -18,7 +19,7 @@ use Rattle.passkey_c.specs.declared.registration.Refusal.{Refusal}
 use Rattle.passkey_c.specs.declared.registration.Refusal.TheVariants as refusals
 use Rattle.passkey_c.specs.Limits.{IsFault, RegistrationKeeps, registration_limits}
 use Rattle.passkey_c.specs.Numbers.{fault_number}
-use Rattle.passkey_c.specs.Parts.{Fills, IsEnd, TellsKey, flag_of, given, offered, only_verified, party_of}
+use Rattle.passkey_c.specs.Parts.{Fills, IsEnd, TellsKey, flag_of, given, offered, party_of, verified_in}
 
 -- each id but the free one is registered
 abbrev pub registered_but : Bool → List ℕ → List ℕ → Bool
@@ -41,7 +42,7 @@ judged_registration call = record {
 
 -- the signatures that are valid: the one that the host verified
 abbrev pub registration_validity : RegistrationCall → Validity
-registration_validity call = only_verified (flag_of call.has_verified) call.verified
+registration_validity call = only_verified (verified_in (flag_of call.has_verified) call.verified)
 
 -- the object shows how its credential is attested: 0 not at all (WebAuthn Level 2, section 8.7), 1 by a packed statement with a
 -- signature of the key itself (section 8.2)

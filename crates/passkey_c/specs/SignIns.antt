@@ -7,6 +7,7 @@ use Rattle.authdata.specs.Layout.{AuthenticatorData, AuthOf, extension_bytes}
 use Rattle.verification.specs.SignIn.{JudgedSignIn, IsFirstFailing}
 use Rattle.verification.specs.Numbers.{sign_in_number}
 use Rattle.verification.specs.declared.refusal.SignInRefusal.{SignInRefusal}
+use Rattle.verified_signature.specs.Signed.{only_verified}
 use Rattle.passkey_c.specs.declared.answers.InputFault.{InputFault}
 use Rattle.passkey_c.specs.declared.assertion.Refusal.{Refusal}
 use Rattle.passkey_c.specs.declared.assertion.Refusal.TheVariants as refusals
@@ -14,7 +15,7 @@ use Rattle.passkey_c.specs.declared.parts.AssertionCall.{AssertionCall}
 use Rattle.passkey_c.specs.declared.parts.AssertionOut.{AssertionOut}
 use Rattle.passkey_c.specs.Limits.{IsFault, SignInKeeps, sign_in_limits}
 use Rattle.passkey_c.specs.Numbers.{fault_number}
-use Rattle.passkey_c.specs.Parts.{IsEnd, flag_of, given, given_some, key_of, lent, only_verified, party_of}
+use Rattle.passkey_c.specs.Parts.{IsEnd, flag_of, given, given_some, key_of, lent, party_of, verified_in}
 
 -- the sign-in as it is judged; a credential whose key is of another algorithm, which is out of its limits, is none
 abbrev pub judged_sign_in : AssertionCall → JudgedSignIn
@@ -45,7 +46,7 @@ judged_sign_in call = record {
 
 -- the signatures that are valid: the one that the host verified
 abbrev pub sign_in_validity : AssertionCall → Validity
-sign_in_validity call = only_verified (flag_of call.has_verified) call.verified
+sign_in_validity call = only_verified (verified_in (flag_of call.has_verified) call.verified)
 
 -- what the host is told of the authenticator data
 abbrev pub TellsData : AssertionOut → AuthenticatorData → List ℕ → Type 0

@@ -1,9 +1,8 @@
 //! Which signature a host is to verify.
 
-ghost use Rattle.std.specs.Prelude.{◌≡◌, ◌≢◌, ◌+◌, ◌++◌, ◌≤◌, ◌<◌, IfErr, MatchOption, OnErr, OnOk, false, length, true};
-ghost use Rattle.cose.specs.Keys.{lent_key_view};
+ghost use Rattle.std.specs.Prelude.{◌≡◌, ◌≢◌, ◌+◌, ◌++◌, ◌≤◌, ◌<◌, IfErr, OnErr, OnOk, false, length, true};
 ghost use Rattle.authdata.specs.Objects.{ObjectOf, object_view};
-ghost use Rattle.passkey_c.specs.Asked.{AskKeeps, AttestsKey, AttestsNoKey, IsBroken, IsSmall, IsUnread, IsUntold, Tells, TellsAs};
+ghost use Rattle.passkey_c.specs.Asked.{AskKeeps, IsBroken, IsSmall, IsUnread, IsUntold, Tells, TellsAs};
 ghost use Rattle.passkey_c.specs.Asked.{response_of};
 ghost use Rattle.passkey_c.specs.Numbers.{IsAskAnswer, ask_number, limit_number};
 ghost use Rattle.passkey_c.specs.Parts.{Fills, flag_of, profile_of};
@@ -12,10 +11,11 @@ ghost use Rattle.passkey_c.specs.declared.answers.Limit.{Limit};
 use crate::answers::{ACCEPTED, Limit};
 use crate::input::{KeyLimit, key_from, profile_from, write_front, write_key};
 use crate::parts::{SignatureCall, SignatureOut};
-use authdata::{AttestationObject, Profile, read_view, self_signature};
+use authdata::{AttestationObject, self_signature};
 use clientdata::hash;
 use cose::KeyView;
 use std::alloc::Global;
+use verified_signature::attested_key;
 
 /// A signature that is to be verified, of the authenticator data and then the hash of the client data.
 #[derive(Drop)]
@@ -44,19 +44,6 @@ impl AskError {
             AskError::Limit(limit) => limit.number(),
             AskError::Memory => 127,
         }
-    }
-}
-
-/// The public key that authenticator data attest.
-fn attested_key(profile: Profile, auth_data: &[u8]) -> Option<KeyView<'_>>
-    ensures { MatchOption result (AttestsNoKey profile auth_data.now) (λ key. AttestsKey profile auth_data.now (lent_key_view key)) }
-{
-    let Ok(data) = read_view(profile, auth_data) else {
-        return None;
-    };
-    match data.attested {
-        Some(credential) => Some(credential.key),
-        None => None,
     }
 }
 

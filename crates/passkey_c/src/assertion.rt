@@ -8,17 +8,18 @@ ghost use Rattle.verification.specs.SignIn.{IsFirstFailing, PassesSignIn};
 ghost use Rattle.authdata.specs.Layout.{AuthOf, lent_auth_view};
 ghost use Rattle.verification.specs.Views.{assertion_parts_view, credential_view, judged_sign_in_view, sign_in_view};
 ghost use Rattle.verification.specs.declared.refusal.SignInRefusal.{SignInRefusal};
+ghost use Rattle.verified_signature.specs.Signed.{lent_signature_view};
 ghost use Rattle.passkey_c.specs.declared.assertion.Refusal.TheVariants as refusals;
 ghost use Rattle.passkey_c.specs.Limits.{IsFault, SignInKeeps, sign_in_limits};
 ghost use Rattle.passkey_c.specs.Numbers.{limit_number};
-ghost use Rattle.passkey_c.specs.Parts.{flag_of, given_some, key_of, party_of};
+ghost use Rattle.passkey_c.specs.Parts.{flag_of, given_some, key_of, party_of, verified_in};
 ghost use Rattle.passkey_c.specs.SignIns.{IsRefused, IsSignInAnswer, judged_sign_in, sign_in_validity, TellsSignIn};
 
 use crate::answers::{ACCEPTED, InputFault, Limit};
 use crate::input::{KeyLimit, copies, copy_of, exactly_32, key_from, party_from, profile_from};
 use crate::parts::{AnswerParts, AssertionCall, AssertionOut};
 use crate::seen::tell_data;
-use crate::signature::{VerifiedSignature, verified_from};
+use crate::signature::verifier_from;
 use authdata::{AuthView, read_view};
 use cose::KeyView;
 use std::alloc::Global;
@@ -26,6 +27,7 @@ use verification::{
     AssertionParts, RelyingParty, RowView, SignInAttempt, SignInRefusal, SignInSession,
     VerificationError, verify_assertion,
 };
+use verified_signature::HostVerifier;
 
 /// Why a sign-in is not accepted.
 #[derive(Clone, Copy, Debug, PartialEq, Eq, Drop)]
@@ -83,16 +85,16 @@ fn credential_key<'a>(call: &AssertionCall<'a>) -> Result<Option<KeyView<'a>>, I
     }
 }
 
-/// The signature that the host verified.
-fn sign_in_signature<'a>(call: &AssertionCall<'a>) -> Result<VerifiedSignature<'a>, InputFault>
-    ensures found { IfOk result (λ signature. (signature.has_verified ≡ flag_of call.now.has_verified) × (signature.parts ≡ call.now.verified)) }
+/// The verifier of the signature that the host verified.
+fn sign_in_verifier<'a>(call: &AssertionCall<'a>) -> Result<HostVerifier<'a>, InputFault>
+    ensures found { IfOk result (λ verifier. option_map lent_signature_view verifier.verified ≡ verified_in (flag_of call.now.has_verified) call.now.verified) }
     ensures algorithm { OnOk result (SignInKeeps call.now Limit.VerifiedAlgorithm) }
     ensures x { OnOk result (SignInKeeps call.now Limit.VerifiedX) }
     ensures y { OnOk result (SignInKeeps call.now Limit.VerifiedY) }
     ensures refused { IfErr result (IsFault (SignInKeeps call.now)) }
 {
-    match verified_from(call.has_verified != 0, call.verified) {
-        Ok(signature) => Ok(signature),
+    match verifier_from(call.has_verified != 0, &call.verified) {
+        Ok(verifier) => Ok(verifier),
         Err(KeyLimit::Algorithm) => Err(InputFault::Limit(Limit::VerifiedAlgorithm)),
         Err(KeyLimit::X) => Err(InputFault::Limit(Limit::VerifiedX)),
         Err(KeyLimit::Y) => Err(InputFault::Limit(Limit::VerifiedY)),
@@ -148,13 +150,12 @@ fn verified(
     party: &RelyingParty,
     session: Option<&SignInSession>,
     key: Option<KeyView<'_>>,
-    signature: &VerifiedSignature<'_>,
+    verifier: &HostVerifier<'_>,
 ) -> Result<(), Refusal>
     requires party { party.now ≡ party_of call.now.party }
     requires session { option_map (λ s. sign_in_view s.now) session ≡ (judged_sign_in call.now).session }
     requires key { option_map lent_key_view key ≡ given_some (flag_of call.now.has_credential) (key_of call.now.credential.key) }
-    requires flag { signature.now.has_verified ≡ flag_of call.now.has_verified }
-    requires parts { signature.now.parts ≡ call.now.verified }
+    requires verified { option_map lent_signature_view verifier.now.verified ≡ verified_in (flag_of call.now.has_verified) call.now.verified }
     requires limits { Each (SignInKeeps call.now) sign_in_limits }
     ensures accepted { OnOk result (PassesSignIn (sign_in_validity call.now) (judged_sign_in call.now)) }
     ensures refused { IfErr result (IsRefused call.now) }
@@ -165,7 +166,7 @@ fn verified(
         credential: row(call, key),
         response: response(call),
     };
-    match verify_assertion(alloc, signature, &attempt) {
+    match verify_assertion(alloc, verifier, &attempt) {
         Ok(_) => Ok(()),
         Err(VerificationError::Refused(step)) => Err(Refusal::Step(step)),
         Err(VerificationError::Memory) => Err(Refusal::Input(InputFault::Memory)),
@@ -181,8 +182,8 @@ fn judge(alloc: Global, call: &AssertionCall<'_>) -> Result<(), Refusal>
     let party = party_from(alloc, &call.party)?;
     let session = expected(alloc, call)?;
     let key = credential_key(call)?;
-    let signature = sign_in_signature(call)?;
-    verified(alloc, call, &party, session.as_ref(), key, &signature)
+    let verifier = sign_in_verifier(call)?;
+    verified(alloc, call, &party, session.as_ref(), key, &verifier)
 }
 
 /// The authenticator data of a sign-in that passes each step.

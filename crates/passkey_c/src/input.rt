@@ -1,19 +1,18 @@
 //! What a host hands in, as values of the crates below.
 
-ghost use Rattle.std.specs.Prelude.{◌≡◌, ◌≢◌, ◌≤◌, [], IfErr, IfOk, IfSome, None, OnOk, Some, length, map, option_map};
+ghost use Rattle.std.specs.Prelude.{◌≡◌, ◌≢◌, ◌≤◌, IfErr, IfOk, IfSome, None, OnOk, Some, length, map, option_map};
 ghost use Rattle.refusal_order.specs.Lines.{Each};
 ghost use Rattle.cose.specs.Keys.{lent_key_view};
-ghost use Rattle.cose.specs.declared.key.Alg.TheVariants as algs;
-ghost use Rattle.cose.specs.declared.key.CoseKey.TheVariants as keys;
-ghost use Rattle.passkey_c.specs.Limits.{IsFault, IsNot, IsX, IsY, KeyKeeps, PartyKeeps, key_order, party_limits};
-ghost use Rattle.passkey_c.specs.Parts.{Fills, IsAlg, TellsKey, alg_in, flag_of, given, key_of, key_with, lent, party_of, profile_of};
+ghost use Rattle.passkey_c.specs.Limits.{IsFault, KeyKeeps, PartyKeeps, key_order, party_limits};
+ghost use Rattle.passkey_c.specs.Parts.{Fills, IsAlg, TellsKey, alg_in, flag_of, given, key_of, lent, party_of, profile_of};
 
 use crate::answers::{InputFault, Limit};
 use crate::parts::{Bytes, KeyOut, KeyParts, PartyParts};
-use cose::{Alg, KeyView, RsaView, is_exponent, is_modulus};
+use cose::{Alg, KeyView};
 use std::alloc::{AllocError, Global};
 use std::str;
 use verification::{Profile, RelyingParty};
+use verified_signature::Coordinate;
 
 /// A member of a key that is out of its limits.
 #[derive(Clone, Copy, Debug, PartialEq, Eq, Drop)]
@@ -58,50 +57,6 @@ pub(crate) fn write_front(bytes: &[u8], room: &mut [u8]) -> usize
     size
 }
 
-/// The key of ES256 of these coordinates.
-fn es256_from<'a>(x: &[u8], y: &[u8]) -> Result<KeyView<'a>, KeyLimit>
-    ensures found { IfOk result (λ key. lent_key_view key ≡ key_with algs.Es256 x.now y.now) }
-    ensures x { OnOk result (IsX algs.Es256 x.now) }
-    ensures y { OnOk result (IsY algs.Es256 y.now) }
-    ensures refused { IfErr result (IsNot algs.Es256 x.now y.now) }
-{
-    let Some(x) = exactly_32(x) else {
-        return Err(KeyLimit::X);
-    };
-    match exactly_32(y) {
-        Some(y) => Ok(KeyView::Es256 { x, y }),
-        None => Err(KeyLimit::Y),
-    }
-}
-
-/// The key of EdDSA of this x; a y is not looked at.
-fn eddsa_from<'a>(x: &[u8]) -> Result<KeyView<'a>, KeyLimit>
-    ensures found { IfOk result (λ key. lent_key_view key ≡ keys.EdDsa x.now) }
-    ensures x { OnOk result (IsX algs.EdDsa x.now) }
-    ensures refused { IfErr result (IsNot algs.EdDsa x.now []) }
-{
-    match exactly_32(x) {
-        Some(x) => Ok(KeyView::EdDsa { x }),
-        None => Err(KeyLimit::X),
-    }
-}
-
-/// The RSA key of this modulus and this exponent.
-fn rsa_from<'a>(n: &'a [u8], e: &'a [u8]) -> Result<KeyView<'a>, KeyLimit>
-    ensures found { IfOk result (λ key. lent_key_view key ≡ key_with algs.Rs256 n.now e.now) }
-    ensures n { OnOk result (IsX algs.Rs256 n.now) }
-    ensures e { OnOk result (IsY algs.Rs256 e.now) }
-    ensures refused { IfErr result (IsNot algs.Rs256 n.now e.now) }
-{
-    if !is_modulus(n) {
-        return Err(KeyLimit::X);
-    }
-    if !is_exponent(e) {
-        return Err(KeyLimit::Y);
-    }
-    Ok(KeyView::Rs256(RsaView { n, e }))
-}
-
 /// Tells a public key.
 pub(crate) fn write_key(key: &KeyView<'_>, out: &mut KeyOut)
     ensures { TellsKey out.new (lent_key_view key.now) }
@@ -134,10 +89,10 @@ pub(crate) fn key_from<'a>(parts: &KeyParts<'a>) -> Result<KeyView<'a>, KeyLimit
     let Some(alg) = algorithm_of(parts.algorithm) else {
         return Err(KeyLimit::Algorithm);
     };
-    match alg {
-        Alg::Es256 => es256_from(parts.x, parts.y),
-        Alg::EdDsa => eddsa_from(parts.x),
-        Alg::Rs256 => rsa_from(parts.x, parts.y),
+    match verified_signature::key_from(alg, parts.x, parts.y) {
+        Ok(key) => Ok(key),
+        Err(Coordinate::X) => Err(KeyLimit::X),
+        Err(Coordinate::Y) => Err(KeyLimit::Y),
     }
 }
 

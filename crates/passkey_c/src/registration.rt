@@ -7,10 +7,11 @@ ghost use Rattle.verification.specs.Registration.{IsFirstFailing, PassesRegistra
 ghost use Rattle.verification.specs.RegistrationAnswers.{IsVerifiedRegistration};
 ghost use Rattle.verification.specs.Views.{registration_parts_view, registration_view};
 ghost use Rattle.verification.specs.declared.refusal.RegistrationRefusal.{RegistrationRefusal};
+ghost use Rattle.verified_signature.specs.Signed.{lent_signature_view};
 ghost use Rattle.passkey_c.specs.declared.registration.Refusal.TheVariants as refusals;
 ghost use Rattle.passkey_c.specs.Limits.{IsFault, RegistrationKeeps, registration_limits};
 ghost use Rattle.passkey_c.specs.Numbers.{limit_number};
-ghost use Rattle.passkey_c.specs.Parts.{flag_of, offered, party_of};
+ghost use Rattle.passkey_c.specs.Parts.{flag_of, offered, party_of, verified_in};
 ghost use Rattle.passkey_c.specs.Seen.{IsAccepted};
 ghost use Rattle.passkey_c.specs.Registrations.{IsRefused, IsRegistrationAnswer, judged_registration, registration_validity, TellsRegistration};
 
@@ -18,13 +19,14 @@ use crate::answers::{ACCEPTED, InputFault, Limit};
 use crate::input::{KeyLimit, exactly_32, party_from, profile_from};
 use crate::parts::{RegistrationCall, RegistrationOut};
 use crate::seen::{SeenRegistration, seen_in, tell_registration};
-use crate::signature::{VerifiedSignature, verified_from};
+use crate::signature::verifier_from;
 use cose::Alg;
 use std::alloc::{AllocError, Global};
 use verification::{
     Policy, RegistrationAttempt, RegistrationParts, RegistrationRefusal, RegistrationSession,
     RelyingParty, VerificationError, VerifiedRegistration, verify_registration,
 };
+use verified_signature::HostVerifier;
 
 /// Why a registration is not accepted.
 #[derive(Clone, Copy, Debug, PartialEq, Eq, Drop)]
@@ -87,18 +89,16 @@ fn expected(
     }))
 }
 
-/// The signature that the host verified.
-fn registration_signature<'a>(
-    call: &RegistrationCall<'a>,
-) -> Result<VerifiedSignature<'a>, InputFault>
-    ensures found { IfOk result (λ signature. (signature.has_verified ≡ flag_of call.now.has_verified) × (signature.parts ≡ call.now.verified)) }
+/// The verifier of the signature that the host verified.
+fn registration_verifier<'a>(call: &RegistrationCall<'a>) -> Result<HostVerifier<'a>, InputFault>
+    ensures found { IfOk result (λ verifier. option_map lent_signature_view verifier.verified ≡ verified_in (flag_of call.now.has_verified) call.now.verified) }
     ensures algorithm { OnOk result (RegistrationKeeps call.now Limit.VerifiedAlgorithm) }
     ensures x { OnOk result (RegistrationKeeps call.now Limit.VerifiedX) }
     ensures y { OnOk result (RegistrationKeeps call.now Limit.VerifiedY) }
     ensures refused { IfErr result (IsFault (RegistrationKeeps call.now)) }
 {
-    match verified_from(call.has_verified != 0, call.verified) {
-        Ok(signature) => Ok(signature),
+    match verifier_from(call.has_verified != 0, &call.verified) {
+        Ok(verifier) => Ok(verifier),
         Err(KeyLimit::Algorithm) => Err(InputFault::Limit(Limit::VerifiedAlgorithm)),
         Err(KeyLimit::X) => Err(InputFault::Limit(Limit::VerifiedX)),
         Err(KeyLimit::Y) => Err(InputFault::Limit(Limit::VerifiedY)),
@@ -111,12 +111,11 @@ fn verified(
     call: &RegistrationCall<'_>,
     party: &RelyingParty,
     session: Option<&RegistrationSession>,
-    signature: &VerifiedSignature<'_>,
+    verifier: &HostVerifier<'_>,
 ) -> Result<VerifiedRegistration, Refusal>
     requires party { party.now ≡ party_of call.now.party }
     requires session { option_map (λ s. registration_view s.now) session ≡ (judged_registration call.now).session }
-    requires flag { signature.now.has_verified ≡ flag_of call.now.has_verified }
-    requires parts { signature.now.parts ≡ call.now.verified }
+    requires verified { option_map lent_signature_view verifier.now.verified ≡ verified_in (flag_of call.now.has_verified) call.now.verified }
     requires limits { Each (RegistrationKeeps call.now) registration_limits }
     ensures accepted { IfOk result (λ v. IsVerifiedRegistration (judged_registration call.now) v
         × Each (PassesRegistrationStep (registration_validity call.now) (judged_registration call.now)) response_steps) }
@@ -134,7 +133,7 @@ fn verified(
             client_data: call.response.client_data,
         },
     };
-    match verify_registration(alloc, signature, &attempt) {
+    match verify_registration(alloc, verifier, &attempt) {
         Ok(verified) => Ok(verified),
         Err(VerificationError::Refused(step)) => Err(Refusal::Step(step)),
         Err(VerificationError::Memory) => Err(Refusal::Input(InputFault::Memory)),
@@ -156,8 +155,8 @@ fn judge(alloc: Global, call: &RegistrationCall<'_>) -> Result<(), Refusal>
 {
     let party = party_from(alloc, &call.party)?;
     let session = expected(alloc, call)?;
-    let signature = registration_signature(call)?;
-    let verified = verified(alloc, call, &party, session.as_ref(), &signature)?;
+    let verifier = registration_verifier(call)?;
+    let verified = verified(alloc, call, &party, session.as_ref(), &verifier)?;
     let is_registered = is_registered(call, verified.id());
     match verified.admit(is_registered, call.is_full != 0) {
         Ok(_) => Ok(()),

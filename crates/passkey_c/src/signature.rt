@@ -1,63 +1,34 @@
-//! The verifier of one signature.
+//! The signature that a host verified, from its parts.
 
 ghost use Rattle.std.specs.Prelude.{◌≡◌, IfErr, IfOk, OnOk, option_map, true};
-ghost use Rattle.cose.specs.Keys.{lent_key_view};
 ghost use Rattle.refusal_order.specs.Lines.{Each};
+ghost use Rattle.verified_signature.specs.Signed.{lent_signature_view};
 ghost use Rattle.passkey_c.specs.Limits.{KeyKeeps, key_order};
-ghost use Rattle.passkey_c.specs.Parts.{given_some, key_of};
+ghost use Rattle.passkey_c.specs.Parts.{verified_in};
 
 use crate::input::{KeyLimit, key_from};
 use crate::parts::VerifiedParts;
-use cose::{KeyView, Verifier, is_joined};
-
-/// A verifier to which one signature is valid, the one that the host verified, or none.
-#[derive(Drop)]
-pub(crate) struct VerifiedSignature<'a> {
-    pub(crate) has_verified: bool,
-    pub(crate) parts: VerifiedParts<'a>,
-    pub(crate) key: Option<KeyView<'a>>,
-    ghost is_key: { option_map lent_key_view key ≡ given_some has_verified (key_of parts.key) },
-}
-
-impl Verifier for VerifiedSignature<'_> {
-    ghost use Rattle.passkey_c.specs.Parts.{only_verified};
-
-    ghost valid = { λ s key message signature. only_verified s.has_verified s.parts key message signature };
-
-    fn verify(&self, key: &KeyView<'_>, parts: [&[u8]; 2], sig: &[u8]) -> bool {
-        let [first, second] = parts;
-        match &self.key {
-            Some(own) => {
-                own.is_same(key)
-                    && is_joined(self.parts.message, first, second)
-                    && self.parts.signature == sig
-            }
-            None => false,
-        }
-    }
-}
+use verified_signature::{HostVerifier, SignatureView};
 
 /// The verifier of the signature that the host verified, where it says that it did.
-pub(crate) fn verified_from<'a>(
+pub(crate) fn verifier_from<'a>(
     has_verified: bool,
-    parts: VerifiedParts<'a>,
-) -> Result<VerifiedSignature<'a>, KeyLimit>
-    ensures same { IfOk result (λ signature. (signature.has_verified ≡ has_verified) × (signature.parts ≡ parts.entry)) }
-    ensures kept { OnOk result (has_verified ≡ true → Each (KeyKeeps parts.entry.key) key_order) }
-    ensures refused { IfErr result (λ limit. (has_verified ≡ true) × (KeyKeeps parts.entry.key limit → ⊥)) }
+    parts: &VerifiedParts<'a>,
+) -> Result<HostVerifier<'a>, KeyLimit>
+    ensures found { IfOk result (λ verifier. option_map lent_signature_view verifier.verified ≡ verified_in has_verified parts.now) }
+    ensures kept { OnOk result (has_verified ≡ true → Each (KeyKeeps parts.now.key) key_order) }
+    ensures refused { IfErr result (λ limit. (has_verified ≡ true) × (KeyKeeps parts.now.key limit → ⊥)) }
 {
     if !has_verified {
-        return Ok(VerifiedSignature {
-            has_verified,
-            parts,
-            key: None,
-        });
+        return Ok(HostVerifier { verified: None });
     }
     match key_from(&parts.key) {
-        Ok(key) => Ok(VerifiedSignature {
-            has_verified,
-            parts,
-            key: Some(key),
+        Ok(key) => Ok(HostVerifier {
+            verified: Some(SignatureView {
+                key,
+                message: parts.message,
+                signature: parts.signature,
+            }),
         }),
         Err(limit) => Err(limit),
     }

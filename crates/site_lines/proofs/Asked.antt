@@ -8,8 +8,8 @@ use Rattle.authdata.specs.Statements.{IsSelfSignedBy}
 use Rattle.cose.specs.declared.key.CoseKey.{CoseKey}
 use Rattle.verification.specs.Registration.{hash_in}
 use Rattle.site_lines.specs.Answers.{RegistrationAsks}
-use Rattle.site_lines.specs.Private.{AttestsKey}
-use Rattle.site_lines.specs.declared.verified_signature.VerifiedSignature.{VerifiedSignature}
+use Rattle.verified_signature.specs.Attested.{AttestsKey}
+use Rattle.verified_signature.specs.declared.signature.VerifiedSignature.{VerifiedSignature}
 
 pub registration_asks : (p : Profile) (r : AuthenticatorAttestationResponse) (o : Attestation) (key : CoseKey) (t : VerifiedSignature) → ObjectOf o r.object
     → AttestsKey p o.auth_data key → IsSelfSignedBy o key t.signature.items → t.key ≡ key → t.message.items ≡ o.auth_data ++ hash_in r

@@ -1,5 +1,5 @@
 -- What is told of a ceremony that is finished, by what the site's call says.
-use Rattle.std.proofs.Common.{◌≡◌, refl, subst, sym}
+use Rattle.std.proofs.Common.{◌≡◌, Option, refl, subst, sym}
 use Rattle.sqlite_trees.specs.View.{View}
 use Rattle.authdata.specs.Responses.{AuthenticatorAssertionResponse, assertion_response_view, registration_response_view}
 use Rattle.authdata.specs.Responses as responses
@@ -19,7 +19,8 @@ use Rattle.site.specs.State.{IsAfterRegistration, IsAfterSignIn, SiteState, judg
 use Rattle.site.specs.declared.signing_in.SignedIn.{SignedIn}
 use Rattle.site.specs.declared.registration.Registered.{Registered}
 use Rattle.stored_site.specs.Holds.{Stored, StoredState}
-use Rattle.site_lines.specs.VerifiedSignatures.{is_valid}
+use Rattle.verified_signature.specs.Signed.{Signed, only_verified}
+use Rattle.site_lines.specs.VerifiedSignatures.{is_valid, verified_in}
 use Rattle.site_lines.specs.declared.act.FinishRegistration.{FinishRegistration}
 use Rattle.site_lines.specs.declared.act.FinishSignIn.{FinishSignIn}
 use Rattle.site_lines.specs.declared.answer.Answer.{Answer}
@@ -29,14 +30,17 @@ use Rattle.site_lines.specs.Private.{IsRefusedRegistration, IsRefusedSignIn}
 
 -- an acceptance, of the parts that were judged
 pub sign_in_accepted : {S : Type 0} (view : S → View) (f : FinishSignIn) (old new : StoredState S) (r : AuthenticatorAssertionResponse) (x : SignedIn)
+    (v : Option Signed) → v ≡ verified_in f.verified
     → r ≡ assertion_response_view f.response
-    → PassesSignIn (is_valid f.verified) (judged_sign_in old.site f.session r) × IsSignedIn old.site r x
+    → PassesSignIn (only_verified v) (judged_sign_in old.site f.session r) × IsSignedIn old.site r x
     → IsAfterSignIn old.site f.session r new.site → Stored view new → TellsSignIn view f old new (answers.SignedIn x f.response)
-sign_in_accepted view f old new r x same accepted after stored =
+sign_in_accepted view f old new r x v verified same accepted after stored =
+    let passes : PassesSignIn (is_valid f.verified) (judged_sign_in old.site f.session r) =
+    subst (λ (w : Option Signed). PassesSignIn (only_verified w) (judged_sign_in old.site f.session r)) verified accepted.0 in
     let P : AuthenticatorAssertionResponse → Type 0 = λ r. (f.response ≡ f.response) × PassesSignIn (is_valid f.verified) (judged_sign_in old.site f.session r)
     × IsSignedIn old.site r x
     × IsAfterSignIn old.site f.session r new.site × Stored view new in
-    subst P same (refl, accepted.0, accepted.1, after, stored)
+    subst P same (refl, passes, accepted.1, after, stored)
 
 -- what is told of a step that was not passed
 pub sign_in_refused : {S : Type 0} (view : S → View) (f : FinishSignIn) (old new : StoredState S) (s : SiteState) (step : SignInRefusal) (a : Answer)
@@ -70,14 +74,17 @@ sign_in_refused view f old new s step (answers.Failed why) same first h = absurd
 -- an acceptance, of the parts that were judged
 pub registration_accepted : {S : Type 0} (view : S → View) (f : FinishRegistration) (old new : StoredState S)
     (r : responses.AuthenticatorAttestationResponse) (x : Registered)
+    (v : Option Signed) → v ≡ verified_in f.verified
     → r ≡ registration_response_view f.response
-    → PassesRegistration (is_valid f.verified) (judged_registration old.site f.session r) × IsRegistered old.site r x
+    → PassesRegistration (only_verified v) (judged_registration old.site f.session r) × IsRegistered old.site r x
     → IsAfterRegistration old.site f.session r new.site → Stored view new → TellsRegistration view f old new (answers.Registered x f.response)
-registration_accepted view f old new r x same accepted after stored =
+registration_accepted view f old new r x v verified same accepted after stored =
+    let passes : PassesRegistration (is_valid f.verified) (judged_registration old.site f.session r) =
+    subst (λ (w : Option Signed). PassesRegistration (only_verified w) (judged_registration old.site f.session r)) verified accepted.0 in
     let P : responses.AuthenticatorAttestationResponse → Type 0 = λ r. (f.response ≡ f.response) × PassesRegistration (is_valid f.verified)
     (judged_registration old.site f.session r) × IsRegistered old.site r x
     × IsAfterRegistration old.site f.session r new.site × Stored view new in
-    subst P same (refl, accepted.0, accepted.1, after, stored)
+    subst P same (refl, passes, accepted.1, after, stored)
 
 -- what is told of a step that was not passed
 pub registration_refused : {S : Type 0} (view : S → View) (f : FinishRegistration) (old new : StoredState S) (s : SiteState)
@@ -112,19 +119,21 @@ registration_refused view f old new s step (answers.Failed why) same first h = a
 
 -- the step that was not passed, of the parts that were judged
 pub sign_in_step : (f : FinishSignIn) (s : SiteState) (r : AuthenticatorAssertionResponse) (why : VerificationError SignInRefusal) (step : SignInRefusal)
-    → r ≡ assertion_response_view f.response → why ≡ errors.Refused step
-    → sign_in_answers.IsRefused (is_valid f.verified) (judged_sign_in s f.session r) why
+    (v : Option Signed) → v ≡ verified_in f.verified → r ≡ assertion_response_view f.response → why ≡ errors.Refused step
+    → sign_in_answers.IsRefused (only_verified v) (judged_sign_in s f.session r) why
     → IsFirstFailing (is_valid f.verified) (judged_sign_in s f.session (assertion_response_view f.response)) step
-sign_in_step f s r why step same is refused =
+sign_in_step f s r why step v verified same is refused =
+    let here = subst (λ (w : Option Signed). sign_in_answers.IsRefused (only_verified w) (judged_sign_in s f.session r) why) verified refused in
     let P : AuthenticatorAssertionResponse → Type 0 = λ r. IsFirstFailing (is_valid f.verified) (judged_sign_in s f.session r) step in
-    subst P same (subst (sign_in_answers.IsRefused (is_valid f.verified) (judged_sign_in s f.session r)) is refused)
+    subst P same (subst (sign_in_answers.IsRefused (is_valid f.verified) (judged_sign_in s f.session r)) is here)
 
 pub registration_step : (f : FinishRegistration) (s : SiteState) (r : responses.AuthenticatorAttestationResponse)
     (why : VerificationError RegistrationRefusal) (step : RegistrationRefusal)
-    → r ≡ registration_response_view f.response → why ≡ errors.Refused step
-    → registration_answers.IsRefused (is_valid f.verified) (judged_registration s f.session r) why
+    (v : Option Signed) → v ≡ verified_in f.verified → r ≡ registration_response_view f.response → why ≡ errors.Refused step
+    → registration_answers.IsRefused (only_verified v) (judged_registration s f.session r) why
     → registration.IsFirstFailing (is_valid f.verified) (judged_registration s f.session (registration_response_view f.response)) step
-registration_step f s r why step same is refused =
+registration_step f s r why step v verified same is refused =
+    let here = subst (λ (w : Option Signed). registration_answers.IsRefused (only_verified w) (judged_registration s f.session r) why) verified refused in
     let P : responses.AuthenticatorAttestationResponse → Type 0 =
     λ r. registration.IsFirstFailing (is_valid f.verified) (judged_registration s f.session r) step in
-    subst P same (subst (registration_answers.IsRefused (is_valid f.verified) (judged_registration s f.session r)) is refused)
+    subst P same (subst (registration_answers.IsRefused (is_valid f.verified) (judged_registration s f.session r)) is here)

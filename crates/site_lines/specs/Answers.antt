@@ -21,9 +21,9 @@ use Rattle.site.specs.Answers.{IsRegistered, IsSignedIn}
 use Rattle.site.specs.State.{IsAfterRegistration, IsAfterSignIn, SiteState, judged_registration, judged_sign_in}
 use Rattle.stored_site.specs.Expiry.{moments_since, since}
 use Rattle.stored_site.specs.Holds.{IsFailure, Stored, StoredState}
+use Rattle.verified_signature.specs.declared.signature.VerifiedSignature.{VerifiedSignature}
 use Rattle.site_lines.specs.VerifiedSignatures.{is_valid}
-use Rattle.site_lines.specs.declared.verified_signature.Verified.TheVariants as found
-use Rattle.site_lines.specs.declared.verified_signature.VerifiedSignature.{VerifiedSignature}
+use Rattle.site_lines.specs.declared.verified.Verified.TheVariants as found
 use Rattle.site_lines.specs.declared.act.Act.{Act}
 use Rattle.site_lines.specs.declared.act.Act.TheVariants as acts
 use Rattle.site_lines.specs.declared.act.BeginRegistration.{BeginRegistration}

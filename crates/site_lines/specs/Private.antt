@@ -1,8 +1,5 @@
 -- What private functions are proved against; no public clause cites it.
-use Rattle.std.specs.Prelude.{◌≡◌, ℕ, List, Some}
-use Rattle.cose.specs.declared.key.CoseKey.{CoseKey}
-use Rattle.authdata.specs.declared.profile.Profile.{Profile}
-use Rattle.authdata.specs.Layout.{AttestedCredential, AuthenticatorData, AuthOf}
+use Rattle.std.specs.Prelude.{◌≡◌}
 use Rattle.authdata.specs.Responses.{assertion_response_view, registration_response_view}
 use Rattle.verification.specs.declared.refusal.SignInRefusal.{SignInRefusal}
 use Rattle.verification.specs.declared.refusal.SignInRefusal.TheVariants as sign_in
@@ -17,7 +14,7 @@ use Rattle.site_lines.specs.declared.act.FinishSignIn.{FinishSignIn}
 use Rattle.site_lines.specs.declared.answer.Answer.{Answer}
 use Rattle.site_lines.specs.declared.answer.Answer.TheVariants as answers
 use Rattle.site_lines.specs.declared.error.LineError.TheVariants as errors
-use Rattle.site_lines.specs.declared.verified_signature.Verified.TheVariants as found
+use Rattle.site_lines.specs.declared.verified.Verified.TheVariants as found
 use Rattle.site_lines.specs.Answers.{RegistrationAsks, SignInAsks}
 
 -- what is answered where no session begins
@@ -49,7 +46,3 @@ IsRefusedRegistration s step f (answers.Verify t) =
     (step ≡ register.BadStatement) × (f.verified ≡ found.Nothing) × RegistrationAsks s.rp.profile (registration_response_view f.response) t
 IsRefusedRegistration s step f (answers.Error why) = Unit {0}
 IsRefusedRegistration s step f _ = ⊥
-
--- authenticator data attest a key
-abbrev pub AttestsKey : Profile → List ℕ → CoseKey → Type 0
-AttestsKey profile bs key = (a : AuthenticatorData) × (c : AttestedCredential) × AuthOf profile a bs × (a.attested ≡ Some c) × (c.key ≡ key)

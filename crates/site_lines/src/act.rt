@@ -1,6 +1,6 @@
 //! What a line asks for.
 
-use crate::verified_signature::Verified;
+use crate::verified::Verified;
 use authdata::{AssertionResponse, RegistrationResponse};
 use cose::Alg;
 

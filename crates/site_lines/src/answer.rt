@@ -2,10 +2,10 @@
 
 use crate::act::{BeginRegistration, BeginSignIn};
 use crate::error::LineError;
-use crate::verified_signature::VerifiedSignature;
 use authdata::{AssertionResponse, RegistrationResponse};
 use site::{Registered, RegistrationRefusal, SignInRefusal, SignedIn, Started};
 use stored_site::Failure;
+use verified_signature::VerifiedSignature;
 
 /// What a line is answered.
 #[derive(Debug, Drop)]

@@ -86,7 +86,8 @@ pub(crate) fn finish_sign_in<S: Store>(
     ensures kept { Keeps site.old site.new result }
 {
     let parts = assertion_parts(&finish.response);
-    match site.finish_parts(&finish.verified, finish.session, &parts) {
+    let verifier = finish.verified.verifier();
+    match site.finish_parts(&verifier, finish.session, &parts) {
         Ok(signed_in) => Answer::SignedIn(signed_in, finish.response),
         Err(FinishFailure::Site(VerificationError::Refused(step))) => {
             refused_sign_in(alloc, site.site(), step, finish)
@@ -106,7 +107,8 @@ pub(crate) fn finish_registration<S: Store>(
     ensures kept { Keeps site.old site.new result }
 {
     let parts = registration_parts(&finish.response);
-    match site.finish_registration_parts(&finish.verified, finish.session, &parts) {
+    let verifier = finish.verified.verifier();
+    match site.finish_registration_parts(&verifier, finish.session, &parts) {
         Ok(registered) => Answer::Registered(registered, finish.response),
         Err(FinishFailure::Site(VerificationError::Refused(step))) => {
             refused_registration(alloc, site.site(), step, finish)

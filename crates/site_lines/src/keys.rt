@@ -3,39 +3,22 @@
 
 use crate::error::LineError;
 use crate::members::{algorithm, bytes, needed};
-use cose::{Alg, CoseKey, RsaView};
+use cose::{Alg, CoseKey};
 use serde_json::Value;
 use std::alloc::Global;
-
-/// 32 bytes.
-fn coordinate(alloc: Global, object: &Value, name: &'static str) -> Result<[u8; 32], LineError> {
-    let bytes = bytes(alloc, object, name)?;
-    match <[u8; 32]>::try_from(bytes.as_slice()) {
-        Ok(coordinate) => Ok(coordinate),
-        Err(_) => Err(LineError::BadForm(name)),
-    }
-}
-
-/// The RSA key of a modulus `x` and an exponent `y`.
-fn rsa_key(alloc: Global, object: &Value) -> Result<CoseKey, LineError> {
-    let n = bytes(alloc, object, "x")?;
-    let e = bytes(alloc, object, "y")?;
-    match RsaView::new(n.as_slice(), e.as_slice()) {
-        Some(key) => Ok(CoseKey::Rs256(key.to_key(alloc)?)),
-        None => Err(LineError::BadForm("x")),
-    }
-}
+use verified_signature::{Coordinate, key_from};
 
 /// The key of the members `algorithm`, `x` and `y`; of EdDSA `y` is not looked at.
 pub(crate) fn key(alloc: Global, object: &Value) -> Result<CoseKey, LineError> {
-    match algorithm(needed(object, "algorithm")?, "algorithm")? {
-        Alg::Es256 => Ok(CoseKey::Es256 {
-            x: coordinate(alloc, object, "x")?,
-            y: coordinate(alloc, object, "y")?,
-        }),
-        Alg::EdDsa => Ok(CoseKey::EdDsa {
-            x: coordinate(alloc, object, "x")?,
-        }),
-        Alg::Rs256 => rsa_key(alloc, object),
+    let alg = algorithm(needed(object, "algorithm")?, "algorithm")?;
+    let x = bytes(alloc, object, "x")?;
+    let y = match alg {
+        Alg::EdDsa => Vec::new(alloc),
+        Alg::Es256 | Alg::Rs256 => bytes(alloc, object, "y")?,
+    };
+    match key_from(alg, x.as_slice(), y.as_slice()) {
+        Ok(key) => Ok(key.to_key(alloc)?),
+        Err(Coordinate::X) => Err(LineError::BadForm("x")),
+        Err(Coordinate::Y) => Err(LineError::BadForm("y")),
     }
 }

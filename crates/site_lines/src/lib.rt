@@ -16,7 +16,7 @@ mod members;
 mod options;
 mod reading;
 mod response;
-mod verified_signature;
+mod verified;
 mod writing;
 
 pub use act::{Act, BeginRegistration, BeginSignIn, FinishRegistration, FinishSignIn};
@@ -26,5 +26,5 @@ pub use error::LineError;
 pub use line::{Answered, answer_line, carry_out};
 pub use log::{Logged, log_line};
 pub use reading::{Line, LineFault, MAX_LINE, read_line};
-pub use verified_signature::{Verified, VerifiedSignature};
+pub use verified::Verified;
 pub use writing::write_answer;

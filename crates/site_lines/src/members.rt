@@ -81,11 +81,9 @@ pub(crate) fn list_of_bytes(
 
 /// The algorithm of a COSE number.
 pub(crate) fn algorithm(value: &Value, name: &'static str) -> Result<Alg, LineError> {
-    match value.as_i64() {
-        Some(-7) => Ok(Alg::Es256),
-        Some(-8) => Ok(Alg::EdDsa),
-        Some(-257) => Ok(Alg::Rs256),
-        _ => Err(LineError::BadForm(name)),
+    match value.as_i64().and_then(Alg::from_number) {
+        Some(alg) => Ok(alg),
+        None => Err(LineError::BadForm(name)),
     }
 }
 

@@ -9,9 +9,10 @@ use crate::members::{
     algorithms, bytes, flag, list_of_bytes, member, needed, number, optional_bytes, text,
 };
 use crate::response::{assertion_response, credential_id, registration_response};
-use crate::verified_signature::{Verified, VerifiedSignature};
+use crate::verified::Verified;
 use serde_json::Value;
 use std::alloc::Global;
+use verified_signature::VerifiedSignature;
 
 /// The most bytes of a line.
 pub const MAX_LINE: usize = 65_536;

@@ -2,7 +2,6 @@
 
 use crate::answer::Answer;
 use crate::options::{base64_text, creation_options, request_options};
-use crate::verified_signature::VerifiedSignature;
 use authdata::flags::{BS, UV, is_set};
 use authdata::{
     AssertionResponse, AttestationObject, AuthView, Profile, RegistrationResponse, read_view,
@@ -12,6 +11,7 @@ use serde_json::{Value, json};
 use site::{Registered, RegistrationRefusal, RowView, SignInRefusal, SignedIn, Site};
 use std::alloc::{AllocError, Global};
 use std::fmt::Display;
+use verified_signature::VerifiedSignature;
 
 /// The text of an error.
 fn told(alloc: Global, error: &impl Display) -> Result<Value, AllocError> {

@@ -30,7 +30,7 @@ use Rattle.stored_site.specs.Calls.{IsBegun, Registers}
 use Rattle.stored_site.specs.Expiry.{moments_since, since}
 use Rattle.stored_site.specs.Opened.{AreKept, IsKept}
 use Rattle.stored_site.specs.KeptLaws.{words_of}
-use Rattle.stored_site.specs.Rows.{IsStored}
+use Rattle.credential_store.specs.Rows.{IsStored}
 use Rattle.stored_site.specs.SessionRows.{AreMoments, HaveMoments, IsStoredSession, ListFew, ListsFew, Moments, or_0}
 use Rattle.stored_site.specs.Holds.{Holds}
 use Rattle.stored_site.specs.Private.{is_in, is_older, removed}

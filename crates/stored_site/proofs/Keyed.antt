@@ -6,7 +6,7 @@ use Rattle.sqlite_trees.specs.Tree.{rowid}
 use Rattle.sqlite_trees.specs.View.{is_int}
 use Rattle.verification.specs.Records.{Credential}
 use Rattle.ceremony_sessions.specs.Sessions.{Expected, ForSignIn, ForRegistration}
-use Rattle.stored_site.specs.Rows.{credential_row}
+use Rattle.credential_store.specs.Rows.{credential_row}
 use Rattle.stored_site.specs.SessionRows.{session_row}
 use Rattle.stored_site.specs.Holds.{site_row}
 use Rattle.stored_site.proofs.Trees.{within}

@@ -1,5 +1,4 @@
 pub mod Trees
-pub mod One
 pub mod Transactions
 pub mod Scans
 pub mod New

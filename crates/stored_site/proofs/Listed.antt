@@ -6,7 +6,7 @@ use Rattle.sqlite_value.specs.Order.{column}
 use Rattle.verification.specs.Records.{ExpectedSignIn}
 use Rattle.ceremony_sessions.specs.Sessions.{ForSignIn}
 use Rattle.stored_site.specs.SessionRows.{blob_or_null, session_row}
-use Rattle.stored_site.specs.Private.{blob_in}
+use Rattle.credential_store.specs.Values.{blob_in}
 
 pub listed_at : (n m : ℕ) (e : ExpectedSignIn) (i : ℕ) → i < 8 → column (session_row n m (ForSignIn e)) (8 + i) ≡ blob_or_null (slice_get e.allow i)
 listed_at n m e zero lt = refl

@@ -6,9 +6,9 @@ use Rattle.sqlite_value.specs.declared.value.Value.TheVariants.{Int}
 use Rattle.verification.specs.Records.{ExpectedSignIn, ExpectedRegistration}
 use Rattle.ceremony_sessions.specs.Sessions.{Expected, ForSignIn, ForRegistration}
 use Rattle.stored_site.specs.SessionRows.{ListsFew, blob_or_null, session_row}
-use Rattle.stored_site.specs.Private.{blob_in}
+use Rattle.credential_store.specs.Values.{blob_in}
 use Rattle.stored_site.proofs.Listed.{bytes_of, listed_in_column}
-use Rattle.stored_site.proofs.One.{blob_once, truth_once}
+use Rattle.credential_store.proofs.One.{blob_once, truth_once}
 use Rattle.stored_site.proofs.Texts.{algorithms_once}
 
 number_at : (n a : ℕ) (e : Expected) → column (session_row n a e) 0 ≡ Int (pos n)

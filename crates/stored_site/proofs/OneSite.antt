@@ -4,10 +4,11 @@ use Rattle.sqlite_value.specs.Order.{column, bytes}
 use Rattle.sqlite_trees.specs.Tree.{Trees}
 use Rattle.verification.specs.Records.{Credential}
 use Rattle.site.specs.State.{SiteState}
-use Rattle.stored_site.specs.Rows.{credential_row, credential_rows}
+use Rattle.credential_store.specs.Rows.{credential_row}
+use Rattle.stored_site.specs.Rows.{credential_rows}
 use Rattle.stored_site.specs.SessionRows.{HaveMoments, ListFew, Moments}
 use Rattle.stored_site.specs.Holds.{Holds, site_row}
-use Rattle.stored_site.proofs.One.{number_once, one_credential}
+use Rattle.credential_store.proofs.One.{number_once, one_credential}
 use Rattle.stored_site.proofs.OneMap.{one_map, one_moments}
 
 -- rows of credentials are those of one list

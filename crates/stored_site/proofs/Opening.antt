@@ -21,11 +21,11 @@ use Rattle.stored_site.specs.Opened.{HoldsNone, IsKept, IsLeft, IsNamed, NoSiteI
 use Rattle.stored_site.specs.Opening.{of_begin, of_row, of_table}
 use Rattle.stored_site.specs.Private.{IsSameView}
 use Rattle.stored_site.specs.declared.failure.OpenFailure.{OpenFailure}
-use Rattle.stored_site.specs.declared.error.RowError.{RowError}
-use Rattle.stored_site.specs.declared.error.RowError.TheVariants as rows
+use Rattle.credential_store.specs.declared.error.RowError.{RowError}
+use Rattle.credential_store.specs.declared.error.RowError.TheVariants as rows
 use Rattle.credential_table.specs.declared.table.Error.{Error as TableError}
 use Rattle.credential_table.specs.declared.table.Error.TheVariants as tables
-use Rattle.stored_site.proofs.One.{blob_once}
+use Rattle.credential_store.proofs.One.{blob_once}
 use Rattle.stored_site.proofs.OneSession.{same_number}
 use Rattle.stored_site.proofs.ReadRows.{length_rows, length_sessions}
 

@@ -8,7 +8,8 @@ use Rattle.sqlite_trees.specs.Tree.{put_row}
 use Rattle.verification.specs.Records.{Credential}
 use Rattle.ceremony_sessions.specs.Sessions.{Expected}
 use Rattle.std.specs.List.{AllByRecursion}
-use Rattle.stored_site.specs.Rows.{IsStored, credential_row, credential_rows}
+use Rattle.credential_store.specs.Rows.{IsStored, credential_row}
+use Rattle.stored_site.specs.Rows.{credential_rows}
 use Rattle.stored_site.specs.SessionRows.{Moments, moment_of, session_row, session_rows}
 use Rattle.stored_site.specs.Private.{AreBelow}
 use Rattle.stored_site.proofs.Trees.{below, put_session, rowid_of}

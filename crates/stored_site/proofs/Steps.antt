@@ -12,7 +12,8 @@ use Rattle.verification.specs.Records.{Credential}
 use Rattle.credential_table.specs.Views.{rows_view}
 use Rattle.credential_table.specs.declared.row.Row.{Row as StoredRow}
 use Rattle.ceremony_sessions.specs.Sessions.{AreLimits, Expected, HasNumber, OpenSessions}
-use Rattle.stored_site.specs.Rows.{IsStored, credential_row, credential_rows}
+use Rattle.credential_store.specs.Rows.{IsStored, credential_row}
+use Rattle.stored_site.specs.Rows.{credential_rows}
 use Rattle.stored_site.specs.SessionRows.{HaveMoments, IsStoredSession, ListFew, Moments, moment_of, session_row, session_rows}
 use Rattle.stored_site.specs.Holds.{AreRowids}
 use Rattle.stored_site.specs.Opened.{AreKept}

@@ -18,7 +18,8 @@ use Rattle.credential_table.specs.Table.{AreRows, row_of, with_row}
 use Rattle.credential_table.proofs.RowLemmas.{found_id, length-changed, set_at}
 use Rattle.ceremony_sessions.specs.Sessions.{Expected, OpenSessions, Opening, begun, closed, expected_of}
 use Rattle.site.specs.State.{SiteState}
-use Rattle.stored_site.specs.Rows.{credential_row, credential_rows}
+use Rattle.credential_store.specs.Rows.{credential_row}
+use Rattle.stored_site.specs.Rows.{credential_rows}
 use Rattle.stored_site.specs.SessionRows.{HaveMoments, Moments, session_row, session_rows}
 use Rattle.stored_site.specs.Expiry.{moments_since, since}
 use Rattle.stored_site.specs.Holds.{AreRowids, Holds, IsCommitted, site_row}

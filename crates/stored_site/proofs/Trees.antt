@@ -17,7 +17,8 @@ use Rattle.ceremony_sessions.specs.Sessions.{Expected, ForSignIn, ForRegistratio
 use Rattle.authdata.specs.declared.profile.Profile.{Profile}
 use Rattle.credential_table.specs.Table.{AreRows, with_row}
 use Rattle.credential_table.proofs.RowLemmas.{set_at, changed_at}
-use Rattle.stored_site.specs.Rows.{credential_row, credential_rows}
+use Rattle.credential_store.specs.Rows.{credential_row}
+use Rattle.stored_site.specs.Rows.{credential_rows}
 use Rattle.stored_site.specs.SessionRows.{Moments, session_row, session_rows}
 use Rattle.stored_site.proofs.Joined.{Timed, joined, joined_insert, joined_remove, rows_joined, timed_row, timed_rows}
 

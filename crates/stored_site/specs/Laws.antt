@@ -8,7 +8,8 @@ use Rattle.verification.specs.Records.{Credential}
 use Rattle.credential_table.specs.Table.{AreRows, with_row}
 use Rattle.ceremony_sessions.specs.Sessions.{Expected, OpenSessions}
 use Rattle.site.specs.State.{SiteState}
-use Rattle.stored_site.specs.Rows.{credential_row, credential_rows}
+use Rattle.credential_store.specs.Rows.{credential_row}
+use Rattle.stored_site.specs.Rows.{credential_rows}
 use Rattle.stored_site.specs.SessionRows.{HaveMoments, ListFew, ListsFew, Moments, moment_of, session_row, session_rows}
 use Rattle.stored_site.specs.Holds.{Holds}
 use Rattle.stored_site.specs.Expiry.{since}

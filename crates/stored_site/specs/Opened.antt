@@ -8,7 +8,7 @@ use Rattle.verification.specs.Records.{RelyingParty}
 use Rattle.credential_table.specs.Table.{IsTable}
 use Rattle.ceremony_sessions.specs.Sessions.{Expected, HasNumber, OpenSessions, AreLimits}
 use Rattle.site.specs.State.{SiteState}
-use Rattle.stored_site.specs.Rows.{IsStored}
+use Rattle.credential_store.specs.Rows.{IsStored}
 use Rattle.stored_site.specs.SessionRows.{AreMoments, HaveMoments, IsStoredSession, Moments}
 use Rattle.stored_site.specs.Holds.{Holds, HasTables}
 use Rattle.stored_site.specs.declared.failure.OpenFailure.{OpenFailure}

@@ -7,8 +7,8 @@ use Rattle.credential_table.specs.declared.table.Error.{Error as TableError}
 use Rattle.credential_table.specs.declared.table.Error.TheVariants as tables
 use Rattle.ceremony_sessions.specs.declared.error.Error.{Error as BeginError}
 use Rattle.ceremony_sessions.specs.declared.error.Error.TheVariants as begins
-use Rattle.stored_site.specs.declared.error.RowError.{RowError}
-use Rattle.stored_site.specs.declared.error.RowError.TheVariants as rows
+use Rattle.credential_store.specs.declared.error.RowError.{RowError}
+use Rattle.credential_store.specs.declared.error.RowError.TheVariants as rows
 use Rattle.stored_site.specs.declared.failure.OpenFailure.{OpenFailure}
 use Rattle.stored_site.specs.declared.failure.OpenFailure.TheVariants as opens
 

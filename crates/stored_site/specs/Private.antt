@@ -10,33 +10,9 @@ use Rattle.verification.specs.Records.{Credential}
 use Rattle.credential_table.specs.Table.{AreRows, row_of, with_row}
 use Rattle.ceremony_sessions.specs.Sessions.{Expected, Opening, begun, closed}
 use Rattle.site.specs.State.{SiteState}
-use Rattle.stored_site.specs.Rows.{credential_row}
+use Rattle.credential_store.specs.Rows.{credential_row}
 use Rattle.stored_site.specs.SessionRows.{session_row}
 use Rattle.stored_site.specs.Writes.{gone}
-use Rattle.sqlite_value.specs.declared.value.Value.{Value}
-use Rattle.sqlite_value.specs.declared.value.Value.TheVariants.{Null, Int, Real, Text, Blob}
-
--- the bytes of a blob; the bytes of a text; the number of an integer
-abbrev pub blob_in : Value → Option (List ℕ)
-blob_in Null = None
-blob_in (Int n) = None
-blob_in (Real x) = None
-blob_in (Text t) = None
-blob_in (Blob b) = Some b
-
-abbrev pub text_in : Value → Option (List ℕ)
-text_in Null = None
-text_in (Int n) = None
-text_in (Real x) = None
-text_in (Text t) = Some t
-text_in (Blob b) = None
-
-abbrev pub int_in : Value → Option ℤ
-int_in Null = None
-int_in (Int n) = Some n
-int_in (Real x) = None
-int_in (Text t) = None
-int_in (Blob b) = None
 
 -- a row of the credential of an id, where it stands
 pub record IsRowAt (s : SiteState) (id : List ℕ) (row : Row) : Type 0 where

@@ -9,7 +9,7 @@ use Rattle.sqlite_value.specs.declared.value.Value.TheVariants.{Null, Int, Blob,
 use Rattle.cose.specs.declared.key.Alg.{Alg}
 use Rattle.cose.specs.declared.key.Alg.TheVariants as algs
 use Rattle.ceremony_sessions.specs.Sessions.{Expected, ForSignIn, ForRegistration, OpenSessions}
-use Rattle.stored_site.specs.Rows.{truth_value}
+use Rattle.credential_store.specs.Values.{truth_value}
 
 abbrev pub blob_or_null : Option (List ℕ) → Value
 blob_or_null None = Null

@@ -9,7 +9,7 @@ ghost use Rattle.stored_site.specs.Opening.{of_begin, of_row, of_table};
 ghost use Rattle.stored_site.specs.declared.failure.BeginFailure.TheVariants as begin_failures;
 ghost use Rattle.stored_site.specs.declared.failure.FinishFailure.TheVariants as finish_failures;
 
-use crate::error::RowError;
+use credential_store::RowError;
 use site::{BeginError, VerificationError};
 use sqlite_trees::error::StoreError;
 use std::alloc::{AllocError, AllocFailed};

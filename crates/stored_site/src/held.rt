@@ -8,8 +8,8 @@ ghost use Rattle.credential_table.specs.Table.{row_of};
 ghost use Rattle.stored_site.specs.Holds.{site_row};
 ghost use Rattle.stored_site.specs.Private.{IsRowAt, IsSessionRowAt};
 
-use crate::credentials::credential_row;
 use crate::sessions::session_row;
+use credential_store::credential_row;
 use site::Site;
 use sqlite_value::row::Row;
 use sqlite_value::value::ValueRef;

@@ -4,8 +4,6 @@
 mod began_at;
 mod begin;
 mod create;
-mod credentials;
-mod error;
 mod expire;
 mod failure;
 mod finish;
@@ -20,12 +18,9 @@ mod session_reading;
 mod sessions;
 mod site_store;
 mod stored;
-mod values;
 mod writes;
 
 pub use create::MAX_BOUND;
-pub use credentials::{credential_row, read_credential};
-pub use error::RowError;
 pub use failure::{BeginFailure, CreateFailure, Failure, FinishFailure, OpenFailure};
 pub use law::{kept_laws, row_laws};
 pub use session_reading::read_session;

@@ -10,14 +10,13 @@ ghost use Rattle.verification.specs.Records.{ExpectedRegistration, ExpectedSignI
 ghost use Rattle.ceremony_sessions.specs.Sessions.{Expected, ForRegistration, ForSignIn};
 ghost use Rattle.ceremony_sessions.specs.Views.{session_view};
 ghost use Rattle.stored_site.specs.SessionRows.{IsStoredSession, ListsFew, number_text, session_row};
-ghost use Rattle.stored_site.specs.Private.{blob_in};
-ghost use Rattle.stored_site.specs.declared.error.RowError.TheVariants as errors;
+ghost use Rattle.credential_store.specs.Values.{blob_in};
+ghost use Rattle.credential_store.specs.declared.error.RowError.TheVariants as errors;
 
-use crate::error::RowError;
 use crate::sessions::session_row;
-use crate::values::{blob_at, int_at, text_at, truth_in};
 use ceremony_sessions::Session;
 use cose::Alg;
+use credential_store::{RowError, blob_at, int_at, text_at, truth_in};
 use sqlite_value::row::Row;
 use std::alloc::{AllocError, Global};
 use verification::{RegistrationSession, SignInSession};

@@ -8,9 +8,9 @@ ghost use Rattle.ceremony_sessions.specs.Sessions.{ForRegistration, ForSignIn};
 ghost use Rattle.ceremony_sessions.specs.Views.{session_view};
 ghost use Rattle.stored_site.specs.SessionRows.{blob_or_null, listed, number_text, session_row};
 
-use crate::values::truth;
 use ceremony_sessions::Session;
 use cose::Alg;
+use credential_store::truth;
 use sqlite_value::row::Row;
 use sqlite_value::value::ValueRef;
 use std::alloc::{AllocError, Global};

@@ -1,4 +1,4 @@
-//! A site of one account, with a verifier of its own: the account registers a key and signs in with it.
+//! A site of one account, whose host has the mathematics: the account registers a key and signs in with it.
 //!
 //! `uses_site WORDS`: WORDS is the file of random bytes. The page is lines. The site tells `challenge`, and is told `object`
 //! and `client-data`; then a `challenge` again, and is told `credential`, `authenticator-data`, `signature` and
@@ -6,7 +6,6 @@
 //! `valid 01` where the host found it so.
 #![tactic(auto)]
 
-mod verified;
 mod visit;
 
 use authdata::Profile;

@@ -1,18 +1,17 @@
 //! The account's visit.
 
-use crate::verified::Verified;
 use ccbor::encode;
-use clientdata::hash;
-use cose::{Alg, CoseKey, KeyView};
+use cose::{Alg, KeyView};
 use site::{AssertionParts, RegistrationParts, Site};
-use std::alloc::Global;
+use std::alloc::{AllocError, Global};
 use std::io;
 use uses_lines::{tell, tell_bytes, told, unexpected};
+use verified_signature::{HostVerifier, SignatureView, VerifiedSignature};
 
 /// The account's user handle.
 const USER: &[u8] = b"account 7";
 
-/// A key that signs nothing: a registration without attestation has no signature.
+/// A key that signs nothing.
 const NO_KEY: KeyView<'static> = KeyView::EdDsa { x: [0; 32] };
 
 /// Registers a key of the account.
@@ -27,33 +26,26 @@ pub(crate) fn register(rt: &HostRuntime, site: &mut Site, words: [u8; 24]) -> io
         object: object.as_slice(),
         client_data: client_data.as_slice(),
     };
-    let verifier = Verified {
-        is_valid: false,
-        key: NO_KEY,
-        message: &[],
-        signature: &[],
-    };
+    let verifier = HostVerifier { verified: None };
     match site.finish_registration_parts(&verifier, started.session, &response) {
         Ok(registered) => tell_bytes(rt, "registered", registered.credential.as_slice()),
         Err(refusal) => tell(rt, format!(in rt.alloc(); "refused: {refusal}")?.as_str()),
     }
 }
 
-/// What the host is to verify of a sign-in, and whether it found it valid.
-fn is_valid(
-    rt: &HostRuntime,
-    key: &KeyView<'_>,
-    message: &[u8],
-    signature: &[u8],
-) -> io::Result<bool> {
+/// Tells the host which signature it is to verify. The verifier is of that one, where the host found it valid.
+fn verified<'a>(rt: &HostRuntime, asked: SignatureView<'a>) -> io::Result<HostVerifier<'a>> {
     let mut encoded = Vec::new(rt.alloc());
-    if encode(&key.to_value(rt.alloc())?, &mut encoded).is_err() {
+    if encode(&asked.key.to_value(rt.alloc())?, &mut encoded).is_err() {
         return Err(unexpected());
     }
     tell_bytes(rt, "key", encoded.as_slice())?;
-    tell_bytes(rt, "message", message)?;
-    tell_bytes(rt, "signature", signature)?;
-    Ok(told(rt, "valid")?.first() == Some(&1))
+    tell_bytes(rt, "message", asked.message)?;
+    tell_bytes(rt, "signature", asked.signature)?;
+    let is_valid = told(rt, "valid")?.first() == Some(&1);
+    Ok(HostVerifier {
+        verified: if is_valid { Some(asked) } else { None },
+    })
 }
 
 /// The parts of a sign-in's response, as the page tells them.
@@ -79,20 +71,24 @@ fn told_response(rt: &HostRuntime) -> io::Result<Told> {
     })
 }
 
-/// What is signed: the authenticator data, then the hash of the client data.
-fn message_of(alloc: Global, parts: &AssertionParts<'_>) -> io::Result<Vec<u8>> {
-    let mut message = Vec::from_slice(alloc, parts.auth_data)?;
-    message.extend_from_slice(&hash(parts.client_data))?;
-    Ok(message)
-}
-
-/// The key of a credential, copied out, since the site changes when the sign-in is accepted; where there is none a key that
-/// signs nothing.
-fn key_of(alloc: Global, site: &Site, credential: &[u8]) -> io::Result<CoseKey> {
-    match site.row(credential) {
-        Some(row) => Ok(row.key.to_key(alloc)?),
-        None => Ok(NO_KEY.to_key(alloc)?),
-    }
+/// The signature that a sign-in asks for, copied out, since the site changes when the sign-in is accepted; of a credential that
+/// is not there under a key that signs nothing.
+fn asked(
+    alloc: Global,
+    site: &Site,
+    parts: &AssertionParts<'_>,
+) -> Result<VerifiedSignature, AllocError> {
+    let key = match site.row(parts.credential) {
+        Some(row) => row.key,
+        None => NO_KEY,
+    };
+    VerifiedSignature::of_response(
+        alloc,
+        &key,
+        parts.auth_data,
+        parts.client_data,
+        parts.signature,
+    )
 }
 
 /// Signs the account in.
@@ -109,15 +105,8 @@ pub(crate) fn sign_in(rt: &HostRuntime, site: &mut Site, words: [u8; 24]) -> io:
         signature: response.signature.as_slice(),
         client_data: response.client_data.as_slice(),
     };
-    let message = message_of(rt.alloc(), &parts)?;
-    let key = key_of(rt.alloc(), site, parts.credential)?;
-    let key = key.view();
-    let verifier = Verified {
-        is_valid: is_valid(rt, &key, message.as_slice(), parts.signature)?,
-        key,
-        message: message.as_slice(),
-        signature: parts.signature,
-    };
+    let asked = asked(rt.alloc(), site, &parts)?;
+    let verifier = verified(rt, asked.view())?;
     match site.finish_parts(&verifier, started.session, &parts) {
         Ok(signed_in) => tell_bytes(rt, "signed-in", signed_in.user.as_slice()),
         Err(refusal) => tell(rt, format!(in rt.alloc(); "refused: {refusal}")?.as_str()),

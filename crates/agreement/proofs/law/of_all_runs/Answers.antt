@@ -2,6 +2,7 @@
 use Rattle.agreement.proofs.AllRuns.{of_all_runs}
 use Rattle.agreement.proofs.Began.{began}
 use Rattle.agreement.proofs.CallsActed.{calls_act}
+use Rattle.agreement.proofs.Dropped.{dropped_of_all_runs}
 use Rattle.agreement.proofs.Ledger.{ledger}
 use Rattle.agreement.proofs.law.of_all_runs.Goals as goal
 
@@ -10,6 +11,9 @@ returns-clause-agreement g c = λ verifier public. of_all_runs (g.V.Verifier.val
 
 pub returns-clause-ledger : goal.returns-clause-ledger
 returns-clause-ledger g c = λ verifier public. ledger (g.V.Verifier.valid verifier) public (c.below.ensures verifier public)
+
+pub returns-clause-dropped : goal.returns-clause-dropped
+returns-clause-dropped g c = λ verifier public. dropped_of_all_runs (g.V.Verifier.valid verifier) public (c.below.ensures verifier public)
 
 pub returns-clause-begun : goal.returns-clause-begun
 returns-clause-begun g c = λ verifier public. began (g.V.Verifier.valid verifier) public (c.below.ensures verifier public)

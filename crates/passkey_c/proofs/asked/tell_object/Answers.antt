@@ -2,7 +2,8 @@
 use Rattle.std.proofs.Common.{◌++◌, ◌∙◌, ap}
 use Rattle.cose.specs.Keys.{lent_key_view}
 use Rattle.passkey_c.specs.Parts.{flag_of, profile_of}
-use Rattle.passkey_c.specs.Asked.{AttestsKey, AttestsNoKey, response_of}
+use Rattle.passkey_c.specs.Asked.{response_of}
+use Rattle.verified_signature.specs.Attested.{AttestsKey, AttestsNoKey}
 use Rattle.passkey_c.proofs.Told.{asks_nothing, broken, is_unread, self_asks, tells}
 use Rattle.passkey_c.proofs.asked.tell_object.Goals as goal
 

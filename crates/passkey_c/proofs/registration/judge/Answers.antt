@@ -19,7 +19,7 @@ returns-clause-refused c =
     let taken = ap (λ id. x.is_registered id) (sym c.id.ensures) ∙ c.is_registered-is_registered.ensures in
     let kept = c.in_ok-party.ensures.kept in
     let session = c.in_ok-session.ensures in
-    let signature = c.in_ok-signature.ensures in (
+    let signature = c.in_ok-verifier.ensures in (
       table_fails (registration_validity c.args.call.now) x c.in-Err.step accepted.1 (c.in-Err.ensures.refused x accepted.0 taken refl),
       (kept.0, (kept.1.0, (session.challenge, (signature.algorithm, (signature.x, (signature.y, tt)))))),
     )

@@ -15,7 +15,7 @@ returns-in-Ok-clause-accepted c =
     let call = c.args.call.now in
     let moved = subst (λ (rp : RelyingParty). IsVerifiedRegistration (record (judged_registration call) { rp = rp }) c.in-Ok.verified)
     c.requires.party c.in-Ok.ensures.accepted.0 in
-    (moved, response_passes _ _ _ _ _ _ c.requires.flag c.requires.parts same (c.in-Ok.ensures.accepted.1 table full))
+    (moved, response_passes _ _ _ _ c.requires.verified same (c.in-Ok.ensures.accepted.1 table full))
 
 pub returns-in-Err-Refused-clause-refused : goal.returns-in-Err-Refused-clause-refused
 returns-in-Err-Refused-clause-refused c =
@@ -23,6 +23,6 @@ returns-in-Err-Refused-clause-refused c =
     let full = flag_of c.args.call.now.is_full in
     let same = same_registration _ _ _ _ _ _ table full c.requires.party c.requires.session in
     let refused = rw c.in-Err-Refused.field-0-is at (c.in-Err-Refused.ensures.refused table full) in (
-      registration_fails _ _ _ _ _ _ _ c.requires.flag c.requires.parts same refused,
+      registration_fails _ _ _ _ _ c.requires.verified same refused,
       c.requires.limits,
     )

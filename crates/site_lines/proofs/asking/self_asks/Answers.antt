@@ -8,6 +8,6 @@ use Rattle.site_lines.proofs.asking.self_asks.Goals as goal
 pub returns : goal.returns
 returns c =
     lent_asks c.args.profile (registration_response_view c.args.response.now) (object_view c.args.object.now) (lent_key_view c.in-Some.key)
-    c.in_ok-signature_of.field-0 _ _ _ c.in-Some-self_signature.signature.now
+    c.in_ok-of_response.field-0 _ _ _ c.in-Some-self_signature.signature.now
     c.requires c.as_slice.ensures.value c.as_slice-2.ensures.value c.as_slice-3.ensures.value c.in-Some.ensures c.in-Some-self_signature.ensures
-    c.in_ok-signature_of.ensures.key c.in_ok-signature_of.ensures.message c.in_ok-signature_of.ensures.signature
+    c.in_ok-of_response.ensures.key c.in_ok-of_response.ensures.message c.in_ok-of_response.ensures.signature

@@ -6,7 +6,7 @@ use Rattle.site_lines.proofs.finishing.finish_sign_in.Goals as goal
 
 pub returns-in-Ok-clause-told : goal.returns-in-Ok-clause-told
 returns-in-Ok-clause-told g c =
-    sign_in_accepted g.S.Store.view c.args.finish c.args.site.now c.finish_parts.new.self _ c.in-Ok.signed_in c.assertion_parts-parts.ensures
+    sign_in_accepted g.S.Store.view c.args.finish c.args.site.now c.finish_parts.new.self _ c.in-Ok.signed_in _ c.verifier-verifier.ensures c.assertion_parts-parts.ensures
     c.in-Ok.ensures.accepted c.in-Ok.ensures.after c.in-Ok.ensures.stored
 
 pub returns-in-Err-Site-Refused-clause-told : goal.returns-in-Err-Site-Refused-clause-told
@@ -14,5 +14,5 @@ returns-in-Err-Site-Refused-clause-told g c =
     let refused = rw c.in-Err-Site-Refused.field-0-is at c.in-Err-Site-Refused.ensures.refused in
     sign_in_refused g.S.Store.view c.args.finish c.args.site.now c.finish_parts.new.self c.site.result.now c.in-Err-Site-Refused.step c.refused_sign_in.result
     (c.site.ensures ∙ ap (λ (x : StoredState _). x.site) refused.0)
-    (sign_in_step c.args.finish c.args.site.now.site _ c.in-Err-Site-Refused.field-0-0 c.in-Err-Site-Refused.step c.assertion_parts-parts.ensures
+    (sign_in_step c.args.finish c.args.site.now.site _ c.in-Err-Site-Refused.field-0-0 c.in-Err-Site-Refused.step _ c.verifier-verifier.ensures c.assertion_parts-parts.ensures
     c.in-Err-Site-Refused.field-0-0-is refused.1) c.refused_sign_in.ensures

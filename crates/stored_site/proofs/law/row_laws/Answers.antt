@@ -1,6 +1,6 @@
 -- What is owed of `row_laws`.
 use Rattle.stored_site.proofs.Ages.{left}
-use Rattle.stored_site.proofs.One.{one_credential}
+use Rattle.credential_store.proofs.One.{one_credential}
 use Rattle.stored_site.proofs.OneSession.{one_session}
 use Rattle.stored_site.proofs.OneSite.{one_site}
 use Rattle.stored_site.proofs.Trees.{written, pushed, put_session, without_session}

@@ -5,7 +5,7 @@ use Rattle.sqlite_value.specs.Order.{Row, column}
 use Rattle.credential_table.specs.Table.{IsTable}
 use Rattle.stored_site.specs.Holds.{site_row}
 use Rattle.stored_site.specs.Opened.{IsNamed}
-use Rattle.stored_site.proofs.One.{number_once}
+use Rattle.credential_store.proofs.One.{number_once}
 use Rattle.stored_site.proofs.Opening.{exit}
 use Rattle.stored_site.proofs.reading.restore_rows.Goals as goal
 

@@ -3,7 +3,7 @@ use Rattle.std.proofs.Common.{◌≡◌, ◌+◌, [], ◌∷◌, ◌++◌, ◌�
 use Rattle.std.proofs.lemmas.List.{map-append}
 use Rattle.std.proofs.lemmas.Result.{err_from_is_err_and}
 use Rattle.credential_table.specs.Views.{row_view, rows_view}
-use Rattle.stored_site.specs.Rows.{credential_row}
+use Rattle.credential_store.specs.Rows.{credential_row}
 use Rattle.stored_site.specs.Opened.{IsNamed}
 use Rattle.stored_site.specs.Opening.{of_row}
 use Rattle.stored_site.proofs.Opening.{bad_row, exit}

@@ -1,7 +1,7 @@
 -- What is owed of `next_of`.
 use Rattle.std.proofs.Common.{◌∙◌, ap}
 use Rattle.sqlite_value.specs.Order.{column}
-use Rattle.stored_site.specs.Private.{int_in}
+use Rattle.credential_store.specs.Values.{int_in}
 use Rattle.stored_site.proofs.restoring.next_of.Goals as goal
 
 pub returns-in_default-clause-none : goal.returns-in_default-clause-none

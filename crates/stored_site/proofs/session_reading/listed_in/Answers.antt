@@ -2,7 +2,7 @@
 use Rattle.std.proofs.Common.{◌≡◌, ◌+◌, ◌-◌, ◌∙◌, ap, arith, map, sym, take}
 use Rattle.std.specs.Prelude.{Some, None, slice_get}
 use Rattle.sqlite_value.specs.Order.{column}
-use Rattle.stored_site.specs.Private.{blob_in}
+use Rattle.credential_store.specs.Values.{blob_in}
 use Rattle.stored_site.proofs.Listed.{all_taken, listed_in_column, one_longer, one_more_id, one_more_taken, taken_whole}
 use Rattle.stored_site.proofs.session_reading.listed_in.Goals as goal
 

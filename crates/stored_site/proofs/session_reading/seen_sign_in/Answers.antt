@@ -3,7 +3,7 @@ use Rattle.std.proofs.Common.{◌≡◌, ◌∙◌, ap, map}
 use Rattle.std.specs.Prelude.{Some, option_map}
 use Rattle.std.proofs.lemmas.Option.{same_Some}
 use Rattle.sqlite_value.specs.Order.{column}
-use Rattle.stored_site.specs.Private.{blob_in}
+use Rattle.credential_store.specs.Values.{blob_in}
 use Rattle.stored_site.proofs.Listed.{bytes_of, sign_in_seen}
 use Rattle.stored_site.proofs.session_reading.seen_sign_in.Goals as goal
 

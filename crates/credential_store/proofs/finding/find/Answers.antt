@@ -1,0 +1,22 @@
+-- What is owed of `find`.
+use Rattle.std.proofs.Common.{◌≡◌, None, ap, ◌∙◌}
+use Rattle.credential_store.proofs.Seeks.{some_of}
+use Rattle.credential_table.specs.Views.{row_view}
+use Rattle.credential_store.proofs.Standing.{at_entry, entries_of, none_at}
+use Rattle.credential_store.proofs.finding.find.Goals as goal
+
+pub returns-in_default-clause-none : goal.returns-in_default-clause-none
+returns-in_default-clause-none g c = λ _ clean placed h.
+    let es = (g.S.Store.view c.args.store.now).trees 3 in
+    let nothing : c.in_ok-place.field-0 ≡ None = cc in
+    let none = c.in_ok-place.ensures.none nothing clean (entries_of (λ d. d.id) placed es h.are h.by_id) in
+    none_at placed c.args.id.now es h.by_id none
+
+pub returns-clause-found : goal.returns-clause-found
+returns-clause-found g c = λ clean placed h.
+    let es = (g.S.Store.view c.args.store.now).trees 3 in
+    let before = c.in_ok-credential.ensures.same.clean clean in
+    let same = c.in_ok-place.ensures.same.view before in
+    let there = c.in_ok-credential.ensures.there clean placed (ap (λ v. v.trees 0) same ∙ h.table) in
+    at_entry placed c.args.id.now c.in-Some.place (row_view c.in_ok-credential.credential) es h.by_id
+    (some_of c.in_ok-place.field-0 c.in-Some.place _ c.in-Some.is c.in_ok-place.ensures.place before (entries_of (λ d. d.id) placed es h.are h.by_id)) there

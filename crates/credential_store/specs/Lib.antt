@@ -1,0 +1,4 @@
+pub mod Values
+pub mod Rows
+pub mod Held
+pub mod Private

@@ -1,0 +1,15 @@
+//! A relying party's credentials in a store's trees: each a row of a table, found by its id and by its user.
+#![tactic(auto)]
+
+mod credentials;
+mod entries;
+mod error;
+mod finding;
+mod values;
+mod writing;
+
+pub use credentials::{credential_row, read_credential};
+pub use error::RowError;
+pub use finding::{Found, find, lent};
+pub use values::{blob_at, int_at, text_at, truth, truth_in, truth_or_null};
+pub use writing::{add, remove, set};
