@@ -3,7 +3,7 @@
 ghost use Rattle.std.specs.Prelude.{◌≡◌, OnOk, None, Some};
 ghost use Rattle.std.specs.FinMap as finite;
 ghost use Rattle.sqlite_trees.specs.Tree.{Trees};
-ghost use Rattle.sqlite_trees.specs.View.{IsClean, KeepsSchema};
+ghost use Rattle.sqlite_trees.specs.View.{IsClean, KeepsSchema, OnlyWrites};
 ghost use Rattle.verification.specs.Records.{Credential};
 ghost use Rattle.verification.specs.Views.{credential_view};
 ghost use Rattle.credential_store.specs.Held.{HasNone, HasTrees, Holds, IsWritten, Placed};
@@ -29,6 +29,7 @@ pub fn add<S: Store>(
         → finite.get placed place ≡ None → HasNone placed (credential_view credential.now).id
         → IsWritten (S.Store.view store.old) (S.Store.view store.new) (finite.insert placed place (credential_view credential.now))) }
     ensures schema { KeepsSchema (S.Store.view store.old) (S.Store.view store.new) }
+    ensures writes { OnOk result (IsClean (S.Store.view store.new) → OnlyWrites (S.Store.view store.old) (S.Store.view store.new)) }
     ensures clean { IsClean (S.Store.view store.new) → IsClean (S.Store.view store.old) }
     ensures crash { (db : Trees) → S.Store.recovers store.new db → S.Store.recovers store.old db }
 {
@@ -54,6 +55,7 @@ pub fn set<S: Store>(
         → finite.get placed place ≡ Some was → (credential_view credential.now).id ≡ was.id → (credential_view credential.now).user ≡ was.user
         → IsWritten (S.Store.view store.old) (S.Store.view store.new) (finite.insert placed place (credential_view credential.now))) }
     ensures schema { KeepsSchema (S.Store.view store.old) (S.Store.view store.new) }
+    ensures writes { OnOk result (IsClean (S.Store.view store.new) → OnlyWrites (S.Store.view store.old) (S.Store.view store.new)) }
     ensures clean { IsClean (S.Store.view store.new) → IsClean (S.Store.view store.old) }
     ensures crash { (db : Trees) → S.Store.recovers store.new db → S.Store.recovers store.old db }
 {
@@ -75,6 +77,7 @@ pub fn remove<S: Store>(
         → finite.get placed place ≡ Some (credential_view credential.now)
         → IsWritten (S.Store.view store.old) (S.Store.view store.new) (finite.remove placed place)) }
     ensures schema { KeepsSchema (S.Store.view store.old) (S.Store.view store.new) }
+    ensures writes { OnOk result (IsClean (S.Store.view store.new) → OnlyWrites (S.Store.view store.old) (S.Store.view store.new)) }
     ensures clean { IsClean (S.Store.view store.new) → IsClean (S.Store.view store.old) }
     ensures crash { (db : Trees) → S.Store.recovers store.new db → S.Store.recovers store.old db }
 {

@@ -1,0 +1,51 @@
+-- A credential that ends.
+use Rattle.std.proofs.Common.{◌≡◌, ◌-◌, ℕ, List, Bool, true, false, ◌∙◌, refl, sym, ap, subst}
+use Rattle.std.specs.FinMap as finite
+use Rattle.std.specs.Prelude.{Option, Some, None, if◌then◌else◌}
+use Rattle.std.specs.Option.{ForSome}
+use Rattle.sqlite_trees.specs.View.{IsClean, View}
+use Rattle.verification.specs.Records.{Credential}
+use Rattle.credential_table.specs.Table.{retired}
+use Rattle.credential_table.specs.Views.{row_view}
+use Rattle.credential_store.specs.Held.{IsAt, Placed}
+use Rattle.credential_store.specs.declared.finding.Found.{Found}
+use Rattle.kept_site.specs.Calls.{IsFound, TellsDeleted, TellsRetired}
+use Rattle.kept_site.specs.Private.{DeletesFound, IsFoundAs, RetiresFound, credential_of}
+use Rattle.kept_site.specs.State.{IsHeld, KeptState}
+use Rattle.kept_site.proofs.Held.{held_removed, held_same, held_set}
+
+not_there : (placed : Placed) (id : List ℕ) (found : Option Found) → IsFoundAs placed id found → ForSome (credential_of found) (λ c. c.retired ≡ true)
+    → (f : Option Credential) × IsFound placed id f × ForSome f (λ c. c.retired ≡ true)
+not_there placed id None is was = (None, is, λ c e. absurd cc)
+not_there placed id (Some f) is was = (Some (row_view f.credential), (f.place, is), was)
+
+pub tells_retired : {S : Type 0} (placed : Placed) (id : List ℕ) (s t : KeptState S) (first old new : View) (found : Option Found) (Same : Type 0)
+    (told : Bool) → IsFoundAs placed id found → (Same → new.trees ≡ old.trees) → RetiresFound found Same old new told → old.trees ≡ first.trees → IsClean new
+    → IsHeld placed s first.trees → t.rp ≡ s.rp → t.reserved ≡ s.reserved → t.count ≡ s.count → t.last ≡ s.last
+    → (after : Placed) × TellsRetired placed id told after × IsHeld after t new.trees
+tells_retired placed id s t first old new found Same true is kept i same clean h rp reserved count last =
+    let f = i.0 in
+    let at : IsAt placed id f.place (row_view f.credential) = subst (IsFoundAs placed id) i.1 is in
+    let held : IsHeld placed s old.trees = subst (IsHeld placed s) (sym same) h in
+    let c = retired (row_view f.credential) in (
+      finite.insert placed f.place c,
+      (f.place, row_view f.credential, at, i.2, refl),
+      held_set placed s t old new f.place (row_view f.credential) c at.there held (i.3 clean placed held.holds.credentials at.there) rp reserved count last,
+    )
+tells_retired placed id s t first old new found Same false is kept i same clean h rp reserved count last =
+    (placed, (refl, not_there placed id found is i.1), held_same placed s t first new h (kept i.0 ∙ same) rp reserved count last)
+
+pub tells_deleted : {S : Type 0} (placed : Placed) (id : List ℕ) (s t : KeptState S) (first old new : View) (found : Option Found) (Same : Type 0)
+    (told : Bool) → IsFoundAs placed id found → (Same → new.trees ≡ old.trees) → DeletesFound found Same old new told → old.trees ≡ first.trees → IsClean new
+    → IsHeld placed s first.trees → t.rp ≡ s.rp → t.reserved ≡ s.reserved → t.count ≡ (if told then s.count - 1 else s.count) → t.last ≡ s.last
+    → (after : Placed) × TellsDeleted placed id told after × IsHeld after t new.trees
+tells_deleted placed id s t first old new found Same true is kept i same clean h rp reserved count last =
+    let f = i.0 in
+    let at : IsAt placed id f.place (row_view f.credential) = subst (IsFoundAs placed id) i.1 is in
+    let held : IsHeld placed s old.trees = subst (IsHeld placed s) (sym same) h in (
+      finite.remove placed f.place,
+      (f.place, row_view f.credential, at, refl),
+      held_removed placed s t old new f.place (row_view f.credential) at.there held (i.2 clean placed held.holds.credentials at.there) rp reserved count last,
+    )
+tells_deleted placed id s t first old new found Same false is kept i same clean h rp reserved count last =
+    (placed, (refl, subst (IsFoundAs placed id) i.1 is), held_same placed s t first new h (kept i.0 ∙ same) rp reserved count last)

@@ -1,0 +1,81 @@
+-- A ceremony that is finished.
+use Rattle.std.proofs.Common.{◌≡◌, ℕ, List, Bool, ◌∙◌, refl, sym, ap, subst, true, false}
+use Rattle.std.specs.FinMap as finite
+use Rattle.std.specs.Prelude.{Option, Some, None}
+use Rattle.sqlite_trees.specs.View.{IsClean, View}
+use Rattle.cose.specs.Schemes.{Validity}
+use Rattle.authdata.specs.Flags.{is_set, BE}
+use Rattle.authdata.specs.Responses.{AuthenticatorAssertionResponse}
+use Rattle.verification.specs.SignIn.{PassesSignIn}
+use Rattle.verification.specs.SignInAnswers.{IsRefused}
+use Rattle.verification.specs.declared.refusal.VerificationError.{VerificationError}
+use Rattle.verification.specs.declared.refusal.SignInRefusal.{SignInRefusal}
+use Rattle.credential_table.specs.Table.{signed_in}
+use Rattle.credential_table.specs.Views.{row_view}
+use Rattle.ceremony_sessions.specs.Sessions.{sign_in_at}
+use Rattle.credential_store.specs.Held.{HasNone, IsAt, IsWritten, Placed}
+use Rattle.credential_store.specs.declared.finding.Found.{Found}
+use Rattle.verification.specs.Records.{Credential, ExpectedSignIn, RelyingParty}
+use Rattle.kept_site.specs.Calls.{IsFound, IsNotFinished, IsSame, SignsIn, TellsIds}
+use Rattle.kept_site.specs.Private.{IsFoundAs, IsStopped, SignsInAs, TellsHad, judged}
+use Rattle.kept_site.specs.declared.failure.Failure.TheVariants as failures
+use Rattle.kept_site.specs.declared.failure.FinishFailure.{FinishFailure}
+use Rattle.kept_site.specs.declared.failure.FinishFailure.TheVariants as finishes
+use Rattle.kept_site.specs.State.{IsHeld, KeptState}
+use Rattle.kept_site.specs.declared.finish.SignedIn.{SignedIn}
+use Rattle.kept_site.proofs.Held.{held_set}
+
+-- what was found and passes is the credential of the response's id
+pub signs_in : {S : Type 0} (valid : Validity) (placed : Placed) (s t : KeptState S) (n : ℕ) (r : AuthenticatorAssertionResponse) (x : SignedIn) (found : Option Found)
+    (first old new : View)
+    → IsFoundAs placed r.credential found → SignsInAs valid s.rp (sign_in_at n s.timed.open_sessions) found r x old new → old.trees ≡ first.trees → IsClean new
+    → IsHeld placed s first.trees → t.rp ≡ s.rp → t.reserved ≡ s.reserved → t.count ≡ s.count → t.last ≡ s.last
+    → (after : Placed) × SignsIn valid placed s n r x after × IsHeld after t new.trees
+signs_in valid placed s t n r x found first old new is i same clean h rp reserved count last =
+    let at : IsAt placed r.credential i.at.place (row_view i.at.credential) = subst (IsFoundAs placed r.credential) i.is is in
+    let held : IsHeld placed s old.trees = subst (IsHeld placed s) (sym same) h in
+    let c = signed_in i.data_read.sign_count (is_set i.data_read.flags BE) (row_view i.at.credential) in
+    let w : IsWritten old new (finite.insert placed i.at.place c) = i.written clean placed held.holds.credentials at.there in (
+      finite.insert placed i.at.place c,
+      record {
+        place = i.at.place;
+        credential = row_view i.at.credential;
+        data_read = i.data_read;
+        found = at;
+        passes = subst (λ f. PassesSignIn valid (judged s.rp (sign_in_at n s.timed.open_sessions) f r)) i.is i.passes;
+        read = i.read;
+        tells_user = i.user;
+        tells_credential = i.credential;
+        tells_backup = i.backup;
+        after_is = refl;
+      },
+      held_set placed s t old new i.at.place (row_view i.at.credential) c at.there held w rp reserved count last,
+    )
+
+-- what was found is named with the step
+pub refuses : (valid : Validity) (placed : Placed) (rp : RelyingParty) (session : Option ExpectedSignIn) (r : AuthenticatorAssertionResponse) (found : Option Found)
+    (why : VerificationError SignInRefusal) → IsFoundAs placed r.credential found → IsRefused valid (judged rp session found r) why
+    → (f : Option Credential) × IsFound placed r.credential f × IsRefused valid (record { rp = rp; session = session; credential = f; response = r }) why
+refuses valid placed rp session r None why is refused = (None, is, refused)
+refuses valid placed rp session r (Some f) why is refused = (Some (row_view f.credential), (f.place, is), refused)
+
+-- a step refuses it, or the store has failed
+pub not_finished : {S W : Type 0} (view : S → View) (old new : KeptState S) (Same : Type 0) (P Q : VerificationError W → Type 0) (why : FinishFailure W)
+    → old.is_shut ≡ false → (Same → IsSame view old new) → ((e : VerificationError W) → P e → Q e) → IsStopped Same new.is_shut P why
+    → IsNotFinished view old new Q why
+not_finished view old new Same P Q (finishes.Site e) sound same weaker is = (same is.0, weaker e is.1)
+not_finished view old new Same P Q (finishes.Store failures.Shut) sound same weaker is = absurd (is.1 refl)
+not_finished view old new Same P Q (finishes.Store (failures.Failed e)) sound same weaker is = (sound, is.0)
+
+-- what a test tells of an id is what was found
+pub told_same : (placed : Placed) (f : List ℕ → Bool) (id : List ℕ) (had : Bool) → TellsIds placed f → TellsHad placed id had → f id ≡ had
+told_same placed f id had tells is = go (f id) refl had is
+  where
+    both : (place : ℕ) × (c : Credential) × IsAt placed id place c → HasNone placed id → ⊥
+    both there none = none there.0 there.1 there.2.there there.2.has_id
+
+    go : (b : Bool) → f id ≡ b → (had : Bool) → TellsHad placed id had → f id ≡ had
+    go true t true is = t
+    go true t false is = absurd (both (tells.there id t) is)
+    go false t true is = absurd (both is (tells.none id t))
+    go false t false is = t

@@ -1,0 +1,11 @@
+mod Reserved
+mod Same
+mod Signing
+mod Held
+mod Finishing
+mod Changing
+mod Registering
+mod Scans
+mod New
+mod Opening
+mod Laws

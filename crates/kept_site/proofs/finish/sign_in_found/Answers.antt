@@ -1,0 +1,31 @@
+-- What is owed of `sign_in_found`.
+use Rattle.std.proofs.Common.{◌≡◌, ◌∙◌, ap, sym, subst}
+use Rattle.std.specs.FinMap as finite
+use Rattle.std.specs.Option.{option_copied}
+use Rattle.verification.specs.SignIn.{PassesSignIn}
+use Rattle.verification.specs.Views.{assertion_parts_view, credential_view}
+use Rattle.credential_table.specs.Views.{row_view}
+use Rattle.credential_store.specs.Held.{IsWritten}
+use Rattle.kept_site.proofs.Signing.{same_attempt, same_counted}
+use Rattle.kept_site.proofs.finish.sign_in_found.Goals as goal
+
+pub returns-clause-accepted : goal.returns-clause-accepted
+returns-clause-accepted g c =
+    let tells = c.in_ok-verified.ensures.accepted.1 in
+    let same = same_attempt c.args.party.now (assertion_parts_view c.args.response.now) _ _ _ _ c.sign_in.ensures c.credential_in.ensures in
+    let at = c.unwrap-found.result.now in
+    let row = c.lent-credential.ensures in
+    record {
+      at = at;
+      data_read = tells.0;
+      is = sym c.as_ref.ensures.value ∙ ap option_copied c.unwrap-found.ensures;
+      passes = subst (PassesSignIn (g.V.Verifier.valid c.args.verifier.now)) same c.in_ok-verified.ensures.accepted.0;
+      read = tells.1;
+      user = c.in_ok-signed_in.ensures.copied.0 ∙ ap (λ x. x.user) row;
+      credential = c.in_ok-signed_in.ensures.copied.1;
+      backup = c.in_ok-signed_in.ensures.copied.2 ∙ tells.4;
+      written = λ clean placed holds there.
+          let is = c.counted.ensures ∙ same_counted _ _ _ _ _ _ row tells.2 tells.3 in
+          subst (λ x. IsWritten (g.S.Store.view c.args.held.now.store) (g.S.Store.view c.set.new.self.store) (finite.insert placed at.place x)) is
+          (c.in_ok-set.ensures.written clean placed (row_view at.credential) holds there (ap (λ x. x.id) is) (ap (λ x. x.user) is));
+    }

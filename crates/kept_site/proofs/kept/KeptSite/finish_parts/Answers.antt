@@ -1,0 +1,42 @@
+-- What is owed of `KeptSite::finish_parts`.
+use Rattle.std.proofs.Common.{◌≡◌, ap, sym, subst, refl, ◌∙◌}
+use Rattle.std.proofs.lemmas.Result.{err_from_is_err_and}
+use Rattle.verification.specs.Views.{assertion_parts_view}
+use Rattle.ceremony_sessions.specs.Sessions.{sign_in_at}
+use Rattle.kept_site.proofs.Finishing.{not_finished, refuses, signs_in}
+use Rattle.kept_site.proofs.kept.KeptSite.finish_parts.Goals as goal
+
+pub returns-clause-accepted : goal.returns-clause-accepted
+returns-clause-accepted g c =
+    rw (← c.self.view_is) (λ clean placed held.
+    let mid = c.in_ok-signed_in.ensures.clean clean in
+    signs_in (g.V.Verifier.valid c.args.verifier.now) placed _ _ c.args.session (assertion_parts_view c.args.response.now) c.in_ok-signed_in.signed_in c.in_ok-found.found
+    (g.S.Store.view c.self.inside.held.store) (g.S.Store.view c.find.new.self.store) (g.S.Store.view c.sign_in_found.new.held.store)
+    (c.in_ok-found.ensures.found mid placed held.holds.credentials) c.in_ok-signed_in.ensures.accepted
+    (ap (λ v. v.trees) (c.in_ok-found.ensures.same.view mid)) clean held refl
+    (c.in_ok-signed_in.ensures.reserved ∙ ap (λ h. h.reserved) c.in_ok-found.ensures.kept) refl refl)
+
+pub returns-in_err-signed_in-clause-refused : goal.returns-in_err-signed_in-clause-refused
+returns-in_err-signed_in-clause-refused g c =
+    let p = err_from_is_err_and c.from_residual-in_err-signed_in.result c.from_residual-in_err-signed_in.ensures.1 in
+    rw (p.1, p.2, ← c.self.view_is) (not_finished g.S.Store.view _ _ _ _ _ c.in_err-signed_in.field-0.0 c.if-self.false
+    (λ same. record {
+      is = ap (λ h. record {
+        rp = c.self.inside.party;
+        policy = c.self.inside.policy;
+        timed = c.self.inside.sessions;
+        reserved = h.reserved;
+        count = c.self.inside.count;
+        last = c.self.inside.last;
+        most = c.self.inside.most;
+        store = c.sign_in_found.new.held.store;
+        is_shut = h.is_shut;
+        is_pending = h.is_pending;
+      }) (same ∙ c.in_ok-found.ensures.kept);
+      clean = λ clean. c.in_ok-found.ensures.same.clean (c.in_err-signed_in.ensures.clean clean);
+      store = λ clean. subst (λ h. g.S.Store.view h.store ≡ record (g.S.Store.view c.self.inside.held.store) { cursors = (g.S.Store.view h.store).cursors }) (sym same)
+          (c.in_ok-found.ensures.same.view (c.in_err-signed_in.ensures.clean clean));
+    })
+    (λ e refused clean placed held. refuses (g.V.Verifier.valid c.args.verifier.now) placed c.self.inside.party
+    (sign_in_at c.args.session c.self.inside.sessions.open_sessions) (assertion_parts_view c.args.response.now) c.in_ok-found.found e (c.in_ok-found.ensures.found (c.in_err-signed_in.ensures.clean clean) placed held.holds.credentials) refused)
+    c.in_err-signed_in.ensures.refused)

@@ -1,0 +1,163 @@
+-- What the calls of a site over a store make of it.
+use Rattle.std.specs.Prelude.{◌≡◌, ◌+◌, ◌<◌, ◌≤◌, ◌^◌, ◌⊎◌, ℕ, List, Bool, Option, Some, None, true, false, not, nat_lt, ◌&&◌, is_some, IsTrue}
+use Rattle.std.specs.FinMap as finite
+use Rattle.sqlite_trees.specs.View.{View, IsClean}
+use Rattle.cose.specs.Schemes.{Validity}
+use Rattle.authdata.specs.Flags.{is_set, BE, BS}
+use Rattle.authdata.specs.Layout.{AttestedCredential, AuthenticatorData, AuthOf}
+use Rattle.authdata.specs.Objects.{Attestation}
+use Rattle.authdata.specs.Responses.{AuthenticatorAssertionResponse}
+use Rattle.authdata.specs.Responses as responses
+use Rattle.verification.specs.Records.{Credential, ExpectedRegistration}
+use Rattle.verification.specs.SignIn.{JudgedSignIn, PassesSignIn}
+use Rattle.verification.specs.Registration.{Attests, JudgedRegistration, PassesRegistration}
+use Rattle.std.specs.Option.{ForSome}
+use Rattle.credential_table.specs.Table.{retired, signed_in}
+use Rattle.credential_table.specs.Views.{row_view}
+use Rattle.ceremony_sessions.specs.Sessions.{Opening, registration_at, sign_in_at}
+use Rattle.ceremony_sessions.specs.Sessions as sessions
+use Rattle.verification.specs.SignInAnswers.{IsRefused}
+use Rattle.verification.specs.RegistrationAnswers as registrations
+use Rattle.verification.specs.declared.refusal.RegistrationRefusal.{RegistrationRefusal}
+use Rattle.verification.specs.declared.refusal.VerificationError.{VerificationError}
+use Rattle.verification.specs.declared.refusal.SignInRefusal.{SignInRefusal}
+use Rattle.credential_store.specs.Held.{HasNone, IsAt, Placed}
+use Rattle.timed_sessions.specs.Timed.{Timed, after_end}
+use Rattle.kept_site.specs.State.{KeptState}
+use Rattle.kept_site.specs.declared.failure.Failure.{Failure}
+use Rattle.kept_site.specs.declared.failure.Failure.TheVariants as failures
+use Rattle.kept_site.specs.declared.failure.BeginFailure.{BeginFailure}
+use Rattle.kept_site.specs.declared.failure.BeginFailure.TheVariants as begins
+use Rattle.kept_site.specs.declared.failure.FinishFailure.{FinishFailure}
+use Rattle.kept_site.specs.declared.failure.FinishFailure.TheVariants as finishes
+use Rattle.kept_site.specs.declared.finish.SignedIn.{SignedIn}
+use Rattle.kept_site.specs.declared.registration.Registered.{Registered}
+
+-- ---- what every call keeps
+
+-- a call that changes nothing has moved cursors of the store at most
+pub record IsSame {S : Type 0} (view : S → View) (old new : KeptState S) : Type 0 where
+  pub is : new ≡ record old { store = new.store }
+  pub clean : IsClean (view new.store) → IsClean (view old.store)
+  pub store : IsClean (view new.store) → view new.store ≡ record (view old.store) { cursors = (view new.store).cursors }
+
+-- the relying party, the policy and the bound on credentials stay
+pub record IsOneSite {S : Type 0} (old new : KeptState S) : Type 0 where
+  pub rp : new.rp ≡ old.rp
+  pub policy : new.policy ≡ old.policy
+  pub most : new.most ≡ old.most
+
+-- why a call failed: the site was shut, and has not changed; or the store or memory failed, and it is shut from now on
+abbrev pub IsFailure : {S : Type 0} → KeptState S → KeptState S → Failure → Type 0
+IsFailure old new failures.Shut = (old.is_shut ≡ true) × (new ≡ old)
+IsFailure old new (failures.Failed e) = (old.is_shut ≡ false) × (new.is_shut ≡ true)
+
+-- ---- a session begins
+
+-- why none begins: what is asked is out of its limits, or no number is left, and nothing has changed; or a failure
+abbrev pub IsNotBegun : {S : Type 0} → KeptState S → KeptState S → Opening → BeginFailure → Type 0
+IsNotBegun old new o (begins.Site why) = (new ≡ old) × sessions.IsRefused old.rp.profile old.timed.open_sessions o why
+IsNotBegun old new o begins.NoNumber = (new ≡ old) × (2 ^ 63 ≤ old.timed.open_sessions.next + 100001)
+IsNotBegun old new o (begins.Store why) = IsFailure old new why
+
+-- ---- sign-in (WebAuthn Level 2, section 7.2)
+
+-- the credential that is found for an id: the one that has it, or none where none has
+abbrev pub IsFound : Placed → List ℕ → Option Credential → Type 0
+IsFound placed id None = HasNone placed id
+IsFound placed id (Some c) = (place : ℕ) × IsAt placed id place c
+
+-- a response as it is judged in a session, with the credential that was found for it
+abbrev pub judged_sign_in : {S : Type 0} → KeptState S → ℕ → Option Credential → AuthenticatorAssertionResponse → JudgedSignIn
+judged_sign_in s n found r = record { rp = s.rp; session = sign_in_at n s.timed.open_sessions; credential = found; response = r }
+
+-- a response passes each step, with the credential of its id; who signed in is told; and that credential alone has changed,
+-- which keeps the counter and the mark of eligibility that came
+pub record SignsIn {S : Type 0} (valid : Validity) (placed : Placed) (s : KeptState S) (n : ℕ) (r : AuthenticatorAssertionResponse) (x : SignedIn) (after : Placed)
+    : Type 0 where
+  pub place : ℕ
+  pub credential : Credential
+  pub data_read : AuthenticatorData
+  pub found : IsAt placed r.credential place credential
+  pub passes : PassesSignIn valid (judged_sign_in s n (Some credential) r)
+  pub read : AuthOf s.rp.profile data_read r.auth_data
+  pub tells_user : x.user.items ≡ credential.user
+  pub tells_credential : x.credential.items ≡ r.credential
+  pub tells_backup : x.backed_up ≡ is_set data_read.flags BS
+  pub after_is : after ≡ finite.insert placed place (signed_in data_read.sign_count (is_set data_read.flags BE) credential)
+
+-- why a ceremony is not finished: a step refuses it, or memory, and nothing has changed; or a failure
+abbrev pub IsNotFinished : {S W : Type 0} → (S → View) → KeptState S → KeptState S → (VerificationError W → Type 0) → FinishFailure W → Type 0
+IsNotFinished view old new IsRefusal (finishes.Site why) = IsSame view old new × IsRefusal why
+IsNotFinished view old new IsRefusal (finishes.Store why) = IsFailure old new why
+
+-- the first step that a response does not pass is named, with the credential that is found for it; want of memory says nothing
+abbrev pub RefusesSignIn : {S : Type 0} → Validity → Placed → KeptState S → ℕ → AuthenticatorAssertionResponse → VerificationError SignInRefusal → Type 0
+RefusesSignIn valid placed s n r why = (found : Option Credential) × IsFound placed r.credential found × IsRefused valid (judged_sign_in s n found r) why
+
+-- ---- registration (WebAuthn Level 2, section 7.1)
+
+-- the most credentials are registered, or the last place was given
+abbrev pub is_full : {S : Type 0} → KeptState S → Bool
+is_full s = not (nat_lt s.count s.most && nat_lt s.last 4294967295)
+
+-- a response as it is judged in a session; whether a credential has an id is told by a test
+abbrev pub judged_registration : {S : Type 0} → KeptState S → ℕ → (List ℕ → Bool) → responses.AuthenticatorAttestationResponse → JudgedRegistration
+judged_registration s n is_registered r = record {
+  rp = s.rp;
+  policy = s.policy;
+  session = registration_at n s.timed.open_sessions;
+  response = r;
+  is_registered = is_registered;
+  is_full = is_full s;
+}
+
+-- a test tells just which ids credentials have
+pub record TellsIds (placed : Placed) (is_registered : List ℕ → Bool) : Type 0 where
+  pub there : (id : List ℕ) → is_registered id ≡ true → (place : ℕ) × (c : Credential) × IsAt placed id place c
+  pub none : (id : List ℕ) → is_registered id ≡ false → HasNone placed id
+
+-- the credential that is registered: with the session's user, and the counter and the mark of eligibility that came
+abbrev pub registered : ExpectedRegistration → AuthenticatorData → AttestedCredential → Credential
+registered e a c = record {
+  id = c.id;
+  user = e.user;
+  key = c.key;
+  sign_count = a.sign_count;
+  eligible = Some (is_set a.flags BE);
+  retired = false;
+}
+
+-- a response passes each step, since no credential has its id; which one is told; and it stands last, and nothing else has changed
+pub record Registers {S : Type 0} (valid : Validity) (placed : Placed) (s : KeptState S) (n : ℕ) (r : responses.AuthenticatorAttestationResponse) (x : Registered)
+    (after : Placed) : Type 0 where
+  pub expected : ExpectedRegistration
+  pub object : Attestation
+  pub data_read : AuthenticatorData
+  pub credential : AttestedCredential
+  pub session : registration_at n s.timed.open_sessions ≡ Some expected
+  pub attests : Attests s.rp.profile r object data_read credential
+  pub passes : (is_registered : List ℕ → Bool) → TellsIds placed is_registered → PassesRegistration valid (judged_registration s n is_registered r)
+  pub fresh : HasNone placed credential.id
+  pub tells : row_view x.credential ≡ registered expected data_read credential
+  pub after_is : after ≡ finite.insert placed (s.last + 1) (registered expected data_read credential)
+
+-- the first step that a response does not pass is named; want of memory says nothing
+abbrev pub RefusesRegistration : {S : Type 0} → Validity → Placed → KeptState S → ℕ → responses.AuthenticatorAttestationResponse → VerificationError RegistrationRefusal
+    → Type 0
+RefusesRegistration valid placed s n r why =
+    (is_registered : List ℕ → Bool) → TellsIds placed is_registered → registrations.IsRefused valid (judged_registration s n is_registered r) why
+
+-- ---- credentials end
+
+-- what is told of a credential that is to be retired: true where it was there and not retired, and it is retired now; false where
+-- none has the id or it was retired before, and nothing has changed
+abbrev pub TellsRetired : Placed → List ℕ → Bool → Placed → Type 0
+TellsRetired placed id true after =
+    (place : ℕ) × (c : Credential) × IsAt placed id place c × (c.retired ≡ false) × (after ≡ finite.insert placed place (retired c))
+TellsRetired placed id false after = (after ≡ placed) × ((found : Option Credential) × IsFound placed id found × ForSome found (λ c. c.retired ≡ true))
+
+-- what is told of a credential that is to be deleted: true where it was there, and it is gone; false where none has the id
+abbrev pub TellsDeleted : Placed → List ℕ → Bool → Placed → Type 0
+TellsDeleted placed id true after = (place : ℕ) × (c : Credential) × IsAt placed id place c × (after ≡ finite.remove placed place)
+TellsDeleted placed id false after = (after ≡ placed) × HasNone placed id

@@ -1,0 +1,126 @@
+-- What private functions are proved against; no public clause cites it.
+use Rattle.std.specs.Prelude.{◌≡◌, ◌<◌, ◌≤◌, ℕ, List, [], Bool, Option, Some, None, true, false, option_map, IsSome, IsTrue}
+use Rattle.std.specs.FinMap as finite
+use Rattle.sqlite_value.specs.Order.{Row}
+use Rattle.credential_store.specs.Rows.{credential_row}
+use Rattle.sqlite_trees.specs.View.{View, IsClean}
+use Rattle.cose.specs.Schemes.{Validity}
+use Rattle.authdata.specs.Flags.{is_set, BE, BS}
+use Rattle.authdata.specs.Layout.{AuthenticatorData, AuthOf}
+use Rattle.authdata.specs.Responses.{AuthenticatorAssertionResponse}
+use Rattle.authdata.specs.Responses as responses
+use Rattle.verification.specs.Records.{Credential, ExpectedRegistration, ExpectedSignIn, NewCredential, RelyingParty}
+use Rattle.verification.specs.RegistrationAnswers.{IsVerifiedRegistration}
+use Rattle.verification.specs.RegistrationAnswers as registrations
+use Rattle.verification.specs.declared.refusal.RegistrationRefusal.{RegistrationRefusal}
+use Rattle.verification.specs.Registration.{JudgedRegistration, PassesRegistration}
+use Rattle.verification.specs.declared.party.Policy.{Policy}
+use Rattle.verification.specs.SignIn.{JudgedSignIn, PassesSignIn}
+use Rattle.verification.specs.declared.refusal.VerificationError.{VerificationError}
+use Rattle.std.specs.Option.{ForSome}
+use Rattle.credential_table.specs.Table.{retired, signed_in}
+use Rattle.credential_table.specs.Views.{row_view}
+use Rattle.credential_store.specs.Held.{HasNone, HasTrees, Holds, IsAt, IsWritten, Placed}
+use Rattle.sqlite_trees.specs.declared.store.Shape.TheVariants.{Table}
+use Rattle.credential_store.specs.declared.finding.Found.{Found}
+use Rattle.kept_site.specs.Calls.{TellsIds}
+use Rattle.kept_site.specs.declared.finish.SignedIn.{SignedIn}
+use Rattle.kept_site.specs.declared.failure.Failure.TheVariants as failures
+use Rattle.kept_site.specs.declared.failure.FinishFailure.{FinishFailure}
+use Rattle.kept_site.specs.declared.failure.FinishFailure.TheVariants as finishes
+
+-- a credential where it stands under an id; or none where none has it
+abbrev pub IsFoundAs : Placed → List ℕ → Option Found → Type 0
+IsFoundAs placed id None = HasNone placed id
+IsFoundAs placed id (Some f) = IsAt placed id f.place (row_view f.credential)
+
+abbrev pub credential_of : Option Found → Option Credential
+credential_of found = option_map (λ (f : Found). row_view f.credential) found
+
+-- a step refuses it and nothing has changed; or the store has failed, and is shut
+abbrev pub IsStopped : {W : Type 0} → Type 0 → Bool → (VerificationError W → Type 0) → FinishFailure W → Type 0
+IsStopped same is_shut IsRefusal (finishes.Site why) = same × IsRefusal why
+IsStopped same is_shut IsRefusal (finishes.Store why) = (is_shut ≡ true) × (why ≡ failures.Shut → ⊥)
+
+abbrev pub judged : RelyingParty → Option ExpectedSignIn → Option Found → AuthenticatorAssertionResponse → JudgedSignIn
+judged rp session found r = record { rp = rp; session = session; credential = credential_of found; response = r }
+
+-- what was found passes each step, and is written with the counter and the mark that came
+pub record SignsInAs (valid : Validity) (rp : RelyingParty) (session : Option ExpectedSignIn) (found : Option Found) (r : AuthenticatorAssertionResponse)
+    (x : SignedIn) (old new : View) : Type 0 where
+  pub at : Found
+  pub data_read : AuthenticatorData
+  pub is : found ≡ Some at
+  pub passes : PassesSignIn valid (judged rp session found r)
+  pub read : AuthOf rp.profile data_read r.auth_data
+  pub user : x.user.items ≡ (row_view at.credential).user
+  pub credential : x.credential.items ≡ r.credential
+  pub backup : x.backed_up ≡ is_set data_read.flags BS
+  pub written : IsClean new → (placed : Placed) → Holds placed old.trees → finite.get placed at.place ≡ Some (row_view at.credential)
+      → IsWritten old new (finite.insert placed at.place (signed_in data_read.sign_count (is_set data_read.flags BE) (row_view at.credential)))
+
+-- what was found is retired, where it was not before
+abbrev pub RetiresFound : Option Found → Type 0 → View → View → Bool → Type 0
+RetiresFound found same old new true =
+    (f : Found) × (found ≡ Some f) × ((row_view f.credential).retired ≡ false)
+    × (IsClean new → (placed : Placed) → Holds placed old.trees → finite.get placed f.place ≡ Some (row_view f.credential)
+    → IsWritten old new (finite.insert placed f.place (retired (row_view f.credential))))
+RetiresFound found same old new false = same × ForSome (credential_of found) (λ c. c.retired ≡ true)
+
+-- what was found is deleted
+abbrev pub DeletesFound : Option Found → Type 0 → View → View → Bool → Type 0
+DeletesFound found same old new true =
+    (f : Found) × (found ≡ Some f)
+    × (IsClean new → (placed : Placed) → Holds placed old.trees → finite.get placed f.place ≡ Some (row_view f.credential)
+    → IsWritten old new (finite.remove placed f.place))
+DeletesFound found same old new false = same × (found ≡ None)
+
+-- a registration as it is judged
+abbrev pub judged_by : RelyingParty → Policy → Option ExpectedRegistration → responses.AuthenticatorAttestationResponse → (List ℕ → Bool) → Bool → JudgedRegistration
+judged_by rp policy session r is_registered is_full =
+    record { rp = rp; policy = policy; session = session; response = r; is_registered = is_registered; is_full = is_full }
+
+-- whether a credential has an id, as it is told
+abbrev pub TellsHad : Placed → List ℕ → Bool → Type 0
+TellsHad placed id true = (place : ℕ) × (c : Credential) × IsAt placed id place c
+TellsHad placed id false = HasNone placed id
+
+-- the response attests it, which passes each step since no credential has its id
+pub record Admits (valid : Validity) (rp : RelyingParty) (policy : Policy) (session : Option ExpectedRegistration) (r : responses.AuthenticatorAttestationResponse)
+    (is_full : Bool) (c : NewCredential) (old new : View) : Type 0 where
+  pub open_session : IsSome session
+  pub room : is_full ≡ false
+  pub attests : IsVerifiedRegistration (judged_by rp policy session r (λ _. false) false) c
+  pub fresh : IsClean new → (placed : Placed) → Holds placed old.trees → HasNone placed c.id
+  pub passes : IsClean new → (placed : Placed) → Holds placed old.trees → (is_registered : List ℕ → Bool) → TellsIds placed is_registered
+      → PassesRegistration valid (judged_by rp policy session r is_registered is_full)
+
+-- a step refuses it, whichever test tells the ids
+abbrev pub IsNotAdmitted : Validity → RelyingParty → Policy → Option ExpectedRegistration → responses.AuthenticatorAttestationResponse → Bool → View → View
+    → VerificationError RegistrationRefusal → Type 0
+IsNotAdmitted valid rp policy session r is_full old new why =
+    IsClean new → (placed : Placed) → Holds placed old.trees → (is_registered : List ℕ → Bool) → TellsIds placed is_registered
+    → registrations.IsRefused valid (judged_by rp policy session r is_registered is_full) why
+
+-- the credential that is admitted, as a user's
+abbrev pub admitted_as : List ℕ → NewCredential → Credential
+admitted_as user c = record { id = c.id; user = user; key = c.key; sign_count = c.sign_count; eligible = Some c.eligible; retired = false }
+
+-- the store is open, and no transaction is begun
+pub record IsAtRest (v : View) : Type 0 where
+  pub begun : v.trees ≡ v.committed
+  pub sound : v.is_broken ≡ false
+  pub is_open : IsTrue v.is_open
+
+-- the store has the trees of a site, without rows
+pub record IsNew (v : View) : Type 0 where
+  pub rest : IsAtRest v
+  pub shapes : HasTrees v × (v.shape 2 ≡ Table)
+  pub credentials : v.trees 0 ≡ []
+  pub site : v.trees 2 ≡ []
+  pub by_id : v.trees 3 ≡ []
+  pub by_user : v.trees 4 ≡ []
+
+-- where a row is a credential's, its place is not above this one
+abbrev pub IsUpTo : ℕ → Row → Type 0
+IsUpTo last row = (place : ℕ) (c : Credential) → row ≡ credential_row place c → place ≤ last

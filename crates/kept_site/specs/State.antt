@@ -1,0 +1,90 @@
+-- A relying party whose credentials are rows of a store, and whose open sessions are in memory.
+use Rattle.std.specs.Prelude.{◌≡◌, ◌<◌, ◌≤◌, ◌^◌, ℕ, pos, Bool, true, false, List, [], ◌∷◌, IsTrue, Some, filter, refl}
+use Rattle.std.specs.Coded.{Coded, code_by, coded×, coded_bool, coded_list, coded_ℕ}
+use Rattle.std.specs.FinMap as finite
+use Rattle.sqlite_value.specs.Order.{Row}
+use Rattle.sqlite_value.specs.declared.value.Value.TheVariants.{Null, Int, Text}
+use Rattle.sqlite_trees.specs.Tree.{Trees, has_rowid}
+use Rattle.sqlite_trees.specs.View.{View, IsClean}
+use Rattle.sqlite_trees.specs.declared.store.Shape.TheVariants.{Table}
+use Rattle.authdata.specs.declared.profile.Profile.{Profile}
+use Rattle.authdata.specs.contracts.profile.Profile as profile
+use Rattle.verification.specs.Records.{Credential, RelyingParty}
+use Rattle.verification.specs.declared.party.Policy.{Policy}
+use Rattle.verification.specs.contracts.party.Policy as policy
+use Rattle.ceremony_sessions.specs.Codes.{Bytes, coded_bytes}
+use Rattle.credential_store.specs.Held.{HasTrees, Holds, Placed}
+use Rattle.timed_sessions.specs.Timed.{Timed, timed_code}
+
+-- the relying party; the attestations that it accepts; the open sessions; the number below which all may have been given; how
+-- many credentials there are, the highest place that one ever had, and how many there may be; the store; whether a failure has shut
+-- it; whether something is written that is not committed
+pub record KeptState (S : Type 0) : Type 0 where
+  pub rp : RelyingParty
+  pub policy : Policy
+  pub timed : Timed
+  pub reserved : ℕ
+  pub count : ℕ
+  pub last : ℕ
+  pub most : ℕ
+  pub store : S
+  pub is_shut : Bool
+  pub is_pending : Bool
+
+abbrev party_code : Coded RelyingParty
+party_code =
+    code_by (Bytes × (List Bytes × Profile)) (coded× coded_bytes (coded× (coded_list coded_bytes) profile.the_row.coded))
+    (λ p. (p.rp_id, (p.origins, p.profile))) (λ p. record { rp_id = p.0; origins = p.1.0; profile = p.1.1 }) (λ _. refl)
+
+abbrev pub kept_code : {S : Type 0} → Coded S → Coded (KeptState S)
+kept_code {S} store =
+    code_by ((RelyingParty × (Policy × Timed)) × ((ℕ × (ℕ × (ℕ × ℕ))) × (S × (Bool × Bool))))
+    (coded× (coded× party_code (coded× policy.the_row.coded timed_code))
+    (coded× (coded× coded_ℕ (coded× coded_ℕ (coded× coded_ℕ coded_ℕ))) (coded× store (coded× coded_bool coded_bool))))
+    (λ s. ((s.rp, (s.policy, s.timed)), ((s.reserved, (s.count, (s.last, s.most))), (s.store, (s.is_shut, s.is_pending)))))
+    (λ p. record {
+      rp = p.0.0;
+      policy = p.0.1.0;
+      timed = p.0.1.1;
+      reserved = p.1.0.0;
+      count = p.1.0.1.0;
+      last = p.1.0.1.1.0;
+      most = p.1.0.1.1.1;
+      store = p.1.1.0;
+      is_shut = p.1.1.1.0;
+      is_pending = p.1.1.1.1;
+    }) (λ _. refl)
+
+-- ---- what a store holds of it
+
+-- the columns: number, version, rp_id, next_session
+abbrev pub site_row : List ℕ → ℕ → Row
+site_row rp_id next = Int (pos 1) ∷ Null ∷ Int (pos 2) ∷ Text rp_id ∷ Int (pos next) ∷ []
+
+-- trees 0, 3 and 4 hold the credentials, tree 2 the row of the relying party: no session had this number or a higher one
+pub record HoldsSite (placed : Placed) (rp_id : List ℕ) (next : ℕ) (db : Trees) : Type 0 where
+  pub credentials : Holds placed db
+  pub site : db 2 ≡ site_row rp_id next ∷ []
+
+-- the row of the relying party stands in tree 2
+abbrev pub HasParty : List ℕ → ℕ → Trees → Type 0
+HasParty rp_id next db = filter (has_rowid (pos 1)) (db 2) ≡ site_row rp_id next ∷ []
+
+-- so it is, and the counts are those of the credentials
+pub record IsHeld {S : Type 0} (placed : Placed) (s : KeptState S) (db : Trees) : Type 0 where
+  pub holds : HoldsSite placed s.rp.rp_id s.reserved db
+  pub count : finite.len placed ≡ s.count
+  pub last : (place : ℕ) (c : Credential) → finite.get placed place ≡ Some c → place ≤ s.last
+
+-- the store is open, its trees have the shapes of a site's, and where nothing waits to be committed all is
+pub record IsReady (v : View) (is_pending : Bool) : Type 0 where
+  pub trees : HasTrees v
+  pub site : v.shape 2 ≡ Table
+  pub is_open : IsTrue v.is_open
+  pub committed : is_pending ≡ false → v.trees ≡ v.committed
+
+-- a site that is not shut is ready, each number that was given is below those that are reserved, and these a column can hold
+pub record IsSound {S : Type 0} (view : S → View) (s : KeptState S) : Type 0 where
+  pub ready : s.is_shut ≡ false → IsClean (view s.store) → IsReady (view s.store) s.is_pending
+  pub given : s.is_shut ≡ false → s.timed.open_sessions.next ≤ s.reserved
+  pub reserved : s.reserved < 2 ^ 63

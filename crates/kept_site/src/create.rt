@@ -1,0 +1,107 @@
+//! A site over a store without rows.
+
+ghost use Rattle.std.specs.Prelude.{◌≡◌, ◌⊎◌, ◌≤◌, [], IfErr, IfOk, IsTrue, OnOk, false};
+ghost use Rattle.std.specs.FinMap as finite;
+ghost use Rattle.sqlite_trees.specs.Tree.{Trees};
+ghost use Rattle.sqlite_trees.specs.View.{IsClean};
+ghost use Rattle.kept_site.specs.State.{HoldsSite, IsHeld, IsReady};
+ghost use Rattle.kept_site.specs.Private.{IsNew};
+
+use crate::failure::CreateFailure;
+use crate::kept::KeptSite;
+use crate::rows::reserve;
+use crate::scan::{has_trees, is_empty, rest};
+use crate::site_store::SiteStore;
+use sqlite_trees::store::Store;
+use std::alloc::Global;
+use timed_sessions::TimedSessions;
+use verification::{Policy, RelyingParty};
+
+/// How much a site may have.
+#[derive(Clone, Copy, Debug, PartialEq, Eq, Drop)]
+pub struct Bounds {
+    /// The most sessions that stay open: where more begin the oldest ends.
+    pub open_sessions: u32,
+    /// The most credentials.
+    pub credentials: u32,
+}
+
+/// That a store has the trees of a site, without rows.
+fn check_new<S: Store>(alloc: Global, store: &mut S) -> Result<(), CreateFailure>
+    ensures new { OnOk result (IsClean (S.Store.view store.new) → IsNew (S.Store.view store.new)) }
+    ensures clean { OnOk result (IsClean (S.Store.view store.new) → IsClean (S.Store.view store.old)) }
+    ensures crash { (db : Trees) → S.Store.recovers store.new db → S.Store.recovers store.old db }
+{
+    rest(store)?;
+    if !has_trees(store) {
+        return Err(CreateFailure::NotNew);
+    }
+    let credentials = is_empty(alloc, store, 0)?;
+    let site = is_empty(alloc, store, 2)?;
+    let by_id = is_empty(alloc, store, 3)?;
+    let by_user = is_empty(alloc, store, 4)?;
+    if !(credentials && site && by_id && by_user) {
+        return Err(CreateFailure::NotNew);
+    }
+    Ok(())
+}
+
+/// Commits the row of a relying party that has no credential, and has given no number.
+fn write_new<S: Store>(
+    alloc: Global,
+    party: &RelyingParty,
+    store: &mut S,
+) -> Result<(), CreateFailure>
+    ensures held { OnOk result (IsClean (S.Store.view store.new) → HoldsSite finite.empty party.now.rp_id 1 (S.Store.view store.new).trees) }
+    ensures ready { OnOk result (IsClean (S.Store.view store.new) → IsReady (S.Store.view store.new) false) }
+    ensures crash { (db : Trees) → IsClean (S.Store.view store.new) → S.Store.recovers store.new db
+        → S.Store.recovers store.old db ⊎ HoldsSite finite.empty party.now.rp_id 1 db }
+{
+    check_new(alloc, store)?;
+    reserve(alloc, store, party.rp_id(), 1)?;
+    store.commit()?;
+    Ok(())
+}
+
+impl<S: Store> KeptSite<S> {
+    /// A site without credentials and sessions, in a store whose trees 0 and 2 are tables and 3 and 4 indices, without rows. What
+    /// an earlier transaction of the store has not committed is undone.
+    ///
+    /// `NotNew` where a tree has another shape, or a row; nothing is written then. `Failed` where the disk or memory failed. The
+    /// store is handed back.
+    pub fn create(
+        alloc: Global,
+        party: RelyingParty,
+        policy: Policy,
+        bounds: Bounds,
+        mut store: S,
+    ) -> Result<KeptSite<S>, (CreateFailure, S)>
+        ensures made { IfOk result (λ s. (s.rp ≡ party) × (s.policy ≡ policy) × (s.most ≡ bounds.credentials) × (s.is_shut ≡ false) × (s.is_pending ≡ false)) }
+        ensures sessions { IfOk result (λ s. (s.timed.open_sessions.expected ≡ finite.empty) × (s.timed.open_sessions.next ≡ 1)) }
+        ensures held { IfOk result (λ s. IsClean (S.Store.view s.store) → IsHeld finite.empty s (S.Store.view s.store).trees) }
+        // An open after a crash finds what it could find before, or the new site.
+        ensures crash { IfOk result (λ s. (db : Trees) → IsClean (S.Store.view s.store) → S.Store.recovers s.store db
+            → S.Store.recovers store db ⊎ HoldsSite finite.empty party.rp_id 1 db) }
+        ensures failed { IfErr result (λ e. (db : Trees) → IsClean (S.Store.view e.1) → S.Store.recovers e.1 db
+            → S.Store.recovers store db ⊎ HoldsSite finite.empty party.rp_id 1 db) }
+    {
+        match write_new(alloc, &party, &mut store) {
+            Ok(()) => Ok(KeptSite {
+                party,
+                policy,
+                sessions: TimedSessions::new(alloc, 1, bounds.open_sessions),
+                count: 0,
+                last: 0,
+                most: bounds.credentials,
+                held: SiteStore {
+                    alloc,
+                    store,
+                    reserved: 1,
+                    is_pending: false,
+                    is_shut: false,
+                },
+            }),
+            Err(why) => Err((why, store)),
+        }
+    }
+}

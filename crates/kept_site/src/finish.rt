@@ -1,0 +1,164 @@
+//! Finishing a sign-in (WebAuthn Level 2, section 7.2).
+
+ghost use Rattle.std.specs.Prelude.{◌≡◌, IfErr, IfOk, IsErrOf, OnOk, false, option_map, true};
+ghost use Rattle.sqlite_trees.specs.Tree.{Trees};
+ghost use Rattle.sqlite_trees.specs.View.{IsClean};
+ghost use Rattle.verification.specs.SignInAnswers.{IsRefused};
+ghost use Rattle.verification.specs.Views.{assertion_parts_view, credential_view};
+ghost use Rattle.credential_table.specs.Table as table;
+ghost use Rattle.credential_store.specs.Held.{Placed};
+ghost use Rattle.ceremony_sessions.specs.Sessions.{sign_in_at};
+ghost use Rattle.timed_sessions.specs.Timed.{after_end};
+ghost use Rattle.kept_site.specs.State.{IsHeld, IsReady};
+ghost use Rattle.kept_site.specs.Calls.{IsNotFinished, IsOneSite, RefusesSignIn, SignsIn};
+ghost use Rattle.kept_site.specs.Private.{IsStopped, SignsInAs, credential_of, judged};
+ghost use Rattle.kept_site.specs.declared.failure.Failure.TheVariants as failures;
+ghost use Rattle.kept_site.specs.declared.failure.FinishFailure.TheVariants as finishes;
+
+use crate::failure::{Failure, FinishFailure};
+use crate::kept::KeptSite;
+use crate::site_store::SiteStore;
+use cose::Verifier;
+use credential_store::{Found, lent};
+use sqlite_trees::store::Store;
+use std::alloc::Global;
+use timed_sessions::TimedSessions;
+use verification::{
+    AssertionParts, RelyingParty, RowView, SignInAttempt, SignInRefusal, VerificationError,
+    VerifiedAssertion, verify_assertion,
+};
+
+/// Who signed in, and with which credential.
+#[derive(Debug, Drop)]
+pub struct SignedIn {
+    /// The user handle of the credential's account.
+    pub user: Vec<u8>,
+    /// The credential id.
+    pub credential: Vec<u8>,
+    /// Whether the credential is backed up now (BS).
+    pub backed_up: bool,
+}
+
+/// Copies of the user handle and of the credential id.
+fn signed_in(
+    alloc: Global,
+    user: &[u8],
+    credential: &[u8],
+    backed_up: bool,
+) -> Result<SignedIn, VerificationError<SignInRefusal>>
+    ensures copied { IfOk result (λ x. (x.user.items ≡ user.now) × (x.credential.items ≡ credential.now) × (x.backed_up ≡ backed_up)) }
+    ensures memory { IfErr result (λ e. e ≡ VerificationError.Memory) }
+{
+    Ok(SignedIn {
+        user: Vec::from_slice(alloc, user)?,
+        credential: Vec::from_slice(alloc, credential)?,
+        backed_up,
+    })
+}
+
+/// The credential that was found.
+fn credential_in(found: &Option<Found>) -> Option<RowView<'_>>
+    ensures { option_map credential_view result ≡ credential_of found.now }
+{
+    match found {
+        Some(found) => Some(lent(&found.credential)),
+        None => None,
+    }
+}
+
+/// A credential after a sign-in.
+fn counted<'a>(row: RowView<'a>, verified: VerifiedAssertion) -> RowView<'a>
+    ensures { credential_view result ≡ table.signed_in verified.sign_count verified.eligible (credential_view row.entry) }
+{
+    RowView {
+        sign_count: verified.sign_count,
+        eligible: Some(verified.eligible),
+        ..row
+    }
+}
+
+/// Judges a response with what was found for it, and writes what it changes of the credential.
+fn sign_in_found<S: Store, V: Verifier>(
+    party: &RelyingParty,
+    sessions: &TimedSessions,
+    held: &mut SiteStore<S>,
+    verifier: &V,
+    session: u64,
+    response: &AssertionParts<'_>,
+    found: &Option<Found>,
+) -> Result<SignedIn, FinishFailure<SignInRefusal>>
+    requires open { held.old.is_shut ≡ false }
+    requires ready { IsClean (S.Store.view held.old.store) → IsReady (S.Store.view held.old.store) held.old.is_pending }
+    ensures accepted { IfOk result (λ x. SignsInAs (V.valid verifier.now) party.now (sign_in_at session sessions.now.open_sessions) found.now
+        (assertion_parts_view response.now) x (S.Store.view held.old.store) (S.Store.view held.new.store)) }
+    ensures refused { IfErr result (IsStopped (held.new ≡ held.old) held.new.is_shut (IsRefused (V.valid verifier.now)
+        (judged party.now (sign_in_at session sessions.now.open_sessions) found.now (assertion_parts_view response.now)))) }
+    ensures ready { OnOk result (IsClean (S.Store.view held.new.store) → IsReady (S.Store.view held.new.store) held.new.is_pending) }
+    ensures open { OnOk result (held.new.is_shut ≡ false) }
+    ensures reserved { held.new.reserved ≡ held.old.reserved }
+    ensures clean { IsClean (S.Store.view held.new.store) → IsClean (S.Store.view held.old.store) }
+    ensures crash { (db : Trees) → S.Store.recovers held.new.store db → S.Store.recovers held.old.store db }
+{
+    let alloc = held.alloc;
+    let verified = verify_assertion(
+        alloc,
+        verifier,
+        &SignInAttempt {
+            party,
+            session: sessions.sign_in(session),
+            credential: credential_in(found),
+            response: *response,
+        },
+    )?;
+    let found = found.as_ref().unwrap();
+    let credential = lent(&found.credential);
+    let signed_in = signed_in(
+        alloc,
+        credential.user,
+        response.credential,
+        verified.backed_up,
+    )?;
+    held.set(found.place, &counted(credential, verified))?;
+    Ok(signed_in)
+}
+
+impl<S: Store> KeptSite<S> {
+    /// Finishes a sign-in: the response's credential keeps the counter and the mark of eligibility that came, and the session is
+    /// closed. It is to be committed before it is told.
+    ///
+    /// `Site` with the first step of section 7.2 that the response does not pass in this session, or with want of memory. Then
+    /// nothing has changed: the session is open.
+    pub fn finish_parts<V: Verifier>(
+        &mut self,
+        verifier: &V,
+        session: u64,
+        response: &AssertionParts<'_>,
+    ) -> Result<SignedIn, FinishFailure<SignInRefusal>>
+        ensures accepted { IfOk result (λ x. IsClean (S.Store.view self.new.store) → (placed : Placed) → IsHeld placed self.old (S.Store.view self.old.store).trees
+            → (after : Placed) × SignsIn (V.valid verifier.now) placed self.old session (assertion_parts_view response.now) x after
+            × IsHeld after self.new (S.Store.view self.new.store).trees) }
+        ensures closed { OnOk result (self.new.timed ≡ after_end self.old.timed session) }
+        ensures one { OnOk result (IsOneSite self.old self.new × (self.new.is_shut ≡ false)) }
+        ensures refused { IfErr result (IsNotFinished S.Store.view self.old self.new (λ why. IsClean (S.Store.view self.new.store) → (placed : Placed)
+            → IsHeld placed self.old (S.Store.view self.old.store).trees
+            → RefusesSignIn (V.valid verifier.now) placed self.old session (assertion_parts_view response.now) why)) }
+        ensures shut { self.old.is_shut ≡ true → IsErrOf result (finishes.Store failures.Shut) }
+        ensures crash { (db : Trees) → S.Store.recovers self.new.store db → S.Store.recovers self.old.store db }
+    {
+        if self.held.is_shut {
+            return Err(FinishFailure::Store(Failure::Shut));
+        }
+        let found = self.held.find(response.credential)?;
+        let signed_in = sign_in_found(
+            &self.party,
+            &self.sessions,
+            &mut self.held,
+            verifier,
+            session,
+            response,
+            &found,
+        )?;
+        self.sessions.close(session);
+        Ok(signed_in)
+    }
+}

@@ -1,0 +1,145 @@
+//! A relying party over a store.
+
+ghost use Rattle.std.specs.Prelude.{◌≡◌, ◌⊎◌, ◌+◌, ◌<◌, ◌≤◌, ◌^◌, ℕ, IfErr, IfOk, OnErr, OnOk, IsErrOf, is_some, false, true};
+ghost use Rattle.std.specs.FinMap as finite;
+ghost use Rattle.sqlite_trees.specs.Tree.{Trees};
+ghost use Rattle.sqlite_trees.specs.View.{IsClean};
+ghost use Rattle.timed_sessions.specs.Timed.{after_end, since};
+ghost use Rattle.kept_site.specs.State.{IsHeld, IsSound};
+ghost use Rattle.kept_site.specs.Calls.{IsFailure, IsOneSite};
+ghost use Rattle.kept_site.specs.declared.failure.Failure.TheVariants as failures;
+
+use crate::failure::Failure;
+use crate::site_store::SiteStore;
+use sqlite_trees::store::Store;
+use std::alloc::AllocError;
+use std::marker::Model;
+use timed_sessions::TimedSessions;
+use verification::{Policy, RelyingParty};
+
+/// A relying party whose credentials are rows of a store, and whose open sessions are in memory.
+///
+/// A call writes what it answers, and `commit` commits all that was written since the last one: an answer is told only after
+/// it. So one commit serves many calls. A failure of the disk or of memory while it writes shuts the site: each further call
+/// says so, and what an open of the file finds is what was committed.
+#[derive(Drop)]
+pub struct KeptSite<S: Store> {
+    pub(crate) party: RelyingParty,
+    pub(crate) policy: Policy,
+    pub(crate) sessions: TimedSessions,
+    pub(crate) count: u32,
+    pub(crate) last: u32,
+    pub(crate) most: u32,
+    pub(crate) held: SiteStore<S>,
+}
+
+impl<S: Store> Model for KeptSite<S> {
+    ghost use Rattle.kept_site.specs.State.{IsSound, KeptState, kept_code};
+
+    ghost Value = { KeptState S };
+
+    ghost coded = { kept_code S.code };
+
+    ghost view = { λ s. record {
+      rp = s.party;
+      policy = s.policy;
+      timed = s.sessions;
+      reserved = s.held.reserved;
+      count = s.count;
+      last = s.last;
+      most = s.most;
+      store = s.held.store;
+      is_shut = s.held.is_shut;
+      is_pending = s.held.is_pending;
+    } };
+
+    ghost invariant = { λ s. IsSound S.Store.view (record {
+      rp = s.party;
+      policy = s.policy;
+      timed = s.sessions;
+      reserved = s.held.reserved;
+      count = s.count;
+      last = s.last;
+      most = s.most;
+      store = s.held.store;
+      is_shut = s.held.is_shut;
+      is_pending = s.held.is_pending;
+    }) };
+}
+
+impl<S: Store> KeptSite<S> {
+    /// Whether an earlier failure has shut it.
+    pub fn is_shut(&self) -> bool
+        ensures { result ≡ self.now.is_shut }
+    {
+        self.held.is_shut
+    }
+
+    /// Whether something is written that is not committed.
+    pub fn is_pending(&self) -> bool
+        ensures { result ≡ self.now.is_pending }
+    {
+        self.held.is_pending
+    }
+
+    /// How many credentials there are, retired ones too.
+    pub fn count(&self) -> u32
+        ensures { result ≡ self.now.count }
+    {
+        self.count
+    }
+
+    /// The number that the next session will have.
+    pub fn next_session(&self) -> u64
+        ensures { result ≡ self.now.timed.open_sessions.next }
+    {
+        self.sessions.next()
+    }
+
+    /// Commits what was written since the last commit, if anything was. What the calls since then answered may be told now.
+    pub fn commit(&mut self) -> Result<(), Failure>
+        ensures same { OnOk result (IsClean (S.Store.view self.new.store) → (S.Store.view self.new.store).trees ≡ (S.Store.view self.old.store).trees) }
+        ensures kept { OnOk result (self.new ≡ record self.old { store = self.new.store; is_pending = false }) }
+        // After it a crash leaves all of it.
+        ensures durable { OnOk result (IsClean (S.Store.view self.new.store) → (db : Trees) → S.Store.recovers self.new.store db
+            → db ≡ (S.Store.view self.new.store).trees) }
+        // In it a crash leaves all or nothing of it.
+        ensures crash { (db : Trees) → S.Store.recovers self.new.store db → (db ≡ (S.Store.view self.old.store).trees) ⊎ S.Store.recovers self.old.store db }
+        ensures failed { IfErr result (IsFailure self.old self.new) }
+        ensures shut { self.old.is_shut ≡ true → IsErrOf result failures.Shut }
+    {
+        if self.held.is_shut {
+            return Err(Failure::Shut);
+        }
+        if !self.held.is_pending {
+            return Ok(());
+        }
+        self.held.commit()
+    }
+
+    /// Closes a session: true exactly where it was open. It takes no memory, and writes nothing.
+    pub fn abandon(&mut self, session: u64) -> bool
+        ensures told { result ≡ is_some (finite.get self.old.timed.open_sessions.expected session) }
+        ensures closed { self.new ≡ record self.old { timed = after_end self.old.timed session } }
+    {
+        self.sessions.close(session)
+    }
+
+    /// Ends each session that began before a second of the host's clock, and tells how many they were. Where there is no
+    /// memory nothing has changed. It writes nothing.
+    pub fn expire(&mut self, before: u64) -> Result<usize, AllocError>
+        ensures told { IfOk result (λ count. count + finite.len self.new.timed.open_sessions.expected ≡ finite.len self.old.timed.open_sessions.expected) }
+        ensures expired { OnOk result (self.new ≡ record self.old { timed = since before self.old.timed }) }
+        ensures unchanged { OnErr result (self.new ≡ self.old) }
+    {
+        self.sessions.expire(before)
+    }
+
+    /// Ends it, and gives the store back.
+    pub fn close(self) -> S
+        ensures { result ≡ self.store }
+    {
+        let held = self.held;
+        held.store
+    }
+}

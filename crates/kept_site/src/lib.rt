@@ -1,0 +1,22 @@
+//! A relying party whose credentials are rows of a SQLite file, and whose open sessions are in memory.
+#![tactic(auto)]
+
+mod begin;
+mod change;
+mod create;
+mod failure;
+mod finish;
+mod kept;
+mod law;
+mod open;
+mod registration;
+mod rows;
+mod scan;
+mod site_store;
+
+pub use create::Bounds;
+pub use failure::{BeginFailure, CreateFailure, Failure, FinishFailure, OpenFailure};
+pub use finish::SignedIn;
+pub use kept::KeptSite;
+pub use law::kept_laws;
+pub use registration::Registered;

@@ -1,0 +1,51 @@
+//! The row of the relying party.
+
+ghost use Rattle.std.specs.Prelude.{◌≡◌, ◌<◌, ◌^◌, ℕ, List, IfOk, IsTrue, OnOk};
+ghost use Rattle.sqlite_trees.specs.Tree.{Trees, put_row, rowid};
+ghost use Rattle.sqlite_trees.specs.View.{IsClean, OnlyWrites, SetsTree, is_int};
+ghost use Rattle.sqlite_trees.specs.declared.store.Shape.TheVariants.{Table};
+ghost use Rattle.credential_store.specs.Held.{Placed};
+ghost use Rattle.kept_site.specs.State.{HoldsSite, site_row};
+
+use sqlite_trees::error::StoreError;
+use sqlite_trees::store::Store;
+use sqlite_value::row::Row;
+use sqlite_value::value::ValueRef;
+use std::alloc::{AllocError, Global};
+
+/// The version of a file.
+pub(crate) const VERSION: i64 = 2;
+
+/// The row of a relying party, none of whose sessions had this number or a higher one.
+pub(crate) fn site_row(alloc: Global, rp_id: &str, next: u64) -> Result<Row, AllocError>
+    requires fits { next < 2 ^ 63 }
+    ensures row { IfOk result (λ row. row ≡ site_row rp_id.now next) }
+{
+    let mut row = Row::new(alloc);
+    row.push(ValueRef::Int(1))?;
+    row.push(ValueRef::Null)?;
+    row.push(ValueRef::Int(VERSION))?;
+    row.push(ValueRef::Text(rp_id.as_bytes()))?;
+    row.push(ValueRef::Int(next as i64))?;
+    Ok(row)
+}
+
+/// Reserves the numbers below one.
+pub(crate) fn reserve<S: Store>(
+    alloc: Global,
+    store: &mut S,
+    rp_id: &str,
+    next: u64,
+) -> Result<(), StoreError>
+    requires fits { next < 2 ^ 63 }
+    requires table { IsClean (S.Store.view store.old) → (S.Store.view store.old).shape 2 ≡ Table }
+    ensures reserved { OnOk result (IsClean (S.Store.view store.new) → (placed : Placed) (was : ℕ) → HoldsSite placed rp_id.now was (S.Store.view store.old).trees
+        → HoldsSite placed rp_id.now next (S.Store.view store.new).trees) }
+    ensures set { OnOk result (IsClean (S.Store.view store.new) → SetsTree (S.Store.view store.old) (S.Store.view store.new) 2 (put_row (site_row rp_id.now next))) }
+    ensures writes { OnOk result (IsClean (S.Store.view store.new) → OnlyWrites (S.Store.view store.old) (S.Store.view store.new)) }
+    ensures clean { IsClean (S.Store.view store.new) → IsClean (S.Store.view store.old) }
+    ensures crash { (db : Trees) → S.Store.recovers store.new db → S.Store.recovers store.old db }
+{
+    let row = site_row(alloc, rp_id, next)?;
+    store.put(2, &row)
+}

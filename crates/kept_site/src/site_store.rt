@@ -1,0 +1,168 @@
+//! The store of a site.
+
+ghost use Rattle.std.specs.Prelude.{◌≡◌, ◌⊎◌, ◌+◌, ◌<◌, ◌≤◌, ◌^◌, ℕ, IfErr, IfOk, IfSome, IsTrue, OnErr, OnOk, None, Some, true, false};
+ghost use Rattle.std.specs.FinMap as finite;
+ghost use Rattle.sqlite_trees.specs.Tree.{Trees};
+ghost use Rattle.sqlite_trees.specs.View.{IsClean, OnlyWrites};
+ghost use Rattle.verification.specs.Records.{Credential};
+ghost use Rattle.verification.specs.Views.{credential_view};
+ghost use Rattle.credential_table.specs.Views.{row_view};
+ghost use Rattle.credential_store.specs.Held.{HasNone, Holds, IsAt, IsSameView, IsWritten, Placed};
+ghost use Rattle.kept_site.specs.Private.{IsFoundAs, TellsHad};
+ghost use Rattle.kept_site.specs.State.{HoldsSite, IsReady};
+ghost use Rattle.kept_site.specs.declared.failure.Failure.TheVariants as failures;
+
+use crate::failure::Failure;
+use crate::rows::reserve;
+use credential_store::Found;
+use sqlite_trees::store::Store;
+use std::alloc::Global;
+use verification::RowView;
+
+/// How many numbers are reserved at a time.
+const BLOCK: u64 = 100_000;
+
+/// The store of a site, the number below which all may have been given, whether something is written that is not committed, and whether a failure has shut it.
+#[derive(Drop)]
+pub(crate) struct SiteStore<S: Store> {
+    pub(crate) alloc: Global,
+    pub(crate) store: S,
+    pub(crate) reserved: u64,
+    pub(crate) is_pending: bool,
+    pub(crate) is_shut: bool,
+}
+
+impl<S: Store> SiteStore<S> {
+    /// The credential of an id, with its place. A failure shuts it.
+    pub(crate) fn find(&mut self, id: &[u8]) -> Result<Option<Found>, Failure>
+        requires open { self.old.is_shut ≡ false }
+        requires ready { IsClean (S.Store.view self.old.store) → IsReady (S.Store.view self.old.store) self.old.is_pending }
+        ensures found { IfOk result (λ found. IsClean (S.Store.view self.new.store) → (placed : Placed)
+            → Holds placed (S.Store.view self.old.store).trees → IsFoundAs placed id.now found) }
+        ensures same { OnOk result (IsSameView (S.Store.view self.old.store) (S.Store.view self.new.store)) }
+        ensures kept { OnOk result (self.new ≡ record self.old { store = self.new.store }) }
+        ensures failed { IfErr result (λ e. (self.new.is_shut ≡ true) × (self.new.reserved ≡ self.old.reserved) × (e ≡ failures.Shut → ⊥)) }
+        ensures crash { (db : Trees) → S.Store.recovers self.new.store db → S.Store.recovers self.old.store db }
+    {
+        self.is_shut = true;
+        let found = credential_store::find(self.alloc, &mut self.store, id)?;
+        self.is_shut = false;
+        Ok(found)
+    }
+
+    /// Whether a credential has an id. A failure shuts it.
+    pub(crate) fn has(&mut self, id: &[u8]) -> Result<bool, Failure>
+        requires open { self.old.is_shut ≡ false }
+        requires ready { IsClean (S.Store.view self.old.store) → IsReady (S.Store.view self.old.store) self.old.is_pending }
+        ensures told { IfOk result (λ had. IsClean (S.Store.view self.new.store) → (placed : Placed)
+            → Holds placed (S.Store.view self.old.store).trees → TellsHad placed id.now had) }
+        ensures same { OnOk result (IsSameView (S.Store.view self.old.store) (S.Store.view self.new.store)) }
+        ensures kept { OnOk result (self.new ≡ record self.old { store = self.new.store }) }
+        ensures failed { IfErr result (λ e. (self.new.is_shut ≡ true) × (self.new.reserved ≡ self.old.reserved) × (e ≡ failures.Shut → ⊥)) }
+        ensures crash { (db : Trees) → S.Store.recovers self.new.store db → S.Store.recovers self.old.store db }
+    {
+        let found = self.find(id)?;
+        Ok(found.is_some())
+    }
+
+    /// Sets the credential at a place, whose id and user stay. A failure shuts it.
+    pub(crate) fn set(&mut self, place: u32, credential: &RowView<'_>) -> Result<(), Failure>
+        requires ready { IsClean (S.Store.view self.old.store) → IsReady (S.Store.view self.old.store) self.old.is_pending }
+        ensures written { OnOk result (IsClean (S.Store.view self.new.store) → (placed : Placed) (was : Credential) → Holds placed (S.Store.view self.old.store).trees
+            → finite.get placed place ≡ Some was → (credential_view credential.now).id ≡ was.id → (credential_view credential.now).user ≡ was.user
+            → IsWritten (S.Store.view self.old.store) (S.Store.view self.new.store) (finite.insert placed place (credential_view credential.now))) }
+        ensures ready { OnOk result (IsClean (S.Store.view self.new.store) → IsReady (S.Store.view self.new.store) true) }
+        ensures clean { IsClean (S.Store.view self.new.store) → IsClean (S.Store.view self.old.store) }
+        ensures open { OnOk result ((self.new.is_shut ≡ false) × (self.new.is_pending ≡ true) × (self.new.reserved ≡ self.old.reserved)) }
+        ensures failed { IfErr result (λ e. (self.new.is_shut ≡ true) × (self.new.reserved ≡ self.old.reserved) × (e ≡ failures.Shut → ⊥)) }
+        ensures crash { (db : Trees) → S.Store.recovers self.new.store db → S.Store.recovers self.old.store db }
+    {
+        self.is_shut = true;
+        credential_store::set(self.alloc, &mut self.store, place, credential)?;
+        self.is_pending = true;
+        self.is_shut = false;
+        Ok(())
+    }
+
+    /// Adds a credential. A failure shuts it.
+    pub(crate) fn add(&mut self, place: u32, credential: &RowView<'_>) -> Result<(), Failure>
+        requires ready { IsClean (S.Store.view self.old.store) → IsReady (S.Store.view self.old.store) self.old.is_pending }
+        ensures written { OnOk result (IsClean (S.Store.view self.new.store) → (placed : Placed) → Holds placed (S.Store.view self.old.store).trees
+            → finite.get placed place ≡ None → HasNone placed (credential_view credential.now).id
+            → IsWritten (S.Store.view self.old.store) (S.Store.view self.new.store) (finite.insert placed place (credential_view credential.now))) }
+        ensures ready { OnOk result (IsClean (S.Store.view self.new.store) → IsReady (S.Store.view self.new.store) true) }
+        ensures clean { IsClean (S.Store.view self.new.store) → IsClean (S.Store.view self.old.store) }
+        ensures open { OnOk result ((self.new.is_shut ≡ false) × (self.new.is_pending ≡ true) × (self.new.reserved ≡ self.old.reserved)) }
+        ensures failed { IfErr result (λ e. (self.new.is_shut ≡ true) × (self.new.reserved ≡ self.old.reserved) × (e ≡ failures.Shut → ⊥)) }
+        ensures crash { (db : Trees) → S.Store.recovers self.new.store db → S.Store.recovers self.old.store db }
+    {
+        self.is_shut = true;
+        credential_store::add(self.alloc, &mut self.store, place, credential)?;
+        self.is_pending = true;
+        self.is_shut = false;
+        Ok(())
+    }
+
+    /// Takes out the credential at a place. A failure shuts it.
+    pub(crate) fn remove(&mut self, place: u32, credential: &RowView<'_>) -> Result<(), Failure>
+        requires ready { IsClean (S.Store.view self.old.store) → IsReady (S.Store.view self.old.store) self.old.is_pending }
+        ensures written { OnOk result (IsClean (S.Store.view self.new.store) → (placed : Placed) → Holds placed (S.Store.view self.old.store).trees
+            → finite.get placed place ≡ Some (credential_view credential.now)
+            → IsWritten (S.Store.view self.old.store) (S.Store.view self.new.store) (finite.remove placed place)) }
+        ensures ready { OnOk result (IsClean (S.Store.view self.new.store) → IsReady (S.Store.view self.new.store) true) }
+        ensures clean { IsClean (S.Store.view self.new.store) → IsClean (S.Store.view self.old.store) }
+        ensures open { OnOk result ((self.new.is_shut ≡ false) × (self.new.is_pending ≡ true) × (self.new.reserved ≡ self.old.reserved)) }
+        ensures failed { IfErr result (λ e. (self.new.is_shut ≡ true) × (self.new.reserved ≡ self.old.reserved) × (e ≡ failures.Shut → ⊥)) }
+        ensures crash { (db : Trees) → S.Store.recovers self.new.store db → S.Store.recovers self.old.store db }
+    {
+        self.is_shut = true;
+        credential_store::remove(self.alloc, &mut self.store, place, credential)?;
+        self.is_pending = true;
+        self.is_shut = false;
+        Ok(())
+    }
+
+    /// Reserves numbers where the next one is above those that are reserved. A failure shuts it.
+    pub(crate) fn reserve_for(&mut self, rp_id: &str, next: u64) -> Result<(), Failure>
+        requires fits { next + 100000 < 2 ^ 63 }
+        requires open { self.old.is_shut ≡ false }
+        requires ready { IsClean (S.Store.view self.old.store) → IsReady (S.Store.view self.old.store) self.old.is_pending }
+        ensures reserved { OnOk result (next ≤ self.new.reserved) }
+        ensures fits { self.old.reserved < 2 ^ 63 → self.new.reserved < 2 ^ 63 }
+        ensures held { OnOk result (IsClean (S.Store.view self.new.store) → (placed : Placed) → HoldsSite placed rp_id.now self.old.reserved (S.Store.view self.old.store).trees
+            → HoldsSite placed rp_id.now self.new.reserved (S.Store.view self.new.store).trees) }
+        ensures ready { OnOk result (IsClean (S.Store.view self.new.store) → IsReady (S.Store.view self.new.store) self.new.is_pending) }
+        ensures clean { IsClean (S.Store.view self.new.store) → IsClean (S.Store.view self.old.store) }
+        ensures open { OnOk result (self.new.is_shut ≡ false) }
+        ensures failed { IfErr result (λ e. (self.new.is_shut ≡ true) × (self.new.reserved ≡ self.old.reserved) × (e ≡ failures.Shut → ⊥)) }
+        ensures crash { (db : Trees) → S.Store.recovers self.new.store db → S.Store.recovers self.old.store db }
+    {
+        if next <= self.reserved {
+            return Ok(());
+        }
+        self.is_shut = true;
+        let reserved = next + BLOCK;
+        reserve(self.alloc, &mut self.store, rp_id, reserved)?;
+        self.reserved = reserved;
+        self.is_pending = true;
+        self.is_shut = false;
+        Ok(())
+    }
+
+    /// Commits what is written. A failure shuts it.
+    pub(crate) fn commit(&mut self) -> Result<(), Failure>
+        requires ready { IsClean (S.Store.view self.old.store) → IsReady (S.Store.view self.old.store) self.old.is_pending }
+        ensures same { OnOk result (IsClean (S.Store.view self.new.store) → (S.Store.view self.new.store).trees ≡ (S.Store.view self.old.store).trees) }
+        ensures ready { OnOk result (IsClean (S.Store.view self.new.store) → IsReady (S.Store.view self.new.store) false) }
+        ensures clean { IsClean (S.Store.view self.new.store) → IsClean (S.Store.view self.old.store) }
+        ensures open { OnOk result ((self.new.is_shut ≡ false) × (self.new.is_pending ≡ false) × (self.new.reserved ≡ self.old.reserved)) }
+        ensures failed { IfErr result (λ e. (self.new.is_shut ≡ true) × (self.new.reserved ≡ self.old.reserved) × (e ≡ failures.Shut → ⊥)) }
+        ensures crash { (db : Trees) → S.Store.recovers self.new.store db → (db ≡ (S.Store.view self.old.store).trees) ⊎ S.Store.recovers self.old.store db }
+    {
+        self.is_shut = true;
+        self.store.commit()?;
+        self.is_pending = false;
+        self.is_shut = false;
+        Ok(())
+    }
+}
