@@ -1,5 +1,5 @@
 -- A credential that ends.
-use Rattle.std.proofs.Common.{◌≡◌, ◌-◌, ℕ, List, Bool, true, false, ◌∙◌, refl, sym, ap, subst}
+use Rattle.std.proofs.Common.{◌≡◌, ◌-◌, ℕ, List, Bool, true, false, ◌∙◌, refl, sym, subst}
 use Rattle.std.specs.FinMap as finite
 use Rattle.std.specs.Prelude.{Option, Some, None, if◌then◌else◌}
 use Rattle.std.specs.Option.{ForSome}

@@ -1,5 +1,5 @@
 -- A ceremony that is finished.
-use Rattle.std.proofs.Common.{◌≡◌, ℕ, List, Bool, ◌∙◌, refl, sym, ap, subst, true, false}
+use Rattle.std.proofs.Common.{◌≡◌, ℕ, List, Bool, refl, sym, subst, true, false}
 use Rattle.std.specs.FinMap as finite
 use Rattle.std.specs.Prelude.{Option, Some, None}
 use Rattle.sqlite_trees.specs.View.{IsClean, View}

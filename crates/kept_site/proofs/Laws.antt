@@ -1,16 +1,14 @@
 -- A store holds one site.
-use Rattle.std.proofs.Common.{◌≡◌, ℕ, pos, List, [], ◌∷◌, map, refl, sym, ap, ◌∙◌}
+use Rattle.std.proofs.Common.{◌≡◌, ℕ, List, [], ◌∷◌, map, refl, sym, ap, ◌∙◌}
 use Rattle.std.specs.FinMap as finite
 use Rattle.std.specs.FinMap.{same_entries_map}
 use Rattle.sqlite_value.specs.Order.{Row, column}
-use Rattle.sqlite_value.specs.declared.value.Value.TheVariants.{Int, Text}
-use Rattle.sqlite_trees.specs.Tree.{Trees}
+use Rattle.sqlite_value.specs.declared.value.Value.TheVariants.{Text}
 use Rattle.verification.specs.Records.{Credential}
-use Rattle.credential_store.specs.Held.{Placed, placed_rows}
 use Rattle.credential_store.specs.Rows.{credential_row}
 use Rattle.credential_store.proofs.One.{number_once, one_credential}
-use Rattle.kept_site.specs.Laws.{IsOne, KeptLaws}
-use Rattle.kept_site.specs.State.{HoldsSite, site_row}
+use Rattle.kept_site.specs.Laws.{KeptLaws}
+use Rattle.kept_site.specs.State.{site_row}
 
 abbrev rows_in : List (ℕ × Credential) → List Row
 rows_in es = map (λ e. credential_row e.0 e.1) es

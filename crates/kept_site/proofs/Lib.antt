@@ -9,3 +9,4 @@ mod Scans
 mod New
 mod Opening
 mod Laws
+mod ReadTo

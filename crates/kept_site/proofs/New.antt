@@ -1,9 +1,8 @@
 -- A store without credentials.
-use Rattle.std.proofs.Common.{◌≡◌, ◌≤◌, ℕ, List, [], ◌∷◌, map, refl, sym, ap, ◌∙◌, subst, arith}
-use Rattle.std.proofs.lemmas.Grind.{common_steps}
+use Rattle.std.proofs.Common.{◌≡◌, ℕ, List, [], map, sym, ap, ◌∙◌, subst}
 use Rattle.std.specs.Prelude.{Some, None}
 use Rattle.std.specs.FinMap as finite
-use Rattle.std.specs.FinMap.{entries-from_sorted, get-empty, get-from_sorted, gets, same_map, nat_cmp-IsAntisymmetric}
+use Rattle.std.specs.FinMap.{entries-from_sorted, get-empty, get-from_sorted, same_map, nat_cmp-IsAntisymmetric}
 use Rattle.std.specs.Ordering.{nat_cmp}
 use Rattle.std.specs.Cmp.{nat_cmp_total}
 use Rattle.std.specs.List.{AllByRecursion}
@@ -11,7 +10,7 @@ use Rattle.sqlite_value.specs.Order.{Row}
 use Rattle.sqlite_trees.specs.Tree.{Trees, put_row}
 use Rattle.sqlite_trees.specs.View.{SetsTree, View}
 use Rattle.verification.specs.Records.{Credential}
-use Rattle.credential_store.specs.Held.{Holds, Indexes, entry, placed_rows}
+use Rattle.credential_store.specs.Held.{Holds, Indexes, entry}
 use Rattle.credential_store.specs.Rows.{credential_row}
 use Rattle.kept_site.specs.Private.{IsNew}
 use Rattle.kept_site.specs.State.{HoldsSite, site_row}

@@ -1,7 +1,6 @@
 -- What an open counts.
 use Rattle.std.proofs.Common.{◌≡◌, ◌≤◌, ℕ, suc, pos, filter, List, [], ◌∷◌, Bool, true, false, cond, length, map, refl, sym, ap, ◌∙◌, subst, arith}
 use Rattle.std.proofs.lemmas.Grind.{common_steps}
-use Rattle.std.proofs.lemmas.Option.{same_Some}
 use Rattle.std.specs.Prelude.{Some, None, max}
 use Rattle.std.specs.FinMap as finite
 use Rattle.std.specs.FinMap.{find, get-entries, len-entries}

@@ -1,5 +1,5 @@
 -- What the calls of a site over a store make of it.
-use Rattle.std.specs.Prelude.{◌≡◌, ◌+◌, ◌<◌, ◌≤◌, ◌^◌, ◌⊎◌, ℕ, List, Bool, Option, Some, None, true, false, not, nat_lt, ◌&&◌, is_some, IsTrue}
+use Rattle.std.specs.Prelude.{◌≡◌, ◌+◌, ◌≤◌, ◌^◌, ℕ, List, Bool, Option, Some, None, true, false, not, nat_lt, ◌&&◌}
 use Rattle.std.specs.FinMap as finite
 use Rattle.sqlite_trees.specs.View.{View, IsClean}
 use Rattle.cose.specs.Schemes.{Validity}
@@ -22,7 +22,6 @@ use Rattle.verification.specs.declared.refusal.RegistrationRefusal.{Registration
 use Rattle.verification.specs.declared.refusal.VerificationError.{VerificationError}
 use Rattle.verification.specs.declared.refusal.SignInRefusal.{SignInRefusal}
 use Rattle.credential_store.specs.Held.{HasNone, IsAt, Placed}
-use Rattle.timed_sessions.specs.Timed.{Timed, after_end}
 use Rattle.kept_site.specs.State.{KeptState}
 use Rattle.kept_site.specs.declared.failure.Failure.{Failure}
 use Rattle.kept_site.specs.declared.failure.Failure.TheVariants as failures

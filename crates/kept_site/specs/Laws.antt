@@ -2,7 +2,7 @@
 use Rattle.std.specs.Prelude.{◌≡◌, ℕ, List}
 use Rattle.sqlite_trees.specs.Tree.{Trees}
 use Rattle.credential_store.specs.Held.{Placed}
-use Rattle.kept_site.specs.State.{HoldsSite, IsHeld, KeptState}
+use Rattle.kept_site.specs.State.{HoldsSite}
 
 -- trees that hold a site hold no other
 pub record IsOne (p q : Placed) (id id' : List ℕ) (m n : ℕ) : Type 0 where

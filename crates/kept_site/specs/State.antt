@@ -1,5 +1,5 @@
 -- A relying party whose credentials are rows of a store, and whose open sessions are in memory.
-use Rattle.std.specs.Prelude.{◌≡◌, ◌<◌, ◌≤◌, ◌^◌, ℕ, pos, Bool, true, false, List, [], ◌∷◌, IsTrue, Some, filter, refl}
+use Rattle.std.specs.Prelude.{◌≡◌, ◌<◌, ◌≤◌, ◌^◌, ℕ, pos, Bool, false, List, [], ◌∷◌, IsTrue, Some, filter, refl}
 use Rattle.std.specs.Coded.{Coded, code_by, coded×, coded_bool, coded_list, coded_ℕ}
 use Rattle.std.specs.FinMap as finite
 use Rattle.sqlite_value.specs.Order.{Row}

@@ -13,7 +13,7 @@ ghost use Rattle.kept_site.specs.declared.failure.BeginFailure.TheVariants as be
 
 use crate::failure::{BeginFailure, Failure};
 use crate::kept::KeptSite;
-use ceremony_sessions::Started;
+use ceremony_sessions::{Error as BeginError, Started};
 use cose::Alg;
 use sqlite_trees::store::Store;
 
@@ -46,6 +46,8 @@ impl<S: Store> KeptSite<S> {
             → IsHeld placed self.new (S.Store.view self.new.store).trees) }
         ensures one { OnOk result (IsOneSite self.old self.new × (self.new.is_shut ≡ false)) }
         ensures refused { IfErr result (IsNotBegun self.old self.new (OpensSignIn (option_map (λ u. u.now) user.entry) (map (λ id. id.now) allow.now) uv words)) }
+        // However many sessions are open.
+        ensures room { IfErr result (λ e. e ≡ begins.Site BeginError.SessionsFull → ⊥) }
         ensures shut { self.old.is_shut ≡ true → IsErrOf result (begins.Store failures.Shut) }
         ensures crash { (db : Trees) → S.Store.recovers self.new.store db → S.Store.recovers self.old.store db }
     {
@@ -79,6 +81,8 @@ impl<S: Store> KeptSite<S> {
             → IsHeld placed self.new (S.Store.view self.new.store).trees) }
         ensures one { OnOk result (IsOneSite self.old self.new × (self.new.is_shut ≡ false)) }
         ensures refused { IfErr result (IsNotBegun self.old self.new (OpensRegistration user.now algorithms.now uv words)) }
+        // However many sessions are open.
+        ensures room { IfErr result (λ e. e ≡ begins.Site BeginError.SessionsFull → ⊥) }
         ensures shut { self.old.is_shut ≡ true → IsErrOf result (begins.Store failures.Shut) }
         ensures crash { (db : Trees) → S.Store.recovers self.new.store db → S.Store.recovers self.old.store db }
     {

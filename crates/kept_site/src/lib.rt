@@ -8,6 +8,7 @@ mod failure;
 mod finish;
 mod kept;
 mod law;
+mod listing;
 mod open;
 mod registration;
 mod rows;

@@ -136,6 +136,8 @@ impl TimedSessions {
             (after_begin self.old (OpensSignIn (option_map (λ u. u.now) user.entry) (map (λ id. id.now) allow.now) uv words) now) self.new) }
         ensures refused { IfErr result (IsRefused profile self.old.open_sessions
             (OpensSignIn (option_map (λ u. u.now) user.entry) (map (λ id. id.now) allow.now) uv words)) }
+        // For want of room none is refused.
+        ensures room { IfErr result (λ e. e ≡ Error.SessionsFull → ⊥) }
         ensures unchanged { OnErr result (self.new ≡ self.old) }
     {
         let number = self.open_sessions.next();
@@ -167,6 +169,8 @@ impl TimedSessions {
         ensures started { IfOk result (λ s. (s.session ≡ self.old.open_sessions.next) × (s.challenge ≡ challenge_of self.old.open_sessions.next words)) }
         ensures begun { OnOk result (IsTrimmed (after_begin self.old (OpensRegistration user.now algorithms.now uv words) now) self.new) }
         ensures refused { (profile : IdProfile) → IfErr result (IsRefused profile self.old.open_sessions (OpensRegistration user.now algorithms.now uv words)) }
+        // For want of room none is refused.
+        ensures room { IfErr result (λ e. e ≡ Error.SessionsFull → ⊥) }
         ensures unchanged { OnErr result (self.new ≡ self.old) }
     {
         let number = self.open_sessions.next();

@@ -1,7 +1,7 @@
 -- What is owed of `write_new`.
-use Rattle.std.proofs.Common.{◌≡◌, ◌≤◌, inl, inr, sym, ap, subst, ◌∙◌, arith}
+use Rattle.std.proofs.Common.{inl, inr, sym, ap, subst, arith}
 use Rattle.std.specs.FinMap as finite
-use Rattle.sqlite_trees.specs.View.{IsClean, doubt}
+use Rattle.sqlite_trees.specs.View.{IsClean}
 use Rattle.kept_site.specs.State.{HoldsSite}
 use Rattle.kept_site.proofs.New.{holds_new}
 use Rattle.kept_site.proofs.create.write_new.Goals as goal

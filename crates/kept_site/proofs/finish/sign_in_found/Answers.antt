@@ -1,9 +1,9 @@
 -- What is owed of `sign_in_found`.
-use Rattle.std.proofs.Common.{◌≡◌, ◌∙◌, ap, sym, subst}
+use Rattle.std.proofs.Common.{◌∙◌, ap, sym, subst}
 use Rattle.std.specs.FinMap as finite
 use Rattle.std.specs.Option.{option_copied}
 use Rattle.verification.specs.SignIn.{PassesSignIn}
-use Rattle.verification.specs.Views.{assertion_parts_view, credential_view}
+use Rattle.verification.specs.Views.{assertion_parts_view}
 use Rattle.credential_table.specs.Views.{row_view}
 use Rattle.credential_store.specs.Held.{IsWritten}
 use Rattle.kept_site.proofs.Signing.{same_attempt, same_counted}

@@ -1,6 +1,5 @@
 -- What is owed of `count_rows`.
-use Rattle.std.proofs.Common.{◌≡◌, ◌≤◌, ◌+◌, ◌∷◌, length, ap, subst, sym, ◌∙◌, rules, arith}
-use Rattle.std.proofs.lemmas.Grind.{common_steps}
+use Rattle.std.proofs.Common.{◌≤◌, ◌+◌, length, ap, subst, sym, ◌∙◌, rules, arith}
 use Rattle.std.specs.List.{AllByRecursion}
 use Rattle.credential_store.proofs.Seeks.{some_of}
 use Rattle.kept_site.specs.Private.{IsUpTo}

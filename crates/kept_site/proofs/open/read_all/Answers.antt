@@ -1,5 +1,5 @@
 -- What is owed of `read_all`.
-use Rattle.std.proofs.Common.{◌≡◌, ap, sym, ◌∙◌, subst}
+use Rattle.std.proofs.Common.{ap, sym, ◌∙◌}
 use Rattle.kept_site.proofs.Opening.{counted, highest, one_number}
 use Rattle.kept_site.proofs.open.read_all.Goals as goal
 

@@ -1,5 +1,5 @@
 -- What is owed of `KeptSite::delete`.
-use Rattle.std.proofs.Common.{◌≡◌, ap, refl, sym, ◌∙◌}
+use Rattle.std.proofs.Common.{ap, refl, ◌∙◌}
 use Rattle.kept_site.proofs.Changing.{tells_deleted}
 use Rattle.kept_site.proofs.kept.KeptSite.delete.Goals as goal
 

@@ -1,5 +1,5 @@
 -- What is owed of `KeptSite::finish_registration_parts`.
-use Rattle.std.proofs.Common.{◌≡◌, ◌+◌, refl, sym, ap, subst, ◌∙◌, Bool}
+use Rattle.std.proofs.Common.{◌+◌, refl, sym, ap, subst, ◌∙◌, Bool}
 use Rattle.std.specs.FinMap as finite
 use Rattle.verification.specs.Views.{admitted_view, registration_parts_view}
 use Rattle.ceremony_sessions.specs.Sessions.{registration_at}

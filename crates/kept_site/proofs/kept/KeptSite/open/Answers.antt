@@ -1,5 +1,5 @@
 -- What is owed of `KeptSite::open`.
-use Rattle.std.proofs.Common.{◌≡◌, sym, subst, ◌∙◌}
+use Rattle.std.proofs.Common.{sym, subst}
 use Rattle.kept_site.specs.State.{HoldsSite}
 use Rattle.kept_site.proofs.kept.KeptSite.open.Goals as goal
 

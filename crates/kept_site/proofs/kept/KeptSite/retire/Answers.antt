@@ -1,5 +1,5 @@
 -- What is owed of `KeptSite::retire`.
-use Rattle.std.proofs.Common.{◌≡◌, ap, refl, sym, ◌∙◌}
+use Rattle.std.proofs.Common.{ap, refl, ◌∙◌}
 use Rattle.kept_site.proofs.Changing.{tells_retired}
 use Rattle.kept_site.proofs.kept.KeptSite.retire.Goals as goal
 

@@ -4,6 +4,8 @@ use Rattle.std.specs.FinMap as finite
 use Rattle.ceremony_sessions.specs.Sessions.{HaveNumbers, IsRefused, Opening, OpensRegistration}
 use Rattle.timed_sessions.specs.Timed.{HasRoom, HaveMoments, Timed}
 use Rattle.timed_sessions.proofs.Ages.{begun_there, have_begun, have_trimmed, len_begun, room_trimmed, unchanged_there}
+use Rattle.authdata.specs.declared.profile.Profile.TheVariants.{Strict}
+use Rattle.timed_sessions.proofs.Room.{not_full}
 use Rattle.timed_sessions.proofs.timed.TimedSessions.begin_registration.Goals as goal
 
 pub trim-requires-clause-moments : goal.trim-requires-clause-moments
@@ -45,3 +47,8 @@ returns-in-Err-clause-unchanged c =
     unchanged_there s c.args.now c.next-number.result c.begin_registration.new.self c.insert.new.self c.remove.new.self c.next-number.ensures.next
     c.self.invariant.0 (subst (λ n. HaveNumbers n c.self.inside.open_sessions.expected) c.next-number.ensures.next c.next-number.ensures.numbers)
     c.in-Err.ensures.unchanged c.in_ok-insert.ensures.set c.remove.ensures ∙ c.self.view_is
+
+pub returns-in-Err-clause-room : goal.returns-in-Err-clause-room
+returns-in-Err-clause-room c is =
+    let o : Opening = OpensRegistration c.args.user.now c.args.algorithms.now c.args.uv c.args.words in
+    not_full Strict c.self.inside.open_sessions o c.in-Err.why c.self.invariant.1 (c.in-Err.ensures.refused Strict) is

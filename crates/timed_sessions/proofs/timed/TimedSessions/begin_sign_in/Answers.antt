@@ -5,6 +5,7 @@ use Rattle.std.specs.Prelude.{map, option_map}
 use Rattle.ceremony_sessions.specs.Sessions.{HaveNumbers, IsRefused, Opening, OpensSignIn}
 use Rattle.timed_sessions.specs.Timed.{HasRoom, HaveMoments, Timed}
 use Rattle.timed_sessions.proofs.Ages.{begun_there, have_begun, have_trimmed, len_begun, room_trimmed, unchanged_there}
+use Rattle.timed_sessions.proofs.Room.{not_full}
 use Rattle.timed_sessions.proofs.timed.TimedSessions.begin_sign_in.Goals as goal
 
 pub trim-requires-clause-moments : goal.trim-requires-clause-moments
@@ -46,3 +47,8 @@ returns-in-Err-clause-unchanged c =
     unchanged_there s c.args.now c.next-number.result c.begin_sign_in.new.self c.insert.new.self c.remove.new.self c.next-number.ensures.next
     c.self.invariant.0 (subst (λ n. HaveNumbers n c.self.inside.open_sessions.expected) c.next-number.ensures.next c.next-number.ensures.numbers)
     c.in-Err.ensures.unchanged c.in_ok-insert.ensures.set c.remove.ensures ∙ c.self.view_is
+
+pub returns-in-Err-clause-room : goal.returns-in-Err-clause-room
+returns-in-Err-clause-room c is =
+    let o : Opening = OpensSignIn (option_map (λ u. u.now) c.args.user) (map (λ id. id.now) c.args.allow.now) c.args.uv c.args.words in
+    not_full c.args.profile c.self.inside.open_sessions o c.in-Err.why c.self.invariant.1 c.in-Err.ensures.refused is

@@ -1,0 +1,100 @@
+//! The credentials as a list.
+
+ghost use Rattle.std.specs.Prelude.{◌≡◌, [], ◌∷◌, IfErr, IfOk, IfSome, IsErrOf, IsSome, List, ℕ, OnOk, None, Some, true};
+ghost use Rattle.sqlite_value.specs.Order.{Row as Columns};
+ghost use Rattle.sqlite_trees.specs.Tree.{Trees};
+ghost use Rattle.sqlite_trees.specs.View.{IsClean};
+ghost use Rattle.credential_table.specs.Views.{row_view, rows_view};
+ghost use Rattle.credential_store.specs.Held.{IsSameView, Placed, placed_rows, rows_of};
+ghost use Rattle.credential_store.specs.Rows.{credential_row};
+ghost use Rattle.kept_site.specs.State.{IsHeld};
+ghost use Rattle.kept_site.specs.Calls.{IsFailure, IsSame};
+ghost use Rattle.kept_site.specs.declared.failure.Failure.TheVariants as failures;
+
+use crate::failure::Failure;
+use crate::kept::KeptSite;
+use crate::scan::begin_scan;
+use credential_store::{RowError, int_at, read_credential};
+use credential_table::Row;
+use sqlite_trees::error::StoreError;
+use sqlite_trees::store::Store;
+use sqlite_value::row::Row as Columns;
+use std::alloc::Global;
+
+/// The credential of a row.
+fn credential_of(alloc: Global, row: &Columns) -> Result<Row, StoreError>
+    ensures { IfOk result (λ c. (place : ℕ) × (row.now ≡ credential_row place (row_view c))) }
+{
+    let Some(place) = int_at(row, 0) else {
+        return Err(StoreError::Corrupt);
+    };
+    let Ok(place) = u32::try_from(place) else {
+        return Err(StoreError::Corrupt);
+    };
+    match read_credential(alloc, place, row) {
+        Ok(credential) => Ok(credential),
+        Err(RowError::BadRow) => Err(StoreError::Corrupt),
+        Err(RowError::Memory) => Err(StoreError::OutOfMemory),
+    }
+}
+
+/// The credential at the cursor; none where there is no row.
+fn next_credential<S: Store>(
+    alloc: Global,
+    store: &mut S,
+    row: &mut Columns,
+) -> Result<Option<Row>, StoreError>
+    requires live { IsSome ((S.Store.view store.old).cursors 0) }
+    ensures live { OnOk result (IsSome ((S.Store.view store.new).cursors 0)) }
+    ensures read { IfOk result (λ found. IfSome found (λ c. IsClean (S.Store.view store.new) → (left : List Columns) → (S.Store.view store.old).cursors 0 ≡ Some left
+        → (place : ℕ) × (more : List Columns) × (left ≡ credential_row place (row_view c) ∷ more) × ((S.Store.view store.new).cursors 0 ≡ Some more))) }
+    ensures ended { IfOk result (λ found. found ≡ None → IsClean (S.Store.view store.new) → (left : List Columns)
+        → (S.Store.view store.old).cursors 0 ≡ Some left → left ≡ []) }
+    ensures same { OnOk result (IsSameView (S.Store.view store.old) (S.Store.view store.new)) }
+    ensures crash { (db : Trees) → S.Store.recovers store.new db → S.Store.recovers store.old db }
+{
+    if !store.next(0, row)? {
+        return Ok(None);
+    }
+    let credential = credential_of(alloc, row)?;
+    Ok(Some(credential))
+}
+
+/// The credentials of a store in order of registration.
+fn read_all<S: Store>(alloc: Global, store: &mut S) -> Result<Vec<Row>, StoreError>
+    ensures rows { IfOk result (λ rows. IsClean (S.Store.view store.new) → (placed : Placed) → (S.Store.view store.old).trees 0 ≡ placed_rows placed
+        → rows_view rows.items ≡ rows_of placed) }
+    ensures same { OnOk result (IsSameView (S.Store.view store.old) (S.Store.view store.new)) }
+    ensures crash { (db : Trees) → S.Store.recovers store.new db → S.Store.recovers store.old db }
+{
+    begin_scan(alloc, store, 0)?;
+    let mut row = Columns::new(alloc);
+    let mut rows = Vec::new(alloc);
+    for _ in 0..u32::MAX {
+        let Some(credential) = next_credential(alloc, store, &mut row)? else {
+            return Ok(rows);
+        };
+        rows.push(credential)?;
+    }
+    Err(StoreError::Corrupt)
+}
+
+impl<S: Store> KeptSite<S> {
+    /// The credentials in order of registration, retired ones too. It reads each row, and takes memory for each.
+    pub fn rows(&mut self) -> Result<Vec<Row>, Failure>
+        ensures rows { IfOk result (λ rows. IsClean (S.Store.view self.new.store) → (placed : Placed) → IsHeld placed self.old (S.Store.view self.old.store).trees
+            → rows_view rows.items ≡ rows_of placed) }
+        ensures same { OnOk result (IsSame S.Store.view self.old self.new) }
+        ensures failed { IfErr result (IsFailure self.old self.new) }
+        ensures shut { self.old.is_shut ≡ true → IsErrOf result failures.Shut }
+        ensures crash { (db : Trees) → S.Store.recovers self.new.store db → S.Store.recovers self.old.store db }
+    {
+        if self.held.is_shut {
+            return Err(Failure::Shut);
+        }
+        self.held.is_shut = true;
+        let rows = read_all(self.held.alloc, &mut self.held.store)?;
+        self.held.is_shut = false;
+        Ok(rows)
+    }
+}
