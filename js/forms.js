@@ -1,0 +1,106 @@
+// The forms of JSON that pages and sites exchange (WebAuthn Level 3, section 5.1): each value of bytes in base64url without
+// padding.
+import { BadInput } from "./errors.js";
+
+/** The most characters of a response's members together. */
+export const MAX_RESPONSE = 65_536;
+
+export const REGISTRATION_MEMBERS = ["clientDataJSON", "attestationObject"];
+export const SIGN_IN_MEMBERS = ["clientDataJSON", "authenticatorData", "signature"];
+
+const LETTERS = "ABCDEFGHIJKLMNOPQRSTUVWXYZabcdefghijklmnopqrstuvwxyz0123456789-_";
+const SEXTETS = new Uint8Array(256).fill(255);
+for (let index = 0; index < 64; index++) SEXTETS[LETTERS.charCodeAt(index)] = index;
+
+/** Base64url without padding. */
+export function toText(value) {
+  let text = "";
+  for (let at = 0; at < value.length; at += 3) {
+    const group = (value[at] << 16) | ((value[at + 1] ?? 0) << 8) | (value[at + 2] ?? 0);
+    text += LETTERS[group >> 18] + LETTERS[(group >> 12) & 63];
+    if (at + 1 < value.length) text += LETTERS[(group >> 6) & 63];
+    if (at + 2 < value.length) text += LETTERS[group & 63];
+  }
+  return text;
+}
+
+/** The bytes of base64url without padding, whose one spelling each value has (RFC 4648, sections 3.5 and 5). Throws
+ *  `BadInput`. */
+export function fromText(text, what) {
+  if (typeof text !== "string") throw new BadInput(`${what} is not a text`);
+  const { length } = text, value = new Uint8Array((length * 3) >> 2);
+  const sextet = (at) => SEXTETS[text.charCodeAt(at)] ?? 255;
+  let wrong = length % 4 === 1 ? 255 : 0, made = 0, at = 0;
+  for (; at + 4 <= length; at += 4) {
+    const a = sextet(at), b = sextet(at + 1), c = sextet(at + 2), d = sextet(at + 3);
+    wrong |= a | b | c | d;
+    value[made++] = (a << 2) | (b >> 4);
+    value[made++] = (b << 4) | (c >> 2);
+    value[made++] = (c << 6) | d;
+  }
+  // Two or three letters are left, whose last bits no byte has: they are 0.
+  if (length - at >= 2) {
+    const a = sextet(at), b = sextet(at + 1), c = length - at === 3 ? sextet(at + 2) : 0;
+    wrong |= a | b | c | ((length - at === 3 ? c & 3 : b & 15) === 0 ? 0 : 255);
+    value[made++] = (a << 2) | (b >> 4);
+    if (length - at === 3) value[made] = (b << 4) | (c >> 2);
+  }
+  if (wrong > 63) throw new BadInput(`${what} is not base64url`);
+  return value;
+}
+
+function isObject(value) {
+  return typeof value === "object" && value !== null && !Array.isArray(value);
+}
+
+function textIn(value, name) {
+  const text = value[name];
+  if (text === undefined || text === null) throw new BadInput(`${name} is missing`);
+  if (typeof text !== "string") throw new BadInput(`${name} is not a text`);
+  return text;
+}
+
+// What the standard fixes of a response beside its parts.
+function checkEnvelope(response) {
+  if (textIn(response, "id") !== textIn(response, "rawId")) throw new BadInput("id is not rawId");
+  if (textIn(response, "type") !== "public-key") throw new BadInput("type is not public-key");
+  const { clientExtensionResults = {}, authenticatorAttachment = null } = response;
+  if (!isObject(clientExtensionResults)) throw new BadInput("clientExtensionResults is not an object");
+  if (authenticatorAttachment !== null && typeof authenticatorAttachment !== "string")
+    throw new BadInput("authenticatorAttachment is not a text");
+}
+
+/** `rawId` and the members of these names of a RegistrationResponseJSON or an AuthenticationResponseJSON, as texts. An optional
+ *  one that is null counts as absent; members of other names are passed over. Throws `BadInput`. */
+export function textsIn(response, names, optional = []) {
+  if (!isObject(response) || !isObject(response.response)) throw new BadInput("response is missing");
+  checkEnvelope(response);
+  const parts = response.response, texts = { rawId: response.rawId };
+  for (const name of names) texts[name] = textIn(parts, name);
+  for (const name of optional) if ((parts[name] ?? null) !== null) texts[name] = textIn(parts, name);
+  let size = 0;
+  for (const name in texts) size += texts[name].length;
+  if (size > MAX_RESPONSE) throw new BadInput("the response is too long");
+  return texts;
+}
+
+/** The same, as bytes. */
+export function bytesIn(response, names, optional) {
+  const parts = textsIn(response, names, optional);
+  for (const name in parts) parts[name] = fromText(parts[name], name);
+  return parts;
+}
+
+/** The same, as a response of these members alone, each of which is base64url. */
+export function handedOn(response, names, optional) {
+  const { rawId, ...parts } = textsIn(response, names, optional);
+  fromText(rawId, "rawId");
+  for (const name in parts) fromText(parts[name], name);
+  return { id: rawId, rawId, type: "public-key", response: parts };
+}
+
+/** A PublicKeyCredentialDescriptorJSON of `{ id, transports }`. */
+export function descriptor({ id, transports }) {
+  const made = { type: "public-key", id: toText(id) };
+  return transports.length === 0 ? made : { ...made, transports };
+}

@@ -1,0 +1,191 @@
+// The module passkey.wasm and its memory. Nothing of a call is left in it for the next one.
+import { BYTES } from "./layout.js";
+import { NoMemory } from "./errors.js";
+
+const ABI_VERSION = 3;
+// The most bytes that a call lends and its rooms have: by them the module's memory stays below 64 MB.
+export const MOST_LENT = 4 * 1024 * 1024;
+// A module whose memory has grown beyond this is let go after the call, so that no later one has much to overwrite.
+const MOST_KEPT = 512 * 1024;
+
+/** The struct of a call with all that it lends, copied as it was when it was lent. Flags and counts are 0 at first. */
+export class Image {
+  constructor(size) {
+    this.bytes = new Uint8Array(1280);
+    this.used = size;
+    this.pointers = [];
+    this.view = new DataView(this.bytes.buffer);
+  }
+
+  // Room behind what is used already, at a multiple of 8: where it begins.
+  #append(size) {
+    const at = Math.ceil(this.used / 8) * 8;
+    this.used = at + size;
+    if (this.used > this.bytes.length) {
+      const larger = new Uint8Array(Math.max(2 * this.bytes.length, this.used));
+      larger.set(this.bytes);
+      this.bytes = larger;
+      this.view = new DataView(larger.buffer);
+    }
+    return at;
+  }
+
+  #point(at, size, made) {
+    if (size !== 0) this.pointers.push(at, made);
+  }
+
+  flag(at, is) {
+    this.bytes[at] = is ? 1 : 0;
+  }
+
+  i32(at, number) {
+    this.view.setInt32(at, number, true);
+  }
+
+  u32(at, number) {
+    this.view.setUint32(at, number, true);
+  }
+
+  /** Adds bytes; their offset. */
+  add(value) {
+    const made = this.#append(value.length);
+    this.bytes.set(value, made);
+    return made;
+  }
+
+  /** Lends bytes by the `passkey_bytes` at this offset. */
+  lend(at, value) {
+    const made = this.add(value);
+    this.#point(at + BYTES.data, value.length, made);
+    this.u32(at + BYTES.size, value.length);
+  }
+
+  /** Lends a list by the pointer and the count at these offsets. */
+  lendList(pointer, count, values) {
+    const made = this.#append(values.length * BYTES.sizeOf);
+    this.#point(pointer, values.length, made);
+    this.u32(count, values.length);
+    values.forEach((value, index) => this.lend(made + index * BYTES.sizeOf, value));
+  }
+}
+
+/** What lies in the module's memory from an address on, until the next call. */
+export class Room {
+  #bytes;
+  #view;
+  #at;
+
+  constructor(module, at) {
+    this.#bytes = module.bytes();
+    this.#view = module.view();
+    this.#at = at;
+  }
+
+  u8(offset) {
+    return this.#bytes[this.#at + offset];
+  }
+
+  i32(offset) {
+    return this.#view.getInt32(this.#at + offset, true);
+  }
+
+  u32(offset) {
+    return this.#view.getUint32(this.#at + offset, true);
+  }
+
+  copy(offset, size) {
+    return this.#bytes.slice(this.#at + offset, this.#at + offset + size);
+  }
+}
+
+/** An instance of the module. Its calls stand in `within`, at whose end its memory is as it was at first. */
+export class Module {
+  #compiled;
+  #exports = null;
+  #buffer = null;
+  #bytes = null;
+  #view = null;
+  #blocks = [];
+  #heap = 0;
+  #front = 0;
+
+  constructor(compiled) {
+    this.#compiled = compiled;
+    this.#start();
+  }
+
+  #start() {
+    this.#exports = new WebAssembly.Instance(this.#compiled, {}).exports;
+    if (this.#exports.passkey_abi_version() !== ABI_VERSION) throw new Error("passkey.wasm has another version than this package");
+    this.#blocks = [];
+    this.#heap = Number(this.#exports.__heap_base.value);
+    this.#front = this.bytes().findIndex((byte) => byte !== 0);
+  }
+
+  #fresh() {
+    const { buffer } = this.#exports.memory;
+    if (buffer === this.#buffer) return;
+    this.#buffer = buffer;
+    this.#bytes = new Uint8Array(buffer);
+    this.#view = new DataView(buffer);
+  }
+
+  /** The module's memory as it is now: another array after each growth. */
+  bytes() {
+    this.#fresh();
+    return this.#bytes;
+  }
+
+  view() {
+    this.#fresh();
+    return this.#view;
+  }
+
+  #take(size) {
+    if (size > MOST_LENT) throw new NoMemory();
+    const block = this.#exports.malloc(BigInt(size));
+    if (block === 0n) throw new NoMemory();
+    this.#blocks.push(block);
+    return Number(block);
+  }
+
+  /** Where an image lies in the memory, with so many bytes of 0 behind it; and where these begin. */
+  place(image, size) {
+    const behind = Math.ceil(image.used / 8) * 8, at = this.#take(behind + size);
+    this.bytes().set(image.bytes.subarray(0, image.used), at);
+    const view = this.view();
+    for (let index = 0; index < image.pointers.length; index += 2)
+      view.setUint32(at + image.pointers[index], at + image.pointers[index + 1], true);
+    return [at, at + behind];
+  }
+
+  /** A call of `passkey.h`; addresses and sizes are numbers. */
+  call(name, ...words) {
+    return this.#exports[name](...words);
+  }
+
+  /** Makes calls, and then gives back and overwrites all memory that they took: the stack, which lies lowest, and the heap. A
+   *  module that a call brought down is let go. */
+  within(calls) {
+    if (this.#exports === null) this.#start();
+    let isWhole = false;
+    try {
+      const told = calls();
+      isWhole = true;
+      return told;
+    } catch (error) {
+      isWhole = error instanceof NoMemory;
+      if (error instanceof WebAssembly.RuntimeError || error instanceof RangeError) throw new NoMemory();
+      throw error;
+    } finally {
+      if (isWhole && this.bytes().length <= MOST_KEPT) this.#overwrite();
+      else this.#exports = this.#buffer = this.#bytes = this.#view = null;
+    }
+  }
+
+  #overwrite() {
+    for (const block of this.#blocks.splice(0)) this.#exports.free(block);
+    this.#bytes.fill(0, 0, this.#front);
+    this.#bytes.fill(0, this.#heap);
+  }
+}

@@ -1,0 +1,161 @@
+// A relying party over the proved steps. It keeps nothing: sessions and credentials are the site's.
+import { BadInput } from "./errors.js";
+import { REGISTRATION_MEMBERS, SIGN_IN_MEMBERS, bytesIn } from "./forms.js";
+import { ALGORITHMS, checkBytes, checkCredential, checkIds, checkParty, checkUser, transportsIn } from "./limits.js";
+import { checkUserVerification, creationOptions, requestOptions } from "./options.js";
+import { Credential, RegistrationSession, SignInSession } from "./records.js";
+import {
+  ACCEPTED, BAD_SIGNATURE, BAD_STATEMENT, askedOfAssertion, askedOfRegistration, assertionImage, checkAnswer, handIn, isCanonical,
+  judgeAssertion, judgeRegistration, keyFromCose, keyToCose, registrationImage,
+} from "./verdicts.js";
+
+const CHALLENGE = 32;
+
+function ofBytes(text) {
+  return new TextEncoder().encode(text);
+}
+
+function last(value, size) {
+  return value.slice(value.length - size);
+}
+
+function found(value) {
+  return value ?? null;
+}
+
+// A session of its own class, or null where none is open.
+function sessionOf(session, kind) {
+  if (found(session) !== null && !(session instanceof kind)) throw new BadInput(`the session is not a ${kind.name}`);
+  return found(session);
+}
+
+// A credential that was found, whose numbers are in their limits, or null.
+function credentialOf(credential) {
+  if (found(credential) === null) return null;
+  const stored = credential instanceof Credential ? credential : new Credential(credential);
+  checkCredential(stored);
+  return stored;
+}
+
+/** The class `Server` over a module, random bytes and signatures: those of Node, or WebCrypto's. `moduleOf()` answers the
+ *  `Module` whose calls are made. */
+export function serverOver(moduleOf, randomBytes, isValid) {
+  return class Server {
+    #party;
+
+    constructor(rpId, origins, { rpName = rpId, acceptNone = true, acceptSelf = true, openProfile = true, verify = isValid } = {}) {
+      this.origins = checkParty(rpId, origins);
+      this.rpId = rpId;
+      this.rpName = rpName;
+      this.verify = verify;
+      this.#party = { rpId: ofBytes(rpId), origins: this.origins.map(ofBytes), acceptNone, acceptSelf, openProfile };
+    }
+
+    registerBegin(user, userName, { exclude = [], algorithms = ALGORITHMS, userVerification = "preferred", residentKey = "required",
+                                    ...how } = {}) {
+      const session = new RegistrationSession({
+        challenge: randomBytes(CHALLENGE), user: checkUser(user), algorithms,
+        userVerification: checkUserVerification(userVerification) === "required",
+      });
+      const rp = { id: this.rpId, name: this.rpName };
+      const options = creationOptions(rp, session, userName, checkIds(exclude), { ...how, userVerification, residentKey });
+      return { options, session };
+    }
+
+    async registerComplete(session, response, { isRegistered, isFull = false }) {
+      const parts = bytesIn(response, REGISTRATION_MEMBERS), transports = transportsIn(response.response.transports);
+      const isTaken = await isRegistered(parts.rawId.slice());
+      return this.#registered(session, { attestationObject: parts.attestationObject, clientData: parts.clientDataJSON },
+                              { freeId: isTaken ? null : parts.rawId, isFull, transports });
+    }
+
+    async registerCompleteParts(session, { attestationObject, clientData }, { freeId = null, isFull = false, transports = [] } = {}) {
+      const response = { attestationObject: checkBytes(attestationObject, "attestationObject"),
+                         clientData: checkBytes(clientData, "clientData") };
+      const how = { freeId: freeId === null ? null : checkBytes(freeId, "freeId"), isFull, transports };
+      return this.#registered(session, response, how);
+    }
+
+    async #registered(session, response, { freeId, isFull, transports }) {
+      const module = moduleOf(), begun = sessionOf(session, RegistrationSession), user = begun?.user.slice();
+      const image = registrationImage(this.#party, begun, response, { freeId, isFull });
+      const { told, answer } = await this.#judged(module, true, image, judgeRegistration, BAD_STATEMENT,
+                                                 () => askedOfRegistration(module, this.#party, response));
+      checkAnswer(module, true, answer);
+      const { id, algorithm, x, y, signCount, eligible, extensionsSize, ...rest } = told;
+      const credential = new Credential({ id, user, algorithm, x, y, signCount, eligible, transports });
+      return Object.freeze({ credential, ...rest, extensions: last(response.attestationObject, extensionsSize) });
+    }
+
+    authenticateBegin({ user = null, allow = [], userVerification = "preferred", ...how } = {}) {
+      const listed = checkIds(allow);
+      const session = new SignInSession({
+        challenge: randomBytes(CHALLENGE), user: user === null ? null : checkUser(user), allow: listed.map(({ id }) => id),
+        userVerification: checkUserVerification(userVerification) === "required",
+      });
+      return { options: requestOptions(this.rpId, session, listed, userVerification, how), session };
+    }
+
+    async authenticateComplete(session, response, { credential }) {
+      const parts = bytesIn(response, SIGN_IN_MEMBERS, ["userHandle"]);
+      return this.#signedIn(session, await credential(parts.rawId.slice()), {
+        rawId: parts.rawId, user: found(parts.userHandle), authData: parts.authenticatorData, signature: parts.signature,
+        clientData: parts.clientDataJSON,
+      });
+    }
+
+    async authenticateCompleteParts(session, credential, { rawId, user = null, authData, signature, clientData }) {
+      return this.#signedIn(session, credential, {
+        rawId: checkBytes(rawId, "rawId"), user: user === null ? null : checkBytes(user, "user"),
+        authData: checkBytes(authData, "authData"), signature: checkBytes(signature, "signature"),
+        clientData: checkBytes(clientData, "clientData"),
+      });
+    }
+
+    async #signedIn(session, credential, response) {
+      const module = moduleOf(), begun = sessionOf(session, SignInSession), before = credentialOf(credential);
+      const image = assertionImage(this.#party, begun, before, response);
+      const { told, answer } = await this.#judged(module, false, image, judgeAssertion, BAD_SIGNATURE,
+                                                 () => askedOfAssertion(module, before, response));
+      checkAnswer(module, false, answer);
+      const { signCount, eligible, extensionsSize, ...rest } = told;
+      return Object.freeze({ credential: before.received(signCount, eligible), before, ...rest,
+                             extensions: last(response.authData, extensionsSize) });
+    }
+
+    // The last answer: where the first one is that of the signature's step, the signature is verified, and where it is valid the
+    // response is judged again with what was verified.
+    async #judged(module, isRegistration, image, judge, signatureStep, ask) {
+      const first = module.within(() => {
+        const judged = judge(module, image);
+        return judged.answer === signatureStep ? { ...judged, asked: ask() } : judged;
+      });
+      if (first.asked === undefined) return first;
+      checkAnswer(module, isRegistration, first.asked.answer);
+      const { signature } = first.asked;
+      if (signature === null) return first;
+      const { algorithm, x, y, message, signature: bytes } = signature;
+      if ((await this.verify(algorithm, x, y, message, bytes)) !== true) return first;
+      handIn(image, isRegistration, signature);
+      return module.within(() => judge(module, image));
+    }
+  };
+}
+
+/** The functions over a module that no server needs. */
+export function helpersOver(moduleOf) {
+  return {
+    isCanonical: (value) => isCanonical(moduleOf(), checkBytes(value, "the value")),
+    credentialFromCose({ coseKey, ...rest }) {
+      const key = keyFromCose(moduleOf(), checkBytes(coseKey, "coseKey"));
+      if (key === null) throw new BadInput("the key is not a COSE_Key of ES256, EdDSA or RS256 in canonical CBOR");
+      return new Credential({ ...rest, ...key });
+    },
+    coseKeyOf({ algorithm, x, y }) {
+      const parts = { algorithm, x: checkBytes(x, "x"), y: checkBytes(y, "y") };
+      const coseKey = ALGORITHMS.includes(algorithm) ? keyToCose(moduleOf(), parts) : [];
+      if (coseKey.length === 0) throw new BadInput("the key is out of its limits");
+      return coseKey;
+    },
+  };
+}

@@ -1,0 +1,148 @@
+// The module's memory: after each call it is as it was at first, it stays below 64 MB, and a module that ran out goes on.
+import assert from "node:assert/strict";
+import { readFileSync } from "node:fs";
+import { test } from "node:test";
+import { NoMemory, RegistrationSession, SignInSession, fromText } from "garvoeng";
+import { Device, changed } from "./device.mjs";
+
+const own = (name) => import(new URL(`../node_modules/garvoeng/${name}`, import.meta.url));
+const { Module, MOST_LENT } = await own("module.js"), { serverOver, helpersOver } = await own("server.js"), { isValid } = await own("node_signatures.js");
+const file = readFileSync(new URL("../node_modules/garvoeng/passkey.wasm", import.meta.url));
+const user = Buffer.from("account 7"), MEGABYTES_64 = 64 * 1024 * 1024;
+
+// The module's file with a limit of so many pages of 64 KiB on its memory, whose section has none.
+function limited(pages) {
+  const at = file.indexOf(Buffer.from([5, 3, 1, 0, 3]));
+  assert.ok(at > 0 && file.indexOf(Buffer.from([5, 3, 1, 0, 3]), at + 1) < 0 && pages < 128);
+  return Buffer.concat([file.subarray(0, at), Buffer.from([5, 4, 1, 1, 3, pages]), file.subarray(at + 5)]);
+}
+
+function serving(bytes = file) {
+  const module = new Module(new WebAssembly.Module(bytes)), first = module.bytes().slice();
+  const Server = serverOver(() => module, (size) => crypto.getRandomValues(new Uint8Array(size)), isValid);
+  return { module, first, server: new Server("example.com", ["https://example.com"]), helpers: helpersOver(() => module) };
+}
+
+// What is left of the first memory, and behind it: nothing.
+function isAsAtFirst({ module, first }) {
+  const now = Buffer.from(module.bytes());
+  return now.subarray(0, first.length).equals(first) && now.subarray(first.length).every((byte) => byte === 0);
+}
+
+const padded = (size) => (value) => Buffer.from(JSON.stringify({ ...JSON.parse(value), padding: "x".repeat(size) }));
+const nested = (depth) => (value) => Buffer.from(value.toString().replace(/}$/, `,"a":${'{"a":'.repeat(depth)}0${"}".repeat(depth)}}`));
+
+async function visited(made, change = (value) => value) {
+  const { server } = made, device = new Device(), begun = server.registerBegin(user, "name");
+  const response = changed(device.register(begun.options, { isPacked: true }), "clientDataJSON", (value) => value);
+  const { credential } = await server.registerComplete(begun.session, response, { isRegistered: () => false });
+  assert.ok(isAsAtFirst(made), "a registration");
+  const { options, session } = server.authenticateBegin({ user, allow: [credential] });
+  const signed = changed(device.signIn(options), "clientDataJSON", change);
+  return server.authenticateComplete(session, signed, { credential: () => credential });
+}
+
+test("nothing of a call is left", async () => {
+  const made = serving(), { module, helpers } = made;
+  await visited(made);
+  assert.ok(isAsAtFirst(made), "a sign-in");
+  for (const change of [() => Buffer.from("{"), padded(100), padded(9_000), padded(30_000), nested(20), nested(100), nested(124)]) {
+    await assert.rejects(visited(made, change), { name: /^W(5|14)$/ });
+    assert.ok(isAsAtFirst(made), `${change}`);
+  }
+  const device = new Device();
+  helpers.isCanonical(device.coseKey());
+  helpers.credentialFromCose({ id: user, user, coseKey: device.coseKey(), signCount: 0 });
+  helpers.coseKeyOf(device);
+  assert.ok(isAsAtFirst(made), "keys");
+  // While a signature is verified elsewhere nothing of the response lies in the memory.
+  const looking = serverOver(() => module, (size) => crypto.getRandomValues(new Uint8Array(size)), async (...asked) => {
+    assert.ok(isAsAtFirst(made), "while it is verified");
+    return isValid(...asked);
+  });
+  await visited({ ...made, server: new looking("example.com", ["https://example.com"]) });
+});
+
+test("a text that a visitor sent is nowhere in the memory", async () => {
+  const made = serving(), secret = "a secret of this visitor";
+  await assert.rejects(visited(made, (value) => Buffer.from(value.toString().replace(/}$/, `,"secret":"${secret}"}`))), { name: "W14" });
+  assert.equal(Buffer.from(made.module.bytes()).indexOf(secret), -1);
+});
+
+test("a module that runs out of memory says so, and goes on", async () => {
+  const made = serving(limited(4));
+  for (let round = 0; round < 3; round++) {
+    await assert.rejects(visited(made, padded(40_000)), NoMemory);
+    assert.equal((await visited(made)).credential.signCount, 1);
+    assert.ok(isAsAtFirst(made));
+  }
+  assert.ok(made.module.bytes().length <= 4 * 65_536);
+});
+
+test("64 MB at most", async () => {
+  const made = serving(), { server, module } = made, device = new Device(), { options, session } = server.authenticateBegin({ user });
+  const { response } = device.signIn(options), { credential } = await registeredBy(server);
+  const parts = { rawId: credential.id, authData: fromText(response.authenticatorData, "it"), signature: fromText(response.signature, "it"),
+                  clientData: fromText(response.clientDataJSON, "it") };
+  let most = 0;
+  for (const size of [1_000_000, MOST_LENT - 4_000, MOST_LENT + 1, 70_000_000]) {
+    for (const change of [{ clientData: Buffer.from(`{"a":"${"x".repeat(size)}"}`) }, { authData: new Uint8Array(size) }, { signature: new Uint8Array(size) },
+                          { clientData: Buffer.from(`{"a":${"[".repeat(size)}`) }, { clientData: Buffer.from(`{${'"a":0,'.repeat(size / 6)}"b":0}`) },
+                          { clientData: Buffer.from(`{"a":"${"\\u0041".repeat(size / 6)}"}`) }]) {
+      const within = module.within;
+      module.within = function (calls) {
+        return within.call(this, () => {
+          try {
+            return calls();
+          } finally {
+            most = Math.max(most, this.bytes().length);
+          }
+        });
+      };
+      const isNamed = ({ name }) => (name === "NoMemory" ? size > 1_000_000 : /^W/.test(name) && size < MOST_LENT);
+      await assert.rejects(server.authenticateCompleteParts(session, credential, { ...parts, ...change }), isNamed, `${size}`);
+      module.within = within;
+    }
+  }
+  assert.ok(most > 10_000_000 && most <= MEGABYTES_64, `${most}`);
+  assert.equal((await visited(made)).credential.signCount, 1);
+});
+
+async function registeredBy(server) {
+  const device = new Device(), { options, session } = server.registerBegin(user, "name");
+  return server.registerComplete(session, device.register(options), { isRegistered: () => false });
+}
+
+test("a call that the engine ends is want of memory, and the next one is served", async () => {
+  const made = serving(), deep = (depth) => (depth === 0 ? made.module.within(() => made.helpers.isCanonical(user)) : deep(depth - 1) + 0);
+  let ended = 0;
+  for (let depth = 500; depth < 40_000; depth = Math.ceil(depth * 1.05)) {
+    try {
+      deep(depth);
+    } catch (error) {
+      assert.ok(error instanceof NoMemory || error instanceof RangeError);
+      ended++;
+    }
+  }
+  assert.ok(ended > 0);
+  assert.equal((await visited(made)).credential.signCount, 1);
+});
+
+test("memory over many sign-ins", async () => {
+  const made = serving(), times = Number(process.env.SIGN_INS ?? 2_000);
+  const server = new (serverOver(() => made.module, (size) => new Uint8Array(size), () => true))("example.com", ["https://example.com"]);
+  const device = new Device(), { credential } = await registeredBy(server), { options, session } = server.authenticateBegin({ user });
+  const response = device.signIn(options), find = { credential: () => credential };
+  const sizes = [];
+  for (let count = 0; count < times; count++) {
+    await server.authenticateComplete(session, response, find);
+    if (count % (times / 10) === times / 10 - 1) {
+      globalThis.gc?.();
+      sizes.push(process.memoryUsage().rss / 1e6);
+    }
+  }
+  assert.equal(made.module.bytes().length, made.first.length);
+  const [, second] = sizes, last = sizes.at(-1);
+  assert.ok(last < second * 1.3 + 20, `${sizes}`);
+  if (process.env.SIGN_INS) console.log(`# MB after each tenth of ${times}: ${sizes.map((size) => size.toFixed(0)).join(" ")}`);
+});

@@ -1,0 +1,30 @@
+// What hosts write, as TypeScript sees it: checked by tsc --strict, and not run.
+import { BadInput, Credential, NoMemory, Refused, Server, SignInSession, fromText, toText } from "garvoeng";
+
+const table = new Map<string, Credential>();
+const server: Server = new Server("example.com", ["https://example.com"], { rpName: "A site", verify: async () => true });
+
+export async function registers(user: Uint8Array, page: (options: object) => Promise<unknown>): Promise<string> {
+  const { options, session } = server.registerBegin(user, "name", { residentKey: "preferred", exclude: [...table.values()] });
+  const { credential, format } = await server.registerComplete(session, await page(options), { isRegistered: (id) => table.has(toText(id)) });
+  table.set(toText(credential.id), credential);
+  return format;
+}
+
+export async function signsIn(kept: string, response: unknown): Promise<Uint8Array | null> {
+  try {
+    const said = await server.authenticateComplete(SignInSession.from(kept), response, { credential: async (id) => table.get(toText(id)) });
+    return said.backedUp ? said.credential.user : fromText("AA", "it");
+  } catch (error) {
+    if (error instanceof Refused) return error.number === 15 ? null : Promise.reject(new Error(error.step));
+    if (error instanceof BadInput || error instanceof NoMemory) return null;
+    throw error;
+  }
+}
+
+// @ts-expect-error: user verification is a text
+server.authenticateBegin({ userVerification: true });
+// @ts-expect-error: a user handle is bytes
+server.registerBegin("account 7", "name");
+// @ts-expect-error: a session of a registration is none of a sign-in
+server.authenticateComplete(server.registerBegin(new Uint8Array(1), "name").session, {}, { credential: () => null });

@@ -1,0 +1,239 @@
+// The calls of c/passkey.h: each judges one response by what it is handed.
+import { BadInput, NoMemory, Refused } from "./errors.js";
+import { EDDSA, ES256, RS256 } from "./limits.js";
+import {
+  ASSERTION_CALL, ASSERTION_OUT, ASSERTION_RESPONSE, CREDENTIAL, KEY, KEY_OUT, PARTY, REGISTRATION_CALL, REGISTRATION_OUT,
+  REGISTRATION_RESPONSE, REGISTRATION_SESSION, SIGNATURE_CALL, SIGNATURE_OUT, SIGN_IN_SESSION, VERIFIED,
+} from "./layout.js";
+import { Image, Room } from "./module.js";
+
+export const ACCEPTED = 0;
+/** Of a registration. */
+export const BAD_STATEMENT = 13;
+/** Of a sign-in. */
+export const BAD_SIGNATURE = 14;
+const LAST_STEP = 16;
+const NO_MEMORY = 127;
+const MOST_OF_A_TEXT = 128;
+const MOST_OF_A_COSE_KEY = 13 + 512 + 4;
+
+const FORMATS = ["none", "packed"];
+
+function party(image, at, { rpId, origins, openProfile }) {
+  image.lend(at + PARTY.rp_id, rpId);
+  image.lendList(at + PARTY.origins, at + PARTY.origin_count, origins);
+  image.flag(at + PARTY.open_profile, openProfile);
+}
+
+function key(image, at, { algorithm, x, y }) {
+  image.i32(at + KEY.algorithm, algorithm);
+  image.lend(at + KEY.x, x);
+  image.lend(at + KEY.y, y);
+}
+
+function verified(image, at, signature) {
+  key(image, at + VERIFIED.key, signature);
+  image.lend(at + VERIFIED.message, signature.message);
+  image.lend(at + VERIFIED.signature, signature.signature);
+}
+
+function registrationResponse(image, at, { attestationObject, clientData }) {
+  image.lend(at + REGISTRATION_RESPONSE.object, attestationObject);
+  image.lend(at + REGISTRATION_RESPONSE.client_data, clientData);
+}
+
+function assertionResponse(image, at, { rawId, user, authData, signature, clientData }) {
+  image.lend(at + ASSERTION_RESPONSE.credential, rawId);
+  image.flag(at + ASSERTION_RESPONSE.has_user, user !== null);
+  if (user !== null) image.lend(at + ASSERTION_RESPONSE.user, user);
+  image.lend(at + ASSERTION_RESPONSE.auth_data, authData);
+  image.lend(at + ASSERTION_RESPONSE.signature, signature);
+  image.lend(at + ASSERTION_RESPONSE.client_data, clientData);
+}
+
+/** A registration to be judged, in the form of `passkey_registration_call`. */
+export function registrationImage(of, session, response, { freeId, isFull }) {
+  const image = new Image(REGISTRATION_CALL.sizeOf);
+  party(image, REGISTRATION_CALL.party, of);
+  image.flag(REGISTRATION_CALL.accept_none, of.acceptNone);
+  image.flag(REGISTRATION_CALL.accept_self, of.acceptSelf);
+  if (session !== null) {
+    const at = REGISTRATION_CALL.session;
+    image.flag(REGISTRATION_CALL.has_session, true);
+    image.lend(at + REGISTRATION_SESSION.challenge, session.challenge);
+    image.lend(at + REGISTRATION_SESSION.user, session.user);
+    image.flag(at + REGISTRATION_SESSION.user_verification, session.userVerification);
+    image.flag(at + REGISTRATION_SESSION.offers_es256, session.algorithms.includes(ES256));
+    image.flag(at + REGISTRATION_SESSION.offers_eddsa, session.algorithms.includes(EDDSA));
+    image.flag(at + REGISTRATION_SESSION.offers_rs256, session.algorithms.includes(RS256));
+  }
+  registrationResponse(image, REGISTRATION_CALL.response, response);
+  if (freeId !== null) {
+    image.flag(REGISTRATION_CALL.has_free_id, true);
+    image.lend(REGISTRATION_CALL.free_id, freeId);
+  }
+  image.flag(REGISTRATION_CALL.is_full, isFull);
+  return image;
+}
+
+/** A sign-in to be judged, in the form of `passkey_assertion_call`. */
+export function assertionImage(of, session, credential, response) {
+  const image = new Image(ASSERTION_CALL.sizeOf);
+  party(image, ASSERTION_CALL.party, of);
+  if (session !== null) {
+    const at = ASSERTION_CALL.session;
+    image.flag(ASSERTION_CALL.has_session, true);
+    image.lend(at + SIGN_IN_SESSION.challenge, session.challenge);
+    image.flag(at + SIGN_IN_SESSION.user_verification, session.userVerification);
+    image.flag(at + SIGN_IN_SESSION.has_user, session.user !== null);
+    if (session.user !== null) image.lend(at + SIGN_IN_SESSION.user, session.user);
+    image.lendList(at + SIGN_IN_SESSION.allow, at + SIGN_IN_SESSION.allow_count, session.allow);
+  }
+  if (credential !== null) {
+    const at = ASSERTION_CALL.credential;
+    image.flag(ASSERTION_CALL.has_credential, true);
+    image.lend(at + CREDENTIAL.id, credential.id);
+    image.lend(at + CREDENTIAL.user, credential.user);
+    key(image, at + CREDENTIAL.key, credential);
+    image.u32(at + CREDENTIAL.sign_count, credential.signCount);
+    image.flag(at + CREDENTIAL.is_eligibility_known, credential.eligible !== null);
+    image.flag(at + CREDENTIAL.eligible, credential.eligible);
+    image.flag(at + CREDENTIAL.retired, credential.retired);
+  }
+  assertionResponse(image, ASSERTION_CALL.response, response);
+  return image;
+}
+
+/** Adds the signature that was found to be valid. */
+export function handIn(image, isRegistration, signature) {
+  const call = isRegistration ? REGISTRATION_CALL : ASSERTION_CALL;
+  image.flag(call.has_verified, true);
+  verified(image, call.verified, signature);
+}
+
+function keyIn(room, at) {
+  return {
+    algorithm: room.i32(at + KEY_OUT.algorithm),
+    x: room.copy(at + KEY_OUT.x, room.u32(at + KEY_OUT.x_size)),
+    y: room.copy(at + KEY_OUT.y, room.u32(at + KEY_OUT.y_size)),
+  };
+}
+
+function flagsIn(room, out) {
+  return {
+    signCount: room.u32(out.sign_count),
+    eligible: room.u8(out.eligible) !== 0,
+    backedUp: room.u8(out.backed_up) !== 0,
+    userVerified: room.u8(out.user_verified) !== 0,
+    flags: room.u8(out.flags),
+    extensionsSize: room.u32(out.extensions_size),
+  };
+}
+
+function registeredIn(room) {
+  const out = REGISTRATION_OUT;
+  return {
+    ...flagsIn(room, out),
+    id: room.copy(out.id, room.u32(out.id_size)),
+    ...keyIn(room, out.key),
+    aaguid: room.copy(out.aaguid, 16),
+    format: FORMATS[room.u32(out.format)],
+  };
+}
+
+function judge(module, name, image, out, read) {
+  const [at, behind] = module.place(image, out.sizeOf);
+  const answer = module.call(name, BigInt(at), BigInt(behind));
+  return { answer, told: answer === ACCEPTED ? read(new Room(module, behind), out) : null };
+}
+
+/** The answer to a registration, and what it tells where it is accepted. */
+export function judgeRegistration(module, image) {
+  return judge(module, "passkey_registration", image, REGISTRATION_OUT, registeredIn);
+}
+
+/** The answer to a sign-in, and what it tells where it is accepted. */
+export function judgeAssertion(module, image) {
+  return judge(module, "passkey_assertion", image, ASSERTION_OUT, flagsIn);
+}
+
+// The answer, and the signature that is to be verified; null where there is none.
+function asked(module, image, size) {
+  const messageAt = Math.ceil(SIGNATURE_OUT.sizeOf / 8) * 8, signatureAt = messageAt + size + 32;
+  const [at, behind] = module.place(image, signatureAt + size);
+  const answer = module.call("passkey_signature_asked", BigInt(at), BigInt(behind + messageAt), BigInt(size + 32),
+                             BigInt(behind + signatureAt), BigInt(size), BigInt(behind));
+  const room = new Room(module, behind);
+  if (answer !== ACCEPTED || room.u8(SIGNATURE_OUT.is_asked) === 0) return { answer, signature: null };
+  return {
+    answer,
+    signature: {
+      ...keyIn(room, SIGNATURE_OUT.key),
+      message: room.copy(messageAt, room.u32(SIGNATURE_OUT.message_size)),
+      signature: room.copy(signatureAt, room.u32(SIGNATURE_OUT.signature_size)),
+    },
+  };
+}
+
+/** Which signature a registration asks for. */
+export function askedOfRegistration(module, { openProfile }, response) {
+  const image = new Image(SIGNATURE_CALL.sizeOf);
+  image.flag(SIGNATURE_CALL.is_registration, true);
+  image.flag(SIGNATURE_CALL.open_profile, openProfile);
+  registrationResponse(image, SIGNATURE_CALL.registration, response);
+  return asked(module, image, response.attestationObject.length);
+}
+
+/** Which signature a sign-in asks for. */
+export function askedOfAssertion(module, credential, response) {
+  const image = new Image(SIGNATURE_CALL.sizeOf);
+  assertionResponse(image, SIGNATURE_CALL.assertion, response);
+  key(image, SIGNATURE_CALL.key, credential);
+  return asked(module, image, Math.max(response.authData.length, response.signature.length));
+}
+
+/** The text of an answer; empty where it has none. */
+export function refusalText(module, isRegistration, answer) {
+  return module.within(() => {
+    const [at] = module.place(new Image(0), MOST_OF_A_TEXT);
+    const size = module.call("passkey_refusal_text", Number(isRegistration), answer, BigInt(at), BigInt(MOST_OF_A_TEXT));
+    return String.fromCharCode(...new Room(module, at).copy(0, Number(size)));
+  });
+}
+
+/** Throws what an answer says; nothing where it is accepted. */
+export function checkAnswer(module, isRegistration, answer) {
+  if (answer === ACCEPTED) return;
+  if (answer === NO_MEMORY) throw new NoMemory();
+  const text = refusalText(module, isRegistration, answer);
+  if (answer <= LAST_STEP) throw new Refused(isRegistration, answer, text);
+  throw new BadInput(text, answer);
+}
+
+/** Whether the bytes are one value of canonical CBOR (CTAP 2.1), and no more. */
+export function isCanonical(module, value) {
+  return module.within(() => {
+    const image = new Image(0), offset = image.add(value), [at] = module.place(image, 0);
+    return module.call("passkey_is_canonical", BigInt(at + offset), BigInt(value.length)) !== 0;
+  });
+}
+
+/** The algorithm, x and y of COSE_Key bytes (RFC 9052, section 7); null where they are no key's in canonical CBOR. */
+export function keyFromCose(module, value) {
+  return module.within(() => {
+    const image = new Image(0), offset = image.add(value), [at, behind] = module.place(image, KEY_OUT.sizeOf);
+    const is = module.call("passkey_key_from_cose", BigInt(at + offset), BigInt(value.length), BigInt(behind));
+    return is === 0 ? null : keyIn(new Room(module, behind), 0);
+  });
+}
+
+/** COSE_Key bytes; none where the key is out of its limits, or there was no memory. */
+export function keyToCose(module, parts) {
+  return module.within(() => {
+    const image = new Image(KEY.sizeOf);
+    key(image, 0, parts);
+    const [at, behind] = module.place(image, MOST_OF_A_COSE_KEY);
+    const size = module.call("passkey_key_to_cose", BigInt(at), BigInt(behind), BigInt(MOST_OF_A_COSE_KEY));
+    return new Room(module, behind).copy(0, Number(size));
+  });
+}

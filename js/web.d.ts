@@ -1,0 +1,218 @@
+// The package where there is no Node. What `index.d.ts` has over it is Node's alone.
+
+/** Base64url without padding. */
+export function toText(value: Uint8Array): string;
+/** The bytes of base64url without padding, in its one spelling. Throws `BadInput`. */
+export function fromText(text: string, what: string): Uint8Array;
+
+/** COSE numbers (RFC 9053, sections 2.1 and 2.2; RFC 8812, section 2). */
+export const ES256: -7;
+export const EDDSA: -8;
+export const RS256: -257;
+/** The most credential ids of a list of `Server`. */
+export const MAX_LIST: 64;
+
+export type Awaitable<T> = T | Promise<T>;
+export type Requirement = "required" | "preferred" | "discouraged";
+
+/** What a registration that has begun expects. It answers one response; the site deletes it then. */
+export class RegistrationSession {
+  constructor(members: { challenge: Uint8Array; user: Uint8Array; userVerification?: boolean; algorithms?: readonly number[] });
+  /** 32 bytes, which no other session has. */
+  readonly challenge: Uint8Array;
+  /** The user handle: 1 to 64 bytes. */
+  readonly user: Uint8Array;
+  readonly userVerification: boolean;
+  readonly algorithms: readonly number[];
+  toJSON(): object;
+  /** The session of what `toJSON` gave, or of its text. Throws `BadInput`. */
+  static from(json: unknown): RegistrationSession;
+}
+
+/** What a sign-in that has begun expects. It answers one response; the site deletes it then. */
+export class SignInSession {
+  constructor(members: { challenge: Uint8Array; user?: Uint8Array | null; allow?: readonly Uint8Array[]; userVerification?: boolean });
+  /** 32 bytes, which no other session has. */
+  readonly challenge: Uint8Array;
+  /** The account's user handle, where it is known beforehand. */
+  readonly user: Uint8Array | null;
+  /** The ids of the credentials that may answer; none for any. */
+  readonly allow: readonly Uint8Array[];
+  readonly userVerification: boolean;
+  toJSON(): object;
+  /** The session of what `toJSON` gave, or of its text. Throws `BadInput`. */
+  static from(json: unknown): SignInSession;
+}
+
+export interface CredentialMembers {
+  readonly id: Uint8Array;
+  /** The user handle. */
+  readonly user: Uint8Array;
+  /** Of the public key: `ES256`, `EDDSA` or `RS256`. */
+  readonly algorithm: number;
+  /** 32 bytes; of RS256 the modulus, big-endian, of 256, 384 or 512. */
+  readonly x: Uint8Array;
+  /** 32 bytes; of EdDSA none; of RS256 the public exponent, big-endian, of 1 to 4. */
+  readonly y: Uint8Array;
+  /** The signature counter last received, below 2^32. */
+  readonly signCount: number;
+  /** Whether it is eligible for backup; null where that is not known. */
+  readonly eligible?: boolean | null;
+  /** Whether it signs in no more. */
+  readonly retired?: boolean;
+  /** How the browser reaches it, by the page's word: at most 16 texts. */
+  readonly transports?: readonly string[];
+}
+
+/** A registered credential. */
+export class Credential implements CredentialMembers {
+  constructor(members: CredentialMembers);
+  readonly id: Uint8Array;
+  readonly user: Uint8Array;
+  readonly algorithm: number;
+  readonly x: Uint8Array;
+  readonly y: Uint8Array;
+  readonly signCount: number;
+  readonly eligible: boolean | null;
+  readonly retired: boolean;
+  readonly transports: readonly string[];
+}
+
+export interface Told {
+  /** Whether the credential is backed up now (BS). */
+  readonly backedUp: boolean;
+  /** Whether the user was verified (UV). */
+  readonly userVerified: boolean;
+  /** The flags of the authenticator data, by their bits (WebAuthn Level 2, section 6.1). */
+  readonly flags: number;
+  /** The authenticator's extension outputs, one map of CBOR; none where there is none. */
+  readonly extensions: Uint8Array;
+}
+
+/** A registration that was accepted. */
+export interface Registered extends Told {
+  /** To be stored. */
+  readonly credential: Credential;
+  /** The kind of the authenticator, by its own word: 16 bytes. */
+  readonly aaguid: Uint8Array;
+  /** How the credential is attested: not at all, or by a signature of its own key. */
+  readonly format: "none" | "packed";
+}
+
+/** A sign-in that was accepted. */
+export interface SignedIn extends Told {
+  /** The credential as it is to be stored from now on. */
+  readonly credential: Credential;
+  /** The credential that the verdict was given for. Store the new one only where the stored one still has this counter and is not
+   *  retired, in one transaction with the end of the session. */
+  readonly before: Credential;
+}
+
+/** The ids of a list, or values that have them. */
+export type Ids = readonly (Uint8Array | { readonly id: Uint8Array; readonly transports?: readonly string[] })[];
+
+export interface OptionsOfBoth {
+  /** Whether the user is to be verified; `preferred`. */
+  userVerification?: Requirement;
+  /** Milliseconds. */
+  timeout?: number;
+  hints?: readonly ("security-key" | "client-device" | "hybrid")[];
+  extensions?: object;
+}
+
+export interface RegistrationOptions extends OptionsOfBoth {
+  /** The user's name, where it is another one. */
+  displayName?: string;
+  /** The account's credentials: at most 64. */
+  exclude?: Ids;
+  /** The COSE numbers that are offered: all three. */
+  algorithms?: readonly number[];
+  /** Whether the key keeps the credential; `required`. */
+  residentKey?: Requirement;
+  authenticatorAttachment?: "platform" | "cross-platform";
+}
+
+export interface SignInOptions extends OptionsOfBoth {
+  /** The account's user handle, where it is known. */
+  user?: Uint8Array | null;
+  /** The credentials that may answer, at most 64; none for any. */
+  allow?: Ids;
+}
+
+/** Whether a signature is valid: nothing but `true` counts. */
+export type Verify = (algorithm: number, x: Uint8Array, y: Uint8Array, message: Uint8Array, signature: Uint8Array) => Awaitable<boolean>;
+
+export interface ServerOptions {
+  /** The rp id. */
+  rpName?: string;
+  /** Which attestation is taken: both. */
+  acceptNone?: boolean;
+  acceptSelf?: boolean;
+  /** Whether extension data and ids of up to 1,023 bytes are taken, as browsers and keys send them: true. */
+  openProfile?: boolean;
+  verify?: Verify;
+}
+
+/** A relying party: an rp id and the origins of its pages. It keeps nothing. */
+export class Server {
+  constructor(rpId: string, origins: readonly string[], options?: ServerOptions);
+  readonly rpId: string;
+  readonly rpName: string;
+  readonly origins: readonly string[];
+  /** The options for the page, PublicKeyCredentialCreationOptionsJSON, and the session that the site keeps. `user` is the user
+   *  handle: 1 to 64 bytes that name nobody. */
+  registerBegin(user: Uint8Array, userName: string, options?: RegistrationOptions): { options: object; session: RegistrationSession };
+  /** What a RegistrationResponseJSON registers. `session` is null where none is open. `isRegistered(id)` tells whether a credential
+   *  has the id, to anyone, retired or not. Rejected by `Refused`, `BadInput` or `NoMemory`. */
+  registerComplete(session: RegistrationSession | null, response: unknown,
+                   how: { isRegistered: (id: Uint8Array) => Awaitable<unknown>; isFull?: boolean }): Promise<Registered>;
+  /** The same of the response's parts. `freeId` is an id that no credential has; each other one counts as registered. */
+  registerCompleteParts(session: RegistrationSession | null, parts: { attestationObject: Uint8Array; clientData: Uint8Array },
+                        how?: { freeId?: Uint8Array | null; isFull?: boolean; transports?: readonly string[] }): Promise<Registered>;
+  /** The options for the page, PublicKeyCredentialRequestOptionsJSON, and the session that the site keeps. */
+  authenticateBegin(options?: SignInOptions): { options: object; session: SignInSession };
+  /** Who signed in, of an AuthenticationResponseJSON. `credential(id)` answers the site's credential of the id, or null. Rejected by
+   *  `Refused`, `BadInput` or `NoMemory`. */
+  authenticateComplete(session: SignInSession | null, response: unknown,
+                       how: { credential: (id: Uint8Array) => Awaitable<CredentialMembers | null | undefined> }): Promise<SignedIn>;
+  /** The same of the response's parts and the credential that was found. */
+  authenticateCompleteParts(session: SignInSession | null, credential: CredentialMembers | null, parts: {
+    rawId: Uint8Array; user?: Uint8Array | null; authData: Uint8Array; signature: Uint8Array; clientData: Uint8Array;
+  }): Promise<SignedIn>;
+}
+
+/** A response is refused at a step of section 7.1 or 7.2 of WebAuthn, the first that it does not pass. */
+export class Refused extends Error {
+  constructor(isRegistration: boolean, number: number, text: string);
+  readonly isRegistration: boolean;
+  /** 1 to 16. */
+  readonly number: number;
+  /** The name of the step. */
+  readonly step: string;
+  /** G and the number for a registration, W for a sign-in. */
+  readonly name: string;
+  readonly text: string;
+}
+
+/** A value is out of its limits: of the site's own, or no response in the form of JSON. */
+export class BadInput extends Error {
+  constructor(text: string, number?: number);
+  /** The number of the answer, 100 and up; 0 where the library was not asked. */
+  readonly number: number;
+  readonly text: string;
+}
+
+/** Memory ran out. The next call finds all of it again. */
+export class NoMemory extends Error {
+  readonly number: 127;
+}
+
+/** Whether the bytes are one value of canonical CBOR (CTAP 2.1), and no more. */
+export function isCanonical(value: Uint8Array): boolean;
+/** A credential whose key is given as COSE_Key bytes (RFC 9052, section 7), as other libraries store it. Throws `BadInput`. */
+export function credentialFromCose(members: Omit<CredentialMembers, "algorithm" | "x" | "y"> & { coseKey: Uint8Array }): Credential;
+/** The public key as COSE_Key bytes, in canonical CBOR. Throws `BadInput`. */
+export function coseKeyOf(key: Pick<CredentialMembers, "algorithm" | "x" | "y">): Uint8Array;
+
+/** Loads passkey.wasm, before all else: from beside this file, or from a URL, a `Response`, bytes or a `WebAssembly.Module`. */
+export function load(source?: unknown): Promise<void>;

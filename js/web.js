@@ -1,0 +1,34 @@
+// The package where there is no Node: signatures by WebCrypto. `load` comes before all else.
+import { isValid } from "./web_signatures.js";
+import { Module } from "./module.js";
+import { helpersOver, serverOver } from "./server.js";
+
+let loaded = null;
+
+function moduleOf() {
+  if (loaded === null) throw new Error("await load() comes first");
+  return loaded;
+}
+
+async function compiled(source) {
+  if (source instanceof WebAssembly.Module) return source;
+  if (source instanceof Uint8Array || source instanceof ArrayBuffer) return WebAssembly.compile(source);
+  const answer = source instanceof Response ? source : await fetch(source);
+  return WebAssembly.compile(await answer.arrayBuffer());
+}
+
+/** Loads passkey.wasm: from beside this file, or from a URL, a `Response`, bytes or a `WebAssembly.Module`. */
+export async function load(source = new URL("./passkey.wasm", import.meta.url)) {
+  loaded = new Module(await compiled(source));
+}
+
+function randomBytes(size) {
+  return crypto.getRandomValues(new Uint8Array(size));
+}
+
+export const Server = serverOver(moduleOf, randomBytes, isValid);
+export const { isCanonical, credentialFromCose, coseKeyOf } = helpersOver(moduleOf);
+export { BadInput, NoMemory, Refused } from "./errors.js";
+export { fromText, toText } from "./forms.js";
+export { EDDSA, ES256, MAX_LIST, RS256 } from "./limits.js";
+export { Credential, RegistrationSession, SignInSession } from "./records.js";
