@@ -77,6 +77,10 @@ test("a module that runs out of memory says so, and goes on", async () => {
     assert.ok(isAsAtFirst(made));
   }
   assert.ok(made.module.bytes().length <= 4 * 65_536);
+  // Where there is no room for the response itself.
+  const small = serving(limited(3));
+  await assert.rejects(visited(small, padded(44_000)), NoMemory);
+  assert.equal((await visited(small)).credential.signCount, 1);
 });
 
 test("64 MB at most", async () => {

@@ -3,7 +3,7 @@
 import assert from "node:assert/strict";
 import { readFileSync } from "node:fs";
 import { createRequire } from "node:module";
-import { webcrypto } from "node:crypto";
+import { generateKeyPairSync, sign, webcrypto } from "node:crypto";
 import { test } from "node:test";
 import * as node from "garvoeng";
 import * as web from "garvoeng/web";
@@ -97,5 +97,22 @@ test("what the host verified by mistake is refused", async () => {
     await signIn(node, visit, line, credential, { verify: async () => true });
     await assert.rejects(signIn(node, visit, line, credential, { verify: () => Promise.reject(new Error("no mathematics")) }),
                          { message: "no mathematics" });
+  }
+});
+
+test("a signature of ES256 has one form in DER, by WebCrypto as by node:crypto", async () => {
+  const { isValid } = await import(new URL("../node_modules/garvoeng/web_signatures.js", import.meta.url));
+  const forms = await import(new URL("../node_modules/garvoeng/node_signatures.js", import.meta.url));
+  const { privateKey, publicKey } = generateKeyPairSync("ec", { namedCurve: "P-256" }), { x, y } = publicKey.export({ format: "jwk" });
+  const message = Buffer.from("message"), key = [node.ES256, data(x), data(y), message];
+  for (let round = 0; round < 20; round++) {
+    const good = sign("sha256", message, privateKey), size = good[3], rest = good.subarray(4);
+    assert.deepEqual([await isValid(...key, good), forms.isValid(...key, good)], [true, true]);
+    for (const bad of [Buffer.concat([good, Buffer.alloc(1)]), Buffer.concat([[0x30, good[1] + 1], good.subarray(2), [0]].map((part) => Buffer.from(part))),
+                       good.subarray(0, -1), Buffer.from([0x30, 0x81, ...good.subarray(1)]), Buffer.from([0x30, good[1] + 1, 2, size + 1, 0, ...rest]),
+                       Buffer.from([0x31, ...good.subarray(1)]), Buffer.from([0x30, good[1], 3, ...good.subarray(3)]), Buffer.alloc(0), Buffer.alloc(64)]) {
+      const found = [await isValid(...key, bad), forms.isValid(...key, bad)];
+      assert.deepEqual(found, [false, false], bad.toString("hex"));
+    }
   }
 });

@@ -85,6 +85,7 @@ test("a sign-in is refused at each step", async () => {
     ["W3", complete(good, { found: { ...credential, retired: true } })], ["W3", complete(good, { found: { ...credential, id: other } })],
     ["W4", complete(good, { found: { ...credential, user: other } })], ["W4", complete(good, { begun: of(session, { user: null }) })],
     ["W4", complete(withText(good, "userHandle", ""))], ["W4", complete(good, { begun: of(session, { user: new Uint8Array(0) }) })],
+    ["W4", complete(withText(good, "userHandle", toText(user)), { begun: of(session, { user: new Uint8Array(0) }) })],
     ["W5", complete(text(() => "{"))], ["W6", complete(text((said) => said.replace(".get", ".create")))],
     ["W7", complete(good, { begun: of(session, { challenge: new Uint8Array(32) }) })],
     ["W8", complete(good, { on: new Server("example.com", ["https://www.example.com"]) })],
@@ -100,6 +101,8 @@ test("a sign-in is refused at each step", async () => {
   for (const [name, asked] of rows) await assert.rejects(asked, { name, isRegistration: false });
   const unknown = await complete(device.signIn(options, { flags: UP | UV | BE | BS }), { found: { ...credential, eligible: null } });
   assert.deepEqual([unknown.backedUp, unknown.credential.eligible], [true, true]);
+  const eligible = await complete(device.signIn(options, { flags: UP | UV | BE }), { found: { ...credential, eligible: true } });
+  assert.deepEqual([eligible.backedUp, eligible.credential.eligible], [false, true]);
   assert.equal((await complete()).credential.signCount, 1);
 });
 
