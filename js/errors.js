@@ -44,19 +44,11 @@ export class NoMemory extends Error {
   }
 }
 
-/** The program could not be started, ended before it answered, or its disk or memory failed: what was asked is done or is not.
- *  The next call starts the program again. */
+/** The program or the database could not be reached, ended before it answered, or failed: what was asked is done or is not. The
+ *  next call tries anew. */
 export class StoreFailed extends Error {
-  constructor(text) {
-    super(text);
+  constructor(text, options) {
+    super(text, options);
     this.name = "StoreFailed";
-  }
-}
-
-/** As many sessions are open as `maxOpen` allows, so no further one begins. */
-export class SessionsFull extends Error {
-  constructor(text) {
-    super(text);
-    this.name = "SessionsFull";
   }
 }

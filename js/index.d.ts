@@ -1,6 +1,94 @@
 // The package in Node.
+import { Credential, Registered, RegistrationOptions, ServerOptions, SignInOptions, Told } from "./web.js";
 export {
   Awaitable, BadInput, Credential, CredentialMembers, EDDSA, ES256, Ids, MAX_LIST, NoMemory, OptionsOfBoth, RS256, Refused, Registered,
   RegistrationOptions, RegistrationSession, Requirement, Server, ServerOptions, SignInOptions, SignInSession, SignedIn, Told, Verify,
   coseKeyOf, credentialFromCose, fromText, isCanonical, toText,
 } from "./web.js";
+
+/** The most credential ids of a list of `StoredServer`. */
+export const MAX_STORED_LIST: 8;
+
+/** The program or the database could not be reached, ended before it answered, or failed: what was asked is done or is not. The next
+ *  call tries anew. */
+export class StoreFailed extends Error {
+  constructor(text: string, options?: { cause?: unknown });
+}
+
+/** A sign-in that was accepted. It is stored already. */
+export interface StoredSignIn extends Told {
+  /** The credential's id. */
+  readonly id: Uint8Array;
+  /** The user handle. */
+  readonly user: Uint8Array;
+  /** The signature counter that was received. */
+  readonly signCount: number;
+}
+
+export interface StoredServerOptions extends ServerOptions {
+  /** The most sessions that are open at a time, up to 1,000,000; where more begin the oldest ends: 100,000. */
+  maxOpen?: number;
+  /** The most credentials, up to 1,000,000: 1,000,000. */
+  maxCredentials?: number;
+  /** Whether the file must be there: false. */
+  isExisting?: boolean;
+  /** What the program tells: nothing, refusals (also `true`), or acceptances and errors too. */
+  log?: boolean | "refusals" | "all";
+  /** Seconds after which a session ends by itself: 300. */
+  expire?: number;
+  /** Milliseconds after which a program that does not answer is ended: 30,000. */
+  timeout?: number;
+  /** What gets each line that the program tells: `console.error`. */
+  logger?: (line: string) => void;
+}
+
+/** How a site is. Counts of refusals and acceptances are since the program's start, refusals by step. */
+export interface SiteStatus {
+  readonly version: string;
+  readonly credentials: number;
+  readonly sessions: number;
+  readonly next_session: number;
+  readonly commits: number;
+  readonly last_commit_microseconds: number;
+  readonly sign_ins: number;
+  readonly registrations: number;
+  readonly sign_ins_refused: Readonly<Record<string, number>>;
+  readonly registrations_refused: Readonly<Record<string, number>>;
+}
+
+/** A relying party over the SQLite file of the proved program passkey-site, which runs beside this process and ends with it. One
+ *  process has the file: of node:cluster it is the primary, where a `StoredServer` of the same words answers what those of the
+ *  workers ask. A call whose program ended is rejected by `StoreFailed`, and the next call starts the program again. */
+export class StoredServer {
+  /** `program` and `file` are paths; the file is made where there is none. */
+  constructor(program: string, file: string, rpId: string, origins: readonly string[], options?: StoredServerOptions);
+  readonly rpId: string;
+  readonly rpName: string;
+  readonly origins: readonly string[];
+  /** As that of `Server`, with at most 8 credentials in `exclude`. `session` is a number that only this visitor may have. */
+  registerBegin(user: Uint8Array, userName: string, options?: RegistrationOptions): Promise<{ options: object; session: number }>;
+  /** What a RegistrationResponseJSON registers. It is in the file, but for transports. Rejected by `Refused`, `BadInput` or
+   *  `StoreFailed`. */
+  registerComplete(session: number | null, response: unknown): Promise<Registered>;
+  /** As that of `Server`, with at most 8 credentials in `allow`. */
+  authenticateBegin(options?: SignInOptions): Promise<{ options: object; session: number }>;
+  /** Who signed in, of an AuthenticationResponseJSON. Rejected as `registerComplete`. */
+  authenticateComplete(session: number | null, response: unknown): Promise<StoredSignIn>;
+  /** A credential signs in no more; whether it did until now. */
+  retire(id: Uint8Array): Promise<boolean>;
+  /** A credential is forgotten, with all that is known of it, and its id may be registered again; whether it was there. */
+  delete(id: Uint8Array): Promise<boolean>;
+  /** A session ends; whether it was open. */
+  abandon(session: number): Promise<boolean>;
+  /** Ends the sessions that began more than so many seconds ago, by the system's clock; how many they were. */
+  expire(olderThan: number): Promise<number>;
+  /** The credentials of a user, or all, in order of registration. */
+  rows(user?: Uint8Array | null): Promise<Credential[]>;
+  /** How the site is, for a health check and for metrics. */
+  status(): Promise<SiteStatus>;
+  /** Copies the file to a path of the program's machine at which nothing stands: a whole file of one moment, on the disk once this
+   *  resolves. Calls wait meanwhile. Rejected by `BadInput` where it can't be made; then there is none. */
+  backup(path: string): Promise<void>;
+  /** Ends the program once it answered what was asked, and closes its file. A later call starts it again. */
+  close(): Promise<void>;
+}

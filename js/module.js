@@ -98,7 +98,8 @@ export class Room {
   }
 }
 
-/** An instance of the module. Its calls stand in `within`, at whose end its memory is as it was at first. */
+/** An instance of the module. Its calls stand in `within`. Where they are of no owner its memory is as it was at first at their end;
+ *  else at the end of the owner's last ones, which says so by `clean`, and at the latest when calls of another one begin. */
 export class Module {
   #compiled;
   #exports = null;
@@ -108,6 +109,7 @@ export class Module {
   #blocks = [];
   #heap = 0;
   #front = 0;
+  #owner = null;
 
   constructor(compiled) {
     this.#compiled = compiled;
@@ -164,9 +166,9 @@ export class Module {
     return this.#exports[name](...words);
   }
 
-  /** Makes calls, and then gives back and overwrites all memory that they took: the stack, which lies lowest, and the heap. A
-   *  module that a call brought down is let go. */
-  within(calls) {
+  /** Makes calls of an owner, if there is one. A module that a call brought down is let go. */
+  within(calls, owner = null) {
+    if (this.#owner !== owner) this.clean();
     if (this.#exports === null) this.#start();
     let isWhole = false;
     try {
@@ -178,12 +180,24 @@ export class Module {
       if (error instanceof WebAssembly.RuntimeError || error instanceof RangeError) throw new NoMemory();
       throw error;
     } finally {
-      if (isWhole && this.bytes().length <= MOST_KEPT) this.#overwrite();
-      else this.#exports = this.#buffer = this.#bytes = this.#view = null;
+      if (!isWhole || this.bytes().length > MOST_KEPT) this.#letGo();
+      else if (owner === null) this.#overwrite();
+      else this.#owner = owner;
     }
   }
 
+  /** Gives back and overwrites all memory that an owner's calls took. */
+  clean() {
+    if (this.#owner !== null) this.#overwrite();
+  }
+
+  #letGo() {
+    this.#exports = this.#buffer = this.#bytes = this.#view = this.#owner = null;
+  }
+
+  // The stack, which lies lowest, and the heap.
   #overwrite() {
+    this.#owner = null;
     for (const block of this.#blocks.splice(0)) this.#exports.free(block);
     this.#bytes.fill(0, 0, this.#front);
     this.#bytes.fill(0, this.#heap);

@@ -8,6 +8,7 @@ const here = (name) => new URL(name, import.meta.url);
 function inCommonJs(text) {
   const exported = [];
   const body = text
+    .replace(/^import (\w+) from "(.*)";$/gm, (_, name, file) => `const ${name} = require("${commonName(file)}");`)
     .replace(/^import \{([^}]*)\} from "(.*)";$/gm, (_, names, file) => `const {${names.replace(/ as /g, ": ")}} = require("${commonName(file)}");`)
     .replace(/^export \{([^}]*)\} from "(.*)";$/gm, (_, names, file) =>
       named(names).map((name) => `exports.${name} = require("${commonName(file)}").${name};`).join("\n"))
@@ -33,10 +34,12 @@ function typesInCommonJs() {
   return shared + own.replace(/^(import|export) \{[^}]*\} from ".*";$/gm, "");
 }
 
-const MODULES = ["errors", "forms", "index", "layout", "limits", "module", "node_signatures", "options", "records", "server", "verdicts"];
+const MODULES = ["errors", "forms", "index", "layout", "limits", "module", "node_signatures", "options", "program", "records", "server",
+                 "sql", "stored", "verdicts", "workers"];
 rmSync(here("cjs"), { recursive: true, force: true });
 mkdirSync(here("cjs"));
 for (const name of MODULES) writeFileSync(here(`cjs/${name}.cjs`), inCommonJs(readFileSync(here(`${name}.js`), "utf8")));
 writeFileSync(here("cjs/index.d.cts"), typesInCommonJs());
+writeFileSync(here("cjs/sql.d.cts"), readFileSync(here("sql.d.ts"), "utf8").replace("./index.js", "./index.cjs"));
 copyFileSync(here("../dist/portable/passkey.wasm"), here("passkey.wasm"));
 copyFileSync(here("../LICENSE"), here("LICENSE"));

@@ -124,20 +124,29 @@ export function serverOver(moduleOf, randomBytes, isValid) {
     }
 
     // The last answer: where the first one is that of the signature's step, the signature is verified, and where it is valid the
-    // response is judged again with what was verified.
+    // response is judged again with what was verified. While a promise is awaited, nothing of the call is in the module.
     async #judged(module, isRegistration, image, judge, signatureStep, ask) {
-      const first = module.within(() => {
-        const judged = judge(module, image);
-        return judged.answer === signatureStep ? { ...judged, asked: ask() } : judged;
-      });
-      if (first.asked === undefined) return first;
-      checkAnswer(module, isRegistration, first.asked.answer);
-      const { signature } = first.asked;
-      if (signature === null) return first;
-      const { algorithm, x, y, message, signature: bytes } = signature;
-      if ((await this.verify(algorithm, x, y, message, bytes)) !== true) return first;
-      handIn(image, isRegistration, signature);
-      return module.within(() => judge(module, image));
+      try {
+        const first = module.within(() => {
+          const judged = judge(module, image);
+          return judged.answer === signatureStep ? { ...judged, asked: ask() } : judged;
+        }, image);
+        if (first.asked === undefined) return first;
+        checkAnswer(module, isRegistration, first.asked.answer);
+        const { signature } = first.asked;
+        if (signature === null) return first;
+        const { algorithm, x, y, message, signature: bytes } = signature;
+        let valid = this.verify(algorithm, x, y, message, bytes);
+        if (typeof valid !== "boolean") {
+          module.clean();
+          valid = await valid;
+        }
+        if (valid !== true) return first;
+        handIn(image, isRegistration, signature);
+        return module.within(() => judge(module, image), image);
+      } finally {
+        module.clean();
+      }
     }
   };
 }

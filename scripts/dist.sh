@@ -56,3 +56,21 @@ all_made_into() {
         made_into "$1" "$name" "$crate" "$(sources_of "$crate")" || return 1
     done
 }
+
+# Packs the package for JavaScript into a folder, with this file as its passkey.wasm, and prints its lines of dist/MANIFEST: packed_into
+# FOLDER MODULE. Other versions of npm and Node may compress the same files to other bytes.
+packed_into() {
+    local copy name status=1
+    copy=$(mktemp -d) || return
+    name=garvoeng-$(cat "$top/VERSION").tgz
+    if mkdir -p "$copy/dist/portable" && cp "$2" "$copy/dist/portable/passkey.wasm" &&
+        tar -C "$top" --exclude=node_modules --exclude=js/cjs --exclude=js/LICENSE --exclude=js/passkey.wasm -cf - js LICENSE | tar -C "$copy" -xf - &&
+        (cd "$copy/js" && umask 022 && HOME=$copy npm_config_cache=$copy/cache npm pack --offline --silent --pack-destination "$1" > /dev/null) && [ -f "$1/$name" ]; then
+        echo "$name sha256 $(digest "$1/$name")"
+        echo "$name size $(stat -c %s "$1/$name")"
+        echo "$name tools npm $(npm --version), Node $(node --version)"
+        status=0
+    fi
+    rm -rf "$copy"
+    return "$status"
+}

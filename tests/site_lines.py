@@ -1,8 +1,9 @@
 #!/usr/bin/python3
 """Drives the program of crates/site_program as a host does: tests/site_lines.py PROGRAM. Registrations and sign-ins of a
-device that `cryptography` plays, wrong signatures, what a browser made (python/tests/recorded.json), restarts, a kill, wrong
-lines, and the clean end. The last line is 'N passed, M failed'."""
+device that `cryptography` plays, wrong signatures, what a browser made (python/tests/recorded.json), where the random bytes
+come from, restarts, a kill, wrong lines, and the clean end. The last line is 'N passed, M failed'."""
 import json
+import os
 import random
 import sqlite3
 import subprocess
@@ -12,6 +13,7 @@ import time
 from pathlib import Path
 
 top = Path(__file__).resolve().parent.parent
+subprocess.run([top / "python" / "prepare"], check=True)
 sys.path[:0] = [str(top / "python"), str(top / "python" / "tests")]
 from device import AT, BE, BS, ED, UP, UV, Device, changed  # noqa: E402
 from garvoeng import EDDSA, ES256, RS256  # noqa: E402
@@ -22,13 +24,21 @@ RP_ID, ORIGIN, USER = "example.com", "https://example.com", b"account 7"
 PARTY = ["--rp-id", RP_ID, "--origin", ORIGIN]
 
 
+def in_place_of_random(path):
+    """The words before a program that make it read this file as /dev/urandom."""
+    if path is None:
+        return []
+    user = [] if os.geteuid() == 0 else ["--map-root-user"]
+    return ["unshare", *user, "--mount", "sh", "-c", 'mount --bind "$0" /dev/urandom && exec "$@"', str(path)]
+
+
 class Host:
     """A host: it runs the program, and speaks with it by lines."""
 
-    def __init__(self, program, file, *words):
+    def __init__(self, program, file, *words, random_bytes=None):
         self.errors = tempfile.TemporaryFile()
-        self.process = subprocess.Popen([program, str(file), *words], stdin=subprocess.PIPE, stdout=subprocess.PIPE,
-                                        stderr=self.errors)
+        self.process = subprocess.Popen([*in_place_of_random(random_bytes), program, str(file), *words], stdin=subprocess.PIPE,
+                                        stdout=subprocess.PIPE, stderr=self.errors)
         self.number = 0
 
     def raw(self, line):
@@ -212,9 +222,9 @@ def logs(tests):
     for words, kinds in (([], set()), (["--log"], {"W1", "failed begin"}), (["--log", "refusals"], {"W1", "failed begin"}),
                          (["--log=all"], {"W1", "failed begin", "accepted", "error"}),
                          (["--log", "all"], {"W1", "failed begin", "accepted", "error"})):
-        host = Host(tests.program, *words, tests.file(f"log{len(kinds)}{len(words)}.db"), *PARTY, "--max-open", "1")
+        host = Host(tests.program, *words, tests.file(f"log{len(kinds)}{len(words)}.db"), *PARTY)
         begun = host.ask("begin_registration", user=to_text(USER), user_name="name")
-        host.ask("begin_sign_in")
+        host.ask("begin_sign_in", user=to_text(bytes(65)))
         host.finish("finish_registration", begun["session"], long.register(begun["options"]))
         begun = host.ask("begin_sign_in")
         answered = long.sign_in(begun["options"], user=USER)
@@ -224,7 +234,7 @@ def logs(tests):
         status, rest, errors = host.end()
         lines = errors.splitlines()
         found = {kind for kind, text in (("W1", f" session {begun['session']} sign-in refused W1 credential "),
-                                         ("failed begin", " error: too many sessions are open"), ("accepted", " accepted credential "),
+                                         ("failed begin", " error: what is asked is not within its limits"), ("accepted", " accepted credential "),
                                          ("error", " line 77 session - error: there is no such act")) if text in errors}
         tests.check(f"the log with {words}", (status, found), (0, kinds))
         tests.check(f"acceptances with {words}", sum(" accepted " in line for line in lines), 2 * ("accepted" in kinds))
@@ -274,44 +284,47 @@ def numbers(tests):
     tests.check("the end", host.end(), (0, b"", ""))
 
 
-def with_sessions(path, sessions):
-    """The file with these sessions open, from number 1 on, as a browser's answers want them: each challenge begins with its
-    number."""
-    with sqlite3.connect(path) as file:
-        for number, (ceremony, session) in enumerate(sessions, 1):
-            allow = [from_text(one, "allow") for one in session.get("allow", ())]
-            user = session["user"] and from_text(session["user"], "user")
-            algorithms = "".join(map(str, session["algorithms"])) if "algorithms" in session else None
-            row = [number, ceremony, from_text(session["challenge"], "challenge"), user, int(session["user_verification"]),
-                   algorithms, 1_700_000_000, *allow, *[None] * (8 - len(allow))]
-            file.execute(f"insert into session values ({', '.join('?' * len(row))})", row)
-        file.execute("update site set next_session = ?", (len(sessions) + 1,))
-    file.close()
+def begin_of(finish, expected):
+    """The line that begins a session which expects what a recorded one did."""
+    members = {"user_verification": expected["user_verification"]}
+    if expected["user"]:
+        members["user"] = expected["user"]
+    if finish == "finish_registration":
+        return {"act": "begin_registration", "user_name": "name", "algorithms": expected["algorithms"], **members}
+    return {"act": "begin_sign_in", "allow": expected["allow"], **members}
+
+
+def random_file(path, challenges):
+    """A file that gives challenges these bytes behind their numbers, the first of the first line, and then others."""
+    path.write_bytes(b"".join(from_text(challenge, "challenge")[8:] for challenge in challenges) + os.urandom(1 << 20))
+    return path
 
 
 def browser(tests):
-    """What a browser made (python/tests/recorded.json), in sessions that the file is given, over restarts."""
+    """What a browser made (python/tests/recorded.json), in sessions whose random bytes are those of the recorded challenges: so
+    these are the bytes of each challenge behind its number, in their order, each used once."""
     recorded = json.loads((top / "python" / "tests" / "recorded.json").read_text())
     path = tests.file("browser.db")
     party = [path, "--rp-id", "localhost", "--origin", recorded["origin"]]
-    host = Host(tests.program, *party, "--new")
-    tests.check("a new file", host.ask("rows"), {"rows": []})
-    tests.check("its end", host.end(), (0, b"", ""))
     lines = [(act, line) for visit in recorded["visits"] for act, line in (
         ("finish_registration", visit["registration"]), *(("finish_sign_in", line) for line in visit["sign_ins"]))]
-    kinds = {"finish_registration": "registration", "finish_sign_in": "sign-in"}
-    with_sessions(path, [(kinds[act], line["session"]) for act, line in lines])
-    host = Host(tests.program, *party, "--existing")
+    challenges = [line["session"]["challenge"] for _, line in lines]
+    host = Host(tests.program, *party, "--new", random_bytes=random_file(tests.file("random"), challenges))
+    begun = [host.ask(**begin_of(act, line["session"])) for act, line in lines]
+    tests.check("the challenges", [one["options"]["challenge"] for one in begun], challenges)
     for number, (act, line) in enumerate(lines, 1):
-        if number % 10 == 0:
-            tests.check("a restart", host.end(), (0, b"", ""))
-            host = Host(tests.program, *party)
         answer = host.finish(act, number, line["response"])
         tests.check(f"{act} {number}", answer.get("accepted", answer).get("credential"), line["response"]["id"])
         again = host.finish(act, number, line["response"])
         tests.check(f"{act} {number} again", again["refused"]["number"], 1)
-    tests.check("what was registered", len(host.ask("rows")["rows"]), len(recorded["visits"]))
     tests.check("the next session", host.ask("begin_sign_in")["session"], len(lines) + 1)
+    rows = host.ask("rows")["rows"]
+    tests.check("what was registered", len(rows), len(recorded["visits"]))
+    tests.check("the end", host.end(), (0, b"", ""))
+    host = Host(tests.program, *party, "--existing")
+    tests.check("the rows after a restart", host.ask("rows")["rows"], rows)
+    tests.check("a session from before it", host.finish("finish_sign_in", len(lines) + 1, lines[1][1]["response"])["refused"]["number"], 1)
+    tests.check("no number comes again", host.ask("begin_sign_in")["session"] > len(lines) + 1)
     tests.check("the end", host.end(), (0, b"", ""))
     for words, why in ((["--new"], "there is a file at this path\n"),
                        (["--rp-id", "other.example", "--origin", "https://other.example"], "")):
@@ -331,58 +344,12 @@ def killed(tests):
     host.process.wait()
     host = Host(tests.program, tests.file("killed.db"), *PARTY)
     tests.check("the rows after a kill", host.ask("rows"), before)
-    tests.check("the session after a kill", "accepted" in host.finish("finish_sign_in", begun["session"],
-                                                                      device.sign_in(begun["options"])))
+    found = host.finish("finish_sign_in", begun["session"], device.sign_in(begun["options"]))
+    tests.check("a session from before a kill", found, refused("W1", 1, "the session is not open for sign-in"))
+    after = host.ask("begin_sign_in", user=to_text(USER))
+    tests.check("its number comes no more", after["session"] > begun["session"])
+    tests.check("a new session", "accepted" in host.finish("finish_sign_in", after["session"], device.sign_in(after["options"])))
     tests.check("the end", host.end(), (0, b"", ""))
-
-
-def ages(tests):
-    """Sessions end by their age, over restarts too, and young ones stay."""
-    path = tests.file("ages.db")
-    tests.check("a new file's end", Host(tests.program, path, *PARTY, "--new").end(), (0, b"", ""))
-    challenges = [number.to_bytes(8, "big") + bytes(24) for number in (1, 2)]
-    with_sessions(path, [("sign-in", {"challenge": to_text(challenge), "user": None, "user_verification": False})
-                         for challenge in challenges])
-    host = Host(tests.program, path, *PARTY)
-    begun = host.ask("begin_sign_in")["session"]
-    tests.check("expired", host.ask("expire", older_than=3600), {"expired": 2})
-    tests.check("expired again", host.ask("expire", older_than=3600), {"expired": 0})
-    host.process.kill()
-    host.process.wait()
-    tests.check("the end after a kill", Host(tests.program, path, *PARTY).end(), (0, b"", ""))
-    with sqlite3.connect(path) as file:
-        began = file.execute("select began_at from session").fetchall()
-    file.close()
-    tests.check("the second in which it began", [abs(moment - time.time()) < 600 for moment, in began], [True])
-    host = Host(tests.program, path, *PARTY)
-    tests.check("what expired is gone", [host.ask("abandon", session=number)["abandoned"] for number in (1, 2, begun)],
-                [False, False, True])
-    tests.check("the end", host.end(), (0, b"", ""))
-    with_sessions(path, [("sign-in", {"challenge": to_text(challenges[0]), "user": None, "user_verification": False})])
-    host = Host(tests.program, path, *PARTY, "--expire", "600")
-    young = host.ask("begin_sign_in")["session"]
-    tests.check("what ended by itself", [host.ask("abandon", session=number)["abandoned"] for number in (1, young)], [False, True])
-    tests.check("the end", host.end(), (0, b"", ""))
-    host = Host(tests.program, path, *PARTY, "--expire", "1")
-    old = host.ask("begin_sign_in")["session"]
-    time.sleep(2.5)
-    young = host.ask("begin_sign_in")["session"]
-    tests.check("and beside one that lives", [host.ask("abandon", session=number)["abandoned"] for number in (old, young)], [False, True])
-    tests.check("the end", host.end(), (0, b"", ""))
-    tests.check("no number of seconds", Host(tests.program, path, *PARTY, "--expire", "x").end()[0], 2)
-
-
-def other_numbers(tests):
-    """A session whose challenge begins with another number is none that a site has written: two of one challenge would let one
-    response sign in twice."""
-    path = tests.file("other_numbers.db")
-    Host(tests.program, path, *PARTY).end()
-    challenge = (1).to_bytes(8, "big") + bytes(24)
-    with_sessions(path, [("sign-in", {"challenge": to_text(challenge), "user": None, "user_verification": False})] * 2)
-    kept = path.read_bytes()
-    status, _, said = Host(tests.program, path, *PARTY).end()
-    tests.check("two sessions of one challenge", (status, said), (4, "a row is not one that this site has written\n"))
-    tests.check("the file is as it was", path.read_bytes() == kept)
 
 
 def resident(host):
@@ -457,13 +424,13 @@ def bad_lines(tests, count=2000):
 
 
 def read_by_sqlite(tests):
-    """What C's SQLite reads of a file that is closed: it is sound, and has the three tables and a row of the site."""
+    """What C's SQLite reads of a file that is closed: it is sound, and has the tables and a row of the site."""
     file = sqlite3.connect(tests.file("visits.db"))
     tests.check("the file is sound", file.execute("pragma integrity_check").fetchall(), [("ok",)])
     names = file.execute("select name from sqlite_schema order by rootpage").fetchall()
-    tests.check("its tables", names, [("credential",), ("session",), ("site",)])
+    tests.check("its tables", sorted(names), [("credential",), ("credential_by_id",), ("credential_by_user",), ("detail",), ("site",)])
     rows = file.execute("select number, version, rp_id from site").fetchall()
-    tests.check("the row of the site", rows, [(1, 1, PARTY[1])])
+    tests.check("the row of the site", rows, [(1, 2, PARTY[1])])
     places = file.execute("select place, length(x), retired in (0, 1) from credential").fetchall()
     tests.check("the rows of the credentials", places and all(row[2] for row in places))
     file.close()
@@ -478,8 +445,6 @@ def main():
     numbers(tests)
     browser(tests)
     killed(tests)
-    ages(tests)
-    other_numbers(tests)
     bad_lines(tests)
     print(f"{tests.passed} passed, {tests.failed} failed")
     return tests.failed != 0

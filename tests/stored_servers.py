@@ -4,7 +4,6 @@ tests/stored_servers.py PROGRAM. The last line is 'N passed, M failed'."""
 import json
 import logging
 import os
-import pickle
 import signal
 import sys
 import threading
@@ -13,7 +12,7 @@ from pathlib import Path
 
 import site_hosts
 from device import Device, changed
-from garvoeng import ES256, BadInput, Refused, SessionsFull, StoredServer, StoreFailed
+from garvoeng import ES256, BadInput, Refused, StoredServer, StoreFailed
 from hostile import changes, nested
 from site_hosts import lives, raised, registered
 from site_lines import ORIGIN, PARTY, RP_ID, USER, Host
@@ -185,16 +184,8 @@ def causes(tests):
         young = server.authenticate_begin()[1]
         tests.check("a session ends by itself", [server.abandon(number) for number in (old, young)], [False, True])
     with tests.server("few.db", max_open=2) as server:
-        found = [raised(server.authenticate_begin)[0] for _ in range(4)]
-        tests.check("too many sessions", [error is SessionsFull for error in found], [False, False, True, True])
-        server.expire(0)
-        try:
-            server.authenticate_begin()
-            server.authenticate_begin()
-            server.authenticate_begin()
-        except SessionsFull as error:
-            tests.check("is no malformed request", isinstance(error, (ValueError, BadInput)), False)
-            tests.check("and is copied", str(pickle.loads(pickle.dumps(error))), str(error))
+        begun = [server.authenticate_begin()[1] for _ in range(4)]
+        tests.check("the oldest ended", [server.abandon(number) for number in begun], [False, False, True, True])
 
 
 def logs(tests):

@@ -8,11 +8,13 @@ before it. Kind 0 ends a group."""
 import json
 import re
 import struct
+import subprocess
 import sys
 from pathlib import Path
 
 here = Path(__file__).resolve().parent
 top = here.parents[1]
+subprocess.run([top / "python" / "prepare"], check=True)
 sys.path[:0] = [str(top / "python"), str(top / "python" / "tests")]
 from device import RS256, Device  # noqa: E402
 from garvoeng.forms import from_text, to_text  # noqa: E402

@@ -263,8 +263,6 @@ func (s *site) serveBegin(out http.ResponseWriter, asked object) {
 	switch {
 	case err != nil:
 		http.Error(out, err.Error()+"; ask again", http.StatusServiceUnavailable)
-	case answer["error"] == "too many sessions are open":
-		http.Error(out, fmt.Sprint(answer["error"]), http.StatusServiceUnavailable)
 	case answer["error"] != nil:
 		http.Error(out, fmt.Sprint(answer["error"]), http.StatusBadRequest)
 	default:
@@ -313,10 +311,5 @@ func (s *site) ServeHTTP(out http.ResponseWriter, request *http.Request) {
 
 func main() {
 	host := &site{words: os.Args[2:]}
-	go func() {
-		for range time.Tick(time.Minute) {
-			host.ask("expire", object{"older_than": 300})
-		}
-	}()
 	log.Fatal(http.ListenAndServe(os.Args[1], host))
 }

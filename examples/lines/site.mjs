@@ -120,7 +120,7 @@ async function begin(site, { act, name }) {
 async function answered(site, request) {
   if (request.method === "POST" && request.url === "/begin") {
     const [act, answer] = await begin(site, await body(request));
-    if (answer.error) return [answer.error === "too many sessions are open" ? 503 : 400, answer.error];
+    if (answer.error) return [400, answer.error];
     return [200, JSON.stringify(answer.options), [sealed("begun", `${act}-${answer.session}`)]];
   }
   if (request.method === "POST" && request.url === "/finish") {
@@ -133,7 +133,6 @@ async function answered(site, request) {
 }
 
 export function serve(site, port) {
-  setInterval(() => site.ask("expire", { older_than: 300 }).catch(() => {}), 60_000).unref();
   return createServer(async (request, response) => {
     const [status, text, cookies = []] = await answered(site, request).catch(error =>
       error instanceof SyntaxError ? [400, error.message] : [503, `${error.message}; ask again`]);

@@ -6,11 +6,11 @@ import secrets
 import sys
 from typing import Any, Dict, Optional, Tuple, Union
 
+from accounts import Taken
 from acts import acts_at
 from flask import Flask, Response, jsonify, redirect, request, send_file, session as cookie
-from garvoeng import BadInput, Refused, SessionsFull, StoreFailed
+from garvoeng import BadInput, Refused, StoreFailed
 from garvoeng.forms import from_text, to_text
-from storage import Taken
 from werkzeug.wrappers import Response as AnyResponse
 
 HERE = os.path.dirname(os.path.abspath(__file__))
@@ -91,7 +91,7 @@ def site(address: str, origin: str, secret: bytes) -> Flask:
         user = signed_in_user()
         if user is None:
             return jsonify(error="nobody is signed in"), 401
-        return jsonify([{"id": to_text(id), "count": count, "retired": retired} for id, count, retired in acts.passkeys(user)])
+        return jsonify([{"id": to_text(row.id), "count": row.sign_count, "retired": row.retired} for row in acts.passkeys(user)])
 
     @app.post("/passkeys/retire")
     def retire() -> Answered:
@@ -117,7 +117,6 @@ def site(address: str, origin: str, secret: bytes) -> Flask:
     def taken(error: Taken) -> Answered:
         return jsonify(error=str(error)), 409
 
-    @app.errorhandler(SessionsFull)
     @app.errorhandler(StoreFailed)
     def failed(error: Exception) -> Answered:
         return jsonify(error=str(error)), 503

@@ -165,7 +165,7 @@ def stored(address, visitors):
     connection = psycopg2.connect(address)
     cursor = connection.cursor()
     for visitor in visitors:
-        cursor.execute("select sign_count from credentials where id = %s", (visitor.device.id,))
+        cursor.execute("select sign_count from garvoeng_credential where id = %s", (visitor.device.id,))
         yield cursor.fetchone()[0]
 
 

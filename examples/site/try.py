@@ -6,16 +6,17 @@ import sys
 import time
 import urllib.error
 import urllib.request
-from dataclasses import replace
 from pathlib import Path
 
 sys.path.insert(0, str(Path(__file__).resolve().parents[2] / "python" / "tests"))
 from browser import Chromium, Firefox  # noqa: E402
 from device import RS256, Device  # noqa: E402
-from garvoeng import ES256, Credential, SignedIn, SignInSession  # noqa: E402
 from garvoeng.forms import from_text  # noqa: E402
 from servers import ended, started  # noqa: E402
-from storage import LIFETIME, Storage, Taken  # noqa: E402
+from accounts import connect_to  # noqa: E402
+from garvoeng import Server  # noqa: E402
+from garvoeng.broker import IDLE  # noqa: E402
+from garvoeng.sql import LIFETIME, SqlServer  # noqa: E402
 
 PICTURE = os.environ.get("PICTURE")
 """Where a picture of the page goes, if anywhere."""
@@ -28,58 +29,6 @@ def see(what, is_so):
     global passed, failed
     passed, failed = passed + bool(is_so), failed + (not is_so)
     print(("ok      " if is_so else "FAILED  ") + what, flush=True)
-
-
-def is_taken(storage, act):
-    """Whether the transaction is refused, since something else was accepted meanwhile."""
-    try:
-        with storage.transaction() as rows:
-            act(rows)
-    except Taken:
-        return True
-    return False
-
-
-def tries_rows(address, name):
-    """The rules for rows, one after the other, where the visits below can't make them meet."""
-    storage = Storage(address)
-    numbers = []
-    for challenge in (b"1" * 32, b"2" * 32):
-        with storage.transaction() as rows:
-            numbers.append(rows.begin(SignInSession(challenge)))
-        with storage.transaction() as rows:
-            taken = rows.take_sign_in(numbers[-1])
-    see(f"{name}: a session is what was begun", taken == SignInSession(b"2" * 32))
-    see(f"{name}: the number of a session that is gone never comes again", numbers[0] < numbers[1])
-    with storage.transaction() as rows:
-        number = rows.begin(SignInSession(b"3" * 32))
-    with storage.transaction() as rows:
-        other_kind = rows.take_registration(number)
-    see(f"{name}: a session for sign-in registers nothing", other_kind is None)
-    with storage.transaction() as rows:
-        rows.run("update sessions set begun_at = begun_at - ?", LIFETIME + 1)
-    with storage.transaction() as rows:
-        rows.begin(SignInSession(b"4" * 32))
-        kept = rows.run("select count(*) from sessions where begun_at < ?", time.time() - LIFETIME).fetchone()[0]
-    see(f"{name}: sessions that have ended go", kept == 0)
-    first = Credential(b"id", b"user", ES256, b"x" * 32, b"y" * 32, 5, None)
-    with storage.transaction() as rows:
-        rows.add("row", first)
-    see(f"{name}: an id is registered once", is_taken(storage, lambda rows: rows.add("row", first)))
-    other = replace(first, id=b"other", user=b"other user")
-    see(f"{name}: a name is one account's", is_taken(storage, lambda rows: rows.add("row", other)))
-    signed_in = SignedIn(replace(first, sign_count=6, eligible=True), first, False, True, 5, b"")
-    with storage.transaction() as rows:
-        rows.count(signed_in)
-    with storage.transaction() as rows:
-        stored = rows.credential(b"id")
-    see(f"{name}: counter and eligibility are stored", stored == signed_in.credential)
-    see(f"{name}: of two sign-ins over one counter one is accepted", is_taken(storage, lambda rows: rows.count(signed_in)))
-    again = SignedIn(replace(stored, sign_count=7), stored, False, True, 5, b"")
-    with storage.transaction() as rows:
-        not_own, own = rows.retire(b"other user", b"id"), rows.retire(b"user", b"id")
-    see(f"{name}: nobody retires another's passkey", own and not not_own)
-    see(f"{name}: retired in the midst of a sign-in", is_taken(storage, lambda rows: rows.count(again)))
 
 
 def tries_rsa(name, packed):
@@ -146,20 +95,23 @@ def tries_bodies(name):
         see(f"{name}: bodies that are no request of {path}: {sorted(set(statuses))}", set(statuses) <= {400})
 
 
-def with_rows(site, address, statement, of_program, *values):
-    """The first value of a statement on the rows, and the site. Of the program's file it is another statement, while no
-    process has the file."""
+def in_rows(address, statement, *values):
+    """The first value of a statement on the rows of a database, where it has one."""
+    with SqlServer(Server("localhost", [ORIGIN]), connect_to(address)).transaction() as rows:
+        found = rows.run(statement, *values)
+        return found.fetchone()[0] if found.description else None
+
+
+def without_sessions(site, address):
+    """The site once its sessions have ended: those of the program end with it, when no process has the file any more."""
     if not address.startswith("program:"):
-        with Storage(address).transaction() as rows:
-            found = rows.run(statement, *values)
-            return (found.fetchone()[0] if found.description else None), site
+        in_rows(address, "update garvoeng_session set expires_at = expires_at - ?", LIFETIME + 1)
+        return site
     ended(site)
     file = sqlite3.connect(address[len("program:"):], timeout=30, isolation_level=None)
     file.execute("begin exclusive")
-    found = file.execute(of_program, values).fetchone()
-    file.execute("commit")
     file.close()
-    return found and found[0], started(address, PORT)
+    return started(address, PORT)
 
 
 def emptied(address):
@@ -203,8 +155,7 @@ def tries(browser, address, name, is_whole):
     see(f"{name}: an older challenge than the session's (W7)", run("post('/sign-in/finish', window.kept)").get("refusal") == "W7")
     see(f"{name}: the session is as it was before the refusal", run(f"post('/sign-in/finish', {later})").get("user"))
     run("(async () => { window.kept = await assertion({name: ''}); })()")
-    _, site = with_rows(site, address, "update sessions set begun_at = begun_at - ?",
-                        "update session set began_at = began_at - ?", LIFETIME + 1)
+    site = without_sessions(site, address)
     urllib.request.urlopen(urllib.request.Request(ORIGIN + "/sign-in/begin", b"{}", {"Content-Type": "application/json"})).close()
     see(f"{name}: a session that has ended (W1)", run("post('/sign-in/finish', window.kept)").get("refusal") == "W1")
     begun = json.dumps(run("assertion({name: ''})"))
@@ -219,9 +170,9 @@ def tries(browser, address, name, is_whole):
     see(f"{name}: restarted, still signed in", run("fetch('/passkeys').then(answer => answer.status)") == 200)
     see(f"{name}: restarted, signed in", run("signIn()").get("user"))
     run("(async () => { document.getElementById('verified').checked = true; await assertion(); })()")
-    expects, site = with_rows(site, address, "select expects from sessions order by number desc",
-                              "select user_verification from session order by number desc")
-    see(f"{name}: verification required by the page's box", expects == 1 or json.loads(expects)[-1] is True)
+    if not address.startswith("program:"):
+        expects = in_rows(address, 'select max(length(data) - length(replace(data, \'"user_verification": true\', \'\'))) from garvoeng_session')
+        see(f"{name}: verification required by the page's box", expects)
     run("(async () => { document.getElementById('verified').checked = false; })()")
     browser.verifies(key, False)
     options = "(await post('/sign-in/begin', {name: 'ada', verified: true}))"
@@ -247,6 +198,7 @@ def tries(browser, address, name, is_whole):
     is_program = address.startswith("program:")
     if is_program:
         ended(site)
+        time.sleep(IDLE + 1)
     other = started(address, PORT + 3)
     browser.open(f"http://localhost:{PORT + 3}")
     named("eve")
@@ -255,9 +207,12 @@ def tries(browser, address, name, is_whole):
     moved = run("window.kept")
     if is_program:
         ended(other)
+        time.sleep(IDLE + 1)
         site = started(address, PORT)
     browser.open(ORIGIN)
-    see(f"{name}: and its response refused here (W8)", run(f"post('/sign-in/finish', {json.dumps(moved)})").get("refusal") == "W8")
+    # The program ended in between, and with it the session.
+    refusal = "W1" if is_program else "W8"
+    see(f"{name}: and its response refused here ({refusal})", run(f"post('/sign-in/finish', {json.dumps(moved)})").get("refusal") == refusal)
     browser.without(second)
     third = browser.authenticator()
     named("bob")
@@ -282,8 +237,6 @@ for kind in (Chromium, Firefox):
             name = "PostgreSQL" if address.startswith("postgres") else "the program" if address.startswith("program:") else "SQLite"
             if kind is Firefox and name == "PostgreSQL":
                 continue
-            if kind is Chromium and name != "the program":
-                tries_rows(address, name)
             tries(browser, emptied(address), f"{browser.version.split('.')[0]}, {name}", kind is Chromium)
     finally:
         browser.close()

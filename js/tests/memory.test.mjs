@@ -55,12 +55,21 @@ test("nothing of a call is left", async () => {
   helpers.credentialFromCose({ id: user, user, coseKey: device.coseKey(), signCount: 0 });
   helpers.coseKeyOf(device);
   assert.ok(isAsAtFirst(made), "keys");
-  // While a signature is verified elsewhere nothing of the response lies in the memory.
-  const looking = serverOver(() => module, (size) => crypto.getRandomValues(new Uint8Array(size)), async (...asked) => {
-    assert.ok(isAsAtFirst(made), "while it is verified");
-    return isValid(...asked);
-  });
-  await visited({ ...made, server: new looking("example.com", ["https://example.com"]) });
+  // While a signature is verified elsewhere nothing of the response lies in the memory, nor where the module is called meanwhile.
+  let seen = 0;
+  const looks = (wanted) => assert.ok(isAsAtFirst(made) === wanted, `while it is verified, ${++seen}`);
+  const verifiers = [
+    async (...asked) => (await null, looks(true), isValid(...asked)),
+    (...asked) => ({ then: (resolve) => (looks(true), resolve(isValid(...asked))) }),
+    (...asked) => (looks(false), module.within(() => looks(true)), isValid(...asked)),
+    (...asked) => (looks(false), helpers.coseKeyOf(device), looks(true), isValid(...asked)),
+    (...asked) => (assert.throws(() => module.within(() => { throw new TypeError("of the host"); }), TypeError), isValid(...asked)),
+  ];
+  const served = (verify) => visited({ ...made, server: new (serverOver(() => module, (size) => crypto.getRandomValues(new Uint8Array(size)), verify))("example.com", ["https://example.com"]) });
+  for (const verify of verifiers) assert.equal((await served(verify)).credential.signCount, 1);
+  await assert.rejects(served(() => { throw new Error("no mathematics"); }), { message: "no mathematics" });
+  assert.ok(isAsAtFirst(made));
+  assert.equal(seen, 12);
 });
 
 test("a text that a visitor sent is nowhere in the memory", async () => {

@@ -1,5 +1,5 @@
-"""A passkey relying party (WebAuthn Level 2, sections 7.1 and 7.2) whose steps are proved code, in a shared object that
-is part of this package. Signatures are verified by `cryptography`.
+"""A passkey relying party (WebAuthn Level 2, sections 7.1 and 7.2) whose steps are proved code, which an extension
+module calls. Signatures are verified by `cryptography`.
 
     server = Server("example.com", ["https://example.com"])
     options, session = server.register_begin(b"handle of the account", "name")
@@ -9,12 +9,13 @@ is part of this package. Signatures are verified by `cryptography`.
 
 `StoredServer` has the same four calls over the proved program, which keeps sessions and credentials in a file.
 """
+from .errors import BadInput, Refused
 from .library import EDDSA, ES256, RS256, is_canonical
 from .limits import MAX_LIST, MAX_STORED_LIST
-from .records import BadInput, Credential, Refused, Registered, RegistrationSession, SignedIn, SignInSession
+from .records import Credential, Registered, RegistrationSession, SignedIn, SignInSession
 from .server import Server
-from .stored import SessionsFull, StoredServer, StoredSignIn, StoreFailed
+from .stored import StoredServer, StoredSignIn, StoreFailed
 
 __all__ = ["EDDSA", "ES256", "MAX_LIST", "MAX_STORED_LIST", "RS256", "BadInput", "Credential", "Refused",
-           "Registered", "RegistrationSession", "Server", "SessionsFull", "SignInSession", "SignedIn", "StoreFailed", "StoredServer",
+           "Registered", "RegistrationSession", "Server", "SignInSession", "SignedIn", "StoreFailed", "StoredServer",
            "StoredSignIn", "is_canonical"]

@@ -5,8 +5,8 @@ from __future__ import annotations
 import re
 from typing import Iterable, Sequence, Tuple
 
+from .errors import BadInput
 from .library import EDDSA, ES256, MAX_ID, RS256
-from .records import BadInput
 
 MAX_LIST = 64
 """The most credential ids of a list of `Server`. Browsers take no longer one."""
@@ -14,6 +14,9 @@ MAX_STORED_LIST = 8
 """The most credential ids of a list of `StoredServer`."""
 MAX_USER = 64
 """The most bytes of a user handle (WebAuthn Level 2, section 5.4.3)."""
+
+MAX_COUNT = 2**32 - 1
+"""The greatest signature counter (WebAuthn Level 2, section 6.1)."""
 
 _DOMAIN = re.compile(r"[a-z0-9_](?:[a-z0-9_-]*[a-z0-9_])?(?:\.[a-z0-9_](?:[a-z0-9_-]*[a-z0-9_])?)*")
 _ORIGIN = re.compile(r"([a-z][a-z0-9+.-]*)://([a-z0-9._-]+|\[[0-9a-f:]+\])(?::([1-9][0-9]{0,4}))?")
@@ -80,5 +83,5 @@ def check_algorithms(algorithms: Sequence[int]) -> Tuple[int, ...]:
 def check_credential(algorithm: int, sign_count: int) -> None:
     """What a stored credential says, before it is handed on in fewer bits."""
     check_algorithms((algorithm,))
-    if not 0 <= sign_count < 2**32:
+    if not 0 <= sign_count <= MAX_COUNT:
         raise BadInput("a signature counter is from 0 to 2^32 - 1")

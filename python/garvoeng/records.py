@@ -1,22 +1,28 @@
-"""What a site keeps between calls, in values that a database can hold, and why a response is refused."""
+"""What a site keeps between calls, in values that a database can hold."""
 from __future__ import annotations
 
+import json
 from dataclasses import dataclass
-from typing import Any, Optional, Tuple
+from typing import Any, Dict, Iterable, Mapping, Optional, Tuple, Union
 
-from . import library
+from . import forms, library
+from .errors import BadInput
 from .library import EDDSA, ES256, RS256
 
-SIGN_IN_STEPS = (
-    "SessionNotOpen", "CredentialNotAllowed", "UnknownCredential", "OtherUser", "UnreadableClientData", "WrongType",
-    "WrongChallenge", "WrongOrigin", "TokenBinding", "BadAuthenticatorData", "WrongRelyingParty", "UserNotPresent",
-    "UserNotVerified", "BadSignature", "CounterNotGreater", "EligibilityChanged",
-)
-REGISTRATION_STEPS = (
-    "SessionNotOpen", "UnreadableClientData", "WrongType", "WrongChallenge", "WrongOrigin", "TokenBinding",
-    "BadAttestationObject", "WrongRelyingParty", "UserNotPresent", "UserNotVerified", "AlgorithmNotOffered",
-    "UnknownFormat", "BadStatement", "AttestationNotAccepted", "CredentialRegistered", "TableFull",
-)
+def _members(value: Union[str, Mapping[str, Any]], wanted: str) -> Mapping[str, Any]:
+    """The members of a session in JSON. That which only one kind has is wanted as a list."""
+    if isinstance(value, str):
+        try:
+            value = json.loads(value)
+        except (ValueError, RecursionError):
+            raise BadInput("the session is not JSON") from None
+    if not isinstance(value, Mapping):
+        raise BadInput("the session is not an object")
+    if not isinstance(value.get(wanted), list):
+        raise BadInput(f"{wanted} is not an array")
+    if not isinstance(value.get("user_verification"), bool):
+        raise BadInput("user_verification is not true or false")
+    return value
 
 
 @dataclass(frozen=True)
@@ -32,6 +38,20 @@ class RegistrationSession:
     algorithms: Tuple[int, ...] = (ES256, EDDSA, RS256)
     """The COSE numbers that were offered."""
 
+    def to_json(self) -> Dict[str, Any]:
+        """The session as values of JSON; bytes in base64url."""
+        return {"challenge": forms.to_text(self.challenge), "user": forms.to_text(self.user),
+                "user_verification": bool(self.user_verification), "algorithms": list(self.algorithms)}
+
+    @classmethod
+    def from_json(cls, value: Union[str, Mapping[str, Any]]) -> "RegistrationSession":
+        """The session of what `to_json` gave, or of its text. Raises `BadInput`, also of a sign-in's."""
+        said = _members(value, "algorithms")
+        if any(type(number) is not int or number not in (ES256, EDDSA, RS256) for number in said["algorithms"]):
+            raise BadInput("algorithms are ES256 (-7), EDDSA (-8) and RS256 (-257)")
+        return cls(forms.from_text(said.get("challenge"), "challenge"), forms.from_text(said.get("user"), "user"),
+                   said["user_verification"], tuple(said["algorithms"]))
+
 
 @dataclass(frozen=True)
 class SignInSession:
@@ -45,6 +65,19 @@ class SignInSession:
     """The ids of the credentials that may answer; none for any."""
     user_verification: bool = False
     """Whether user verification is required."""
+
+    def to_json(self) -> Dict[str, Any]:
+        """The session as values of JSON; bytes in base64url."""
+        return {"challenge": forms.to_text(self.challenge), "user": None if self.user is None else forms.to_text(self.user),
+                "allow": [forms.to_text(one) for one in self.allow], "user_verification": bool(self.user_verification)}
+
+    @classmethod
+    def from_json(cls, value: Union[str, Mapping[str, Any]]) -> "SignInSession":
+        """The session of what `to_json` gave, or of its text. Raises `BadInput`, also of a registration's."""
+        said = _members(value, "allow")
+        user = said.get("user")
+        return cls(forms.from_text(said.get("challenge"), "challenge"), None if user is None else forms.from_text(user, "user"),
+                   tuple(forms.from_text(one, "allow") for one in said["allow"]), said["user_verification"])
 
 
 @dataclass(frozen=True)
@@ -66,16 +99,18 @@ class Credential:
     """Whether it is eligible for backup, where that is known."""
     retired: bool = False
     """Whether it signs in no more."""
+    transports: Tuple[str, ...] = ()
+    """How the page said that the authenticator is reached, as `usb` or `internal` (WebAuthn Level 2, section 5.8.4), for later lists."""
 
     @classmethod
     def from_cose(cls, id: bytes, user: bytes, cose_key: bytes, sign_count: int, eligible: Optional[bool] = None,
-                  retired: bool = False) -> "Credential":
+                  retired: bool = False, transports: Iterable[str] = ()) -> "Credential":
         """A credential whose key is given as COSE_Key bytes (RFC 9052, section 7), as other libraries store it. Raises
         `BadInput` where they are not those of a key of ES256, EdDSA or RS256 in canonical CBOR."""
         key = library.key_from_cose(bytes(cose_key))
         if key is None:
             raise BadInput("the key is not a COSE_Key of ES256, EdDSA or RS256 in canonical CBOR")
-        return cls(bytes(id), bytes(user), *key, sign_count, eligible, retired)
+        return cls(bytes(id), bytes(user), *key, sign_count, eligible, retired, tuple(transports))
 
     @property
     def cose_key(self) -> bytes:
@@ -124,35 +159,3 @@ class SignedIn:
     """The flags of the authenticator data, by their bits (WebAuthn Level 2, section 6.1)."""
     extensions: bytes
     """The authenticator's extension outputs, one map of CBOR; none where there is none."""
-
-
-class Refused(Exception):
-    """A response is refused at a step of section 7.1 (registration) or 7.2 (sign-in) of WebAuthn, the first that it
-    does not pass."""
-
-    def __init__(self, is_registration: bool, number: int, text: str) -> None:
-        self.is_registration = is_registration
-        self.number = number
-        """1 to 16."""
-        self.step = (REGISTRATION_STEPS if is_registration else SIGN_IN_STEPS)[number - 1]
-        """The name of the step."""
-        self.name = f"{'G' if is_registration else 'W'}{number}"
-        """As the program prints it: G and the number for a registration, W for a sign-in."""
-        self.text = text
-        super().__init__(f"{self.name} {self.step}: {text}")
-
-    def __reduce__(self) -> Tuple[Any, ...]:
-        return type(self), (self.is_registration, self.number, self.text)
-
-
-class BadInput(ValueError):
-    """A value is out of its limits: of the site's own, or no response in the form of JSON."""
-
-    def __init__(self, text: str, number: int = 0) -> None:
-        self.number = number
-        """The number of the answer, 100 and up; 0 where the library was not asked."""
-        self.text = text
-        super().__init__(text)
-
-    def __reduce__(self) -> Tuple[Any, ...]:
-        return type(self), (self.text, self.number)

@@ -1,27 +1,36 @@
 """A relying party over the proved steps. It keeps nothing: sessions and credentials are the site's."""
 from __future__ import annotations
 
-import ctypes
 import secrets
-from typing import Any, Callable, Dict, Iterable, Mapping, Optional, Sequence, Tuple
+from typing import Any, Awaitable, Callable, Dict, Mapping, Optional, Sequence, Tuple
 
-from . import forms, library, limits, signatures
-from .library import EDDSA, ES256, RS256, Lender, passkey
-from .records import BadInput, Credential, Refused, Registered, RegistrationSession, SignedIn, SignInSession
+from . import _passkey, forms, library, limits, options
+from .errors import BadInput, Refused
+from .library import EDDSA, ES256, RS256
+from .options import Ids, Requirement
+from .records import Credential, Registered, RegistrationSession, SignedIn, SignInSession
 
 Verify = Callable[[int, bytes, bytes, bytes, bytes], bool]
+_ALGORITHMS = (ES256, EDDSA, RS256)
+_NO_REGISTRATION = RegistrationSession(b"", b"")
+_NO_SESSION = SignInSession(b"")
+_NO_CREDENTIAL = Credential(b"", b"", ES256, b"", b"", 0, None)
 
 
-def _answer(is_registration: bool, number: int) -> None:
-    """Raises what the answer says; nothing where it is accepted."""
-    if number == library.ACCEPTED:
-        return
-    text = library.refusal_text(is_registration, number)
-    if number <= library.LAST_STEP:
-        raise Refused(is_registration, number, text)
-    if number == library.NO_MEMORY:
-        raise MemoryError(text)
-    raise BadInput(text, number)
+def _raised(is_registration: bool, answer: int) -> Exception:
+    """What an answer says that is not of an acceptance."""
+    text = library.refusal_text(is_registration, answer)
+    if library.ACCEPTED < answer <= library.LAST_STEP:
+        return Refused(is_registration, answer, text)
+    if answer == library.NO_MEMORY:
+        return MemoryError(text)
+    return BadInput(text, answer)
+
+
+def verify_by_cryptography() -> Verify:
+    """That of `garvoeng.signatures`. Who hands in another one needs no `cryptography`."""
+    from .signatures import is_valid
+    return is_valid
 
 
 class Server:
@@ -31,44 +40,45 @@ class Server:
     """
 
     def __init__(self, rp_id: str, origins: Sequence[str], rp_name: Optional[str] = None, *, accept_none: bool = True,
-                 accept_self: bool = True, open_profile: bool = True, verify: Verify = signatures.is_valid) -> None:
-        self.origins = limits.check_party(rp_id, origins)
-        self.rp_id = rp_id
+                 accept_self: bool = True, open_profile: bool = True, verify: Optional[Verify] = None) -> None:
+        self._origins = limits.check_party(rp_id, origins)
+        self._rp_id = rp_id
+        self._rp_id_bytes = rp_id.encode()
+        self._origins_bytes = tuple(origin.encode() for origin in self._origins)
+        self._open_profile = bool(open_profile)
         self.rp_name = rp_name if rp_name is not None else rp_id
         self.accept_none = accept_none
         self.accept_self = accept_self
-        self.open_profile = open_profile
-        self.verify = verify
+        self.verify = verify if verify is not None else verify_by_cryptography()
 
-    def _party(self, lender: Lender) -> library.Party:
-        origins = lender.list([origin.encode() for origin in self.origins])
-        return library.Party(lender.bytes(self.rp_id.encode()), origins, len(origins), self.open_profile)
+    @property
+    def rp_id(self) -> str:
+        return self._rp_id
+
+    @property
+    def origins(self) -> Tuple[str, ...]:
+        return self._origins
 
     # ---- registration
 
-    def register_begin(self, user: bytes, user_name: str, display_name: Optional[str] = None, *,
-                       exclude: Iterable[bytes] = (), user_verification: bool = False, resident: bool = True,
-                       algorithms: Sequence[int] = (ES256, EDDSA, RS256)) -> Tuple[Dict[str, Any], RegistrationSession]:
-        """PublicKeyCredentialCreationOptionsJSON for the page, and the session that the site keeps.
+    def register_begin(self, user: bytes, user_name: str, display_name: Optional[str] = None, *, exclude: Ids = (),
+                       user_verification: Requirement = False, resident: Requirement = True,
+                       algorithms: Sequence[int] = (ES256, EDDSA, RS256), attachment: Optional[str] = None,
+                       timeout: Optional[int] = None, hints: Sequence[str] = (),
+                       extensions: Optional[Mapping[str, Any]] = None) -> Tuple[Dict[str, Any], RegistrationSession]:
+        """PublicKeyCredentialCreationOptionsJSON for the page, and the session that the site keeps (WebAuthn Level 2, section 5.4).
 
-        `user` is the user handle, 1 to 64 bytes that name nobody; `exclude` are the ids of the account's credentials.
+        `user` is the user handle, 1 to 64 bytes that name nobody; `exclude` are the account's credentials or their ids, 64 at most.
+        `user_verification` is true (`required`), false (`preferred`) or `discouraged`; `resident` is true (`required`), false
+        (`discouraged`) or `preferred`. `attachment` is `platform` or `cross-platform`, `timeout` milliseconds, `hints` a list of
+        `security-key`, `client-device` and `hybrid`; `extensions` are handed on to the page. Raises `BadInput`.
         """
-        session = RegistrationSession(secrets.token_bytes(32), limits.check_user(user), user_verification,
+        listed, verification = list(exclude), options.user_verification_of(user_verification)
+        options.ids_of(listed)
+        session = RegistrationSession(secrets.token_bytes(32), limits.check_user(user), verification == "required",
                                       limits.check_algorithms(algorithms))
-        options = {
-            "rp": {"id": self.rp_id, "name": self.rp_name},
-            "user": {"id": forms.to_text(session.user), "name": user_name, "displayName": display_name or user_name},
-            "challenge": forms.to_text(session.challenge),
-            "pubKeyCredParams": [{"type": "public-key", "alg": number} for number in session.algorithms],
-            "excludeCredentials": [forms.descriptor(credential_id) for credential_id in limits.check_ids(exclude)],
-            "authenticatorSelection": {
-                "residentKey": "required" if resident else "discouraged",
-                "requireResidentKey": resident,
-                "userVerification": "required" if user_verification else "preferred",
-            },
-            "attestation": "none",
-        }
-        return options, session
+        return options.creation_options({"id": self.rp_id, "name": self.rp_name}, session, user_name, display_name, listed,
+                                        verification, resident, attachment, timeout, hints, extensions), session
 
     def register_complete(self, session: Optional[RegistrationSession], response: Mapping[str, Any], *,
                           is_registered: Callable[[bytes], bool], is_full: bool = False) -> Registered:
@@ -78,84 +88,51 @@ class Server:
         retired or not. Raises `Refused` with the first step that is not passed, `BadInput` where the response is not
         in the form of JSON.
         """
-        parts = forms.bytes_in(response, forms.REGISTRATION_MEMBERS)
-        raw_id = parts["rawId"]
-        return self.register_complete_parts(
-            session, parts["attestationObject"], parts["clientDataJSON"],
-            free_id=None if is_registered(raw_id) else raw_id, is_full=is_full)
+        raw_id, client_data, attestation_object = forms.registration_parts(response)
+        return self.register_complete_parts(session, attestation_object, client_data, is_full=is_full,
+                                            free_id=None if is_registered(raw_id) else raw_id,
+                                            transports=forms.transports_in(response["response"].get("transports")))
 
-    def register_complete_parts(self, session: Optional[RegistrationSession], attestation_object: bytes,
-                                client_data: bytes, *, free_id: Optional[bytes], is_full: bool = False) -> Registered:
+    async def register_complete_async(self, session: Optional[RegistrationSession], response: Mapping[str, Any], *,
+                                      is_registered: Callable[[bytes], Awaitable[bool]], is_full: bool = False) -> Registered:
+        """The same, where the look-up is awaited."""
+        raw_id, client_data, attestation_object = forms.registration_parts(response)
+        is_taken = await is_registered(raw_id)
+        return self.register_complete_parts(session, attestation_object, client_data, is_full=is_full,
+                                            free_id=None if is_taken else raw_id,
+                                            transports=forms.transports_in(response["response"].get("transports")))
+
+    def register_complete_parts(self, session: Optional[RegistrationSession], attestation_object: bytes, client_data: bytes, *,
+                                free_id: Optional[bytes], is_full: bool = False, transports: Sequence[str] = ()) -> Registered:
         """The same of the response's parts. `free_id` is an id that no credential has; each other counts as
         registered."""
-        lender = Lender()
-        call = library.RegistrationCall()
-        call.party = self._party(lender)
-        call.accept_none = self.accept_none
-        call.accept_self = self.accept_self
-        if session is not None:
-            call.has_session = True
-            call.session = library.RegisterParts(
-                lender.bytes(session.challenge), lender.bytes(session.user), session.user_verification,
-                ES256 in session.algorithms, EDDSA in session.algorithms, RS256 in session.algorithms)
-        call.response = library.RegistrationResponse(lender.bytes(attestation_object), lender.bytes(client_data))
-        if free_id is not None:
-            call.has_free_id = True
-            call.free_id = lender.bytes(free_id)
-        call.is_full = is_full
-        out = library.RegistrationOut()
-        answer = passkey.passkey_registration(ctypes.byref(call), ctypes.byref(out))
-        if answer == library.BAD_STATEMENT and self._verify_asked(
-                lender, call, library.SignatureCall(True, self.open_profile, registration=call.response),
-                len(attestation_object)):
-            answer = passkey.passkey_registration(ctypes.byref(call), ctypes.byref(out))
-        _answer(True, answer)
+        begun = _NO_REGISTRATION if session is None else session
+        said = _passkey.registration(
+            self.verify, self._origins_bytes,
+            (self._open_profile, self.accept_none, self.accept_self, session is not None, begun.user_verification,
+             ES256 in begun.algorithms, EDDSA in begun.algorithms, RS256 in begun.algorithms, is_full),
+            (self._rp_id_bytes, begun.challenge, begun.user), (free_id, attestation_object, client_data))
+        if isinstance(said, int):
+            raise _raised(True, said)
         assert session is not None
-        algorithm, x, y = out.key.parts()
-        credential = Credential(bytes(out.id[:out.id_size]), session.user, algorithm, x, y, out.sign_count, out.eligible)
-        return Registered(credential, bytes(out.aaguid), library.FORMATS[out.format], out.user_verified, out.backed_up,
-                          out.flags, library.last(attestation_object, out.extensions_size))
-
-    def _verify_asked(self, lender: Lender, call: Any, asked: library.SignatureCall, size: int) -> bool:
-        """Verifies the signature that a response asks for, and where it is valid hands in what was verified. `size` is
-        that of the response's part with message and signature. False where there is none or it is not valid."""
-        message = ctypes.create_string_buffer(size + 32)
-        signature = ctypes.create_string_buffer(size)
-        out = library.SignatureOut()
-        _answer(asked.is_registration, passkey.passkey_signature_asked(
-            ctypes.byref(asked), message, size + 32, signature, size, ctypes.byref(out)))
-        algorithm, x, y = out.key.parts()
-        return bool(out.is_asked) and self._hand_in(lender, call, (
-            algorithm, x, y, message.raw[:out.message_size], signature.raw[:out.signature_size]))
-
-    def _hand_in(self, lender: Lender, call: Any, asked: Tuple[int, bytes, bytes, bytes, bytes]) -> bool:
-        """Verifies a signature, and where it is valid hands in what was verified."""
-        if not self.verify(*asked):
-            return False
-        algorithm, x, y, message, signature = asked
-        call.has_verified = True
-        call.verified = library.Verified(library.Key(algorithm, lender.bytes(x), lender.bytes(y)),
-                                         lender.bytes(message), lender.bytes(signature))
-        return True
+        identity, algorithm, x, y, sign_count, eligible, aaguid, form, user_verified, backed_up, flags, extensions = said
+        credential = Credential(identity, session.user, algorithm, x, y, sign_count, eligible, transports=tuple(transports))
+        return Registered(credential, aaguid, library.FORMATS[form], user_verified, backed_up, flags, extensions)
 
     # ---- sign-in
 
-    def authenticate_begin(self, *, user: Optional[bytes] = None, allow: Iterable[bytes] = (),
-                           user_verification: bool = False) -> Tuple[Dict[str, Any], SignInSession]:
-        """PublicKeyCredentialRequestOptionsJSON for the page, and the session that the site keeps.
+    def authenticate_begin(self, *, user: Optional[bytes] = None, allow: Ids = (), user_verification: Requirement = False,
+                           timeout: Optional[int] = None, hints: Sequence[str] = (),
+                           extensions: Optional[Mapping[str, Any]] = None) -> Tuple[Dict[str, Any], SignInSession]:
+        """PublicKeyCredentialRequestOptionsJSON for the page, and the session that the site keeps (WebAuthn Level 2, section 5.5).
 
-        `user` is the user handle of the account, where it is known; `allow` the ids of the credentials that may
-        answer, none for any.
+        `user` is the user handle of the account, where it is known; `allow` the credentials that may answer, or their ids, 64 at
+        most, none for any. The others are as in `register_begin`.
         """
+        listed, verification = list(allow), options.user_verification_of(user_verification)
         session = SignInSession(secrets.token_bytes(32), None if user is None else limits.check_user(user),
-                                limits.check_ids(allow), user_verification)
-        options = {
-            "challenge": forms.to_text(session.challenge),
-            "rpId": self.rp_id,
-            "allowCredentials": [forms.descriptor(credential_id) for credential_id in session.allow],
-            "userVerification": "required" if user_verification else "preferred",
-        }
-        return options, session
+                                options.ids_of(listed), verification == "required")
+        return options.request_options(self.rp_id, session, listed, verification, timeout, hints, extensions), session
 
     def authenticate_complete(self, session: Optional[SignInSession], response: Mapping[str, Any], *,
                               credential: Callable[[bytes], Optional[Credential]]) -> SignedIn:
@@ -164,44 +141,30 @@ class Server:
         `session` is None where none is open. `credential(id)` answers the site's credential of the id, or None. Raises
         `Refused` with the first step that is not passed, `BadInput` where the response is not in the form of JSON.
         """
-        parts = forms.bytes_in(response, forms.SIGN_IN_MEMBERS, ("userHandle",))
-        raw_id = parts["rawId"]
-        return self.authenticate_complete_parts(
-            session, credential(raw_id), raw_id, parts.get("userHandle"), parts["authenticatorData"],
-            parts["signature"], parts["clientDataJSON"])
+        raw_id, client_data, auth_data, signature, user = forms.sign_in_parts(response)
+        return self.authenticate_complete_parts(session, credential(raw_id), raw_id, user, auth_data, signature, client_data)
+
+    async def authenticate_complete_async(self, session: Optional[SignInSession], response: Mapping[str, Any], *,
+                                          credential: Callable[[bytes], Awaitable[Optional[Credential]]]) -> SignedIn:
+        """The same, where the look-up is awaited."""
+        raw_id, client_data, auth_data, signature, user = forms.sign_in_parts(response)
+        found = await credential(raw_id)
+        return self.authenticate_complete_parts(session, found, raw_id, user, auth_data, signature, client_data)
 
     def authenticate_complete_parts(self, session: Optional[SignInSession], credential: Optional[Credential],
                                     raw_id: bytes, user: Optional[bytes], auth_data: bytes, signature: bytes,
                                     client_data: bytes) -> SignedIn:
         """The same of the response's parts and the credential that was found."""
-        lender = Lender()
-        call = library.AssertionCall()
-        call.party = self._party(lender)
-        if session is not None:
-            allow = lender.list(session.allow)
-            call.has_session = True
-            call.session = library.SignInParts(lender.bytes(session.challenge), session.user_verification,
-                                               session.user is not None, lender.bytes(session.user or b""), allow,
-                                               len(allow))
-        if credential is not None:
-            limits.check_credential(credential.algorithm, credential.sign_count)
-            key = library.Key(credential.algorithm, lender.bytes(credential.x), lender.bytes(credential.y))
-            call.has_credential = True
-            call.credential = library.CredentialParts(
-                lender.bytes(credential.id), lender.bytes(credential.user), key, credential.sign_count,
-                credential.eligible is not None, bool(credential.eligible), credential.retired)
-        call.response = library.AssertionResponse(
-            lender.bytes(raw_id), user is not None, lender.bytes(user or b""), lender.bytes(auth_data),
-            lender.bytes(signature), lender.bytes(client_data))
-        out = library.AssertionOut()
-        answer = passkey.passkey_assertion(ctypes.byref(call), ctypes.byref(out))
-        if answer == library.BAD_SIGNATURE and self._verify_asked(
-                lender, call, library.SignatureCall(False, assertion=call.response, key=call.credential.key),
-                max(len(auth_data), len(signature))):
-            answer = passkey.passkey_assertion(ctypes.byref(call), ctypes.byref(out))
-        _answer(False, answer)
-        assert credential is not None
-        now = Credential(credential.id, credential.user, credential.algorithm, credential.x, credential.y, out.sign_count,
-                         out.eligible, credential.retired)
-        return SignedIn(now, credential, out.backed_up, out.user_verified, out.flags,
-                        library.last(auth_data, out.extensions_size))
+        begun = _NO_SESSION if session is None else session
+        stored = _NO_CREDENTIAL if credential is None else credential
+        if stored.algorithm not in _ALGORITHMS or not 0 <= stored.sign_count <= limits.MAX_COUNT:
+            limits.check_credential(stored.algorithm, stored.sign_count)
+        said = _passkey.assertion(
+            Credential, SignedIn, self.verify, credential, stored.transports, stored.eligible, self._origins_bytes, begun.allow,
+            (self._open_profile, session is not None, begun.user_verification, credential is not None, stored.algorithm,
+             stored.sign_count, stored.retired),
+            (self._rp_id_bytes, begun.challenge, begun.user, stored.id, stored.user, stored.x, stored.y, raw_id, user, auth_data,
+             client_data, signature))
+        if isinstance(said, SignedIn):
+            return said
+        raise _raised(False, said)

@@ -10,17 +10,16 @@ import threading
 from collections import deque
 from dataclasses import dataclass
 from subprocess import PIPE
-from typing import Any, Callable, Deque, Dict, Iterable, List, Mapping, Optional, Sequence, Tuple, Union
+from typing import Any, Deque, Dict, Iterable, List, Mapping, Optional, Sequence, Tuple, Union
 
-from . import forms, limits, signatures
+from . import forms, limits
+from .broker import MAX_LINE, Connection
+from .errors import BadInput, Refused
 from .library import EDDSA, ES256, RS256
-from .records import BadInput, Credential, Refused, Registered
+from .records import Credential, Registered
+from .server import Verify, verify_by_cryptography
 
-Verify = Callable[[int, bytes, bytes, bytes, bytes], bool]
 
-MAX_LINE = 65_536
-"""The most bytes of a line that the program takes."""
-_FULL = "too many sessions are open"
 _log = logging.getLogger("garvoeng")
 
 
@@ -28,11 +27,6 @@ class StoreFailed(Exception):
     """The program could not be started, ended before it answered, or its disk or memory failed: what was asked is done or
     is not. The text has the cause that the program told. The next call starts the program again, and it goes on with the
     site that the file holds."""
-
-
-class SessionsFull(Exception):
-    """As many sessions are open as `max_open` allows, so no further one begins. Nothing is wrong with the request: answer
-    503, and end old sessions by `expire`."""
 
 
 @dataclass(frozen=True)
@@ -69,6 +63,13 @@ def _listed(ids: Iterable[bytes]) -> List[str]:
     return [forms.to_text(one) for one in limits.check_ids(ids, limits.MAX_STORED_LIST)]
 
 
+def _handed_on(raw_id: bytes, **parts: Optional[bytes]) -> Dict[str, Any]:
+    """A response of these members alone."""
+    identity = forms.to_text(raw_id)
+    return {"id": identity, "rawId": identity, "type": "public-key",
+            "response": {name: forms.to_text(value) for name, value in parts.items() if value is not None}}
+
+
 def _answer(line: bytes, number: int) -> Dict[str, Any]:
     """The answer to the line of this number. One to a line that the program could not read has no number."""
     answer = json.loads(line)
@@ -80,9 +81,10 @@ def _answer(line: bytes, number: int) -> Dict[str, Any]:
 class _Process:
     """A run of the program. Each line has a number, and answers come in the order of the lines."""
 
-    def __init__(self, words: Sequence[str]) -> None:
+    def __init__(self, words: Sequence[str], shared: bool) -> None:
+        self.process: Union["subprocess.Popen[bytes]", Connection]
         try:
-            self.process = subprocess.Popen(words, stdin=PIPE, stdout=PIPE, stderr=PIPE)
+            self.process = Connection(words) if shared else subprocess.Popen(words, stdin=PIPE, stdout=PIPE, stderr=PIPE)
         except OSError as error:
             raise StoreFailed(f"the program can't be started: {error}") from None
         self.writing = threading.Lock()
@@ -195,17 +197,18 @@ class StoredServer:
 
     `program` is the path of the program, `file` that of the SQLite file, which is made where there is none unless
     `existing`. Calls come from any thread. Where the program has ended, the next call starts it again; one that does not
-    answer in `timeout` seconds is ended. `max_open` is the most sessions that are open at a time; one ends by itself `expire`
-    seconds after it began, if that is given. With `log` each refusal is
-    told, and with `log="all"` each acceptance and each error too; all that the program tells goes to the logger `garvoeng`
-    of `logging`. `verify(algorithm, x, y, message, signature)`
+    answer in `timeout` seconds is ended. Open sessions are in the program's memory: one ends by itself `expire` seconds after
+    it began, where `max_open` are open the oldest ends, and with the program all end. `max_credentials` is the most
+    credentials; both are from 1 to 1,000,000. With `log` each refusal is told, and with `log="all"` each acceptance and each error too; all that the program tells goes to the logger `garvoeng`
+    of `logging`. With `shared` all processes of this user that name the same file and the same parameters share one program, by a Unix
+    socket that nobody else can open; it ends with the last of them. `verify(algorithm, x, y, message, signature)`
     tells whether a signature is valid; by default `cryptography` does.
     """
 
     def __init__(self, program: str, file: str, rp_id: str, origins: Sequence[str], rp_name: Optional[str] = None, *,
-                 accept_none: bool = True, accept_self: bool = True, open_profile: bool = True, max_open: int = 1024,
-                 existing: bool = False, log: Union[bool, str] = False, expire: Optional[int] = None, timeout: float = 30.0,
-                 verify: Verify = signatures.is_valid) -> None:
+                 accept_none: bool = True, accept_self: bool = True, open_profile: bool = True, max_open: int = 100_000,
+                 max_credentials: int = 1_000_000, existing: bool = False, log: Union[bool, str] = False, expire: int = 300, timeout: float = 30.0,
+                 shared: bool = False, verify: Optional[Verify] = None) -> None:
         origins = limits.check_party(rp_id, origins)
         if not (accept_none or accept_self):
             raise BadInput("no attestation is accepted")
@@ -214,12 +217,14 @@ class StoredServer:
         attestation = "any" if accept_none and accept_self else "none" if accept_none else "self"
         self._words = [program, f"--rp-id={rp_id}", f"--rp-name={rp_id if rp_name is None else rp_name}",
                        "--profile", "open" if open_profile else "strict", "--attestation", attestation,
-                       f"--max-open={max_open}", *(f"--origin={origin}" for origin in origins),
+                       f"--max-open={max_open}", f"--max-credentials={max_credentials}", f"--expire={expire}",
+                       *(f"--origin={origin}" for origin in origins),
                        *(["--existing"] if existing else []),
                        *([f"--log={'refusals' if log is True else log}"] if log else []),
-                       *([f"--expire={expire}"] if expire is not None else []), "--", file]
-        self.verify = verify
+                       "--", file]
+        self.verify = verify if verify is not None else verify_by_cryptography()
         self.timeout = timeout
+        self.shared = shared
         self._starting = threading.Lock()
         self._process: Optional[_Process] = None
 
@@ -231,14 +236,14 @@ class StoredServer:
                 self._process.end(self.timeout)
                 self._process = None
             if self._process is None:
-                self._process = _Process(self._words)
+                self._process = _Process(self._words, self.shared)
             return self._process
 
     def _ask(self, act: str, **members: Any) -> Dict[str, Any]:
         process = self._running()
         answer = process.ask(act, {name: value for name, value in members.items() if value is not None}, self.timeout)
         if "error" in answer:
-            raise SessionsFull(_FULL) if answer["error"] == _FULL else BadInput(answer["error"])
+            raise BadInput(answer["error"])
         if "failed" in answer:
             process.end(self.timeout)
             raise StoreFailed(answer["failed"])
@@ -295,7 +300,9 @@ class StoredServer:
     def register_complete(self, session: Optional[int], response: Mapping[str, Any]) -> Registered:
         """What a RegistrationResponseJSON registers: the credential, which is in the file, and what is known of it. Raises
         `Refused` with the first step that is not passed, `BadInput` where the response is not in the form of JSON."""
-        made = self._finish("finish_registration", session, forms.handed_on(response, forms.REGISTRATION_MEMBERS))
+        raw_id, client_data, attestation_object = forms.registration_parts(response)
+        made = self._finish("finish_registration", session, _handed_on(
+            raw_id, attestationObject=attestation_object, clientDataJSON=client_data))
         return Registered(_credential(made), forms.from_text(made["aaguid"], "aaguid"), made["format"],
                           made["user_verified"], made["backed_up"], made["flags"], _extensions(made))
 
@@ -315,8 +322,9 @@ class StoredServer:
     def authenticate_complete(self, session: Optional[int], response: Mapping[str, Any]) -> StoredSignIn:
         """Who signed in, of an AuthenticationResponseJSON; the counter is in the file, and the session closed. Raises as
         `register_complete`."""
-        made = forms.handed_on(response, forms.SIGN_IN_MEMBERS, ("userHandle",))
-        who = self._finish("finish_sign_in", session, made)
+        raw_id, client_data, data, signature, user = forms.sign_in_parts(response)
+        who = self._finish("finish_sign_in", session, _handed_on(
+            raw_id, userHandle=user, authenticatorData=data, signature=signature, clientDataJSON=client_data))
         return StoredSignIn(forms.from_text(who["credential"], "credential"), forms.from_text(who["user"], "user"),
                             who["backed_up"], who["user_verified"], who["sign_count"], who["flags"], _extensions(who))
 
@@ -325,6 +333,10 @@ class StoredServer:
     def retire(self, credential: bytes) -> bool:
         """A credential signs in no more; whether it did until now."""
         return bool(self._ask("retire", credential=forms.to_text(credential))["retired"])
+
+    def delete(self, credential: bytes) -> bool:
+        """A credential is forgotten, with all that is known of it, and its id may be registered again; whether it was there."""
+        return bool(self._ask("delete", credential=forms.to_text(credential))["deleted"])
 
     def abandon(self, session: int) -> bool:
         """A session ends; whether it was open."""
@@ -338,3 +350,17 @@ class StoredServer:
         """The credentials of a user, or all, in order of registration."""
         answer = self._ask("rows", user=None if user is None else forms.to_text(user))
         return [_credential(row) for row in answer["rows"]]
+
+    # ---- the program's own
+
+    def status(self) -> Dict[str, Any]:
+        """How the site is, for a health check and for metrics: `version`, `credentials`, `sessions` that are open, `next_session`,
+        and since the program's start `commits`, `last_commit_microseconds`, `sign_ins` and `registrations` that were accepted, and
+        by step `sign_ins_refused` and `registrations_refused`."""
+        status: Dict[str, Any] = self._ask("status")["status"]
+        return status
+
+    def backup(self, path: str) -> None:
+        """Copies the file to a path of the program's machine at which nothing stands: the copy is a whole file of one moment, on
+        the disk, when this returns. Calls wait meanwhile. `BadInput` where it can't be made; then there is none."""
+        self._ask("backup", path=path)

@@ -1,52 +1,11 @@
-"""c/passkey.h beside this package: each struct has the same members at the same places, and each step the same number and
-name. Debian's gcc is wanted."""
-import ctypes
+"""c/passkey.h beside this package: each step has the same number and name."""
 import os
 import re
-import shutil
-import subprocess
 from pathlib import Path
 
-import pytest
-
-from garvoeng import library, records
+from garvoeng import errors, library
 
 HEADER = Path(os.environ.get("HEADER", Path(__file__).parents[2] / "c" / "passkey.h"))
-STRUCTS = {
-    "passkey_bytes": library.Bytes,
-    "passkey_key": library.Key,
-    "passkey_key_out": library.KeyOut,
-    "passkey_party": library.Party,
-    "passkey_verified": library.Verified,
-    "passkey_sign_in_session": library.SignInParts,
-    "passkey_credential": library.CredentialParts,
-    "passkey_assertion_response": library.AssertionResponse,
-    "passkey_assertion_call": library.AssertionCall,
-    "passkey_assertion_out": library.AssertionOut,
-    "passkey_registration_session": library.RegisterParts,
-    "passkey_registration_response": library.RegistrationResponse,
-    "passkey_registration_call": library.RegistrationCall,
-    "passkey_registration_out": library.RegistrationOut,
-    "passkey_signature_call": library.SignatureCall,
-    "passkey_signature_out": library.SignatureOut,
-}
-
-
-@pytest.mark.skipif(shutil.which("gcc") is None, reason="there is no gcc")
-def test_structs(tmp_path):
-    assert set(STRUCTS) == set(re.findall(r"typedef struct (\w+)", HEADER.read_text()))
-    wanted, lines = [], []
-    for name, struct in STRUCTS.items():
-        wanted.append(ctypes.sizeof(struct))
-        lines.append(f"sizeof({name})")
-        for member, _ in struct._fields_:
-            wanted += [getattr(struct, member).offset, getattr(struct, member).size]
-            lines += [f"offsetof({name}, {member})", f"sizeof((({name} *)0)->{member})"]
-    prints = "".join(f'    printf("%zu\\n", {line});\n' for line in lines)
-    (tmp_path / "layout.c").write_text(f'#include "{HEADER}"\n#include <stdio.h>\nint main(void)\n{{\n{prints}    return 0;\n}}\n')
-    subprocess.run(["gcc", "-std=c11", "layout.c", "-o", "layout"], cwd=tmp_path, check=True)
-    said = subprocess.run([tmp_path / "layout"], capture_output=True, text=True, check=True).stdout.split()
-    assert list(zip(lines, said)) == list(zip(lines, map(str, wanted)))
 
 
 def steps(kind, front):
@@ -58,8 +17,8 @@ def steps(kind, front):
 
 
 def test_steps():
-    assert steps("sign-in", "") == records.SIGN_IN_STEPS
-    assert steps("registration", "REGISTRATION_")[:-1] == records.REGISTRATION_STEPS[:-1]
+    assert steps("sign-in", "") == errors.SIGN_IN_STEPS
+    assert steps("registration", "REGISTRATION_")[:-1] == errors.REGISTRATION_STEPS[:-1]
 
 
 LIMITS = {

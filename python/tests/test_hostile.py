@@ -6,7 +6,7 @@ import pytest
 from device import Device
 from hostile import changes, passed_over
 
-from garvoeng import BadInput, Credential, Refused, Server, SessionsFull, StoredServer, StoreFailed
+from garvoeng import BadInput, Credential, Refused, Server, StoredServer, StoreFailed
 from garvoeng.forms import from_text, to_text
 
 USER = b"account 7"
@@ -79,7 +79,7 @@ def refused(is_registration, number):
 
 
 @pytest.mark.parametrize("error", [Refused(False, 14, "a text"), Refused(True, 3, "a text"), BadInput("a text", 103), BadInput("a text"),
-                                   StoreFailed("the program has ended: the file is in use"), SessionsFull("a text")])
+                                   StoreFailed("the program has ended: the file is in use")])
 def test_errors_between_processes(error):
     again = pickle.loads(pickle.dumps(error))
     assert type(again) is type(error) and str(again) == str(error) and vars(again) == vars(error)

@@ -6,7 +6,7 @@ import pytest
 from device import AT, BE, BS, ED, UP, UV, Device, changed
 
 from garvoeng import (EDDSA, ES256, RS256, BadInput, Credential, Refused, Registered, RegistrationSession, Server, SignedIn,
-                      SignInSession, is_canonical, library, signatures)
+                      SignInSession, is_canonical, signatures)
 from garvoeng.forms import to_text
 
 USER = b"account 7"
@@ -266,15 +266,6 @@ def test_empty_user_handle_is_one(server):
     assert refusal(lambda: server.authenticate_complete(session, response, credential=lambda _: credential)) == "W4"
 
 
-def test_no_memory(server, monkeypatch):
-    device = Device()
-    credential = registered(server, device)
-    options, session = server.authenticate_begin(user=USER)
-    monkeypatch.setattr(library.passkey, "passkey_assertion", lambda call, out: 127)
-    with pytest.raises(MemoryError):
-        server.authenticate_complete(session, device.sign_in(options), credential=lambda _: credential)
-
-
 def test_registration_refused(server):
     device = Device()
     options, session = server.register_begin(USER, "name", user_verification=True)
@@ -353,46 +344,27 @@ def test_nothing_to_verify_is_not_verified():
     assert refusal(lambda: willing.register_complete(session, made, is_registered=free)) == "G13"
 
 
-def test_none_without_the_triple(server):
-    """The host's signature check can't be left out, nor be of anything else."""
+def test_none_without_a_signature(server):
+    """The host's signature check can't be left out."""
     device = Device()
     credential = registered(server, device)
     options, session = server.authenticate_begin(user=USER)
     response = device.sign_in(options)
 
-    class Mistaken(Server):
-        def _hand_in(self, lender, call, asked):
-            return super()._hand_in(lender, call, self.mistake(*asked))
-
-    mistaken = Mistaken("example.com", ["https://example.com"], verify=lambda *_: True)
-    for mistake in (
-        lambda a, x, y, m, s: (a, x, y, m + b"\0", s),
-        lambda a, x, y, m, s: (a, x, y, m[:-1], s),
-        lambda a, x, y, m, s: (a, x, y, m, s + b"\0"),
-        lambda a, x, y, m, s: (a, y, x, m, s),
-        lambda a, x, y, m, s: (EDDSA, x, y, m, s),
-        lambda a, x, y, m, s: (a, x, y, b"", b""),
-    ):
-        mistaken.mistake = mistake
-        assert refusal(lambda: mistaken.authenticate_complete(session, response, credential=lambda _: credential)) == "W14"
     never = Server("example.com", ["https://example.com"], verify=lambda *_: False)
     assert refusal(lambda: never.authenticate_complete(session, response, credential=lambda _: credential)) == "W14"
-    mistaken.mistake = lambda *asked: asked
-    assert mistaken.authenticate_complete(session, response, credential=lambda _: credential).credential.sign_count == 1
+    for wrong in (0, None, "", []):
+        no = Server("example.com", ["https://example.com"], verify=lambda *_: wrong)
+        assert refusal(lambda: no.authenticate_complete(session, response, credential=lambda _: credential)) == "W14"
 
 
 def test_an_algorithm_that_is_none_is_not_valid():
     device = Device()
     message = b"message"
     assert signatures.is_valid(ES256, device.x, device.y, message, device.sign(message))
-    for number in (0, 7, -9, -37, -258):
-        assert not signatures.is_valid(number, device.x, device.y, message, device.sign(message))
-
-
-def test_library_of_another_version(monkeypatch):
-    monkeypatch.setattr(library, "ABI_VERSION", library.ABI_VERSION + 1)
-    with pytest.raises(ImportError):
-        library._load()
+    for device in (device, Device(EDDSA), Device(RS256)):
+        for number in {0, 7, -7, -8, -9, -37, -257, -258} - {device.algorithm}:
+            assert not signatures.is_valid(number, device.x, device.y, message, device.sign(message))
 
 
 def test_input(server):
@@ -414,7 +386,6 @@ def test_input(server):
 
 
 def test_small():
-    assert library.challenge(258, bytes(range(24))) == bytes([0, 0, 0, 0, 0, 0, 1, 2]) + bytes(range(24))
     assert is_canonical(bytes.fromhex("a10102")) and not is_canonical(bytes.fromhex("a1010200"))
     assert not is_canonical(bytes.fromhex("1801"))
 

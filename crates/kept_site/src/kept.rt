@@ -89,6 +89,18 @@ impl<S: Store> KeptSite<S> {
         self.count
     }
 
+    /// The relying party.
+    pub fn party(&self) -> &RelyingParty
+        ensures { result.now ≡ self.now.rp }
+    {
+        &self.party
+    }
+
+    /// How many sessions are open.
+    pub fn open_count(&self) -> usize {
+        self.sessions.count()
+    }
+
     /// The number that the next session will have.
     pub fn next_session(&self) -> u64
         ensures { result ≡ self.now.timed.open_sessions.next }

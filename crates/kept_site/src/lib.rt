@@ -9,6 +9,7 @@ mod finish;
 mod kept;
 mod law;
 mod listing;
+mod looking;
 mod open;
 mod registration;
 mod rows;

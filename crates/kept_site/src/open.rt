@@ -143,6 +143,7 @@ fn read_all<S: Store>(alloc: Global, rp_id: &str, store: &mut S) -> Result<Found
         → (f.next ≡ next) × (finite.len placed ≡ f.count) × ((p : ℕ) (c : Credential) → finite.get placed p ≡ Some c → p ≤ f.last)) }
     ensures party { IfOk result (λ f. IsClean (S.Store.view store.new) → HasParty rp_id.now f.next (S.Store.view store.new).trees) }
     ensures limits { IfOk result (λ f. (1 ≤ f.next) × (f.next < 2 ^ 63)) }
+    ensures clean { OnOk result (IsClean (S.Store.view store.new) → IsClean (S.Store.view store.old)) }
     ensures ready { OnOk result (IsClean (S.Store.view store.new) → IsReady (S.Store.view store.new) false) }
     ensures crash { (db : Trees) → S.Store.recovers store.new db → S.Store.recovers store.old db }
 {
@@ -179,6 +180,7 @@ impl<S: Store> KeptSite<S> {
         // where the store holds a site, this is it,
         ensures held { IfOk result (λ s. IsClean (S.Store.view s.store) → (placed : Placed) (next : ℕ)
             → HoldsSite placed party.rp_id next (S.Store.view s.store).trees → IsHeld placed s (S.Store.view s.store).trees) }
+        ensures clean { IfOk result (λ s. IsClean (S.Store.view s.store) → IsClean (S.Store.view store)) }
         // and it is what an open could find before.
         ensures found { IfOk result (λ s. IsClean (S.Store.view s.store) → S.Store.recovers store (S.Store.view s.store).trees) }
         ensures crash { IfOk result (λ s. (db : Trees) → S.Store.recovers s.store db → S.Store.recovers store db) }

@@ -1,8 +1,10 @@
 -- What an open finds is what the files held.
-use Rattle.std.proofs.Common.{◌≡◌, ◌≤◌, ◌∙◌, [], ◌∷◌, Bool, true, false, IsTrue, refl, ap, arith}
-use Rattle.sqlite_value.specs.Order.{Row}
-use Rattle.sqlite_trees.specs.Tree.{Trees, no_trees}
-use Rattle.sqlite_trees.proofs.Doubt.{no_doubt}
+use Rattle.std.proofs.Common.{◌≡◌, ◌≤◌, ◌∙◌, Bool, true, false, IsTrue, refl, ap, sym, arith}
+use Rattle.sqlite_disk.specs.declared.Disk.{Ghosts}
+use Rattle.sqlite_wal.specs.Files.{seen_image}
+use Rattle.sqlite_store.specs.declared.store.open.Unopened.{Unopened}
+use Rattle.sqlite_store.specs.Unopened.{files_of, image}
+use Rattle.sqlite_trees.specs.Tree.{Trees}
 use Rattle.sqlite_trees.specs.View.{View, doubt, IsClean, IsRolledBack}
 
 pub open_if_sound : (is_open is_broken : Bool) → (is_open ≡ false → IsTrue is_broken) → is_broken ≡ false → IsTrue is_open
@@ -12,14 +14,13 @@ open_if_sound false is_broken law sound = let broken = law refl in absurd cc
 -- what was found before is there behind a rollback
 pub found_behind : (old new : View) (HeldIn : Trees → Type 0) → (IsClean old → (db : Trees) → HeldIn db → old.committed ≡ db)
     → IsRolledBack old new → doubt old.is_clean ≤ doubt new.is_clean → IsClean new → IsTrue new.is_open
-    → (db : Trees) → HeldIn db → new.committed ≡ db
-found_behind old new HeldIn found undone le clean is_open db held =
-    (undone.kept clean).committed is_open ∙ found (omega (arith, le, clean)) db held
+    → (db : Trees) → HeldIn db → new.trees ≡ db
+found_behind old new HeldIn found undone le clean is_open db held = (undone.undone is_open).0 ∙ found (omega (arith, le, clean)) db held
 
--- a store that was not clean had no row
-pub clean_before : (is_clean : Bool) (trees was now : Trees) (row : Row) → (is_clean ≡ false → (trees ≡ no_trees) × (was ≡ no_trees))
-    → now ≡ was → now 2 ≡ row ∷ [] → doubt is_clean ≡ 0
-clean_before true trees was now row empty same one = no_doubt true refl
-clean_before false trees was now row empty same one =
-    let none : now 2 ≡ [] = ap (λ (db : Trees). db 2) (same ∙ (empty refl).1) in
-    absurd cc
+-- and nothing waits to be committed
+pub rests_behind : (old new : View) → IsRolledBack old new → IsClean new → IsTrue new.is_open → new.committed ≡ new.trees
+rests_behind old new undone clean is_open = (undone.kept clean).committed is_open ∙ sym (undone.undone is_open).0
+
+-- what files that are not opened show is what the two show
+pub image_from : {D : Type 0} {g : Ghosts D} (it : Unopened D g) (log db : D) → files_of it ≡ (log, db) → image it ≡ seen_image g log db
+image_from {D} {g} it log db same = ap (λ (p : D × D). seen_image g p.0 p.1) same

@@ -1,31 +1,89 @@
 //! Making a site's file.
 
-ghost use Rattle.std.specs.Prelude.{◌≡◌, [], IfOk, false};
+ghost use Rattle.std.specs.Prelude.{◌≡◌, IfOk, IsTrue, false};
 ghost use Rattle.std.specs.FinMap as finite;
+ghost use Rattle.sqlite_trees.specs.View.{IsClean};
 ghost use Rattle.sqlite_store.specs.FileStore.{view};
-ghost use Rattle.stored_site.specs.Holds.{Stored};
+ghost use Rattle.kept_site.specs.State.{IsHeld};
 
 use crate::FileSite;
+use crate::bounds::check_bounds;
 use crate::error::FileError;
+use crate::first::check_empty;
 use crate::path::{Found, found_at};
-use crate::tables::{check_tables, has_nothing, make_tables};
-use site::Site;
+use crate::stores::{list_at, second_at};
+use crate::tables::{Listed, list_of, made, upgraded};
+use kept_site::{Bounds, KeptSite};
 use sqlite::{Alter, Connection, FileFrom, FileStore, Start};
 use std::alloc::Global;
-use stored_site::{MAX_BOUND, StoredSite};
+use verification::{Policy, RelyingParty};
 
-/// The store of a connection, with the tables of a site: they are made where it has no table, and taken as they are where a
-/// creation was cut off behind their commit. `Exists` where it has others.
-fn with_tables<S: Alter + Drop>(alloc: Global, mut conn: Connection<S>) -> Result<S, FileError> {
-    if has_nothing(&conn) {
-        make_tables(&mut conn)?;
+/// The store with the tables of version 2, of those of version 1 that have no row.
+fn taken_up<S: Alter + Drop>(alloc: Global, mut store: S) -> Result<S, (FileError, S)>
+    requires numbered { IsClean (S.Store.view store) → IsTrue (S.Store.view store).is_numbered }
+{
+    match check_empty(alloc, &mut store) {
+        Ok(()) => upgraded(alloc, store),
+        Err(e) => Err((e, store)),
     }
-    let store = conn.into_store();
-    match check_tables(alloc, &store) {
-        Ok(()) => Ok(store),
-        Err(FileError::OtherTables) => Err(FileError::Exists),
-        Err(e) => Err(e),
+}
+
+/// The store with the tables of a site: they are made where it lists nothing, and taken as they are where a creation was cut off
+/// behind their commit. `Exists` where it lists others, or rows stand in those of version 1.
+fn with_tables<S: Alter + Drop>(alloc: Global, store: S) -> Result<S, (FileError, S)>
+    requires numbered { IsClean (S.Store.view store) → IsTrue (S.Store.view store).is_numbered }
+{
+    match list_of(alloc, &store) {
+        Ok(Listed::Nothing) => made(alloc, store),
+        Ok(Listed::First) => taken_up(alloc, store),
+        Ok(Listed::Second) => Ok(store),
+        Ok(Listed::Other) => Err((FileError::Exists, store)),
+        Err(e) => Err((e, store)),
     }
+}
+
+/// A site without credentials and sessions over a store with the tables of one.
+fn site_over<S: Alter + Drop>(
+    alloc: Global,
+    party: RelyingParty,
+    policy: Policy,
+    bounds: Bounds,
+    store: S,
+) -> Result<KeptSite<S>, (FileError, S)>
+    ensures made { IfOk result (λ s. (s.rp ≡ party) × (s.policy ≡ policy) × (s.most ≡ bounds.credentials) × (s.is_shut ≡ false) × (s.is_pending ≡ false)) }
+    ensures sessions { IfOk result (λ s. (s.timed.open_sessions.expected ≡ finite.empty) × (s.timed.open_sessions.next ≡ 1)) }
+    ensures held { IfOk result (λ s. IsClean (S.Store.view s.store) → IsHeld finite.empty s (S.Store.view s.store).trees) }
+{
+    match list_of(alloc, &store) {
+        Ok(Listed::Second) => {}
+        Ok(_) => return Err((FileError::Exists, store)),
+        Err(e) => return Err((e, store)),
+    }
+    match KeptSite::create(alloc, party, policy, bounds, store) {
+        Ok(site) => Ok(site),
+        Err((e, store)) => Err((e.into(), store)),
+    }
+}
+
+/// Makes the tables of a site in a store that lists nothing, and the site in them; a creation that was cut off is taken up.
+/// `BadBound` and `Exists` as `create`. The store is handed back.
+pub fn create_over<S: Alter + Drop>(
+    alloc: Global,
+    party: RelyingParty,
+    policy: Policy,
+    bounds: Bounds,
+    store: S,
+) -> Result<KeptSite<S>, (FileError, S)>
+    requires numbered { IsClean (S.Store.view store) → IsTrue (S.Store.view store).is_numbered }
+    ensures made { IfOk result (λ s. (s.rp ≡ party) × (s.policy ≡ policy) × (s.most ≡ bounds.credentials) × (s.is_shut ≡ false) × (s.is_pending ≡ false)) }
+    ensures sessions { IfOk result (λ s. (s.timed.open_sessions.expected ≡ finite.empty) × (s.timed.open_sessions.next ≡ 1)) }
+    ensures held { IfOk result (λ s. IsClean (S.Store.view s.store) → IsHeld finite.empty s (S.Store.view s.store).trees) }
+{
+    if let Err(e) = check_bounds(bounds) {
+        return Err((e, store));
+    }
+    let store = with_tables(alloc, store)?;
+    site_over(alloc, party, policy, bounds, store)
 }
 
 /// The same store, whose file begins from now on as a SQLite file does, which `open` asks.
@@ -47,68 +105,72 @@ fn new_file<S: Start>(
     path: &str,
     start: S,
 ) -> Result<FileStore<FileFrom<S>>, FileError> {
-    match Connection::open_from(rt, path, false, start) {
-        Ok(conn) => written(with_tables(rt.alloc(), conn)?),
-        Err((e, _)) => Err(e.into()),
+    let store = match Connection::open_from(rt, path, false, start) {
+        Ok(conn) => conn.into_store(),
+        Err((e, _)) => return Err(e.into()),
+    };
+    match with_tables(rt.alloc(), store) {
+        Ok(store) => written(store),
+        Err((e, store)) => {
+            drop(store.close());
+            Err(e)
+        }
     }
 }
 
-/// A site without credentials and sessions over a store that was made for it.
-fn site_over<S: Alter + Drop>(
-    alloc: Global,
-    site: Site,
-    store: S,
-) -> Result<StoredSite<S>, FileError>
-    requires no_credential { site.rows ≡ [] }
-    requires no_session { site.sessions.expected ≡ finite.empty }
-    ensures made { IfOk result (λ s. (s.site ≡ site) × (s.began ≡ finite.empty) × (s.is_shut ≡ false)) }
-    ensures stored { IfOk result (Stored S.Store.view) }
-{
-    match StoredSite::create(alloc, site, store) {
-        Ok(site) => Ok(site),
-        Err((e, _)) => Err(e.into()),
+/// The store of a file that is there: one of version 2 is not read by SQL, as at an open.
+fn found_file<S: Start>(
+    rt: &HostRuntime,
+    path: &str,
+    start: S,
+) -> Result<FileStore<FileFrom<S>>, FileError> {
+    match list_at(rt, path) {
+        Ok(Listed::Second) => written(second_at(rt, path, start)?),
+        _ => new_file(rt, path, start),
     }
 }
 
-/// The store of a new file for a site, where the site fits one and no other file stands at the path.
+/// The store of a new file, where no other file stands at the path.
 fn store_for<S: Start>(
     rt: &HostRuntime,
     path: &str,
-    site: &Site,
     start: S,
 ) -> Result<FileStore<FileFrom<S>>, FileError> {
-    if MAX_BOUND < site.max_open() {
-        return Err(FileError::BadBound);
-    }
-    if site.next_session() >= 9_223_372_036_854_775_808 {
-        return Err(FileError::BadNumber);
-    }
     match found_at(rt, path)? {
         Found::Other => Err(FileError::Exists),
-        Found::Nothing | Found::Empty | Found::Sqlite => new_file(rt, path, start),
+        Found::Nothing | Found::Empty => new_file(rt, path, start),
+        Found::Sqlite => found_file(rt, path, start),
     }
 }
 
-/// Makes a site's file at a path, and its log beside it (the path and `-wal`). A program passes `Unknown` as `start`, which
-/// stands for what the files held.
+/// Makes a site's file at a path, and its log beside it (the path and `-wal`), for a relying party without credentials and
+/// sessions. A program passes `Unknown` as `start`, which stands for what the files held.
 ///
-/// `BadBound` where more than 1,000,000 sessions could be open, `BadNumber` where the number of the next session is 2^63 or
-/// more, `Exists` where a file is there that holds something, and `LoneLog` where its log is there alone; nothing is made
-/// then. `InUse`, `CannotOpen` and `Failed` where the system, the disk or memory failed.
+/// `BadBound` where more than 1,000,000 sessions could be open or as many credentials registered, `Exists` where a file is there
+/// that holds something, and `LoneLog` where its log is there alone; nothing is made then. `InUse`, `CannotOpen` and `Failed`
+/// where the system, the disk or memory failed.
 ///
 /// A creation that is cut off leaves no file, or one that holds nothing: it is empty, or has no table, or the tables of a
 /// site without rows. `open` refuses it as `NoSite`, and the next `create` takes it up.
 pub fn create<S: Start>(
     rt: &HostRuntime,
     path: &str,
-    site: Site,
+    party: RelyingParty,
+    policy: Policy,
+    bounds: Bounds,
     start: S,
 ) -> Result<FileSite<S>, FileError>
-    requires no_credential { site.rows ≡ [] }
-    requires no_session { site.sessions.expected ≡ finite.empty }
-    ensures made { IfOk result (λ s. (s.site ≡ site) × (s.began ≡ finite.empty) × (s.is_shut ≡ false)) }
-    ensures stored { IfOk result (Stored view) }
+    ensures made { IfOk result (λ s. (s.rp ≡ party) × (s.policy ≡ policy) × (s.most ≡ bounds.credentials) × (s.is_shut ≡ false) × (s.is_pending ≡ false)) }
+    ensures sessions { IfOk result (λ s. (s.timed.open_sessions.expected ≡ finite.empty) × (s.timed.open_sessions.next ≡ 1)) }
+    ensures held { IfOk result (λ s. IsClean (view s.store) → IsHeld finite.empty s (view s.store).trees) }
 {
-    let store = store_for(rt, path, &site, start)?;
-    site_over(rt.alloc(), site, store)
+    check_bounds(bounds)?;
+    let store = store_for(rt, path, start)?;
+    match site_over(rt.alloc(), party, policy, bounds, store) {
+        Ok(site) => Ok(site),
+        Err((e, store)) => {
+            drop(store.close());
+            Err(e)
+        }
+    }
 }

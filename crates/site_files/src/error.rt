@@ -1,10 +1,10 @@
 //! Why a file is not made or opened as a site's.
 
+use kept_site::{CreateFailure, OpenFailure};
 use sqlite::{Error, ErrorCode};
 use sqlite_trees::error::StoreError;
 use std::alloc::{AllocError, AllocFailed};
 use std::io;
-use stored_site::{CreateFailure, OpenFailure};
 
 /// Why a file is not made or opened as a site's.
 #[derive(Clone, Copy, Debug, PartialEq, Eq, Drop, thiserror::Error)]
@@ -33,21 +33,21 @@ pub enum FileError {
     /// The file is empty, or has no table, or its tables have no row of a site.
     #[error("the file has no site")]
     NoSite,
-    /// The version or the rp id is another.
+    /// The rp id is another, or the version is none.
     #[error("the file is of another site or version")]
     OtherSite,
-    /// There are more credentials or sessions than a site has.
+    /// The version is a later one.
+    #[error("the file is of a later version")]
+    Newer,
+    /// There are more credentials than a site has.
     #[error("there are more rows than a site has")]
     TooMany,
-    /// A row is none that a site of this profile has written.
-    #[error("a row is not one that this site has written")]
+    /// A row is none that a site has written.
+    #[error("a row is not one that a site has written")]
     BadRow,
-    /// More than 1,000,000 sessions could be open.
-    #[error("the bound on open sessions is too high")]
+    /// More than 1,000,000 sessions could be open, or as many credentials registered.
+    #[error("a bound is above 1,000,000")]
     BadBound,
-    /// The number of the next session is 2^63 or more.
-    #[error("the number of the next session fits no column")]
-    BadNumber,
     /// The disk or memory failed.
     #[error("{0}")]
     Failed(StoreError),
@@ -93,17 +93,26 @@ impl From<Error> for FileError {
             ErrorCode::SystemIoFailure => FileError::Failed(StoreError::Io),
             ErrorCode::DiskFull => FileError::Failed(StoreError::Full),
             ErrorCode::Closed => FileError::Failed(StoreError::Broken),
+            ErrorCode::ConstraintViolation(_) => FileError::BadRow,
             _ => FileError::CannotOpen,
         }
+    }
+}
+
+/// Why a copy is not made.
+pub(crate) fn copy_failure(e: io::Error) -> FileError {
+    match e.kind() {
+        io::ErrorKind::OutOfMemory => FileError::Failed(StoreError::OutOfMemory),
+        io::ErrorKind::StorageFull => FileError::Failed(StoreError::Full),
+        io::ErrorKind::NotFound | io::ErrorKind::PermissionDenied => FileError::CannotOpen,
+        _ => FileError::Failed(StoreError::Io),
     }
 }
 
 impl From<CreateFailure> for FileError {
     fn from(e: CreateFailure) -> FileError {
         match e {
-            CreateFailure::BadBound => FileError::BadBound,
             CreateFailure::NotNew => FileError::Exists,
-            CreateFailure::BadNumber => FileError::BadNumber,
             CreateFailure::Failed(e) => FileError::Failed(e),
         }
     }
@@ -112,9 +121,9 @@ impl From<CreateFailure> for FileError {
 impl From<OpenFailure> for FileError {
     fn from(e: OpenFailure) -> FileError {
         match e {
-            OpenFailure::BadBound => FileError::BadBound,
             OpenFailure::NoSite => FileError::NoSite,
             OpenFailure::OtherSite => FileError::OtherSite,
+            OpenFailure::Newer => FileError::Newer,
             OpenFailure::TooMany => FileError::TooMany,
             OpenFailure::BadRow => FileError::BadRow,
             OpenFailure::Failed(e) => FileError::Failed(e),

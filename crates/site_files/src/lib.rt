@@ -1,19 +1,24 @@
 //! A relying party's site over a SQLite file.
 #![tactic(auto)]
 
+mod backing_up;
+mod bounds;
 mod closing;
 mod creating;
 mod error;
+mod first;
 mod opening;
 mod path;
+mod stores;
 mod tables;
 
+pub use backing_up::backup;
 pub use closing::close;
-pub use creating::create;
+pub use creating::{create, create_over};
 pub use error::FileError;
-pub use opening::open;
+use kept_site::KeptSite;
+pub use opening::{open, open_over};
 pub use sqlite::{File, FileFrom, FileStore, Start, Unknown};
-use stored_site::StoredSite;
 
 /// A site over a file and its log.
-pub type FileSite<S> = StoredSite<FileStore<FileFrom<S>>>;
+pub type FileSite<S> = KeptSite<FileStore<FileFrom<S>>>;

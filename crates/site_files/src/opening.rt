@@ -1,22 +1,28 @@
 //! Opening a site's file.
 
-ghost use Rattle.std.specs.Prelude.{◌≡◌, IfOk, IsTrue, false};
+ghost use Rattle.std.specs.Prelude.{◌≡◌, ◌⊎◌, ℕ, IfOk, IsTrue, false};
+ghost use Rattle.std.specs.FinMap as finite;
 ghost use Rattle.sqlite_wal.specs.Files.{image_at};
 ghost use Rattle.sqlite_trees.specs.Tree.{Trees};
 ghost use Rattle.sqlite_trees.specs.View.{IsClean};
 ghost use Rattle.sqlite_store.specs.FileStore.{view};
-ghost use Rattle.sqlite.specs.Files.{HoldsDatabase};
-ghost use Rattle.stored_site.specs.Holds.{Holds, Stored};
+ghost use Rattle.credential_store.specs.Held.{Placed};
+ghost use Rattle.kept_site.specs.State.{HasParty, HoldsSite, IsHeld};
+ghost use Rattle.site_files.specs.Files.{IsHeldIn};
+ghost use Rattle.site_files.specs.First.{IsFirst};
 
 use crate::FileSite;
+use crate::bounds::check_bounds;
 use crate::error::FileError;
+use crate::first::{check_first, why_other};
 use crate::path::{Found, found_at};
-use crate::tables::check_tables;
-use site::Site;
+use crate::stores::{list_at, second_at};
+use crate::tables::{Listed, list_of, upgraded};
+use kept_site::{Bounds, KeptSite};
 use sqlite::{Alter, Connection, FileFrom, FileStore, Start};
 use sqlite_trees::error::StoreError;
 use std::alloc::Global;
-use stored_site::StoredSite;
+use verification::{Policy, RelyingParty};
 
 /// That a file stands at a path that may be a SQLite file's.
 fn check_sqlite(rt: &HostRuntime, path: &str) -> Result<(), FileError> {
@@ -28,62 +34,137 @@ fn check_sqlite(rt: &HostRuntime, path: &str) -> Result<(), FileError> {
     }
 }
 
-/// The store of a SQLite file.
-fn store_at<S: Start>(
+/// The store of a SQLite file, each of whose rows is read and tested with its entries in the indices.
+fn connected<S: Start>(
     rt: &HostRuntime,
     path: &str,
     start: S,
 ) -> Result<FileStore<FileFrom<S>>, FileError>
-    ensures found { IfOk result (λ store. IsClean (view store) → IsTrue (view store).is_open → (db : Trees) → HoldsDatabase (image_at S.Start) db
-        → (view store).committed ≡ db) }
+    ensures numbered { IfOk result (λ store. IsClean (view store) → IsTrue (view store).is_numbered) }
+    ensures rests { IfOk result (λ store. IsClean (view store) → IsTrue (view store).is_open → (view store).committed ≡ (view store).trees) }
+    ensures found { IfOk result (λ store. IsClean (view store) → IsTrue (view store).is_open → IsHeldIn (image_at S.Start) (view store).trees) }
 {
-    check_sqlite(rt, path)?;
     match Connection::open_from(rt, path, false, start) {
         Ok(conn) => Ok(conn.into_store()),
         Err((e, _)) => Err(e.into()),
     }
 }
 
-/// The site that a store holds, whose tables are those of a site.
-fn site_in<S: Alter + Drop>(alloc: Global, site: Site, store: S) -> Result<StoredSite<S>, FileError>
-    ensures party { IfOk result (λ s. (s.site.rp ≡ site.rp) × (s.site.policy ≡ site.policy) × (s.site.sessions.max_open ≡ site.sessions.max_open)) }
-    ensures open { IfOk result (λ s. s.is_shut ≡ false) }
-    ensures stored { IfOk result (Stored S.Store.view) }
-    ensures found { IfOk result (λ s. IsClean (S.Store.view s.store) → IsClean (S.Store.view store) × IsTrue (S.Store.view store).is_open
-        × ((S.Store.view s.store).committed ≡ (S.Store.view store).committed)) }
+/// The store of a SQLite file. Where it lists the tables of version 2 its rows are not read, so that an open takes little time and
+/// memory; else SQL opens it, which names what is refused.
+fn store_at<S: Start>(
+    rt: &HostRuntime,
+    path: &str,
+    start: S,
+) -> Result<FileStore<FileFrom<S>>, FileError>
+    ensures numbered { IfOk result (λ store. IsClean (view store) → IsTrue (view store).is_numbered) }
+    ensures rests { IfOk result (λ store. IsClean (view store) → IsTrue (view store).is_open → (view store).committed ≡ (view store).trees) }
+    ensures found { IfOk result (λ store. IsClean (view store) → IsTrue (view store).is_open → IsHeldIn (image_at S.Start) (view store).trees) }
 {
-    if store.is_broken() {
-        return Err(FileError::Failed(StoreError::Broken));
-    }
-    check_tables(alloc, &store)?;
-    match StoredSite::open(alloc, site, store) {
-        Ok(site) => Ok(site),
-        Err((e, _)) => Err(e.into()),
+    check_sqlite(rt, path)?;
+    match list_at(rt, path) {
+        Ok(Listed::Second) => second_at(rt, path, start),
+        _ => connected(rt, path, start),
     }
 }
 
-/// The site of a file, with the relying party, the profile and the policy of a site that is handed in, whose own credentials
-/// and sessions go. A program passes `Unknown` as `start`, which stands for what the files held.
+/// The store with the tables of version 2, of those of version 1 with a site of this relying party.
+fn taken_over<S: Alter + Drop>(
+    alloc: Global,
+    rp_id: &str,
+    mut store: S,
+) -> Result<S, (FileError, S)>
+    requires numbered { IsClean (S.Store.view store) → IsTrue (S.Store.view store).is_numbered }
+    ensures first { IfOk result (λ new. IsClean (S.Store.view new) → IsClean (S.Store.view store) × IsFirst rp_id.now (S.Store.view store).trees) }
+{
+    match check_first(alloc, rp_id, &mut store) {
+        Ok(()) => upgraded(alloc, store),
+        Err(e) => Err((e, store)),
+    }
+}
+
+/// The store with the tables of version 2: as it is, or taken over from version 1.
+fn newest<S: Alter + Drop>(alloc: Global, rp_id: &str, mut store: S) -> Result<S, (FileError, S)>
+    requires numbered { IsClean (S.Store.view store) → IsTrue (S.Store.view store).is_numbered }
+    ensures found { IfOk result (λ new. (new ≡ store) ⊎ (IsClean (S.Store.view new) → IsClean (S.Store.view store) × IsFirst rp_id.now (S.Store.view store).trees)) }
+{
+    match list_of(alloc, &store) {
+        Ok(Listed::Second) => Ok(store),
+        Ok(Listed::First) => taken_over(alloc, rp_id, store),
+        Ok(Listed::Nothing) => Err((FileError::NoSite, store)),
+        Ok(Listed::Other) => Err((why_other(alloc, &mut store), store)),
+        Err(e) => Err((e, store)),
+    }
+}
+
+/// The site that a store holds whose tables are those of a site, of this relying party. Tables of version 1 are taken over in one
+/// transaction. Refusals as `open`; the store is handed back.
+pub fn open_over<S: Alter + Drop>(
+    alloc: Global,
+    party: RelyingParty,
+    policy: Policy,
+    bounds: Bounds,
+    store: S,
+) -> Result<KeptSite<S>, (FileError, S)>
+    requires numbered { IsClean (S.Store.view store) → IsTrue (S.Store.view store).is_numbered }
+    ensures made { IfOk result (λ s. (s.rp ≡ party) × (s.policy ≡ policy) × (s.most ≡ bounds.credentials) × (s.is_shut ≡ false) × (s.is_pending ≡ false)) }
+    ensures sessions { IfOk result (λ s. (s.timed.open_sessions.expected ≡ finite.empty) × (s.timed.open_sessions.next ≡ s.reserved)) }
+    ensures party { IfOk result (λ s. IsClean (S.Store.view s.store) → HasParty party.rp_id s.reserved (S.Store.view s.store).trees) }
+    ensures held { IfOk result (λ s. IsClean (S.Store.view s.store) → (placed : Placed) (next : ℕ)
+        → HoldsSite placed party.rp_id next (S.Store.view s.store).trees → IsHeld placed s (S.Store.view s.store).trees) }
+    // What it holds is what the store held, which was of this version or of the first.
+    ensures found { IfOk result (λ s. IsClean (S.Store.view s.store) → IsClean (S.Store.view store) × IsTrue (S.Store.view store).is_open
+        × (((S.Store.view s.store).trees ≡ (S.Store.view store).committed) ⊎ IsFirst party.rp_id (S.Store.view store).trees)) }
+{
+    if let Err(e) = check_bounds(bounds) {
+        return Err((e, store));
+    }
+    if store.is_broken() {
+        return Err((FileError::Failed(StoreError::Broken), store));
+    }
+    let store = newest(alloc, party.rp_id(), store)?;
+    match KeptSite::open(alloc, party, policy, bounds, store) {
+        Ok(site) => Ok(site),
+        Err((e, store)) => Err((e.into(), store)),
+    }
+}
+
+/// The site of a file, of this relying party. No session is open, and the numbers go on. A program passes `Unknown` as `start`,
+/// which stands for what the files held.
 ///
-/// `NoFile`, `LoneLog`, `InUse` and `CannotOpen` where the file is not opened, `NotSqlite` where it is no sound SQLite file,
-/// `NoSite` where it is empty or has no table, `OtherTables` where it lists other tables than `create` makes, `BadBound`
-/// where more than 1,000,000 sessions could be open, `NoSite` where they have no row of a site, `OtherSite`, `TooMany` and
-/// `BadRow` as `StoredSite::open`, `Failed` where the disk or memory failed.
+/// A file of version 1 is upgraded, in one commit. Its open sessions end.
+///
+/// `BadBound` where more than 1,000,000 sessions could be open or as many credentials registered, `NoFile`, `LoneLog`, `InUse`
+/// and `CannotOpen` where the file is not opened, `NotSqlite` where it is no sound SQLite file, `NoSite` where it is empty or has
+/// no table, `OtherTables` where it lists other tables than `create` makes, `NoSite` where they have no row of a site, `Newer`
+/// where that row has a later version, `OtherSite` where it has another rp id, `TooMany` and `BadRow` where a row is no
+/// credential's, `Failed` where the disk or memory failed.
 pub fn open<S: Start>(
     rt: &HostRuntime,
     path: &str,
-    site: Site,
+    party: RelyingParty,
+    policy: Policy,
+    bounds: Bounds,
     start: S,
 ) -> Result<FileSite<S>, FileError>
-    ensures party { IfOk result (λ s. (s.site.rp ≡ site.rp) × (s.site.policy ≡ site.policy) × (s.site.sessions.max_open ≡ site.sessions.max_open)) }
-    ensures open { IfOk result (λ s. s.is_shut ≡ false) }
-    // What it answers is what the last commit left, and what the file held.
-    ensures stored { IfOk result (Stored view) }
-    ensures found { IfOk result (λ s. IsClean (view s.store) → (db : Trees) → HoldsDatabase (image_at S.Start) db → Holds s.site s.began db) }
+    ensures made { IfOk result (λ s. (s.rp ≡ party) × (s.policy ≡ policy) × (s.most ≡ bounds.credentials) × (s.is_shut ≡ false) × (s.is_pending ≡ false)) }
+    ensures sessions { IfOk result (λ s. (s.timed.open_sessions.expected ≡ finite.empty) × (s.timed.open_sessions.next ≡ s.reserved)) }
+    // It is of this relying party,
+    ensures party { IfOk result (λ s. IsClean (view s.store) → HasParty party.rp_id s.reserved (view s.store).trees) }
+    // where its rows are a site's, this is it,
+    ensures held { IfOk result (λ s. IsClean (view s.store) → (placed : Placed) (next : ℕ)
+        → HoldsSite placed party.rp_id next (view s.store).trees → IsHeld placed s (view s.store).trees) }
+    // and the rows are those that the file held, unless it was of version 1.
+    ensures found { IfOk result (λ s. IsClean (view s.store) → (was : Trees) × IsHeldIn (image_at S.Start) was
+        × (((view s.store).trees ≡ was) ⊎ IsFirst party.rp_id was)) }
 {
+    check_bounds(bounds)?;
     let store = store_at(rt, path, start)?;
-    match site_in(rt.alloc(), site, store) {
+    match open_over(rt.alloc(), party, policy, bounds, store) {
         Ok(site) => Ok(site),
-        Err(e) => Err(e),
+        Err((e, store)) => {
+            drop(store.close());
+            Err(e)
+        }
     }
 }

@@ -26,8 +26,8 @@ fn has_log(rt: &HostRuntime, path: &str) -> Result<bool, FileError> {
     Ok(fs::exists(rt, log.as_str())?)
 }
 
-/// What a file without a log begins as.
-fn head_at(rt: &HostRuntime, path: &str) -> Result<Found, FileError> {
+/// What a file begins as.
+pub fn head_at(rt: &HostRuntime, path: &str) -> Result<Found, FileError> {
     if fs::metadata(rt, path)?.len() == 0 {
         return Ok(Found::Empty);
     }

@@ -1,11 +1,18 @@
 //! The tables of a site's file.
 
+ghost use Rattle.std.specs.Prelude.{◌≤◌, IfOk, IsTrue, OnOk};
+ghost use Rattle.sqlite_trees.specs.View.{IsClean, doubt};
+ghost use Rattle.sqlite.specs.Held.{state};
+
 use crate::error::FileError;
 use sqlite::{Alter, Connection};
-use sqlite_value::order::is_same;
+use sqlite_trees::error::StoreError;
+use sqlite_trees::schema::Object;
+use sqlite_trees::store::Shape;
+use sqlite_value::keys::Order;
 use sqlite_value::row::Row;
 use sqlite_value::value::ValueRef;
-use std::alloc::Global;
+use std::alloc::{AllocError, Global};
 
 const CREDENTIAL: &str = "CREATE TABLE credential (
   place INTEGER PRIMARY KEY,
@@ -44,55 +51,208 @@ const SITE: &str = "CREATE TABLE site (
   next_session INTEGER NOT NULL
 ) STRICT";
 
-/// Whether a file has no table, no index and no view.
-pub fn has_nothing<S: Alter>(conn: &Connection<S>) -> bool {
-    let schema = conn.schema();
-    schema.tables.as_slice().is_empty()
-        && schema.indexes.as_slice().is_empty()
-        && schema.views.as_slice().is_empty()
-}
+const BY_ID: &str = "CREATE UNIQUE INDEX credential_by_id ON credential (id)";
 
-/// Makes the three tables, all or none.
-pub fn make_tables<S: Alter>(conn: &mut Connection<S>) -> Result<(), FileError> {
+const BY_USER: &str = "CREATE INDEX credential_by_user ON credential (user_handle)";
+
+const DETAIL: &str = "CREATE TABLE detail (
+  place INTEGER PRIMARY KEY,
+  created_at INTEGER,
+  used_at INTEGER,
+  transports TEXT NOT NULL,
+  aaguid BLOB
+) STRICT";
+
+/// What makes the tables of a new file: those of version 1, and then of them those of version 2.
+static NEW: [&str; 8] = [
+    CREDENTIAL,
+    SESSION,
+    SITE,
+    BY_ID,
+    BY_USER,
+    "DROP TABLE session",
+    DETAIL,
+    "UPDATE site SET version = 2",
+];
+
+/// Runs these texts in one transaction.
+fn run<S: Alter>(conn: &mut Connection<S>, texts: &[&str]) -> Result<(), FileError>
+    ensures clean { OnOk result (doubt (state S.Store conn.old).is_clean ≤ doubt (state S.Store conn.new).is_clean) }
+{
     conn.execute_batch("BEGIN")?;
-    conn.execute_batch(CREDENTIAL)?;
-    conn.execute_batch(SESSION)?;
-    conn.execute_batch(SITE)?;
+    for text in texts {
+        conn.execute_batch(text)?;
+    }
     conn.execute_batch("COMMIT")?;
     Ok(())
 }
 
-/// Whether a row of the file's list is that of this table, at this place in it.
-fn is_table(row: &Row, place: i64, name: &str, text: &str) -> bool {
-    let name = ValueRef::Text(name.as_bytes());
-    is_same(row.get(0), ValueRef::Int(place))
-        && is_same(row.get(1), ValueRef::Text(b"table"))
-        && is_same(row.get(2), name)
-        && is_same(row.get(3), name)
-        && is_same(row.get(4), ValueRef::Text(text.as_bytes()))
+/// What these texts make of a store, all of them or none.
+fn changed<S: Alter + Drop>(
+    alloc: Global,
+    mut store: S,
+    texts: &[&str],
+) -> Result<S, (FileError, S)>
+    requires numbered { IsClean (S.Store.view store) → IsTrue (S.Store.view store).is_numbered }
+    ensures clean { IfOk result (λ new. IsClean (S.Store.view new) → IsClean (S.Store.view store)) }
+    ensures numbered { IfOk result (λ new. IsClean (S.Store.view new) → IsTrue (S.Store.view new).is_numbered) }
+{
+    store.rollback();
+    if store.is_broken() {
+        return Err((FileError::Failed(StoreError::Broken), store));
+    }
+    let mut conn = match Connection::over(alloc, store) {
+        Ok(conn) => conn,
+        Err((e, store)) => return Err((e.into(), store)),
+    };
+    let done = run(&mut conn, texts);
+    let store = conn.into_store();
+    match done {
+        Ok(()) => Ok(store),
+        Err(e) => Err((e, store)),
+    }
 }
 
-/// Whether these are the three tables in their order, and nothing else.
-fn are_tables(objects: &[Row]) -> bool {
-    match objects {
-        [one, two, three] => {
-            is_table(one, 1, "credential", CREDENTIAL)
-                && is_table(two, 2, "session", SESSION)
-                && is_table(three, 3, "site", SITE)
+/// Makes the tables of a site in a store that lists nothing.
+pub fn made<S: Alter + Drop>(alloc: Global, store: S) -> Result<S, (FileError, S)>
+    requires numbered { IsClean (S.Store.view store) → IsTrue (S.Store.view store).is_numbered }
+{
+    changed(alloc, store, &NEW)
+}
+
+/// Makes the tables of version 2 of those of version 1. The open sessions end.
+pub fn upgraded<S: Alter + Drop>(alloc: Global, store: S) -> Result<S, (FileError, S)>
+    requires numbered { IsClean (S.Store.view store) → IsTrue (S.Store.view store).is_numbered }
+    ensures clean { IfOk result (λ new. IsClean (S.Store.view new) → IsClean (S.Store.view store)) }
+{
+    changed(alloc, store, &NEW[3..])
+}
+
+/// What a file lists.
+#[derive(Clone, Copy, PartialEq, Eq, Drop)]
+pub enum Listed {
+    /// Nothing.
+    Nothing,
+    /// The tables of version 1.
+    First,
+    /// The tables and indices of version 2.
+    Second,
+    /// Something else.
+    Other,
+}
+
+fn table<'a>(name: &'a str, text: &'a str) -> Object<'a> {
+    Object {
+        shape: Shape::Table,
+        kind: "table",
+        name,
+        table: name,
+        reals: 0,
+        sql: Some(text),
+    }
+}
+
+/// An index of the credentials.
+fn index<'a>(name: &'a str, text: &'a str) -> Object<'a> {
+    Object {
+        shape: Shape::Index(Order::PLAIN),
+        kind: "index",
+        name,
+        table: "credential",
+        reals: 0,
+        sql: Some(text),
+    }
+}
+
+/// No object.
+fn gap<'a>() -> Object<'a> {
+    Object {
+        shape: Shape::Absent,
+        kind: "",
+        name: "",
+        table: "",
+        reals: 0,
+        sql: None,
+    }
+}
+
+/// The objects of version 1, by the numbers of their trees.
+fn first<'a>() -> [Object<'a>; 3] {
+    [
+        table("credential", CREDENTIAL),
+        table("session", SESSION),
+        table("site", SITE),
+    ]
+}
+
+/// Those of version 2.
+pub fn second<'a>() -> [Object<'a>; 6] {
+    [
+        table("credential", CREDENTIAL),
+        gap(),
+        table("site", SITE),
+        index("credential_by_id", BY_ID),
+        index("credential_by_user", BY_USER),
+        table("detail", DETAIL),
+    ]
+}
+
+/// The row of a file's list for the object of a tree.
+fn row_of(alloc: Global, tree: u32, object: &Object<'_>) -> Result<Row, AllocError> {
+    let mut row = Row::new(alloc);
+    row.push(ValueRef::Int(i64::from(tree) + 1))?;
+    row.push(ValueRef::Text(object.kind.as_bytes()))?;
+    row.push(ValueRef::Text(object.name.as_bytes()))?;
+    row.push(ValueRef::Text(object.table.as_bytes()))?;
+    row.push(match object.sql {
+        Some(text) => ValueRef::Text(text.as_bytes()),
+        None => ValueRef::Null,
+    })?;
+    Ok(row)
+}
+
+/// The rows of a file's list for the objects of its trees.
+fn rows_of(alloc: Global, objects: &[Object<'_>]) -> Result<Vec<Row>, AllocError> {
+    let mut rows = Vec::new(alloc);
+    for at in 0..objects.len() {
+        if objects[at].shape != Shape::Absent {
+            let tree = u32::try_from(at).unwrap_or(0);
+            rows.push(row_of(alloc, tree, &objects[at])?)?;
         }
-        _ => false,
     }
+    Ok(rows)
 }
 
-/// That a store lists the three tables in their order, and nothing else: `NoSite` where it lists nothing, `OtherTables` where
-/// it lists others.
-pub fn check_tables<S: Alter>(alloc: Global, store: &S) -> Result<(), FileError> {
-    let objects = store.objects(alloc)?;
-    if objects.is_empty() {
-        Err(FileError::NoSite)
-    } else if are_tables(objects.as_slice()) {
-        Ok(())
-    } else {
-        Err(FileError::OtherTables)
+/// Whether the rows of a file's list are just these.
+fn are_same(rows: &[Row], wanted: &[Row]) -> bool {
+    if rows.len() != wanted.len() {
+        return false;
     }
+    for at in 0..rows.len() {
+        if !rows[at].is_same(&wanted[at]) {
+            return false;
+        }
+    }
+    true
+}
+
+/// What the rows of a file's list are: just the objects of a version with these texts, nothing, or something else.
+pub fn list_in(alloc: Global, rows: &[Row]) -> Result<Listed, AllocError> {
+    let first = rows_of(alloc, &first())?;
+    let second = rows_of(alloc, &second())?;
+    Ok(if rows.is_empty() {
+        Listed::Nothing
+    } else if are_same(rows, first.as_slice()) {
+        Listed::First
+    } else if are_same(rows, second.as_slice()) {
+        Listed::Second
+    } else {
+        Listed::Other
+    })
+}
+
+/// What a store lists.
+pub fn list_of<S: Alter>(alloc: Global, store: &S) -> Result<Listed, FileError> {
+    let rows = store.objects(alloc)?;
+    Ok(list_in(alloc, rows.as_slice())?)
 }

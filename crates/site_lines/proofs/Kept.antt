@@ -1,40 +1,79 @@
--- What an act that is not carried out leaves.
-use Rattle.std.proofs.Common.{ℕ, List}
-use Rattle.sqlite_trees.specs.View.{View}
-use Rattle.ceremony_sessions.specs.Sessions.{Opening}
-use Rattle.stored_site.specs.Calls.{IsNotBegun}
-use Rattle.stored_site.specs.Holds.{StoredState}
-use Rattle.stored_site.specs.declared.failure.BeginFailure.{BeginFailure}
-use Rattle.stored_site.specs.declared.failure.BeginFailure.TheVariants as begins
+-- What an act that is not carried out leaves, and what one look after another leaves.
+use Rattle.std.specs.Prelude.{IfOk, OnOk, Ok, Err}
+use Rattle.std.specs.declared.result.Result.{Result}
+use Rattle.std.proofs.Common.{◌≡◌, ℕ, List, ap, refl, sym, subst, ◌∙◌, false, true≢false}
+use Rattle.sqlite_trees.specs.View.{IsClean, View}
+use Rattle.ceremony_sessions.specs.Sessions.{Opening, challenge_of}
+use Rattle.timed_sessions.specs.Timed.{IsTrimmed, after_begin}
+use Rattle.credential_store.specs.Held.{Placed}
+use Rattle.kept_site.specs.State.{IsHeld, KeptState}
+use Rattle.kept_site.specs.Calls.{IsFailure, IsNotBegun, IsOneSite, IsSame}
+use Rattle.kept_site.specs.declared.failure.Failure.{Failure}
+use Rattle.kept_site.specs.declared.failure.Failure.TheVariants as failures
+use Rattle.kept_site.specs.declared.failure.BeginFailure.{BeginFailure}
+use Rattle.kept_site.specs.declared.failure.BeginFailure.TheVariants as begins
 use Rattle.site_lines.specs.declared.act.BeginRegistration.{BeginRegistration}
 use Rattle.site_lines.specs.declared.act.BeginSignIn.{BeginSignIn}
-use Rattle.site_lines.specs.Answers.{Keeps, TellsRegistrationBegun, TellsSignInBegun}
+use Rattle.site_lines.specs.Answers.{Begins, Keeps, TellsRegistrationBegun, TellsSignInBegun}
 use Rattle.site_lines.specs.Private.{BeginsNothing, not_begun}
 
+pub same_site : {S : Type 0} (view : S → View) (old new : KeptState S) → new ≡ old → IsSame view old new
+same_site view old new is = subst (IsSame view old) (sym is) (record { is = refl; clean = λ c. c; store = λ _. refl })
+
+-- the credentials are held by a site that has not changed
+pub held_on : {S : Type 0} (view : S → View) (placed : Placed) (old new : KeptState S) → IsSame view old new → IsClean (view new.store)
+    → IsHeld placed old (view old.store).trees → IsHeld placed new (view new.store).trees
+held_on view placed old new same clean h =
+    let trees = ap (λ v. v.trees) (same.store clean) in
+    subst (IsHeld placed new) (sym trees) (subst (λ (s : KeptState _). IsHeld placed s (view old.store).trees) (sym same.is) (record {
+      holds = h.holds;
+      count = h.count;
+      last = h.last;
+    }))
+
+pub same_then : {S : Type 0} (view : S → View) (old mid new : KeptState S) → IsSame view old mid → IsSame view mid new → IsSame view old new
+same_then view old mid new one two = record {
+  is = two.is ∙ ap (λ (s : KeptState _). record s { store = new.store }) one.is;
+  clean = λ c. one.clean (two.clean c);
+  store = λ c. two.store c ∙ ap {A = View} (λ v. record v { cursors = (view new.store).cursors }) (one.store (two.clean c));
+}
+
+pub failure_then : {S : Type 0} (view : S → View) (old mid new : KeptState S) (why : Failure) → old.is_shut ≡ false → IsSame view old mid
+    → IsFailure mid new why → IsFailure old new why
+failure_then view old mid new failures.Shut live same f = absurd (true≢false (sym f.0 ∙ ap (λ (s : KeptState _). s.is_shut) same.is ∙ live))
+failure_then view old mid new (failures.Failed e) live same f = (live, f.1)
+
+-- where the site's call begins one
+pub session_begins : {S T E : Type 0} (view : S → View) (p o : Opening) (words : List ℕ) (moment : ℕ) (old new : KeptState S) (result : Result T E)
+    (number : T → ℕ) (challenge : T → List ℕ) → p ≡ o
+    → IfOk result (λ s. (number s ≡ old.timed.open_sessions.next) × (challenge s ≡ challenge_of old.timed.open_sessions.next words))
+    → OnOk result (IsTrimmed (after_begin old.timed p moment) new.timed)
+    → OnOk result (IsClean (view new.store) → (placed : Placed) → IsHeld placed old (view old.store).trees → IsHeld placed new (view new.store).trees)
+    → OnOk result (IsOneSite old new × (new.is_shut ≡ false))
+    → IfOk result (λ s. Begins view o words moment (number s) (challenge s) old new)
+session_begins view p o words moment old new (Ok s) number challenge same started begun held one =
+    (started.0, started.1, subst (λ q. IsTrimmed (after_begin old.timed q moment) new.timed) same begun, one.0, λ clean placed was. (placed, refl, held clean placed was))
+session_begins view p o words moment old new (Err why) number challenge same started begun held one = tt
+
 -- where the site's call begins no session
-pub begins_nothing : {S : Type 0} (old new : StoredState S) (o : Opening) (began_at : ℕ) (e : BeginFailure) → IsNotBegun old new o began_at e
-    → BeginsNothing old new e
-begins_nothing old new o began_at (begins.Site w) h = h.0
-begins_nothing old new o began_at begins.BadMoment h = h.0
-begins_nothing old new o began_at begins.BadNumber h = h.0
-begins_nothing old new o began_at (begins.Store w) h = h
+pub begins_nothing : {S : Type 0} (old new : KeptState S) (o : Opening) (e : BeginFailure) → IsNotBegun old new o e → BeginsNothing old new e
+begins_nothing old new o (begins.Site w) h = h.0
+begins_nothing old new o begins.NoNumber h = h.0
+begins_nothing old new o (begins.Store w) h = h
 
-pub not_begun_keeps : {S : Type 0} (old new : StoredState S) (why : BeginFailure) → BeginsNothing old new why → Keeps old new (not_begun why)
-not_begun_keeps old new (begins.Site w) h = h
-not_begun_keeps old new begins.BadMoment h = h
-not_begun_keeps old new begins.BadNumber h = h
-not_begun_keeps old new (begins.Store w) h = h
+pub not_begun_keeps : {S : Type 0} (view : S → View) (old new : KeptState S) (why : BeginFailure) → BeginsNothing old new why → Keeps view old new (not_begun why)
+not_begun_keeps view old new (begins.Site w) h = same_site view old new h
+not_begun_keeps view old new begins.NoNumber h = same_site view old new h
+not_begun_keeps view old new (begins.Store w) h = h
 
-pub sign_in_not_begun : {S : Type 0} (view : S → View) (b : BeginSignIn) (words : List ℕ) (now : ℕ) (old new : StoredState S) (why : BeginFailure)
+pub sign_in_not_begun : {S : Type 0} (view : S → View) (b : BeginSignIn) (words : List ℕ) (now : ℕ) (old new : KeptState S) (why : BeginFailure)
     → TellsSignInBegun view b words now old new (not_begun why)
 sign_in_not_begun view b words now old new (begins.Site w) = tt
-sign_in_not_begun view b words now old new begins.BadMoment = tt
-sign_in_not_begun view b words now old new begins.BadNumber = tt
+sign_in_not_begun view b words now old new begins.NoNumber = tt
 sign_in_not_begun view b words now old new (begins.Store w) = tt
 
-pub registration_not_begun : {S : Type 0} (view : S → View) (b : BeginRegistration) (words : List ℕ) (now : ℕ) (old new : StoredState S)
+pub registration_not_begun : {S : Type 0} (view : S → View) (b : BeginRegistration) (words : List ℕ) (now : ℕ) (old new : KeptState S)
     (why : BeginFailure) → TellsRegistrationBegun view b words now old new (not_begun why)
 registration_not_begun view b words now old new (begins.Site w) = tt
-registration_not_begun view b words now old new begins.BadMoment = tt
-registration_not_begun view b words now old new begins.BadNumber = tt
+registration_not_begun view b words now old new begins.NoNumber = tt
 registration_not_begun view b words now old new (begins.Store w) = tt

@@ -1,3 +1,4 @@
 pub mod Kept
 pub mod Asked
 pub mod Finished
+pub mod Batched

@@ -1,3 +1,4 @@
 pub mod VerifiedSignatures
 pub mod Answers
+pub mod Batches
 pub mod Private

@@ -67,10 +67,16 @@ pub enum Act {
     FinishSignIn(FinishSignIn),
     /// Retire the credential of an id.
     Retire(Vec<u8>),
+    /// Delete the credential of an id.
+    Delete(Vec<u8>),
     /// Close the session of a number.
     Abandon(u64),
     /// End the sessions that began more than this many seconds ago.
     Expire(u64),
     /// Tell the credentials of a user, or all.
     Rows(Option<Vec<u8>>),
+    /// Tell how the site is.
+    Status,
+    /// Copy the site's file to a path.
+    Backup(String),
 }

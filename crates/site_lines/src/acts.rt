@@ -13,9 +13,12 @@ pub(crate) enum ActKind {
     BeginSignIn,
     FinishSignIn,
     Retire,
+    Delete,
     Abandon,
     Expire,
     Rows,
+    Status,
+    Backup,
 }
 
 /// A member that lines of an act have.
@@ -35,7 +38,7 @@ struct Form {
 }
 
 /// Each act.
-static FORMS: [Form; 8] = [
+static FORMS: [Form; 11] = [
     Form {
         kind: ActKind::BeginRegistration,
         name: "begin_registration",
@@ -67,6 +70,12 @@ static FORMS: [Form; 8] = [
         answer: "retired: whether it did until now",
     },
     Form {
+        kind: ActKind::Delete,
+        name: "delete",
+        meaning: "a credential is forgotten",
+        answer: "deleted: whether it was there",
+    },
+    Form {
         kind: ActKind::Abandon,
         name: "abandon",
         meaning: "a session ends",
@@ -84,10 +93,22 @@ static FORMS: [Form; 8] = [
         meaning: "the credentials of a user, or all",
         answer: "rows",
     },
+    Form {
+        kind: ActKind::Status,
+        name: "status",
+        meaning: "how the site is",
+        answer: "status",
+    },
+    Form {
+        kind: ActKind::Backup,
+        name: "backup",
+        meaning: "the file is copied",
+        answer: "backup: whether the copy is whole on the disk",
+    },
 ];
 
 /// Each act's members, beside `id` and `act`.
-static MEMBERS: [Member; 20] = [
+static MEMBERS: [Member; 22] = [
     Member {
         act: ActKind::BeginRegistration,
         name: "user",
@@ -191,6 +212,12 @@ static MEMBERS: [Member; 20] = [
         meaning: "the credential's id",
     },
     Member {
+        act: ActKind::Delete,
+        name: "credential",
+        is_needed: true,
+        meaning: "the credential's id",
+    },
+    Member {
         act: ActKind::Abandon,
         name: "session",
         is_needed: true,
@@ -207,6 +234,12 @@ static MEMBERS: [Member; 20] = [
         name: "user",
         is_needed: false,
         meaning: "the account's user handle",
+    },
+    Member {
+        act: ActKind::Backup,
+        name: "path",
+        is_needed: true,
+        meaning: "where nothing stands yet",
     },
 ];
 

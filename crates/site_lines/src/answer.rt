@@ -3,9 +3,22 @@
 use crate::act::{BeginRegistration, BeginSignIn};
 use crate::error::LineError;
 use authdata::{AssertionResponse, RegistrationResponse};
-use site::{Registered, RegistrationRefusal, SignInRefusal, SignedIn, Started};
-use stored_site::Failure;
+use ceremony_sessions::Started;
+use credential_table::Row;
+use kept_site::{Failure, Registered, SignedIn};
+use verification::{RegistrationRefusal, SignInRefusal};
 use verified_signature::VerifiedSignature;
+
+/// How many there are.
+#[derive(Clone, Copy, Debug, PartialEq, Eq, Drop)]
+pub struct Counts {
+    /// Credentials, retired ones too.
+    pub credentials: u32,
+    /// Open sessions.
+    pub sessions: usize,
+    /// The number that the next session will have.
+    pub next_session: u64,
+}
 
 /// What a line is answered.
 #[derive(Debug, Drop)]
@@ -26,12 +39,20 @@ pub enum Answer {
     SignInRefused(SignInRefusal, Vec<u8>),
     /// Whether the credential is retired only now.
     Retired(bool),
+    /// Whether the credential was there until now.
+    Deleted(bool),
     /// Whether the session is closed only now.
     Abandoned(bool),
     /// How many sessions ended by their age.
     Expired(usize),
     /// The credentials of a user, or all.
-    Rows(Option<Vec<u8>>),
+    Rows(Vec<Row>),
+    /// How many there are.
+    Status(Counts),
+    /// The path to which the site's file is to be copied, once all is committed.
+    Backup(String),
+    /// Why the site's file was not copied.
+    NotBackedUp(String),
     /// The line is refused. Nothing has changed.
     Error(LineError),
     /// The disk or memory failed, now or earlier. The site is shut.

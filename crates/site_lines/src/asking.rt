@@ -1,35 +1,36 @@
 //! Which signature a host is to verify.
 
-ghost use Rattle.std.specs.Prelude.{IfOk, IfSome};
+ghost use Rattle.std.specs.Prelude.{◌≡◌, ◌++◌, IfErr, IfOk, IfSome};
+ghost use Rattle.sha2.specs.Sha256.{sha256};
 ghost use Rattle.authdata.specs.Objects.{ObjectOf, object_view};
-ghost use Rattle.authdata.specs.Responses.{assertion_response_view, registration_response_view};
-ghost use Rattle.site_lines.specs.Answers.{RegistrationAsks, SignInAsks};
+ghost use Rattle.authdata.specs.Responses.{registration_response_view};
+ghost use Rattle.credential_table.specs.Views.{row_view};
+ghost use Rattle.site_lines.specs.Answers.{RegistrationAsks};
 
 use authdata::{
     AssertionResponse, AttestationObject, Profile, RegistrationResponse, self_signature,
 };
-use site::Site;
+use credential_table::Row;
 use std::alloc::{AllocError, Global};
 use verified_signature::{VerifiedSignature, attested_key};
 
-/// The signature of a sign-in's response, under the key of its credential; nothing where there is none.
+/// The signature of a sign-in's response, under the key of its credential.
 pub(crate) fn sign_in_asks(
     alloc: Global,
-    site: &Site,
+    row: &Row,
     response: &AssertionResponse,
-) -> Result<Option<VerifiedSignature>, AllocError>
-    ensures { IfOk result (λ asked. IfSome asked (SignInAsks site.now (assertion_response_view response.now))) }
+) -> Result<VerifiedSignature, AllocError>
+    ensures key { IfOk result (λ asked. asked.key ≡ (row_view row.now).key) }
+    ensures message { IfOk result (λ asked. asked.message.items ≡ response.now.auth_data.items ++ sha256 response.now.client_data.items) }
+    ensures signature { IfOk result (λ asked. asked.signature.items ≡ response.now.signature.items) }
 {
-    let Some(row) = site.row(response.credential.as_slice()) else {
-        return Ok(None);
-    };
-    Ok(Some(VerifiedSignature::of_response(
+    VerifiedSignature::of_response(
         alloc,
-        &row.key,
+        &row.key.view(),
         response.auth_data.as_slice(),
         response.client_data.as_slice(),
         response.signature.as_slice(),
-    )?))
+    )
 }
 
 /// The signature by which an object attests its own key; nothing where it has none.
@@ -60,13 +61,13 @@ fn self_asks(
 /// The signature of a registration's self attestation; nothing where it has none.
 pub(crate) fn registration_asks(
     alloc: Global,
-    site: &Site,
+    profile: Profile,
     response: &RegistrationResponse,
 ) -> Result<Option<VerifiedSignature>, AllocError>
-    ensures { IfOk result (λ asked. IfSome asked (RegistrationAsks site.now.rp.profile (registration_response_view response.now))) }
+    ensures { IfOk result (λ asked. IfSome asked (RegistrationAsks profile (registration_response_view response.now))) }
 {
     match AttestationObject::read(alloc, response.object.as_slice()) {
-        Ok(object) => self_asks(alloc, site.profile(), &object, response),
+        Ok(object) => self_asks(alloc, profile, &object, response),
         Err(authdata::Error::Memory) => Err(AllocError),
         Err(_) => Ok(None),
     }

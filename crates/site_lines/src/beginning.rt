@@ -1,16 +1,17 @@
 //! Beginning a ceremony.
 
 ghost use Rattle.std.specs.Prelude.{◌≡◌, IfErr, IfOk, map};
+ghost use Rattle.sqlite_trees.specs.Tree.{Trees};
 ghost use Rattle.site_lines.specs.Answers.{Begins, Keeps, TellsRegistrationBegun, TellsSignInBegun, opens_registration, opens_sign_in};
 ghost use Rattle.site_lines.specs.Private.{BeginsNothing, not_begun as not_begun_of};
 
 use crate::act::{BeginRegistration, BeginSignIn};
 use crate::answer::Answer;
 use crate::error::LineError;
-use site::{BeginError, Started};
+use ceremony_sessions::{Error as BeginError, Started};
+use kept_site::{BeginFailure, KeptSite};
 use sqlite_trees::store::Store;
 use std::alloc::{AllocError, Global};
-use stored_site::{BeginFailure, StoredSite};
 
 /// The ids, lent.
 fn lent<'a>(alloc: Global, ids: &'a [Vec<u8>]) -> Result<Vec<&'a [u8]>, AllocError>
@@ -26,7 +27,7 @@ fn lent<'a>(alloc: Global, ids: &'a [Vec<u8>]) -> Result<Vec<&'a [u8]>, AllocErr
 /// Begins a sign-in.
 fn started_sign_in<S: Store>(
     alloc: Global,
-    site: &mut StoredSite<S>,
+    site: &mut KeptSite<S>,
     words: [u8; 24],
     now: u64,
     begin: &BeginSignIn,
@@ -34,6 +35,7 @@ fn started_sign_in<S: Store>(
     ensures begun { IfOk result (λ s.
         Begins S.Store.view (opens_sign_in begin.now words) words now s.session s.challenge site.old site.new) }
     ensures refused { IfErr result (BeginsNothing site.old site.new) }
+    ensures crash { (db : Trees) → S.Store.recovers site.new.store db → S.Store.recovers site.old.store db }
 {
     let Ok(allow) = lent(alloc, begin.allow.as_slice()) else {
         return Err(BeginFailure::Site(BeginError::Memory));
@@ -53,8 +55,7 @@ fn not_begun(why: BeginFailure) -> Answer
 {
     match why {
         BeginFailure::Site(why) => Answer::Error(LineError::NotBegun(why)),
-        BeginFailure::BadMoment => Answer::Error(LineError::BadClock),
-        BeginFailure::BadNumber => Answer::Error(LineError::NoNumber),
+        BeginFailure::NoNumber => Answer::Error(LineError::NoNumber),
         BeginFailure::Store(why) => Answer::Failed(why),
     }
 }
@@ -62,13 +63,14 @@ fn not_begun(why: BeginFailure) -> Answer
 /// Begins a sign-in.
 pub(crate) fn begin_sign_in<S: Store>(
     alloc: Global,
-    site: &mut StoredSite<S>,
+    site: &mut KeptSite<S>,
     words: [u8; 24],
     now: u64,
     begin: BeginSignIn,
 ) -> Answer
     ensures told { TellsSignInBegun S.Store.view begin words now site.old site.new result }
-    ensures kept { Keeps site.old site.new result }
+    ensures kept { Keeps S.Store.view site.old site.new result }
+    ensures crash { (db : Trees) → S.Store.recovers site.new.store db → S.Store.recovers site.old.store db }
 {
     match started_sign_in(alloc, site, words, now, &begin) {
         Ok(started) => Answer::SignInBegun(started, begin),
@@ -78,7 +80,7 @@ pub(crate) fn begin_sign_in<S: Store>(
 
 /// Begins a registration.
 fn started_registration<S: Store>(
-    site: &mut StoredSite<S>,
+    site: &mut KeptSite<S>,
     words: [u8; 24],
     now: u64,
     begin: &BeginRegistration,
@@ -86,6 +88,7 @@ fn started_registration<S: Store>(
     ensures begun { IfOk result (λ s.
         Begins S.Store.view (opens_registration begin.now words) words now s.session s.challenge site.old site.new) }
     ensures refused { IfErr result (BeginsNothing site.old site.new) }
+    ensures crash { (db : Trees) → S.Store.recovers site.new.store db → S.Store.recovers site.old.store db }
 {
     site.begin_registration(
         begin.user.as_slice(),
@@ -98,13 +101,14 @@ fn started_registration<S: Store>(
 
 /// Begins a registration.
 pub(crate) fn begin_registration<S: Store>(
-    site: &mut StoredSite<S>,
+    site: &mut KeptSite<S>,
     words: [u8; 24],
     now: u64,
     begin: BeginRegistration,
 ) -> Answer
     ensures told { TellsRegistrationBegun S.Store.view begin words now site.old site.new result }
-    ensures kept { Keeps site.old site.new result }
+    ensures kept { Keeps S.Store.view site.old site.new result }
+    ensures crash { (db : Trees) → S.Store.recovers site.new.store db → S.Store.recovers site.old.store db }
 {
     match started_registration(site, words, now, &begin) {
         Ok(started) => Answer::RegistrationBegun(started, begin),

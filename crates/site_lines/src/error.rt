@@ -3,7 +3,7 @@
 ghost use Rattle.std.specs.Prelude.{◌≡◌};
 ghost use Rattle.site_lines.specs.declared.error.LineError.TheVariants as errors;
 
-use site::BeginError;
+use ceremony_sessions::Error as BeginError;
 use std::alloc::{AllocError, AllocFailed};
 
 /// Why a line is refused. Nothing has changed.
@@ -36,10 +36,7 @@ pub enum LineError {
     /// The site begins no such session.
     #[error("{0}")]
     NotBegun(BeginError),
-    /// The clock that was handed in is at 2^63 seconds or later.
-    #[error("the clock is out of range")]
-    BadClock,
-    /// The next session's number fits no row.
+    /// The next session's number fits no column.
     #[error("there is no number for another session")]
     NoNumber,
     /// There was no memory.

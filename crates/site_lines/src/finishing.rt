@@ -1,6 +1,7 @@
 //! Finishing a ceremony.
 
-ghost use Rattle.std.specs.Prelude.{◌≡◌};
+ghost use Rattle.std.specs.Prelude.{◌≡◌, false};
+ghost use Rattle.sqlite_trees.specs.Tree.{Trees};
 ghost use Rattle.authdata.specs.Responses.{assertion_response_view, registration_response_view};
 ghost use Rattle.verification.specs.Views.{assertion_parts_view, registration_parts_view};
 ghost use Rattle.site_lines.specs.Answers.{Keeps, TellsRegistration, TellsSignIn};
@@ -10,13 +11,13 @@ use crate::act::{FinishRegistration, FinishSignIn};
 use crate::answer::Answer;
 use crate::asking::{registration_asks, sign_in_asks};
 use crate::error::LineError;
-use authdata::{AssertionResponse, RegistrationResponse};
-use site::{
-    AssertionParts, RegistrationParts, RegistrationRefusal, SignInRefusal, Site, VerificationError,
-};
+use authdata::{AssertionResponse, Profile, RegistrationResponse};
+use kept_site::{FinishFailure, KeptSite};
 use sqlite_trees::store::Store;
 use std::alloc::Global;
-use stored_site::{FinishFailure, StoredSite};
+use verification::{
+    AssertionParts, RegistrationParts, RegistrationRefusal, SignInRefusal, VerificationError,
+};
 
 /// A sign-in's response, lent.
 fn assertion_parts(response: &AssertionResponse) -> AssertionParts<'_>
@@ -43,33 +44,43 @@ fn registration_parts(response: &RegistrationResponse) -> RegistrationParts<'_>
 
 /// What is answered where a step refuses a sign-in: which signature is to be verified, where the host has verified nothing
 /// yet and that is the step, or else the step. So it is told too where the host found the signature invalid.
-fn refused_sign_in(alloc: Global, site: &Site, step: SignInRefusal, finish: FinishSignIn) -> Answer
-    ensures { IsRefusedSignIn site.now step finish result }
+fn refused_sign_in<S: Store>(
+    alloc: Global,
+    site: &mut KeptSite<S>,
+    step: SignInRefusal,
+    finish: FinishSignIn,
+) -> Answer
+    ensures told { IsRefusedSignIn S.Store.view step finish site.old site.new result }
+    ensures kept { Keeps S.Store.view site.old site.new result }
+    ensures crash { (db : Trees) → S.Store.recovers site.new.store db → S.Store.recovers site.old.store db }
 {
     let response = finish.response;
     if step != SignInRefusal::BadSignature || !finish.verified.is_nothing() {
         return Answer::SignInRefused(step, response.credential);
     }
-    match sign_in_asks(alloc, site, &response) {
-        Ok(Some(signature)) => Answer::Verify(signature),
+    match site.credential(response.credential.as_slice()) {
+        Ok(Some(row)) => match sign_in_asks(alloc, &row, &response) {
+            Ok(signature) => Answer::Verify(signature),
+            Err(_) => Answer::Error(LineError::Memory),
+        },
         Ok(None) => Answer::SignInRefused(step, response.credential),
-        Err(_) => Answer::Error(LineError::Memory),
+        Err(why) => Answer::Failed(why),
     }
 }
 
 /// The same of a registration.
 fn refused_registration(
     alloc: Global,
-    site: &Site,
+    profile: Profile,
     step: RegistrationRefusal,
     finish: FinishRegistration,
 ) -> Answer
-    ensures { IsRefusedRegistration site.now step finish result }
+    ensures { IsRefusedRegistration profile step finish result }
 {
     if step != RegistrationRefusal::BadStatement || !finish.verified.is_nothing() {
         return Answer::RegistrationRefused(step, finish.credential);
     }
-    match registration_asks(alloc, site, &finish.response) {
+    match registration_asks(alloc, profile, &finish.response) {
         Ok(Some(signature)) => Answer::Verify(signature),
         Ok(None) => Answer::RegistrationRefused(step, finish.credential),
         Err(_) => Answer::Error(LineError::Memory),
@@ -79,18 +90,20 @@ fn refused_registration(
 /// Finishes a sign-in, or asks for its signature.
 pub(crate) fn finish_sign_in<S: Store>(
     alloc: Global,
-    site: &mut StoredSite<S>,
+    site: &mut KeptSite<S>,
     finish: FinishSignIn,
 ) -> Answer
+    requires live { site.old.is_shut ≡ false }
     ensures told { TellsSignIn S.Store.view finish site.old site.new result }
-    ensures kept { Keeps site.old site.new result }
+    ensures kept { Keeps S.Store.view site.old site.new result }
+    ensures crash { (db : Trees) → S.Store.recovers site.new.store db → S.Store.recovers site.old.store db }
 {
     let parts = assertion_parts(&finish.response);
     let verifier = finish.verified.verifier();
     match site.finish_parts(&verifier, finish.session, &parts) {
         Ok(signed_in) => Answer::SignedIn(signed_in, finish.response),
         Err(FinishFailure::Site(VerificationError::Refused(step))) => {
-            refused_sign_in(alloc, site.site(), step, finish)
+            refused_sign_in(alloc, site, step, finish)
         }
         Err(FinishFailure::Site(VerificationError::Memory)) => Answer::Error(LineError::Memory),
         Err(FinishFailure::Store(why)) => Answer::Failed(why),
@@ -100,18 +113,20 @@ pub(crate) fn finish_sign_in<S: Store>(
 /// Finishes a registration, or asks for its signature.
 pub(crate) fn finish_registration<S: Store>(
     alloc: Global,
-    site: &mut StoredSite<S>,
+    site: &mut KeptSite<S>,
     finish: FinishRegistration,
 ) -> Answer
+    requires live { site.old.is_shut ≡ false }
     ensures told { TellsRegistration S.Store.view finish site.old site.new result }
-    ensures kept { Keeps site.old site.new result }
+    ensures kept { Keeps S.Store.view site.old site.new result }
+    ensures crash { (db : Trees) → S.Store.recovers site.new.store db → S.Store.recovers site.old.store db }
 {
     let parts = registration_parts(&finish.response);
     let verifier = finish.verified.verifier();
     match site.finish_registration_parts(&verifier, finish.session, &parts) {
         Ok(registered) => Answer::Registered(registered, finish.response),
         Err(FinishFailure::Site(VerificationError::Refused(step))) => {
-            refused_registration(alloc, site.site(), step, finish)
+            refused_registration(alloc, site.party().profile(), step, finish)
         }
         Err(FinishFailure::Site(VerificationError::Memory)) => Answer::Error(LineError::Memory),
         Err(FinishFailure::Store(why)) => Answer::Failed(why),

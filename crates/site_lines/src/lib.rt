@@ -2,6 +2,7 @@
 #![tactic(auto)]
 
 mod act;
+mod acting;
 mod acts;
 mod answer;
 mod asking;
@@ -16,15 +17,18 @@ mod members;
 mod options;
 mod reading;
 mod response;
+mod tally;
 mod verified;
 mod writing;
 
 pub use act::{Act, BeginRegistration, BeginSignIn, FinishRegistration, FinishSignIn};
+pub use acting::carry_out;
 pub use acts::acts_help;
-pub use answer::Answer;
+pub use answer::{Answer, Counts};
 pub use error::LineError;
-pub use line::{Answered, answer_line, carry_out};
+pub use line::{Answered, Arrived, answer_lines};
 pub use log::{Logged, log_line};
 pub use reading::{Line, LineFault, MAX_LINE, read_line};
+pub use tally::Tally;
 pub use verified::Verified;
-pub use writing::write_answer;
+pub use writing::{Teller, write_answer};

@@ -1,18 +1,29 @@
-//! From a line to its answer.
+//! From lines to their answers.
 
-ghost use Rattle.std.specs.Prelude.{◌≡◌, IfOk, MatchResult, OnOk, Some};
-ghost use Rattle.site_lines.specs.Answers.{IsTold, Keeps, Tells, TellsAbandoned, TellsExpired, TellsRetired, TellsRows};
-ghost use Rattle.site_lines.specs.declared.act.Act.TheVariants as acts;
+ghost use Rattle.std.specs.Prelude.{◌≡◌, ◌⊎◌, IfOk, MatchResult, OnErr, OnOk, Some, true};
+ghost use Rattle.sqlite_trees.specs.Tree.{Trees};
+ghost use Rattle.site_lines.specs.Answers.{IsTold, Keeps};
+ghost use Rattle.site_lines.specs.Batches.{Answers, AreFailed, IsCommitted, Leaves, Runs};
 
 use crate::act::Act;
+use crate::acting::carry_out;
 use crate::answer::Answer;
-use crate::beginning::{begin_registration, begin_sign_in};
-use crate::finishing::{finish_registration, finish_sign_in};
 use crate::reading::{Line, LineFault, read_line};
-use crate::writing::write_answer;
+use crate::tally::Tally;
+use kept_site::{Failure, KeptSite};
 use sqlite_trees::store::Store;
 use std::alloc::{AllocError, Global};
-use stored_site::{Failure, StoredSite};
+use std::io;
+use std::time::{Clock, Instant};
+
+/// A line that came, with 24 fresh random bytes for the session that it may begin.
+#[derive(Debug, Drop)]
+pub struct Arrived {
+    /// The line, without its end.
+    pub line: Vec<u8>,
+    /// The bytes.
+    pub words: [u8; 24],
+}
 
 /// An answer, with what tells it from others: the number of its line, and of the session that the line names or begins.
 #[derive(Debug, Drop)]
@@ -23,73 +34,6 @@ pub struct Answered {
     pub session: Option<u64>,
     /// The answer.
     pub answer: Answer,
-}
-
-/// Retires the credential of an id.
-fn retire<S: Store>(site: &mut StoredSite<S>, credential: &[u8]) -> Answer
-    ensures told { TellsRetired S.Store.view credential.now site.old site.new result }
-    ensures kept { Keeps site.old site.new result }
-{
-    match site.retire(credential) {
-        Ok(was) => Answer::Retired(was),
-        Err(why) => Answer::Failed(why),
-    }
-}
-
-/// Closes the session of a number.
-fn abandon<S: Store>(site: &mut StoredSite<S>, session: u64) -> Answer
-    ensures told { TellsAbandoned S.Store.view session site.old site.new result }
-    ensures kept { Keeps site.old site.new result }
-{
-    match site.abandon(session) {
-        Ok(was) => Answer::Abandoned(was),
-        Err(why) => Answer::Failed(why),
-    }
-}
-
-/// Ends the sessions that began more than this many seconds ago.
-fn expire<S: Store>(site: &mut StoredSite<S>, now: u64, age: u64) -> Answer
-    ensures told { TellsExpired S.Store.view age now site.old site.new result }
-    ensures kept { Keeps site.old site.new result }
-{
-    match site.expire(now.saturating_sub(age)) {
-        Ok(count) => Answer::Expired(count),
-        Err(why) => Answer::Failed(why),
-    }
-}
-
-/// The credentials of a user, or all. A site that is shut tells none: what it has in memory may not be in the file.
-fn rows<S: Store>(site: &StoredSite<S>, user: Option<Vec<u8>>) -> Answer
-    ensures told { TellsRows S.Store.view (acts.Rows user) site.now site.now result }
-    ensures kept { Keeps site.now site.now result }
-{
-    if site.is_shut() {
-        return Answer::Failed(Failure::Shut);
-    }
-    Answer::Rows(user)
-}
-
-/// Carries out an act, at this second of the host's clock.
-pub fn carry_out<S: Store>(
-    alloc: Global,
-    site: &mut StoredSite<S>,
-    words: [u8; 24],
-    now: u64,
-    act: Act,
-) -> Answer
-    ensures told { Tells S.Store.view words now act site.old site.new result }
-    ensures kept { Keeps site.old site.new result }
-{
-    match act {
-        Act::BeginRegistration(begin) => begin_registration(site, words, now, begin),
-        Act::FinishRegistration(finish) => finish_registration(alloc, site, finish),
-        Act::BeginSignIn(begin) => begin_sign_in(alloc, site, words, now, begin),
-        Act::FinishSignIn(finish) => finish_sign_in(alloc, site, finish),
-        Act::Retire(credential) => retire(site, credential.as_slice()),
-        Act::Abandon(session) => abandon(site, session),
-        Act::Expire(age) => expire(site, now, age),
-        Act::Rows(user) => rows(site, user),
-    }
 }
 
 /// The session that an act names.
@@ -114,14 +58,15 @@ fn session_of(named: Option<u64>, answer: &Answer) -> Option<u64> {
 /// Carries out what a line that was read asks for, or tells why it was not read.
 fn carried_out<S: Store>(
     alloc: Global,
-    site: &mut StoredSite<S>,
+    site: &mut KeptSite<S>,
     words: [u8; 24],
     now: u64,
     read: Result<Line, LineFault>,
 ) -> Answered
     ensures told { IsTold S.Store.view words now site.old site.new result.answer }
-    ensures kept { Keeps site.old site.new result.answer }
+    ensures kept { Keeps S.Store.view site.old site.new result.answer }
     ensures number { MatchResult read (λ line. result.id ≡ Some line.id) (λ fault. result.id ≡ fault.id) }
+    ensures crash { (db : Trees) → S.Store.recovers site.new.store db → S.Store.recovers site.old.store db }
 {
     match read {
         Ok(line) => {
@@ -141,40 +86,95 @@ fn carried_out<S: Store>(
     }
 }
 
-/// An answer whose line is written.
-fn told(answered: Answered, written: Result<(), AllocError>) -> Result<Answered, AllocError>
-    ensures { IfOk result (λ a. a ≡ answered) }
+/// Carries out each line, in order.
+fn carry_all<S: Store>(
+    alloc: Global,
+    site: &mut KeptSite<S>,
+    now: u64,
+    arrived: &[Arrived],
+) -> Result<Vec<Answered>, AllocError>
+    ensures ran { IfOk result (λ answers. Runs S.Store.view now site.old arrived.now answers.items site.new) }
+    ensures crash { (db : Trees) → S.Store.recovers site.new.store db → S.Store.recovers site.old.store db }
 {
-    written?;
-    Ok(answered)
+    let mut answers = Vec::with_capacity(alloc, arrived.len())?;
+    for one in arrived {
+        let read = read_line(alloc, one.line.as_slice());
+        let answered = carried_out(alloc, site, one.words, now, read);
+        answers.push(answered)?;
+    }
+    Ok(answers)
 }
 
-/// Answers a line, at this second of the host's clock: what is appended is one line, with its end.
-///
-/// Where there is no memory for the answer's text, what the line asked for may be done; where there is none to read the line
-/// the answer is an `error`.
-pub fn answer_line<S: Store>(
-    alloc: Global,
-    site: &mut StoredSite<S>,
-    rp_name: &str,
-    words: [u8; 24],
-    now: u64,
-    line: &[u8],
-    out: &mut String,
-) -> Result<Answered, AllocError>
-    // So nobody is accepted but by the contract of an act, and a line in error changes nothing.
-    ensures told { IfOk result (λ a. IsTold S.Store.view words now site.old site.new a.answer) }
-    ensures kept { IfOk result (λ a. Keeps site.old site.new a.answer) }
+/// The same answers, each a failure.
+fn failed(alloc: Global, answers: &[Answered], why: Failure) -> Result<Vec<Answered>, AllocError>
+    ensures { IfOk result (λ told. AreFailed why told.items) }
 {
-    let read = read_line(alloc, line);
-    let answered = carried_out(alloc, site, words, now, read);
-    let written = write_answer(
-        alloc,
-        site.site(),
-        rp_name,
-        answered.id,
-        &answered.answer,
-        out,
-    );
-    told(answered, written)
+    let mut told = Vec::with_capacity(alloc, answers.len())?;
+    for answered in answers {
+        told.push(Answered {
+            id: answered.id,
+            session: answered.session,
+            answer: Answer::Failed(why),
+        })?;
+    }
+    Ok(told)
+}
+
+/// The microseconds since an instant; 0 where the clock fails.
+fn since(clock: &impl Clock, began: io::Result<Instant>) -> u64 {
+    let Ok(began) = began else {
+        return 0;
+    };
+    match began.elapsed(clock) {
+        Ok(elapsed) => u64::try_from(elapsed.as_micros()).unwrap_or(u64::MAX),
+        Err(_) => 0,
+    }
+}
+
+/// Commits what the lines have done, and counts it where something was written.
+fn commit<S: Store>(
+    clock: &impl Clock,
+    site: &mut KeptSite<S>,
+    tally: &mut Tally,
+) -> Result<(), Failure>
+    ensures committed { OnOk result (IsCommitted S.Store.view S.Store.recovers site.old site.new) }
+    ensures failed { OnErr result (site.new.is_shut ≡ true) }
+    ensures crash { (db : Trees) → S.Store.recovers site.new.store db → (db ≡ (S.Store.view site.old.store).trees) ⊎ S.Store.recovers site.old.store db }
+{
+    if !site.is_pending() {
+        return site.commit();
+    }
+    let began = Instant::now(clock);
+    let committed = site.commit();
+    tally.note_commit(since(clock, began));
+    committed
+}
+
+/// Answers lines that came together, at this second of the host's clock: each is carried out, in order, and all are committed
+/// together. Where the commit fails each answer is that failure. The tally is of what is told; the clock measures commits.
+///
+/// Where there is no memory for the list of answers, what the lines asked for is not committed, and the site is to be opened
+/// anew.
+pub fn answer_lines<S: Store>(
+    alloc: Global,
+    clock: &impl Clock,
+    site: &mut KeptSite<S>,
+    tally: &mut Tally,
+    now: u64,
+    arrived: &[Arrived],
+) -> Result<Vec<Answered>, AllocError>
+    // What is told is committed; or each answer is one failure.
+    ensures told { IfOk result (λ answers. Answers S.Store.view S.Store.recovers now site.old arrived.now answers.items site.new) }
+    // A crash leaves what it could leave before, or all that the lines have done.
+    ensures crash { (db : Trees) → S.Store.recovers site.new.store db
+        → S.Store.recovers site.old.store db ⊎ Leaves S.Store.view now site.old arrived.now db }
+{
+    let answers = carry_all(alloc, site, now, arrived)?;
+    match commit(clock, site, tally) {
+        Ok(()) => {
+            tally.note_all(answers.as_slice());
+            Ok(answers)
+        }
+        Err(why) => failed(alloc, answers.as_slice(), why),
+    }
 }

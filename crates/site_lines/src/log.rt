@@ -10,7 +10,7 @@ use std::fmt::Write;
 /// What is logged.
 #[derive(Clone, Copy, Debug, PartialEq, Eq, Drop)]
 pub enum Logged {
-    /// Refusals, failures, and sessions that don't begin for want of room, a number or a clock.
+    /// Refusals, failures, and sessions that don't begin, and backups that fail.
     Refusals,
     /// Acceptances and each other error too.
     All,
@@ -59,10 +59,11 @@ fn verdict(alloc: Global, answer: &Answer, out: &mut String) -> Result<(), Alloc
         }
         Answer::Registered(registered, _) => {
             write!(out, " registration accepted")?;
-            credential(alloc, registered.credential.as_slice(), out)?;
+            credential(alloc, registered.credential.id.as_slice(), out)?;
             writeln!(out)
         }
         Answer::Failed(failure) => writeln!(out, " failed: {failure}"),
+        Answer::NotBackedUp(why) => writeln!(out, " error: {why}"),
         Answer::Error(error) => writeln!(out, " error: {error}"),
         _ => writeln!(out),
     }
@@ -72,7 +73,8 @@ fn verdict(alloc: Global, answer: &Answer, out: &mut String) -> Result<(), Alloc
 fn is_logged(which: Logged, answer: &Answer) -> bool {
     match answer {
         Answer::SignInRefused(..) | Answer::RegistrationRefused(..) | Answer::Failed(_) => true,
-        Answer::Error(LineError::NotBegun(_) | LineError::BadClock | LineError::NoNumber) => true,
+        Answer::Error(LineError::NotBegun(_) | LineError::NoNumber) | Answer::NotBackedUp(_) =>
+            true,
         Answer::SignedIn(..) | Answer::Registered(..) | Answer::Error(_) => which == Logged::All,
         _ => false,
     }

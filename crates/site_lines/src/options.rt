@@ -3,9 +3,9 @@
 
 use crate::act::{BeginRegistration, BeginSignIn};
 use base64::engine::general_purpose::URL_SAFE_NO_PAD;
+use ceremony_sessions::Started;
 use cose::Alg;
 use serde_json::{Value, json};
-use site::Started;
 use std::alloc::{AllocError, Global};
 
 /// Bytes as a text.

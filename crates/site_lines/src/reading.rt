@@ -106,9 +106,12 @@ fn act_of(alloc: Global, kind: ActKind, line: &Value) -> Result<Act, LineError> 
         ActKind::BeginSignIn => Act::BeginSignIn(begin_sign_in(alloc, line)?),
         ActKind::FinishSignIn => Act::FinishSignIn(finish_sign_in(alloc, line)?),
         ActKind::Retire => Act::Retire(bytes(alloc, line, "credential")?),
+        ActKind::Delete => Act::Delete(bytes(alloc, line, "credential")?),
         ActKind::Abandon => Act::Abandon(number(line, "session")?),
         ActKind::Expire => Act::Expire(number(line, "older_than")?),
         ActKind::Rows => Act::Rows(optional_bytes(alloc, line, "user")?),
+        ActKind::Status => Act::Status,
+        ActKind::Backup => Act::Backup(String::from_str(alloc, text(line, "path")?)?),
     })
 }
 

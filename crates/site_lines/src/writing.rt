@@ -1,21 +1,37 @@
 //! Writing an answer.
 
-use crate::answer::Answer;
+use crate::answer::{Answer, Counts};
+use crate::line::Answered;
 use crate::options::{base64_text, creation_options, request_options};
+use crate::tally::Tally;
 use authdata::flags::{BS, UV, is_set};
 use authdata::{
     AssertionResponse, AttestationObject, AuthView, Profile, RegistrationResponse, read_view,
 };
 use cose::KeyView;
-use serde_json::{Value, json};
-use site::{Registered, RegistrationRefusal, RowView, SignInRefusal, SignedIn, Site};
+use credential_store::lent;
+use credential_table::Row;
+use kept_site::{Registered, SignedIn};
+use serde_json::{Map, Value, json};
 use std::alloc::{AllocError, Global};
 use std::fmt::Display;
+use verification::{RegistrationRefusal, RelyingParty, RowView, SignInRefusal};
 use verified_signature::VerifiedSignature;
 
 /// The text of an error.
 fn told(alloc: Global, error: &impl Display) -> Result<Value, AllocError> {
     Ok(Value::String(format!(in alloc; "{error}")?))
+}
+
+/// The object of an answer that says why.
+fn error_value(
+    alloc: Global,
+    id: Value,
+    name: &str,
+    why: &impl Display,
+) -> Result<Value, AllocError> {
+    let why = told(alloc, why)?;
+    member_value(alloc, id, name, why)
 }
 
 /// The coordinates of a key, of an RSA key its modulus and exponent; of EdDSA y is empty.
@@ -54,17 +70,11 @@ fn row_value(alloc: Global, row: &RowView<'_>) -> Result<Value, AllocError> {
     })
 }
 
-/// The credentials of a user, or all, in order of registration.
-fn rows(alloc: Global, site: &Site, user: Option<&[u8]>) -> Result<Value, AllocError> {
-    let mut list = Vec::new(alloc);
-    for row in site.rows() {
-        let is_asked = match user {
-            Some(user) => row.user == user,
-            None => true,
-        };
-        if is_asked {
-            list.push(row_value(alloc, &row)?)?;
-        }
+/// Credentials.
+fn rows(alloc: Global, rows: &[Row]) -> Result<Value, AllocError> {
+    let mut list = Vec::with_capacity(alloc, rows.len())?;
+    for row in rows {
+        list.push(row_value(alloc, &lent(row))?)?;
     }
     Ok(Value::Array(list))
 }
@@ -118,19 +128,17 @@ fn with_data(
 /// The credential that was registered, with what its response says.
 fn registered_row(
     alloc: Global,
-    site: &Site,
+    profile: Profile,
     registered: &Registered,
     response: &RegistrationResponse,
 ) -> Result<Value, AllocError> {
-    let Some(row) = site.row(registered.credential.as_slice()) else {
-        return Ok(Value::Null);
-    };
+    let row = lent(&registered.credential);
     let object = match AttestationObject::read(alloc, response.object.as_slice()) {
         Ok(object) => object,
         Err(authdata::Error::Memory) => return Err(AllocError),
         Err(_) => return row_value(alloc, &row),
     };
-    match read_view(site.profile(), object.auth_data.as_slice()) {
+    match read_view(profile, object.auth_data.as_slice()) {
         Ok(data) => with_data(alloc, &row, &data, object.fmt.as_str()),
         Err(_) => row_value(alloc, &row),
     }
@@ -174,80 +182,146 @@ fn registration_step(alloc: Global, step: RegistrationRefusal) -> Result<Value, 
     json!(in alloc; {"number": number, "name": name, "text": text})
 }
 
-/// The answer's object.
-fn answer_value(
+/// Counts by the number of a step, of those that are above 0, each under the step's name: a letter and the number.
+fn refusals(alloc: Global, letter: char, counts: &[u64; 17]) -> Result<Value, AllocError> {
+    let mut by_name = Map::new(alloc);
+    for (number, count) in counts.iter().enumerate() {
+        if 0 < *count {
+            by_name.insert(format!(in alloc; "{letter}{number}")?, Value::from(*count))?;
+        }
+    }
+    Ok(Value::Object(by_name))
+}
+
+/// How the site is.
+fn status(
     alloc: Global,
-    site: &Site,
-    rp_name: &str,
+    version: &str,
+    tally: &Tally,
+    counts: &Counts,
+) -> Result<Value, AllocError> {
+    let sign_ins_refused = refusals(alloc, 'W', &tally.sign_in_refusals)?;
+    let registrations_refused = refusals(alloc, 'G', &tally.registration_refusals)?;
+    let (credentials, sessions) = (counts.credentials, counts.sessions as u64);
+    let (next_session, commits) = (counts.next_session, tally.commits);
+    let (microseconds, sign_ins) = (tally.last_commit, tally.sign_ins);
+    let registrations = tally.registrations;
+    json!(in alloc; {
+        "version": version, "credentials": credentials, "sessions": sessions, "next_session": next_session,
+        "commits": commits, "last_commit_microseconds": microseconds, "sign_ins": sign_ins, "registrations": registrations,
+        "sign_ins_refused": sign_ins_refused, "registrations_refused": registrations_refused
+    })
+}
+
+/// What a program tells beside the answers.
+#[derive(Clone, Copy, Drop)]
+pub struct Teller<'a> {
+    /// The relying party.
+    pub party: &'a RelyingParty,
+    /// Its name, which the page shows.
+    pub rp_name: &'a str,
+    /// The program's version.
+    pub version: &'a str,
+    /// What is counted.
+    pub tally: &'a Tally,
+}
+
+/// The object of an answer with one member.
+fn member_value(alloc: Global, id: Value, name: &str, value: Value) -> Result<Value, AllocError> {
+    json!(in alloc; {"id": id, name: value})
+}
+
+/// The object of an answer to a line that is no ceremony's, or that is refused.
+fn other_value(
+    alloc: Global,
+    teller: &Teller<'_>,
     id: Value,
     answer: &Answer,
 ) -> Result<Value, AllocError> {
     match answer {
-        Answer::RegistrationBegun(started, begin) => {
-            let options = creation_options(alloc, site.rp_id(), rp_name, started, begin)?;
-            let session = started.session;
-            json!(in alloc; {"id": id, "session": session, "options": options})
+        Answer::Retired(was) => member_value(alloc, id, "retired", Value::Bool(*was)),
+        Answer::Deleted(was) => member_value(alloc, id, "deleted", Value::Bool(*was)),
+        Answer::Abandoned(was) => member_value(alloc, id, "abandoned", Value::Bool(*was)),
+        Answer::Expired(count) => member_value(alloc, id, "expired", Value::from(*count as u64)),
+        Answer::Rows(list) => {
+            let rows = rows(alloc, list.as_slice())?;
+            member_value(alloc, id, "rows", rows)
         }
-        Answer::SignInBegun(started, begin) => {
-            let options = request_options(alloc, site.rp_id(), started, begin)?;
-            let session = started.session;
-            json!(in alloc; {"id": id, "session": session, "options": options})
+        Answer::Status(counts) => {
+            let status = status(alloc, teller.version, teller.tally, counts)?;
+            member_value(alloc, id, "status", status)
         }
-        Answer::Registered(registered, response) => {
-            let row = registered_row(alloc, site, registered, response)?;
-            json!(in alloc; {"id": id, "accepted": row})
-        }
-        Answer::SignedIn(who, response) => {
-            let who = signed_in(alloc, site.profile(), who, response)?;
-            json!(in alloc; {"id": id, "accepted": who})
-        }
-        Answer::Verify(asked) => {
-            let asked = verify(alloc, asked)?;
-            json!(in alloc; {"id": id, "verify": asked})
-        }
-        Answer::RegistrationRefused(step, _) => {
-            let step = registration_step(alloc, *step)?;
-            json!(in alloc; {"id": id, "refused": step})
-        }
-        Answer::SignInRefused(step, _) => {
-            let step = sign_in_step(alloc, *step)?;
-            json!(in alloc; {"id": id, "refused": step})
-        }
-        Answer::Retired(was) => json!(in alloc; {"id": id, "retired": (*was)}),
-        Answer::Abandoned(was) => json!(in alloc; {"id": id, "abandoned": (*was)}),
-        Answer::Expired(count) => {
-            let count = *count as u64;
-            json!(in alloc; {"id": id, "expired": count})
-        }
-        Answer::Rows(user) => {
-            let rows = rows(alloc, site, user.as_deref())?;
-            json!(in alloc; {"id": id, "rows": rows})
-        }
-        Answer::Error(error) => {
-            let error = told(alloc, error)?;
-            json!(in alloc; {"id": id, "error": error})
-        }
-        Answer::Failed(failure) => {
-            let failure = told(alloc, failure)?;
-            json!(in alloc; {"id": id, "failed": failure})
-        }
+        Answer::Backup(_) => member_value(alloc, id, "backup", Value::Bool(true)),
+        Answer::NotBackedUp(why) => error_value(alloc, id, "error", why),
+        Answer::Error(error) => error_value(alloc, id, "error", error),
+        Answer::Failed(failure) => error_value(alloc, id, "failed", failure),
+        _ => Ok(Value::Null),
     }
 }
 
-/// Appends an answer as one line, with its end. `id` is null where the line has no number.
+/// The object of an answer by which a session has begun.
+fn begun_value(
+    alloc: Global,
+    id: Value,
+    session: u64,
+    options: Value,
+) -> Result<Value, AllocError> {
+    json!(in alloc; {"id": id, "session": session, "options": options})
+}
+
+/// The object of an answer to a ceremony's line.
+fn ceremony_value(
+    alloc: Global,
+    teller: &Teller<'_>,
+    id: Value,
+    answer: &Answer,
+) -> Result<Value, AllocError> {
+    let party = teller.party;
+    match answer {
+        Answer::RegistrationBegun(started, begin) => {
+            let options = creation_options(alloc, party.rp_id(), teller.rp_name, started, begin)?;
+            begun_value(alloc, id, started.session, options)
+        }
+        Answer::SignInBegun(started, begin) => {
+            let options = request_options(alloc, party.rp_id(), started, begin)?;
+            begun_value(alloc, id, started.session, options)
+        }
+        Answer::Registered(registered, response) => {
+            let row = registered_row(alloc, party.profile(), registered, response)?;
+            member_value(alloc, id, "accepted", row)
+        }
+        Answer::SignedIn(who, response) => {
+            let who = signed_in(alloc, party.profile(), who, response)?;
+            member_value(alloc, id, "accepted", who)
+        }
+        Answer::Verify(asked) => {
+            let asked = verify(alloc, asked)?;
+            member_value(alloc, id, "verify", asked)
+        }
+        Answer::RegistrationRefused(step, _) => {
+            let step = registration_step(alloc, *step)?;
+            member_value(alloc, id, "refused", step)
+        }
+        Answer::SignInRefused(step, _) => {
+            let step = sign_in_step(alloc, *step)?;
+            member_value(alloc, id, "refused", step)
+        }
+        _ => other_value(alloc, teller, id, answer),
+    }
+}
+
+/// Appends an answer as one line, with its end. Its `id` is null where the line has no number.
 pub fn write_answer(
     alloc: Global,
-    site: &Site,
-    rp_name: &str,
-    id: Option<u64>,
-    answer: &Answer,
+    teller: &Teller<'_>,
+    answered: &Answered,
     out: &mut String,
 ) -> Result<(), AllocError> {
-    let id = match id {
+    let id = match answered.id {
         Some(id) => Value::from(id),
         None => Value::Null,
     };
-    let value = answer_value(alloc, site, rp_name, id, answer)?;
+    let value = ceremony_value(alloc, teller, id, &answered.answer)?;
     let text = value.to_string(alloc)?;
     out.push_str(text.as_str())?;
     out.push('\n')

@@ -1,44 +1,58 @@
 //! The site's file.
 
-ghost use Rattle.std.specs.Prelude.{◌≡◌, [], IfOk};
-ghost use Rattle.std.specs.FinMap as finite;
-
 use crate::fault::Fault;
 use crate::options::Options;
 use crate::party::check_party;
-use site::{Site, Table};
+use kept_site::Bounds;
 use site_files::{FileError, FileSite, Unknown, create, open};
 use std::alloc::Global;
+use verification::RelyingParty;
 
-/// The relying party, without credentials and sessions.
-fn party(alloc: Global, options: &Options<'_>) -> Result<Site, Fault>
-    ensures no_credential { IfOk result (λ s. s.rows ≡ []) }
-    ensures no_session { IfOk result (λ s. s.sessions.expected ≡ finite.empty) }
-{
-    let Ok(mut site) = Site::with_profile(
+/// The relying party.
+fn party(alloc: Global, options: &Options<'_>) -> Result<RelyingParty, Fault> {
+    let Ok(party) = RelyingParty::with_profile(
         alloc,
         options.profile,
         options.rp_id,
         options.origins.as_slice(),
-        options.policy,
-        Table::new(alloc),
     ) else {
         return Err(Fault::Memory);
     };
-    site.set_max_open(options.max_open);
-    Ok(site)
+    Ok(party)
+}
+
+/// How much the site may have.
+fn bounds(options: &Options<'_>) -> Bounds {
+    Bounds {
+        open_sessions: options.max_open,
+        credentials: options.max_credentials,
+    }
 }
 
 /// Makes the site's file.
 fn made(rt: &HostRuntime, options: &Options<'_>) -> Result<FileSite<Unknown>, Fault> {
-    let site = party(rt.alloc(), options)?;
-    Ok(create(rt, options.file, site, Unknown)?)
+    let party = party(rt.alloc(), options)?;
+    Ok(create(
+        rt,
+        options.file,
+        party,
+        options.policy,
+        bounds(options),
+        Unknown,
+    )?)
 }
 
 /// Opens the site's file.
 fn opened(rt: &HostRuntime, options: &Options<'_>) -> Result<FileSite<Unknown>, Fault> {
-    let site = party(rt.alloc(), options)?;
-    Ok(open(rt, options.file, site, Unknown)?)
+    let party = party(rt.alloc(), options)?;
+    Ok(open(
+        rt,
+        options.file,
+        party,
+        options.policy,
+        bounds(options),
+        Unknown,
+    )?)
 }
 
 /// Makes the site's file where one stands that has no site: a creation that was cut off is taken up, and all else refused.

@@ -2,7 +2,13 @@
 
 use crate::fault::Fault;
 use site_lines::MAX_LINE;
-use std::io::{self, BufRead, Read};
+use std::io::{self, BufRead, BufReader, Read};
+
+/// The most lines that are carried out together.
+pub(crate) const MOST_TOGETHER: usize = 256;
+
+/// How many bytes are read at a time.
+pub(crate) const READ_AT_ONCE: usize = 65_536;
 
 /// That standard input is open, before any file is: a file that is opened would stand in its place.
 pub(crate) fn check_input(rt: &HostRuntime) -> Result<(), Fault> {
@@ -26,4 +32,9 @@ pub(crate) fn next_line<R: BufRead>(reader: &mut R, line: &mut Vec<u8>) -> io::R
         reader.skip_until(b'\n')?;
     }
     Ok(true)
+}
+
+/// Whether a whole line was read already, which can be taken without waiting.
+pub(crate) fn has_line<R: Read>(reader: &BufReader<R>) -> bool {
+    reader.buffer().contains(&b'\n')
 }

@@ -89,7 +89,7 @@ fn run(rt: &HostRuntime) -> io::Result<u8> {
         None => {
             writeln!(
                 rt.stderr(),
-                "the value of --max-open or --expire is no number"
+                "the value of --max-open, --max-credentials or --expire is no number, or out of its bounds"
             )?;
             Ok(2)
         }

@@ -2,9 +2,9 @@
 
 use authdata::Profile;
 use clap::{Arg, ArgAction, ArgMatches, Command, Error};
-use site::Policy;
 use site_lines::Logged;
 use std::alloc::{AllocError, Global};
+use verification::Policy;
 
 /// The profiles.
 static PROFILES: [&str; 2] = ["open", "strict"];
@@ -30,16 +30,18 @@ pub(crate) struct Options<'a> {
     pub(crate) profile: Profile,
     /// Which attestations it accepts.
     pub(crate) policy: Policy,
-    /// The most sessions that are open at a time.
-    pub(crate) max_open: usize,
+    /// The most sessions that stay open.
+    pub(crate) max_open: u32,
+    /// The most credentials.
+    pub(crate) max_credentials: u32,
     /// Whether the file must not be there yet.
     pub(crate) is_new: bool,
     /// Whether the file must be there.
     pub(crate) is_existing: bool,
     /// What is told on standard error, if anything.
     pub(crate) log: Option<Logged>,
-    /// After how many seconds an open session ends by itself, if it does.
-    pub(crate) expire: Option<u64>,
+    /// After how many seconds an open session ends by itself.
+    pub(crate) expire: u64,
 }
 
 /// An option with a value.
@@ -102,12 +104,36 @@ fn policy_options<'a>(alloc: Global, help: &'a str) -> Result<Command<'a>, Alloc
         "Which attestations it accepts; any",
     )
     .value_parser(ATTESTATIONS.as_slice());
-    let max_open = option(alloc, "max-open", "N", "The most open sessions; 1024");
     party_options(alloc, help)?
         .arg(name)?
         .arg(profile)?
-        .arg(attestation)?
-        .arg(max_open)
+        .arg(attestation)
+}
+
+/// The same with the options of how much there may be.
+fn bound_options<'a>(alloc: Global, help: &'a str) -> Result<Command<'a>, AllocError> {
+    let max_open = option(
+        alloc,
+        "max-open",
+        "N",
+        "The most open sessions, up to 1000000: where more begin the oldest ends; 100000",
+    );
+    let max_credentials = option(
+        alloc,
+        "max-credentials",
+        "N",
+        "The most credentials, up to 1000000; 1000000",
+    );
+    let expire = option(
+        alloc,
+        "expire",
+        "SECONDS",
+        "After how long a session ends by itself; 300",
+    );
+    policy_options(alloc, help)?
+        .arg(max_open)?
+        .arg(max_credentials)?
+        .arg(expire)
 }
 
 /// The option of the log, which may come without a value.
@@ -133,17 +159,10 @@ fn parser<'a>(alloc: Global, help: &'a str) -> Result<Command<'a>, AllocError> {
     );
     let existing = switch(alloc, "existing", "The file must be there").conflicts_with("new")?;
     let log = log_option(alloc);
-    let expire = option(
-        alloc,
-        "expire",
-        "SECONDS",
-        "After how long a session ends by itself; never",
-    );
-    policy_options(alloc, help)?
+    bound_options(alloc, help)?
         .arg(new)?
         .arg(existing)?
-        .arg(log)?
-        .arg(expire)
+        .arg(log)
 }
 
 /// What clap reads of the arguments, the program's name first, with this text behind the help.
@@ -182,36 +201,39 @@ fn log_named(word: Option<&str>) -> Option<Logged> {
     }
 }
 
-/// The most open sessions; nothing where it is no number.
-fn max_open(word: Option<&str>) -> Option<usize> {
+/// The number of a word, or this one where there is none; nothing where the word is no number.
+fn number(word: Option<&str>, absent: u64) -> Option<u64> {
     match word {
-        Some(word) => word.parse::<usize>().ok(),
-        None => Some(1024),
+        Some(word) => word.parse::<u64>().ok(),
+        None => Some(absent),
     }
 }
 
-/// The seconds of their word, where there is one; nothing where it is no number.
-fn seconds(word: Option<&str>) -> Option<Option<u64>> {
-    match word {
-        Some(word) => match word.parse::<u64>() {
-            Ok(seconds) => Some(Some(seconds)),
-            Err(_) => None,
-        },
-        None => Some(None),
+/// The same of a bound, from 1 to 1,000,000.
+fn bound(word: Option<&str>, absent: u64) -> Option<u32> {
+    let bound = number(word, absent)?;
+    if bound < 1 || 1_000_000 < bound {
+        return None;
     }
+    u32::try_from(bound).ok()
 }
 
-/// The options that were read; nothing where a value is missing or no number.
+/// The options that were read; nothing where a value is missing, no number, or out of its bounds.
 pub(crate) fn options_of<'a>(
     alloc: Global,
     matches: &ArgMatches<'a>,
 ) -> Result<Option<Options<'a>>, AllocError> {
-    let (Some(file), Some(rp_id), Some(origins), Some(max_open), Some(expire)) = (
+    let (Some(file), Some(rp_id), Some(origins)) = (
         matches.get_str("FILE"),
         matches.get_str("rp-id"),
         matches.get_strs("origin"),
-        max_open(matches.get_str("max-open")),
-        seconds(matches.get_str("expire")),
+    ) else {
+        return Ok(None);
+    };
+    let (Some(max_open), Some(max_credentials), Some(expire)) = (
+        bound(matches.get_str("max-open"), 100_000),
+        bound(matches.get_str("max-credentials"), 1_000_000),
+        number(matches.get_str("expire"), 300),
     ) else {
         return Ok(None);
     };
@@ -223,6 +245,7 @@ pub(crate) fn options_of<'a>(
         profile: profile_named(matches.get_str("profile")),
         policy: policy_named(matches.get_str("attestation")),
         max_open,
+        max_credentials,
         is_new: matches.get_flag("new"),
         is_existing: matches.get_flag("existing"),
         log: log_named(matches.get_str("log")),

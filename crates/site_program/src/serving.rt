@@ -1,27 +1,24 @@
 //! Serving lines.
 
 use crate::fault::Fault;
-use crate::input::next_line;
+use crate::input::{MOST_TOGETHER, READ_AT_ONCE, has_line, next_line};
 use crate::options::Options;
-use site_lines::{Answered, Logged, answer_line, log_line};
-use sqlite_trees::store::Store;
+use site_files::{FileSite, Start, backup};
+use site_lines::{
+    Answer, Answered, Arrived, Logged, Tally, Teller, answer_lines, log_line, write_answer,
+};
 use std::fs::File;
 use std::io::{self, BufReader, Read, Write};
 use std::time::{SystemTime, UNIX_EPOCH};
-use stored_site::StoredSite;
+
+/// The program's version.
+const VERSION: &str = "0.1.0";
 
 /// 24 random bytes of the system.
-fn random_words(random: &mut File) -> io::Result<[u8; 24]> {
+fn random_words(random: &mut BufReader<File>) -> io::Result<[u8; 24]> {
     let mut words = [0; 24];
     random.read_exact(&mut words)?;
     Ok(words)
-}
-
-/// Writes the log's line of an answer at this second to standard error, where it has one.
-fn log(rt: &HostRuntime, which: Logged, now: u64, answered: &Answered) -> io::Result<()> {
-    let mut text = String::new(rt.alloc());
-    log_line(rt.alloc(), which, now, answered, &mut text)?;
-    rt.stderr().write_all(text.as_bytes())
 }
 
 /// The seconds of the system's clock since 1970. A clock that is set before is an error, which ends the program: sessions
@@ -34,62 +31,127 @@ fn seconds(rt: &HostRuntime) -> io::Result<u64> {
     }
 }
 
-/// Answers a line, and flushes the answer.
-fn answer<S: Store>(
+/// Takes the next line, with random bytes of its own: false where none is left.
+fn take_line<R: io::BufRead>(
+    rt: &HostRuntime,
+    reader: &mut R,
+    random: &mut BufReader<File>,
+    arrived: &mut Vec<Arrived>,
+) -> io::Result<bool> {
+    let mut line = Vec::new(rt.alloc());
+    if !next_line(reader, &mut line)? {
+        return Ok(false);
+    }
+    let words = random_words(random)?;
+    arrived.push(Arrived { line, words })?;
+    Ok(true)
+}
+
+/// Waits for a line, and takes those that have come with it: none where the input has ended.
+fn take_lines<R: Read>(
+    rt: &HostRuntime,
+    reader: &mut BufReader<R>,
+    random: &mut BufReader<File>,
+) -> io::Result<Vec<Arrived>> {
+    let mut arrived = Vec::new(rt.alloc());
+    if !take_line(rt, reader, random, &mut arrived)? {
+        return Ok(arrived);
+    }
+    for _ in 1..MOST_TOGETHER {
+        if !has_line(reader) || !take_line(rt, reader, random, &mut arrived)? {
+            break;
+        }
+    }
+    Ok(arrived)
+}
+
+/// Copies the file where an answer says so, which then says why not where it fails.
+fn back_up(rt: &HostRuntime, file: &str, answered: &mut Answered) -> io::Result<()> {
+    let Answer::Backup(path) = &answered.answer else {
+        return Ok(());
+    };
+    if let Err(why) = backup(rt, file, path.as_str()) {
+        let why = format!(in rt.alloc(); "the file was not copied: {why}")?;
+        answered.answer = Answer::NotBackedUp(why);
+    }
+    Ok(())
+}
+
+/// Writes the log's line of an answer at this second to standard error, where it has one.
+fn log(rt: &HostRuntime, which: Logged, now: u64, answered: &Answered) -> io::Result<()> {
+    let mut text = String::new(rt.alloc());
+    log_line(rt.alloc(), which, now, answered, &mut text)?;
+    rt.stderr().write_all(text.as_bytes())
+}
+
+/// Tells the answers: on standard output at once, and on standard error those that are logged.
+fn tell(
     rt: &HostRuntime,
     options: &Options<'_>,
-    site: &mut StoredSite<S>,
-    words: [u8; 24],
+    teller: &Teller<'_>,
     now: u64,
-    line: &[u8],
+    answers: &[Answered],
 ) -> io::Result<()> {
     let mut text = String::new(rt.alloc());
-    let answered = answer_line(
-        rt.alloc(),
-        site,
-        options.rp_name,
-        words,
-        now,
-        line,
-        &mut text,
-    )?;
+    for answered in answers {
+        write_answer(rt.alloc(), teller, answered, &mut text)?;
+    }
     let mut out = rt.stdout();
     out.write_all(text.as_bytes())?;
     out.flush()?;
-    match options.log {
-        Some(which) => log(rt, which, now, &answered),
-        None => Ok(()),
+    let Some(which) = options.log else {
+        return Ok(());
+    };
+    for answered in answers {
+        log(rt, which, now, answered)?;
     }
+    Ok(())
 }
 
-/// Ends the sessions that began too long before this second. Where that fails the site is shut, as each answer then says.
-fn end_old<S: Store>(site: &mut StoredSite<S>, options: &Options<'_>, now: u64) {
-    if let Some(age) = options.expire {
-        let _ = site.expire(now.saturating_sub(age));
-    }
-}
-
-/// Answers each line of the input, at once, until its end. Once a second the sessions that are too old end before a line.
-pub(crate) fn serve<S: Store>(
+/// Answers lines that came together.
+fn answer<S: Start>(
     rt: &HostRuntime,
     options: &Options<'_>,
-    site: &mut StoredSite<S>,
+    site: &mut FileSite<S>,
+    tally: &mut Tally,
+    now: u64,
+    arrived: &[Arrived],
+) -> io::Result<()> {
+    let mut answers = answer_lines(rt.alloc(), rt, site, tally, now, arrived)?;
+    for answered in &mut answers {
+        back_up(rt, options.file, answered)?;
+    }
+    let teller = Teller {
+        party: site.party(),
+        rp_name: options.rp_name,
+        version: VERSION,
+        tally: &*tally,
+    };
+    tell(rt, options, &teller, now, answers.as_slice())
+}
+
+/// Answers the lines of the input until its end, those that have come together at once. Once a second the sessions that are
+/// too old end before that.
+pub(crate) fn serve<S: Start>(
+    rt: &HostRuntime,
+    options: &Options<'_>,
+    site: &mut FileSite<S>,
 ) -> Result<(), Fault> {
-    let mut random = File::open(rt, "/dev/urandom")?;
-    let mut reader = BufReader::new(rt.alloc(), rt.reader())?;
-    let mut line = Vec::new(rt.alloc());
+    let mut random = BufReader::new(rt.alloc(), File::open(rt, "/dev/urandom")?)?;
+    let mut reader = BufReader::with_capacity(rt.alloc(), READ_AT_ONCE, rt.reader())?;
+    let mut tally = Tally::new();
     let mut last = 0;
     for _ in 0..u64::MAX {
-        if !next_line(&mut reader, &mut line)? {
+        let arrived = take_lines(rt, &mut reader, &mut random)?;
+        if arrived.is_empty() {
             break;
         }
-        let words = random_words(&mut random)?;
         let now = seconds(rt)?;
-        if now != last {
-            end_old(site, options, now);
+        // Where there is no memory for it, it is done before the next lines.
+        if now != last && site.expire(now.saturating_sub(options.expire)).is_ok() {
             last = now;
         }
-        answer(rt, options, site, words, now, line.as_slice())?;
+        answer(rt, options, site, &mut tally, now, arrived.as_slice())?;
     }
     Ok(())
 }

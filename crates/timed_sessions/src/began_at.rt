@@ -89,6 +89,11 @@ impl BeganAt {
         self.by_number.remove(&number);
     }
 
+    /// How many sessions have a moment.
+    pub(crate) fn count(&self) -> usize {
+        self.by_number.len()
+    }
+
     /// The lowest number.
     pub(crate) fn oldest(&self) -> Option<u64>
         ensures there { IfSome result (λ n. IsSome (finite.get self.now n)) }

@@ -95,6 +95,11 @@ impl TimedSessions {
         self.open_sessions.next()
     }
 
+    /// How many sessions are open.
+    pub fn count(&self) -> usize {
+        self.began.count()
+    }
+
     /// What the session of a number expects, where it is open for sign-in.
     pub fn sign_in(&self, session: u64) -> Option<&SignInSession>
         ensures { option_map (λ s. sign_in_view s.now) result ≡ sign_in_at session self.now.open_sessions }

@@ -1,20 +1,27 @@
 -- What is owed of `finish_registration`.
-use Rattle.std.proofs.Common.{◌∙◌, ap}
-use Rattle.stored_site.specs.Holds.{StoredState}
-use Rattle.site_lines.proofs.Finished.{registration_accepted, registration_refused, registration_step}
+use Rattle.std.proofs.Common.{◌∙◌, ap, subst}
+use Rattle.kept_site.specs.State.{KeptState}
+use Rattle.site_lines.specs.Private.{IsRefusedRegistration}
+use Rattle.site_lines.proofs.Finished.{registration_accepted, registration_left, registration_refused, registration_step}
 use Rattle.site_lines.proofs.finishing.finish_registration.Goals as goal
 
 pub returns-in-Ok-clause-told : goal.returns-in-Ok-clause-told
 returns-in-Ok-clause-told g c =
-    registration_accepted g.S.Store.view c.args.finish c.args.site.now c.finish_registration_parts.new.self _ c.in-Ok.registered
-    _ c.verifier-verifier.ensures c.registration_parts-parts.ensures
-    c.in-Ok.ensures.accepted c.in-Ok.ensures.after c.in-Ok.ensures.stored
+    registration_accepted g.S.Store.view c.args.finish c.args.site.now c.finish_registration_parts.new.self _ c.in-Ok.registered _ c.verifier-verifier.ensures
+    c.registration_parts-parts.ensures c.in-Ok.ensures.closed c.in-Ok.ensures.one.0 c.in-Ok.ensures.accepted
 
 pub returns-in-Err-Site-Refused-clause-told : goal.returns-in-Err-Site-Refused-clause-told
 returns-in-Err-Site-Refused-clause-told g c =
     let refused = rw c.in-Err-Site-Refused.field-0-is at c.in-Err-Site-Refused.ensures.refused in
-    registration_refused g.S.Store.view c.args.finish c.args.site.now c.finish_registration_parts.new.self c.site.result.now
-    c.in-Err-Site-Refused.step c.refused_registration.result
-    (c.site.ensures ∙ ap (λ (x : StoredState _). x.site) refused.0)
-    (registration_step c.args.finish c.args.site.now.site _ c.in-Err-Site-Refused.field-0-0 c.in-Err-Site-Refused.step _ c.verifier-verifier.ensures c.registration_parts-parts.ensures
-    c.in-Err-Site-Refused.field-0-0-is refused.1) c.refused_registration.ensures
+    let profile = c.profile.ensures ∙ ap (λ p. p.profile) c.party.ensures ∙ ap (λ (s : KeptState _). s.rp.profile) refused.0.is in
+    registration_refused g.S.Store.view c.args.finish c.args.site.now c.finish_registration_parts.new.self c.in-Err-Site-Refused.step
+    c.refused_registration.result
+    (registration_step g.S.Store.view c.args.finish c.args.site.now c.finish_registration_parts.new.self _ c.in-Err-Site-Refused.field-0-0
+    c.in-Err-Site-Refused.step _ c.verifier-verifier.ensures c.registration_parts-parts.ensures c.in-Err-Site-Refused.field-0-0-is refused.1)
+    (subst (λ p. IsRefusedRegistration p c.in-Err-Site-Refused.step c.args.finish c.refused_registration.result) profile c.refused_registration.ensures)
+
+pub returns-in-Err-Site-Refused-clause-kept : goal.returns-in-Err-Site-Refused-clause-kept
+returns-in-Err-Site-Refused-clause-kept g c =
+    let refused = rw c.in-Err-Site-Refused.field-0-is at c.in-Err-Site-Refused.ensures.refused in
+    registration_left g.S.Store.view c.args.finish c.profile.result c.args.site.now c.finish_registration_parts.new.self c.in-Err-Site-Refused.step
+    c.refused_registration.result refused.0 c.refused_registration.ensures

@@ -1,18 +1,23 @@
 -- What is owed of `finish_sign_in`.
-use Rattle.std.proofs.Common.{◌∙◌, ap}
-use Rattle.stored_site.specs.Holds.{StoredState}
-use Rattle.site_lines.proofs.Finished.{sign_in_accepted, sign_in_refused, sign_in_step}
+use Rattle.site_lines.proofs.Finished.{sign_in_accepted, sign_in_left, sign_in_refused, sign_in_step}
 use Rattle.site_lines.proofs.finishing.finish_sign_in.Goals as goal
 
 pub returns-in-Ok-clause-told : goal.returns-in-Ok-clause-told
 returns-in-Ok-clause-told g c =
-    sign_in_accepted g.S.Store.view c.args.finish c.args.site.now c.finish_parts.new.self _ c.in-Ok.signed_in _ c.verifier-verifier.ensures c.assertion_parts-parts.ensures
-    c.in-Ok.ensures.accepted c.in-Ok.ensures.after c.in-Ok.ensures.stored
+    sign_in_accepted g.S.Store.view c.args.finish c.args.site.now c.finish_parts.new.self _ c.in-Ok.signed_in _ c.verifier-verifier.ensures
+    c.assertion_parts-parts.ensures c.in-Ok.ensures.closed c.in-Ok.ensures.one.0 c.in-Ok.ensures.accepted
 
 pub returns-in-Err-Site-Refused-clause-told : goal.returns-in-Err-Site-Refused-clause-told
 returns-in-Err-Site-Refused-clause-told g c =
     let refused = rw c.in-Err-Site-Refused.field-0-is at c.in-Err-Site-Refused.ensures.refused in
-    sign_in_refused g.S.Store.view c.args.finish c.args.site.now c.finish_parts.new.self c.site.result.now c.in-Err-Site-Refused.step c.refused_sign_in.result
-    (c.site.ensures ∙ ap (λ (x : StoredState _). x.site) refused.0)
-    (sign_in_step c.args.finish c.args.site.now.site _ c.in-Err-Site-Refused.field-0-0 c.in-Err-Site-Refused.step _ c.verifier-verifier.ensures c.assertion_parts-parts.ensures
-    c.in-Err-Site-Refused.field-0-0-is refused.1) c.refused_sign_in.ensures
+    sign_in_refused g.S.Store.view c.args.finish c.args.site.now c.finish_parts.new.self c.refused_sign_in.new.site c.in-Err-Site-Refused.step
+    c.refused_sign_in.result refused.0
+    (sign_in_step g.S.Store.view c.args.finish c.args.site.now c.finish_parts.new.self _ c.in-Err-Site-Refused.field-0-0 c.in-Err-Site-Refused.step _
+    c.verifier-verifier.ensures c.assertion_parts-parts.ensures c.in-Err-Site-Refused.field-0-0-is refused.1)
+    c.refused_sign_in.ensures.told c.refused_sign_in.ensures.kept
+
+pub returns-in-Err-Site-Refused-clause-kept : goal.returns-in-Err-Site-Refused-clause-kept
+returns-in-Err-Site-Refused-clause-kept g c =
+    let refused = rw c.in-Err-Site-Refused.field-0-is at c.in-Err-Site-Refused.ensures.refused in
+    sign_in_left g.S.Store.view c.args.finish c.args.site.now c.finish_parts.new.self c.refused_sign_in.new.site c.in-Err-Site-Refused.step
+    c.refused_sign_in.result c.requires.live refused.0 c.refused_sign_in.ensures.told c.refused_sign_in.ensures.kept

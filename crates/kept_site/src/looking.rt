@@ -1,0 +1,45 @@
+//! A credential by its id.
+
+ghost use Rattle.std.specs.Prelude.{◌≡◌, IfErr, IfOk, IsErrOf, OnOk, option_map, true};
+ghost use Rattle.sqlite_trees.specs.Tree.{Trees};
+ghost use Rattle.sqlite_trees.specs.View.{IsClean};
+ghost use Rattle.credential_table.specs.Views.{row_view};
+ghost use Rattle.credential_store.specs.Held.{Placed};
+ghost use Rattle.kept_site.specs.State.{IsHeld};
+ghost use Rattle.kept_site.specs.Calls.{IsFailure, IsFound, IsSame};
+ghost use Rattle.kept_site.specs.Private.{credential_of as credential_in};
+ghost use Rattle.kept_site.specs.declared.failure.Failure.TheVariants as failures;
+
+use crate::failure::Failure;
+use crate::kept::KeptSite;
+use credential_store::Found;
+use credential_table::Row;
+use sqlite_trees::store::Store;
+
+/// The credential that was found.
+fn credential_of(found: Option<Found>) -> Option<Row>
+    ensures { option_map row_view result ≡ credential_in found }
+{
+    match found {
+        Some(found) => Some(found.credential),
+        None => None,
+    }
+}
+
+impl<S: Store> KeptSite<S> {
+    /// The credential of an id, retired or not; none where none has it.
+    pub fn credential(&mut self, id: &[u8]) -> Result<Option<Row>, Failure>
+        ensures found { IfOk result (λ c. IsClean (S.Store.view self.new.store) → (placed : Placed) → IsHeld placed self.old (S.Store.view self.old.store).trees
+            → IsFound placed id.now (option_map row_view c)) }
+        ensures same { OnOk result (IsSame S.Store.view self.old self.new) }
+        ensures failed { IfErr result (IsFailure self.old self.new) }
+        ensures shut { self.old.is_shut ≡ true → IsErrOf result failures.Shut }
+        ensures crash { (db : Trees) → S.Store.recovers self.new.store db → S.Store.recovers self.old.store db }
+    {
+        if self.held.is_shut {
+            return Err(Failure::Shut);
+        }
+        let found = self.held.find(id)?;
+        Ok(credential_of(found))
+    }
+}

@@ -1,0 +1,175 @@
+//! A file of version 1.
+
+ghost use Rattle.std.specs.Prelude.{◌≡◌, ◌<◌, ◌^◌, ℕ, [], IfErr, IfOk, IfSome, IsSome, IsTrue, OnOk, Some};
+ghost use Rattle.sqlite_trees.specs.View.{IsClean};
+ghost use Rattle.sqlite_trees.specs.declared.store.Shape.TheVariants.{Table};
+ghost use Rattle.credential_store.specs.Held.{IsSameView};
+ghost use Rattle.site_files.specs.First.{IsFirst, first_row};
+
+use crate::error::FileError;
+use credential_store::{RowError, int_at, read_credential};
+use sqlite_trees::error::StoreError;
+use sqlite_trees::store::{Direction, Shape, Store};
+use sqlite_value::row::Row;
+use sqlite_value::value::ValueRef;
+use std::alloc::{AllocError, Global};
+
+/// The row of a relying party.
+fn first_row(alloc: Global, rp_id: &str, next: u64) -> Result<Row, AllocError>
+    requires fits { next < 2 ^ 63 }
+    ensures row { IfOk result (λ row. row ≡ first_row rp_id.now next) }
+{
+    let mut row = Row::new(alloc);
+    row.push(ValueRef::Int(1))?;
+    row.push(ValueRef::Null)?;
+    row.push(ValueRef::Int(1))?;
+    row.push(ValueRef::Text(rp_id.as_bytes()))?;
+    row.push(ValueRef::Int(next as i64))?;
+    Ok(row)
+}
+
+/// That the version in a row of a relying party is none above 2.
+fn check_version(row: &Row) -> Result<(), FileError> {
+    match int_at(row, 2) {
+        Some(version) if version > 2 => Err(FileError::Newer),
+        _ => Ok(()),
+    }
+}
+
+/// That a row is this relying party's.
+fn check_row(alloc: Global, rp_id: &str, row: &Row) -> Result<(), FileError>
+    ensures first { OnOk result ((next : ℕ) × (row.now ≡ first_row rp_id.now next)) }
+{
+    check_version(row)?;
+    let Some(next) = int_at(row, 4) else {
+        return Err(FileError::NoSite);
+    };
+    if next < 1 {
+        return Err(FileError::NoSite);
+    }
+    let written = first_row(alloc, rp_id, next as u64)?;
+    if !row.is_same(&written) {
+        return Err(FileError::OtherSite);
+    }
+    Ok(())
+}
+
+/// That the row in tree 2 is this relying party's.
+fn check_party<S: Store>(alloc: Global, rp_id: &str, store: &mut S) -> Result<(), FileError>
+    ensures first { OnOk result (IsClean (S.Store.view store.new) → IsFirst rp_id.now (S.Store.view store.old).trees) }
+    ensures same { OnOk result (IsSameView (S.Store.view store.old) (S.Store.view store.new)) }
+{
+    if store.shape(2) != Shape::Table {
+        return Err(FileError::OtherTables);
+    }
+    let mut row = Row::new(alloc);
+    if !store.get(2, 1, &mut row)? {
+        return Err(FileError::NoSite);
+    }
+    check_row(alloc, rp_id, &row)
+}
+
+/// That a row is a credential's.
+fn check_credential(alloc: Global, row: &Row) -> Result<(), FileError> {
+    let Some(place) = int_at(row, 0) else {
+        return Err(FileError::BadRow);
+    };
+    let Ok(place) = u32::try_from(place) else {
+        return Err(FileError::BadRow);
+    };
+    match read_credential(alloc, place, row) {
+        Ok(_credential) => Ok(()),
+        Err(RowError::BadRow) => Err(FileError::BadRow),
+        Err(RowError::Memory) => Err(FileError::Failed(StoreError::OutOfMemory)),
+    }
+}
+
+/// Places a cursor at the first row of a tree.
+fn begin<S: Store>(alloc: Global, store: &mut S, tree: u32) -> Result<(), StoreError>
+    ensures live { OnOk result (IsSome ((S.Store.view store.new).cursors 0)) }
+    ensures same { OnOk result (IsSameView (S.Store.view store.old) (S.Store.view store.new)) }
+{
+    let key = Row::new(alloc);
+    store.seek(0, tree, &key, Direction::Forward)?;
+    Ok(())
+}
+
+/// Takes the credential's row at the cursor: false where there is none.
+fn next_is_credential<S: Store>(
+    alloc: Global,
+    store: &mut S,
+    row: &mut Row,
+) -> Result<bool, FileError>
+    requires live { IsSome ((S.Store.view store.old).cursors 0) }
+    ensures live { OnOk result (IsSome ((S.Store.view store.new).cursors 0)) }
+    ensures same { OnOk result (IsSameView (S.Store.view store.old) (S.Store.view store.new)) }
+{
+    if !store.next(0, row)? {
+        return Ok(false);
+    }
+    check_credential(alloc, row)?;
+    Ok(true)
+}
+
+/// That each row of tree 0 is a credential's.
+fn check_credentials<S: Store>(alloc: Global, store: &mut S) -> Result<(), FileError>
+    ensures same { OnOk result (IsSameView (S.Store.view store.old) (S.Store.view store.new)) }
+{
+    begin(alloc, store, 0)?;
+    let mut row = Row::new(alloc);
+    for _ in 0..u32::MAX {
+        if !next_is_credential(alloc, store, &mut row)? {
+            return Ok(());
+        }
+    }
+    Err(FileError::TooMany)
+}
+
+/// That a store whose tables are those of version 1 holds a site of this relying party, as far as it is taken over: its row, and
+/// those of its credentials.
+pub fn check_first<S: Store>(alloc: Global, rp_id: &str, store: &mut S) -> Result<(), FileError>
+    ensures first { OnOk result (IsClean (S.Store.view store.new) → IsFirst rp_id.now (S.Store.view store.old).trees) }
+    ensures same { OnOk result (IsSameView (S.Store.view store.old) (S.Store.view store.new)) }
+{
+    check_party(alloc, rp_id, store)?;
+    check_credentials(alloc, store)
+}
+
+/// Whether a tree has no row.
+fn is_empty<S: Store>(alloc: Global, store: &mut S, tree: u32) -> Result<bool, StoreError>
+    ensures same { OnOk result (IsSameView (S.Store.view store.old) (S.Store.view store.new)) }
+{
+    begin(alloc, store, tree)?;
+    let mut row = Row::new(alloc);
+    let found = store.next(0, &mut row)?;
+    Ok(!found)
+}
+
+/// That the tables of version 1 in a store have no row: a creation was cut off.
+pub fn check_empty<S: Store>(alloc: Global, store: &mut S) -> Result<(), FileError>
+    ensures same { OnOk result (IsSameView (S.Store.view store.old) (S.Store.view store.new)) }
+{
+    let credentials = is_empty(alloc, store, 0)?;
+    let sessions = is_empty(alloc, store, 1)?;
+    let site = is_empty(alloc, store, 2)?;
+    if !(credentials && sessions && site) {
+        return Err(FileError::Exists);
+    }
+    Ok(())
+}
+
+/// Why a store with other tables is refused: `Newer` where they are those of a later version, whose tree 2 says so.
+pub fn why_other<S: Store>(alloc: Global, store: &mut S) -> FileError {
+    if store.shape(2) != Shape::Table {
+        return FileError::OtherTables;
+    }
+    let mut row = Row::new(alloc);
+    let found = match store.get(2, 1, &mut row) {
+        Ok(found) => found,
+        Err(e) => return e.into(),
+    };
+    match check_version(&row) {
+        Err(e) if found => e,
+        _ => FileError::OtherTables,
+    }
+}

@@ -1,0 +1,157 @@
+//! The store of a site's files.
+
+ghost use Rattle.std.specs.Prelude.{◌≡◌, IfOk, IsTrue, false, true};
+ghost use Rattle.sqlite_wal.specs.Files.{image_at};
+ghost use Rattle.sqlite_std_file.specs.File.{IsFresh, file_is_usable};
+ghost use Rattle.sqlite_trees.specs.Tree.{Trees};
+ghost use Rattle.sqlite_trees.specs.View.{IsClean};
+ghost use Rattle.sqlite_store.specs.FileStore.{view};
+ghost use Rattle.sqlite_store.specs.Unopened.{AreUsable, files_of, image, state_of};
+ghost use Rattle.site_files.specs.Files.{IsFoundIn, IsHeldIn};
+
+use crate::error::FileError;
+use crate::path::{Found, head_at};
+use crate::tables::{Listed, list_in, second};
+use sqlite::{FileFrom, FileStore, Files, Options, Start, Unknown};
+use sqlite_disk::Disk;
+use sqlite_pager::Pager;
+use sqlite_std_file::OpenError as PathError;
+use sqlite_store::{OpenError, Unopened};
+use sqlite_trees::error::StoreError;
+use sqlite_value::row::Row;
+use sqlite_wal::PageSize;
+use std::alloc::{AllocError, Global};
+use std::hash::{BuildHasher, RandomState};
+use std::io::ErrorKind;
+
+/// The size of a page in a site's file.
+const PAGE_SIZE: usize = 4096;
+
+/// The files at a path.
+fn files_at<S: Start>(
+    rt: &HostRuntime,
+    path: &str,
+    start: S,
+) -> Result<Files<FileFrom<S>>, FileError>
+    ensures log { IfOk result (λ files. IsTrue (file_is_usable S.Start files.log)) }
+    ensures db { IfOk result (λ files. IsTrue (file_is_usable S.Start files.db)) }
+    ensures fresh { IfOk result (λ files. IsFresh true files.log × IsFresh false files.db) }
+{
+    match sqlite_std_file::open(rt, path, start) {
+        Ok(files) => Ok(files),
+        Err(PathError::OutOfMemory) => Err(FileError::Failed(StoreError::OutOfMemory)),
+        Err(PathError::Busy) => Err(FileError::InUse),
+        Err(PathError::Io(error)) if error.kind() == ErrorKind::OutOfMemory => {
+            Err(FileError::Failed(StoreError::OutOfMemory))
+        }
+        Err(_) => Err(FileError::CannotOpen),
+    }
+}
+
+/// A number that others don't know, for the sums of the log.
+fn options(rt: &HostRuntime) -> Result<Options, FileError> {
+    let seed = RandomState::new(rt)?.hash_one(&0u8);
+    Ok(Options::new(seed))
+}
+
+/// Files, to be opened with the tables of version 2.
+fn unopened<D: Disk + Drop>(
+    alloc: Global,
+    files: Files<D>,
+    options: Options,
+) -> Result<Unopened<D>, FileError>
+    ensures files { IfOk result (λ it. files_of it ≡ (files.log, files.db)) }
+    ensures size { IfOk result (λ it. (state_of it).page_size ≡ 4096) }
+{
+    let size = PageSize::new(PAGE_SIZE).unwrap();
+    let Ok(pager) = Pager::new(alloc, files, size, options) else {
+        return Err(FileError::Failed(StoreError::OutOfMemory));
+    };
+    match Unopened::new(alloc, pager, &second()) {
+        Ok(it) => Ok(it),
+        Err(_) => Err(FileError::Failed(StoreError::OutOfMemory)),
+    }
+}
+
+/// Why files are not opened. `NotSqlite` where they are no sound SQLite files with these pages.
+fn failure(e: OpenError) -> FileError {
+    match e {
+        OpenError::OutOfMemory => FileError::Failed(StoreError::OutOfMemory),
+        OpenError::Io => FileError::Failed(StoreError::Io),
+        OpenError::Full => FileError::Failed(StoreError::Full),
+        OpenError::Refused => FileError::NotSqlite,
+    }
+}
+
+/// The rows of a file's list without the pages where trees begin.
+fn without_roots(alloc: Global, listed: &[Row]) -> Result<Vec<Row>, AllocError> {
+    let mut rows = Vec::new(alloc);
+    for entry in listed {
+        let mut row = Row::new(alloc);
+        for at in [0, 1, 2, 3, 5] {
+            row.push(entry.get(at))?;
+        }
+        rows.push(row)?;
+    }
+    Ok(rows)
+}
+
+/// What files list, of which only that is read.
+fn list_of_files<D: Disk>(alloc: Global, it: &mut Unopened<D>) -> Result<Listed, FileError>
+    requires { AreUsable it.old }
+{
+    match it.read_catalog() {
+        Ok(listed) => {
+            let rows = without_roots(alloc, listed.as_slice())?;
+            Ok(list_in(alloc, rows.as_slice())?)
+        }
+        Err(e) => Err(failure(e)),
+    }
+}
+
+/// What the file at a path lists. `NotSqlite` where it does not begin as a SQLite file does, is none, or has pages of another size.
+/// The log of a file that does not begin so is not touched: it may have the mark of a creation that was cut off.
+pub fn list_at(rt: &HostRuntime, path: &str) -> Result<Listed, FileError> {
+    if head_at(rt, path)? != Found::Sqlite {
+        return Err(FileError::NotSqlite);
+    }
+    let options = options(rt)?;
+    let files = files_at(rt, path, Unknown)?;
+    let mut it = unopened(rt.alloc(), files, options)?;
+    let list = list_of_files(rt.alloc(), &mut it);
+    drop(it.close());
+    list
+}
+
+/// The store of files with the tables of version 2, whose pages and trees are tested.
+fn opened<D: Disk + Drop>(it: Unopened<D>) -> Result<FileStore<D>, FileError>
+    requires { AreUsable it }
+    ensures numbered { IfOk result (λ store. IsTrue (view store).is_numbered) }
+    ensures rests { IfOk result (λ store. (view store).committed ≡ (view store).trees) }
+    ensures found { IfOk result (λ store. IsClean (view store) → (state_of it).page_size ≡ 4096 → IsFoundIn (image it) (view store).trees) }
+{
+    match it.open_numbered() {
+        Ok(store) => Ok(store),
+        Err((e, _)) => Err(failure(e)),
+    }
+}
+
+/// The store of a file of version 2: its list, its pages and its trees are tested, and what rows say of each other is not.
+/// `NotSqlite` where it is none, or damaged.
+pub fn second_at<S: Start>(
+    rt: &HostRuntime,
+    path: &str,
+    start: S,
+) -> Result<FileStore<FileFrom<S>>, FileError>
+    ensures numbered { IfOk result (λ store. IsClean (view store) → IsTrue (view store).is_numbered) }
+    ensures rests { IfOk result (λ store. IsClean (view store) → IsTrue (view store).is_open → (view store).committed ≡ (view store).trees) }
+    ensures found { IfOk result (λ store. IsClean (view store) → IsTrue (view store).is_open → IsHeldIn (image_at S.Start) (view store).trees) }
+{
+    let options = options(rt)?;
+    let files = files_at(rt, path, start)?;
+    let it = unopened(rt.alloc(), files, options)?;
+    match opened(it) {
+        Ok(store) => Ok(store),
+        Err(e) => Err(e),
+    }
+}

@@ -1,0 +1,38 @@
+-- Lines that are carried out together and committed together.
+use Rattle.std.specs.Prelude.{◌≡◌, ◌⊎◌, ℕ, List, [], ◌∷◌, true, false}
+use Rattle.std.specs.List.{AllByRecursion}
+use Rattle.sqlite_trees.specs.Tree.{Trees}
+use Rattle.sqlite_trees.specs.View.{View, IsClean}
+use Rattle.kept_site.specs.State.{KeptState}
+use Rattle.kept_site.specs.declared.failure.Failure.{Failure}
+use Rattle.site_lines.specs.Answers.{IsTold, Keeps}
+use Rattle.site_lines.specs.declared.line.Answered.{Answered}
+use Rattle.site_lines.specs.declared.line.Arrived.{Arrived}
+use Rattle.site_lines.specs.declared.answer.Answer.TheVariants as answers
+
+-- each line is carried out, in order, with its own random bytes, and has one answer
+abbrev pub Runs : {S : Type 0} → (S → View) → ℕ → KeptState S → List Arrived → List Answered → KeptState S → Type 0
+Runs view now old [] [] new = new ≡ old
+Runs {S} view now old (line ∷ lines) (a ∷ rest) new =
+    (mid : KeptState S) × IsTold view line.words now old mid a.answer × Keeps view old mid a.answer × Runs view now mid lines rest new
+Runs view now old _ _ new = ⊥
+
+-- each answer is this failure
+abbrev pub AreFailed : Failure → List Answered → Type 0
+AreFailed why told = AllByRecursion (λ a. a.answer ≡ answers.Failed why) told
+
+-- the site is as the lines have left it, and all of it is committed: a crash from now on leaves just this
+pub record IsCommitted {S : Type 0} (view : S → View) (recovers : S → Trees → Type 0) (mid new : KeptState S) : Type 0 where
+  pub is : new ≡ record mid { store = new.store; is_pending = false }
+  pub trees : IsClean (view new.store) → (view new.store).trees ≡ (view mid.store).trees
+  pub durable : IsClean (view new.store) → (db : Trees) → recovers new.store db → db ≡ (view new.store).trees
+
+-- what is told: the answers of the lines, which are committed; or, of each, that the store failed
+abbrev pub Answers : {S : Type 0} → (S → View) → (S → Trees → Type 0) → ℕ → KeptState S → List Arrived → List Answered → KeptState S → Type 0
+Answers {S} view recovers now old lines told new =
+    ((mid : KeptState S) × Runs view now old lines told mid × IsCommitted view recovers mid new)
+    ⊎ ((why : Failure) × AreFailed why told × (new.is_shut ≡ true))
+
+-- what is in the file where the commit was cut off behind its write: all that the lines have done
+abbrev pub Leaves : {S : Type 0} → (S → View) → ℕ → KeptState S → List Arrived → Trees → Type 0
+Leaves {S} view now old lines db = (carried : List Answered) × (mid : KeptState S) × Runs view now old lines carried mid × (db ≡ (view mid.store).trees)

@@ -1,0 +1,142 @@
+//! Carrying out an act.
+
+ghost use Rattle.std.specs.Prelude.{◌≡◌, IfOk, filter, option_map};
+ghost use Rattle.sqlite_trees.specs.Tree.{Trees};
+ghost use Rattle.credential_table.specs.Views.{row_view, rows_view};
+ghost use Rattle.site_lines.specs.Answers.{Keeps, Tells, TellsAbandoned, TellsDeleted, TellsExpired, TellsRetired, TellsRows, TellsStatus, is_asked_for};
+
+use crate::act::Act;
+use crate::answer::{Answer, Counts};
+use crate::beginning::{begin_registration, begin_sign_in};
+use crate::error::LineError;
+use crate::finishing::{finish_registration, finish_sign_in};
+use credential_table::Row;
+use kept_site::{Failure, KeptSite};
+use sqlite_trees::store::Store;
+use std::alloc::{AllocError, Global};
+
+/// Retires the credential of an id.
+fn retire<S: Store>(site: &mut KeptSite<S>, credential: &[u8]) -> Answer
+    ensures told { TellsRetired S.Store.view credential.now site.old site.new result }
+    ensures kept { Keeps S.Store.view site.old site.new result }
+    ensures crash { (db : Trees) → S.Store.recovers site.new.store db → S.Store.recovers site.old.store db }
+{
+    match site.retire(credential) {
+        Ok(was) => Answer::Retired(was),
+        Err(why) => Answer::Failed(why),
+    }
+}
+
+/// Deletes the credential of an id.
+fn delete<S: Store>(site: &mut KeptSite<S>, credential: &[u8]) -> Answer
+    ensures told { TellsDeleted S.Store.view credential.now site.old site.new result }
+    ensures kept { Keeps S.Store.view site.old site.new result }
+    ensures crash { (db : Trees) → S.Store.recovers site.new.store db → S.Store.recovers site.old.store db }
+{
+    match site.delete(credential) {
+        Ok(was) => Answer::Deleted(was),
+        Err(why) => Answer::Failed(why),
+    }
+}
+
+/// Closes the session of a number.
+fn abandon<S: Store>(site: &mut KeptSite<S>, session: u64) -> Answer
+    ensures told { TellsAbandoned session site.old site.new result }
+    ensures kept { Keeps S.Store.view site.old site.new result }
+    ensures crash { (db : Trees) → S.Store.recovers site.new.store db → S.Store.recovers site.old.store db }
+{
+    Answer::Abandoned(site.abandon(session))
+}
+
+/// Ends the sessions that began more than this many seconds ago.
+fn expire<S: Store>(site: &mut KeptSite<S>, now: u64, age: u64) -> Answer
+    ensures told { TellsExpired age now site.old site.new result }
+    ensures kept { Keeps S.Store.view site.old site.new result }
+    ensures crash { (db : Trees) → S.Store.recovers site.new.store db → S.Store.recovers site.old.store db }
+{
+    match site.expire(now.saturating_sub(age)) {
+        Ok(count) => Answer::Expired(count),
+        Err(_) => Answer::Error(LineError::Memory),
+    }
+}
+
+/// Whether a credential is a user's, or any is asked for.
+fn is_of(row: &Row, user: Option<&[u8]>) -> bool
+    ensures { result ≡ is_asked_for (option_map (λ u. u.now) user.entry) (row_view row.now) }
+{
+    match user {
+        Some(user) => row.user.as_slice() == user,
+        None => true,
+    }
+}
+
+/// Those of these credentials that are a user's, or all.
+fn rows_of(alloc: Global, all: Vec<Row>, user: Option<&[u8]>) -> Result<Vec<Row>, AllocError>
+    ensures { IfOk result (λ rows. rows_view rows.items ≡ filter (is_asked_for (option_map (λ u. u.now) user.entry)) (rows_view all.items)) }
+{
+    let mut rows = Vec::new(alloc);
+    for row in all {
+        if is_of(&row, user) {
+            rows.push(row)?;
+        }
+    }
+    Ok(rows)
+}
+
+/// The credentials of a user, or all.
+fn rows<S: Store>(alloc: Global, site: &mut KeptSite<S>, user: Option<&[u8]>) -> Answer
+    ensures told { TellsRows S.Store.view (option_map (λ u. u.now) user.entry) site.old site.new result }
+    ensures kept { Keeps S.Store.view site.old site.new result }
+    ensures crash { (db : Trees) → S.Store.recovers site.new.store db → S.Store.recovers site.old.store db }
+{
+    match site.rows() {
+        Ok(all) => match rows_of(alloc, all, user) {
+            Ok(rows) => Answer::Rows(rows),
+            Err(_) => Answer::Error(LineError::Memory),
+        },
+        Err(why) => Answer::Failed(why),
+    }
+}
+
+/// How many there are.
+fn status<S: Store>(site: &KeptSite<S>) -> Answer
+    ensures told { TellsStatus site.now site.now result }
+    ensures kept { Keeps S.Store.view site.now site.now result }
+{
+    Answer::Status(Counts {
+        credentials: site.count(),
+        sessions: site.open_count(),
+        next_session: site.next_session(),
+    })
+}
+
+/// Carries out an act, at this second of the host's clock. What it answers is to be committed before it is told.
+pub fn carry_out<S: Store>(
+    alloc: Global,
+    site: &mut KeptSite<S>,
+    words: [u8; 24],
+    now: u64,
+    act: Act,
+) -> Answer
+    ensures told { Tells S.Store.view words now act site.old site.new result }
+    ensures kept { Keeps S.Store.view site.old site.new result }
+    // Nothing of it is in the file before it is committed.
+    ensures crash { (db : Trees) → S.Store.recovers site.new.store db → S.Store.recovers site.old.store db }
+{
+    if site.is_shut() {
+        return Answer::Failed(Failure::Shut);
+    }
+    match act {
+        Act::BeginRegistration(begin) => begin_registration(site, words, now, begin),
+        Act::FinishRegistration(finish) => finish_registration(alloc, site, finish),
+        Act::BeginSignIn(begin) => begin_sign_in(alloc, site, words, now, begin),
+        Act::FinishSignIn(finish) => finish_sign_in(alloc, site, finish),
+        Act::Retire(credential) => retire(site, credential.as_slice()),
+        Act::Delete(credential) => delete(site, credential.as_slice()),
+        Act::Abandon(session) => abandon(site, session),
+        Act::Expire(age) => expire(site, now, age),
+        Act::Rows(user) => rows(alloc, site, user.as_deref()),
+        Act::Status => status(site),
+        Act::Backup(path) => Answer::Backup(path),
+    }
+}

@@ -1,0 +1,70 @@
+//! What is counted since the start, for the act `status`.
+
+use crate::answer::Answer;
+use crate::line::Answered;
+
+/// What is counted since the start.
+#[derive(Clone, Copy, Debug, PartialEq, Eq, Drop)]
+pub struct Tally {
+    /// Commits that wrote something.
+    pub commits: u64,
+    /// Microseconds of the last such commit, its flush among them.
+    pub last_commit: u64,
+    /// Sign-ins that were accepted.
+    pub sign_ins: u64,
+    /// Registrations that were accepted.
+    pub registrations: u64,
+    /// Sign-ins that a step refused, by the step's number; 0 is not used.
+    pub sign_in_refusals: [u64; 17],
+    /// Registrations that a step refused, by the step's number; 0 is not used.
+    pub registration_refusals: [u64; 17],
+}
+
+/// One more at a step's number.
+fn note_step(counts: &mut [u64; 17], step: u8) {
+    if let Some(count) = counts.get_mut(usize::from(step)) {
+        *count = count.saturating_add(1);
+    }
+}
+
+impl Tally {
+    /// Nothing yet.
+    pub fn new() -> Tally {
+        Tally {
+            commits: 0,
+            last_commit: 0,
+            sign_ins: 0,
+            registrations: 0,
+            sign_in_refusals: [0; 17],
+            registration_refusals: [0; 17],
+        }
+    }
+
+    /// Counts a commit that took this many microseconds.
+    pub(crate) fn note_commit(&mut self, microseconds: u64) {
+        self.commits = self.commits.saturating_add(1);
+        self.last_commit = microseconds;
+    }
+
+    /// Counts answers.
+    pub(crate) fn note_all(&mut self, answers: &[Answered]) {
+        for answered in answers {
+            self.note(&answered.answer);
+        }
+    }
+
+    /// Counts an answer.
+    fn note(&mut self, answer: &Answer) {
+        match answer {
+            Answer::SignedIn(..) => self.sign_ins = self.sign_ins.saturating_add(1),
+            Answer::Registered(..) => self.registrations = self.registrations.saturating_add(1),
+            Answer::SignInRefused(step, _) => {
+                note_step(&mut self.sign_in_refusals, step.number());
+            }
+            Answer::RegistrationRefused(step, _) => {
+                note_step(&mut self.registration_refusals, step.number());
+            }
+            _ => {}
+        }
+    }
+}

@@ -1,7 +1,0 @@
--- What is owed of `BeganAt::insert`.
-use Rattle.stored_site.proofs.Kept.{put_in}
-use Rattle.stored_site.proofs.began_at.BeganAt.insert.Goals as goal
-
-pub returns : goal.returns
-returns c =
-    rw (← c.self.view_is) (put_in c.self.inside.by_number c.insert.new.self c.args.number c.args.moment c.in_ok-insert.ensures.updates.0)

@@ -1,0 +1,15 @@
+// The relying party of both sites: over the PostgreSQL that DATABASE_URL names, or else over the proved program, which keeps FILE.
+const { randomBytes } = require("node:crypto");
+const { Server, StoredServer } = require("garvoeng");
+const { SqlServer } = require("garvoeng/sql");
+
+const { DATABASE_URL, PORT = "8080", ORIGIN = `http://localhost:${PORT}`, PROGRAM = "dist/passkey-site", FILE = "site.db" } = process.env;
+const party = [new URL(ORIGIN).hostname, [ORIGIN]];
+
+exports.port = Number(PORT);
+exports.secure = ORIGIN.startsWith("https:");
+// It signs the cookies. All processes of a site have the same; a new one signs everybody out.
+exports.secret = process.env.SECRET ??= randomBytes(32).toString("hex");
+exports.server = DATABASE_URL === undefined
+  ? new StoredServer(PROGRAM, FILE, ...party, { log: true })
+  : new SqlServer(new Server(...party), new (require("pg").Pool)({ connectionString: DATABASE_URL }));

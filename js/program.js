@@ -1,0 +1,174 @@
+// Runs of the proved program passkey-site, which answers lines of JSON in their order, and which keeps its file to itself.
+import { spawn } from "node:child_process";
+import { createInterface } from "node:readline";
+import { BadInput, StoreFailed } from "./errors.js";
+
+/** The most bytes of a line that the program takes. */
+export const MAX_LINE = 65_536;
+const LINE_FEED = 10;
+
+function because(text, said) {
+  return new StoreFailed(said === "" ? text : `${text}: ${said}`);
+}
+
+function isAnswer(value) {
+  return typeof value === "object" && value !== null && !Array.isArray(value);
+}
+
+/** One run. It keeps this process alive only while something is asked of it or its end is awaited; its input ends with this
+ *  process, and then it closes its file and ends too. */
+class Run {
+  #child;
+  #timeout;
+  #log;
+  #asked = [];
+  #number = 0;
+  #pieces = [];
+  #said = "";
+  #wrong = null;
+
+  constructor([program, ...words], timeout, log) {
+    this.#timeout = timeout;
+    this.#log = log;
+    this.isRunning = true;
+    try {
+      this.#child = spawn(program, words, { stdio: ["pipe", "pipe", "pipe"] });
+    } catch (error) {
+      throw new StoreFailed(`the program can't be started: ${error.message}`);
+    }
+    const { stdin, stdout, stderr } = this.#child;
+    this.ended = new Promise((resolve) => {
+      this.#child.on("error", (error) => {
+        if (this.#child.pid === undefined) this.#wrong ??= `the program can't be started: ${error.message}`;
+      });
+      this.#child.on("exit", () => (this.isRunning = false));
+      this.#child.on("close", (status) => resolve(this.#close(status)));
+    });
+    stdin.on("error", () => this.#kill());
+    stdout.on("data", (piece) => this.#read(piece));
+    createInterface({ input: stderr }).on("line", (line) => this.#hear(line));
+    this.#hold(false);
+  }
+
+  #hold(is) {
+    for (const one of [this.#child, this.#child.stdin, this.#child.stdout, this.#child.stderr]) is ? one.ref() : one.unref?.();
+  }
+
+  #kill() {
+    this.isRunning = false;
+    this.#child.kill("SIGKILL");
+  }
+
+  #hear(line) {
+    if (line.trim() === "") return;
+    this.#said = line;
+    this.#log(line);
+  }
+
+  #read(piece) {
+    let from = 0;
+    for (let at = piece.indexOf(LINE_FEED); at >= 0; at = piece.indexOf(LINE_FEED, from)) {
+      this.#answered(Buffer.concat([...this.#pieces.splice(0), piece.subarray(from, at)]).toString());
+      from = at + 1;
+    }
+    if (from < piece.length) this.#pieces.push(piece.subarray(from));
+  }
+
+  // Each answer goes to the first that waits, up to one that is none of its own: then the program is ended, so that no answer is
+  // ever another's.
+  #answered(line) {
+    if (this.#wrong !== null) return;
+    const [first] = this.#asked;
+    let answer = null;
+    try {
+      answer = JSON.parse(line);
+    } catch {}
+    if (first === undefined || !isAnswer(answer) || ![first.number, null].includes(answer.id ?? null)) {
+      this.#wrong = "the program answered what is no answer";
+      this.#kill();
+      return;
+    }
+    this.#asked.shift();
+    clearTimeout(first.timer);
+    if (this.#asked.length === 0) this.#hold(false);
+    first.resolve(answer);
+  }
+
+  #close(status) {
+    this.isRunning = false;
+    for (const { reject, timer } of this.#asked.splice(0)) {
+      clearTimeout(timer);
+      reject(because(this.#wrong ?? "the program ended before it answered", this.#said));
+    }
+    return status;
+  }
+
+  ask(act, members) {
+    const number = ++this.#number, line = `${JSON.stringify({ id: number, act, ...members })}\n`;
+    if (Buffer.byteLength(line) > MAX_LINE) throw new BadInput("the line is too long");
+    return new Promise((resolve, reject) => {
+      const timer = setTimeout(() => {
+        this.#wrong ??= `the program did not answer in ${this.#timeout / 1000} seconds`;
+        this.#kill();
+      }, this.#timeout);
+      this.#asked.push({ number, resolve, reject, timer });
+      this.#hold(true);
+      this.#child.stdin.write(line);
+    });
+  }
+
+  /** Ends its input, by which it answers what was asked and closes its file: its status. One that has not ended in time is
+   *  killed. */
+  async end() {
+    this.#hold(true);
+    this.isRunning = false;
+    this.#child.stdin.end();
+    const timer = setTimeout(() => this.#kill(), this.#timeout);
+    const status = await this.ended;
+    clearTimeout(timer);
+    return status;
+  }
+}
+
+/** The program of these words, which is started where it does not run. What was asked of a run that ended is rejected: it is
+ *  done or is not. */
+export class Program {
+  #words;
+  #timeout;
+  #log;
+  #run = null;
+
+  constructor(words, timeout, log) {
+    this.#words = words;
+    this.#timeout = timeout;
+    this.#log = log;
+  }
+
+  // A run that has the file: one that ends is waited for.
+  async #running() {
+    while (this.#run !== null && !this.#run.isRunning) await this.#ending(this.#run);
+    this.#run ??= new Run(this.#words, this.#timeout, this.#log);
+    return this.#run;
+  }
+
+  async #ending(run) {
+    const status = await run.end();
+    if (this.#run === run) this.#run = null;
+    return status;
+  }
+
+  /** The answer to an act. Throws `BadInput` where the line would be too long, and `StoreFailed`. */
+  async ask(act, members) {
+    const run = await this.#running(), answer = await run.ask(act, members);
+    if (!("failed" in answer)) return answer;
+    await this.#ending(run);
+    throw new StoreFailed(String(answer.failed));
+  }
+
+  async close() {
+    const run = this.#run;
+    if (run === null) return;
+    const wasRunning = run.isRunning, status = await this.#ending(run);
+    if (wasRunning && status !== 0) throw new StoreFailed("the program could not close its file");
+  }
+}

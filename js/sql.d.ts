@@ -1,0 +1,45 @@
+// A relying party over PostgreSQL, for Node.
+import { Credential, Registered, RegistrationOptions, Server, SignInOptions, StoredSignIn } from "./index.js";
+
+/** What is asked of a connection: those of `pg`. */
+export interface SqlClient {
+  query(text: string, values: unknown[]): Promise<{ rows: any[]; rowCount: number | null }>;
+  on(name: "error", listener: (error: Error) => void): unknown;
+  removeListener(name: "error", listener: (error: Error) => void): unknown;
+  release(isBroken?: boolean): void;
+}
+
+/** What is asked of a pool: a `Pool` of `pg`. */
+export interface SqlPool {
+  connect(): Promise<SqlClient>;
+  listenerCount(name: "error"): number;
+  on(name: "error", listener: (error: Error) => void): unknown;
+}
+
+/** A `Server` whose sessions and credentials are rows, in the tables `garvoeng_version`, `garvoeng_credential` and
+ *  `garvoeng_session`, which the first call makes where they are not there. Each call is one transaction; one that is rejected, by
+ *  whatever, has changed nothing, but that a commit whose answer was lost (`StoreFailed`) is done or is not. */
+export class SqlServer {
+  /** The pool stays the host's, who ends it. `lifetime` is how many seconds a session stays open, by the clock of the process: 300. */
+  constructor(server: Server, pool: SqlPool, options?: { lifetime?: number });
+  /** Makes the tables where they are not there; each other call does so too. Rejected by `StoreFailed`, also where they are of
+   *  another version. */
+  prepare(): Promise<void>;
+  /** As that of `Server`. `session` is a text of 32 hex digits that only this visitor may have. Without `exclude` the account's own
+   *  credentials are excluded. */
+  registerBegin(user: Uint8Array, userName: string, options?: RegistrationOptions): Promise<{ options: object; session: string }>;
+  /** What a RegistrationResponseJSON registers. It is stored, and the session closed. Rejected by `Refused`, `BadInput`, `NoMemory` or
+   *  `StoreFailed`. */
+  registerComplete(session: string | null, response: unknown): Promise<Registered>;
+  /** As that of `Server`. With `user` and without `allow` the account's own credentials are listed; where they are more than 64, any
+   *  of them that the browser finds may answer. */
+  authenticateBegin(options?: SignInOptions): Promise<{ options: object; session: string }>;
+  /** Who signed in, of an AuthenticationResponseJSON. The counter is stored, and the session closed. Rejected as `registerComplete`. */
+  authenticateComplete(session: string | null, response: unknown): Promise<StoredSignIn>;
+  /** A credential signs in no more; whether it did until now. With `user` one of another account is left as it is. */
+  retire(id: Uint8Array, user?: Uint8Array | null): Promise<boolean>;
+  /** A session ends; whether it was open. */
+  abandon(session: string): Promise<boolean>;
+  /** The credentials of a user, or all, by the second of their registration. */
+  rows(user?: Uint8Array | null): Promise<Credential[]>;
+}

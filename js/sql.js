@@ -1,0 +1,215 @@
+// A relying party whose sessions and credentials are rows of PostgreSQL, for sites of several machines. Each call is one transaction,
+// by the rules for rows of docs/OPERATING.md. Python's `garvoeng.sql` has the same tables.
+import { randomBytes } from "node:crypto";
+import {
+  BadInput, MAX_LIST, Refused, RegistrationSession, SignInSession, StoreFailed, coseKeyOf, credentialFromCose,
+} from "./index.js";
+import { checkCredential, checkUser } from "./limits.js";
+
+const VERSION = 1;
+const TABLES = [
+  "create table garvoeng_version (version integer not null)",
+  `create table garvoeng_credential (
+    id bytea primary key, user_handle bytea not null, public_key bytea not null, sign_count bigint not null, backup_eligible integer,
+    retired integer not null, backed_up integer, transports text not null default '', aaguid bytea, created_at bigint not null, used_at bigint)`,
+  "create index garvoeng_credential_by_user on garvoeng_credential (user_handle)",
+  "create table garvoeng_session (id text primary key, data text not null, expires_at bigint not null)",
+  "create index garvoeng_session_by_expiry on garvoeng_session (expires_at)",
+  `insert into garvoeng_version values (${VERSION})`,
+];
+// Sessions that have ended go at a begin, so many at a time, and no begin waits for another's.
+const EXPIRED = `delete from garvoeng_session where id in (
+  select id from garvoeng_session where expires_at <= $1 limit 100 for update skip locked)`;
+const COLUMNS = "id, user_handle, public_key, sign_count, backup_eligible, retired, transports";
+
+const isDefined = (value) => value !== null && value !== undefined;
+const flagOf = (value) => (value === null ? null : Number(value));
+
+function sessionId(value) {
+  if (typeof value !== "string" || !/^[0-9a-f]{32}$/.test(value)) throw new BadInput("the session is not 32 hex digits");
+  return value;
+}
+
+function idOf(value, what) {
+  if (!(value instanceof Uint8Array)) throw new BadInput(`${what} is not a Uint8Array`);
+  return value;
+}
+
+function now() {
+  return Math.floor(Date.now() / 1000);
+}
+
+// What a row holds; one that no site writes is the database's failure, and not the visitor's.
+function ofRow(make) {
+  try {
+    return make();
+  } catch (error) {
+    if (!(error instanceof BadInput || error instanceof SyntaxError)) throw error;
+    throw new StoreFailed(`a row is not one that a site writes: ${error.message}`, { cause: error });
+  }
+}
+
+function credentialOf(row) {
+  return ofRow(() => {
+    const credential = credentialFromCose({
+      id: row.id, user: row.user_handle, coseKey: row.public_key, signCount: Number(row.sign_count),
+      eligible: row.backup_eligible === null ? null : row.backup_eligible !== 0, retired: row.retired !== 0,
+      transports: row.transports.split(",").filter((one) => one !== ""),
+    });
+    checkCredential(credential);
+    return credential;
+  });
+}
+
+/** A `Server` whose sessions and credentials are rows, over a pool of `pg`. */
+export class SqlServer {
+  #pool;
+  #server;
+  #lifetime;
+  #prepared = null;
+
+  constructor(server, pool, { lifetime = 300 } = {}) {
+    if (!Number.isSafeInteger(lifetime) || lifetime < 1) throw new BadInput("lifetime is seconds, from 1 on");
+    this.#server = server;
+    this.#lifetime = lifetime;
+    this.#pool = pool;
+    // An idle connection that ends would end the process where nobody listens; the pool makes another in its place.
+    if (pool.listenerCount("error") === 0) pool.on("error", () => {});
+  }
+
+  async #transaction(work) {
+    const failed = (error) => new StoreFailed(`the database failed: ${error.message}`, { cause: error }), ignored = () => {};
+    const client = await this.#pool.connect().catch((error) => Promise.reject(failed(error)));
+    const run = (text, ...values) => client.query(text, values).catch((error) => Promise.reject(failed(error)));
+    let isSound = false;
+    client.on("error", ignored);
+    try {
+      await run("begin isolation level read committed");
+      try {
+        const told = await work(run);
+        await run("commit");
+        isSound = true;
+        return told;
+      } catch (error) {
+        isSound = await client.query("rollback").then(() => true, () => false);
+        throw error;
+      }
+    } finally {
+      client.removeListener("error", ignored);
+      client.release(!isSound);
+    }
+  }
+
+  // The transaction of a call, once the tables are there and of this version.
+  async #call(work) {
+    this.#prepared ??= this.prepare();
+    try {
+      await this.#prepared;
+    } catch (error) {
+      this.#prepared = null;
+      throw error;
+    }
+    return this.#transaction(work);
+  }
+
+  async prepare() {
+    await this.#transaction(async (run) => {
+      await run("select pg_advisory_xact_lock(hashtext('garvoeng'))");
+      const { rows } = await run("select to_regclass('garvoeng_version') is not null as is_there");
+      if (!rows[0].is_there) for (const statement of TABLES) await run(statement);
+      const { rows: [row] } = await run("select version from garvoeng_version");
+      if (row?.version !== VERSION) throw new StoreFailed(`the tables are of version ${row?.version}, and not of ${VERSION}`);
+    });
+  }
+
+  async #begun(run, { options, session }) {
+    const id = randomBytes(16).toString("hex");
+    await run(EXPIRED, now());
+    await run("insert into garvoeng_session values ($1, $2, $3)", id, JSON.stringify(session), now() + this.#lifetime);
+    return { options, session: id };
+  }
+
+  // The credentials of an account that sign in.
+  async #ofAccount(run, user) {
+    const { rows } = await run(`select ${COLUMNS} from garvoeng_credential where user_handle = $1 and retired = 0 order by created_at, id`, checkUser(user));
+    return rows.map(credentialOf);
+  }
+
+  // The open session of this id, whose row goes with the transaction's commit; null where there is none of this kind.
+  async #taken(run, session, kind, member) {
+    if (!isDefined(session)) return null;
+    const { rows } = await run("delete from garvoeng_session where id = $1 and expires_at > $2 returning data", session, now());
+    if (rows.length === 0) return null;
+    return ofRow(() => {
+      const kept = JSON.parse(rows[0].data);
+      return kept?.[member] === undefined ? null : kind.from(kept);
+    });
+  }
+
+  async registerBegin(user, userName, { exclude, ...how } = {}) {
+    return this.#call(async (run) => {
+      const listed = exclude ?? (await this.#ofAccount(run, user)).slice(0, MAX_LIST);
+      return this.#begun(run, this.#server.registerBegin(user, userName, { ...how, exclude: listed }));
+    });
+  }
+
+  async registerComplete(session, response) {
+    const id = isDefined(session) ? sessionId(session) : null;
+    return this.#call(async (run) => {
+      const begun = await this.#taken(run, id, RegistrationSession, "algorithms");
+      const isRegistered = async (asked) => (await run("select 1 from garvoeng_credential where id = $1", asked)).rowCount > 0;
+      const made = await this.#server.registerComplete(begun, response, { isRegistered }), { credential } = made;
+      const written = await run(
+        "insert into garvoeng_credential values ($1, $2, $3, $4, $5, $6, $7, $8, $9, $10, null) on conflict (id) do nothing",
+        credential.id, credential.user, coseKeyOf(credential), credential.signCount, flagOf(credential.eligible), 0, flagOf(made.backedUp),
+        credential.transports.join(","), made.aaguid, now());
+      if (written.rowCount !== 1) throw new Refused(true, 15, "the credential was registered meanwhile");
+      return made;
+    });
+  }
+
+  async authenticateBegin({ user = null, allow, ...how } = {}) {
+    return this.#call(async (run) => {
+      const own = allow === undefined && user !== null ? await this.#ofAccount(run, user) : [];
+      const listed = allow ?? (own.length <= MAX_LIST ? own : []);
+      return this.#begun(run, this.#server.authenticateBegin({ ...how, user, allow: listed }));
+    });
+  }
+
+  async authenticateComplete(session, response) {
+    const id = isDefined(session) ? sessionId(session) : null;
+    return this.#call(async (run) => {
+      const begun = await this.#taken(run, id, SignInSession, "allow");
+      // Of two sign-ins of one credential the second is judged by what the first left.
+      const find = async (asked) => {
+        const { rows } = await run(`select ${COLUMNS} from garvoeng_credential where id = $1 for update`, asked);
+        return rows.length === 0 ? null : credentialOf(rows[0]);
+      };
+      const { credential, before, ...told } = await this.#server.authenticateComplete(begun, response, { credential: find });
+      const written = await run(
+        `update garvoeng_credential set sign_count = $1, backup_eligible = $2, backed_up = $3, used_at = $4
+         where id = $5 and sign_count = $6 and retired = 0`,
+        credential.signCount, flagOf(credential.eligible), flagOf(told.backedUp), now(), credential.id, before.signCount);
+      if (written.rowCount !== 1) throw new Refused(false, 15, "another sign-in of this credential was accepted meanwhile");
+      return Object.freeze({ id: credential.id, user: credential.user, signCount: credential.signCount, ...told });
+    });
+  }
+
+  async retire(id, user = null) {
+    const written = await this.#call((run) => run(
+      "update garvoeng_credential set retired = 1 where id = $1 and retired = 0 and ($2::bytea is null or user_handle = $2)",
+      idOf(id, "id"), user === null ? null : idOf(user, "user")));
+    return written.rowCount === 1;
+  }
+
+  async abandon(session) {
+    const deleted = await this.#call((run) => run("delete from garvoeng_session where id = $1 and expires_at > $2", sessionId(session), now()));
+    return deleted.rowCount === 1;
+  }
+
+  async rows(user = null) {
+    const where = user === null ? "" : "where user_handle = $1", values = user === null ? [] : [idOf(user, "user")];
+    const { rows } = await this.#call((run) => run(`select ${COLUMNS} from garvoeng_credential ${where} order by created_at, id`, ...values));
+    return rows.map(credentialOf);
+  }
+}

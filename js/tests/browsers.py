@@ -1,0 +1,215 @@
+#!/usr/bin/python3
+"""The package in a headless browser: browsers.py Chromium|Firefox FOLDER, in which the package is installed and the sites of
+examples/node lie. The page judges the table of responses by `garvoeng/web` (MALFORMED, HOSTILE, RECORDED); then `garvoeng/browser` signs in
+at each site, over the proved program (PROGRAM) and over PostgreSQL, whose address stands in the environment, by four processes. The
+last line is 'N passed, M failed'."""
+import functools
+import http.server
+import json
+import os
+import signal
+import socket
+import subprocess
+import sys
+import threading
+import time
+import urllib.error
+import urllib.request
+from pathlib import Path
+
+top = Path(os.environ["TOP"])
+sys.path.insert(0, str(top / "examples" / "site"))
+import browser  # noqa: E402
+
+kind, folder = sys.argv[1], Path(sys.argv[2])
+passed = failed = 0
+
+
+def check(what, found, wanted=True):
+    global passed, failed
+    if found == wanted:
+        passed += 1
+    else:
+        failed += 1
+        print(f"FAILED: {kind}, {what}: {found!r}, not {wanted!r}")
+
+
+class Files(http.server.SimpleHTTPRequestHandler):
+    extensions_map = {**http.server.SimpleHTTPRequestHandler.extensions_map, ".mjs": "text/javascript", ".wasm": "application/wasm"}
+
+    def log_message(self, *_):
+        pass
+
+    def do_GET(self):
+        named = {f"/{name}": os.environ[name].split(":") for name in ("MALFORMED", "HOSTILE", "RECORDED")}
+        path, _, index = self.path.partition("?")
+        if path not in named:
+            return super().do_GET()
+        body = Path(named[path][int(index or 0)]).read_bytes()
+        self.send_response(200)
+        self.send_header("Content-Type", "text/plain; charset=utf-8")
+        self.send_header("Content-Length", str(len(body)))
+        self.end_headers()
+        self.wfile.write(body)
+
+
+# The module that each of these asks for.
+PAGE = """(async () => {{
+  const web = await import('/node_modules/garvoeng/web.js'), table = await import('/tests/table.mjs');
+  const text = async (path) => (await fetch(path)).text();
+  await web.load();
+  const {{ tried, wrong }} = await table.{call};
+  return {{ tried, wrong: wrong.slice(0, 9) }};
+}})()"""
+VISIT = """(async () => {
+  const { register, signIn } = await import('/browser.js');
+  const post = async (path, body) => {
+    const answer = await fetch(path, { method: 'POST', headers: { 'Content-Type': 'application/json' }, body: JSON.stringify(body) });
+    return { status: answer.status, ...await answer.json() };
+  };
+  const visit = async (act, change = (made) => made) => {
+    const options = await post(`/${act}/begin`, { name: 'ada' });
+    delete options.status;
+    return post(`/${act}/complete`, change(await (act === 'register' ? register : signIn)(options)));
+  };
+  return SCRIPT;
+})()"""
+# As a browser that has no JSON calls.
+OLD = """(async () => { for (const name of ['parseCreationOptionsFromJSON', 'parseRequestOptionsFromJSON']) delete PublicKeyCredential[name];
+delete PublicKeyCredential.prototype.toJSON; return typeof PublicKeyCredential.parseCreationOptionsFromJSON; })()"""
+
+
+def free_port():
+    with socket.create_server(("localhost", 0)) as one:
+        return one.getsockname()[1]
+
+
+def in_page(opened):
+    """The page judges by itself."""
+    served = http.server.ThreadingHTTPServer(("localhost", 0), functools.partial(Files, directory=str(folder)))
+    threading.Thread(target=served.serve_forever, daemon=True).start()
+    opened.open(f"http://localhost:{served.server_port}/")
+    for call, tried in (("malformed(web, await text('/MALFORMED'))", 2103), ("hostile(web, await text('/HOSTILE'))", None),
+                        ("recorded(web, await Promise.all([text('/RECORDED'), text('/RECORDED?1')]))", 192)):
+        found = opened.run(PAGE.format(call=call))
+        check(f"the page judges {call}", found.get("wrong", found), [])
+        check(f"so many of {call}", found.get("tried") == tried if tried else found.get("tried", 0) >= 2000)
+    served.shutdown()
+
+
+def started(site, **environment):
+    """A site of four processes, which answers at its port."""
+    port = free_port()
+    said = {**os.environ, "PORT": str(port), "SECRET": "a secret", **environment}
+    run = subprocess.Popen(["node", "workers.cjs", f"./{site}.cjs"], cwd=folder, env=said, stderr=subprocess.DEVNULL)
+    for _ in range(200):
+        try:
+            urllib.request.urlopen(f"http://localhost:{port}/", timeout=10).close()
+            return run, port
+        except OSError:
+            time.sleep(0.1)
+    raise SystemExit(f"{site} does not answer")
+
+
+def posted(port, path, body, cookie=""):
+    request = urllib.request.Request(f"http://localhost:{port}{path}", body, {"Content-Type": "application/json", "Cookie": cookie})
+    try:
+        with urllib.request.urlopen(request, timeout=30) as answer:
+            return answer.status, answer.read().decode(), answer.headers.get("Set-Cookie", "")
+    except urllib.error.HTTPError as error:
+        with error:
+            return error.code, error.read().decode(), ""
+
+
+def hostile_requests(site, port):
+    """What no page of the site sends: a named refusal, and the site goes on."""
+    begun = posted(port, "/sign-in/begin", b"{}")
+    cookie = begun[2].split(";")[0]
+    other = posted(port, "/sign-in/begin", b"{}")[2].split(";")[0]
+    response = {"id": "AA", "rawId": "AA", "type": "public-key", "response": {"clientDataJSON": "AA", "authenticatorData": "AA", "signature": "AA"}}
+    whole = json.dumps(response).encode()
+    check(f"{site}: a response of nobody", posted(port, "/sign-in/complete", whole, cookie)[1].startswith('{"error":"W3'))
+    mixed = cookie.split(".")[0] + "." + other.split(".")[1]
+    for sent in ("", "begun=", "begun=1", mixed, cookie[:-1], cookie[:-2] + "AA", cookie.replace("begun", "user"), "begun=" + "A" * 4000, "begun=s%3Aj%3A%7B%7D.AA",
+                 "begun=%", "begun=j:{\"session\":1}"):
+        status, said, _ = posted(port, "/sign-in/complete", whole, sent)
+        check(f"{site}: the cookie {sent[:40]}", (status, "W1:" in said or "BadInput" in said), (400, True))
+    for path in ("/register/begin", "/register/complete", "/sign-in/complete"):
+        for body in (b"", b"null", b"[]", b"7", b'"x"', b"{", b"\xff", b'{"name":{"toString":1}}', b'{"name":null}', b"<script>", b"[" * 50_000, b'{"__proto__":{}}'):
+            status, said, _ = posted(port, path, body, cookie)
+            check(f"{site}: {path} {body[:20]}", (status, "error" in json.loads(said)), (400, True))
+    status = posted(port, "/register/begin", json.dumps({"name": "A" * 70_000}).encode())[0]
+    check(f"{site}: a long one", status in (400, 413))
+    check(f"{site}: no such page", posted(port, "/toString", b"{}")[0], 404)
+    check(f"{site}: it goes on", posted(port, "/sign-in/begin", b"{}")[0], 200)
+
+
+def visits(opened, site, port):
+    """Acts of the page, and of its script."""
+    origin = f"http://localhost:{port}/"
+    opened.open(origin + "browser.js")  # Where nothing asks for autofill.
+    key = opened.authenticator()
+    run = lambda script: opened.run(VISIT.replace("SCRIPT", script))  # noqa: E731
+    made = run("await visit('register')")
+    check(f"{site}: registered", (made.get("status"), len(made.get("user", ""))), (200, 22))
+    signed = run("await visit('sign-in')")
+    check(f"{site}: signed in", signed, made)
+    wrong = run("await visit('sign-in', (made) => ({ ...made, response: { ...made.response, signature: 'AA' } }))")
+    check(f"{site}: another signature", (wrong.get("status"), wrong.get("error", "")[:4]), (400, "W14:"))
+    twice = run("await (async () => { let kept; const first = await visit('sign-in', (made) => (kept = made));"
+                " return [first, await post('/sign-in/complete', kept)]; })()")
+    check(f"{site}: once", (twice[0], twice[1].get("error", "")[:3]), (made, "W1:"))
+    check(f"{site}: a page of old", opened.run(OLD), "undefined")
+    check(f"{site}: its sign-in", run("await visit('sign-in')"), made)
+    opened.without(key)
+    key = opened.authenticator()
+    second = run("await visit('register')")
+    check(f"{site}: its registration", (second.get("status"), run("await visit('sign-in')")), (200, second))
+    listed = run("await (async () => { let kept; await visit('register', (made) => (kept = made));"
+                 " const named = (error) => error.name, list = (id) => [{ type: 'public-key', id }];"
+                 " const again = { ...await post('/register/begin', { name: 'ada' }), excludeCredentials: list(kept.id) };"
+                 " const other = { ...await post('/sign-in/begin', {}), allowCredentials: list('AAAA'), timeout: 500 };"
+                 " const own = { ...other, allowCredentials: list(kept.id) };"
+                 " return [await register(again).catch(named), (await signIn(own)).id === kept.id, await signIn(other).catch(named)]; })()")
+    check(f"{site}: its lists", listed, ["InvalidStateError", True, "NotAllowedError"])
+    ended = run("await (async () => { const controller = new AbortController(); const first = visit('sign-in', (made) => made);"
+                " controller.abort(new Error('enough'));"
+                " const options = { challenge: 'AAAA', rpId: 'localhost', allowCredentials: [] };"
+                " return signIn(options, { signal: controller.signal }).then(() => 'done', (error) => error.message); })()")
+    check(f"{site}: a signal that has ended it", ended, "enough")
+    opened.without(key)
+    waiting = run("await (async () => { const options = { challenge: 'AAAA', rpId: 'localhost', allowCredentials: [] }, controller = new AbortController();"
+                  " const named = (error) => error.name, one = signIn(options).catch(named);"
+                  " await new Promise((done) => setTimeout(done, 200));"
+                  " const two = signIn(options, { signal: controller.signal }).catch(named);"
+                  " setTimeout(() => controller.abort(), 200); return [await one, await two]; })()")
+    check(f"{site}: calls without a key, the first ended by the second", waiting[0] in ("AbortError", "NotAllowedError"))
+    check(f"{site}: the second by its signal", waiting[1] in ("AbortError", "NotAllowedError"))
+    key = opened.authenticator()
+    opened.open(origin)
+    click = "(async () => {{ document.getElementById('{0}').click(); const said = () => document.getElementById('said').textContent;" \
+            " for (let n = 0; n < 100 && !said().startsWith('{0}: '); n++) await new Promise((done) => setTimeout(done, 50)); return said(); }})()"
+    first = opened.run(click.format("register"))
+    check(f"{site}: the page registers", len(first), len("register: ") + 22)
+    check(f"{site}: the page signs in", opened.run(click.format("sign-in")), first.replace("register", "sign-in"))
+    check(f"{site}: autofill is asked for", run("await (await import('/browser.js')).canAutofill()") in (True, False))
+    opened.without(key)
+
+
+opened = getattr(browser, kind)(free_port())
+try:
+    in_page(opened)
+    for site in ("http", "express"):
+        for storage, environment in (("program", {"FILE": str(folder / f"{kind}-{site}.db")}), ("PostgreSQL", {"DATABASE_URL": "postgresql://"})):
+            run, port = started(site, **environment)
+            try:
+                visits(opened, f"{site} over {storage}", port)
+                hostile_requests(f"{site} over {storage}", port)
+            finally:
+                run.send_signal(signal.SIGTERM)
+                run.wait(30)
+    print(opened.version)
+finally:
+    opened.close()
+print(f"{passed} passed, {failed} failed")
+sys.exit(failed != 0)

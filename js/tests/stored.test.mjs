@@ -1,0 +1,402 @@
+// `StoredServer` over the proved program (PROGRAM): visits, hostile responses (HOSTILE), programs that are broken, killed or hang,
+// and workers of node:cluster.
+import assert from "node:assert/strict";
+import { spawn } from "node:child_process";
+import { once } from "node:events";
+import { chmodSync, existsSync, mkdtempSync, readFileSync, rmSync, writeFileSync } from "node:fs";
+import { tmpdir } from "node:os";
+import { join } from "node:path";
+import { after, test } from "node:test";
+import { fileURLToPath } from "node:url";
+import { BadInput, Credential, EDDSA, ES256, RS256, Server, StoreFailed, StoredServer, fromText, toText } from "garvoeng";
+import { AT, Device, ED, UP, UV, changed } from "./device.mjs";
+import { refusesHostileLines } from "./hostile_lines.mjs";
+
+const { PROGRAM } = process.env, folder = mkdtempSync(join(tmpdir(), "stored-")), user = Buffer.from("account 7");
+after(() => rmSync(folder, { recursive: true }));
+const path = (name) => join(folder, name), quiet = { logger: () => {} };
+const serving = (name, how) => new StoredServer(PROGRAM, path(name), "example.com", ["https://example.com"], { ...quiet, ...how });
+const children = () => readFileSync(`/proc/self/task/${process.pid}/children`, "utf8").trim().split(" ").filter((one) => one !== "").map(Number);
+const sleep = (milliseconds) => new Promise((resolve) => setTimeout(resolve, milliseconds));
+const flipped = (value) => (value[value.length - 1] ^= 1, value);
+
+async function registered(server, device, how) {
+  const { options, session } = await server.registerBegin(user, "name");
+  return server.registerComplete(session, device.register(options, how));
+}
+
+// A program that does this in place of the proved one.
+function script(name, body) {
+  writeFileSync(path(name), `#!${process.execPath}\nconst { stdin, stdout } = process;\n${body}\n`);
+  chmodSync(path(name), 0o755);
+  return path(name);
+}
+
+const broken = (name, body, how) => new StoredServer(script(name, body), path("none.db"), "example.com", ["https://example.com"], { timeout: 1_000, ...quiet, ...how });
+
+test("visits", async () => {
+  const server = serving("visits.db");
+  let device, response;
+  for (const [index, algorithm] of [ES256, EDDSA, RS256].entries()) {
+    device = new Device(algorithm, { id: Buffer.from(`${index}`) });
+    const { id, x, y, aaguid } = device, made = await registered(server, device, { isPacked: index === 1 });
+    assert.deepEqual(made.credential, new Credential({ id, user, algorithm, x, y, signCount: 0, eligible: false }));
+    assert.deepEqual({ ...made, credential: null }, { credential: null, aaguid: Uint8Array.from(aaguid), format: index === 1 ? "packed" : "none", userVerified: true,
+                                                      backedUp: false, flags: UP | UV | AT, extensions: new Uint8Array(0) });
+    const { options, session } = await server.authenticateBegin({ user, allow: [made.credential] });
+    response = device.signIn(options, { user });
+    await assert.rejects(server.authenticateComplete(session, changed(response, "signature", flipped)), { name: "W14" });
+    assert.deepEqual(await server.authenticateComplete(session, response), {
+      id: Uint8Array.from(id), user: Uint8Array.from(user), signCount: 1, userVerified: true, backedUp: false, flags: UP | UV, extensions: new Uint8Array(0) });
+    await assert.rejects(server.authenticateComplete(session, response), { name: "W1", isRegistration: false });
+  }
+  assert.deepEqual((await server.rows(user)).map(({ id, signCount }) => [Buffer.from(id).toString(), signCount]), [["0", 1], ["1", 1], ["2", 1]]);
+  assert.deepEqual(await server.rows(Buffer.from("nobody")), []);
+  await assert.rejects(registered(server, device), { name: "G15", isRegistration: true });
+  for (const none of [null, undefined, 0]) await assert.rejects(server.authenticateComplete(none, response), { name: "W1" });
+  assert.deepEqual([await server.retire(device.id), await server.retire(device.id)], [true, false]);
+  assert.deepEqual((await server.rows()).map(({ retired }) => retired), [false, false, true]);
+  const { options, session } = await server.authenticateBegin();
+  await assert.rejects(server.authenticateComplete(session, device.signIn(options)), { name: "W3" });
+  assert.deepEqual([await server.abandon(session), await server.abandon(session)], [true, false]);
+  const young = (await server.authenticateBegin()).session;
+  assert.deepEqual([await server.expire(3_600), await server.abandon(young)], [0, true]);
+  const outputs = "a16b6372656450726f7465637402", more = new Device(EDDSA, { id: Buffer.from("with extensions") });
+  const made = await registered(server, more, { flags: UP | UV | AT | ED, outputs });
+  assert.deepEqual([made.flags, Buffer.from(made.extensions).toString("hex")], [UP | UV | AT | ED, outputs]);
+  await server.close();
+  assert.equal((await server.rows()).length, 4);
+  await server.close();
+  await server.close();
+  assert.deepEqual(children(), []);
+});
+
+test("options are those of Server, and the session is of what they ask", async () => {
+  const plain = new Server("example.com", ["https://example.com"], { rpName: "A site" }), server = serving("options.db", { rpName: "A site" });
+  const id = Buffer.from("one"), withOwn = (made, own) => ({ ...made, challenge: own.challenge });
+  for (const how of [{}, { displayName: "Ada", exclude: [id, { id, transports: ["usb"] }], algorithms: [EDDSA], userVerification: "discouraged", residentKey: "preferred",
+                           authenticatorAttachment: "platform", timeout: 60_000, hints: ["hybrid"], extensions: { credProps: true } }, { residentKey: "discouraged" }]) {
+    const { options } = await server.registerBegin(user, "na\u2028me\n", how);
+    assert.deepEqual(options, withOwn(plain.registerBegin(user, "na\u2028me\n", how).options, options));
+    assert.equal(fromText(options.challenge, "it").length, 32);
+  }
+  for (const how of [{}, { user, allow: [id, { id, transports: ["nfc"] }], userVerification: "required", timeout: 1, hints: [], extensions: {} }]) {
+    const { options } = await server.authenticateBegin(how);
+    assert.deepEqual(options, withOwn(plain.authenticateBegin(how).options, options));
+  }
+  const begun = await server.registerBegin(user, "name", { algorithms: [EDDSA], userVerification: "required" });
+  await assert.rejects(server.registerComplete(begun.session, new Device().register(begun.options)), { name: "G11" });
+  await assert.rejects(server.registerComplete(begun.session, new Device(EDDSA).register(begun.options, { flags: UP | AT })), { name: "G10" });
+  const device = new Device(EDDSA);
+  await server.registerComplete(begun.session, device.register(begun.options));
+  const listed = await server.authenticateBegin({ allow: [id], userVerification: "required" });
+  await assert.rejects(server.authenticateComplete(listed.session, device.signIn(listed.options)), { name: "W2" });
+  const verified = await server.authenticateBegin({ user, userVerification: "required" });
+  await assert.rejects(server.authenticateComplete(verified.session, device.signIn(verified.options, { flags: UP })), { name: "W13" });
+  const others = await server.authenticateBegin({ user: Buffer.from("somebody else") });
+  await assert.rejects(server.authenticateComplete(others.session, device.signIn(others.options)), { name: "W4" });
+  await server.close();
+});
+
+test("what the server takes", async () => {
+  for (const [name, how, isPacked, wanted] of [["none", { acceptSelf: false }, true, "G14"], ["self", { acceptNone: false }, false, "G14"], ["strict", { openProfile: false }, null, "G7"]]) {
+    const server = serving(`${name}.db`, how), device = new Device(EDDSA), { options, session } = await server.registerBegin(user, "name");
+    const more = isPacked === null ? { flags: UP | UV | AT | ED, outputs: "a16b6372656450726f7465637402" } : { isPacked };
+    await assert.rejects(server.registerComplete(session, device.register(options, more)), { name: wanted });
+    await server.registerComplete(session, device.register(options, { isPacked: isPacked === false }));
+    await server.close();
+  }
+  const few = serving("few.db", { maxOpen: 1, maxCredentials: 1 }), first = (await few.authenticateBegin()).session;
+  const second = (await few.authenticateBegin()).session;
+  assert.deepEqual([await few.abandon(first), await few.abandon(second)], [false, true], "the oldest ended");
+  const devices = ["one", "two"].map((id) => new Device(EDDSA, { id: Buffer.from(id) })), begun = [];
+  await few.close();
+  const one = serving("few.db", { maxCredentials: 1 });
+  for (const device of devices) {
+    const { options, session } = await one.registerBegin(user, "name");
+    begun.push(one.registerComplete(session, device.register(options)));
+    await Promise.allSettled(begun);
+  }
+  await assert.rejects(begun[1], { name: "G16" });
+  const { credential: { id } } = await begun[0];
+  const copy = join(folder, "copy.db");
+  await one.backup(copy);
+  await assert.rejects(one.backup(copy), { text: "the file was not copied: there is a file at this path" });
+  assert.deepEqual([await one.delete(id), await one.delete(id), (await one.rows()).length], [true, false, 0]);
+  const { credentials, registrations, registrations_refused: refused } = await one.status();
+  assert.deepEqual([credentials, registrations, refused], [0, 1, { G16: 1 }]);
+  await one.close();
+  const restored = serving("copy.db");
+  assert.deepEqual((await restored.rows()).map((row) => row.id), [id]);
+  await restored.close();
+  const short = serving("short.db", { expire: 1 }), old = (await short.authenticateBegin()).session;
+  await sleep(2_500);
+  const young = (await short.authenticateBegin()).session;
+  assert.deepEqual([await short.abandon(old), await short.abandon(young)], [false, true]);
+  await short.close();
+});
+
+test("what hosts hand in by mistake", async () => {
+  const server = serving("mistakes.db"), response = new Device().signIn({ challenge: "AA" }), { session } = await server.authenticateBegin();
+  for (const bad of [-1, 0.5, "1", [1], {}, NaN, 2 ** 53, 1n, true, { valueOf: () => 1 }, "1; drop"]) await assert.rejects(server.authenticateComplete(bad, response), BadInput);
+  const rows = [
+    () => server.registerBegin("account 7", "name"), () => server.registerBegin(new Uint8Array(0), "name"), () => server.registerBegin(new Uint8Array(65), "name"),
+    () => server.registerBegin(user), () => server.registerBegin(user, 7), () => server.registerBegin(user, "A".repeat(70_000)), () => server.registerBegin(user, "\ud800"),
+    () => server.registerBegin(user, "name", { exclude: Array(9).fill(user) }), () => server.registerBegin(user, "name", { algorithms: [] }),
+    () => server.registerBegin(user, "name", { algorithms: [1] }), () => server.registerBegin(user, "name", { userVerification: true }),
+    () => server.registerBegin(user, "name", { residentKey: true }), () => server.registerBegin(user, "name", { timeout: 0 }),
+    () => server.authenticateBegin({ user: "7" }), () => server.authenticateBegin({ allow: [""] }), () => server.authenticateBegin({ allow: Array(9).fill(user) }),
+    () => server.authenticateBegin({ hints: ["x"] }), () => server.retire("AA"), () => server.abandon(-1), () => server.expire("300"), () => server.rows("x"),
+    () => server.registerComplete(session, null), () => server.authenticateComplete(session, { ...response, id: "A".repeat(70_000), rawId: "A".repeat(70_000) }),
+  ];
+  for (const call of rows) await assert.rejects(call(), BadInput, `${call}`);
+  await assert.rejects(server.registerBegin(user, "\u00e9".repeat(40_000)), { text: "the line is too long" });
+  assert.equal(children().length, 1);
+  assert.equal(await server.abandon(session), true);
+  assert.equal((await server.authenticateBegin()).session, session + 1, "nothing began");
+  await server.close();
+  for (const make of [{ acceptNone: false, acceptSelf: false }, { log: "some" }, { maxOpen: 0 }, { maxCredentials: 0 }, { maxOpen: "9" }, { expire: -1 }, { timeout: 0 }, { rpName: "" }, { rpName: "a\0b" }])
+    assert.throws(() => serving("none.db", make), BadInput);
+  for (const words of [["", "x"], [7, "x"], [PROGRAM, ""], [PROGRAM, "a\0b"], [PROGRAM, null]])
+    assert.throws(() => new StoredServer(...words, "example.com", ["https://example.com"]), BadInput);
+  assert.throws(() => new StoredServer(PROGRAM, "x", "example.com", "https://example.com"), BadInput);
+});
+
+test("a signature counts as valid by nothing but true", async () => {
+  const answers = [1, "true", {}, [true], null, undefined, Promise.resolve(1), { then: (resolve) => resolve("true") }];
+  let index = 0;
+  const server = serving("verify.db", { verify: () => answers[index] }), device = new Device();
+  await registered(server, device);
+  const { options, session } = await server.authenticateBegin({ user }), response = device.signIn(options);
+  for (index = 0; index < answers.length; index++) await assert.rejects(server.authenticateComplete(session, response), { name: "W14" });
+  server.verify = () => Promise.reject(new Error("no mathematics"));
+  await assert.rejects(server.authenticateComplete(session, response), { message: "no mathematics" });
+  server.verify = async () => true;
+  assert.equal((await server.authenticateComplete(session, response)).signCount, 1);
+  await server.close();
+});
+
+test("hostile values: as Server answers them, by one process", async () => {
+  const server = serving("hostile.db"), device = new Device(), { options, session } = await server.registerBegin(user, "name");
+  const good = device.register(options), asked = await server.authenticateBegin();
+  const [first] = children();
+  await refusesHostileLines(server, { registration: session, signIn: asked.session });
+  for (const value of [undefined, Symbol("a"), 7n, () => ({}), new Proxy([], {}), new Date()]) await assert.rejects(server.registerComplete(session, value), { text: "response is missing" });
+  await server.registerComplete(session, good);
+  assert.equal((await server.authenticateComplete(asked.session, device.signIn(asked.options, { user }))).signCount, 1);
+  assert.deepEqual(children(), [first]);
+  await server.close();
+});
+
+test("programs that answer something else, or nothing", async () => {
+  const answers = {
+    "no JSON": 'stdout.write("{\\n")', "no id": 'stdout.write("{\\"rows\\":[],\\"id\\":7}\\n")', "a list": 'stdout.write("[]\\n")', "a number": 'stdout.write("1\\n")', "null": 'stdout.write("null\\n")',
+    "half a line": 'stdout.write("{\\"id\\":1,\\"rows\\":[]}")', "nothing": "", "bytes that are no text": "stdout.write(Buffer.from([255, 254, 10]))", "a failure": 'stdout.write("{\\"id\\":1,\\"failed\\":\\"disk\\"}\\n")',
+  };
+  for (const [what, body] of Object.entries(answers)) {
+    const server = broken("broken", `stdin.once("data", () => { ${body}; stdin.destroy(); });`), began = Date.now();
+    await assert.rejects(server.rows(), StoreFailed, what);
+    assert.ok(Date.now() - began < 5_000, what);
+    await server.close().catch(() => {});
+  }
+  const two = broken("two", 'stdin.once("data", () => stdout.write("{\\"id\\":1,\\"rows\\":[]}\\n{\\"id\\":2,\\"rows\\":[]}\\n")); stdin.resume();');
+  assert.deepEqual(await two.rows(), []);
+  await sleep(300);
+  assert.deepEqual(children(), [], "one that answers what was not asked is ended");
+  const pieces = broken("pieces", `stdin.once("data", () => {
+    const line = Buffer.from('{"id":1,"error":"\u00e9\u00e9"}\\n'), at = line.indexOf(0xc3) + 1;
+    stdout.write(line.subarray(0, at), () => setTimeout(() => stdout.write(line.subarray(at)), 100));
+  });`);
+  await assert.rejects(pieces.rows(), { name: "BadInput", text: "\u00e9\u00e9" });
+  await pieces.close();
+  const silent = broken("silent", "stdin.resume(); setTimeout(() => {}, 60_000);"), began = Date.now();
+  const found = await Promise.allSettled(Array.from({ length: 20 }, () => silent.rows()));
+  assert.ok(found.every(({ reason }) => reason instanceof StoreFailed) && Date.now() - began < 5_000);
+  assert.match(found[0].reason.message, /did not answer in 1 seconds/);
+  const odd = broken("odd", 'stdin.on("data", () => stdout.write("{\\"id\\":1,\\"unknown\\":0}\\n"));');
+  await assert.rejects(odd.authenticateComplete(1, new Device().signIn({ challenge: "AA" })), StoreFailed);
+  await odd.close();
+});
+
+test("what could not be started says why", async () => {
+  const one = serving("cause.db"), other = serving("cause.db", { rpName: "another" });
+  await one.rows();
+  await assert.rejects(other.rows(), (error) => error instanceof StoreFailed && error.message.includes("the file is in use"));
+  await one.close();
+  assert.deepEqual(await other.rows(), [], "the next call starts it");
+  await other.close();
+  const absent = serving("absent.db", { isExisting: true });
+  await assert.rejects(absent.rows(), { name: "StoreFailed", message: /there is no file at this path/ });
+  assert.equal(existsSync(path("absent.db")), false);
+  for (const program of ["/no/such/program", folder])
+    await assert.rejects(new StoredServer(program, "x", "example.com", ["https://example.com"], quiet).rows(), { name: "StoreFailed", message: /can't be started/ });
+  const cwd = process.cwd();
+  process.chdir(folder);
+  const dash = new StoredServer(PROGRAM, "-dash.db", "example.com", ["https://example.com"], { rpName: "-a name", ...quiet });
+  assert.deepEqual(await dash.rows(), []);
+  await dash.close();
+  process.chdir(cwd);
+  for (const [log, wanted] of [[false, 0], [true, 1], ["all", 1]]) {
+    const said = [], server = serving(`log${log}.db`, { log, logger: (line) => said.push(line) });
+    await assert.rejects(server.authenticateComplete(5, new Device().signIn({ challenge: "AA" })), { name: "W1" });
+    await server.close();
+    assert.equal(said.filter((line) => line.includes("sign-in refused W1 ")).length, wanted);
+  }
+});
+
+test("a program that is killed or hangs: what was in flight is rejected, the next call goes on", async () => {
+  const server = serving("killed.db", { timeout: 1_000 }), device = new Device();
+  await registered(server, device);
+  for (const [signal, message] of [["SIGKILL", /ended before it answered/], ["SIGSTOP", /did not answer in 1 seconds|ended before/]]) {
+    process.kill(children()[0], "SIGSTOP");
+    const asked = Array.from({ length: 10 }, () => server.authenticateBegin());
+    await sleep(200);
+    process.kill(children()[0], signal);
+    const found = await Promise.allSettled(asked);
+    assert.ok(found.some(({ status }) => status === "rejected"));
+    for (const { reason } of found.filter(({ status }) => status === "rejected")) assert.match(reason.message, message);
+    assert.deepEqual((await server.rows()).map(({ id }) => Buffer.from(id)), [device.id]);
+  }
+  const { options, session } = await server.authenticateBegin(), response = device.signIn(options, { user });
+  process.kill(children()[0], "SIGKILL");
+  await sleep(200);
+  await assert.rejects(server.authenticateComplete(session, response), { name: "W1" }, "a session ends with the program");
+  const again = await server.authenticateBegin();
+  assert.equal(await server.abandon(again.session), true);
+  assert.ok(session < again.session, "no number comes again");
+  process.kill(children()[0], "SIGSTOP");
+  await assert.rejects(server.close(), { message: "the program could not close its file" });
+  assert.deepEqual(children(), []);
+  for (let time = 0; time < 10; time++) {
+    await server.rows();
+    const [found] = await Promise.all([server.close().then(() => server.rows()), server.rows(), server.rows()]);
+    assert.equal(found.length, 1, "a run that closes its file is waited for");
+  }
+  const pending = Array.from({ length: 50 }, () => server.rows());
+  await sleep(100);
+  await server.close();
+  assert.equal((await Promise.all(pending)).length, 50, "what was asked is answered before the end");
+});
+
+test("killed at random, no acceptance that was answered is lost", async (context) => {
+  const server = serving("random.db"), device = new Device(), ends = Date.now() + 60_000;
+  await registered(server, device);
+  let accepted = 0, failed = 0;
+  const killing = setInterval(() => children().forEach((pid) => process.kill(pid, "SIGKILL")), 150);
+  context.after(() => clearInterval(killing));
+  while (Date.now() < ends && (accepted < 30 || failed < 3)) {
+    try {
+      const { options, session } = await server.authenticateBegin();
+      const response = device.signIn(options, { user });
+      const answers = await Promise.allSettled([1, 2, 3].map(() => server.authenticateComplete(session, response)));
+      accepted += answers.filter(({ status }) => status === "fulfilled").length;
+      assert.ok(answers.filter(({ status }) => status === "fulfilled").length <= 1);
+      for (const { reason } of answers) assert.ok(reason === undefined || reason instanceof StoreFailed || reason.name === "W1", String(reason));
+    } catch (error) {
+      if (!(error instanceof StoreFailed)) throw error;
+      failed++;
+    }
+    const count = (await server.rows().catch(() => []))[0]?.signCount ?? device.count;
+    assert.ok(count <= device.count);
+  }
+  clearInterval(killing);
+  assert.ok(accepted >= 30 && failed >= 3, `${accepted} accepted, ${failed} failed`);
+  await server.close().catch(() => {});
+  const [row] = await server.rows();
+  assert.ok(row.signCount >= accepted, `${row.signCount} of ${accepted}`);
+  await server.close();
+});
+
+// A process that runs this, with `serving` and `Device` in it; what it prints, line by line.
+function apart(name, body) {
+  const file = fileURLToPath(new URL(`./made-${name}.mjs`, import.meta.url));
+  writeFileSync(file, `import cluster from "node:cluster";\nimport { StoredServer } from "garvoeng";\nimport { Device } from "./device.mjs";
+const serving = (how) => new StoredServer(${JSON.stringify(PROGRAM)}, ${JSON.stringify(path(`${name}.db`))}, "example.com", ["https://example.com"], { timeout: 5_000, logger: () => {}, ...how });
+${body}\n`);
+  const child = spawn(process.execPath, [file], { stdio: ["ignore", "pipe", "inherit"] });
+  const ended = once(child, "close").finally(() => rmSync(file)), said = [];
+  child.stdout.setEncoding("utf8").on("data", (text) => said.push(text));
+  return { child, ended, lines: () => said.join("").trim().split("\n").filter((line) => line !== "") };
+}
+
+const isAlive = (pid) => existsSync(`/proc/${pid}`) && !readFileSync(`/proc/${pid}/stat`, "utf8").includes(") Z ");
+const TELL = 'import { readFileSync } from "node:fs"; const tell = () => console.log(readFileSync(`/proc/self/task/${process.pid}/children`, "utf8").trim());';
+
+test("the program ends with its process, and keeps none alive", async () => {
+  const idle = apart("idle", `${TELL} const server = serving(); await server.rows(); tell();`);
+  assert.equal((await idle.ended)[0], 0);
+  const killed = apart("killed", `${TELL} const server = serving(); await server.rows(); tell(); setInterval(() => {}, 1_000);`);
+  while (killed.lines().length === 0) await sleep(50);
+  killed.child.kill("SIGKILL");
+  await killed.ended;
+  for (const [pid] of [idle.lines(), killed.lines()]) {
+    for (let time = 0; time < 100 && isAlive(Number(pid)); time++) await sleep(50);
+    assert.equal(isAlive(Number(pid)), false);
+  }
+});
+
+test("workers of node:cluster share one program", async () => {
+  const run = apart("cluster", `
+const server = serving(), user = Buffer.from("account 7"), times = 40;
+if (cluster.isPrimary) {
+  let left = 4;
+  for (let count = 0; count < 5; count++) cluster.fork({ COUNT: count });
+  cluster.on("exit", async (worker, status) => {
+    console.log(JSON.stringify({ status }));
+    if (status !== null && --left === 0) {
+      console.log(JSON.stringify({ rows: (await server.rows()).map((row) => [Buffer.from(row.id).toString(), row.signCount]).sort() }));
+      await server.close();
+    }
+  });
+} else if (process.env.COUNT === "4") {
+  for (;;) { server.authenticateBegin().catch(() => {}); if (Math.random() < 0.05) process.kill(process.pid, "SIGKILL"); await new Promise(setImmediate); }
+} else {
+  const device = new Device(undefined, { id: Buffer.from("key " + process.env.COUNT) }), begun = await server.registerBegin(user, "name");
+  await server.registerComplete(begun.session, device.register(begun.options));
+  for (let time = 0; time < times; time++) {
+    const { options, session } = await server.authenticateBegin({ allow: [device.id] }), response = device.signIn(options, { user });
+    const answers = await Promise.allSettled([1, 2].map(() => server.authenticateComplete(session, response)));
+    if (answers.filter((one) => one.status === "fulfilled").length !== 1) throw new Error(JSON.stringify(answers));
+  }
+  const tooLong = await server.registerBegin(user, "A".repeat(70_000)).catch((error) => error.name);
+  const other = await serving({ rpName: "another", timeout: 500 }).rows().catch((error) => error.name + ": " + error.message);
+  console.log(JSON.stringify({ tooLong, other }));
+  process.exit(0);
+}`);
+  await run.ended;
+  const lines = run.lines().map((line) => JSON.parse(line)), has = (wanted) => lines.filter((line) => JSON.stringify(line) === JSON.stringify(wanted)).length;
+  assert.equal(has({ status: 0 }), 4, run.lines().join("\n"));
+  assert.equal(has({ status: null }), 1);
+  assert.equal(has({ tooLong: "BadInput", other: "StoreFailed: the primary process has no StoredServer of these words" }), 4);
+  assert.deepEqual(lines.at(-1), { rows: [0, 1, 2, 3].map((count) => [`key ${count}`, 40]) });
+});
+
+test("a worker whose primary ended or whose program was killed", async () => {
+  const run = apart("orphan", `
+const server = serving({ timeout: 2_000 });
+if (cluster.isPrimary) {
+  const worker = cluster.fork();
+  ${TELL.replace("import { readFileSync } from \"node:fs\";", "const { readFileSync } = await import(\"node:fs\");")}
+  worker.on("message", (message) => {
+    if (message !== "kill") return;
+    for (const pid of readFileSync(\`/proc/self/task/\${process.pid}/children\`, "utf8").trim().split(" ").map(Number)) if (pid !== worker.process.pid) process.kill(pid, "SIGKILL");
+    worker.send("killed");
+  });
+  worker.on("message", (message) => message === "end" && process.exit(0));
+} else {
+  await server.rows();
+  process.send("kill");
+  await new Promise((resolve) => process.on("message", (message) => message === "killed" && resolve()));
+  const found = await Promise.allSettled(Array.from({ length: 5 }, () => server.rows()));
+  const again = await server.rows();
+  console.log(JSON.stringify([found.every((one) => one.status === "fulfilled" || one.reason.name === "StoreFailed"), again]));
+  process.removeAllListeners("disconnect");
+  process.on("disconnect", async () => {
+    console.log(JSON.stringify(await server.rows().catch((error) => error.name)));
+    process.exit(0);
+  });
+  process.send("end");
+}`);
+  await run.ended;
+  assert.deepEqual(run.lines().map((line) => JSON.parse(line)), [[true, []], "StoreFailed"]);
+});

@@ -1,0 +1,275 @@
+"""One run of the proved program for several processes: a broker, which has the program and a Unix socket of its user. Of each process that
+connects it hands lines on, and to each the answers to its own: the program answers in the order of the lines."""
+from __future__ import annotations
+
+import fcntl
+import hashlib
+import json
+import os
+import select
+import socket
+import stat
+import struct
+import subprocess
+import sys
+import tempfile
+import time
+from collections import deque
+from contextlib import contextmanager
+from pathlib import Path
+from queue import SimpleQueue
+from typing import Deque, Dict, Iterator, Optional, Sequence
+
+MAX_LINE = 65_536
+"""The most bytes of a line that the program takes."""
+IDLE = 2.0
+"""How many seconds a broker stays to which nobody is connected."""
+STUCK = 2.0
+"""How many seconds one may take to read what it asked for."""
+ENDING = 30.0
+"""How many seconds the program may take to close its file."""
+_NOTE = b"!"
+"""Before what the program told on standard error. An answer begins with a brace."""
+
+
+def _folder() -> Path:
+    """The user's own folder for sockets, which nobody else can enter."""
+    base = os.environ.get("XDG_RUNTIME_DIR")
+    folder = Path(base, "garvoeng") if base else Path(tempfile.gettempdir(), f"garvoeng-{os.geteuid()}")
+    folder.mkdir(mode=0o700, exist_ok=True)
+    found = os.lstat(folder)
+    if not stat.S_ISDIR(found.st_mode) or found.st_uid != os.geteuid() or found.st_mode & 0o077:
+        raise OSError(f"{folder} is not this user's alone")
+    return folder
+
+
+def path_of(words: Sequence[str]) -> Path:
+    """The socket for a program with these words, the last of which is its file."""
+    told = "\0".join([*words[:-1], os.path.realpath(words[-1])])
+    return _folder() / hashlib.sha256(told.encode("utf-8", "surrogateescape")).hexdigest()[:32]
+
+
+@contextmanager
+def _locked(path: Path) -> Iterator[None]:
+    """While nobody else starts or ends a broker of this socket."""
+    with open(path.with_suffix(".lock"), "wb") as lock:
+        fcntl.flock(lock, fcntl.LOCK_EX)
+        yield
+
+
+def _user_of(peer: socket.socket) -> int:
+    return int(struct.unpack("3i", peer.getsockopt(socket.SOL_SOCKET, socket.SO_PEERCRED, 12))[1])
+
+
+def _connected(path: Path) -> Optional[socket.socket]:
+    made = socket.socket(socket.AF_UNIX)
+    try:
+        made.connect(str(path))
+    except OSError:
+        made.close()
+        return None
+    if _user_of(made) != os.geteuid():
+        made.close()
+        raise OSError("the socket is another user's")
+    return made
+
+
+class Connection:
+    """A connection to a broker, which is started where there is none. It has what is asked of a `subprocess.Popen`."""
+
+    def __init__(self, words: Sequence[str], timeout: float = 30.0) -> None:
+        path = path_of(words)
+        found = _connected(path)
+        if found is None:
+            with _locked(path):
+                found = _connected(path) or self._started(path, words, timeout)
+        self._socket = found
+        self._notes: "SimpleQueue[Optional[bytes]]" = SimpleQueue()
+        self._has_ended = False
+        self.stdin = found.makefile("wb")
+        self.stdout = self._answers()
+        self.stderr: Iterator[bytes] = iter(self._notes.get, None)
+
+    @staticmethod
+    def _started(path: Path, words: Sequence[str], timeout: float) -> socket.socket:
+        package = str(Path(__file__).resolve().parents[1])
+        command = "import sys; sys.path.insert(0, sys.argv.pop(1)); from garvoeng.broker import main; main()"
+        started = subprocess.Popen([sys.executable, "-c", command, package, str(path), *words], stdin=subprocess.DEVNULL,
+                                   stdout=subprocess.DEVNULL, stderr=subprocess.DEVNULL, start_new_session=True)
+        until = time.monotonic() + timeout
+        while time.monotonic() < until and started.poll() is None:
+            found = _connected(path)
+            if found is not None:
+                return found
+            time.sleep(0.01)
+        raise OSError("the broker did not start")
+
+    def _answers(self) -> Iterator[bytes]:
+        try:
+            for line in self._socket.makefile("rb"):
+                if line.startswith(_NOTE):
+                    self._notes.put(line[1:])
+                else:
+                    yield line
+        except OSError:
+            pass
+        finally:
+            self._has_ended = True
+            self._notes.put(None)
+
+    def poll(self) -> Optional[int]:
+        return 0 if self._has_ended else None
+
+    def kill(self) -> None:
+        """Ends the connection, and not the program, which others share."""
+        try:
+            self._socket.shutdown(socket.SHUT_RDWR)
+        except OSError:
+            pass
+
+    def wait(self, timeout: Optional[float] = None) -> int:
+        self.kill()
+        return 0
+
+
+class _Broker:
+    def __init__(self, path: Path, words: Sequence[str]) -> None:
+        self.path = path
+        path.unlink(missing_ok=True)
+        self.listening = socket.socket(socket.AF_UNIX)
+        before = os.umask(0o177)
+        try:
+            self.listening.bind(str(path))
+        finally:
+            os.umask(before)
+        self.listening.listen(128)
+        self.program = subprocess.Popen(words, stdin=subprocess.PIPE, stdout=subprocess.PIPE, stderr=subprocess.PIPE)
+        assert self.program.stdin and self.program.stdout and self.program.stderr
+        self.stdin, self.stdout, self.stderr = (pipe.fileno() for pipe in (self.program.stdin, self.program.stdout, self.program.stderr))
+        os.set_blocking(self.stdin, False)
+        self.peers: Dict[socket.socket, bytes] = {}
+        self.unwritten, self.answered = b"", b""
+        self.asked: Deque[socket.socket] = deque()
+        self.notes: Deque[bytes] = deque(maxlen=8)
+
+    def _accept(self) -> None:
+        peer, _ = self.listening.accept()
+        if _user_of(peer) != os.geteuid():
+            peer.close()
+            return
+        peer.settimeout(STUCK)
+        self.peers[peer] = b""
+        for note in list(self.notes):
+            self._tell(peer, note)
+
+    def _drop(self, peer: socket.socket) -> None:
+        if self.peers.pop(peer, None) is not None:
+            peer.close()
+
+    def _tell(self, peer: socket.socket, line: bytes) -> None:
+        """To one that has gone nothing is told, and one that does not read is let go."""
+        if peer in self.peers:
+            try:
+                peer.sendall(line)
+            except OSError:
+                self._drop(peer)
+
+    def _hear(self, peer: socket.socket) -> None:
+        """Takes whole lines. Who sends what is no line is let go."""
+        try:
+            data = peer.recv(65_536)
+        except OSError:
+            data = b""
+        *lines, self.peers[peer] = (self.peers[peer] + data).split(b"\n")
+        for line in lines:
+            if line.startswith(b"{") and len(line) < MAX_LINE:
+                self.asked.append(peer)
+                self.unwritten += line + b"\n"
+            else:
+                data = b""
+        if not data or len(self.peers[peer]) >= MAX_LINE:
+            self._drop(peer)
+
+    def _note(self) -> None:
+        for line in os.read(self.stderr, 65_536).splitlines():
+            self.notes.append(_NOTE + line + b"\n")
+            for peer in list(self.peers):
+                self._tell(peer, self.notes[-1])
+
+    def _answer(self) -> bool:
+        """Hands answers on; false where the program is to be started anew: it has ended, or it failed."""
+        data = os.read(self.stdout, 65_536)
+        *lines, self.answered = (self.answered + data).split(b"\n")
+        failed = not data
+        for line in lines:
+            self._tell(self.asked.popleft(), line + b"\n")
+            failed = failed or (b'"failed"' in line and "failed" in json.loads(line))
+        return not failed
+
+    def _serve(self) -> bool:
+        """Until nobody is left, which is true, or the program is to be started anew."""
+        idle = time.monotonic()
+        while True:
+            writing = [self.stdin] if self.unwritten else []
+            ready, writable, _ = select.select([self.listening, self.stdout, self.stderr, *self.peers], writing, [], 0.5)
+            if self.stderr in ready:
+                self._note()
+            if self.stdout in ready and not self._answer():
+                return False
+            if self.listening in ready:
+                self._accept()
+            for peer in ready:
+                if isinstance(peer, socket.socket) and peer in self.peers:
+                    self._hear(peer)
+            if writable:
+                self.unwritten = self.unwritten[os.write(self.stdin, self.unwritten):]
+            if self.peers or self.asked:
+                idle = time.monotonic()
+            elif time.monotonic() - idle > IDLE:
+                return True
+
+    def _is_left(self) -> bool:
+        """Whether nobody came until the socket had gone. Who came in between is served."""
+        gone = self.path.with_suffix(".gone")
+        self.path.rename(gone)
+        if select.select([self.listening], [], [], 0)[0]:
+            gone.rename(self.path)
+            return False
+        gone.unlink()
+        return True
+
+    def _served(self) -> bool:
+        try:
+            return self._serve()
+        except (OSError, IndexError, ValueError):
+            return False
+
+    def run(self) -> None:
+        """Ends with the program. Until that has closed its file nobody starts another broker."""
+        while True:
+            nobody = self._served()
+            with _locked(self.path):
+                if nobody and not self._is_left():
+                    continue
+                self._end(nobody)
+                return
+
+    def _end(self, nobody: bool) -> None:
+        while not nobody and select.select([self.listening], [], [], 0)[0]:
+            self._accept()
+        self.listening.close()
+        try:
+            _, rest = self.program.communicate(timeout=ENDING)
+        except subprocess.TimeoutExpired:
+            self.program.kill()
+            _, rest = self.program.communicate()
+        for line in rest.splitlines():
+            for peer in list(self.peers):
+                self._tell(peer, _NOTE + line + b"\n")
+        for peer in list(self.peers):
+            self._drop(peer)
+
+
+def main() -> None:
+    """The broker: SOCKET PROGRAM WORDS .."""
+    _Broker(Path(sys.argv[1]), sys.argv[2:]).run()

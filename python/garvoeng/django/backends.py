@@ -1,0 +1,22 @@
+"""Users by their passkeys."""
+from __future__ import annotations
+
+from typing import Any, Mapping, Optional
+
+from django.contrib.auth.backends import ModelBackend
+
+from .models import Account
+from .server import server
+
+
+class PasskeyBackend(ModelBackend):
+    """`authenticate(request, passkey_session=.., passkey=..)` is the user of an AuthenticationResponseJSON, if it may sign in; the
+    counter is stored, and the session closed. Raises `Refused` and `BadInput`. A password is none of its."""
+
+    def authenticate(self, request: Any, passkey_session: Optional[str] = None, passkey: Optional[Mapping[str, Any]] = None,
+                     **_: Any) -> Any:
+        if passkey is None:
+            return None
+        handle = server().authenticate_complete(passkey_session, passkey).credential.user
+        account = Account.objects.select_related("user").filter(handle=handle).first()
+        return account.user if account is not None and self.user_can_authenticate(account.user) else None

@@ -1,0 +1,47 @@
+"""`SqlServer` over Django's own connection, so that each call is a part of the transaction in which it is made."""
+from __future__ import annotations
+
+from contextlib import contextmanager
+from functools import lru_cache
+from typing import Any, Iterator
+
+from django.conf import settings
+from django.core.signals import setting_changed
+from django.db import connection, transaction
+
+from ..server import Server
+from ..sql import LIFETIME, Rows, SqlServer
+
+
+def rows_of(connection: Any) -> Rows:
+    """The rows of one of Django's connections."""
+    return Rows(connection.cursor(), connection.vendor == "sqlite", "%s")
+
+
+class DjangoServer(SqlServer):
+    def __init__(self, server: Server, lifetime: int) -> None:
+        super().__init__(server, lambda: connection, lifetime=lifetime)
+
+    @contextmanager
+    def transaction(self) -> Iterator[Rows]:
+        with transaction.atomic():
+            rows = rows_of(connection)
+            if rows.is_sqlite:
+                # The lock of SQLite is taken before anything is read, so that nobody writes between.
+                rows.run("update garvoeng_version set version = version")
+            yield rows
+
+
+@lru_cache(1)
+def server() -> DjangoServer:
+    """The relying party of the setting `GARVOENG`."""
+    said = settings.GARVOENG
+    return DjangoServer(Server(said["rp_id"], said["origins"], said.get("rp_name")), said.get("lifetime", LIFETIME))
+
+
+def _forget(setting: str, **_: Any) -> None:
+    if setting == "GARVOENG":
+        server.cache_clear()
+
+
+setting_changed.connect(_forget)

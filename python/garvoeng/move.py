@@ -1,0 +1,100 @@
+"""Moves the rows of another library into the tables of `garvoeng.sql`: python -m garvoeng.move fido2|py_webauthn DATABASE < ROWS
+
+DATABASE is a SQLite file or the address of a PostgreSQL database. ROWS has a line of JSON for each row; bytes are texts of base64url.
+Of python-fido2: `user`, the user handle, `credential_data`, the bytes of `AttestedCredentialData`, and `counter`. Of py_webauthn:
+`user`, and the members of `VerifiedRegistration`: `credential_id`, `credential_public_key`, `sign_count`, `credential_device_type`,
+`credential_backed_up`. Both may have `transports`. Each row is moved by itself, and one that is there already is left as it is: so
+the same may be done again. What is not moved is told by its line; then the status is 1."""
+from __future__ import annotations
+
+import json
+import sqlite3
+import sys
+from typing import Any, Callable, Dict, Mapping, Optional, TextIO, Tuple
+
+from .errors import BadInput, Refused
+from .forms import from_text, transports_in
+from .limits import check_credential, check_ids, check_user
+from .records import Credential
+from .server import Server
+from .sql import SqlServer
+
+Moved = Tuple[Credential, Optional[bool], Optional[bytes]]
+
+
+def _bytes(row: Mapping[str, Any], name: str) -> bytes:
+    return from_text(row.get(name), name)
+
+
+def _count(row: Mapping[str, Any], name: str) -> int:
+    count = row.get(name)
+    if type(count) is not int:
+        raise BadInput(f"{name} is not a whole number")
+    check_credential(-7, count)
+    return count
+
+
+def of_fido2(row: Mapping[str, Any]) -> Moved:
+    """A row of python-fido2."""
+    data = _bytes(row, "credential_data")
+    size = int.from_bytes(data[16:18], "big")
+    credential = Credential.from_cose(data[18:18 + size], _bytes(row, "user"), data[18 + size:], _count(row, "counter"),
+                                      transports=transports_in(row.get("transports")))
+    return credential, None, data[:16]
+
+
+def of_py_webauthn(row: Mapping[str, Any]) -> Moved:
+    """A row of py_webauthn."""
+    kind, backed_up = row.get("credential_device_type"), row.get("credential_backed_up")
+    if kind not in ("single_device", "multi_device", None) or not isinstance(backed_up, (bool, type(None))):
+        raise BadInput("credential_device_type or credential_backed_up is none of the library's")
+    credential = Credential.from_cose(_bytes(row, "credential_id"), _bytes(row, "user"), _bytes(row, "credential_public_key"),
+                                      _count(row, "sign_count"), None if kind is None else kind == "multi_device",
+                                      transports=transports_in(row.get("transports")))
+    return credential, backed_up, None
+
+
+READERS: Dict[str, Callable[[Mapping[str, Any]], Moved]] = {"fido2": of_fido2, "py_webauthn": of_py_webauthn}
+
+
+def moved(reader: Callable[[Mapping[str, Any]], Moved], server: SqlServer, lines: TextIO, told: Callable[[str], None]) -> bool:
+    """Moves the rows of these lines; whether each is there then."""
+    counts = {"moved": 0, "there already": 0, "not moved": 0}
+    for number, line in enumerate(lines, 1):
+        try:
+            row = json.loads(line)
+            if not isinstance(row, dict):
+                raise BadInput("the line is no JSON object")
+            credential, backed_up, aaguid = reader(row)
+            check_user(credential.user)
+            check_ids([credential.id])
+            server.add(credential, backed_up=backed_up, aaguid=aaguid)
+            counts["moved"] += 1
+        except Refused:
+            counts["there already"] += 1
+        except (ValueError, RecursionError) as error:
+            counts["not moved"] += 1
+            told(f"line {number}: {error}")
+    told(", ".join(f"{count} {what}" for what, count in counts.items()))
+    return counts["not moved"] == 0
+
+
+def main() -> None:
+    """The command."""
+    if len(sys.argv) != 3 or sys.argv[1] not in READERS:
+        sys.exit(__doc__)
+    address = sys.argv[2]
+
+    def connect() -> Any:
+        if not address.startswith(("postgres:", "postgresql:")):
+            return sqlite3.connect(address, timeout=30)
+        import psycopg
+        return psycopg.connect(address)
+
+    server = SqlServer(Server("localhost", ["http://localhost"], verify=lambda *_: False), connect)
+    server.prepare()
+    sys.exit(not moved(READERS[sys.argv[1]], server, sys.stdin, print))
+
+
+if __name__ == "__main__":
+    main()

@@ -1,0 +1,54 @@
+"""What `garvoeng.flask` and `garvoeng.django` have in common: files for the browser, and what a visitor sends."""
+from __future__ import annotations
+
+import json
+from pathlib import Path
+from typing import Any, Dict
+
+from .errors import BadInput
+from .forms import from_text
+
+MAX_BODY = 128 * 1024
+"""The most bytes of a visitor's request."""
+MAX_NAME = 64
+"""The most characters of an account's name."""
+FILES = {"": ("passkeys.html", "text/html"), "passkeys.js": ("passkeys.js", "text/javascript"), "page.js": ("page.js", "text/javascript")}
+"""The files and their types, by their paths."""
+
+
+def file(path: str) -> bytes:
+    return Path(__file__).with_name(FILES[path][0]).read_bytes()
+
+
+def check_head(content_type: str, size: int) -> None:
+    """What is asked of a request before its body is read. Only JSON is taken: a form of another site can't send it."""
+    if content_type.split(";")[0].strip().lower() != "application/json":
+        raise BadInput("the body is not application/json")
+    if size > MAX_BODY:
+        raise BadInput("the body is too long")
+
+
+def object_in(body: bytes) -> Dict[str, Any]:
+    """A request's JSON object."""
+    if len(body) > MAX_BODY:
+        raise BadInput("the body is too long")
+    try:
+        value = json.loads(body)
+    except (ValueError, RecursionError):
+        value = None
+    if not isinstance(value, dict):
+        raise BadInput("the body is no JSON object")
+    return value
+
+
+def name_in(said: Dict[str, Any]) -> str:
+    """An account's name: 1 to 64 characters that can be printed."""
+    name = said.get("name")
+    if not isinstance(name, str) or not 1 <= len(name) <= MAX_NAME or not name.isprintable():
+        raise BadInput(f"a name has 1 to {MAX_NAME} characters that can be printed")
+    return name
+
+
+def id_in(said: Dict[str, Any]) -> bytes:
+    """A credential's id."""
+    return from_text(said.get("id"), "id")

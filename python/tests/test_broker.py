@@ -1,0 +1,239 @@
+"""`StoredServer` with `shared`, over the program of PROGRAM: several processes with one program, and what ends in the midst of it."""
+import multiprocessing
+import os
+import random
+import signal
+import socket
+import stat
+import time
+from pathlib import Path
+
+import pytest
+from device import EDDSA, Device
+
+from garvoeng import Refused, StoredServer, StoreFailed, broker
+
+PROGRAM = os.environ.get("PROGRAM", str(Path(__file__).parents[2] / "dist" / "passkey-site"))
+pytestmark = pytest.mark.skipif(not Path(PROGRAM).exists(), reason="PROGRAM is not there")
+
+
+@pytest.fixture(autouse=True)
+def folder(tmp_path, monkeypatch):
+    monkeypatch.setenv("XDG_RUNTIME_DIR", str(tmp_path))
+    return tmp_path
+
+
+def server(folder, **more):
+    return StoredServer(PROGRAM, str(folder / "site.db"), "example.com", ["https://example.com"], shared=True, timeout=20, **more)
+
+
+def registered(site, device, user=b"account 7"):
+    options, session = site.register_begin(user, "name")
+    return site.register_complete(session, device.register(options))
+
+
+def signed_in(site, device):
+    options, session = site.authenticate_begin(user=b"account 7")
+    return site.authenticate_complete(session, device.sign_in(options)).sign_count
+
+
+def running(file, name):
+    """The processes of this name that have a word with this file."""
+    found = []
+    for path in Path("/proc").glob("[0-9]*/cmdline"):
+        try:
+            words = path.read_bytes().split(b"\0")
+        except OSError:
+            continue
+        if str(file).encode() in words and (os.path.basename(words[0]) == b"passkey-site") == (name == "program"):
+            found.append(int(path.parent.name))
+    return found
+
+
+def until(call, seconds=15):
+    for _ in range(int(seconds * 20)):
+        if call():
+            return True
+        time.sleep(0.05)
+    return False
+
+
+def worker(folder, number, ends_at):
+    """Registers and signs in until it is time; what was accepted is told."""
+    site, device, made, count = server(folder), Device(EDDSA, credential=b"key of %d" % number), False, 0
+    told = open(folder / f"told-{number}", "w")
+    while time.time() < ends_at:
+        try:
+            if not made:
+                registered(site, device)
+                made = True
+            accepted = signed_in(site, device)
+            assert accepted > count
+            count = accepted
+            told.write(f"{count}\n")
+            told.flush()
+        except StoreFailed:
+            time.sleep(0.02)
+        except Refused as refused:
+            # The session ended with the program; or the registration was committed, whose answer did not come.
+            assert refused.name in ("G1", "W1", "G15"), refused
+            made = made or refused.name == "G15"
+    site.close()
+
+
+def test_workers_that_are_killed(folder):
+    """Four workers, of which one, the program or the broker is killed again and again: one program at a time, and no acceptance is
+    lost or told twice."""
+    context = multiprocessing.get_context("fork")
+    ends_at = time.time() + 8
+    workers = {number: context.Process(target=worker, args=(folder, number, ends_at)) for number in range(4)}
+    for one in workers.values():
+        one.start()
+    draw, file, most, names = random.Random(1), folder / "site.db", 0, 3
+    accepted = {}
+    while time.time() < ends_at - 1.5:
+        time.sleep(0.4)
+        programs = running(file, "program")
+        most = max(most, len(programs))
+        choice = draw.randrange(3)
+        if choice == 0:
+            number = draw.choice(list(workers))
+            workers[number].kill()
+            workers.pop(number).join()
+            names += 1
+            workers[names] = context.Process(target=worker, args=(folder, names, ends_at))
+            workers[names].start()
+        else:
+            for pid in programs if choice == 1 else running(file, "broker"):
+                try:
+                    os.kill(pid, signal.SIGKILL)
+                except ProcessLookupError:
+                    pass
+    for one in workers.values():
+        one.join(30)
+        assert one.exitcode == 0
+    for number in range(names + 1):
+        told = folder / f"told-{number}"
+        counts = [int(line) for line in told.read_text().splitlines()] if told.exists() else []
+        assert counts == sorted(set(counts))
+        if counts:
+            accepted[number] = counts[-1]
+    assert len(accepted) >= 4 and most <= 1
+    with server(folder) as site:
+        rows = {row.id: row.sign_count for row in site.rows()}
+    for number, count in accepted.items():
+        assert rows[b"key of %d" % number] >= count
+
+
+def test_it_ends_with_the_last_and_starts_again(folder):
+    one, other, device = server(folder), server(folder), Device(EDDSA)
+    registered(one, device)
+    assert signed_in(other, device) == 1 and signed_in(one, device) == 2
+    assert len(running(folder / "site.db", "program")) == 1
+    one.close()
+    time.sleep(broker.IDLE + 1.5)
+    assert signed_in(other, device) == 3
+    other.close()
+    assert until(lambda: not running(folder / "site.db", "program") and not running(folder / "site.db", "broker"))
+    assert signed_in(one, device) == 4
+    one.close()
+
+
+def test_who_may_connect(folder, monkeypatch):
+    with server(folder) as site:
+        site.rows()
+        path = broker.path_of(site._words)
+        assert stat.S_IMODE(path.stat().st_mode) == 0o600 and stat.S_IMODE(path.parent.stat().st_mode) == 0o700
+    monkeypatch.setattr(os, "geteuid", lambda: 12345)
+    with pytest.raises(OSError):
+        broker.path_of(["program", "file"])
+    monkeypatch.undo()
+    monkeypatch.setenv("XDG_RUNTIME_DIR", str(folder))
+    (folder / "garvoeng").chmod(0o755)
+    with pytest.raises(StoreFailed, match="not this user's alone"):
+        server(folder).rows()
+
+
+def test_the_broker_asks_who_it_is(folder, monkeypatch):
+    """A socket that another user listens on is not trusted, and one that connects is let go."""
+    (folder / "garvoeng").mkdir(mode=0o700)
+    site = server(folder)
+    with socket.socket(socket.AF_UNIX) as theirs:
+        theirs.bind(str(broker.path_of(site._words)))
+        theirs.listen()
+        monkeypatch.setattr(broker, "_user_of", lambda _: os.geteuid() + 1)
+        with pytest.raises(StoreFailed, match="another user's"):
+            site.rows()
+    site._words[-1] = str(folder / "other.db")
+    made = broker._Broker(broker.path_of(site._words), site._words)
+    with socket.socket(socket.AF_UNIX) as stranger:
+        stranger.connect(str(made.path))
+        made._accept()
+        assert made.peers == {} and stranger.recv(1) == b""
+    made._end(True)
+
+
+def test_hostile_connections(folder):
+    """Who sends what is no line is let go, and the others go on."""
+    device = Device(EDDSA)
+    with server(folder) as site:
+        registered(site, device)
+        path = str(broker.path_of(site._words))
+        for hostile in (b"\n", b"garbage\n", b"[]\n", b"\0" * 100 + b"\n", b"{" + b"x" * 70_000, b"{" + b"x" * 70_000 + b"\n", b'{"id":1}\n\n'):
+            with socket.socket(socket.AF_UNIX) as stranger:
+                stranger.settimeout(10)
+                stranger.connect(path)
+                try:
+                    stranger.sendall(hostile)
+                    while stranger.recv(65_536):
+                        pass
+                except ConnectionError:
+                    pass
+            assert signed_in(site, device)
+        for partial in (b'{"id":1,"act":"rows"', b"", b'{"id":1,"act":"rows"}\n{"id":2'):
+            with socket.socket(socket.AF_UNIX) as stranger:
+                stranger.connect(path)
+                stranger.sendall(partial)
+            assert signed_in(site, device)
+        deaf = socket.socket(socket.AF_UNIX)
+        deaf.connect(path)
+        deaf.settimeout(20)
+        try:
+            for _ in range(3_000):
+                deaf.sendall(b'{"id":1,"act":"rows"}\n')
+        except OSError:
+            pass
+        assert signed_in(site, device)
+        deaf.close()
+
+
+def test_what_the_program_says(folder):
+    """Why it can't start is told to the one that asked, and another may try again."""
+    alone = StoredServer(PROGRAM, str(folder / "site.db"), "example.com", ["https://example.com"])
+    alone.rows()
+    shared = server(folder)
+    with pytest.raises(StoreFailed, match="in use"):
+        shared.rows()
+    alone.close()
+    assert shared.rows() == []
+    shared.close()
+    with pytest.raises(StoreFailed):
+        StoredServer("/no/program", str(folder / "none.db"), "example.com", ["https://example.com"], shared=True, timeout=2).rows()
+
+
+def test_the_program_that_fails_is_started_anew(folder):
+    """A program that answers `failed` is ended, for all."""
+    script = folder / "failing"
+    script.write_text(f"""#!/bin/sh
+if [ -e {folder}/failed ]; then exec {PROGRAM} "$@"; fi
+read line
+touch {folder}/failed
+echo '{{"id":1,"failed":"disk I/O error"}}'
+while read line; do echo '{{"id":2,"failed":"disk I/O error"}}'; done
+""")
+    script.chmod(0o755)
+    one = StoredServer(str(script), str(folder / "site.db"), "example.com", ["https://example.com"], shared=True, timeout=20)
+    with pytest.raises(StoreFailed, match="disk"):
+        one.rows()
+    assert until(lambda: one.rows() == [])
+    one.close()

@@ -1,0 +1,360 @@
+"""The extension module: what it holds and gives back, threads, interpreters beside the first, and objects that lie. tests/python runs
+these by Debian's debug build of Python with the address sanitizer too."""
+import gc
+import json
+import random
+import subprocess
+import sys
+import threading
+from dataclasses import replace
+
+import pytest
+from device import AT, ED, UP, UV, Device, changed
+
+from garvoeng import EDDSA, ES256, BadInput, Credential, Refused, Server, _passkey, forms, signatures
+
+USER, ORIGIN = b"account 7", "https://example.com"
+CRED_PROTECT = b"\xa1\x6bcredProtect\x02"
+
+
+def party(**more):
+    return Server("example.com", [ORIGIN], **more)
+
+
+class Ceremony:
+    """A registration with a packed statement and a sign-in, with all their parts."""
+
+    def __init__(self, algorithm=ES256, **more):
+        self.server, self.device = party(**more), Device(algorithm)
+        options, self.begun = self.server.register_begin(USER, "name")
+        self.made = self.device.register(options, packed=True, flags=UP | UV | AT | ED, outputs=CRED_PROTECT)
+        self.credential = self.register().credential
+        options, self.session = self.server.authenticate_begin(user=USER, allow=[self.credential])
+        self.response = self.device.sign_in(options, user=USER, flags=UP | UV | ED, outputs=CRED_PROTECT)
+
+    def register(self, made=None, **more):
+        return self.server.register_complete(self.begun, made or self.made, is_registered=lambda _: False, **more)
+
+    def sign_in(self, response=None, **more):
+        stored = replace(self.credential, **more)
+        return self.server.authenticate_complete(self.session, response or self.response, credential=lambda _: stored)
+
+    def parts(self):
+        raw_id, client_data, auth_data, signature, user = forms.sign_in_parts(self.response)
+        return [self.session, self.credential, raw_id, user, auth_data, signature, client_data]
+
+
+def ended(call):
+    try:
+        return call()
+    except (Refused, BadInput, TypeError, ValueError, OverflowError, Broken) as error:
+        return error
+
+
+class Broken(Exception):
+    """What a host's own objects raise."""
+
+
+def breaking(*_):
+    raise Broken
+
+
+class Lying(bytes):
+    """Bytes that say other things of themselves."""
+
+    def __len__(self):
+        return 10**9
+
+    def __getitem__(self, at):
+        return breaking()
+
+    __iter__ = __bytes__ = __hash__ = breaking
+
+    def __eq__(self, other):
+        return True
+
+
+class Untrue:
+    __bool__ = breaking
+
+
+class Iterated:
+    def __init__(self, values):
+        self.values = values
+
+    def __iter__(self):
+        yield from self.values
+
+
+class Endless:
+    def __iter__(self):
+        yield b"x"
+        breaking()
+
+
+def every_way(one):
+    """Calls that are accepted, refused at each of the module's own branches, or raise."""
+    bad = changed(one.response, "signature", lambda value: value[:-1] + bytes([value[-1] ^ 1]))
+    forged = changed(one.made, "attestationObject", lambda value: value.replace(b"credProtect\x02", b"credProtect\x01"))
+    unread = changed(one.made, "attestationObject", lambda value: value[:-1])
+    parts = one.parts()
+    yield one.register
+    yield one.sign_in
+    yield lambda: one.register(forged)
+    yield lambda: one.register(unread)
+    yield lambda: one.register({**one.made, "rawId": 7})
+    yield lambda: one.register({**one.made, "response": {**one.made["response"], "clientDataJSON": "A"}})
+    yield lambda: one.sign_in(bad)
+    yield lambda: one.sign_in({**one.response, "response": {**one.response["response"], "signature": "\ud800"}})
+    yield lambda: one.sign_in({**one.response, "response": {**one.response["response"], "signature": "A" * 65_536}})
+    yield lambda: one.sign_in(x=bytes(31))
+    yield lambda: one.sign_in(sign_count=9)
+    yield lambda: one.sign_in(eligible=Untrue())
+    yield lambda: one.sign_in(algorithm=7)
+    for verify in (breaking, lambda *_: Untrue(), lambda *_: 0, lambda: True):
+        server = party(verify=verify)
+        yield lambda server=server: server.authenticate_complete_parts(*parts)
+        yield lambda server=server: server.register_complete(one.begun, one.made, is_registered=lambda _: False)
+    for at in range(2, 7):
+        for value in (None, 7, "text", [256], [0] * 9, bytearray(9), memoryview(b"x"), Endless(), Lying(parts[at] or b"")):
+            yield lambda at=at, value=value: one.server.authenticate_complete_parts(*parts[:at], value, *parts[at + 1:])
+    for allow in (None, 7, [None], [b"x", "y"], Endless(), Iterated([one.credential.id]), [b"x"] * 500):
+        yield lambda allow=allow: one.server.authenticate_complete_parts(replace(one.session, allow=allow), *parts[1:])
+    for name in ("id", "user", "x", "y", "algorithm", "sign_count", "retired"):
+        for value in (None, "text", [1], Untrue(), 10**400, 1.5, bytearray(3)):
+            yield lambda name=name, value=value: one.sign_in(**{name: value})
+    for name in ("challenge", "user", "user_verification", "algorithms"):
+        for value in (None, "text", [1], Untrue(), bytearray(3), 7):
+            yield lambda name=name, value=value: one.server.register_complete(
+                replace(one.begun, **{name: value}), one.made, is_registered=lambda _: False)
+    yield lambda: _passkey.key_to_cose(ES256, one.credential.x, "text")
+    yield lambda: _passkey.key_from_cose(7)
+    yield lambda: Credential.from_cose(b"id", USER, one.credential.cose_key, 0)
+    yield lambda: _passkey.from_text(7, "it")
+    yield lambda: _passkey.from_text("A!", "it")
+    yield lambda: _passkey.is_canonical(None)
+
+
+def held_now():
+    """Blocks of memory and, by a debug build, references."""
+    gc.collect()
+    return sys.getallocatedblocks(), getattr(sys, "gettotalrefcount", int)()
+
+
+@pytest.mark.parametrize("algorithm", [ES256, EDDSA])
+def test_memory_is_level(algorithm):
+    """Each way in and out, packed statements and extensions too, a hundred times: nothing is kept."""
+    for call in every_way(Ceremony(algorithm)):
+        grown = None
+        for _ in range(3):
+            ended(call)
+            before = held_now()
+            for _ in range(20):
+                ended(call)
+            after = held_now()
+            grown = [new - old for new, old in zip(after, before)]
+            if max(grown) < 10:
+                break
+        assert max(grown) < 10, (call, grown)
+
+
+def test_references_are_given_back():
+    """What is handed in has as many references after a call as before it."""
+    one = Ceremony()
+    parts, calls = one.parts(), list(every_way(one))
+    held = [*parts[2:], one.credential, one.credential.id, one.credential.user, one.credential.x, one.credential.y, one.session.challenge,
+            one.session.allow, one.begun.challenge, one.begun.user, one.server._origins_bytes, one.server._rp_id_bytes, None, True, False]
+    for call in calls:
+        before = [sys.getrefcount(value) for value in held]
+        for _ in range(40):
+            ended(call)
+        gc.collect()
+        after = [sys.getrefcount(value) for value in held]
+        assert all(abs(new - old) < 20 for old, new in zip(before, after)), (before, after)
+
+
+def test_hostile_objects_are_refused_or_read():
+    """Nothing of a host's own objects ends the process, and what lies of its length is read as the bytes that it has."""
+    one = Ceremony()
+    parts = one.parts()
+    said = [ended(call) for call in every_way(one)]
+    assert len(said) > 120
+    truth = one.server.authenticate_complete_parts(*parts)
+    for at in range(2, 7):
+        lying = one.server.authenticate_complete_parts(*parts[:at], Lying(parts[at]), *parts[at + 1:])
+        assert lying.credential == truth.credential and lying.extensions == CRED_PROTECT
+    for value in (bytearray(parts[4]), memoryview(parts[4]), list(parts[4])):
+        assert one.server.authenticate_complete_parts(*parts[:4], value, *parts[5:]).credential.sign_count == 1
+    for error in (TypeError, TypeError):
+        with pytest.raises(error):
+            one.server.authenticate_complete_parts(*parts[:4], "text", *parts[5:])
+        with pytest.raises(error):
+            one.server.authenticate_complete_parts(*parts[:5], None, *parts[6:])
+
+
+def test_a_buffer_that_changes_is_read_once():
+    """A buffer that the host changes while its signature is verified is judged as it was handed in."""
+    one = Ceremony()
+    data = bytearray(one.parts()[4])
+
+    def verify(algorithm, x, y, message, signature):
+        data[32] = 0
+        data[33:] = b""
+        return signatures.is_valid(algorithm, x, y, message, signature)
+
+    server = party(verify=verify)
+    parts = one.parts()
+    said = server.authenticate_complete_parts(*parts[:4], data, *parts[5:])
+    assert len(data) == 33 and (said.credential.sign_count, said.extensions, said.flags) == (1, CRED_PROTECT, UP | UV | ED)
+
+
+def test_a_host_that_changes_what_it_handed_in():
+    """A list that is emptied, and a response that is cleared, while the host's own code runs in the call."""
+    one = Ceremony()
+    parts, allowed = one.parts(), [one.credential.id]
+
+    def verify(*_):
+        allowed.clear()
+        gc.collect()
+        return True
+
+    begun = replace(one.session, allow=allowed)
+    assert party(verify=verify).authenticate_complete_parts(begun, *parts[1:]).credential.sign_count == 1 and allowed == []
+
+    response = json.loads(json.dumps(one.response))
+
+    def find(_):
+        response["response"].clear()
+        response.clear()
+        return one.credential
+
+    assert one.server.authenticate_complete(one.session, response, credential=find).credential.sign_count == 1
+
+    class Key(str):
+        """A member's name that changes the dict in which it is looked for."""
+        hash_of = "type"
+
+        def __hash__(self):
+            return hash(self.hash_of)
+
+        def __eq__(self, other):
+            hostile.clear()
+            return False
+
+    for name in ("id", "rawId", "type", "response", "clientExtensionResults", "authenticatorAttachment"):
+        hostile = {}
+        Key.hash_of = name
+        hostile[Key("other")] = 1
+        for member, value in one.response.items():
+            if member != name:
+                hostile[member] = value
+        ended(lambda: one.server.authenticate_complete(one.session, hostile, credential=lambda _: one.credential))
+
+
+def test_threads():
+    """Verdicts of several threads at once: each as it is by itself, and the interpreter is given up in the calls."""
+    one = Ceremony()
+    good, parts = one.sign_in(), one.parts()
+    bad = [*parts[:5], parts[5][:-1] + bytes([parts[5][-1] ^ 1]), parts[6]]
+    wrong = []
+
+    def judge(seed):
+        draw = random.Random(seed)
+        for _ in range(300):
+            if draw.random() < 0.5:
+                if one.server.authenticate_complete_parts(*parts) != good:
+                    wrong.append("another verdict")
+            else:
+                try:
+                    one.server.authenticate_complete_parts(*bad)
+                    wrong.append("accepted")
+                except Refused as refused:
+                    if refused.name != "W14":
+                        wrong.append(refused.name)
+
+    threads = [threading.Thread(target=judge, args=(seed,)) for seed in range(8)]
+    for thread in threads:
+        thread.start()
+    for thread in threads:
+        thread.join()
+    assert wrong == []
+
+
+IN_ANOTHER = """
+import sys
+sys.path[:0] = {path}
+import types
+fake = types.ModuleType("garvoeng")
+fake.__path__ = [{package}]
+sys.modules["garvoeng"] = fake
+from garvoeng import _passkey, errors
+assert _passkey.ABI_VERSION == 3
+assert _passkey.from_text("AAEC", "it") == bytes([0, 1, 2])
+assert _passkey.refusal_text(False, 14) == "the signature is not valid"
+try:
+    _passkey.from_text("!", "it")
+    raise SystemExit("accepted")
+except errors.BadInput as error:
+    assert str(error) == "it is not base64url"
+"""
+
+
+def test_interpreters_beside_the_first():
+    """Each interpreter has a module and a `BadInput` of its own, in turn and at once."""
+    pytest.importorskip("_xxsubinterpreters")
+    package = str(__import__("pathlib").Path(_passkey.__file__).parent)
+    script = IN_ANOTHER.format(path=sys.path, package=repr(package))
+    whole = f"import _xxsubinterpreters as them\nimport sys\nsys.path[:0] = {sys.path!r}\nimport garvoeng\nscript = {script!r}\n" + """
+for _ in range(3):
+    ids = [them.create() for _ in range(4)]
+    for one in ids:
+        them.run_string(one, script)
+    for one in ids:
+        them.destroy(one)
+garvoeng._passkey.from_text("AAEC", "it")
+try:
+    garvoeng._passkey.from_text("!", "it")
+except garvoeng.BadInput:
+    print("done")
+"""
+    said = subprocess.run([sys.executable, "-c", whole], capture_output=True, text=True)
+    assert said.stdout == "done\n", said.stderr
+
+
+@pytest.mark.skipif(sys.platform != "linux", reason="RLIMIT_AS")
+def test_no_memory():
+    """Where memory is refused a call raises MemoryError, or is made; it is never wrong, and nothing ends the process."""
+    one = """
+import resource, sys
+sys.path[:0] = {path!r}
+from test_extension import Ceremony
+one = Ceremony(verify=lambda *_: True)
+one.sign_in()
+long = {{**one.response, "response": {{**one.response["response"], "clientDataJSON": "A" * 60_000}}}}
+from garvoeng import Refused
+_, soft = resource.getrlimit(resource.RLIMIT_AS)
+now = int(open("/proc/self/statm").read().split()[0]) * resource.getpagesize()
+wanted = set()
+for room in range(0, 2_000_000, 20_000):
+    resource.setrlimit(resource.RLIMIT_AS, (now + room, soft))
+    fill = []
+    try:
+        while True:
+            fill.append(bytearray(10_000))
+    except MemoryError:
+        pass
+    while len(fill) > 1:
+        try:
+            said = one.sign_in(long)
+            wanted.add("accepted")
+        except (MemoryError, Refused) as error:
+            wanted.add(type(error).__name__)
+        fill.pop()
+resource.setrlimit(resource.RLIMIT_AS, (soft, soft))
+del fill
+assert one.sign_in().credential.sign_count == 1
+print(sorted(wanted))
+"""
+    path = [str(__import__("pathlib").Path(__file__).parent)]
+    said = subprocess.run([sys.executable, "-c", one.format(path=path)], capture_output=True, text=True)
+    assert said.stdout == "['MemoryError', 'Refused']\n", said.stderr
