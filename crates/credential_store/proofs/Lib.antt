@@ -5,3 +5,4 @@ pub mod Standing
 pub mod Writes
 pub mod Transactions
 pub mod Listed
+pub mod Users

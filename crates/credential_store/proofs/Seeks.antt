@@ -23,8 +23,8 @@ prefix key = Blob key ∷ []
 prefix_of : (k : List ℕ) (p : ℕ) (key : List ℕ) → prefix_cmp plain (entry k p) (prefix key) ≡ slice_cmp nat_cmp k key
 prefix_of k p key = prefix_cmp-one (Blob k) (Int (pos p) ∷ []) (Blob key) ∙ value_cmp-Blob k key
 
-prefix_same : (key : List ℕ) (p : ℕ) → prefix_cmp plain (entry key p) (prefix key) ≡ Equal
-prefix_same key p = prefix_of key p key ∙ tied_itself nat_list_cmp_total key
+pub of_key : (key : List ℕ) (p : ℕ) → prefix_cmp plain (entry key p) (prefix key) ≡ Equal
+of_key key p = prefix_of key p key ∙ tied_itself nat_list_cmp_total key
 
 pub same_key : (k key : List ℕ) → slice_cmp nat_cmp k key ≡ Equal → k ≡ key
 same_key k key e = slice_cmp-IsAntisymmetric nat_cmp-IsAntisymmetric k key e
@@ -76,11 +76,11 @@ first_is key p (e ∷ es) are up stands = go (is_lt (prefix_cmp plain e (prefix 
     go : (b : Bool) → is_lt (prefix_cmp plain e (prefix key)) ≡ b → Stands (entry key p) (e ∷ es) → (Stands (entry key p) es → FirstIs key es)
         → FirstIs key (e ∷ es)
     go true t (inl is) more =
-        absurd (true≢false (sym t ∙ ap (λ x. is_lt (prefix_cmp plain x (prefix key))) is ∙ ap is_lt (prefix_same key p)))
+        absurd (true≢false (sym t ∙ ap (λ x. is_lt (prefix_cmp plain x (prefix key))) is ∙ ap is_lt (of_key key p)))
     go true t (inr behind) more =
         let f = more behind in
         record { place = f.place; left = f.left; is = rw t f.is; fits = f.fits }
-    go false t (inl is) more = here t (ap (λ x. is_gt (prefix_cmp plain x (prefix key))) is ∙ ap is_gt (prefix_same key p))
+    go false t (inl is) more = here t (ap (λ x. is_gt (prefix_cmp plain x (prefix key))) is ∙ ap is_gt (of_key key p))
     go false t (inr behind) more = here t (low (is_gt (prefix_cmp plain e (prefix key))) refl)
       where
         less : entry_cmp plain e (entry key p) ≡ Less
@@ -90,17 +90,12 @@ first_is key p (e ∷ es) are up stands = go (is_lt (prefix_cmp plain e (prefix 
         low false g = g
         low true g =
             let over = (prefix_cmp_follows plain (prefix key) e (entry key p) (ap is_gt less)).1 g in
-            absurd (true≢false (sym over ∙ ap is_gt (prefix_same key p)))
+            absurd (true≢false (sym over ∙ ap is_gt (of_key key p)))
 
 -- ---- a step of a cursor
 
 pub clean_before : (a b : Bool) → doubt a ≤ doubt b → doubt b ≡ 0 → doubt a ≡ 0
 clean_before a b le clean = omega (arith, le, clean)
-
-pub advanced : (old new : View) (cursor : ℕ) (row : Row) (found : Bool) → found ≡ true → Advances old new cursor row found
-    → (left : List Row) × (old.cursors cursor ≡ Some (row ∷ left))
-advanced old new cursor row true e a = (a.0, a.1)
-advanced old new cursor row false e a = absurd (true≢false (sym e))
 
 pub ended : (old new : View) (cursor : ℕ) (row : Row) (found : Bool) → found ≡ false → Advances old new cursor row found → old.cursors cursor ≡ Some []
 ended old new cursor row true e a = absurd (true≢false e)
@@ -116,28 +111,3 @@ some_of (Some y) x P is h = let same : y ≡ x = cc in subst P same h
 
 same_rows : (xs ys : List Row) → Some xs ≡ Some ys → xs ≡ ys
 same_rows xs ys is = cc
-
--- none stands where the seek is at its end
-pub none_stands : (key : List ℕ) (p : ℕ) (es : List Row) (cursor : Option (List Row)) → AreEntries es → IsIndex plain es
-    → cursor ≡ Some (from_key plain (Blob key ∷ []) es) → cursor ≡ Some [] → Stands (entry key p) es → ⊥
-none_stands key p es cursor are up at over stands =
-    let f = first_is key p es are up stands in
-    let none : [] ≡ entry key f.place ∷ f.left = same_rows _ _ (sym over ∙ at) ∙ f.is in
-    absurd cc
-
--- the entry that it gives stands, and is the first of the key where one stands
-pub given : (key : List ℕ) (row : Row) (left es : List Row) (cursor : Option (List Row)) → cursor ≡ Some (from_key plain (Blob key ∷ []) es)
-    → cursor ≡ Some (row ∷ left) → from_key plain (Blob key ∷ []) es ≡ row ∷ left
-given key row left es cursor at is = same_rows _ _ (sym at ∙ is)
-
-pub entry_given : (row : Row) (es : List Row) → AreEntries es → Stands row es → (k : List ℕ) × (p : ℕ) × (row ≡ entry k p) × (p < 2 ^ 32)
-entry_given row es are stands = all_stand (λ e. (k : List ℕ) × (p : ℕ) × (e ≡ entry k p) × (p < 2 ^ 32)) row es are stands
-
-head_same : (a b : Row) (as_ bs : List Row) → a ∷ as_ ≡ b ∷ bs → a ≡ b
-head_same a b as_ bs is = cc
-
-pub first_given : (key : List ℕ) (p : ℕ) (row : Row) (left es : List Row) → AreEntries es → IsIndex plain es → Stands (entry key p) es
-    → from_key plain (Blob key ∷ []) es ≡ row ∷ left → (q : ℕ) × (row ≡ entry key q) × (q < 2 ^ 32)
-first_given key p row left es are up stands is =
-    let f = first_is key p es are up stands in
-    (f.place, head_same row (entry key f.place) left f.left (sym is ∙ f.is), f.fits)

@@ -34,10 +34,10 @@ pub entries_of : (column : Credential → List ℕ) (placed : Placed) (es : List
 entries_of column placed es are i =
     all_weaker _ _ (λ e x. (column x.1, x.0, x.3, (are.stored x.0 x.1 x.2).1)) es i.only
 
-entry_key : (k l : List ℕ) (p q : ℕ) → entry k p ≡ entry l q → k ≡ l
+pub entry_key : (k l : List ℕ) (p q : ℕ) → entry k p ≡ entry l q → k ≡ l
 entry_key k l p q is = blob_once k l (ap (λ r. column r 0) is)
 
-entry_place : (k l : List ℕ) (p q : ℕ) → entry k p ≡ entry l q → p ≡ q
+pub entry_place : (k l : List ℕ) (p q : ℕ) → entry k p ≡ entry l q → p ≡ q
 entry_place k l p q is = number_once p q (ap (λ r. column r 1) is)
 
 pub at_entry : (placed : Placed) (id : List ℕ) (place : ℕ) (c : Credential) (es : List Row) → Indexes (λ d. d.id) placed es → Stands (entry id place) es

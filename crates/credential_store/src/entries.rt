@@ -2,12 +2,13 @@
 
 ghost use Rattle.std.specs.Prelude.{◌≡◌, ◌<◌, ◌^◌, [], ◌∷◌, ℕ, pos, IfOk, IfSome, IsSome, OnOk, List, None, Some};
 ghost use Rattle.sqlite_value.specs.Keys.{plain};
+ghost use Rattle.sqlite_value.specs.Order.{Row as Columns};
 ghost use Rattle.sqlite_value.specs.declared.value.Value.TheVariants.{Blob};
 ghost use Rattle.sqlite_trees.specs.Tree.{IsIndex, Trees, from_key};
 ghost use Rattle.sqlite_trees.specs.View.{IsClean, KeepsSchema};
 ghost use Rattle.sqlite_trees.specs.declared.store.Shape.TheVariants.{Index};
 ghost use Rattle.credential_store.specs.Held.{IsSameView, Stands, entry as entry_of};
-ghost use Rattle.credential_store.specs.Private.{AreEntries};
+ghost use Rattle.credential_store.specs.Private.{AreEntries, IsPast};
 
 use crate::values::{blob_at, int_at};
 use sqlite_trees::error::StoreError;
@@ -48,7 +49,12 @@ fn place_in(entry: &Row, key: &[u8]) -> Option<u32>
 }
 
 /// Places a cursor at the first entry of a key.
-fn seek_key<S: Store>(alloc: Global, store: &mut S, tree: u32, key: &[u8]) -> Result<(), StoreError>
+pub(crate) fn seek_key<S: Store>(
+    alloc: Global,
+    store: &mut S,
+    tree: u32,
+    key: &[u8],
+) -> Result<(), StoreError>
     requires index { IsClean (S.Store.view store.old) → (S.Store.view store.old).shape tree ≡ Index plain }
     ensures sought { OnOk result (IsClean (S.Store.view store.new)
         → (S.Store.view store.new).cursors 0 ≡ Some (from_key plain (Blob key.now ∷ []) ((S.Store.view store.old).trees tree))) }
@@ -63,6 +69,29 @@ fn seek_key<S: Store>(alloc: Global, store: &mut S, tree: u32, key: &[u8]) -> Re
     prefix.push(ValueRef::Blob(key))?;
     store.seek(0, tree, &prefix, Direction::Forward)?;
     Ok(())
+}
+
+/// The place of the entry at the cursor; none where it is under another key, or where none is left.
+pub(crate) fn next_place<S: Store>(
+    store: &mut S,
+    key: &[u8],
+    entry: &mut Row,
+) -> Result<Option<u32>, StoreError>
+    requires live { IsSome ((S.Store.view store.old).cursors 0) }
+    ensures live { OnOk result (IsSome ((S.Store.view store.new).cursors 0)) }
+    ensures place { IfOk result (λ found. IfSome found (λ place. IsClean (S.Store.view store.new) → (left : List Columns) → (S.Store.view store.old).cursors 0 ≡ Some left
+        → AreEntries left → (more : List Columns) × (left ≡ entry_of key.now place ∷ more) × ((S.Store.view store.new).cursors 0 ≡ Some more))) }
+    ensures past { IfOk result (λ found. found ≡ None → IsClean (S.Store.view store.new) → (left : List Columns) → (S.Store.view store.old).cursors 0 ≡ Some left
+        → AreEntries left → IsPast key.now left) }
+    ensures same { OnOk result (IsSameView (S.Store.view store.old) (S.Store.view store.new)) }
+    ensures schema { KeepsSchema (S.Store.view store.old) (S.Store.view store.new) }
+    ensures clean { IsClean (S.Store.view store.new) → IsClean (S.Store.view store.old) }
+    ensures crash { (db : Trees) → S.Store.recovers store.new db → S.Store.recovers store.old db }
+{
+    if !store.next(0, entry)? {
+        return Ok(None);
+    }
+    Ok(place_in(entry, key))
 }
 
 /// The place of the first entry of a key.
@@ -84,8 +113,6 @@ pub(crate) fn first_place<S: Store>(
 {
     seek_key(alloc, store, tree, key)?;
     let mut entry = Row::new(alloc);
-    if !store.next(0, &mut entry)? {
-        return Ok(None);
-    }
-    Ok(place_in(&entry, key))
+    let found = next_place(store, key, &mut entry)?;
+    Ok(found)
 }

@@ -3,7 +3,7 @@
 ghost use Rattle.std.specs.Prelude.{◌≡◌, ℕ, IfOk, IfSome, OnOk, None, Some};
 ghost use Rattle.std.specs.FinMap as finite;
 ghost use Rattle.sqlite_trees.specs.Tree.{Trees};
-ghost use Rattle.sqlite_trees.specs.View.{IsClean, KeepsSchema};
+ghost use Rattle.sqlite_trees.specs.View.{IsClean, KeepsSchema, StayLive};
 ghost use Rattle.sqlite_trees.specs.declared.store.Shape.TheVariants.{Table};
 ghost use Rattle.verification.specs.Views.{credential_view};
 ghost use Rattle.credential_table.specs.Views.{row_view};
@@ -43,7 +43,7 @@ pub fn lent(row: &StoredRow) -> RowView<'_>
 }
 
 /// The credential at a place; an error of the store's where none is there, or its row is no credential's.
-fn credential_at<S: Store>(
+pub(crate) fn credential_at<S: Store>(
     alloc: Global,
     store: &mut S,
     place: u32,
@@ -51,6 +51,8 @@ fn credential_at<S: Store>(
     requires table { IsClean (S.Store.view store.old) → (S.Store.view store.old).shape 0 ≡ Table }
     ensures there { IfOk result (λ c. IsClean (S.Store.view store.new) → (placed : Placed)
         → (S.Store.view store.old).trees 0 ≡ placed_rows placed → finite.get placed place ≡ Some (row_view c)) }
+    ensures cursors { OnOk result (IsClean (S.Store.view store.new) → S.Store.view store.new ≡ S.Store.view store.old) }
+    ensures live { OnOk result (StayLive (S.Store.view store.old) (S.Store.view store.new)) }
     ensures same { OnOk result (IsSameView (S.Store.view store.old) (S.Store.view store.new)) }
     ensures schema { KeepsSchema (S.Store.view store.old) (S.Store.view store.new) }
     ensures clean { IsClean (S.Store.view store.new) → IsClean (S.Store.view store.old) }

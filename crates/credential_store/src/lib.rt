@@ -5,11 +5,13 @@ mod credentials;
 mod entries;
 mod error;
 mod finding;
+mod listing;
 mod values;
 mod writing;
 
 pub use credentials::{credential_row, read_credential};
 pub use error::RowError;
 pub use finding::{Found, find, lent};
+pub use listing::find_all;
 pub use values::{blob_at, int_at, text_at, truth, truth_in, truth_or_null};
 pub use writing::{add, remove, set};

@@ -1,6 +1,7 @@
 //! The credentials as a list.
 
-ghost use Rattle.std.specs.Prelude.{◌≡◌, [], ◌∷◌, IfErr, IfOk, IfSome, IsErrOf, IsSome, List, ℕ, OnOk, None, Some, true};
+ghost use Rattle.std.specs.Prelude.{◌≡◌, [], ◌∷◌, IfErr, IfOk, IfSome, IsErrOf, IsSome, List, ℕ, OnOk, None, Some, filter, true};
+ghost use Rattle.std.specs.Str.{bytes_eq};
 ghost use Rattle.sqlite_value.specs.Order.{Row as Columns};
 ghost use Rattle.sqlite_trees.specs.Tree.{Trees};
 ghost use Rattle.sqlite_trees.specs.View.{IsClean};
@@ -14,7 +15,7 @@ ghost use Rattle.kept_site.specs.declared.failure.Failure.TheVariants as failure
 use crate::failure::Failure;
 use crate::kept::KeptSite;
 use crate::scan::begin_scan;
-use credential_store::{RowError, int_at, read_credential};
+use credential_store::{RowError, find_all, int_at, read_credential};
 use credential_table::Row;
 use sqlite_trees::error::StoreError;
 use sqlite_trees::store::Store;
@@ -94,6 +95,24 @@ impl<S: Store> KeptSite<S> {
         }
         self.held.is_shut = true;
         let rows = read_all(self.held.alloc, &mut self.held.store)?;
+        self.held.is_shut = false;
+        Ok(rows)
+    }
+
+    /// The credentials of a user in order of registration, retired ones too. It reads these alone, and takes memory for each.
+    pub fn rows_of(&mut self, user: &[u8]) -> Result<Vec<Row>, Failure>
+        ensures rows { IfOk result (λ rows. IsClean (S.Store.view self.new.store) → (placed : Placed) → IsHeld placed self.old (S.Store.view self.old.store).trees
+            → rows_view rows.items ≡ filter (λ c. bytes_eq c.user user.now) (rows_of placed)) }
+        ensures same { OnOk result (IsSame S.Store.view self.old self.new) }
+        ensures failed { IfErr result (IsFailure self.old self.new) }
+        ensures shut { self.old.is_shut ≡ true → IsErrOf result failures.Shut }
+        ensures crash { (db : Trees) → S.Store.recovers self.new.store db → S.Store.recovers self.old.store db }
+    {
+        if self.held.is_shut {
+            return Err(Failure::Shut);
+        }
+        self.held.is_shut = true;
+        let rows = find_all(self.held.alloc, &mut self.held.store, user)?;
         self.held.is_shut = false;
         Ok(rows)
     }

@@ -2,18 +2,18 @@
 use Rattle.std.proofs.Common.{◌++◌, [], ◌∷◌, ℕ, List, refl, subst}
 use Rattle.sqlite_trees.specs.View.{View}
 use Rattle.kept_site.specs.State.{KeptState}
-use Rattle.site_lines.specs.Answers.{IsTold, Keeps}
-use Rattle.site_lines.specs.Batches.{Runs}
+use Rattle.site_lines.specs.Answers.{Keeps}
+use Rattle.site_lines.specs.Batches.{IsAnswered, Runs}
 use Rattle.site_lines.specs.declared.line.Answered.{Answered}
 use Rattle.site_lines.specs.declared.line.Arrived.{Arrived}
 
 -- one line more
 pub runs_on : {S : Type 0} (view : S → View) (now : ℕ) (old mid new : KeptState S) (lines : List Arrived) (told : List Answered) (line : Arrived) (a : Answered)
-    → Runs view now old lines told mid → IsTold view line.words now mid new a.answer → Keeps view mid new a.answer
+    → Runs view now old lines told mid → IsAnswered view now line mid new a → Keeps view mid new a.answer
     → Runs view now old (lines ++ line ∷ []) (told ++ a ∷ []) new
 runs_on view now old mid new [] [] line a ran told keeps = (
   new,
-  subst (λ (s : KeptState _). IsTold view line.words now s new a.answer) ran told,
+  subst (λ (s : KeptState _). IsAnswered view now line s new a) ran told,
   subst (λ (s : KeptState _). Keeps view s new a.answer) ran keeps,
   refl,
 )

@@ -93,7 +93,7 @@ sign_in_refused view f old mid new step (answers.Rows rows) same stops h k = abs
 sign_in_refused view f old mid new step (answers.Status counts) same stops h k = absurd h
 sign_in_refused view f old mid new step (answers.Backup path) same stops h k = absurd h
 sign_in_refused view f old mid new step (answers.NotBackedUp why) same stops h k = absurd h
-sign_in_refused view f old mid new step (answers.Error why) same stops h k = tt
+sign_in_refused view f old mid new step (answers.Error why) same stops h k = h
 sign_in_refused view f old mid new step (answers.Failed why) same stops h k = tt
 
 -- and what it leaves
@@ -166,7 +166,7 @@ registration_refused view f old new step (answers.Rows rows) stops h = absurd h
 registration_refused view f old new step (answers.Status counts) stops h = absurd h
 registration_refused view f old new step (answers.Backup path) stops h = absurd h
 registration_refused view f old new step (answers.NotBackedUp why) stops h = absurd h
-registration_refused view f old new step (answers.Error why) stops h = tt
+registration_refused view f old new step (answers.Error why) stops h = h
 registration_refused view f old new step (answers.Failed why) stops h = absurd h
 
 -- and what it leaves

@@ -1,9 +1,11 @@
 -- What an act that is not carried out leaves, and what one look after another leaves.
-use Rattle.std.specs.Prelude.{IfOk, OnOk, Ok, Err}
+use Rattle.std.specs.Prelude.{IfErr, IfOk, OnOk, Ok, Err}
 use Rattle.std.specs.declared.result.Result.{Result}
-use Rattle.std.proofs.Common.{◌≡◌, ℕ, List, ap, refl, sym, subst, ◌∙◌, false, true≢false}
+use Rattle.std.proofs.Common.{◌≡◌, ℕ, Bool, List, Option, ap, refl, sym, subst, ◌∙◌, false, true≢false}
 use Rattle.sqlite_trees.specs.View.{IsClean, View}
-use Rattle.ceremony_sessions.specs.Sessions.{Opening, challenge_of}
+use Rattle.cose.specs.declared.key.Alg.{Alg}
+use Rattle.ceremony_sessions.specs.Sessions.{Opening, OpensRegistration, OpensSignIn, challenge_of}
+use Rattle.ceremony_sessions.specs.declared.error.Error.TheVariants as full
 use Rattle.timed_sessions.specs.Timed.{IsTrimmed, after_begin}
 use Rattle.credential_store.specs.Held.{Placed}
 use Rattle.kept_site.specs.State.{IsHeld, KeptState}
@@ -14,8 +16,8 @@ use Rattle.kept_site.specs.declared.failure.BeginFailure.{BeginFailure}
 use Rattle.kept_site.specs.declared.failure.BeginFailure.TheVariants as begins
 use Rattle.site_lines.specs.declared.act.BeginRegistration.{BeginRegistration}
 use Rattle.site_lines.specs.declared.act.BeginSignIn.{BeginSignIn}
-use Rattle.site_lines.specs.Answers.{Begins, Keeps, TellsRegistrationBegun, TellsSignInBegun}
-use Rattle.site_lines.specs.Private.{BeginsNothing, not_begun}
+use Rattle.site_lines.specs.Answers.{Begins, Keeps, TellsRegistrationBegun, TellsSignInBegun, opens_registration, opens_sign_in}
+use Rattle.site_lines.specs.Private.{BeginsNone, not_begun}
 
 pub same_site : {S : Type 0} (view : S → View) (old new : KeptState S) → new ≡ old → IsSame view old new
 same_site view old new is = subst (IsSame view old) (sym is) (record { is = refl; clean = λ c. c; store = λ _. refl })
@@ -55,25 +57,37 @@ session_begins view p o words moment old new (Ok s) number challenge same starte
     (started.0, started.1, subst (λ q. IsTrimmed (after_begin old.timed q moment) new.timed) same begun, one.0, λ clean placed was. (placed, refl, held clean placed was))
 session_begins view p o words moment old new (Err why) number challenge same started begun held one = tt
 
--- where the site's call begins no session
-pub begins_nothing : {S : Type 0} (old new : KeptState S) (o : Opening) (e : BeginFailure) → IsNotBegun old new o e → BeginsNothing old new e
-begins_nothing old new o (begins.Site w) h = h.0
-begins_nothing old new o begins.NoNumber h = h.0
-begins_nothing old new o (begins.Store w) h = h
+pub same_sign_in : (u v : Option (List ℕ)) (a b : List (List ℕ)) (uv : Bool) (words : List ℕ) → u ≡ v → a ≡ b
+    → OpensSignIn u a uv words ≡ OpensSignIn v b uv words
+same_sign_in u v a b uv words user allow = rw (user, allow) refl
 
-pub not_begun_keeps : {S : Type 0} (view : S → View) (old new : KeptState S) (why : BeginFailure) → BeginsNothing old new why → Keeps view old new (not_begun why)
-not_begun_keeps view old new (begins.Site w) h = same_site view old new h
-not_begun_keeps view old new begins.NoNumber h = same_site view old new h
-not_begun_keeps view old new (begins.Store w) h = h
+pub same_registration : (u v : List ℕ) (a b : List Alg) (uv : Bool) (words : List ℕ) → u ≡ v → a ≡ b
+    → OpensRegistration u a uv words ≡ OpensRegistration v b uv words
+same_registration u v a b uv words user algorithms = rw (user, algorithms) refl
+
+-- where the site's call begins no session
+pub begins_none : {S T : Type 0} (p o : Opening) (old new : KeptState S) (result : Result T BeginFailure) → p ≡ o
+    → IfErr result (IsNotBegun old new p) → IfErr result (λ e. e ≡ begins.Site full.SessionsFull → ⊥) → IfErr result (BeginsNone old new o)
+begins_none p o old new (Ok s) same refused room = tt
+begins_none p o old new (Err why) same refused room = (subst (λ q. IsNotBegun old new q why) same refused, room)
+
+pub no_memory : {S : Type 0} (o : Opening) (old : KeptState S) → BeginsNone old old o (begins.Site full.Memory)
+no_memory o old = ((refl, tt), λ is. absurd cc)
+
+pub not_begun_keeps : {S : Type 0} (view : S → View) (o : Opening) (old new : KeptState S) (why : BeginFailure) → BeginsNone old new o why
+    → Keeps view old new (not_begun why)
+not_begun_keeps view o old new (begins.Site w) h = same_site view old new h.0.0
+not_begun_keeps view o old new begins.NoNumber h = same_site view old new h.0.0
+not_begun_keeps view o old new (begins.Store w) h = h.0
 
 pub sign_in_not_begun : {S : Type 0} (view : S → View) (b : BeginSignIn) (words : List ℕ) (now : ℕ) (old new : KeptState S) (why : BeginFailure)
-    → TellsSignInBegun view b words now old new (not_begun why)
-sign_in_not_begun view b words now old new (begins.Site w) = tt
-sign_in_not_begun view b words now old new begins.NoNumber = tt
-sign_in_not_begun view b words now old new (begins.Store w) = tt
+    → BeginsNone old new (opens_sign_in b words) why → TellsSignInBegun view b words now old new (not_begun why)
+sign_in_not_begun view b words now old new (begins.Site w) h = (λ is. h.1 (ap begins.Site is), h.0.1)
+sign_in_not_begun view b words now old new begins.NoNumber h = h.0.1
+sign_in_not_begun view b words now old new (begins.Store w) h = tt
 
 pub registration_not_begun : {S : Type 0} (view : S → View) (b : BeginRegistration) (words : List ℕ) (now : ℕ) (old new : KeptState S)
-    (why : BeginFailure) → TellsRegistrationBegun view b words now old new (not_begun why)
-registration_not_begun view b words now old new (begins.Site w) = tt
-registration_not_begun view b words now old new begins.NoNumber = tt
-registration_not_begun view b words now old new (begins.Store w) = tt
+    (why : BeginFailure) → BeginsNone old new (opens_registration b words) why → TellsRegistrationBegun view b words now old new (not_begun why)
+registration_not_begun view b words now old new (begins.Site w) h = (λ is. h.1 (ap begins.Site is), h.0.1)
+registration_not_begun view b words now old new begins.NoNumber h = h.0.1
+registration_not_begun view b words now old new (begins.Store w) h = tt

@@ -1,3 +1,5 @@
+pub mod Keyed
+pub mod Lists
 pub mod Kept
 pub mod Asked
 pub mod Finished

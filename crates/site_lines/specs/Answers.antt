@@ -1,6 +1,6 @@
 -- What an answer says of the site from before the line and of the site from after it. What it says of credentials is said of
 -- each map of credentials that the store holds, where the disk has returned what was written.
-use Rattle.std.specs.Prelude.{◌≡◌, ◌+◌, ◌-◌, ◌++◌, ◌⊎◌, ℕ, List, Bool, Option, Some, None, true, filter, map, option_map, is_some}
+use Rattle.std.specs.Prelude.{◌≡◌, ◌≤◌, ◌+◌, ◌-◌, ◌^◌, ◌++◌, ◌⊎◌, ℕ, List, Bool, Option, Some, None, filter, map, option_map, is_some}
 use Rattle.std.specs.FinMap as finite
 use Rattle.std.specs.Str.{bytes_eq}
 use Rattle.sha2.specs.Sha256.{sha256}
@@ -11,7 +11,8 @@ use Rattle.authdata.specs.Objects.{Attestation}
 use Rattle.authdata.specs.Responses.{AuthenticatorAssertionResponse, assertion_response_view, registration_response_view}
 use Rattle.authdata.specs.Responses as responses
 use Rattle.authdata.specs.Statements.{IsSelfSignedBy}
-use Rattle.ceremony_sessions.specs.Sessions.{Opening, OpensRegistration, OpensSignIn, challenge_of}
+use Rattle.ceremony_sessions.specs.Sessions.{IsRefused, Opening, OpensRegistration, OpensSignIn, challenge_of}
+use Rattle.ceremony_sessions.specs.declared.error.Error.TheVariants as begins
 use Rattle.verification.specs.Records.{Credential}
 use Rattle.verification.specs.Registration.{Attests, hash_in}
 use Rattle.verification.specs.Registration as registration
@@ -36,6 +37,7 @@ use Rattle.site_lines.specs.declared.act.FinishRegistration.{FinishRegistration}
 use Rattle.site_lines.specs.declared.act.FinishSignIn.{FinishSignIn}
 use Rattle.site_lines.specs.declared.answer.Answer.{Answer}
 use Rattle.site_lines.specs.declared.error.LineError.{LineError}
+use Rattle.site_lines.specs.declared.error.LineError.TheVariants as errors
 use Rattle.site_lines.specs.declared.answer.Answer.TheVariants as answers
 
 -- a line that is refused, a refusal, a question and a look leave the site as it was; a failure is one
@@ -85,7 +87,7 @@ TellsSignIn view f old new (answers.Verify t) =
     (f.verified ≡ found.Nothing)
     × OfHeld view old new (λ placed. SignInAsks placed r t
     × ((c : Option Credential) × IsFound placed r.credential c × IsFirstFailing (is_valid found.Nothing) (judged_sign_in old f.session c r) sign_in.BadSignature))
-TellsSignIn view f old new (answers.Error why) = Unit {0}
+TellsSignIn view f old new (answers.Error why) = why ≡ errors.Memory
 TellsSignIn view f old new (answers.Failed why) = Unit {0}
 TellsSignIn view f old new _ = ⊥
 
@@ -113,7 +115,7 @@ TellsRegistration view f old new (answers.Registered x told) =
 TellsRegistration view f old new (answers.RegistrationRefused step id) = (id.items ≡ f.credential.items) × StopsRegistration view f old new step
 TellsRegistration view f old new (answers.Verify t) =
     (f.verified ≡ found.Nothing) × RegistrationAsks old.rp.profile (registration_response_view f.response) t × StopsRegistration view f old new register.BadStatement
-TellsRegistration view f old new (answers.Error why) = Unit {0}
+TellsRegistration view f old new (answers.Error why) = why ≡ errors.Memory
 TellsRegistration view f old new (answers.Failed why) = Unit {0}
 TellsRegistration view f old new _ = ⊥
 
@@ -125,6 +127,13 @@ opens_sign_in b words = OpensSignIn (option_map (λ u. u.items) b.user) (map (λ
 abbrev pub opens_registration : BeginRegistration → List ℕ → Opening
 opens_registration b words = OpensRegistration b.user.items b.algorithms.items b.user_verification words
 
+-- why none begins: what is asked is out of its limits, of which the first is named, and never that too many are open; or no
+-- number is left; want of memory says nothing
+abbrev pub IsNotBegun : {S : Type 0} → KeptState S → Opening → LineError → Type 0
+IsNotBegun old o (errors.NotBegun why) = (why ≡ begins.SessionsFull → ⊥) × IsRefused old.rp.profile old.timed.open_sessions o why
+IsNotBegun old o errors.NoNumber = 2 ^ 63 ≤ old.timed.open_sessions.next + 100001
+IsNotBegun old o _ = ⊥
+
 -- a session has begun, as it was asked for, at this second; where the most were open the oldest has ended; and the credentials
 -- are as they were
 abbrev pub Begins : {S : Type 0} → (S → View) → Opening → List ℕ → ℕ → ℕ → List ℕ → KeptState S → KeptState S → Type 0
@@ -135,14 +144,14 @@ Begins view opening words now session challenge old new =
 abbrev pub TellsSignInBegun : {S : Type 0} → (S → View) → BeginSignIn → List ℕ → ℕ → KeptState S → KeptState S → Answer → Type 0
 TellsSignInBegun view b words now old new (answers.SignInBegun started asked) =
     (asked ≡ b) × Begins view (opens_sign_in b words) words now started.session started.challenge old new
-TellsSignInBegun view b words now old new (answers.Error why) = Unit {0}
+TellsSignInBegun view b words now old new (answers.Error why) = IsNotBegun old (opens_sign_in b words) why
 TellsSignInBegun view b words now old new (answers.Failed why) = Unit {0}
 TellsSignInBegun view b words now old new _ = ⊥
 
 abbrev pub TellsRegistrationBegun : {S : Type 0} → (S → View) → BeginRegistration → List ℕ → ℕ → KeptState S → KeptState S → Answer → Type 0
 TellsRegistrationBegun view b words now old new (answers.RegistrationBegun started asked) =
     (asked ≡ b) × Begins view (opens_registration b words) words now started.session started.challenge old new
-TellsRegistrationBegun view b words now old new (answers.Error why) = Unit {0}
+TellsRegistrationBegun view b words now old new (answers.Error why) = IsNotBegun old (opens_registration b words) why
 TellsRegistrationBegun view b words now old new (answers.Failed why) = Unit {0}
 TellsRegistrationBegun view b words now old new _ = ⊥
 
@@ -173,19 +182,18 @@ abbrev pub TellsExpired : {S : Type 0} → ℕ → ℕ → KeptState S → KeptS
 TellsExpired age now old new (answers.Expired count) =
     (count + finite.len new.timed.open_sessions.expected ≡ finite.len old.timed.open_sessions.expected)
     × (new ≡ record old { timed = since (now - age) old.timed })
-TellsExpired age now old new (answers.Error why) = Unit {0}
+TellsExpired age now old new (answers.Error why) = why ≡ errors.Memory
 TellsExpired age now old new (answers.Failed why) = Unit {0}
 TellsExpired age now old new _ = ⊥
 
--- whether a credential is of the user that is asked for, or any is asked for
-abbrev pub is_asked_for : Option (List ℕ) → Credential → Bool
-is_asked_for None c = true
-is_asked_for (Some user) c = bytes_eq c.user user
+-- the credentials of the user that is asked for, or all where none is, in order of registration
+abbrev pub asked_rows : Option (List ℕ) → Placed → List Credential
+asked_rows None placed = rows_of placed
+asked_rows (Some user) placed = filter (λ c. bytes_eq c.user user) (rows_of placed)
 
--- which credentials are told: those of the user that is asked for, or all where none is, in order of registration
+-- these are told
 abbrev pub TellsRows : {S : Type 0} → (S → View) → Option (List ℕ) → KeptState S → KeptState S → Answer → Type 0
-TellsRows view user old new (answers.Rows rows) = OfHeld view old new (λ placed. rows_view rows.items ≡ filter (is_asked_for user) (rows_of placed))
-TellsRows view user old new (answers.Error why) = Unit {0}
+TellsRows view user old new (answers.Rows rows) = OfHeld view old new (λ placed. rows_view rows.items ≡ asked_rows user placed)
 TellsRows view user old new (answers.Failed why) = Unit {0}
 TellsRows view user old new _ = ⊥
 
@@ -215,7 +223,3 @@ Tells view words now (acts.Expire age) old new answer = TellsExpired age now old
 Tells view words now (acts.Rows user) old new answer = TellsRows view (option_map (λ u. u.items) user) old new answer
 Tells view words now acts.Status old new answer = TellsStatus old new answer
 Tells view words now (acts.Backup path) old new answer = TellsBackup (acts.Backup path) answer
-
--- an answer is that to some act, or an error of the line
-abbrev pub IsTold : {S : Type 0} → (S → View) → List ℕ → ℕ → KeptState S → KeptState S → Answer → Type 0
-IsTold view words now old new answer = ((act : Act) × Tells view words now act old new answer) ⊎ ((why : LineError) × (answer ≡ answers.Error why))

@@ -1,20 +1,29 @@
 -- Lines that are carried out together and committed together.
-use Rattle.std.specs.Prelude.{◌≡◌, ◌⊎◌, ℕ, List, [], ◌∷◌, true, false}
+use Rattle.std.specs.Prelude.{◌≡◌, ◌⊎◌, ℕ, List, [], ◌∷◌, Some, true, false}
 use Rattle.std.specs.List.{AllByRecursion}
 use Rattle.sqlite_trees.specs.Tree.{Trees}
 use Rattle.sqlite_trees.specs.View.{View, IsClean}
 use Rattle.kept_site.specs.State.{KeptState}
 use Rattle.kept_site.specs.declared.failure.Failure.{Failure}
-use Rattle.site_lines.specs.Answers.{IsTold, Keeps}
+use Rattle.site_lines.specs.Answers.{Keeps, Tells}
+use Rattle.site_lines.specs.Lines.{Reads}
+use Rattle.site_lines.specs.declared.act.Act.{Act}
+use Rattle.site_lines.specs.declared.error.LineError.{LineError}
 use Rattle.site_lines.specs.declared.line.Answered.{Answered}
 use Rattle.site_lines.specs.declared.line.Arrived.{Arrived}
 use Rattle.site_lines.specs.declared.answer.Answer.TheVariants as answers
 
--- each line is carried out, in order, with its own random bytes, and has one answer
+-- a line is answered with its number, by what its act tells, with its own random bytes; or it is refused
+abbrev pub IsAnswered : {S : Type 0} → (S → View) → ℕ → Arrived → KeptState S → KeptState S → Answered → Type 0
+IsAnswered view now line old new a =
+    ((id : ℕ) × (act : Act) × Reads line.line.items id act × (a.id ≡ Some id) × Tells view line.words now act old new a.answer)
+    ⊎ ((why : LineError) × (a.answer ≡ answers.Error why))
+
+-- each line is answered, in order
 abbrev pub Runs : {S : Type 0} → (S → View) → ℕ → KeptState S → List Arrived → List Answered → KeptState S → Type 0
 Runs view now old [] [] new = new ≡ old
 Runs {S} view now old (line ∷ lines) (a ∷ rest) new =
-    (mid : KeptState S) × IsTold view line.words now old mid a.answer × Keeps view old mid a.answer × Runs view now mid lines rest new
+    (mid : KeptState S) × IsAnswered view now line old mid a × Keeps view old mid a.answer × Runs view now mid lines rest new
 Runs view now old _ _ new = ⊥
 
 -- each answer is this failure

@@ -2,3 +2,5 @@ pub mod VerifiedSignatures
 pub mod Answers
 pub mod Batches
 pub mod Private
+pub mod Lines
+pub mod Options

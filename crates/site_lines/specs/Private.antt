@@ -1,5 +1,9 @@
 -- What private functions are proved against; no public clause cites it.
-use Rattle.std.specs.Prelude.{◌≡◌}
+use Rattle.std.specs.Prelude.{◌≡◌, ◌⊎◌, ℕ, ⊤, List, [], codes, None, Some, option_and_then}
+use Rattle.serde_json.specs.Data.{Data}
+use Rattle.serde_json.specs.Find.{as_array}
+use Rattle.serde_json.specs.View.{items_view}
+use Rattle.serde_json.specs.declared.value.Value.{Value}
 use Rattle.sqlite_trees.specs.View.{View}
 use Rattle.authdata.specs.declared.profile.Profile.{Profile}
 use Rattle.authdata.specs.Responses.{assertion_response_view, registration_response_view}
@@ -7,8 +11,10 @@ use Rattle.verification.specs.declared.refusal.SignInRefusal.{SignInRefusal}
 use Rattle.verification.specs.declared.refusal.SignInRefusal.TheVariants as sign_in
 use Rattle.verification.specs.declared.refusal.RegistrationRefusal.{RegistrationRefusal}
 use Rattle.verification.specs.declared.refusal.RegistrationRefusal.TheVariants as register
+use Rattle.ceremony_sessions.specs.Sessions.{Opening}
+use Rattle.ceremony_sessions.specs.declared.error.Error.TheVariants as full
 use Rattle.kept_site.specs.State.{KeptState}
-use Rattle.kept_site.specs.Calls.{IsFailure}
+use Rattle.kept_site.specs.Calls.{IsNotBegun}
 use Rattle.kept_site.specs.declared.failure.BeginFailure.{BeginFailure}
 use Rattle.kept_site.specs.declared.failure.BeginFailure.TheVariants as begins
 use Rattle.site_lines.specs.declared.act.FinishRegistration.{FinishRegistration}
@@ -17,6 +23,12 @@ use Rattle.site_lines.specs.declared.answer.Answer.{Answer}
 use Rattle.site_lines.specs.declared.answer.Answer.TheVariants as answers
 use Rattle.site_lines.specs.declared.error.LineError.TheVariants as errors
 use Rattle.site_lines.specs.declared.verified.Verified.TheVariants as found
+use Rattle.site_lines.specs.Lines.{HasBytes, IsAlgorithm, member}
+use Rattle.cose.specs.declared.key.Alg.{Alg}
+use Rattle.cose.specs.declared.key.Alg.TheVariants as algs
+use Rattle.authdata.specs.declared.response.RegistrationResponse.{RegistrationResponse}
+use Rattle.site_lines.specs.declared.acts.ActKind.{ActKind}
+use Rattle.site_lines.specs.declared.acts.ActKind.TheVariants as kinds
 use Rattle.site_lines.specs.Answers.{OfHeld, RegistrationAsks, SignInAsks}
 
 -- what is answered where no session begins
@@ -25,18 +37,16 @@ not_begun (begins.Site why) = answers.Error (errors.NotBegun why)
 not_begun begins.NoNumber = answers.Error errors.NoNumber
 not_begun (begins.Store why) = answers.Failed why
 
--- no session has begun
-abbrev pub BeginsNothing : {S : Type 0} → KeptState S → KeptState S → BeginFailure → Type 0
-BeginsNothing old new (begins.Site why) = new ≡ old
-BeginsNothing old new begins.NoNumber = new ≡ old
-BeginsNothing old new (begins.Store why) = IsFailure old new why
+-- why no session begins, however many are open
+abbrev pub BeginsNone : {S : Type 0} → KeptState S → KeptState S → Opening → BeginFailure → Type 0
+BeginsNone old new o why = IsNotBegun old new o why × (why ≡ begins.Site full.SessionsFull → ⊥)
 
 -- what is answered where a step refuses a sign-in: the step, a question, or want of memory
 abbrev pub IsRefusedSignIn : {S : Type 0} → (S → View) → SignInRefusal → FinishSignIn → KeptState S → KeptState S → Answer → Type 0
 IsRefusedSignIn view step f old new (answers.SignInRefused told id) = (told ≡ step) × (id.items ≡ f.response.credential.items)
 IsRefusedSignIn view step f old new (answers.Verify t) =
     (step ≡ sign_in.BadSignature) × (f.verified ≡ found.Nothing) × OfHeld view old new (λ placed. SignInAsks placed (assertion_response_view f.response) t)
-IsRefusedSignIn view step f old new (answers.Error why) = Unit {0}
+IsRefusedSignIn view step f old new (answers.Error why) = why ≡ errors.Memory
 IsRefusedSignIn view step f old new (answers.Failed why) = Unit {0}
 IsRefusedSignIn view step f old new _ = ⊥
 
@@ -45,5 +55,39 @@ abbrev pub IsRefusedRegistration : Profile → RegistrationRefusal → FinishReg
 IsRefusedRegistration profile step f (answers.RegistrationRefused told id) = (told ≡ step) × (id.items ≡ f.credential.items)
 IsRefusedRegistration profile step f (answers.Verify t) =
     (step ≡ register.BadStatement) × (f.verified ≡ found.Nothing) × RegistrationAsks profile (registration_response_view f.response) t
-IsRefusedRegistration profile step f (answers.Error why) = Unit {0}
+IsRefusedRegistration profile step f (answers.Error why) = why ≡ errors.Memory
 IsRefusedRegistration profile step f _ = ⊥
+
+-- the values of a member that is a list; none where it is absent
+abbrev pub AreItems : List ℕ → Data → List Value → Type 0
+AreItems name d items = (option_and_then as_array (member name d) ≡ Some (items_view items)) ⊎ ((member name d ≡ None) × (items ≡ []))
+
+-- the algorithm of a key
+abbrev pub IsAlgorithmOf : Data → Alg → Type 0
+IsAlgorithmOf d alg = (m : Data) × (member (codes "algorithm") d ≡ Some m) × IsAlgorithm m alg
+
+-- the coordinate y of a key of this algorithm
+abbrev pub HasYOf : Alg → Data → List ℕ → Type 0
+HasYOf algs.Es256 d y = HasBytes (codes "y") d y
+HasYOf algs.EdDsa d y = ⊤
+HasYOf algs.Rs256 d y = HasBytes (codes "y") d y
+
+-- the name of a kind of acts
+abbrev pub kind_name : ActKind → List ℕ
+kind_name kinds.BeginRegistration = codes "begin_registration"
+kind_name kinds.FinishRegistration = codes "finish_registration"
+kind_name kinds.BeginSignIn = codes "begin_sign_in"
+kind_name kinds.FinishSignIn = codes "finish_sign_in"
+kind_name kinds.Retire = codes "retire"
+kind_name kinds.Delete = codes "delete"
+kind_name kinds.Abandon = codes "abandon"
+kind_name kinds.Expire = codes "expire"
+kind_name kinds.Rows = codes "rows"
+kind_name kinds.Status = codes "status"
+kind_name kinds.Backup = codes "backup"
+
+-- the parts of a registration's response
+abbrev pub HasParts : Data → RegistrationResponse → Type 0
+HasParts d r =
+    (parts : Data) × (member (codes "response") d ≡ Some parts) × HasBytes (codes "attestationObject") parts r.object.items
+    × HasBytes (codes "clientDataJSON") parts r.client_data.items

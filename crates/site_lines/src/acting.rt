@@ -1,19 +1,17 @@
 //! Carrying out an act.
 
-ghost use Rattle.std.specs.Prelude.{◌≡◌, IfOk, filter, option_map};
+ghost use Rattle.std.specs.Prelude.{◌≡◌, None, Some, option_map};
 ghost use Rattle.sqlite_trees.specs.Tree.{Trees};
-ghost use Rattle.credential_table.specs.Views.{row_view, rows_view};
-ghost use Rattle.site_lines.specs.Answers.{Keeps, Tells, TellsAbandoned, TellsDeleted, TellsExpired, TellsRetired, TellsRows, TellsStatus, is_asked_for};
+ghost use Rattle.site_lines.specs.Answers.{Keeps, Tells, TellsAbandoned, TellsDeleted, TellsExpired, TellsRetired, TellsRows, TellsStatus};
 
 use crate::act::Act;
 use crate::answer::{Answer, Counts};
 use crate::beginning::{begin_registration, begin_sign_in};
 use crate::error::LineError;
 use crate::finishing::{finish_registration, finish_sign_in};
-use credential_table::Row;
 use kept_site::{Failure, KeptSite};
 use sqlite_trees::store::Store;
-use std::alloc::{AllocError, Global};
+use std::alloc::Global;
 
 /// Retires the credential of an id.
 fn retire<S: Store>(site: &mut KeptSite<S>, credential: &[u8]) -> Answer
@@ -60,41 +58,39 @@ fn expire<S: Store>(site: &mut KeptSite<S>, now: u64, age: u64) -> Answer
     }
 }
 
-/// Whether a credential is a user's, or any is asked for.
-fn is_of(row: &Row, user: Option<&[u8]>) -> bool
-    ensures { result ≡ is_asked_for (option_map (λ u. u.now) user.entry) (row_view row.now) }
+/// The credentials of a user.
+fn rows_of<S: Store>(site: &mut KeptSite<S>, user: &[u8]) -> Answer
+    ensures told { TellsRows S.Store.view (Some user.now) site.old site.new result }
+    ensures kept { Keeps S.Store.view site.old site.new result }
+    ensures crash { (db : Trees) → S.Store.recovers site.new.store db → S.Store.recovers site.old.store db }
 {
-    match user {
-        Some(user) => row.user.as_slice() == user,
-        None => true,
+    match site.rows_of(user) {
+        Ok(rows) => Answer::Rows(rows),
+        Err(why) => Answer::Failed(why),
     }
 }
 
-/// Those of these credentials that are a user's, or all.
-fn rows_of(alloc: Global, all: Vec<Row>, user: Option<&[u8]>) -> Result<Vec<Row>, AllocError>
-    ensures { IfOk result (λ rows. rows_view rows.items ≡ filter (is_asked_for (option_map (λ u. u.now) user.entry)) (rows_view all.items)) }
-{
-    let mut rows = Vec::new(alloc);
-    for row in all {
-        if is_of(&row, user) {
-            rows.push(row)?;
-        }
-    }
-    Ok(rows)
-}
-
-/// The credentials of a user, or all.
-fn rows<S: Store>(alloc: Global, site: &mut KeptSite<S>, user: Option<&[u8]>) -> Answer
-    ensures told { TellsRows S.Store.view (option_map (λ u. u.now) user.entry) site.old site.new result }
+/// All credentials.
+fn all_rows<S: Store>(site: &mut KeptSite<S>) -> Answer
+    ensures told { TellsRows S.Store.view None site.old site.new result }
     ensures kept { Keeps S.Store.view site.old site.new result }
     ensures crash { (db : Trees) → S.Store.recovers site.new.store db → S.Store.recovers site.old.store db }
 {
     match site.rows() {
-        Ok(all) => match rows_of(alloc, all, user) {
-            Ok(rows) => Answer::Rows(rows),
-            Err(_) => Answer::Error(LineError::Memory),
-        },
+        Ok(rows) => Answer::Rows(rows),
         Err(why) => Answer::Failed(why),
+    }
+}
+
+/// The credentials of a user, or all.
+fn rows<S: Store>(site: &mut KeptSite<S>, user: Option<&[u8]>) -> Answer
+    ensures told { TellsRows S.Store.view (option_map (λ u. u.now) user.entry) site.old site.new result }
+    ensures kept { Keeps S.Store.view site.old site.new result }
+    ensures crash { (db : Trees) → S.Store.recovers site.new.store db → S.Store.recovers site.old.store db }
+{
+    match user {
+        Some(user) => rows_of(site, user),
+        None => all_rows(site),
     }
 }
 
@@ -135,7 +131,7 @@ pub fn carry_out<S: Store>(
         Act::Delete(credential) => delete(site, credential.as_slice()),
         Act::Abandon(session) => abandon(site, session),
         Act::Expire(age) => expire(site, now, age),
-        Act::Rows(user) => rows(alloc, site, user.as_deref()),
+        Act::Rows(user) => rows(site, user.as_deref()),
         Act::Status => status(site),
         Act::Backup(path) => Answer::Backup(path),
     }

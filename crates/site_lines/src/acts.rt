@@ -1,5 +1,8 @@
 //! The acts, and what each takes: the one table that the help shows and the parser reads.
 
+ghost use Rattle.std.specs.Prelude.{◌≡◌, IfSome};
+ghost use Rattle.site_lines.specs.Private.{kind_name};
+
 use crate::error::LineError;
 use serde_json::Value;
 use std::alloc::{AllocError, Global};
@@ -21,6 +24,27 @@ pub(crate) enum ActKind {
     Backup,
 }
 
+impl ActKind {
+    /// Its name in a line.
+    fn name(self) -> &'static str
+        ensures { result.now ≡ kind_name self }
+    {
+        match self {
+            ActKind::BeginRegistration => "begin_registration",
+            ActKind::FinishRegistration => "finish_registration",
+            ActKind::BeginSignIn => "begin_sign_in",
+            ActKind::FinishSignIn => "finish_sign_in",
+            ActKind::Retire => "retire",
+            ActKind::Delete => "delete",
+            ActKind::Abandon => "abandon",
+            ActKind::Expire => "expire",
+            ActKind::Rows => "rows",
+            ActKind::Status => "status",
+            ActKind::Backup => "backup",
+        }
+    }
+}
+
 /// A member that lines of an act have.
 struct Member {
     act: ActKind,
@@ -32,7 +56,6 @@ struct Member {
 /// An act.
 struct Form {
     kind: ActKind,
-    name: &'static str,
     meaning: &'static str,
     answer: &'static str,
 }
@@ -41,67 +64,56 @@ struct Form {
 static FORMS: [Form; 11] = [
     Form {
         kind: ActKind::BeginRegistration,
-        name: "begin_registration",
         meaning: "a registration begins",
         answer: "session, options",
     },
     Form {
         kind: ActKind::FinishRegistration,
-        name: "finish_registration",
         meaning: "its response is judged",
         answer: "verify, accepted or refused",
     },
     Form {
         kind: ActKind::BeginSignIn,
-        name: "begin_sign_in",
         meaning: "a sign-in begins",
         answer: "session, options",
     },
     Form {
         kind: ActKind::FinishSignIn,
-        name: "finish_sign_in",
         meaning: "its response is judged",
         answer: "verify, accepted or refused",
     },
     Form {
         kind: ActKind::Retire,
-        name: "retire",
         meaning: "a credential signs in no more",
         answer: "retired: whether it did until now",
     },
     Form {
         kind: ActKind::Delete,
-        name: "delete",
         meaning: "a credential is forgotten",
         answer: "deleted: whether it was there",
     },
     Form {
         kind: ActKind::Abandon,
-        name: "abandon",
         meaning: "a session ends",
         answer: "abandoned: whether it was open",
     },
     Form {
         kind: ActKind::Expire,
-        name: "expire",
         meaning: "sessions end by their age",
         answer: "expired: how many",
     },
     Form {
         kind: ActKind::Rows,
-        name: "rows",
         meaning: "the credentials of a user, or all",
         answer: "rows",
     },
     Form {
         kind: ActKind::Status,
-        name: "status",
         meaning: "how the site is",
         answer: "status",
     },
     Form {
         kind: ActKind::Backup,
-        name: "backup",
         meaning: "the file is copied",
         answer: "backup: whether the copy is whole on the disk",
     },
@@ -244,10 +256,13 @@ static MEMBERS: [Member; 22] = [
 ];
 
 /// The act of this name.
-pub(crate) fn act_named(name: &str) -> Option<ActKind> {
+pub(crate) fn act_named(name: &str) -> Option<ActKind>
+    ensures { IfSome result (λ kind. name.now ≡ kind_name kind) }
+{
     for form in &FORMS {
-        if form.name == name {
-            return Some(form.kind);
+        let kind = form.kind;
+        if kind.name() == name {
+            return Some(kind);
         }
     }
     None
@@ -292,7 +307,7 @@ pub(crate) fn check_members(act: ActKind, line: &Value) -> Result<(), LineError>
 
 /// The lines of the help on one act.
 fn act_help(help: &mut String, form: &Form) -> Result<(), AllocError> {
-    let (name, meaning, answer) = (form.name, form.meaning, form.answer);
+    let (name, meaning, answer) = (form.kind.name(), form.meaning, form.answer);
     writeln!(help, "\n  {name:<20} {meaning}")?;
     for member in &MEMBERS {
         if member.act == form.kind {

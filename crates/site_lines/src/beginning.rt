@@ -3,7 +3,7 @@
 ghost use Rattle.std.specs.Prelude.{◌≡◌, IfErr, IfOk, map};
 ghost use Rattle.sqlite_trees.specs.Tree.{Trees};
 ghost use Rattle.site_lines.specs.Answers.{Begins, Keeps, TellsRegistrationBegun, TellsSignInBegun, opens_registration, opens_sign_in};
-ghost use Rattle.site_lines.specs.Private.{BeginsNothing, not_begun as not_begun_of};
+ghost use Rattle.site_lines.specs.Private.{BeginsNone, not_begun as not_begun_of};
 
 use crate::act::{BeginRegistration, BeginSignIn};
 use crate::answer::Answer;
@@ -34,7 +34,7 @@ fn started_sign_in<S: Store>(
 ) -> Result<Started, BeginFailure>
     ensures begun { IfOk result (λ s.
         Begins S.Store.view (opens_sign_in begin.now words) words now s.session s.challenge site.old site.new) }
-    ensures refused { IfErr result (BeginsNothing site.old site.new) }
+    ensures refused { IfErr result (BeginsNone site.old site.new (opens_sign_in begin.now words)) }
     ensures crash { (db : Trees) → S.Store.recovers site.new.store db → S.Store.recovers site.old.store db }
 {
     let Ok(allow) = lent(alloc, begin.allow.as_slice()) else {
@@ -87,7 +87,7 @@ fn started_registration<S: Store>(
 ) -> Result<Started, BeginFailure>
     ensures begun { IfOk result (λ s.
         Begins S.Store.view (opens_registration begin.now words) words now s.session s.challenge site.old site.new) }
-    ensures refused { IfErr result (BeginsNothing site.old site.new) }
+    ensures refused { IfErr result (BeginsNone site.old site.new (opens_registration begin.now words)) }
     ensures crash { (db : Trees) → S.Store.recovers site.new.store db → S.Store.recovers site.old.store db }
 {
     site.begin_registration(

@@ -1,9 +1,10 @@
 //! From lines to their answers.
 
-ghost use Rattle.std.specs.Prelude.{◌≡◌, ◌⊎◌, IfOk, MatchResult, OnErr, OnOk, Some, true};
+ghost use Rattle.std.specs.Prelude.{◌≡◌, ◌⊎◌, IfOk, OnErr, OnOk, Some, true};
 ghost use Rattle.sqlite_trees.specs.Tree.{Trees};
-ghost use Rattle.site_lines.specs.Answers.{IsTold, Keeps};
-ghost use Rattle.site_lines.specs.Batches.{Answers, AreFailed, IsCommitted, Leaves, Runs};
+ghost use Rattle.site_lines.specs.declared.answer.Answer.TheVariants as answers;
+ghost use Rattle.site_lines.specs.Answers.{Keeps, Tells};
+ghost use Rattle.site_lines.specs.Batches.{Answers, AreFailed, IsAnswered, IsCommitted, Leaves, Runs};
 
 use crate::act::Act;
 use crate::acting::carry_out;
@@ -55,34 +56,53 @@ fn session_of(named: Option<u64>, answer: &Answer) -> Option<u64> {
     }
 }
 
-/// Carries out what a line that was read asks for, or tells why it was not read.
+/// Carries out what a line that was read asks for.
 fn carried_out<S: Store>(
     alloc: Global,
     site: &mut KeptSite<S>,
     words: [u8; 24],
     now: u64,
-    read: Result<Line, LineFault>,
+    line: Line,
 ) -> Answered
-    ensures told { IsTold S.Store.view words now site.old site.new result.answer }
+    ensures told { Tells S.Store.view words now line.act site.old site.new result.answer }
     ensures kept { Keeps S.Store.view site.old site.new result.answer }
-    ensures number { MatchResult read (λ line. result.id ≡ Some line.id) (λ fault. result.id ≡ fault.id) }
+    ensures number { result.id ≡ Some line.id }
     ensures crash { (db : Trees) → S.Store.recovers site.new.store db → S.Store.recovers site.old.store db }
 {
-    match read {
-        Ok(line) => {
-            let named = named_session(&line.act);
-            let answer = carry_out(alloc, site, words, now, line.act);
-            Answered {
-                id: Some(line.id),
-                session: session_of(named, &answer),
-                answer,
-            }
-        }
-        Err(fault) => Answered {
-            id: fault.id,
-            session: None,
-            answer: Answer::Error(fault.error),
-        },
+    let named = named_session(&line.act);
+    let answer = carry_out(alloc, site, words, now, line.act);
+    Answered {
+        id: Some(line.id),
+        session: session_of(named, &answer),
+        answer,
+    }
+}
+
+/// What a line that is refused is answered.
+fn refused(fault: LineFault) -> Answered
+    ensures { result.answer ≡ answers.Error fault.error }
+{
+    Answered {
+        id: fault.id,
+        session: None,
+        answer: Answer::Error(fault.error),
+    }
+}
+
+/// Carries out what a line asks for, or tells why it is not read.
+fn answer_one<S: Store>(
+    alloc: Global,
+    site: &mut KeptSite<S>,
+    now: u64,
+    arrived: &Arrived,
+) -> Answered
+    ensures told { IsAnswered S.Store.view now arrived.now site.old site.new result }
+    ensures kept { Keeps S.Store.view site.old site.new result.answer }
+    ensures crash { (db : Trees) → S.Store.recovers site.new.store db → S.Store.recovers site.old.store db }
+{
+    match read_line(alloc, arrived.line.as_slice()) {
+        Ok(line) => carried_out(alloc, site, arrived.words, now, line),
+        Err(fault) => refused(fault),
     }
 }
 
@@ -98,8 +118,7 @@ fn carry_all<S: Store>(
 {
     let mut answers = Vec::with_capacity(alloc, arrived.len())?;
     for one in arrived {
-        let read = read_line(alloc, one.line.as_slice());
-        let answered = carried_out(alloc, site, one.words, now, read);
+        let answered = answer_one(alloc, site, now, one);
         answers.push(answered)?;
     }
     Ok(answers)

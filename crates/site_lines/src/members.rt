@@ -1,20 +1,34 @@
 //! Members of a JSON object.
 
+ghost use Rattle.std.specs.Prelude.{◌≡◌, ◌⊎◌, [], ◌∷◌, IfOk, None, Some, map, option_and_then, option_map};
+ghost use Rattle.cose.specs.Keys.{number_of};
+ghost use Rattle.cose.specs.declared.key.Alg.TheVariants as algs;
+ghost use Rattle.serde_json.specs.Find.{as_i64, as_number, as_str};
+ghost use Rattle.base64.specs.GeneralPurpose.{encode_of};
+ghost use Rattle.base64.specs.Engines.{url_safe_no_pad};
+ghost use Rattle.serde_json.specs.View.{view};
+ghost use Rattle.site_lines.specs.Lines.{HasAlgorithms, HasBytes, HasFlag, HasList, HasNumber, HasText, IsAlgorithm, IsBase64url, MayHaveBytes, member as member_of};
+ghost use Rattle.site_lines.specs.Private.{AreItems};
+
 use crate::error::LineError;
 use base64::DecodeAllocError;
 use base64::engine::general_purpose::URL_SAFE_NO_PAD;
 use cose::Alg;
 use serde_json::Value;
-use std::alloc::Global;
+use std::alloc::{AllocError, Global};
 
 /// The member of a name; nothing where it is absent or null.
-pub(crate) fn member<'a>(object: &'a Value, name: &str) -> Option<&'a Value> {
+pub(crate) fn member<'a>(object: &'a Value, name: &str) -> Option<&'a Value>
+    ensures { option_map (λ m. view m.now) result ≡ member_of name.now (view object.now) }
+{
     let value = object.get(name)?;
     if value.is_null() { None } else { Some(value) }
 }
 
 /// The member of a name.
-pub(crate) fn needed<'a>(object: &'a Value, name: &'static str) -> Result<&'a Value, LineError> {
+pub(crate) fn needed<'a>(object: &'a Value, name: &'static str) -> Result<&'a Value, LineError>
+    ensures { IfOk result (λ m. member_of name.now (view object.now) ≡ Some (view m.now)) }
+{
     match member(object, name) {
         Some(value) => Ok(value),
         None => Err(LineError::Missing(name)),
@@ -22,7 +36,9 @@ pub(crate) fn needed<'a>(object: &'a Value, name: &'static str) -> Result<&'a Va
 }
 
 /// The bytes of a text in base64url without padding.
-fn decoded(alloc: Global, value: &Value, name: &'static str) -> Result<Vec<u8>, LineError> {
+fn decoded(alloc: Global, value: &Value, name: &'static str) -> Result<Vec<u8>, LineError>
+    ensures { IfOk result (λ bytes. IsBase64url (view value.now) bytes.items) }
+{
     let Some(text) = value.as_str() else {
         return Err(LineError::BadForm(name));
     };
@@ -34,11 +50,9 @@ fn decoded(alloc: Global, value: &Value, name: &'static str) -> Result<Vec<u8>, 
 }
 
 /// The bytes of a member.
-pub(crate) fn bytes(
-    alloc: Global,
-    object: &Value,
-    name: &'static str,
-) -> Result<Vec<u8>, LineError> {
+pub(crate) fn bytes(alloc: Global, object: &Value, name: &'static str) -> Result<Vec<u8>, LineError>
+    ensures { IfOk result (λ bytes. HasBytes name.now (view object.now) bytes.items) }
+{
     decoded(alloc, needed(object, name)?, name)
 }
 
@@ -47,7 +61,9 @@ pub(crate) fn optional_bytes(
     alloc: Global,
     object: &Value,
     name: &'static str,
-) -> Result<Option<Vec<u8>>, LineError> {
+) -> Result<Option<Vec<u8>>, LineError>
+    ensures { IfOk result (λ found. MayHaveBytes name.now (view object.now) (option_map (λ bytes. bytes.items) found)) }
+{
     match member(object, name) {
         Some(value) => Ok(Some(decoded(alloc, value, name)?)),
         None => Ok(None),
@@ -55,7 +71,9 @@ pub(crate) fn optional_bytes(
 }
 
 /// The items of a member that is a list; none where it is absent.
-fn items<'a>(object: &'a Value, name: &'static str) -> Result<&'a [Value], LineError> {
+fn items<'a>(object: &'a Value, name: &'static str) -> Result<&'a [Value], LineError>
+    ensures { IfOk result (λ items. AreItems name.now (view object.now) items.now) }
+{
     match member(object, name) {
         Some(value) => match value.as_array() {
             Some(items) => Ok(items.as_slice()),
@@ -65,13 +83,10 @@ fn items<'a>(object: &'a Value, name: &'static str) -> Result<&'a [Value], LineE
     }
 }
 
-/// The bytes of each item of a list.
-pub(crate) fn list_of_bytes(
-    alloc: Global,
-    object: &Value,
-    name: &'static str,
-) -> Result<Vec<Vec<u8>>, LineError> {
-    let items = items(object, name)?;
+/// The bytes of each value.
+fn bytes_of(alloc: Global, items: &[Value], name: &'static str) -> Result<Vec<Vec<u8>>, LineError>
+    ensures { IfOk result (λ list. map (λ value. as_str (view value)) items.now ≡ map (λ bytes. Some (encode_of url_safe_no_pad bytes.items)) list.items) }
+{
     let mut list = Vec::with_capacity(alloc, items.len())?;
     for item in items {
         list.push(decoded(alloc, item, name)?)?;
@@ -79,29 +94,65 @@ pub(crate) fn list_of_bytes(
     Ok(list)
 }
 
+/// The bytes of each item of a list.
+pub(crate) fn list_of_bytes(
+    alloc: Global,
+    object: &Value,
+    name: &'static str,
+) -> Result<Vec<Vec<u8>>, LineError>
+    ensures { IfOk result (λ list. HasList name.now (view object.now) (map (λ bytes. bytes.items) list.items)) }
+{
+    let items = items(object, name)?;
+    let list = bytes_of(alloc, items, name)?;
+    Ok(list)
+}
+
 /// The algorithm of a COSE number.
-pub(crate) fn algorithm(value: &Value, name: &'static str) -> Result<Alg, LineError> {
+pub(crate) fn algorithm(value: &Value, name: &'static str) -> Result<Alg, LineError>
+    ensures { IfOk result (IsAlgorithm (view value.now)) }
+{
     match value.as_i64().and_then(Alg::from_number) {
         Some(alg) => Ok(alg),
         None => Err(LineError::BadForm(name)),
     }
 }
 
-/// The algorithms that are offered: those of the member, or all three.
-pub(crate) fn algorithms(alloc: Global, object: &Value) -> Result<Vec<Alg>, LineError> {
-    let mut list = Vec::with_capacity(alloc, 3)?;
-    if member(object, "algorithms").is_none() {
-        list.extend_from_slice(&[Alg::Es256, Alg::EdDsa, Alg::Rs256])?;
-        return Ok(list);
-    }
-    for item in items(object, "algorithms")? {
+/// All three algorithms.
+fn all_algorithms(alloc: Global) -> Result<Vec<Alg>, AllocError>
+    ensures { IfOk result (λ list. list.items ≡ algs.Es256 ∷ algs.EdDsa ∷ algs.Rs256 ∷ []) }
+{
+    Vec::from_slice(alloc, &[Alg::Es256, Alg::EdDsa, Alg::Rs256])
+}
+
+/// The algorithms of COSE numbers.
+fn algorithms_of(alloc: Global, items: &[Value]) -> Result<Vec<Alg>, LineError>
+    ensures { IfOk result (λ list. map (λ value. option_and_then as_i64 (as_number (view value))) items.now ≡ map (λ alg. Some (number_of alg)) list.items) }
+{
+    let mut list = Vec::with_capacity(alloc, items.len())?;
+    for item in items {
         list.push(algorithm(item, "algorithms")?)?;
     }
     Ok(list)
 }
 
+/// The algorithms that are offered: those of the member, or all three.
+pub(crate) fn algorithms(alloc: Global, object: &Value) -> Result<Vec<Alg>, LineError>
+    ensures { IfOk result (λ list. HasAlgorithms (view object.now) list.items) }
+{
+    let Some(value) = member(object, "algorithms") else {
+        return Ok(all_algorithms(alloc)?);
+    };
+    let Some(items) = value.as_array() else {
+        return Err(LineError::BadForm("algorithms"));
+    };
+    let list = algorithms_of(alloc, items.as_slice())?;
+    Ok(list)
+}
+
 /// A member that is true or false, with its value where it is absent.
-pub(crate) fn flag(object: &Value, name: &'static str, absent: bool) -> Result<bool, LineError> {
+pub(crate) fn flag(object: &Value, name: &'static str, absent: bool) -> Result<bool, LineError>
+    ensures { IfOk result (HasFlag name.now (view object.now) absent) }
+{
     match member(object, name) {
         Some(value) => match value.as_bool() {
             Some(flag) => Ok(flag),
@@ -112,7 +163,9 @@ pub(crate) fn flag(object: &Value, name: &'static str, absent: bool) -> Result<b
 }
 
 /// A member that is a number from 0 to 2^64 - 1.
-pub(crate) fn number(object: &Value, name: &'static str) -> Result<u64, LineError> {
+pub(crate) fn number(object: &Value, name: &'static str) -> Result<u64, LineError>
+    ensures { IfOk result (HasNumber name.now (view object.now)) }
+{
     match needed(object, name)?.as_u64() {
         Some(number) => Ok(number),
         None => Err(LineError::BadForm(name)),
@@ -120,9 +173,28 @@ pub(crate) fn number(object: &Value, name: &'static str) -> Result<u64, LineErro
 }
 
 /// A member that is a text.
-pub(crate) fn text<'a>(object: &'a Value, name: &'static str) -> Result<&'a str, LineError> {
+pub(crate) fn text<'a>(object: &'a Value, name: &'static str) -> Result<&'a str, LineError>
+    ensures { IfOk result (λ text. HasText name.now (view object.now) text.now) }
+{
     match needed(object, name)?.as_str() {
         Some(text) => Ok(text),
         None => Err(LineError::BadForm(name)),
+    }
+}
+
+/// A member that is a text, or this where it is absent.
+pub(crate) fn text_or<'a>(
+    object: &'a Value,
+    name: &'static str,
+    absent: &'a str,
+) -> Result<&'a str, LineError>
+    ensures { IfOk result (λ text. HasText name.now (view object.now) text.now ⊎ ((member_of name.now (view object.now) ≡ None) × (text.now ≡ absent.now))) }
+{
+    match member(object, name) {
+        Some(value) => match value.as_str() {
+            Some(text) => Ok(text),
+            None => Err(LineError::BadForm(name)),
+        },
+        None => Ok(absent),
     }
 }

@@ -1,6 +1,11 @@
 //! What the page is given: `PublicKeyCredentialCreationOptionsJSON` and `PublicKeyCredentialRequestOptionsJSON` (WebAuthn
 //! Level 3, sections 5.1.8 and 5.1.9), each value of bytes in base64url without padding.
 
+ghost use Rattle.std.specs.Prelude.{◌≡◌, IfOk, map};
+ghost use Rattle.serde_json.specs.Data.{array, string};
+ghost use Rattle.serde_json.specs.View.{items_of, view};
+ghost use Rattle.site_lines.specs.Options.{account, base64url, creation_options as creation_options_of, descriptor as descriptor_of, parameter as parameter_of, request_options as request_options_of, resident_key as resident_key_of, selection as selection_of, verification as verification_of};
+
 use crate::act::{BeginRegistration, BeginSignIn};
 use base64::engine::general_purpose::URL_SAFE_NO_PAD;
 use ceremony_sessions::Started;
@@ -9,47 +14,100 @@ use serde_json::{Value, json};
 use std::alloc::{AllocError, Global};
 
 /// Bytes as a text.
-pub(crate) fn base64_text(alloc: Global, bytes: &[u8]) -> Result<Value, AllocError> {
+pub(crate) fn base64_text(alloc: Global, bytes: &[u8]) -> Result<Value, AllocError>
+    ensures { IfOk result (λ v. view v ≡ base64url bytes.now) }
+{
     Ok(Value::String(URL_SAFE_NO_PAD.encode(alloc, bytes)?))
 }
 
-/// The descriptors of credentials.
-fn descriptors(alloc: Global, ids: &[Vec<u8>]) -> Result<Value, AllocError> {
+/// The descriptor of a credential.
+fn descriptor(alloc: Global, id: &[u8]) -> Result<Value, AllocError>
+    ensures { IfOk result (λ v. view v ≡ descriptor_of id.now) }
+{
+    let id = base64_text(alloc, id)?;
+    json!(in alloc; {"type": "public-key", "id": id})
+}
+
+/// The descriptors of credentials, as a list.
+fn descriptor_list(alloc: Global, ids: &[Vec<u8>]) -> Result<Vec<Value>, AllocError>
+    ensures { IfOk result (λ list. map view list.items ≡ map (λ id. descriptor_of id.items) ids.now) }
+{
     let mut list = Vec::with_capacity(alloc, ids.len())?;
     for id in ids {
-        let id = base64_text(alloc, id.as_slice())?;
-        list.push(json!(in alloc; {"type": "public-key", "id": id})?)?;
+        list.push(descriptor(alloc, id.as_slice())?)?;
     }
+    Ok(list)
+}
+
+/// The descriptors of credentials.
+fn descriptors(alloc: Global, ids: &[Vec<u8>]) -> Result<Value, AllocError>
+    ensures { IfOk result (λ v. view v ≡ array (items_of (map (λ id. descriptor_of id.items) ids.now))) }
+{
+    let list = descriptor_list(alloc, ids)?;
     Ok(Value::Array(list))
 }
 
-/// The parameters of credentials of these algorithms.
-fn parameters(alloc: Global, algorithms: &[Alg]) -> Result<Value, AllocError> {
+/// The parameters of credentials of an algorithm.
+fn parameter(alloc: Global, algorithm: Alg) -> Result<Value, AllocError>
+    ensures { IfOk result (λ v. view v ≡ parameter_of algorithm) }
+{
+    let number = algorithm.number();
+    json!(in alloc; {"type": "public-key", "alg": number})
+}
+
+/// The parameters of credentials of these algorithms, as a list.
+fn parameter_list(alloc: Global, algorithms: &[Alg]) -> Result<Vec<Value>, AllocError>
+    ensures { IfOk result (λ list. map view list.items ≡ map parameter_of algorithms.now) }
+{
     let mut list = Vec::with_capacity(alloc, algorithms.len())?;
     for algorithm in algorithms {
-        let number = algorithm.number();
-        list.push(json!(in alloc; {"type": "public-key", "alg": number})?)?;
+        list.push(parameter(alloc, *algorithm)?)?;
     }
+    Ok(list)
+}
+
+/// The parameters of credentials of these algorithms.
+fn parameters(alloc: Global, algorithms: &[Alg]) -> Result<Value, AllocError>
+    ensures { IfOk result (λ v. view v ≡ array (items_of (map parameter_of algorithms.now))) }
+{
+    let list = parameter_list(alloc, algorithms)?;
     Ok(Value::Array(list))
 }
 
 /// The requirement of user verification.
-fn verification(is_required: bool) -> &'static str {
+fn verification(is_required: bool) -> &'static str
+    ensures { result.now ≡ verification_of is_required }
+{
     if is_required { "required" } else { "preferred" }
 }
 
 /// The account.
-fn user(alloc: Global, begin: &BeginRegistration) -> Result<Value, AllocError> {
+fn user(alloc: Global, begin: &BeginRegistration) -> Result<Value, AllocError>
+    ensures { IfOk result (λ v. view v ≡ account begin.now) }
+{
     let id = base64_text(alloc, begin.user.as_slice())?;
     let name = begin.user_name.as_str();
     let display_name = begin.display_name.as_str();
     json!(in alloc; {"id": id, "name": name, "displayName": display_name})
 }
 
+/// Whether the credential is to be found without an id.
+fn resident_key(is_required: bool) -> &'static str
+    ensures { result.now ≡ resident_key_of is_required }
+{
+    if is_required {
+        "required"
+    } else {
+        "discouraged"
+    }
+}
+
 /// Which authenticators are asked for.
-fn selection(alloc: Global, begin: &BeginRegistration) -> Result<Value, AllocError> {
+fn selection(alloc: Global, begin: &BeginRegistration) -> Result<Value, AllocError>
+    ensures { IfOk result (λ v. view v ≡ selection_of begin.now) }
+{
     let resident = begin.resident;
-    let key = if resident { "required" } else { "discouraged" };
+    let key = resident_key(resident);
     let verification = verification(begin.user_verification);
     json!(in alloc; {"residentKey": key, "requireResidentKey": resident, "userVerification": verification})
 }
@@ -61,7 +119,9 @@ pub(crate) fn creation_options(
     rp_name: &str,
     started: &Started,
     begin: &BeginRegistration,
-) -> Result<Value, AllocError> {
+) -> Result<Value, AllocError>
+    ensures { IfOk result (λ v. view v ≡ creation_options_of rp_id.now rp_name.now started.now.challenge begin.now) }
+{
     let challenge = base64_text(alloc, &started.challenge)?;
     let user = user(alloc, begin)?;
     let parameters = parameters(alloc, begin.algorithms.as_slice())?;
@@ -80,7 +140,9 @@ pub(crate) fn request_options(
     rp_id: &str,
     started: &Started,
     begin: &BeginSignIn,
-) -> Result<Value, AllocError> {
+) -> Result<Value, AllocError>
+    ensures { IfOk result (λ v. view v ≡ request_options_of rp_id.now started.now.challenge begin.now) }
+{
     let challenge = base64_text(alloc, &started.challenge)?;
     let allow = descriptors(alloc, begin.allow.as_slice())?;
     let verification = verification(begin.user_verification);

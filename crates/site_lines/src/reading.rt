@@ -1,12 +1,18 @@
 //! Reading a line.
 
+ghost use Rattle.std.specs.Prelude.{◌≡◌, IfOk, Some};
+ghost use Rattle.serde_json.specs.Read.{read};
+ghost use Rattle.serde_json.specs.View.{view};
+ghost use Rattle.site_lines.specs.Lines.{HasMembers, HasVerified, Reads, Says, SaysBeginRegistration, SaysBeginSignIn, SaysFinishRegistration, SaysFinishSignIn, name_of};
+ghost use Rattle.site_lines.specs.Private.{kind_name};
+
 use crate::act::{Act, BeginRegistration, BeginSignIn, FinishRegistration, FinishSignIn};
 use crate::acts::{ActKind, act_named, check_members};
 use crate::error::LineError;
 use crate::keys::key;
 use crate::line_id::id_of;
 use crate::members::{
-    algorithms, bytes, flag, list_of_bytes, member, needed, number, optional_bytes, text,
+    algorithms, bytes, flag, list_of_bytes, member, needed, number, optional_bytes, text, text_or,
 };
 use crate::response::{assertion_response, credential_id, registration_response};
 use crate::verified::Verified;
@@ -34,7 +40,9 @@ pub struct LineFault {
 }
 
 /// What the host found of the signature: the five members of `verify`, where it is valid, or false where it is not.
-fn verified(alloc: Global, line: &Value) -> Result<Verified, LineError> {
+fn verified(alloc: Global, line: &Value) -> Result<Verified, LineError>
+    ensures { IfOk result (HasVerified (view line.now)) }
+{
     let Some(found) = member(line, "verified") else {
         return Ok(Verified::Nothing);
     };
@@ -52,12 +60,11 @@ fn verified(alloc: Global, line: &Value) -> Result<Verified, LineError> {
 }
 
 /// A registration that is to begin.
-fn begin_registration(alloc: Global, line: &Value) -> Result<BeginRegistration, LineError> {
+fn begin_registration(alloc: Global, line: &Value) -> Result<BeginRegistration, LineError>
+    ensures { IfOk result (SaysBeginRegistration (view line.now)) }
+{
     let user_name = text(line, "user_name")?;
-    let display_name = match member(line, "display_name") {
-        Some(_) => text(line, "display_name")?,
-        None => user_name,
-    };
+    let display_name = text_or(line, "display_name", user_name)?;
     Ok(BeginRegistration {
         user: bytes(alloc, line, "user")?,
         user_name: String::from_str(alloc, user_name)?,
@@ -70,7 +77,9 @@ fn begin_registration(alloc: Global, line: &Value) -> Result<BeginRegistration, 
 }
 
 /// A sign-in that is to begin.
-fn begin_sign_in(alloc: Global, line: &Value) -> Result<BeginSignIn, LineError> {
+fn begin_sign_in(alloc: Global, line: &Value) -> Result<BeginSignIn, LineError>
+    ensures { IfOk result (SaysBeginSignIn (view line.now)) }
+{
     Ok(BeginSignIn {
         user: optional_bytes(alloc, line, "user")?,
         allow: list_of_bytes(alloc, line, "allow")?,
@@ -79,7 +88,9 @@ fn begin_sign_in(alloc: Global, line: &Value) -> Result<BeginSignIn, LineError> 
 }
 
 /// A registration that is to be finished.
-fn finish_registration(alloc: Global, line: &Value) -> Result<FinishRegistration, LineError> {
+fn finish_registration(alloc: Global, line: &Value) -> Result<FinishRegistration, LineError>
+    ensures { IfOk result (SaysFinishRegistration (view line.now)) }
+{
     let response = needed(line, "response")?;
     Ok(FinishRegistration {
         session: number(line, "session")?,
@@ -90,7 +101,9 @@ fn finish_registration(alloc: Global, line: &Value) -> Result<FinishRegistration
 }
 
 /// A sign-in that is to be finished.
-fn finish_sign_in(alloc: Global, line: &Value) -> Result<FinishSignIn, LineError> {
+fn finish_sign_in(alloc: Global, line: &Value) -> Result<FinishSignIn, LineError>
+    ensures { IfOk result (SaysFinishSignIn (view line.now)) }
+{
     Ok(FinishSignIn {
         session: number(line, "session")?,
         response: assertion_response(alloc, needed(line, "response")?)?,
@@ -99,7 +112,10 @@ fn finish_sign_in(alloc: Global, line: &Value) -> Result<FinishSignIn, LineError
 }
 
 /// The act of this kind.
-fn act_of(alloc: Global, kind: ActKind, line: &Value) -> Result<Act, LineError> {
+fn act_of(alloc: Global, kind: ActKind, line: &Value) -> Result<Act, LineError>
+    ensures members { IfOk result (HasMembers (view line.now)) }
+    ensures name { IfOk result (λ act. name_of act ≡ kind_name kind) }
+{
     Ok(match kind {
         ActKind::BeginRegistration => Act::BeginRegistration(begin_registration(alloc, line)?),
         ActKind::FinishRegistration => Act::FinishRegistration(finish_registration(alloc, line)?),
@@ -116,7 +132,9 @@ fn act_of(alloc: Global, kind: ActKind, line: &Value) -> Result<Act, LineError> 
 }
 
 /// What a line's object asks for.
-fn act_in(alloc: Global, line: &Value) -> Result<Act, LineError> {
+fn act_in(alloc: Global, line: &Value) -> Result<Act, LineError>
+    ensures { IfOk result (Says (view line.now)) }
+{
     let Some(kind) = act_named(text(line, "act")?) else {
         return Err(LineError::UnknownAct);
     };
@@ -125,7 +143,9 @@ fn act_in(alloc: Global, line: &Value) -> Result<Act, LineError> {
 }
 
 /// The object that a line is.
-fn object_of(alloc: Global, line: &[u8]) -> Result<Value, LineError> {
+fn object_of(alloc: Global, line: &[u8]) -> Result<Value, LineError>
+    ensures { IfOk result (λ d. read line.now ≡ Some (view d)) }
+{
     if line.len() > MAX_LINE {
         return Err(LineError::TooLong);
     }
@@ -145,7 +165,9 @@ fn object_of(alloc: Global, line: &[u8]) -> Result<Value, LineError> {
 ///
 /// Of a line that is refused the number is told too, where it can be read: of one that is no such object, by what stands
 /// before the first `MAX_LINE` + 1 bytes end.
-pub fn read_line(alloc: Global, line: &[u8]) -> Result<Line, LineFault> {
+pub fn read_line(alloc: Global, line: &[u8]) -> Result<Line, LineFault>
+    ensures { IfOk result (λ read. Reads line.now read.id read.act) }
+{
     let object = match object_of(alloc, line) {
         Ok(object) => object,
         Err(error) => {
@@ -155,7 +177,7 @@ pub fn read_line(alloc: Global, line: &[u8]) -> Result<Line, LineFault> {
             });
         }
     };
-    let Some(id) = object.get("id").and_then(Value::as_u64) else {
+    let Ok(id) = number(&object, "id") else {
         return Err(LineFault {
             id: None,
             error: LineError::BadId,

@@ -1,6 +1,11 @@
 //! Responses as the browser gives them: `RegistrationResponseJSON` and `AuthenticationResponseJSON` (WebAuthn Level 3,
 //! section 5.1), each value of bytes in base64url without padding.
 
+ghost use Rattle.std.specs.Prelude.{IfOk, codes};
+ghost use Rattle.serde_json.specs.View.{view};
+ghost use Rattle.site_lines.specs.Lines.{HasBytes, IsAssertionResponse};
+ghost use Rattle.site_lines.specs.Private.{HasParts};
+
 use crate::error::LineError;
 use crate::members::{bytes, member, needed, optional_bytes, text};
 use authdata::{AssertionResponse, RegistrationResponse};
@@ -30,7 +35,9 @@ fn check_envelope(response: &Value) -> Result<(), LineError> {
 }
 
 /// The credential id.
-pub(crate) fn credential_id(alloc: Global, response: &Value) -> Result<Vec<u8>, LineError> {
+pub(crate) fn credential_id(alloc: Global, response: &Value) -> Result<Vec<u8>, LineError>
+    ensures { IfOk result (λ id. HasBytes (codes "rawId") (view response.now) id.items) }
+{
     check_envelope(response)?;
     bytes(alloc, response, "rawId")
 }
@@ -39,7 +46,9 @@ pub(crate) fn credential_id(alloc: Global, response: &Value) -> Result<Vec<u8>, 
 pub(crate) fn registration_response(
     alloc: Global,
     response: &Value,
-) -> Result<RegistrationResponse, LineError> {
+) -> Result<RegistrationResponse, LineError>
+    ensures { IfOk result (HasParts (view response.now)) }
+{
     let parts = needed(response, "response")?;
     let object = bytes(alloc, parts, "attestationObject")?;
     let client_data = bytes(alloc, parts, "clientDataJSON")?;
@@ -53,7 +62,9 @@ pub(crate) fn registration_response(
 pub(crate) fn assertion_response(
     alloc: Global,
     response: &Value,
-) -> Result<AssertionResponse, LineError> {
+) -> Result<AssertionResponse, LineError>
+    ensures { IfOk result (IsAssertionResponse (view response.now)) }
+{
     let parts = needed(response, "response")?;
     let credential = credential_id(alloc, response)?;
     let user = optional_bytes(alloc, parts, "userHandle")?;

@@ -1,6 +1,7 @@
 //! A site over lines: one JSON object in, one out, over a file.
 #![tactic(auto)]
 
+mod arriving;
 mod fault;
 mod file;
 mod input;

@@ -1,25 +1,19 @@
 //! Serving lines.
 
+use crate::arriving::take_lines;
 use crate::fault::Fault;
-use crate::input::{MOST_TOGETHER, READ_AT_ONCE, has_line, next_line};
+use crate::input::READ_AT_ONCE;
 use crate::options::Options;
 use site_files::{FileSite, Start, backup};
 use site_lines::{
     Answer, Answered, Arrived, Logged, Tally, Teller, answer_lines, log_line, write_answer,
 };
 use std::fs::File;
-use std::io::{self, BufReader, Read, Write};
+use std::io::{self, BufReader, Write};
 use std::time::{SystemTime, UNIX_EPOCH};
 
 /// The program's version.
 const VERSION: &str = "0.1.0";
-
-/// 24 random bytes of the system.
-fn random_words(random: &mut BufReader<File>) -> io::Result<[u8; 24]> {
-    let mut words = [0; 24];
-    random.read_exact(&mut words)?;
-    Ok(words)
-}
 
 /// The seconds of the system's clock since 1970. A clock that is set before is an error, which ends the program: sessions
 /// would have no moment in which they began.
@@ -29,40 +23,6 @@ fn seconds(rt: &HostRuntime) -> io::Result<u64> {
         Ok(since) => Ok(since.as_secs()),
         Err(_) => Err(io::Error::from(io::ErrorKind::InvalidData)),
     }
-}
-
-/// Takes the next line, with random bytes of its own: false where none is left.
-fn take_line<R: io::BufRead>(
-    rt: &HostRuntime,
-    reader: &mut R,
-    random: &mut BufReader<File>,
-    arrived: &mut Vec<Arrived>,
-) -> io::Result<bool> {
-    let mut line = Vec::new(rt.alloc());
-    if !next_line(reader, &mut line)? {
-        return Ok(false);
-    }
-    let words = random_words(random)?;
-    arrived.push(Arrived { line, words })?;
-    Ok(true)
-}
-
-/// Waits for a line, and takes those that have come with it: none where the input has ended.
-fn take_lines<R: Read>(
-    rt: &HostRuntime,
-    reader: &mut BufReader<R>,
-    random: &mut BufReader<File>,
-) -> io::Result<Vec<Arrived>> {
-    let mut arrived = Vec::new(rt.alloc());
-    if !take_line(rt, reader, random, &mut arrived)? {
-        return Ok(arrived);
-    }
-    for _ in 1..MOST_TOGETHER {
-        if !has_line(reader) || !take_line(rt, reader, random, &mut arrived)? {
-            break;
-        }
-    }
-    Ok(arrived)
 }
 
 /// Copies the file where an answer says so, which then says why not where it fails.
@@ -142,7 +102,7 @@ pub(crate) fn serve<S: Start>(
     let mut tally = Tally::new();
     let mut last = 0;
     for _ in 0..u64::MAX {
-        let arrived = take_lines(rt, &mut reader, &mut random)?;
+        let arrived = take_lines(rt.alloc(), &mut reader, &mut random)?;
         if arrived.is_empty() {
             break;
         }

@@ -1,0 +1,22 @@
+-- What the loop of `find_all` keeps.
+use Rattle.std.proofs.Common.{◌≡◌, IsSome, List, Some}
+use Rattle.sqlite_value.specs.Keys.{plain}
+use Rattle.sqlite_value.specs.Order.{Row as Columns}
+use Rattle.sqlite_trees.specs.Tree.{IsIndex, Trees}
+use Rattle.sqlite_trees.specs.View.{IsClean, KeepsSchema}
+use Rattle.credential_table.specs.Views.{rows_view}
+use Rattle.credential_store.specs.Held.{IsSameView}
+use Rattle.credential_store.specs.Private.{AreEntries}
+use Rattle.credential_store.proofs.Users.{IsReadTo}
+use Rattle.credential_store.proofs.listing.find_all.Given as goal
+
+abbrev pub invariant-loop : goal.invariant-loop
+invariant-loop g l =
+    IsSome ((g.S.Store.view l.store).cursors 0)
+    × IsSameView (g.S.Store.view l.fn.store) (g.S.Store.view l.store)
+    × KeepsSchema (g.S.Store.view l.fn.store) (g.S.Store.view l.store)
+    × ((db : Trees) → g.S.Store.recovers l.store db → g.S.Store.recovers l.fn.store db)
+    × (IsClean (g.S.Store.view l.store) → IsIndex plain ((g.S.Store.view l.fn.store).trees 4))
+    × (IsClean (g.S.Store.view l.store) → AreEntries ((g.S.Store.view l.fn.store).trees 4) → (left : List Columns)
+    × ((g.S.Store.view l.store).cursors 0 ≡ Some left) × AreEntries left
+    × IsReadTo l.fn.user ((g.S.Store.view l.fn.store).trees 4) ((g.S.Store.view l.fn.store).trees 0) (rows_view l.rows.items) left)
