@@ -76,10 +76,10 @@ class Server:
         """
         listed, verification = list(exclude), options.user_verification_of(user_verification)
         options.ids_of(listed)
+        more = options.of_creation(verification, resident, attachment, timeout, hints, extensions)
         session = RegistrationSession(secrets.token_bytes(32), limits.check_user(user), verification == "required",
                                       limits.check_algorithms(algorithms))
-        return options.creation_options({"id": self.rp_id, "name": self.rp_name}, session, user_name, display_name, listed,
-                                        verification, resident, attachment, timeout, hints, extensions), session
+        return options.creation_options({"id": self.rp_id, "name": self.rp_name}, session, user_name, display_name, listed, more), session
 
     def register_complete(self, session: Optional[RegistrationSession], response: Mapping[str, Any], *,
                           is_registered: Callable[[bytes], bool], is_full: bool = False) -> Registered:
@@ -133,7 +133,8 @@ class Server:
         listed, verification = list(allow), options.user_verification_of(user_verification)
         session = SignInSession(secrets.token_bytes(32), None if user is None else limits.check_user(user),
                                 options.ids_of(listed), verification == "required")
-        return options.request_options(self.rp_id, session, listed, verification, timeout, hints, extensions), session
+        return options.request_options(self.rp_id, session, listed,
+                                       options.of_request(verification, timeout, hints, extensions)), session
 
     def authenticate_complete(self, session: Optional[SignInSession], response: Mapping[str, Any], *,
                               credential: Callable[[bytes], Optional[Credential]]) -> SignedIn:

@@ -362,6 +362,40 @@ except garvoeng.BadInput:
     assert said.stdout == "done\n", said.stderr
 
 
+def test_each_allocation_that_fails(frozen):
+    """Of each call every allocation is refused, one at a time: it raises MemoryError, or says what it says otherwise; nothing is kept."""
+    memory = pytest.importorskip("_testcapi")
+    one = Ceremony(verify=lambda *_: True)
+    parts, registration, sign_in = one.parts(), forms.registration_parts(one.made), forms.sign_in_parts(one.response)
+    many = replace(one.session, allow=(one.credential.id,) * 20)
+    copied = [bytearray(part) if part and index > 1 else part for index, part in enumerate(parts)]
+    calls = [lambda: one.server.authenticate_complete_parts(*parts), lambda: one.server.authenticate_complete_parts(*copied),
+             lambda: one.server.authenticate_complete_parts(many, *parts[1:]),
+             lambda: one.server.register_complete_parts(one.begun, registration[2], registration[1], free_id=registration[0]),
+             lambda: forms.sign_in_parts(one.response), lambda: forms.registration_parts(one.made), lambda: _passkey.refusal_text(False, 14),
+             lambda: _passkey.key_from_cose(one.device.cose_key()), lambda: _passkey.key_to_cose(ES256, (one.device.x, one.device.y)),
+             lambda: _passkey.is_canonical(bytearray(b"\xa0"))]
+    assert sign_in[0] == one.device.id
+    for call in calls:
+        wanted, before = call(), None
+        for turn in range(3):
+            refused = 0
+            for number in range(1, 400):
+                memory.set_nomemory(number, number + 1)
+                try:
+                    said = call()
+                except MemoryError:
+                    said = None
+                memory.remove_mem_hooks()
+                refused += said is None
+                assert said is None or said == wanted
+            assert 1 <= refused < 300
+            if turn == 0:
+                before = held_now()
+        grown = [new - old for new, old in zip(held_now(), before)]
+        assert grown[0] < 40 and grown[1] < 1_500 and grown[2] < 40, (call, grown)
+
+
 @pytest.mark.skipif(sys.platform != "linux", reason="RLIMIT_AS")
 def test_no_memory():
     """Where memory is refused a call raises MemoryError, or is made; it is never wrong, and nothing ends the process."""

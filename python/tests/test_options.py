@@ -41,15 +41,22 @@ def test_request_options():
     assert options["excludeCredentials"] == [{"type": "public-key", "id": to_text(b"one"), "transports": ["usb", "nfc"]}]
 
 
-@pytest.mark.parametrize("name, good", [
-    ("user_verification", ("required", "preferred", "discouraged", True, False)), ("resident", ("required", "preferred", "discouraged", True, False)),
-    ("attachment", ("platform", "cross-platform", None)), ("timeout", (1, 2**32 - 1, None)), ("hints", ([], (), ["hybrid"])),
-    ("extensions", (None, {}, {"a": 1}))])
-def test_values_of_options(name, good):
+REQUIREMENTS = (True, False, "required", "preferred", "discouraged")
+NONE = ("Required", "", 7, [], "none", b"required")
+VALUES_OF_OPTIONS = [
+    ("user_verification", REQUIREMENTS, (*NONE, None)), ("resident", REQUIREMENTS, (*NONE, None)),
+    ("attachment", ("platform", "cross-platform", None), NONE),
+    ("timeout", (1, 2**32 - 1, None), (0, -1, 2**32, 2**64 + 1, 1.0, "1", True)),
+    ("hints", ([], (), ["hybrid"], ["security-key", "client-device"]), ("hybrid", ["Hybrid"], [None], [7], ["hybrid", "other"])),
+    ("extensions", (None, {}, {"a": 1}), ([], "x", 7))]
+"""Of each parameter of options what is one of its values, and what is none."""
+
+
+@pytest.mark.parametrize("name, good, bad", VALUES_OF_OPTIONS)
+def test_values_of_options(name, good, bad):
     for value in good:
         party().register_begin(USER, "name", **{name: value})
-    bad = {"timeout": (0, -1, 2**32, 1.0, "1", True), "hints": ("hybrid", ["Hybrid"], [None], [7]), "extensions": ([], "x", 7)}
-    for value in bad.get(name, ("Required", "", 7, [], "none")):
+    for value in bad:
         with pytest.raises(BadInput):
             party().register_begin(USER, "name", **{name: value})
         if name not in ("resident", "attachment"):
