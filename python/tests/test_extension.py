@@ -6,6 +6,7 @@ import random
 import subprocess
 import sys
 import threading
+import time
 import tracemalloc
 from dataclasses import replace
 
@@ -321,6 +322,32 @@ def test_threads():
     assert wrong == []
 
 
+def test_others_run_in_a_call():
+    """Where nobody else makes a thread give the interpreter up, its calls do: another thread runs meanwhile."""
+    one, interval = Ceremony(), sys.getswitchinterval()
+    long = changed(one.response, "clientDataJSON", lambda value: value[:-1] + b',"more":"' + b"x" * 40_000 + b'"}')
+    parts, until = [one.session, one.credential, *forms.sign_in_parts(long)], time.monotonic() + 30
+    parts[3:7] = parts[6], parts[4], parts[5], parts[3]
+    created = changed(one.made, "clientDataJSON", lambda value: value[:-1] + b',"more":"' + b"x" * 20_000 + b'"}')
+    raw_id, client_data, attestation_object = forms.registration_parts(created)
+    for call in (lambda: one.server.authenticate_complete_parts(*parts),
+                 lambda: one.server.register_complete_parts(one.begun, attestation_object, client_data, free_id=raw_id)):
+        waits, ran = threading.Lock(), []
+        waits.acquire()
+        other = threading.Thread(target=lambda: ran.append(waits.acquire()))
+        other.start()
+        time.sleep(0.1)
+        sys.setswitchinterval(1000)
+        try:
+            waits.release()
+            while not ran and time.monotonic() < until:
+                assert ended(call).name in ("W14", "G13")
+            assert ran
+        finally:
+            sys.setswitchinterval(interval)
+            other.join()
+
+
 IN_ANOTHER = """
 import sys
 sys.path[:0] = {path}
@@ -374,13 +401,13 @@ def test_each_allocation_that_fails(frozen):
              lambda: one.server.register_complete_parts(one.begun, registration[2], registration[1], free_id=registration[0]),
              lambda: forms.sign_in_parts(one.response), lambda: forms.registration_parts(one.made), lambda: _passkey.refusal_text(False, 14),
              lambda: _passkey.key_from_cose(one.device.cose_key()), lambda: _passkey.key_to_cose(ES256, (one.device.x, one.device.y)),
-             lambda: _passkey.is_canonical(bytearray(b"\xa0"))]
+             lambda: _passkey.is_canonical(bytearray(one.device.cose_key()))]
     assert sign_in[0] == one.device.id
     for call in calls:
         wanted, before = call(), None
         for turn in range(3):
             refused = 0
-            for number in range(1, 400):
+            for number in range(400):
                 memory.set_nomemory(number, number + 1)
                 try:
                     said = call()
