@@ -201,10 +201,11 @@ class StoredServer:
     `existing`. Calls come from any thread. Where the program has ended, the next call starts it again; one that does not
     answer in `timeout` seconds is ended. Open sessions are in the program's memory: one ends by itself `expire` seconds after
     it began, where `max_open` are open the oldest ends, and with the program all end. `max_credentials` is the most
-    credentials; both are from 1 to 1,000,000. With `log` each refusal is told, and with `log="all"` each acceptance and each error too; all that the program tells goes to the logger `garvoeng`
-    of `logging`. With `shared` all processes of this user that name the same file and the same parameters share one program, by a Unix
-    socket that nobody else can open; it ends with the last of them. `verify(algorithm, x, y, message, signature)`
-    tells whether a signature is valid; by default `cryptography` does.
+    credentials; both are from 1 to 1,000,000. With `log` each refusal is told, and with `log="all"` each acceptance and each
+    error too; all that the program tells goes to the logger `garvoeng` of `logging`. With `shared`, which is for Linux, all
+    processes of this user that name the same file and the same parameters share one program, by a Unix socket that nobody else
+    can open; it ends two seconds after the last of them. `verify(algorithm, x, y, message, signature)` tells whether a signature
+    is valid; by default `cryptography` does.
     """
 
     def __init__(self, program: str, file: str, rp_id: str, origins: Sequence[str], rp_name: Optional[str] = None, *,

@@ -1,10 +1,13 @@
 """What hosts, visitors and other processes do to the package."""
 import pickle
+from collections import UserDict
+from collections.abc import Mapping
 from concurrent.futures import ProcessPoolExecutor
+from types import MappingProxyType
 
 import pytest
 from device import Device
-from hostile import changes, passed_over
+from hostile import changes, nested, passed_over
 
 from garvoeng import BadInput, Credential, Refused, Server, StoredServer, StoreFailed
 from garvoeng.forms import from_text, to_text
@@ -45,6 +48,53 @@ def test_hostile_values():
             tried += 1
             assert call(same)
     assert wrong == [] and tried >= 2_000
+
+
+class Read(Mapping):
+    """A mapping that is no dict."""
+
+    def __init__(self, inner):
+        self.inner = inner
+
+    def __getitem__(self, name):
+        return self.inner[name]
+
+    def __iter__(self):
+        return iter(self.inner)
+
+    def __len__(self):
+        return len(self.inner)
+
+
+def test_mappings_that_are_no_dicts():
+    """The response, its parts and the extensions' results may be other mappings, and texts of a class of their own."""
+    server, device = Server(RP_ID, [ORIGIN]), Device()
+    options, session = server.register_begin(USER, "name")
+    made = device.register(options)
+    text = type("Text", (str,), {})
+    for response in (Read(made), MappingProxyType(made), UserDict(made), {**made, "response": Read(made["response"])},
+                     {**made, "clientExtensionResults": Read({})}, Read({**made, "response": Read(made["response"])}),
+                     {name: text(value) if isinstance(value, str) else value for name, value in made.items()}):
+        assert server.register_complete(session, response, is_registered=lambda _: False).credential.id == device.id
+        for wrong in ("id", "rawId", "type"):
+            with pytest.raises(BadInput):
+                server.register_complete(session, Read({**response, wrong: "AA"}), is_registered=lambda _: False)
+
+
+def test_members_that_nest_as_deep_as_each_other():
+    """No comparison goes so deep that it ends the call otherwise than by `BadInput`."""
+    server, device = Server(RP_ID, [ORIGIN]), Device()
+    options, session = server.register_begin(USER, "name")
+    made = device.register(options)
+    for depth in (10, 900, 100_000):
+        for of in (list, dict):
+            for names in (("id", "rawId"), ("id", "rawId", "type"), ("type",), ("clientExtensionResults",), ("authenticatorAttachment",)):
+                hostile = {**made, **{name: nested(depth, of) for name in names}}
+                if names == ("clientExtensionResults",) and of is dict:
+                    assert server.register_complete(session, hostile, is_registered=lambda _: False)
+                    continue
+                with pytest.raises(BadInput):
+                    server.register_complete(session, hostile, is_registered=lambda _: False)
 
 
 @pytest.mark.parametrize("text", ["AA==", "AA=", "A", "AB", "AAB", "A A", "AA\n", "+A", "/A", "\uff21A", "AAAAA", "=", "AA-_="])
