@@ -104,6 +104,8 @@ def every_way(one):
     forged = changed(one.made, "attestationObject", lambda value: value.replace(b"credProtect\x02", b"credProtect\x01"))
     unread = changed(one.made, "attestationObject", lambda value: value[:-1])
     parts = one.parts()
+    nameless = {**one.response, "response": {name: value for name, value in one.response["response"].items() if name != "userHandle"}}
+    yield lambda: one.sign_in(nameless)
     yield one.register
     yield one.sign_in
     yield lambda: one.register(forged)

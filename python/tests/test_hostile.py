@@ -184,7 +184,7 @@ def test_limits():
             server.authenticate_begin(user=user)
     for user in (b"1", bytes(64)):
         assert server.register_begin(user, "name")[1].user == user == server.authenticate_begin(user=user)[1].user
-    for ids in ([b"x"] * 65, [b""], [bytes(1024)]):
+    for ids in ([b"x"] * 65, [b""], [bytes(1024)], [b"x", b""], [b"x", bytes(1024)], [b"x", b"y", b""]):
         with pytest.raises(BadInput):
             server.authenticate_begin(allow=ids)
         with pytest.raises(BadInput):

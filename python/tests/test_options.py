@@ -101,6 +101,13 @@ def test_awaited():
             with pytest.raises(Refused) as caught:
                 await one.server.register_complete_async(one.begun, one.made, is_registered=wrong)
             assert caught.value.name == name
+        told = {**one.made, "response": {**one.made["response"], "transports": ["usb", "nfc"]}}
+        said = await one.server.register_complete_async(one.begun, told, is_registered=is_registered)
+        assert said.credential.transports == ("usb", "nfc")
+        with pytest.raises(Refused, match="G16"):
+            await one.server.register_complete_async(one.begun, one.made, is_registered=is_registered, is_full=True)
+        with pytest.raises(Broken):
+            await one.server.register_complete_async(one.begun, one.made, is_registered=fail)
         with pytest.raises(Broken):
             await one.server.authenticate_complete_async(one.session, one.response, credential=fail)
         with pytest.raises(BadInput):

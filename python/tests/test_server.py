@@ -224,6 +224,21 @@ def test_values_are_frozen(server):
             value.user = b"another"
 
 
+def test_any_of_a_list(server):
+    """Each id of a list may answer, wherever it stands, also beside several origins; another one may not."""
+    several = Server("example.com", ["https://example.com", "https://www.example.com", "https://a.example.com"])
+    devices = [Device(credential=b"credential %d" % number) for number in range(20)]
+    table = {device.id: registered(server, device) for device in devices}
+    for party in (server, several):
+        for listed in (devices[:1], devices[:2], devices[:3], devices[:12], devices[:19]):
+            options, session = party.authenticate_begin(user=USER, allow=[device.id for device in listed])
+            assert len(options["allowCredentials"]) == len(session.allow) == len(listed)
+            for device in listed:
+                said = party.authenticate_complete(session, device.sign_in(options), credential=table.get)
+                assert said.credential.id == device.id
+            assert refusal(lambda: party.authenticate_complete(session, devices[19].sign_in(options), credential=table.get)) == "W2"
+
+
 def test_any_of_the_origins():
     origins = ["https://example.com", "https://www.example.com"]
     server = Server("example.com", origins)
