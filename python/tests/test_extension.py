@@ -236,6 +236,35 @@ def test_hostile_objects_are_refused_or_read():
             one.server.authenticate_complete_parts(*parts[:5], None, *parts[6:])
 
 
+def test_words_that_the_package_never_hands_in():
+    """Too few parts, too many, and None where a part has to be there raise, and so does a number that is longer than its member."""
+    tried = [call for call in misused(Ceremony()) if not isinstance(ended(call), int)]
+    assert len(tried) > 20 and all(isinstance(ended(call), (TypeError, OverflowError, SystemError, Broken)) for call in tried)
+    parts = (USER, USER, b"example.com", bytes(32), *[b"x"] * 8)
+    for numbers, error in (((ES256, 0), None), ((ES256, -1), OverflowError), ((ES256, 2**32), OverflowError), ((ES256, 2**64), OverflowError),
+                           ((2**32 + ES256, 0), OverflowError), ((ES256, 1.0), TypeError)):
+        for lent, origins, allow, wrong in ((parts, (b"x",), (), None), (parts[:-1], (b"x",), (), TypeError), ((*parts, b"x"), (b"x",), (), TypeError),
+                                            ((None, None, *parts[2:]), (), (), None), ((*parts[:2], None, *parts[3:]), (), (), TypeError),
+                                            (parts, (None,), (), TypeError), (parts, (b"x",), (None,), TypeError), (parts, (), ("x",), TypeError)):
+            def call():
+                return _passkey.assertion(Credential, SignedIn, server._MEMBERS, lambda *_: True, None, (), None,
+                                          (True, True, False, True, *numbers, False), lent, origins, allow)
+
+            if error or wrong:
+                with pytest.raises((error or wrong, wrong or error)):
+                    call()
+            else:
+                assert isinstance(call(), int)
+    told = (b"id", b"example.com", bytes(32), USER, b"{}", b"x")
+    for lent, origins, wrong in ((told, (b"x",), None), ((None, *told[1:]), (), None), (told[:-1], (), TypeError), ((*told, b"x"), (), TypeError),
+                                 ((told[0], None, *told[2:]), (), TypeError), (told, (None,), TypeError)):
+        if wrong:
+            with pytest.raises(wrong):
+                _passkey.registration(lambda *_: True, (True,) * 9, lent, origins)
+        else:
+            assert isinstance(_passkey.registration(lambda *_: True, (True,) * 9, lent, origins), int)
+
+
 def test_a_buffer_that_changes_is_read_once():
     """A buffer that the host changes while its signature is verified is judged as it was handed in."""
     one = Ceremony()

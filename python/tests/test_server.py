@@ -432,3 +432,18 @@ def test_malformed_responses(server):
             continue
         with pytest.raises(Refused):
             server.authenticate_complete(session, bad, credential=lambda _: credential)
+
+
+def test_kept_keys_are_their_own():
+    """A key that is kept answers for its own numbers alone, whichever was asked for first."""
+    prime = 2**256 - 2**224 + 2**192 + 2**96 - 1
+    for first in (True, False):
+        device = Device()
+        other = (prime - int.from_bytes(device.y, "big")).to_bytes(32, "big")
+        signature = device.sign(b"message")
+        for y in (device.y, other) if first else (other, device.y):
+            assert signatures.is_valid(ES256, device.x, y, b"message", signature) == (y == device.y)
+    small, large = Device(RS256), Device(RS256, exponent=3)
+    signature = small.sign(b"message")
+    for device, y in ((small, small.y), (small, large.y), (small, small.y), (large, large.y)):
+        assert signatures.is_valid(RS256, device.x, y, b"message", signature) == (device is small and y == small.y)

@@ -36,6 +36,7 @@ class FlaskSite:
                 said = client.post(f"/passkeys/{path}", data=json.dumps(body) if raw is None else raw, content_type=content_type)
             return said.status_code, said.get_json() if said.is_json else said.get_data()
 
+        ask.cookie = client.session_transaction
         return ask
 
 
@@ -245,3 +246,15 @@ def test_a_call_of_django_is_of_its_transaction():
     assert len(site.server.rows()) == 1
     with pytest.raises(Refused):
         site.server.register_complete(session, key.register(options))
+
+
+def test_the_cookie_has_no_session_that_was_closed(tmp_path):
+    """After each act it has the account alone."""
+    site, key = FlaskSite(tmp_path), device()
+    visitor = site.visitor()
+    assert registered(visitor, key)[0] == 200 and signed_in(visitor, key)[1][0] == 200
+    with visitor.cookie() as cookie:
+        assert set(cookie) == {"garvoeng_user"}
+    assert visitor("sign-out", {})[0] == 200
+    with visitor.cookie() as cookie:
+        assert set(cookie) == set()
