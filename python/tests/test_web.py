@@ -36,7 +36,11 @@ class FlaskSite:
                 said = client.post(f"/passkeys/{path}", data=json.dumps(body) if raw is None else raw, content_type=content_type)
             return said.status_code, said.get_json() if said.is_json else said.get_data()
 
-        ask.cookie = client.session_transaction
+        def kept():
+            with client.session_transaction() as cookie:
+                return {name for name in cookie if name.startswith("garvoeng")}
+
+        ask.kept = kept
         return ask
 
 
@@ -66,6 +70,7 @@ class DjangoSite:
             is_json = said["Content-Type"] == "application/json"
             return said.status_code, json.loads(said.content) if is_json else said.content
 
+        ask.kept = lambda: {name for name in client.session.keys() if name.startswith("garvoeng")}
         return ask
 
 
@@ -248,13 +253,19 @@ def test_a_call_of_django_is_of_its_transaction():
         site.server.register_complete(session, key.register(options))
 
 
-def test_the_cookie_has_no_session_that_was_closed(tmp_path):
-    """After each act it has the account alone."""
-    site, key = FlaskSite(tmp_path), device()
-    visitor = site.visitor()
-    assert registered(visitor, key)[0] == 200 and signed_in(visitor, key)[1][0] == 200
-    with visitor.cookie() as cookie:
-        assert set(cookie) == {"garvoeng_user"}
-    assert visitor("sign-out", {})[0] == 200
-    with visitor.cookie() as cookie:
-        assert set(cookie) == set()
+def test_what_a_visitor_keeps(site):
+    """A session that was refused is kept, so that it may be answered again, and none that was closed."""
+    visitor, key = site.visitor(), device()
+    account = {"garvoeng_user"} if isinstance(site, FlaskSite) else set()
+    status, options = visitor("register/begin", {"name": "ada"})
+    assert visitor.kept() == {"garvoeng_registration"}
+    assert visitor("register/finish", changed(key.register(options), "clientDataJSON", lambda _: b"{"))[0] == 403
+    assert visitor.kept() == {"garvoeng_registration"}
+    key.user = from_text(options["user"]["id"], "user")
+    assert visitor("register/finish", key.register(options))[0] == 200 and visitor.kept() == account
+    status, options = visitor("sign-in/begin", {})
+    response = key.sign_in(options, user=key.user)
+    assert visitor("sign-in/finish", changed(response, "signature", lambda value: value[:-1] + bytes([value[-1] ^ 1])))[0] == 403
+    assert visitor.kept() == account | {"garvoeng_sign_in"}
+    assert visitor("sign-in/finish", response)[0] == 200 and visitor.kept() == account
+    assert visitor("sign-out", {})[0] == 200 and visitor.kept() == set()
