@@ -113,15 +113,21 @@ def test_each_value_is_read():
 
 
 def test_size_of_a_response():
-    server, device = Server(RP_ID, [ORIGIN]), Device()
-    options, session = server.register_begin(USER, "name")
-    made = device.register(options)
-    rest = len(made["rawId"]) + len(made["response"]["attestationObject"])
-    fits, longer = (65_536 - rest) // 4 * 4, (65_536 - rest) // 4 * 4 + 4
-    for size, error in ((fits, Refused), (longer, BadInput)):
-        made["response"]["clientDataJSON"] = "A" * size
-        with pytest.raises(error):
-            server.register_complete(session, made, is_registered=lambda _: False)
+    """65,536 characters in all, and not one more."""
+    server, tried = Server(RP_ID, [ORIGIN]), 0
+    for length in range(16, 24):
+        device = Device(credential=bytes(length))
+        options, session = server.register_begin(USER, "name")
+        made = device.register(options)
+        fits = 65_536 - len(made["rawId"]) - len(made["response"]["attestationObject"])
+        for size, error in ((fits, Refused), (fits + 1, BadInput), (fits + 2, BadInput)):
+            if size % 4 != 1:
+                tried += 1
+                made["response"]["clientDataJSON"] = "A" * size
+                with pytest.raises(error) as caught:
+                    server.register_complete(session, made, is_registered=lambda _: False)
+                assert error is Refused or str(caught.value) == "the response is too long"
+    assert tried > 16
 
 
 def refused(is_registration, number):
