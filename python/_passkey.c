@@ -128,14 +128,13 @@ static PyObject *assertion(PyObject *Py_UNUSED(module), PyObject *words)
     if (is_eligible < 0 || !lend(&all, lists, 3, OF_ASSERTION, MAY_BE_NONE)) return released(&all, NULL);
     size_t origins = (size_t)PyTuple_Size(lists[1]);
     const passkey_bytes *part = all.items, *listed = part + OF_ASSERTION;
-    PyObject **object = all.objects;
     passkey_assertion_call call = {
         .party = {part[RP_ID], listed, origins, (uint8_t)open_profile},
         .has_session = (uint8_t)has_session,
-        .session = {part[CHALLENGE], (uint8_t)verification, object[ACCOUNT] != Py_None, part[ACCOUNT], listed + origins, all.count - OF_ASSERTION - origins},
+        .session = {part[CHALLENGE], (uint8_t)verification, all.objects[ACCOUNT] != Py_None, part[ACCOUNT], listed + origins, all.count - OF_ASSERTION - origins},
         .has_credential = (uint8_t)has_credential,
         .credential = {part[ID], part[USER], {algorithm, part[X], part[Y]}, (uint32_t)count, eligible != Py_None, (uint8_t)is_eligible, (uint8_t)retired},
-        .response = {part[RAW_ID], object[HANDLE] != Py_None, part[HANDLE], part[AUTH_DATA], part[SIGNATURE], part[CLIENT_DATA]}};
+        .response = {part[RAW_ID], all.objects[HANDLE] != Py_None, part[HANDLE], part[AUTH_DATA], part[SIGNATURE], part[CLIENT_DATA]}};
     uint32_t answer;
     PROVED(answer = passkey_assertion(&call, &out));
     if (answer == PASSKEY_BAD_SIGNATURE) {
@@ -145,8 +144,8 @@ static PyObject *assertion(PyObject *Py_UNUSED(module), PyObject *words)
         if (call.has_verified) PROVED(answer = passkey_assertion(&call, &out));
     }
     if (answer != PASSKEY_ACCEPTED) return released(&all, PyLong_FromUnsignedLong(answer));
-    PyObject *now[] = {kept(object[ID]), kept(object[USER]), PyLong_FromLong(algorithm), kept(object[X]), kept(object[Y]), PyLong_FromUnsignedLong(out.sign_count),
-        PyBool_FromLong(out.eligible), PyBool_FromLong(retired), kept(transports)};
+    PyObject *now[] = {kept(all.objects[ID]), kept(all.objects[USER]), PyLong_FromLong(algorithm), kept(all.objects[X]), kept(all.objects[Y]),
+        PyLong_FromUnsignedLong(out.sign_count), PyBool_FromLong(out.eligible), PyBool_FromLong(retired), kept(transports)};
     PyObject *said[] = {made(credential_type, names, 0, now, OF_CREDENTIAL), kept(before), PyBool_FromLong(out.backed_up),
         PyBool_FromLong(out.user_verified), PyLong_FromLong(out.flags), last(part[AUTH_DATA], out.extensions_size)};
     return released(&all, made(type, names, OF_CREDENTIAL, said, OF_SIGN_IN));
@@ -222,6 +221,7 @@ static PyObject *parts(PyObject *module, PyObject *words)
     PyObject *from, *inner, *names, *least;
     Py_ssize_t left = MOST_CHARACTERS;
     if (!PyArg_UnpackTuple(words, "parts", 4, 4, &from, &inner, &names, &least)) return NULL;
+    if (!PyDict_CheckExact(from) || !PyDict_CheckExact(inner)) return PyErr_Format(PyExc_TypeError, "a response and its parts are dicts");
     Py_ssize_t count = PyTuple_Size(names), required = PyLong_AsSsize_t(least);
     PyObject *all = PyErr_Occurred() ? NULL : PyTuple_New(count);
     for (Py_ssize_t at = 0; all != NULL && at < count; at++, from = inner) {

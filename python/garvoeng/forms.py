@@ -56,18 +56,16 @@ def _plain(response: Mapping[str, Any]) -> Dict[str, Any]:
 def _read(response: Mapping[str, Any], names: Tuple[str, ...], required: int) -> Any:
     """These members as bytes."""
     try:
-        raw_id, inner = response["rawId"], response["response"]
-        # Of a browser's response this is true, and the slower look at it is not taken.
-        is_plain = (type(raw_id) is str and response["id"] == raw_id and response["type"] == "public-key" and type(inner) is dict and
-                    type(response) is dict and type(response["clientExtensionResults"]) is dict and
-                    response.get("authenticatorAttachment") is None)
-    except (KeyError, TypeError):
-        is_plain = False
-    if not is_plain:
-        response = _plain(response)
-        inner = response["response"]
-    try:
-        return _parts(response, inner, names, required)
+        try:
+            # What browsers send is seen at once, without the slower look at each member.
+            raw_id = response["rawId"]
+            if (type(raw_id) is str and response["id"] == raw_id and response["type"] == "public-key" and
+                    type(response["clientExtensionResults"]) is dict and response.get("authenticatorAttachment") is None):
+                return _parts(response, response["response"], names, required)
+        except (KeyError, TypeError):
+            pass
+        plain = _plain(response)
+        return _parts(plain, plain["response"], names, required)
     except ValueError as error:
         raise BadInput(str(error)) from None
 
