@@ -112,6 +112,30 @@ def test_each_value_is_read():
         assert from_text(to_text(bytes([9, bits])), "it") == bytes([9, bits])
 
 
+def test_each_spelling_but_one():
+    """Of the texts of two, three and four letters those are taken that `to_text` writes, and no other; nor is one with another letter
+    anywhere."""
+    letters = "ABCDEFGHIJKLMNOPQRSTUVWXYZabcdefghijklmnopqrstuvwxyz0123456789-_"
+    for front, count in (("", 256), ("k", 1024), ("Az", 4096)):
+        taken = []
+        for first in letters:
+            for second in letters:
+                text = front + first + second
+                try:
+                    value = from_text(text, "it")
+                except BadInput:
+                    continue
+                assert to_text(value) == text
+                taken.append(value)
+        assert len(set(taken)) == len(taken) == count
+    others = [chr(number) for number in range(300) if chr(number) not in letters] + ["\ud800", "\uff21", "\U0001f511"]
+    for size in (2, 3, 4, 6, 7, 8):
+        for at in range(size):
+            for other in others:
+                with pytest.raises(BadInput, match="it is not base64url"):
+                    from_text("A" * at + other + "A" * (size - at - 1), "it")
+
+
 def test_size_of_a_response():
     """65,536 characters in all, and not one more."""
     server, tried = Server(RP_ID, [ORIGIN]), 0

@@ -1,6 +1,7 @@
 """Registrations and sign-ins by `Server`: accepted, and refused at each step."""
 import random
 from dataclasses import FrozenInstanceError, replace
+from hashlib import sha256
 
 import pytest
 from device import AT, BE, BS, ED, UP, UV, Device, changed
@@ -135,6 +136,24 @@ def test_what_a_sign_in_says(server):
                                             credential={device.id: stored}.get)
         now = replace(credential, sign_count=device.count, eligible=bool(flags & BE))
         assert said == SignedIn(now, stored, bool(flags & BS), bool(flags & UV), flags, outputs)
+
+
+@pytest.mark.parametrize("count", [2**31 - 1, 2**31, 2**32 - 2, 2**32 - 1])
+def test_counters_of_32_bits(server, count):
+    device = Device()
+    options, session = server.register_begin(USER, "name")
+    front = sha256(b"example.com").digest() + bytes([UP | UV | AT])
+    made = changed(device.register(options), "attestationObject",
+                   lambda value: value.replace(front + bytes(4), front + (count - 1).to_bytes(4, "big")))
+    credential = server.register_complete(session, made, is_registered=free).credential
+    assert credential.sign_count == count - 1
+    device.count = count - 1
+    options, session = server.authenticate_begin(user=USER)
+    response = device.sign_in(options)
+    assert server.authenticate_complete(session, response, credential={device.id: credential}.get).credential.sign_count == count
+    for stored, name in ((count, "W15"), (count - 1, None), (min(count + 1, 2**32 - 1), "W15")):
+        find = {device.id: replace(credential, sign_count=stored)}.get
+        assert (refusal(lambda: server.authenticate_complete(session, response, credential=find)) if name else None) == name
 
 
 def test_any_true_value_asks_for_verification(server):
