@@ -6,12 +6,14 @@ import base64
 import re
 from typing import Any, Dict, Mapping, Optional, Sequence, Tuple
 
-from ._passkey import from_text as from_text
 from ._passkey import parts as _parts
 from .errors import BadInput
 
 MAX_TRANSPORTS = 16
 """The most transports of a credential."""
+
+RegistrationParts = Tuple[bytes, bytes, bytes]
+SignInParts = Tuple[bytes, bytes, bytes, bytes, Optional[bytes]]
 
 _REGISTRATION = ("rawId", "clientDataJSON", "attestationObject")
 _SIGN_IN = ("rawId", "clientDataJSON", "authenticatorData", "signature", "userHandle")
@@ -23,26 +25,63 @@ def to_text(value: bytes) -> str:
     return base64.urlsafe_b64encode(value).rstrip(b"=").decode()
 
 
+def from_text(text: Any, what: str) -> bytes:
+    """The bytes of base64url without padding, in its one spelling: 65,536 characters at most. Raises `BadInput`, which names `what`."""
+    try:
+        made: bytes = _parts({what: text}, {}, (what,), 1)[0]
+    except ValueError as error:
+        raise BadInput(str(error)) from None
+    return made
+
+
 def _plain(response: Mapping[str, Any]) -> Dict[str, Any]:
-    """A response whose objects are dicts."""
+    """A response whose objects are dicts, after what the standard fixes of it beside its parts."""
     if not isinstance(response, Mapping) or not isinstance(response.get("response"), Mapping):
         raise BadInput("response is missing")
-    return {name: dict(value) if isinstance(value, Mapping) else value for name, value in response.items()}
+    for name in ("id", "rawId", "type"):
+        value = response.get(name)
+        if not isinstance(value, str):
+            raise BadInput(f"{name} is missing" if value is None else f"{name} is not a text")
+    if response["id"] != response["rawId"]:
+        raise BadInput("id is not rawId")
+    if response["type"] != "public-key":
+        raise BadInput("type is not public-key")
+    if not isinstance(response.get("clientExtensionResults", {}), Mapping):
+        raise BadInput("clientExtensionResults is not an object")
+    if not isinstance(response.get("authenticatorAttachment"), (str, type(None))):
+        raise BadInput("authenticatorAttachment is not a text")
+    return {**response, "response": dict(response["response"])}
 
 
-def registration_parts(response: Mapping[str, Any]) -> Tuple[bytes, bytes, bytes]:
+def _read(response: Mapping[str, Any], names: Tuple[str, ...], required: int) -> Any:
+    """These members as bytes."""
+    try:
+        try:
+            # What browsers send is seen at once, without the slower look at each member.
+            raw_id = response["rawId"]
+            if (type(raw_id) is str and response["id"] == raw_id and response["type"] == "public-key" and
+                    type(response["clientExtensionResults"]) is dict and response.get("authenticatorAttachment") is None):
+                return _parts(response, response["response"], names, required)
+        except (KeyError, TypeError):
+            pass
+        plain = _plain(response)
+        return _parts(plain, plain["response"], names, required)
+    except ValueError as error:
+        raise BadInput(str(error)) from None
+
+
+def registration_parts(response: Mapping[str, Any]) -> RegistrationParts:
     """`rawId`, `clientDataJSON` and `attestationObject` of a RegistrationResponseJSON. Members of other names are passed over. Raises
     `BadInput`."""
-    parts: Tuple[bytes, bytes, bytes] = _parts(response if type(response) is dict else _plain(response), _REGISTRATION, 3)
-    return parts
+    made: RegistrationParts = _read(response, _REGISTRATION, 3)
+    return made
 
 
-def sign_in_parts(response: Mapping[str, Any]) -> Tuple[bytes, bytes, bytes, bytes, Optional[bytes]]:
+def sign_in_parts(response: Mapping[str, Any]) -> SignInParts:
     """`rawId`, `clientDataJSON`, `authenticatorData`, `signature` and `userHandle` of an AuthenticationResponseJSON. A user handle that
     is null counts as absent. Raises as `registration_parts`."""
-    parts: Tuple[bytes, bytes, bytes, bytes, Optional[bytes]] = _parts(
-        response if type(response) is dict else _plain(response), _SIGN_IN, 4)
-    return parts
+    made: SignInParts = _read(response, _SIGN_IN, 4)
+    return made
 
 
 def transports_in(value: Any) -> Tuple[str, ...]:

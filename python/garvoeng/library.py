@@ -39,4 +39,4 @@ def key_from_cose(value: bytes) -> Optional[Tuple[int, bytes, bytes]]:
 
 def key_to_cose(algorithm: int, x: bytes, y: bytes) -> bytes:
     """COSE_Key bytes; none where the key is out of its limits, or there was no memory."""
-    return _passkey.key_to_cose(algorithm, x, y)
+    return _passkey.key_to_cose(algorithm, (x, y))

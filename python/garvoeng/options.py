@@ -51,43 +51,47 @@ def _more(timeout: Optional[int], hints: Sequence[str], extensions: Optional[Map
     return made
 
 
-def _descriptors(ids: Ids) -> "list[Dict[str, Any]]":
-    return [forms.descriptor(one.id, one.transports) if isinstance(one, Credential) else forms.descriptor(one) for one in ids]
-
-
-def ids_of(ids: Ids) -> "tuple[bytes, ...]":
-    """The ids of a list, 64 at most."""
-    return limits.check_ids(one.id if isinstance(one, Credential) else one for one in ids)
-
-
-def creation_options(rp: Dict[str, str], session: RegistrationSession, user_name: str, display_name: Optional[str], exclude: Ids,
-                     user_verification: str, resident: Requirement, attachment: Optional[str], timeout: Optional[int],
-                     hints: Sequence[str], extensions: Optional[Mapping[str, Any]]) -> Dict[str, Any]:
-    """The options of a registration (WebAuthn Level 2, section 5.4)."""
+def of_creation(user_verification: str, resident: Requirement, attachment: Optional[str], timeout: Optional[int], hints: Sequence[str],
+                extensions: Optional[Mapping[str, Any]]) -> Dict[str, Any]:
+    """The members of creation options that no verdict looks at but by `user_verification` of the session (WebAuthn Level 2, section
+    5.4). Raises `BadInput`."""
     resident_key = _resident_of(resident)
     selection: Dict[str, Any] = {"residentKey": resident_key, "requireResidentKey": resident_key == "required",
                                  "userVerification": user_verification}
     if attachment is not None:
         selection["authenticatorAttachment"] = _one_of(attachment, "attachment", ATTACHMENTS)
+    return {"authenticatorSelection": selection, **_more(timeout, hints, extensions)}
+
+
+def of_request(user_verification: str, timeout: Optional[int], hints: Sequence[str],
+               extensions: Optional[Mapping[str, Any]]) -> Dict[str, Any]:
+    """The same of request options (WebAuthn Level 2, section 5.5)."""
+    return {"userVerification": user_verification, **_more(timeout, hints, extensions)}
+
+
+def ids_of(ids: Ids, most: int = limits.MAX_LIST) -> "tuple[bytes, ...]":
+    """The ids of a list, so many at most."""
+    return limits.check_ids((one.id if isinstance(one, Credential) else one for one in ids), most)
+
+
+def _descriptors(ids: Ids) -> "list[Dict[str, Any]]":
+    return [forms.descriptor(one.id, one.transports) if isinstance(one, Credential) else forms.descriptor(one) for one in ids]
+
+
+def creation_options(rp: Dict[str, str], session: RegistrationSession, user_name: str, display_name: Optional[str], exclude: Ids,
+                     more: Dict[str, Any]) -> Dict[str, Any]:
+    """The options of a registration, with the members of `of_creation`."""
     return {
         "rp": rp,
         "user": {"id": forms.to_text(session.user), "name": user_name, "displayName": display_name or user_name},
         "challenge": forms.to_text(session.challenge),
         "pubKeyCredParams": [{"type": "public-key", "alg": number} for number in session.algorithms],
         "excludeCredentials": _descriptors(exclude),
-        "authenticatorSelection": selection,
         "attestation": "none",
-        **_more(timeout, hints, extensions),
+        **more,
     }
 
 
-def request_options(rp_id: str, session: SignInSession, allow: Ids, user_verification: str, timeout: Optional[int],
-                    hints: Sequence[str], extensions: Optional[Mapping[str, Any]]) -> Dict[str, Any]:
-    """The options of a sign-in (WebAuthn Level 2, section 5.5)."""
-    return {
-        "challenge": forms.to_text(session.challenge),
-        "rpId": rp_id,
-        "allowCredentials": _descriptors(allow),
-        "userVerification": user_verification,
-        **_more(timeout, hints, extensions),
-    }
+def request_options(rp_id: str, session: SignInSession, allow: Ids, more: Dict[str, Any]) -> Dict[str, Any]:
+    """The options of a sign-in, with the members of `of_request`."""
+    return {"challenge": forms.to_text(session.challenge), "rpId": rp_id, "allowCredentials": _descriptors(allow), **more}

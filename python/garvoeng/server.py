@@ -2,6 +2,7 @@
 from __future__ import annotations
 
 import secrets
+from dataclasses import fields
 from typing import Any, Awaitable, Callable, Dict, Mapping, Optional, Sequence, Tuple
 
 from . import _passkey, forms, library, limits, options
@@ -11,7 +12,7 @@ from .options import Ids, Requirement
 from .records import Credential, Registered, RegistrationSession, SignedIn, SignInSession
 
 Verify = Callable[[int, bytes, bytes, bytes, bytes], bool]
-_ALGORITHMS = (ES256, EDDSA, RS256)
+_MEMBERS = tuple(field.name for kind in (Credential, SignedIn) for field in fields(kind))
 _NO_REGISTRATION = RegistrationSession(b"", b"")
 _NO_SESSION = SignInSession(b"")
 _NO_CREDENTIAL = Credential(b"", b"", ES256, b"", b"", 0, None)
@@ -75,10 +76,10 @@ class Server:
         """
         listed, verification = list(exclude), options.user_verification_of(user_verification)
         options.ids_of(listed)
+        more = options.of_creation(verification, resident, attachment, timeout, hints, extensions)
         session = RegistrationSession(secrets.token_bytes(32), limits.check_user(user), verification == "required",
                                       limits.check_algorithms(algorithms))
-        return options.creation_options({"id": self.rp_id, "name": self.rp_name}, session, user_name, display_name, listed,
-                                        verification, resident, attachment, timeout, hints, extensions), session
+        return options.creation_options({"id": self.rp_id, "name": self.rp_name}, session, user_name, display_name, listed, more), session
 
     def register_complete(self, session: Optional[RegistrationSession], response: Mapping[str, Any], *,
                           is_registered: Callable[[bytes], bool], is_full: bool = False) -> Registered:
@@ -108,10 +109,10 @@ class Server:
         registered."""
         begun = _NO_REGISTRATION if session is None else session
         said = _passkey.registration(
-            self.verify, self._origins_bytes,
+            self.verify,
             (self._open_profile, self.accept_none, self.accept_self, session is not None, begun.user_verification,
              ES256 in begun.algorithms, EDDSA in begun.algorithms, RS256 in begun.algorithms, is_full),
-            (self._rp_id_bytes, begun.challenge, begun.user), (free_id, attestation_object, client_data))
+            (free_id, self._rp_id_bytes, begun.challenge, begun.user, client_data, attestation_object), self._origins_bytes)
         if isinstance(said, int):
             raise _raised(True, said)
         assert session is not None
@@ -132,7 +133,8 @@ class Server:
         listed, verification = list(allow), options.user_verification_of(user_verification)
         session = SignInSession(secrets.token_bytes(32), None if user is None else limits.check_user(user),
                                 options.ids_of(listed), verification == "required")
-        return options.request_options(self.rp_id, session, listed, verification, timeout, hints, extensions), session
+        return options.request_options(self.rp_id, session, listed,
+                                       options.of_request(verification, timeout, hints, extensions)), session
 
     def authenticate_complete(self, session: Optional[SignInSession], response: Mapping[str, Any], *,
                               credential: Callable[[bytes], Optional[Credential]]) -> SignedIn:
@@ -141,30 +143,36 @@ class Server:
         `session` is None where none is open. `credential(id)` answers the site's credential of the id, or None. Raises
         `Refused` with the first step that is not passed, `BadInput` where the response is not in the form of JSON.
         """
-        raw_id, client_data, auth_data, signature, user = forms.sign_in_parts(response)
-        return self.authenticate_complete_parts(session, credential(raw_id), raw_id, user, auth_data, signature, client_data)
+        parts = forms.sign_in_parts(response)
+        return self._signed_in(session, credential(parts[0]), parts)
 
     async def authenticate_complete_async(self, session: Optional[SignInSession], response: Mapping[str, Any], *,
                                           credential: Callable[[bytes], Awaitable[Optional[Credential]]]) -> SignedIn:
         """The same, where the look-up is awaited."""
-        raw_id, client_data, auth_data, signature, user = forms.sign_in_parts(response)
-        found = await credential(raw_id)
-        return self.authenticate_complete_parts(session, found, raw_id, user, auth_data, signature, client_data)
+        parts = forms.sign_in_parts(response)
+        return self._signed_in(session, await credential(parts[0]), parts)
 
     def authenticate_complete_parts(self, session: Optional[SignInSession], credential: Optional[Credential],
                                     raw_id: bytes, user: Optional[bytes], auth_data: bytes, signature: bytes,
                                     client_data: bytes) -> SignedIn:
         """The same of the response's parts and the credential that was found."""
+        return self._signed_in(session, credential, (raw_id, client_data, auth_data, signature, user))
+
+    def _signed_in(self, session: Optional[SignInSession], credential: Optional[Credential], parts: forms.SignInParts) -> SignedIn:
+        raw_id, client_data, auth_data, signature, user = parts
         begun = _NO_SESSION if session is None else session
         stored = _NO_CREDENTIAL if credential is None else credential
-        if stored.algorithm not in _ALGORITHMS or not 0 <= stored.sign_count <= limits.MAX_COUNT:
+        allow = begun.allow
+        try:
+            said = _passkey.assertion(
+                Credential, SignedIn, _MEMBERS, self.verify, credential, stored.transports, stored.eligible,
+                (self._open_profile, session is not None, begun.user_verification, credential is not None, stored.algorithm,
+                 stored.sign_count, stored.retired),
+                (begun.user, user, self._rp_id_bytes, begun.challenge, stored.id, stored.user, stored.x, stored.y, raw_id, client_data,
+                 auth_data, signature), self._origins_bytes, allow if type(allow) is tuple else tuple(allow))
+        except OverflowError:
             limits.check_credential(stored.algorithm, stored.sign_count)
-        said = _passkey.assertion(
-            Credential, SignedIn, self.verify, credential, stored.transports, stored.eligible, self._origins_bytes, begun.allow,
-            (self._open_profile, session is not None, begun.user_verification, credential is not None, stored.algorithm,
-             stored.sign_count, stored.retired),
-            (self._rp_id_bytes, begun.challenge, begun.user, stored.id, stored.user, stored.x, stored.y, raw_id, user, auth_data,
-             client_data, signature))
-        if isinstance(said, SignedIn):
-            return said
-        raise _raised(False, said)
+            raise
+        if isinstance(said, int):
+            raise _raised(False, said)
+        return said

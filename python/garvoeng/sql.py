@@ -2,6 +2,7 @@
 `psycopg2`. Each call is one transaction by the rules of docs/OPERATING.md, so that any number of processes may share a database."""
 from __future__ import annotations
 
+import asyncio
 import json
 import re
 import secrets
@@ -204,6 +205,12 @@ class SqlServer:
             options, session = self.server.register_begin(user, user_name, display_name, exclude=exclude[:limits.MAX_LIST], **how)
             return options, rows.begin(session, self.lifetime)
 
+    async def register_begin_async(self, user: bytes, user_name: str, display_name: Optional[str] = None,
+                                   **how: Any) -> Tuple[Dict[str, Any], str]:
+        """The same, awaited: a thread of the loop makes the call, with a connection of its own. Where the wait is cancelled, the
+        transaction is made or is not."""
+        return await asyncio.to_thread(self.register_begin, user, user_name, display_name, **how)
+
     def register_complete(self, session: Optional[str], response: Mapping[str, Any]) -> Registered:
         """What a RegistrationResponseJSON registers; it is stored, and the session closed."""
         with self.transaction() as rows:
@@ -211,6 +218,10 @@ class SqlServer:
                                                  is_registered=lambda id: rows.credential(id) is not None)
             rows.add(made.credential, made.backed_up, made.aaguid)
         return made
+
+    async def register_complete_async(self, session: Optional[str], response: Mapping[str, Any]) -> Registered:
+        """The same, awaited as `register_begin_async`."""
+        return await asyncio.to_thread(self.register_complete, session, response)
 
     # ---- sign-in
 
@@ -223,12 +234,20 @@ class SqlServer:
             options, session = self.server.authenticate_begin(user=user, allow=allow if len(allow) <= limits.MAX_LIST else (), **how)
             return options, rows.begin(session, self.lifetime)
 
+    async def authenticate_begin_async(self, *, user: Optional[bytes] = None, **how: Any) -> Tuple[Dict[str, Any], str]:
+        """The same, awaited as `register_begin_async`."""
+        return await asyncio.to_thread(self.authenticate_begin, user=user, **how)
+
     def authenticate_complete(self, session: Optional[str], response: Mapping[str, Any]) -> SignedIn:
         """Who signed in, of an AuthenticationResponseJSON; the counter is stored, and the session closed."""
         with self.transaction() as rows:
             signed_in = self.server.authenticate_complete(rows.take(session, SignInSession), response, credential=rows.credential)
             rows.count(signed_in)
         return signed_in
+
+    async def authenticate_complete_async(self, session: Optional[str], response: Mapping[str, Any]) -> SignedIn:
+        """The same, awaited as `register_begin_async`."""
+        return await asyncio.to_thread(self.authenticate_complete, session, response)
 
     # ---- sessions and credentials
 

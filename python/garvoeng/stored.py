@@ -2,6 +2,7 @@
 runs beside this process, and answers lines of JSON."""
 from __future__ import annotations
 
+import asyncio
 import itertools
 import json
 import logging
@@ -10,12 +11,13 @@ import threading
 from collections import deque
 from dataclasses import dataclass
 from subprocess import PIPE
-from typing import Any, Deque, Dict, Iterable, List, Mapping, Optional, Sequence, Tuple, Union
+from typing import Any, Deque, Dict, List, Mapping, Optional, Sequence, Tuple, Union
 
-from . import forms, limits
+from . import forms, limits, options
 from .broker import MAX_LINE, Connection
 from .errors import BadInput, Refused
 from .library import EDDSA, ES256, RS256
+from .options import Ids, Requirement
 from .records import Credential, Registered
 from .server import Verify, verify_by_cryptography
 
@@ -59,8 +61,8 @@ def _credential(row: Mapping[str, Any]) -> Credential:
                       row["sign_count"], row["eligible"], row["retired"])
 
 
-def _listed(ids: Iterable[bytes]) -> List[str]:
-    return [forms.to_text(one) for one in limits.check_ids(ids, limits.MAX_STORED_LIST)]
+def _listed(ids: Ids) -> List[str]:
+    return [forms.to_text(one) for one in options.ids_of(ids, limits.MAX_STORED_LIST)]
 
 
 def _handed_on(raw_id: bytes, **parts: Optional[bytes]) -> Dict[str, Any]:
@@ -199,10 +201,11 @@ class StoredServer:
     `existing`. Calls come from any thread. Where the program has ended, the next call starts it again; one that does not
     answer in `timeout` seconds is ended. Open sessions are in the program's memory: one ends by itself `expire` seconds after
     it began, where `max_open` are open the oldest ends, and with the program all end. `max_credentials` is the most
-    credentials; both are from 1 to 1,000,000. With `log` each refusal is told, and with `log="all"` each acceptance and each error too; all that the program tells goes to the logger `garvoeng`
-    of `logging`. With `shared` all processes of this user that name the same file and the same parameters share one program, by a Unix
-    socket that nobody else can open; it ends with the last of them. `verify(algorithm, x, y, message, signature)`
-    tells whether a signature is valid; by default `cryptography` does.
+    credentials; both are from 1 to 1,000,000. With `log` each refusal is told, and with `log="all"` each acceptance and each
+    error too; all that the program tells goes to the logger `garvoeng` of `logging`. With `shared`, which is for Linux, all
+    processes of this user that name the same file and the same parameters share one program, by a Unix socket that nobody else
+    can open; it ends two seconds after the last of them. `verify(algorithm, x, y, message, signature)` tells whether a signature
+    is valid; by default `cryptography` does.
     """
 
     def __init__(self, program: str, file: str, rp_id: str, origins: Sequence[str], rp_name: Optional[str] = None, *,
@@ -285,17 +288,27 @@ class StoredServer:
 
     # ---- registration
 
-    def register_begin(self, user: bytes, user_name: str, display_name: Optional[str] = None, *,
-                       exclude: Iterable[bytes] = (), user_verification: bool = False, resident: bool = True,
-                       algorithms: Sequence[int] = (ES256, EDDSA, RS256)) -> Tuple[Dict[str, Any], int]:
+    def register_begin(self, user: bytes, user_name: str, display_name: Optional[str] = None, *, exclude: Ids = (),
+                       user_verification: Requirement = False, resident: Requirement = True,
+                       algorithms: Sequence[int] = (ES256, EDDSA, RS256), attachment: Optional[str] = None,
+                       timeout: Optional[int] = None, hints: Sequence[str] = (),
+                       extensions: Optional[Mapping[str, Any]] = None) -> Tuple[Dict[str, Any], int]:
         """PublicKeyCredentialCreationOptionsJSON for the page, and the session's number, which only this visitor may have.
 
-        `user` is the user handle, 1 to 64 bytes that name nobody; `exclude` are the ids of the account's credentials.
+        The parameters are as in `Server.register_begin`; `exclude` has 8 at most.
         """
+        verification = options.user_verification_of(user_verification)
+        more = options.of_creation(verification, resident, attachment, timeout, hints, extensions)
         answer = self._ask("begin_registration", user=forms.to_text(limits.check_user(user)), user_name=user_name,
-                           display_name=display_name, exclude=_listed(exclude), user_verification=user_verification,
-                           resident=resident, algorithms=list(limits.check_algorithms(algorithms)))
-        return answer["options"], answer["session"]
+                           display_name=display_name, exclude=_listed(exclude), user_verification=verification == "required",
+                           algorithms=list(limits.check_algorithms(algorithms)))
+        return {**answer["options"], **more}, answer["session"]
+
+    async def register_begin_async(self, user: bytes, user_name: str, display_name: Optional[str] = None,
+                                   **how: Any) -> Tuple[Dict[str, Any], int]:
+        """The same, awaited: a thread of the loop waits for the program's answer. Where the wait is cancelled, what was asked is done or
+        is not."""
+        return await asyncio.to_thread(self.register_begin, user, user_name, display_name, **how)
 
     def register_complete(self, session: Optional[int], response: Mapping[str, Any]) -> Registered:
         """What a RegistrationResponseJSON registers: the credential, which is in the file, and what is known of it. Raises
@@ -306,18 +319,28 @@ class StoredServer:
         return Registered(_credential(made), forms.from_text(made["aaguid"], "aaguid"), made["format"],
                           made["user_verified"], made["backed_up"], made["flags"], _extensions(made))
 
+    async def register_complete_async(self, session: Optional[int], response: Mapping[str, Any]) -> Registered:
+        """The same, awaited as `register_begin_async`."""
+        return await asyncio.to_thread(self.register_complete, session, response)
+
     # ---- sign-in
 
-    def authenticate_begin(self, *, user: Optional[bytes] = None, allow: Iterable[bytes] = (),
-                           user_verification: bool = False) -> Tuple[Dict[str, Any], int]:
+    def authenticate_begin(self, *, user: Optional[bytes] = None, allow: Ids = (), user_verification: Requirement = False,
+                           timeout: Optional[int] = None, hints: Sequence[str] = (),
+                           extensions: Optional[Mapping[str, Any]] = None) -> Tuple[Dict[str, Any], int]:
         """PublicKeyCredentialRequestOptionsJSON for the page, and the session's number, which only this visitor may have.
 
-        `user` is the user handle of the account, where it is known; `allow` the ids of at most 8 credentials that may
-        answer, none for any.
+        The parameters are as in `Server.authenticate_begin`; `allow` has 8 at most.
         """
+        verification = options.user_verification_of(user_verification)
+        more = options.of_request(verification, timeout, hints, extensions)
         answer = self._ask("begin_sign_in", user=None if user is None else forms.to_text(limits.check_user(user)),
-                           allow=_listed(allow), user_verification=user_verification)
-        return answer["options"], answer["session"]
+                           allow=_listed(allow), user_verification=verification == "required")
+        return {**answer["options"], **more}, answer["session"]
+
+    async def authenticate_begin_async(self, **how: Any) -> Tuple[Dict[str, Any], int]:
+        """The same, awaited as `register_begin_async`."""
+        return await asyncio.to_thread(self.authenticate_begin, **how)
 
     def authenticate_complete(self, session: Optional[int], response: Mapping[str, Any]) -> StoredSignIn:
         """Who signed in, of an AuthenticationResponseJSON; the counter is in the file, and the session closed. Raises as
@@ -327,6 +350,10 @@ class StoredServer:
             raw_id, userHandle=user, authenticatorData=data, signature=signature, clientDataJSON=client_data))
         return StoredSignIn(forms.from_text(who["credential"], "credential"), forms.from_text(who["user"], "user"),
                             who["backed_up"], who["user_verified"], who["sign_count"], who["flags"], _extensions(who))
+
+    async def authenticate_complete_async(self, session: Optional[int], response: Mapping[str, Any]) -> StoredSignIn:
+        """The same, awaited as `register_begin_async`."""
+        return await asyncio.to_thread(self.authenticate_complete, session, response)
 
     # ---- sessions and credentials
 

@@ -1,4 +1,5 @@
 """`StoredServer` with `shared`, over the program of PROGRAM: several processes with one program, and what ends in the midst of it."""
+import json
 import multiprocessing
 import os
 import random
@@ -56,6 +57,15 @@ def until(call, seconds=15):
             return True
         time.sleep(0.05)
     return False
+
+
+def answers(site):
+    """Whether it does. A call that came while the broker was ending fails."""
+    try:
+        site.rows()
+    except StoreFailed:
+        return False
+    return True
 
 
 def worker(folder, number, ends_at):
@@ -123,6 +133,114 @@ def test_workers_that_are_killed(folder):
         rows = {row.id: row.sign_count for row in site.rows()}
     for number, count in accepted.items():
         assert rows[b"key of %d" % number] >= count
+
+
+def serving(folder, number, begun, ends):
+    """A worker that signs in until it is told to end, and tells how often; no call fails."""
+    site, device, count = server(folder), Device(EDDSA, credential=b"key of %d" % number), 0
+    registered(site, device)
+    begun.set()
+    while not ends.is_set():
+        count += 1
+        assert signed_in(site, device) == count
+    site.close()
+    (folder / f"told-{number}").write_text(str(count))
+
+
+def test_a_rolling_restart(folder):
+    """Each of four workers is replaced by a new one that was started before: no call fails, and one program has served all."""
+    context, workers, programs = multiprocessing.get_context("fork"), [], set()
+
+    def started(number):
+        begun, ends = context.Event(), context.Event()
+        process = context.Process(target=serving, args=(folder, number, begun, ends))
+        process.start()
+        assert begun.wait(60)
+        programs.update(running(folder / "site.db", "program"))
+        return process, ends
+
+    workers = [started(number) for number in range(4)]
+    for number in range(4, 8):
+        workers.append(started(number))
+        process, ends = workers.pop(0)
+        ends.set()
+        process.join(60)
+        assert process.exitcode == 0
+    for process, ends in workers:
+        ends.set()
+    for process, _ in workers:
+        process.join(60)
+        assert process.exitcode == 0
+    assert len(programs) == 1
+    with server(folder) as site:
+        rows = {row.id: row.sign_count for row in site.rows()}
+    assert rows == {b"key of %d" % number: int((folder / f"told-{number}").read_text()) for number in range(8)}
+
+
+def one_call(folder, number, together):
+    together.wait(60)
+    site = server(folder)
+    registered(site, Device(EDDSA, credential=b"key of %d" % number))
+    together.wait(60)
+    assert len(running(folder / "site.db", "program")) == len(running(folder / "site.db", "broker")) == 1
+    together.wait(60)
+    site.close()
+
+
+def test_brokers_that_race(folder):
+    """Where several processes begin at once, with a socket that nobody listens on, one broker is started, and no call fails."""
+    context = multiprocessing.get_context("fork")
+    path = broker.path_of(server(folder)._words)
+    for turn in range(3):
+        with socket.socket(socket.AF_UNIX) as left:
+            path.unlink(missing_ok=True)
+            left.bind(str(path))
+        together = context.Barrier(6)
+        starting = [context.Process(target=one_call, args=(folder, 10 * turn + number, together)) for number in range(6)]
+        for process in starting:
+            process.start()
+        for process in starting:
+            process.join(90)
+        assert [process.exitcode for process in starting] == [0] * 6
+        assert until(lambda: not running(folder / "site.db", "broker") and not running(folder / "site.db", "program"))
+    with server(folder) as site:
+        assert len(site.rows()) == 18
+
+
+def test_what_a_kill_leaves(folder):
+    """Broker and program are killed: their socket stays, and the next process starts them again."""
+    site, device = server(folder), Device(EDDSA)
+    registered(site, device)
+    path = broker.path_of(site._words)
+    for pid in (*running(folder / "site.db", "broker"), *running(folder / "site.db", "program")):
+        os.kill(pid, signal.SIGKILL)
+    assert until(lambda: not running(folder / "site.db", "broker") and not running(folder / "site.db", "program")) and path.is_socket()
+    with server(folder) as other:
+        assert signed_in(other, device) == 1 and len(running(folder / "site.db", "broker")) == 1
+    assert until(lambda: answers(site)) and site.rows()[0].sign_count == 1
+    site.close()
+
+
+def test_deep_lines_shift_no_answer(folder):
+    """Beside one that sends lines which nest so deep that an answer's id may be null, each has its own answers, in order."""
+    device = Device(EDDSA)
+    with server(folder) as one, server(folder) as other:
+        registered(one, device)
+        path = str(broker.path_of(one._words))
+        with socket.socket(socket.AF_UNIX) as hostile:
+            hostile.settimeout(30)
+            hostile.connect(path)
+            answers = hostile.makefile("rb")
+            for depth in (1, 100, 126, 127, 700, 5_000, 20_000):
+                for opened, closed in ((b"[", b"]"), (b'{"a":', b"}")):
+                    if depth * len(opened + closed) > 60_000:
+                        continue
+                    deep = opened * depth + b"1" + closed * depth
+                    hostile.sendall(b'{"act":"rows","x":%b,"id":7}\n{"id":8,"act":"rows","x":%b}\n{"id":9,"act":"status"}\n' % (deep, deep))
+                    assert signed_in(one, device) and other.status()["credentials"] == 1 and [row.id for row in one.rows()] == [device.id]
+                    said = [json.loads(answers.readline()) for _ in range(3)]
+                    assert said[0].get("id") in (7, None) and said[1].get("id") in (8, None) and "status" in said[2] and said[2]["id"] == 9
+        assert signed_in(other, device)
 
 
 def test_it_ends_with_the_last_and_starts_again(folder):
@@ -195,6 +313,12 @@ def test_hostile_connections(folder):
                 stranger.connect(path)
                 stranger.sendall(partial)
             assert signed_in(site, device)
+        mute = [socket.socket(socket.AF_UNIX) for _ in range(60)]
+        for stranger in mute:
+            stranger.connect(path)
+        assert signed_in(site, device)
+        for stranger in mute:
+            stranger.close()
         deaf = socket.socket(socket.AF_UNIX)
         deaf.connect(path)
         deaf.settimeout(20)
@@ -235,5 +359,5 @@ while read line; do echo '{{"id":2,"failed":"disk I/O error"}}'; done
     one = StoredServer(str(script), str(folder / "site.db"), "example.com", ["https://example.com"], shared=True, timeout=20)
     with pytest.raises(StoreFailed, match="disk"):
         one.rows()
-    assert until(lambda: one.rows() == [])
+    assert until(lambda: answers(one)) and one.rows() == []
     one.close()

@@ -6,12 +6,14 @@ import random
 import subprocess
 import sys
 import threading
+import time
+import tracemalloc
 from dataclasses import replace
 
 import pytest
 from device import AT, ED, UP, UV, Device, changed
 
-from garvoeng import EDDSA, ES256, BadInput, Credential, Refused, Server, _passkey, forms, signatures
+from garvoeng import EDDSA, ES256, BadInput, Credential, Refused, Server, SignedIn, _passkey, forms, server, signatures
 
 USER, ORIGIN = b"account 7", "https://example.com"
 CRED_PROTECT = b"\xa1\x6bcredProtect\x02"
@@ -47,7 +49,7 @@ class Ceremony:
 def ended(call):
     try:
         return call()
-    except (Refused, BadInput, TypeError, ValueError, OverflowError, Broken) as error:
+    except (Refused, BadInput, TypeError, ValueError, OverflowError, IndexError, SystemError, Broken) as error:
         return error
 
 
@@ -78,6 +80,10 @@ class Untrue:
     __bool__ = breaking
 
 
+class Unhashed(str):
+    __hash__ = breaking
+
+
 class Iterated:
     def __init__(self, values):
         self.values = values
@@ -98,6 +104,8 @@ def every_way(one):
     forged = changed(one.made, "attestationObject", lambda value: value.replace(b"credProtect\x02", b"credProtect\x01"))
     unread = changed(one.made, "attestationObject", lambda value: value[:-1])
     parts = one.parts()
+    nameless = {**one.response, "response": {name: value for name, value in one.response["response"].items() if name != "userHandle"}}
+    yield lambda: one.sign_in(nameless)
     yield one.register
     yield one.sign_in
     yield lambda: one.register(forged)
@@ -127,42 +135,78 @@ def every_way(one):
         for value in (None, "text", [1], Untrue(), bytearray(3), 7):
             yield lambda name=name, value=value: one.server.register_complete(
                 replace(one.begun, **{name: value}), one.made, is_registered=lambda _: False)
-    yield lambda: _passkey.key_to_cose(ES256, one.credential.x, "text")
-    yield lambda: _passkey.key_from_cose(7)
+    for words in ((ES256, (one.credential.x, "text")), (ES256, (one.credential.x,)), (ES256, 7), (2**40, (b"", b"")), (7, (b"", b""))):
+        yield lambda words=words: _passkey.key_to_cose(*words)
+    for call in (_passkey.key_from_cose, _passkey.is_canonical):
+        for words in ((), (7,), (None,), (b"",), (b"", b""), (bytearray(b"\xa0"),)):
+            yield lambda call=call, words=words: call(*words)
     yield lambda: Credential.from_cose(b"id", USER, one.credential.cose_key, 0)
-    yield lambda: _passkey.from_text(7, "it")
-    yield lambda: _passkey.from_text("A!", "it")
-    yield lambda: _passkey.is_canonical(None)
+    for text in (7, None, "A", "A!", "AB", "AAB", "AA", "\ud800", "A" * 65_537):
+        yield lambda text=text: forms.from_text(text, "it")
+    for words in ((), ({}, {}, ("it",), 10**400), ({}, {}, ("it",), None), ({}, {}, 7, 1), ([], {}, ("it",), 1), ({"it": "AA"}, [], ("it", "other"), 2),
+                  ({"it": "AA"}, {}, (7,), 1), ({"it": "AA"}, {}, ([],), 1), ({Broken(): 1}, {}, (Unhashed(),), 1)):
+        yield lambda words=words: _passkey.parts(*words)
+    for words in ((True,), (Untrue(), 1), (True, "1"), (False, 14), (True, 16), (False, 10**6)):
+        yield lambda words=words: _passkey.refusal_text(*words)
+    yield from misused(one)
+
+
+def misused(one):
+    """The two calls of the module with words that the package never hands in."""
+    parts = (USER, USER, b"example.com", bytes(32), *[b"x"] * 8)
+    good = (Credential, SignedIn, server._MEMBERS, lambda *_: True, one.credential, (), None, (True, True, False, True, ES256, 0, False), parts, (ORIGIN.encode(),), ())
+    for at, values in ((1, (7, object, None)), (2, ((), ("id",), 7)), (7, ((), None, (True,) * 7, (True, True, False, True, 2**40, 0, False),
+                                                                         (True, True, False, True, ES256, -1, False),
+                                                                         (True, True, False, True, ES256, 2**32, False))),
+                       (8, ((), parts[:-1], (*parts, b"x"), list(parts), None)), (9, ([], None, (None,), ("text",), (bytearray(3),) * 20)), (10, ([], None, (None,)))):
+        for value in values:
+            yield lambda at=at, value=value: _passkey.assertion(*good[:at], value, *good[at + 1:])
+    told = (b"id", b"example.com", bytes(32), USER, b"{}", b"x")
+    for at, values in ((1, ((), (True,) * 8, (Untrue(),) * 9, None)), (2, ((), told[:-1], (*told, b"x"), None, (*told[:-1], None))), (3, ([], (None,)))):
+        for value in values:
+            words = [lambda *_: True, (True,) * 9, told, (ORIGIN.encode(),)]
+            words[at] = value
+            yield lambda words=words: _passkey.registration(*words)
+
+
+@pytest.fixture
+def frozen():
+    """What is there already is none of the collector's, which then takes little time."""
+    gc.collect()
+    gc.freeze()
+    tracemalloc.start(1)
+    yield
+    tracemalloc.stop()
+    gc.unfreeze()
 
 
 def held_now():
-    """Blocks of memory and, by a debug build, references."""
+    """Blocks of memory, bytes, also of large blocks, and, by a debug build, references."""
     gc.collect()
-    return sys.getallocatedblocks(), getattr(sys, "gettotalrefcount", int)()
+    return sys.getallocatedblocks(), tracemalloc.get_traced_memory()[0], getattr(sys, "gettotalrefcount", int)()
 
 
 @pytest.mark.parametrize("algorithm", [ES256, EDDSA])
-def test_memory_is_level(algorithm):
-    """Each way in and out, packed statements and extensions too, a hundred times: nothing is kept."""
+def test_memory_is_level(algorithm, frozen):
+    """Each way in and out, packed statements and extensions too, many times: nothing is kept."""
     for call in every_way(Ceremony(algorithm)):
-        grown = None
-        for _ in range(3):
+        for _ in range(4):
             ended(call)
             before = held_now()
             for _ in range(20):
                 ended(call)
-            after = held_now()
-            grown = [new - old for new, old in zip(after, before)]
-            if max(grown) < 10:
+            grown = [new - old for new, old in zip(held_now(), before)]
+            if grown[0] < 10 and grown[1] < 320 and grown[2] < 10:
                 break
-        assert max(grown) < 10, (call, grown)
+        assert grown[0] < 10 and grown[1] < 320 and grown[2] < 10, (call, grown)
 
 
-def test_references_are_given_back():
+def test_references_are_given_back(frozen):
     """What is handed in has as many references after a call as before it."""
     one = Ceremony()
     parts, calls = one.parts(), list(every_way(one))
-    held = [*parts[2:], one.credential, one.credential.id, one.credential.user, one.credential.x, one.credential.y, one.session.challenge,
+    held = [Credential, SignedIn, server._MEMBERS, *server._MEMBERS, one.server.verify, forms._SIGN_IN, forms._REGISTRATION, ES256, b"",
+            one.credential.transports, one.response, one.response["response"], *one.response["response"].values(), one.made, *parts[2:], one.credential, one.credential.id, one.credential.user, one.credential.x, one.credential.y, one.session.challenge,
             one.session.allow, one.begun.challenge, one.begun.user, one.server._origins_bytes, one.server._rp_id_bytes, None, True, False]
     for call in calls:
         before = [sys.getrefcount(value) for value in held]
@@ -190,6 +234,56 @@ def test_hostile_objects_are_refused_or_read():
             one.server.authenticate_complete_parts(*parts[:4], "text", *parts[5:])
         with pytest.raises(error):
             one.server.authenticate_complete_parts(*parts[:5], None, *parts[6:])
+
+
+def test_words_that_the_package_never_hands_in():
+    """Too few parts, too many, and None where a part has to be there raise, and so does a number that is longer than its member."""
+    tried = [call for call in misused(Ceremony()) if not isinstance(ended(call), int)]
+    assert len(tried) > 20 and all(isinstance(ended(call), (TypeError, OverflowError, SystemError, Broken)) for call in tried)
+    parts = (USER, USER, b"example.com", bytes(32), *[b"x"] * 8)
+    for numbers, error in (((ES256, 0), None), ((ES256, -1), OverflowError), ((ES256, 2**32), OverflowError), ((ES256, 2**64), OverflowError),
+                           ((2**32 + ES256, 0), OverflowError), ((ES256, 1.0), TypeError)):
+        for lent, origins, allow, wrong in ((parts, (b"x",), (), None), (parts[:-1], (b"x",), (), TypeError), ((*parts, b"x"), (b"x",), (), TypeError),
+                                            ((None, None, *parts[2:]), (), (), None), ((*parts[:2], None, *parts[3:]), (), (), TypeError),
+                                            (parts, (None,), (), TypeError), (parts, (b"x",), (None,), TypeError), (parts, (), ("x",), TypeError)):
+            def call():
+                return _passkey.assertion(Credential, SignedIn, server._MEMBERS, lambda *_: True, None, (), None,
+                                          (True, True, False, True, *numbers, False), lent, origins, allow)
+
+            if error or wrong:
+                with pytest.raises((error or wrong, wrong or error)):
+                    call()
+            else:
+                assert isinstance(call(), int)
+    told = (b"id", b"example.com", bytes(32), USER, b"{}", b"x")
+    for lent, origins, wrong in ((told, (b"x",), None), ((None, *told[1:]), (), None), (told[:-1], (), TypeError), ((*told, b"x"), (), TypeError),
+                                 ((told[0], None, *told[2:]), (), TypeError), (told, (None,), TypeError)):
+        if wrong:
+            with pytest.raises(wrong):
+                _passkey.registration(lambda *_: True, (True,) * 9, lent, origins)
+        else:
+            assert isinstance(_passkey.registration(lambda *_: True, (True,) * 9, lent, origins), int)
+
+
+def test_kinds_and_names_that_are_none():
+    """Of a sign-in that is accepted: what is no type of instances with members, and names that are too few or no texts, raise."""
+    one = Ceremony()
+    raw_id, client_data, auth_data, signature, handle = forms.sign_in_parts(one.response)
+    stored = one.credential
+    lent = (USER, handle, b"example.com", one.session.challenge, stored.id, stored.user, stored.x, stored.y, raw_id, client_data, auth_data, signature)
+
+    def call(credential_type=Credential, kind=SignedIn, names=server._MEMBERS):
+        return _passkey.assertion(credential_type, kind, names, lambda *_: True, stored, (), None,
+                                  (True, True, False, True, ES256, 0, False), lent, (ORIGIN.encode(),), ())
+
+    assert call().credential.sign_count == 1
+    for wrong in ({"credential_type": 7}, {"kind": 7}, {"kind": None}, {"kind": object}, {"credential_type": int}, {"names": ()}, {"names": None},
+                  {"names": server._MEMBERS[:-1]}, {"names": (7,) * 15}):
+        with pytest.raises((TypeError, AttributeError, IndexError, SystemError)):
+            call(**wrong)
+    for names in ((7,), (None,), ([],), ("it", 7)):
+        with pytest.raises(TypeError):
+            _passkey.parts({"it": "AA", 7: "AA", None: "AA"}, {7: "AA"}, names, 1)
 
 
 def test_a_buffer_that_changes_is_read_once():
@@ -280,6 +374,32 @@ def test_threads():
     assert wrong == []
 
 
+def test_others_run_in_a_call():
+    """Where nobody else makes a thread give the interpreter up, its calls do: another thread runs meanwhile."""
+    one, interval, rejecting = Ceremony(), sys.getswitchinterval(), party(verify=lambda *_: False)
+    long = changed(one.response, "clientDataJSON", lambda value: value[:-1] + b',"more":"' + b"x" * 40_000 + b'"}')
+    parts, until = [one.session, one.credential, *forms.sign_in_parts(long)], time.monotonic() + 30
+    parts[3:7] = parts[6], parts[4], parts[5], parts[3]
+    created = changed(one.made, "clientDataJSON", lambda value: value[:-1] + b',"more":"' + b"x" * 20_000 + b'"}')
+    raw_id, client_data, attestation_object = forms.registration_parts(created)
+    for call in (lambda: rejecting.authenticate_complete_parts(*parts),
+                 lambda: rejecting.register_complete_parts(one.begun, attestation_object, client_data, free_id=raw_id)):
+        waits, ran = threading.Lock(), []
+        waits.acquire()
+        other = threading.Thread(target=lambda: ran.append(waits.acquire()))
+        other.start()
+        time.sleep(0.1)
+        sys.setswitchinterval(1000)
+        try:
+            waits.release()
+            while not ran and time.monotonic() < until:
+                assert ended(call).name in ("W14", "G13")
+            assert ran
+        finally:
+            sys.setswitchinterval(interval)
+            other.join()
+
+
 IN_ANOTHER = """
 import sys
 sys.path[:0] = {path}
@@ -287,20 +407,20 @@ import types
 fake = types.ModuleType("garvoeng")
 fake.__path__ = [{package}]
 sys.modules["garvoeng"] = fake
-from garvoeng import _passkey, errors
+from garvoeng import _passkey
 assert _passkey.ABI_VERSION == 3
-assert _passkey.from_text("AAEC", "it") == bytes([0, 1, 2])
+assert _passkey.parts({{"it": "AAEC"}}, {{}}, ("it",), 1) == (bytes([0, 1, 2]),)
 assert _passkey.refusal_text(False, 14) == "the signature is not valid"
 try:
-    _passkey.from_text("!", "it")
+    _passkey.parts({{"it": "!"}}, {{}}, ("it",), 1)
     raise SystemExit("accepted")
-except errors.BadInput as error:
+except ValueError as error:
     assert str(error) == "it is not base64url"
 """
 
 
 def test_interpreters_beside_the_first():
-    """Each interpreter has a module and a `BadInput` of its own, in turn and at once."""
+    """Each interpreter has a module of its own, in turn and at once."""
     pytest.importorskip("_xxsubinterpreters")
     package = str(__import__("pathlib").Path(_passkey.__file__).parent)
     script = IN_ANOTHER.format(path=sys.path, package=repr(package))
@@ -311,14 +431,49 @@ for _ in range(3):
         them.run_string(one, script)
     for one in ids:
         them.destroy(one)
-garvoeng._passkey.from_text("AAEC", "it")
+garvoeng.forms.from_text("AAEC", "it")
 try:
-    garvoeng._passkey.from_text("!", "it")
+    garvoeng.forms.from_text("!", "it")
 except garvoeng.BadInput:
     print("done")
 """
     said = subprocess.run([sys.executable, "-c", whole], capture_output=True, text=True)
     assert said.stdout == "done\n", said.stderr
+
+
+def test_each_allocation_that_fails(frozen):
+    """Of each call every allocation is refused, one at a time: it raises MemoryError, or says what it says otherwise; nothing is kept."""
+    memory = pytest.importorskip("_testcapi")
+    one = Ceremony(verify=lambda *_: True)
+    parts, registration, sign_in = one.parts(), forms.registration_parts(one.made), forms.sign_in_parts(one.response)
+    many = replace(one.session, allow=(one.credential.id,) * 20)
+    copied = [bytearray(part) if part and index > 1 else part for index, part in enumerate(parts)]
+    calls = [lambda: one.server.authenticate_complete_parts(*parts), lambda: one.server.authenticate_complete_parts(*copied),
+             lambda: one.server.authenticate_complete_parts(many, *parts[1:]),
+             lambda: one.server.register_complete_parts(one.begun, registration[2], registration[1], free_id=registration[0]),
+             lambda: forms.sign_in_parts(one.response), lambda: forms.registration_parts(one.made), lambda: _passkey.refusal_text(False, 14),
+             lambda: _passkey.key_from_cose(one.device.cose_key()), lambda: _passkey.key_to_cose(ES256, (one.device.x, one.device.y)),
+             lambda: _passkey.is_canonical(bytearray(one.device.cose_key()))]
+    assert sign_in[0] == one.device.id
+    for call in calls:
+        wanted, grown = call(), [10**6] * 3
+        for _ in range(5):
+            refused, before = 0, held_now()
+            for number in range(200):
+                memory.set_nomemory(number, number + 1)
+                try:
+                    said = call()
+                except MemoryError:
+                    said = None
+                memory.remove_mem_hooks()
+                refused += said is None
+                assert said is None or said == wanted
+            assert 1 <= refused < 150
+            grown = [new - old for new, old in zip(held_now(), before)]
+            if grown[0] < 10 and grown[1] < 1_000 and grown[2] < 10:
+                break
+        else:
+            pytest.fail(f"{call} keeps {grown}")
 
 
 @pytest.mark.skipif(sys.platform != "linux", reason="RLIMIT_AS")

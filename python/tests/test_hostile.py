@@ -1,10 +1,13 @@
 """What hosts, visitors and other processes do to the package."""
 import pickle
+from collections import UserDict
+from collections.abc import Mapping
 from concurrent.futures import ProcessPoolExecutor
+from types import MappingProxyType
 
 import pytest
 from device import Device
-from hostile import changes, passed_over
+from hostile import changes, nested, passed_over
 
 from garvoeng import BadInput, Credential, Refused, Server, StoredServer, StoreFailed
 from garvoeng.forms import from_text, to_text
@@ -47,6 +50,53 @@ def test_hostile_values():
     assert wrong == [] and tried >= 2_000
 
 
+class Read(Mapping):
+    """A mapping that is no dict."""
+
+    def __init__(self, inner):
+        self.inner = inner
+
+    def __getitem__(self, name):
+        return self.inner[name]
+
+    def __iter__(self):
+        return iter(self.inner)
+
+    def __len__(self):
+        return len(self.inner)
+
+
+def test_mappings_that_are_no_dicts():
+    """The response, its parts and the extensions' results may be other mappings, and texts of a class of their own."""
+    server, device = Server(RP_ID, [ORIGIN]), Device()
+    options, session = server.register_begin(USER, "name")
+    made = device.register(options)
+    text = type("Text", (str,), {})
+    for response in (Read(made), MappingProxyType(made), UserDict(made), {**made, "response": Read(made["response"])},
+                     {**made, "clientExtensionResults": Read({})}, Read({**made, "response": Read(made["response"])}),
+                     {name: text(value) if isinstance(value, str) else value for name, value in made.items()}):
+        assert server.register_complete(session, response, is_registered=lambda _: False).credential.id == device.id
+        for wrong in ("id", "rawId", "type"):
+            with pytest.raises(BadInput):
+                server.register_complete(session, Read({**response, wrong: "AA"}), is_registered=lambda _: False)
+
+
+def test_members_that_nest_as_deep_as_each_other():
+    """No comparison goes so deep that it ends the call otherwise than by `BadInput`."""
+    server, device = Server(RP_ID, [ORIGIN]), Device()
+    options, session = server.register_begin(USER, "name")
+    made = device.register(options)
+    for depth in (10, 900, 10_000):
+        for of in (list, dict):
+            for names in (("id", "rawId"), ("id", "rawId", "type"), ("type",), ("clientExtensionResults",), ("authenticatorAttachment",)):
+                hostile = {**made, **{name: nested(depth, of) for name in names}}
+                if names == ("clientExtensionResults",) and of is dict:
+                    assert server.register_complete(session, hostile, is_registered=lambda _: False)
+                    continue
+                with pytest.raises(BadInput):
+                    server.register_complete(session, hostile, is_registered=lambda _: False)
+
+
 @pytest.mark.parametrize("text", ["AA==", "AA=", "A", "AB", "AAB", "A A", "AA\n", "+A", "/A", "\uff21A", "AAAAA", "=", "AA-_="])
 def test_one_spelling(text):
     with pytest.raises(BadInput):
@@ -62,16 +112,46 @@ def test_each_value_is_read():
         assert from_text(to_text(bytes([9, bits])), "it") == bytes([9, bits])
 
 
+def test_each_spelling_but_one():
+    """Of the texts of two, three and four letters those are taken that `to_text` writes, and no other; nor is one with another letter
+    anywhere."""
+    letters = "ABCDEFGHIJKLMNOPQRSTUVWXYZabcdefghijklmnopqrstuvwxyz0123456789-_"
+    for front, count in (("", 256), ("k", 1024), ("Az", 4096)):
+        taken = []
+        for first in letters:
+            for second in letters:
+                text = front + first + second
+                try:
+                    value = from_text(text, "it")
+                except BadInput:
+                    continue
+                assert to_text(value) == text
+                taken.append(value)
+        assert len(set(taken)) == len(taken) == count
+    others = [chr(number) for number in range(300) if chr(number) not in letters] + ["\ud800", "\uff21", "\U0001f511"]
+    for size in (2, 3, 4, 6, 7, 8):
+        for at in range(size):
+            for other in others:
+                with pytest.raises(BadInput, match="it is not base64url"):
+                    from_text("A" * at + other + "A" * (size - at - 1), "it")
+
+
 def test_size_of_a_response():
-    server, device = Server(RP_ID, [ORIGIN]), Device()
-    options, session = server.register_begin(USER, "name")
-    made = device.register(options)
-    rest = len(made["rawId"]) + len(made["response"]["attestationObject"])
-    fits, longer = (65_536 - rest) // 4 * 4, (65_536 - rest) // 4 * 4 + 4
-    for size, error in ((fits, Refused), (longer, BadInput)):
-        made["response"]["clientDataJSON"] = "A" * size
-        with pytest.raises(error):
-            server.register_complete(session, made, is_registered=lambda _: False)
+    """65,536 characters in all, and not one more."""
+    server, tried = Server(RP_ID, [ORIGIN]), 0
+    for length in range(16, 24):
+        device = Device(credential=bytes(length))
+        options, session = server.register_begin(USER, "name")
+        made = device.register(options)
+        fits = 65_536 - len(made["rawId"]) - len(made["response"]["attestationObject"])
+        for size, error in ((fits, Refused), (fits + 1, BadInput), (fits + 2, BadInput)):
+            if size % 4 != 1:
+                tried += 1
+                made["response"]["clientDataJSON"] = "A" * size
+                with pytest.raises(error) as caught:
+                    server.register_complete(session, made, is_registered=lambda _: False)
+                assert error is Refused or str(caught.value) == "the response is too long"
+    assert tried > 16
 
 
 def refused(is_registration, number):
@@ -134,7 +214,7 @@ def test_limits():
             server.authenticate_begin(user=user)
     for user in (b"1", bytes(64)):
         assert server.register_begin(user, "name")[1].user == user == server.authenticate_begin(user=user)[1].user
-    for ids in ([b"x"] * 65, [b""], [bytes(1024)]):
+    for ids in ([b"x"] * 65, [b""], [bytes(1024)], [b"x", b""], [b"x", bytes(1024)], [b"x", b"y", b""]):
         with pytest.raises(BadInput):
             server.authenticate_begin(allow=ids)
         with pytest.raises(BadInput):

@@ -47,6 +47,25 @@ def test_rows_sign_in(tmp_path, server, kind, row_of):
         assert server.authenticate_complete(session, device.sign_in(options)).credential.sign_count == 1
 
 
+def test_what_a_row_says(server):
+    """All that a library kept is there then, also of ids of 255, 256 and more bytes."""
+    for size in (1, 255, 256, 300, 1023):
+        device, said = Device(credential=bytes([size % 251]) * size), []
+        device.count = 2**32 - 2
+        assert move.moved(move.of_fido2, server, io.StringIO(json.dumps(fido2_row(device, transports=["usb", "nfc"]))), said.append), said
+        [row] = [row for row in server.credentials(USER) if row.credential.id == device.id]
+        assert (row.credential.eligible, row.backed_up, row.aaguid, row.used_at) == (None, None, device.aaguid, None)
+        assert (row.credential.sign_count, row.credential.transports, row.credential.cose_key) == (2**32 - 2, ("usb", "nfc"), device.cose_key())
+    for number, (kind, backed_up, eligible) in enumerate((("single_device", False, False), ("multi_device", False, True), ("multi_device", True, True),
+                                                          (None, None, None))):
+        device = Device(credential=b"of py_webauthn %d" % number)
+        text = json.dumps(py_webauthn_row(device, credential_device_type=kind, credential_backed_up=backed_up, transports=["internal", "hybrid"]))
+        assert move.moved(move.of_py_webauthn, server, io.StringIO(text), [].append)
+        [row] = [row for row in server.credentials(USER) if row.credential.id == device.id]
+        assert (row.credential.eligible, row.backed_up, row.aaguid) == (eligible, backed_up, None)
+        assert row.credential.transports == ("internal", "hybrid")
+
+
 @pytest.mark.parametrize("kind, row_of", [("fido2", fido2_row), ("py_webauthn", py_webauthn_row)])
 def test_what_is_no_row(server, kind, row_of):
     """It is told by its line, and the others are moved."""

@@ -41,15 +41,22 @@ def test_request_options():
     assert options["excludeCredentials"] == [{"type": "public-key", "id": to_text(b"one"), "transports": ["usb", "nfc"]}]
 
 
-@pytest.mark.parametrize("name, good", [
-    ("user_verification", ("required", "preferred", "discouraged", True, False)), ("resident", ("required", "preferred", "discouraged", True, False)),
-    ("attachment", ("platform", "cross-platform", None)), ("timeout", (1, 2**32 - 1, None)), ("hints", ([], (), ["hybrid"])),
-    ("extensions", (None, {}, {"a": 1}))])
-def test_values_of_options(name, good):
+REQUIREMENTS = (True, False, "required", "preferred", "discouraged")
+NONE = ("Required", "", 7, [], "none", b"required")
+VALUES_OF_OPTIONS = [
+    ("user_verification", REQUIREMENTS, (*NONE, None)), ("resident", REQUIREMENTS, (*NONE, None)),
+    ("attachment", ("platform", "cross-platform", None), NONE),
+    ("timeout", (1, 2**32 - 1, None), (0, -1, 2**32, 2**64 + 1, 1.0, "1", True)),
+    ("hints", ([], (), ["hybrid"], ["security-key", "client-device"]), ("hybrid", ["Hybrid"], [None], [7], ["hybrid", "other"])),
+    ("extensions", (None, {}, {"a": 1}), ([], "x", 7))]
+"""Of each parameter of options what is one of its values, and what is none."""
+
+
+@pytest.mark.parametrize("name, good, bad", VALUES_OF_OPTIONS)
+def test_values_of_options(name, good, bad):
     for value in good:
         party().register_begin(USER, "name", **{name: value})
-    bad = {"timeout": (0, -1, 2**32, 1.0, "1", True), "hints": ("hybrid", ["Hybrid"], [None], [7]), "extensions": ([], "x", 7)}
-    for value in bad.get(name, ("Required", "", 7, [], "none")):
+    for value in bad:
         with pytest.raises(BadInput):
             party().register_begin(USER, "name", **{name: value})
         if name not in ("resident", "attachment"):
@@ -94,6 +101,13 @@ def test_awaited():
             with pytest.raises(Refused) as caught:
                 await one.server.register_complete_async(one.begun, one.made, is_registered=wrong)
             assert caught.value.name == name
+        told = {**one.made, "response": {**one.made["response"], "transports": ["usb", "nfc"]}}
+        said = await one.server.register_complete_async(one.begun, told, is_registered=is_registered)
+        assert said.credential.transports == ("usb", "nfc")
+        with pytest.raises(Refused, match="G16"):
+            await one.server.register_complete_async(one.begun, one.made, is_registered=is_registered, is_full=True)
+        with pytest.raises(Broken):
+            await one.server.register_complete_async(one.begun, one.made, is_registered=fail)
         with pytest.raises(Broken):
             await one.server.authenticate_complete_async(one.session, one.response, credential=fail)
         with pytest.raises(BadInput):

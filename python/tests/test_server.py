@@ -1,6 +1,7 @@
 """Registrations and sign-ins by `Server`: accepted, and refused at each step."""
 import random
 from dataclasses import FrozenInstanceError, replace
+from hashlib import sha256
 
 import pytest
 from device import AT, BE, BS, ED, UP, UV, Device, changed
@@ -137,6 +138,24 @@ def test_what_a_sign_in_says(server):
         assert said == SignedIn(now, stored, bool(flags & BS), bool(flags & UV), flags, outputs)
 
 
+@pytest.mark.parametrize("count", [2**31 - 1, 2**31, 2**32 - 2, 2**32 - 1])
+def test_counters_of_32_bits(server, count):
+    device = Device()
+    options, session = server.register_begin(USER, "name")
+    front = sha256(b"example.com").digest() + bytes([UP | UV | AT])
+    made = changed(device.register(options), "attestationObject",
+                   lambda value: value.replace(front + bytes(4), front + (count - 1).to_bytes(4, "big")))
+    credential = server.register_complete(session, made, is_registered=free).credential
+    assert credential.sign_count == count - 1
+    device.count = count - 1
+    options, session = server.authenticate_begin(user=USER)
+    response = device.sign_in(options)
+    assert server.authenticate_complete(session, response, credential={device.id: credential}.get).credential.sign_count == count
+    for stored, name in ((count, "W15"), (count - 1, None), (min(count + 1, 2**32 - 1), "W15")):
+        find = {device.id: replace(credential, sign_count=stored)}.get
+        assert (refusal(lambda: server.authenticate_complete(session, response, credential=find)) if name else None) == name
+
+
 def test_any_true_value_asks_for_verification(server):
     """A flag of a session is read as Python reads it: also 256, whose low byte is 0."""
     device = Device()
@@ -222,6 +241,21 @@ def test_values_are_frozen(server):
     for value in (server.register_begin(USER, "name")[1], server.authenticate_begin()[1], credential):
         with pytest.raises(FrozenInstanceError):
             value.user = b"another"
+
+
+def test_any_of_a_list(server):
+    """Each id of a list may answer, wherever it stands, also beside several origins; another one may not."""
+    several = Server("example.com", ["https://example.com", "https://www.example.com", "https://a.example.com"])
+    devices = [Device(credential=b"credential %d" % number) for number in range(20)]
+    table = {device.id: registered(server, device) for device in devices}
+    for party in (server, several):
+        for listed in (devices[:1], devices[:2], devices[:3], devices[:12], devices[:19]):
+            options, session = party.authenticate_begin(user=USER, allow=[device.id for device in listed])
+            assert len(options["allowCredentials"]) == len(session.allow) == len(listed)
+            for device in listed:
+                said = party.authenticate_complete(session, device.sign_in(options), credential=table.get)
+                assert said.credential.id == device.id
+            assert refusal(lambda: party.authenticate_complete(session, devices[19].sign_in(options), credential=table.get)) == "W2"
 
 
 def test_any_of_the_origins():
@@ -417,3 +451,18 @@ def test_malformed_responses(server):
             continue
         with pytest.raises(Refused):
             server.authenticate_complete(session, bad, credential=lambda _: credential)
+
+
+def test_kept_keys_are_their_own():
+    """A key that is kept answers for its own numbers alone, whichever was asked for first."""
+    prime = 2**256 - 2**224 + 2**192 + 2**96 - 1
+    for first in (True, False):
+        device = Device()
+        other = (prime - int.from_bytes(device.y, "big")).to_bytes(32, "big")
+        signature = device.sign(b"message")
+        for y in (device.y, other) if first else (other, device.y):
+            assert signatures.is_valid(ES256, device.x, y, b"message", signature) == (y == device.y)
+    small, large = Device(RS256), Device(RS256, exponent=3)
+    signature = small.sign(b"message")
+    for device, y in ((small, small.y), (small, large.y), (small, small.y), (large, large.y)):
+        assert signatures.is_valid(RS256, device.x, y, b"message", signature) == (device is small and y == small.y)

@@ -11,6 +11,7 @@ import pytest
 from device import BE, BS, UP, UV, Device, changed
 
 from garvoeng import BadInput, Credential, Refused, RegistrationSession, Server, SignInSession, sql
+from garvoeng.forms import to_text
 from garvoeng.sql import SqlServer
 
 USER, OTHER = b"account 7", b"account 8"
@@ -208,8 +209,10 @@ def test_lists(site):
     stored = site.credentials(USER)[0].credential
     options, _ = site.register_begin(USER, "name")
     assert len(options["excludeCredentials"]) == 3
-    for number in range(3, 65):
+    for number in range(3, 64):
         site.add(Credential(b"%d" % number, USER, -7, stored.x, stored.y, 0, None))
+    assert len(site.authenticate_begin(user=USER)[0]["allowCredentials"]) == 64
+    site.add(Credential(b"64", USER, -7, stored.x, stored.y, 0, None))
     options, _ = site.register_begin(USER, "name")
     assert len(options["excludeCredentials"]) == 64
     options, session = site.authenticate_begin(user=USER)
@@ -359,3 +362,26 @@ def test_sessions_are_of_their_kind(site):
         assert rows.take(other, SignInSession).user == USER
 
 
+def test_eligibility_is_kept_once_it_is_known(site):
+    """Of a moved row it is not known; the first sign-in tells it, and from then on it stays (W16)."""
+    device = Device()
+    site.add(Credential.from_cose(device.id, USER, device.cose_key(), 0))
+    assert site.rows()[0].eligible is None
+    options, session = site.authenticate_begin(user=USER)
+    site.authenticate_complete(session, device.sign_in(options, flags=UP | UV | BE))
+    assert site.rows()[0].eligible is True
+    options, session = site.authenticate_begin(user=USER)
+    assert refusal(lambda: site.authenticate_complete(session, device.sign_in(options, flags=UP | UV))) == "W16"
+
+
+def test_an_account_lists_its_own(site):
+    """Neither list has another account's credentials, nor those that are retired."""
+    mine, theirs, old = Device(credential=b"mine"), Device(credential=b"theirs"), Device(credential=b"old")
+    for device, user in ((mine, USER), (theirs, OTHER), (old, USER)):
+        registered(site, device, user)
+    assert site.retire(old.id)
+    for user, device in ((USER, mine), (OTHER, theirs)):
+        wanted = [{"type": "public-key", "id": to_text(device.id), "transports": ["usb", "nfc"]}]
+        assert site.register_begin(user, "name")[0]["excludeCredentials"] == wanted
+        assert site.authenticate_begin(user=user)[0]["allowCredentials"] == wanted
+    assert site.authenticate_begin()[0]["allowCredentials"] == []

@@ -36,6 +36,11 @@ class FlaskSite:
                 said = client.post(f"/passkeys/{path}", data=json.dumps(body) if raw is None else raw, content_type=content_type)
             return said.status_code, said.get_json() if said.is_json else said.get_data()
 
+        def kept():
+            with client.session_transaction() as cookie:
+                return {name for name in cookie if name.startswith("garvoeng")}
+
+        ask.kept = kept
         return ask
 
 
@@ -65,6 +70,7 @@ class DjangoSite:
             is_json = said["Content-Type"] == "application/json"
             return said.status_code, json.loads(said.content) if is_json else said.content
 
+        ask.kept = lambda: {name for name in client.session.keys() if name.startswith("garvoeng")}
         return ask
 
 
@@ -245,3 +251,21 @@ def test_a_call_of_django_is_of_its_transaction():
     assert len(site.server.rows()) == 1
     with pytest.raises(Refused):
         site.server.register_complete(session, key.register(options))
+
+
+def test_what_a_visitor_keeps(site):
+    """A session that was refused is kept, so that it may be answered again, and none that was closed."""
+    visitor, key = site.visitor(), device()
+    account = {"garvoeng_user"} if isinstance(site, FlaskSite) else set()
+    status, options = visitor("register/begin", {"name": "ada"})
+    assert visitor.kept() == {"garvoeng_registration"}
+    assert visitor("register/finish", changed(key.register(options), "clientDataJSON", lambda _: b"{"))[0] == 403
+    assert visitor.kept() == {"garvoeng_registration"}
+    key.user = from_text(options["user"]["id"], "user")
+    assert visitor("register/finish", key.register(options))[0] == 200 and visitor.kept() == account
+    status, options = visitor("sign-in/begin", {})
+    response = key.sign_in(options, user=key.user)
+    assert visitor("sign-in/finish", changed(response, "signature", lambda value: value[:-1] + bytes([value[-1] ^ 1])))[0] == 403
+    assert visitor.kept() == account | {"garvoeng_sign_in"}
+    assert visitor("sign-in/finish", response)[0] == 200 and visitor.kept() == account
+    assert visitor("sign-out", {})[0] == 200 and visitor.kept() == set()

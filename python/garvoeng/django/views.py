@@ -99,6 +99,7 @@ def sign_in_finish(request: Any, said: Any) -> HttpResponse:
     user = authenticate(request, passkey_session=request.session.get("garvoeng_sign_in"), passkey=said)
     if user is None:
         return _error("the account may not sign in", 403)
+    del request.session["garvoeng_sign_in"]
     login(request, user)
     return JsonResponse({"user": user.get_username()})
 

@@ -1,0 +1,195 @@
+"""`StoredServer` over the program of PROGRAM: what its options ask, and the forms that are awaited, of `SqlServer` too."""
+import asyncio
+import os
+import sqlite3
+import sys
+import threading
+import time
+from contextlib import suppress
+from pathlib import Path
+
+import pytest
+from device import AT, ED, UP, UV, Device, changed
+from test_options import REQUIREMENTS, VALUES_OF_OPTIONS
+
+from garvoeng import BadInput, Credential, Refused, Server, StoredServer, StoreFailed
+from garvoeng.forms import to_text
+from garvoeng.sql import SqlServer
+
+PROGRAM = os.environ.get("PROGRAM", str(Path(__file__).parents[2] / "dist" / "passkey-site"))
+USER, ORIGIN = b"account 7", "https://example.com"
+
+
+def stored(path, **how):
+    if not Path(PROGRAM).exists():
+        pytest.skip("PROGRAM is not there")
+    return StoredServer(PROGRAM, str(path / "site.db"), "example.com", [ORIGIN], **how)
+
+
+def rows(path):
+    made = SqlServer(Server("example.com", [ORIGIN]), lambda: sqlite3.connect(path / "site.sqlite", timeout=30))
+    made.prepare()
+    return made
+
+
+@pytest.fixture
+def site(tmp_path):
+    with stored(tmp_path) as made:
+        yield made
+
+
+def test_creation_options_are_those_of_server(site):
+    """All but the challenge, of each parameter."""
+    for how in ({}, {"user_verification": "discouraged", "resident": "preferred", "attachment": "platform", "timeout": 60_000,
+                     "hints": ["hybrid"], "extensions": {"credProps": True}}, {"exclude": [b"one", b"two"], "algorithms": [-8, -257]},
+                *({"user_verification": value, "resident": value} for value in REQUIREMENTS)):
+        for names in (("name",), ("name", "Display Name")):
+            options, _ = site.register_begin(USER, *names, **how)
+            wanted, _ = Server("example.com", [ORIGIN]).register_begin(USER, *names, **how)
+            assert {**options, "challenge": wanted["challenge"]} == wanted
+
+
+def test_request_options_are_those_of_server(site):
+    for how in ({}, {"user": USER}, {"allow": [b"one"], "timeout": 1, "hints": ("security-key",), "extensions": {"appid": "x"}},
+                *({"user_verification": value} for value in REQUIREMENTS)):
+        options, _ = site.authenticate_begin(**how)
+        wanted, _ = Server("example.com", [ORIGIN]).authenticate_begin(**how)
+        assert {**options, "challenge": wanted["challenge"]} == wanted
+
+
+@pytest.mark.parametrize("name, good, bad", VALUES_OF_OPTIONS)
+def test_values_of_options(site, name, good, bad):
+    """What is none is refused, and no session begins."""
+    for value in good:
+        site.register_begin(USER, "name", **{name: value})
+    before = site.status()["sessions"]
+    for value in bad:
+        with pytest.raises(BadInput):
+            site.register_begin(USER, "name", **{name: value})
+        if name not in ("resident", "attachment"):
+            with pytest.raises(BadInput):
+                site.authenticate_begin(**{name: value})
+    assert site.status()["sessions"] == before == len(good)
+
+
+def test_verification_is_the_programs_to_judge(site):
+    for value, registers in ((True, False), ("required", False), (False, True), ("preferred", True), ("discouraged", True)):
+        device = Device(credential=b"id of " + str(value).encode())
+        options, session = site.register_begin(USER, "name", user_verification=value)
+        made = device.register(options, flags=UP | AT)
+        if registers:
+            assert site.register_complete(session, made).user_verified is False
+        else:
+            with pytest.raises(Refused, match="G10"):
+                site.register_complete(session, made)
+            site.register_complete(session, device.register(options))
+        options, session = site.authenticate_begin(user_verification=value)
+        response = device.sign_in(options, user=USER, flags=UP)
+        if registers:
+            assert site.authenticate_complete(session, response).user_verified is False
+        else:
+            with pytest.raises(Refused, match="W13"):
+                site.authenticate_complete(session, response)
+
+
+def test_lists(site):
+    """Ids, and credentials by their ids, eight at most; an id that isn't listed is refused."""
+    one, other = Device(credential=b"one"), Device(credential=b"other")
+    made = []
+    for device in (one, other):
+        options, session = site.register_begin(USER, "name", exclude=made)
+        assert [row["id"] for row in options["excludeCredentials"]] == [to_text(row.id) for row in made]
+        made.append(site.register_complete(session, device.register(options)).credential)
+    for listed in ([made[0]], [made[0].id]):
+        options, session = site.authenticate_begin(allow=listed)
+        with pytest.raises(Refused, match="W2"):
+            site.authenticate_complete(session, other.sign_in(options, user=USER))
+        assert site.authenticate_complete(session, one.sign_in(options, user=USER)).credential == b"one"
+    for ids in ([b"x"] * 9, [b""], [bytes(1024)], [Credential(b"", USER, -7, b"", b"", 0, None)]):
+        with pytest.raises(BadInput):
+            site.authenticate_begin(allow=ids)
+        with pytest.raises(BadInput):
+            site.register_begin(USER, "name", exclude=ids)
+    assert len(site.authenticate_begin(allow=[b"x"] * 8)[0]["allowCredentials"]) == 8
+
+
+async def visit(server, number):
+    """Registers and signs in, awaited; what was accepted, and what is refused."""
+    device, user = Device(credential=b"credential %d" % number), b"account %d" % number
+    options, session = await server.register_begin_async(user, "name", "Display Name", hints=["hybrid"])
+    assert options["hints"] == ["hybrid"] and options["user"]["displayName"] == "Display Name"
+    made = await server.register_complete_async(session, device.register(options, packed=True, flags=UP | UV | AT | ED,
+                                                                         outputs=b"\xa1\x6bcredProtect\x02"))
+    assert (made.credential.id, made.credential.user, made.format) == (device.id, user, "packed")
+    options, session = await server.authenticate_begin_async(user=user, timeout=9)
+    assert options["timeout"] == 9
+    response = device.sign_in(options)
+    bad = changed(response, "signature", lambda value: value[:-1] + bytes([value[-1] ^ 1]))
+    for wrong, number_of, name in ((bad, session, "W14"), (response, None, "W1")):
+        with pytest.raises(Refused, match=name):
+            await server.authenticate_complete_async(number_of, wrong)
+    said = await server.authenticate_complete_async(session, response)
+    with pytest.raises(Refused, match="W1"):
+        await server.authenticate_complete_async(session, response)
+    with pytest.raises(BadInput):
+        await server.authenticate_complete_async(session, {})
+    with pytest.raises(BadInput):
+        await server.register_begin_async(b"", "name")
+    return said
+
+
+@pytest.mark.parametrize("make", [stored, rows])
+def test_awaited(tmp_path, make):
+    """Many at once, each as it is by itself."""
+    server = make(tmp_path)
+
+    async def acts():
+        return await asyncio.gather(*(visit(server, number) for number in range(8)))
+
+    said = asyncio.run(acts())
+    assert len(said) == 8 == len(server.rows()) and {row.sign_count for row in server.rows()} == {1}
+    if make is stored:
+        assert {one.sign_count for one in said} == {1} and server.status()["sessions"] == 0
+        server.close()
+
+
+@pytest.mark.parametrize("make", [stored, rows])
+def test_others_run_while_one_waits(tmp_path, make, monkeypatch):
+    """While the program, or the database, takes its time the loop goes on; the call is made in another thread."""
+    server, ticks = make(tmp_path), []
+    inner, goes_on = type(server).authenticate_begin, threading.Event()
+
+    def slow(self, **how):
+        assert threading.current_thread() is not threading.main_thread() and goes_on.wait(30)
+        return inner(self, **how)
+
+    monkeypatch.setattr(type(server), "authenticate_begin", slow)
+
+    async def acts():
+        waiting = asyncio.ensure_future(server.authenticate_begin_async())
+        for _ in range(5):
+            await asyncio.sleep(0.01)
+            ticks.append(waiting.done())
+        goes_on.set()
+        return await waiting
+
+    options, _ = asyncio.run(acts())
+    assert ticks == [False] * 5 and options["rpId"] == "example.com"
+    if make is stored:
+        server.close()
+
+
+def test_a_program_that_does_not_answer(tmp_path):
+    script = tmp_path / "silent"
+    script.write_text(f"#!{sys.executable}\nimport sys, time\nsys.stdin.readline()\ntime.sleep(600)\n")
+    script.chmod(0o755)
+    server = StoredServer(str(script), str(tmp_path / "none.db"), "example.com", [ORIGIN], timeout=0.5)
+
+    async def acts():
+        began = time.monotonic()
+        said = await asyncio.gather(*(server.authenticate_begin_async() for _ in range(3)), return_exceptions=True)
+        assert [type(one) for one in said] == [StoreFailed] * 3 and time.monotonic() - began < 30
+
+    asyncio.run(acts())
+    with suppress(StoreFailed):
+        server.close()
