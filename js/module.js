@@ -156,7 +156,7 @@ export class Module {
     return this.#view;
   }
 
-  /** Where so many bytes of 0 lie in the memory. */
+  /** Where there is room in the memory for so many bytes, in which anything of this owner may lie. */
   take(size) {
     if (size > MOST_LENT) throw new NoMemory();
     const block = this.#exports.malloc(BigInt(size));
@@ -172,7 +172,7 @@ export class Module {
     return at;
   }
 
-  /** Where an image lies in the memory, with so many bytes of 0 behind it; and where these begin. */
+  /** Where an image lies in the memory, with room for so many bytes behind it; and where that begins. */
   place(image, size) {
     const behind = Math.ceil(image.used / 8) * 8, at = this.take(behind + size);
     this.bytes().set(image.bytes.subarray(0, image.used), at);

@@ -161,8 +161,9 @@ export function judgeAssertion(module, image) {
 // their pointers, into this one: what they point to lies there still. No part that is lent has more bytes than `size`.
 function asked(module, size, fill) {
   const out = SIGNATURE_CALL.sizeOf, message = out + SIGNATURE_OUT.sizeOf, signature = message + size + 32;
-  const at = module.take(signature + size);
-  fill(module.bytes(), at);
+  const at = module.take(signature + size), bytes = module.bytes();
+  bytes.fill(0, at, at + out);
+  fill(bytes, at);
   const answer = module.call("passkey_signature_asked", BigInt(at), BigInt(at + message), BigInt(size + 32), BigInt(at + signature),
                              BigInt(size), BigInt(at + out));
   const room = new Room(module, at);
