@@ -218,6 +218,33 @@ test("programs that answer something else, or nothing", async () => {
   await odd.close();
 });
 
+test("each answer goes to who asked, also where it has no number, by a program that reads slowly", async () => {
+  // It answers each line by its own name, the second of three without a number, and takes one line in 5 milliseconds.
+  const slow = broken("slow", `let rest = "", lines = [];
+  stdin.setEncoding("utf8").on("data", (text) => { [...lines] = [...lines, ...(rest + text).split("\\n")]; rest = lines.pop(); });
+  setInterval(() => {
+    if (lines.length === 0) return;
+    const { id, user_name } = JSON.parse(lines.shift());
+    stdout.write(JSON.stringify({ ...(id % 3 === 0 ? {} : { id: id % 3 === 1 ? id : null }), error: user_name }) + "\\n");
+  }, 5);`, { timeout: 20_000 });
+  const names = Array.from({ length: 60 }, (_, index) => `${index} ${"x".repeat(index % 7 === 0 ? 60_000 : 9)}`);
+  const found = await Promise.all(names.map((name) => slow.registerBegin(user, name).catch(({ text }) => text)));
+  assert.deepEqual(found, names);
+  await slow.close();
+  // The proved program: lines that it can't read, among others.
+  const server = serving("mixed.db"), device = new Device(), wrong = ["\ud800", "A".repeat(65_000), "\udc00a\ud800", "\u2028", "\0"];
+  await registered(server, device);
+  const calls = Array.from({ length: 60 }, async (_, index) => {
+    if (index % 2 === 0) return server.registerBegin(user, wrong[index % 5]).then(() => "begun", ({ name }) => name);
+    const { options, session } = await server.authenticateBegin({ allow: [Buffer.from(`${index}`)] });
+    const refused = await server.authenticateComplete(session, device.signIn(options, { user })).catch(({ name }) => name);
+    return [refused, Buffer.from(options.allowCredentials[0].id, "base64url").toString(), await server.abandon(session)];
+  });
+  for (const [index, answer] of (await Promise.all(calls)).entries())
+    assert.deepEqual(answer, index % 2 === 1 ? ["W2", `${index}`, true] : index % 5 === 3 || index % 5 === 4 || index % 5 === 1 ? "begun" : "BadInput", `${index}`);
+  await server.close();
+});
+
 test("what could not be started says why", async () => {
   const one = serving("cause.db"), other = serving("cause.db", { rpName: "another" });
   await one.rows();
