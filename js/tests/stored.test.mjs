@@ -221,7 +221,7 @@ test("programs that answer something else, or nothing", async () => {
 test("each answer goes to who asked, also where it has no number, by a program that reads slowly", async () => {
   // It answers each line by its own name, the second of three without a number, and takes one line in 5 milliseconds.
   const slow = broken("slow", `let rest = "", lines = [];
-  stdin.setEncoding("utf8").on("data", (text) => { [...lines] = [...lines, ...(rest + text).split("\\n")]; rest = lines.pop(); });
+  stdin.setEncoding("utf8").on("data", (text) => { [...lines] = [...lines, ...(rest + text).split("\\n")]; rest = lines.pop(); }).on("end", () => process.exit(0));
   setInterval(() => {
     if (lines.length === 0) return;
     const { id, user_name } = JSON.parse(lines.shift());
