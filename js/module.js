@@ -187,7 +187,7 @@ export class Module {
     return this.#exports[name](...words);
   }
 
-  /** Makes calls of an owner, if there is one. A module that a call brought down is let go. */
+  /** Makes calls of an owner, if there is one. A module whose calls ended by an error is let go. */
   within(calls, owner = null) {
     if (this.#owner !== owner) this.clean();
     if (this.#exports === null) this.#start();
@@ -197,7 +197,6 @@ export class Module {
       isWhole = true;
       return told;
     } catch (error) {
-      isWhole = error instanceof NoMemory;
       if (error instanceof WebAssembly.RuntimeError || error instanceof RangeError) throw new NoMemory();
       throw error;
     } finally {

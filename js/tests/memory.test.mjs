@@ -125,6 +125,10 @@ test("a module that runs out of memory says so, and goes on", async () => {
   const small = serving(limited(3));
   await assert.rejects(visited(small, padded(44_000)), NoMemory);
   assert.equal((await visited(small)).credential.signCount, 1);
+  for (const call of [() => small.module.take(60_000), () => small.module.lend(new Uint8Array(60_000)), () => small.module.place(new Image(60_000), 8)])
+    assert.throws(() => small.module.within(call), NoMemory, "an address of 0 is none");
+  assert.equal((await visited(small)).credential.signCount, 1);
+  assert.ok(isAsAtFirst(small));
 });
 
 test("64 MB at most", async () => {
@@ -154,6 +158,7 @@ test("64 MB at most", async () => {
   }
   assert.ok(most > 10_000_000 && most <= MEGABYTES_64, `${most}`);
   assert.equal((await visited(made)).credential.signCount, 1);
+  assert.equal(module.bytes().length, made.first.length, "a module that had grown was let go");
 });
 
 async function registeredBy(server, device = new Device()) {
