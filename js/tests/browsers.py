@@ -167,7 +167,7 @@ def visits(opened, site, port):
     opened.open(origin + "browser.js")  # Where nothing asks for autofill.
     key = opened.authenticator()
     run = lambda script: opened.run(VISIT.replace("SCRIPT", script))  # noqa: E731
-    made = run("await visit('register')")
+    made, transports = run("await (async () => { let kept; return [await visit('register', (one) => (kept = one)), kept.response.transports]; })()")
     check(f"{site}: registered", (made.get("status"), len(made.get("user", ""))), (200, 43))
     signed = run("await visit('sign-in')")
     check(f"{site}: signed in", signed, made)
@@ -181,6 +181,11 @@ def visits(opened, site, port):
     check(f"{site}: once", (twice[0], twice[1].get("refusal")), (made, "W1"))
     check(f"{site}: a page of old", opened.run(OLD), "undefined")
     check(f"{site}: its sign-in", run("await visit('sign-in')"), made)
+    asked = run("await (async () => { const own = navigator.credentials.get, asked = [];"
+                " navigator.credentials.get = async (options) => { asked.push([options.mediation ?? null, options.signal instanceof AbortSignal]); throw new Error('none'); };"
+                " for (const how of [{ mediation: 'conditional' }, {}, undefined]) await signIn({ challenge: 'AAAA' }, how).catch(() => {});"
+                " navigator.credentials.get = own; return asked; })()")
+    check(f"{site}: what is asked of the browser", asked, [["conditional", True], [None, True], [None, True]])
     opened.without(key)
     key = opened.authenticator()
     second = run("await visit('register')")
@@ -190,8 +195,8 @@ def visits(opened, site, port):
                  " const again = { ...await post('/register/begin', { name: 'ada' }), excludeCredentials: list(kept.id) };"
                  " const other = { ...await post('/sign-in/begin', {}), allowCredentials: list('AAAA'), timeout: 500 };"
                  " const own = { ...other, allowCredentials: list(kept.id) };"
-                 " return [await register(again).catch(named), (await signIn(own)).id === kept.id, await signIn(other).catch(named)]; })()")
-    check(f"{site}: its lists", listed, ["InvalidStateError", True, "NotAllowedError"])
+                 " return [await register(again).catch(named), (await signIn(own)).id === kept.id, await signIn(other).catch(named), kept.response.transports]; })()")
+    check(f"{site}: its lists", listed, ["InvalidStateError", True, "NotAllowedError", transports])
     ended = run("await (async () => { const controller = new AbortController(); const first = visit('sign-in', (made) => made);"
                 " controller.abort(new Error('enough'));"
                 " const options = { challenge: 'AAAA', rpId: 'localhost', allowCredentials: [] };"

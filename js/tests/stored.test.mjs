@@ -91,6 +91,8 @@ test("options are those of Server, and the session is of what they ask", async (
   await server.registerComplete(begun.session, device.register(begun.options));
   const listed = await server.authenticateBegin({ allow: [id], userVerification: "required" });
   await assert.rejects(server.authenticateComplete(listed.session, device.signIn(listed.options)), { name: "W2" });
+  const second = await server.authenticateBegin({ allow: [id, device.id] });
+  assert.equal((await server.authenticateComplete(second.session, device.signIn(second.options, { user }))).signCount, 2);
   const verified = await server.authenticateBegin({ user, userVerification: "required" });
   await assert.rejects(server.authenticateComplete(verified.session, device.signIn(verified.options, { flags: UP })), { name: "W13" });
   const others = await server.authenticateBegin({ user: Buffer.from("somebody else") });
@@ -106,6 +108,10 @@ test("what the server takes", async () => {
     await server.registerComplete(session, device.register(options, { isPacked: isPacked === false }));
     await server.close();
   }
+  const two = new StoredServer(PROGRAM, path("two.db"), "example.com", ["https://example.com", "https://www.example.com"], quiet);
+  for (const [index, origin] of ["https://www.example.com", "https://example.com"].entries()) await registered(two, new Device(EDDSA, { id: Buffer.from(`${index}`), origin }));
+  await assert.rejects(registered(two, new Device(EDDSA, { origin: "https://other.example.com" })), { name: "G5" });
+  await two.close();
   const few = serving("few.db", { maxOpen: 1, maxCredentials: 1 }), first = (await few.authenticateBegin()).session;
   const second = (await few.authenticateBegin()).session;
   assert.deepEqual([await few.abandon(first), await few.abandon(second)], [false, true], "the oldest ended");
