@@ -12,6 +12,7 @@ export interface SiteRequest {
 
 /** What is asked of a response. */
 export interface SiteResponse {
+  readonly headersSent: boolean;
   appendHeader(name: string, value: string): unknown;
   writeHead(status: number, headers: Record<string, string>): { end(body: any): unknown };
 }

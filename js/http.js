@@ -112,6 +112,7 @@ export function passkeys(server, { secret, secure = true, logger = console.error
     if (method === "GET" && path === "/browser.js") return void send(200, "text/javascript", BROWSER);
     if (method !== "POST" || !Object.hasOwn(ACTS, path)) return void (next ? next() : send(404, "application/json", '{"error":"there is no such page"}'));
     const [status, told, cookie] = await answerTo(ACTS[path], request);
+    if (response.headersSent) return; // the host has answered meanwhile
     if (cookie !== undefined) response.appendHeader("Set-Cookie", cookie);
     send(status, "application/json", JSON.stringify(told));
   }

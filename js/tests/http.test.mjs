@@ -154,6 +154,17 @@ test("visitors who are slow, or leave", async (context) => {
   assert.equal((await post("/sign-in/begin", "{}")).status, 200);
 });
 
+test("a host that has answered already", async (context) => {
+  const hasty = (site) => createServer(async (request, response) => {
+    const answered = site(request, response);
+    if (request.headers.cookie === "hasty=1") response.writeHead(200, { "Content-Type": "application/json" }).end('{"hasty":true}');
+    await answered;
+  });
+  const { post } = await serving(context, stored(), hasty);
+  for (let time = 0; time < 5; time++) assert.deepEqual((await post("/sign-in/begin", "{}", "hasty=1")).told, { hasty: true });
+  assert.equal((await post("/sign-in/begin", "{}")).status, 200);
+});
+
 test("a program that dies, and one that never answers", async (context) => {
   const served = await serving(context, stored()), { post } = served, device = own("key"), { told } = await visit(served, "register", device);
   process.kill(children()[0], "SIGSTOP");
