@@ -140,14 +140,16 @@ test("what no page sends", async (context) => {
 test("visitors who are slow, or leave", async (context) => {
   const served = await serving(context, stored()), { port, post } = served, head = "POST /sign-in/complete HTTP/1.1\r\nHost: localhost\r\nContent-Type: application/json\r\n";
   const slow = Array.from({ length: 20 }, (_, index) => connect(port, "localhost").on("error", () => {}).setEncoding("latin1").pause().resume()
-    .on("connect", function () { this.write(`${head}Content-Length: 99\r\n\r\n{"id":`); if (index % 2 === 0) this.destroySoon(); }));
+    .on("connect", function () { if (index % 2 === 0) this.destroySoon(); }));
+  for (const one of slow) one.write(`${head}Content-Length: 99\r\n\r\n{"id":`);
   const endless = connect(port, "localhost").setEncoding("latin1");
-  endless.on("error", () => {}).on("connect", () => endless.write(`${head}Transfer-Encoding: chunked\r\n\r\n`));
+  endless.write(`${head}Transfer-Encoding: chunked\r\n\r\n`);
   const deaf = connect(port, "localhost").on("error", () => {}).pause();
   for (let time = 0; time < 200; time++) deaf.write("GET /browser.js HTTP/1.1\r\nHost: localhost\r\n\r\n");
   const piece = setInterval(() => endless.write(`10000\r\n${"A".repeat(0x10000)}\r\n`), 5), [said] = await once(endless, "data");
   clearInterval(piece);
-  assert.match(said, /^HTTP\/1\.1 400 /);
+  endless.on("error", () => {});
+  assert.match(said, /^HTTP\/1\.1 400 [^]*the body is too long/);
   const device = own("key"), { told } = await visit(served, "register", device), signed = await visit(served, "sign-in", device, { user: fromText(told.user, "user") });
   assert.deepEqual(signed.told, told);
   for (const one of [...slow, endless, deaf]) one.destroy();

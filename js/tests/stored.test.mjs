@@ -157,6 +157,10 @@ test("what hosts hand in by mistake", async () => {
   ];
   for (const call of rows) await assert.rejects(call(), BadInput, `${call}`);
   await assert.rejects(server.registerBegin(user, "\u00e9".repeat(40_000)), { text: "the line is too long" });
+  const spied = broken("spied", 'stdin.on("data", () => stdout.write("{}\\n")); stdin.on("end", () => process.exit(0));');
+  await assert.rejects(spied.registerBegin(user, "\u00e9".repeat(40_000)), { text: "the line is too long" }, "bytes are counted, and not characters");
+  assert.equal(children().length, 2, "it was not asked");
+  await spied.close();
   assert.equal(children().length, 1);
   assert.equal(await server.abandon(session), true);
   assert.equal((await server.authenticateBegin()).session, session + 1, "nothing began");
