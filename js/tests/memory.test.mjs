@@ -157,6 +157,7 @@ test("64 MB at most", async () => {
     }
   }
   assert.ok(most > 10_000_000 && most <= MEGABYTES_64, `${most}`);
+  await assert.rejects(server.authenticateCompleteParts(session, credential, { ...parts, clientData: Buffer.alloc(1_000_000) }), { name: "W5" });
   assert.equal((await visited(made)).credential.signCount, 1);
   assert.equal(module.bytes().length, made.first.length, "a module that had grown was let go");
 });
