@@ -1,8 +1,8 @@
 #!/usr/bin/python3
 """The package in a headless browser: browsers.py Chromium|Firefox FOLDER, in which the package is installed and the sites of
 examples/node lie. The page judges the table of responses by `garvoeng/web` (MALFORMED, HOSTILE, RECORDED); then `garvoeng/browser` signs in
-at each site, over the proved program (PROGRAM) and over PostgreSQL, whose address stands in the environment, by four processes, which are killed at random at the end. The
-last line is 'N passed, M failed'."""
+at each site, over the proved program (PROGRAM) and over PostgreSQL, whose address stands in the environment, by four processes, and at
+the end while one of these is killed after the other. The last line is 'N passed, M failed'."""
 import functools
 import http.server
 import json
