@@ -10,16 +10,15 @@ function textOf(buffer) {
   return btoa(letters).replace(/\+/g, "-").replace(/\//g, "_").replace(/=/g, "");
 }
 
-const withId = (value) => ({ ...value, id: bytesOf(value.id) });
+const listed = (list = []) => list.map((one) => ({ ...one, id: bytesOf(one.id) }));
 
-function creationOptions(options) {
-  if (PublicKeyCredential.parseCreationOptionsFromJSON !== undefined) return PublicKeyCredential.parseCreationOptionsFromJSON(options);
-  return { ...options, challenge: bytesOf(options.challenge), user: withId(options.user), excludeCredentials: (options.excludeCredentials ?? []).map(withId) };
-}
-
-function requestOptions(options) {
-  if (PublicKeyCredential.parseRequestOptionsFromJSON !== undefined) return PublicKeyCredential.parseRequestOptionsFromJSON(options);
-  return { ...options, challenge: bytesOf(options.challenge), allowCredentials: (options.allowCredentials ?? []).map(withId) };
+// The options of a kind, Creation or Request.
+function optionsOf(kind, options) {
+  const parse = `parse${kind}OptionsFromJSON`;
+  if (PublicKeyCredential[parse] !== undefined) return PublicKeyCredential[parse](options);
+  const { user, excludeCredentials, allowCredentials } = options, own = { ...options, challenge: bytesOf(options.challenge) };
+  if (kind === "Request") return { ...own, allowCredentials: listed(allowCredentials) };
+  return { ...own, user: { ...user, id: bytesOf(user.id) }, excludeCredentials: listed(excludeCredentials) };
 }
 
 // Results of extensions, some of which have bytes.
@@ -31,39 +30,30 @@ function resultsOf(value) {
 
 function responseOf(credential) {
   if (credential.toJSON !== undefined) return credential.toJSON();
-  const { id, type, response } = credential, parts = {};
+  const { id, type, authenticatorAttachment, response: given } = credential, response = { transports: given.getTransports?.() };
   for (const name of ["clientDataJSON", "attestationObject", "authenticatorData", "signature", "userHandle"])
-    if (response[name]) parts[name] = textOf(response[name]);
-  if (response.getTransports !== undefined) parts.transports = response.getTransports();
-  const made = { id, rawId: id, type, response: parts, clientExtensionResults: resultsOf(credential.getClientExtensionResults()) };
-  return credential.authenticatorAttachment ? { ...made, authenticatorAttachment: credential.authenticatorAttachment } : made;
+    if (given[name]) response[name] = textOf(given[name]);
+  const clientExtensionResults = resultsOf(credential.getClientExtensionResults());
+  return { id, rawId: id, type, authenticatorAttachment: authenticatorAttachment ?? undefined, response, clientExtensionResults };
 }
 
 let pending = null;
 
 // A browser takes one call at a time: a new one ends the one that waits, as that of autofill.
-async function credentialBy(call, signal, options) {
+async function credentialBy(call, publicKey, { signal, mediation }) {
   const controller = new AbortController(), end = () => controller.abort(signal.reason);
   pending?.abort(new DOMException("another call began", "AbortError"));
   pending = controller;
   if (signal?.aborted) end();
   signal?.addEventListener("abort", end);
   try {
-    return responseOf(await navigator.credentials[call]({ ...options, signal: controller.signal }));
+    return responseOf(await navigator.credentials[call]({ publicKey, mediation, signal: controller.signal }));
   } finally {
     signal?.removeEventListener("abort", end);
     if (pending === controller) pending = null;
   }
 }
 
-export async function register(options, { signal } = {}) {
-  return credentialBy("create", signal, { publicKey: creationOptions(options) });
-}
-
-export async function signIn(options, { signal, mediation } = {}) {
-  return credentialBy("get", signal, { publicKey: requestOptions(options), ...(mediation === undefined ? {} : { mediation }) });
-}
-
-export async function canAutofill() {
-  return (await globalThis.PublicKeyCredential?.isConditionalMediationAvailable?.()) === true;
-}
+export const register = async (options, { signal } = {}) => credentialBy("create", optionsOf("Creation", options), { signal });
+export const signIn = async (options, { signal, mediation } = {}) => credentialBy("get", optionsOf("Request", options), { signal, mediation });
+export const canAutofill = async () => (await globalThis.PublicKeyCredential?.isConditionalMediationAvailable?.()) === true;

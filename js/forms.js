@@ -9,6 +9,7 @@ export const REGISTRATION_MEMBERS = ["clientDataJSON", "attestationObject"];
 export const SIGN_IN_MEMBERS = ["clientDataJSON", "authenticatorData", "signature"];
 
 const LETTERS = "ABCDEFGHIJKLMNOPQRSTUVWXYZabcdefghijklmnopqrstuvwxyz0123456789-_";
+const ZERO = LETTERS.charCodeAt(0);
 const SEXTETS = new Uint8Array(256).fill(255);
 for (let index = 0; index < 64; index++) SEXTETS[LETTERS.charCodeAt(index)] = index;
 
@@ -24,28 +25,39 @@ export function toText(value) {
   return text;
 }
 
-/** The bytes of base64url without padding, whose one spelling each value has (RFC 4648, sections 3.5 and 5). Throws
- *  `BadInput`. */
-export function fromText(text, what) {
-  if (typeof text !== "string") throw new BadInput(`${what} is not a text`);
-  const { length } = text, value = new Uint8Array((length * 3) >> 2);
-  const sextet = (at) => SEXTETS[text.charCodeAt(at)] ?? 255;
-  let wrong = length % 4 === 1 ? 255 : 0, made = 0, at = 0;
-  for (; at + 4 <= length; at += 4) {
-    const a = sextet(at), b = sextet(at + 1), c = sextet(at + 2), d = sextet(at + 3);
-    wrong |= a | b | c | d;
+function sizeOf(text) {
+  return (text.length * 3) >> 2;
+}
+
+// Writes the bytes of a text from an offset on; whether it is base64url in its one spelling.
+function readInto(value, made, text) {
+  const { length } = text, whole = length - (length % 4);
+  let wrong = length % 4 === 1 ? 255 : 0, at = 0;
+  for (; at < whole; at += 4) {
+    const first = text.charCodeAt(at), second = text.charCodeAt(at + 1), third = text.charCodeAt(at + 2), fourth = text.charCodeAt(at + 3);
+    const a = SEXTETS[first & 255], b = SEXTETS[second & 255], c = SEXTETS[third & 255], d = SEXTETS[fourth & 255];
+    wrong |= a | b | c | d | ((first | second | third | fourth) & ~127);
     value[made++] = (a << 2) | (b >> 4);
     value[made++] = (b << 4) | (c >> 2);
     value[made++] = (c << 6) | d;
   }
   // Two or three letters are left, whose last bits no byte has: they are 0.
   if (length - at >= 2) {
-    const a = sextet(at), b = sextet(at + 1), c = length - at === 3 ? sextet(at + 2) : 0;
-    wrong |= a | b | c | ((length - at === 3 ? c & 3 : b & 15) === 0 ? 0 : 255);
+    const first = text.charCodeAt(at), second = text.charCodeAt(at + 1), third = length - at === 3 ? text.charCodeAt(at + 2) : ZERO;
+    const a = SEXTETS[first & 255], b = SEXTETS[second & 255], c = SEXTETS[third & 255];
+    wrong |= a | b | c | ((first | second | third) & ~127) | ((length - at === 3 ? c & 3 : b & 15) === 0 ? 0 : 255);
     value[made++] = (a << 2) | (b >> 4);
     if (length - at === 3) value[made] = (b << 4) | (c >> 2);
   }
-  if (wrong > 63) throw new BadInput(`${what} is not base64url`);
+  return wrong <= 63;
+}
+
+/** The bytes of base64url without padding, whose one spelling each value has (RFC 4648, sections 3.5 and 5). Throws
+ *  `BadInput`. */
+export function fromText(text, what) {
+  if (typeof text !== "string") throw new BadInput(`${what} is not a text`);
+  const value = new Uint8Array(sizeOf(text));
+  if (!readInto(value, 0, text)) throw new BadInput(`${what} is not base64url`);
   return value;
 }
 
@@ -84,10 +96,18 @@ export function textsIn(response, names, optional = []) {
   return texts;
 }
 
-/** The same, as bytes. */
+/** The same, as bytes, of which all lie in one buffer: to make one for each takes longer than to read it. */
 export function bytesIn(response, names, optional) {
   const parts = textsIn(response, names, optional);
-  for (const name in parts) parts[name] = fromText(parts[name], name);
+  let size = 0, at = 0;
+  for (const name in parts) size += sizeOf(parts[name]);
+  const all = new Uint8Array(size);
+  for (const name in parts) {
+    const text = parts[name], end = at + sizeOf(text);
+    if (!readInto(all, at, text)) throw new BadInput(`${name} is not base64url`);
+    parts[name] = all.subarray(at, end);
+    at = end;
+  }
   return parts;
 }
 

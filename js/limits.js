@@ -22,6 +22,7 @@ const ANDROID = /^android:apk-key-hash:[A-Za-z0-9_-]+$/;
 const DEFAULT_PORTS = { https: "443", http: "80" };
 const TRANSPORT = /^[a-z0-9-]{1,32}$/;
 const MAX_TRANSPORTS = 16;
+const NO_ALGORITHMS = "algorithms are ES256 (-7), EDDSA (-8) and RS256 (-257)";
 
 // A domain as browsers write it: 1 to 253 characters, and no IP address (WebAuthn Level 2, section 4).
 function checkRpId(rpId) {
@@ -82,8 +83,7 @@ export function checkIds(ids, most = MAX_LIST) {
 }
 
 export function checkAlgorithms(algorithms) {
-  if (!Array.isArray(algorithms) || !algorithms.every((one) => ALGORITHMS.includes(one)))
-    throw new BadInput("algorithms are ES256 (-7), EDDSA (-8) and RS256 (-257)");
+  if (!Array.isArray(algorithms) || !algorithms.every((one) => ALGORITHMS.includes(one))) throw new BadInput(NO_ALGORITHMS);
   return Object.freeze([...algorithms]);
 }
 
@@ -95,7 +95,7 @@ export function checkOneOf(value, what, texts) {
 
 /** What a stored credential says, before it is handed on in fewer bits. */
 export function checkCredential({ algorithm, signCount }) {
-  checkAlgorithms([algorithm]);
+  if (!ALGORITHMS.includes(algorithm)) throw new BadInput(NO_ALGORITHMS);
   if (!Number.isInteger(signCount) || signCount < 0 || signCount > 0xffffffff)
     throw new BadInput("a signature counter is from 0 to 2^32 - 1");
 }

@@ -7,14 +7,26 @@ const ABI_VERSION = 3;
 export const MOST_LENT = 4 * 1024 * 1024;
 // A module whose memory has grown beyond this is let go after the call, so that no later one has much to overwrite.
 const MOST_KEPT = 512 * 1024;
+const FIRST_SIZE = 1280;
+
+// The bytes of an image that has ended, all 0, for the next one.
+let spare = null;
 
 /** The struct of a call with all that it lends, copied as it was when it was lent. Flags and counts are 0 at first. */
 export class Image {
   constructor(size) {
-    this.bytes = new Uint8Array(1280);
+    this.view = spare ?? new DataView(new ArrayBuffer(FIRST_SIZE));
+    spare = null;
+    this.bytes = new Uint8Array(this.view.buffer);
     this.used = size;
     this.pointers = [];
-    this.view = new DataView(this.bytes.buffer);
+  }
+
+  /** Overwrites it. It is of no use from then on. */
+  end() {
+    this.bytes.fill(0, 0, this.used);
+    if (this.bytes.length === FIRST_SIZE) spare = this.view;
+    this.bytes = this.view = null;
   }
 
   // Room behind what is used already, at a multiple of 8: where it begins.
@@ -24,6 +36,7 @@ export class Image {
     if (this.used > this.bytes.length) {
       const larger = new Uint8Array(Math.max(2 * this.bytes.length, this.used));
       larger.set(this.bytes);
+      this.bytes.fill(0);
       this.bytes = larger;
       this.view = new DataView(larger.buffer);
     }
@@ -143,7 +156,8 @@ export class Module {
     return this.#view;
   }
 
-  #take(size) {
+  /** Where there is room in the memory for so many bytes, in which anything of this owner may lie. */
+  take(size) {
     if (size > MOST_LENT) throw new NoMemory();
     const block = this.#exports.malloc(BigInt(size));
     if (block === 0n) throw new NoMemory();
@@ -151,9 +165,16 @@ export class Module {
     return Number(block);
   }
 
-  /** Where an image lies in the memory, with so many bytes of 0 behind it; and where these begin. */
+  /** Where these bytes lie in the memory. */
+  lend(value) {
+    const at = this.take(value.length);
+    this.bytes().set(value, at);
+    return at;
+  }
+
+  /** Where an image lies in the memory, with room for so many bytes behind it; and where that begins. */
   place(image, size) {
-    const behind = Math.ceil(image.used / 8) * 8, at = this.#take(behind + size);
+    const behind = Math.ceil(image.used / 8) * 8, at = this.take(behind + size);
     this.bytes().set(image.bytes.subarray(0, image.used), at);
     const view = this.view();
     for (let index = 0; index < image.pointers.length; index += 2)
@@ -166,7 +187,7 @@ export class Module {
     return this.#exports[name](...words);
   }
 
-  /** Makes calls of an owner, if there is one. A module that a call brought down is let go. */
+  /** Makes calls of an owner, if there is one. A module whose calls ended by an error is let go. */
   within(calls, owner = null) {
     if (this.#owner !== owner) this.clean();
     if (this.#exports === null) this.#start();
@@ -176,7 +197,6 @@ export class Module {
       isWhole = true;
       return told;
     } catch (error) {
-      isWhole = error instanceof NoMemory;
       if (error instanceof WebAssembly.RuntimeError || error instanceof RangeError) throw new NoMemory();
       throw error;
     } finally {

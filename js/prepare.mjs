@@ -15,7 +15,7 @@ function inCommonJs(text) {
     .replace(/^export const \{([^}]*)\}/gm, (_, names) => `${(exported.push(...named(names)), "const")} {${names}}`)
     .replace(/^export ((?:async )?(?:class|function|const) (\w+))/gm, (_, words, name) => (exported.push(name), words))
     .replace(/\bimport\.meta\.url\b/g, 'require("node:url").pathToFileURL(__filename)')
-    .replace('"./passkey.wasm"', '"../passkey.wasm"');
+    .replace(/"\.\/(passkey\.wasm|browser\.js)"/g, '"../$1"');
   if (/^(import|export)\b|\bimport\.meta\b/m.test(body)) throw new Error("a form of import or export that is not known");
   return `"use strict";\n${body}\n${exported.map((name) => `exports.${name} = ${name};`).join("\n")}\n`;
 }
@@ -34,12 +34,13 @@ function typesInCommonJs() {
   return shared + own.replace(/^(import|export) \{[^}]*\} from ".*";$/gm, "");
 }
 
-const MODULES = ["errors", "forms", "index", "layout", "limits", "module", "node_signatures", "options", "program", "records", "server",
+const MODULES = ["errors", "forms", "http", "index", "layout", "limits", "module", "node_signatures", "options", "program", "records", "server",
                  "sql", "stored", "verdicts", "workers"];
 rmSync(here("cjs"), { recursive: true, force: true });
 mkdirSync(here("cjs"));
 for (const name of MODULES) writeFileSync(here(`cjs/${name}.cjs`), inCommonJs(readFileSync(here(`${name}.js`), "utf8")));
 writeFileSync(here("cjs/index.d.cts"), typesInCommonJs());
-writeFileSync(here("cjs/sql.d.cts"), readFileSync(here("sql.d.ts"), "utf8").replace("./index.js", "./index.cjs"));
+for (const name of ["sql", "http"])
+  writeFileSync(here(`cjs/${name}.d.cts`), readFileSync(here(`${name}.d.ts`), "utf8").replace(/"\.\/(\w+)\.js"/g, '"./$1.cjs"'));
 copyFileSync(here("../dist/portable/passkey.wasm"), here("passkey.wasm"));
 copyFileSync(here("../LICENSE"), here("LICENSE"));

@@ -80,7 +80,7 @@ export function serverOver(moduleOf, randomBytes, isValid) {
       const module = moduleOf(), begun = sessionOf(session, RegistrationSession), user = begun?.user.slice();
       const image = registrationImage(this.#party, begun, response, { freeId, isFull });
       const { told, answer } = await this.#judged(module, true, image, judgeRegistration, BAD_STATEMENT,
-                                                 () => askedOfRegistration(module, this.#party, response));
+                                                 (at) => askedOfRegistration(module, at, this.#party, response));
       checkAnswer(module, true, answer);
       const { id, algorithm, x, y, signCount, eligible, extensionsSize, ...rest } = told;
       const credential = new Credential({ id, user, algorithm, x, y, signCount, eligible, transports });
@@ -116,10 +116,10 @@ export function serverOver(moduleOf, randomBytes, isValid) {
       const module = moduleOf(), begun = sessionOf(session, SignInSession), before = credentialOf(credential);
       const image = assertionImage(this.#party, begun, before, response);
       const { told, answer } = await this.#judged(module, false, image, judgeAssertion, BAD_SIGNATURE,
-                                                 () => askedOfAssertion(module, before, response));
+                                                 (at) => askedOfAssertion(module, at, response));
       checkAnswer(module, false, answer);
-      const { signCount, eligible, extensionsSize, ...rest } = told;
-      return Object.freeze({ credential: before.received(signCount, eligible), before, ...rest,
+      const { signCount, eligible, backedUp, userVerified, flags, extensionsSize } = told;
+      return Object.freeze({ credential: before.received(signCount, eligible), before, backedUp, userVerified, flags,
                              extensions: last(response.authData, extensionsSize) });
     }
 
@@ -129,9 +129,10 @@ export function serverOver(moduleOf, randomBytes, isValid) {
       try {
         const first = module.within(() => {
           const judged = judge(module, image);
-          return judged.answer === signatureStep ? { ...judged, asked: ask() } : judged;
+          if (judged.answer === signatureStep) judged.asked = ask(judged.at);
+          return judged;
         }, image);
-        if (first.asked === undefined) return first;
+        if (first.asked === null) return first;
         checkAnswer(module, isRegistration, first.asked.answer);
         const { signature } = first.asked;
         if (signature === null) return first;
@@ -146,6 +147,7 @@ export function serverOver(moduleOf, randomBytes, isValid) {
         return module.within(() => judge(module, image), image);
       } finally {
         module.clean();
+        image.end();
       }
     }
   };

@@ -144,58 +144,61 @@ function registeredIn(room) {
 function judge(module, name, image, out, read) {
   const [at, behind] = module.place(image, out.sizeOf);
   const answer = module.call(name, BigInt(at), BigInt(behind));
-  return { answer, told: answer === ACCEPTED ? read(new Room(module, behind), out) : null };
+  return { at, answer, asked: null, told: answer === ACCEPTED ? read(new Room(module, behind), out) : null };
 }
 
-/** The answer to a registration, and what it tells where it is accepted. */
+/** The answer to a registration, what it tells where it is accepted, and where the call lies. */
 export function judgeRegistration(module, image) {
   return judge(module, "passkey_registration", image, REGISTRATION_OUT, registeredIn);
 }
 
-/** The answer to a sign-in, and what it tells where it is accepted. */
+/** The same of a sign-in. */
 export function judgeAssertion(module, image) {
   return judge(module, "passkey_assertion", image, ASSERTION_OUT, flagsIn);
 }
 
-// The answer, and the signature that is to be verified; null where there is none.
-function asked(module, image, size) {
-  const messageAt = Math.ceil(SIGNATURE_OUT.sizeOf / 8) * 8, signatureAt = messageAt + size + 32;
-  const [at, behind] = module.place(image, signatureAt + size);
-  const answer = module.call("passkey_signature_asked", BigInt(at), BigInt(behind + messageAt), BigInt(size + 32),
-                             BigInt(behind + signatureAt), BigInt(size), BigInt(behind));
-  const room = new Room(module, behind);
-  if (answer !== ACCEPTED || room.u8(SIGNATURE_OUT.is_asked) === 0) return { answer, signature: null };
-  return {
-    answer,
-    signature: {
-      ...keyIn(room, SIGNATURE_OUT.key),
-      message: room.copy(messageAt, room.u32(SIGNATURE_OUT.message_size)),
-      signature: room.copy(signatureAt, room.u32(SIGNATURE_OUT.signature_size)),
-    },
-  };
+// The answer, and the signature that is to be verified; null where there is none. `fill` copies parts of a call that was judged, with
+// their pointers, into this one: what they point to lies there still. No part that is lent has more bytes than `size`.
+function asked(module, size, fill) {
+  const out = SIGNATURE_CALL.sizeOf, message = out + SIGNATURE_OUT.sizeOf, signature = message + size + 32;
+  const at = module.take(signature + size), bytes = module.bytes();
+  bytes.fill(0, at, at + out);
+  fill(bytes, at);
+  const answer = module.call("passkey_signature_asked", BigInt(at), BigInt(at + message), BigInt(size + 32), BigInt(at + signature),
+                             BigInt(size), BigInt(at + out));
+  const room = new Room(module, at);
+  if (answer !== ACCEPTED || room.u8(out + SIGNATURE_OUT.is_asked) === 0) return { answer, signature: null };
+  const made = keyIn(room, out + SIGNATURE_OUT.key);
+  made.message = room.copy(message, room.u32(out + SIGNATURE_OUT.message_size));
+  made.signature = room.copy(signature, room.u32(out + SIGNATURE_OUT.signature_size));
+  return { answer, signature: made };
 }
 
-/** Which signature a registration asks for. */
-export function askedOfRegistration(module, { openProfile }, response) {
-  const image = new Image(SIGNATURE_CALL.sizeOf);
-  image.flag(SIGNATURE_CALL.is_registration, true);
-  image.flag(SIGNATURE_CALL.open_profile, openProfile);
-  registrationResponse(image, SIGNATURE_CALL.registration, response);
-  return asked(module, image, response.attestationObject.length);
+function copyPart(bytes, to, from, { sizeOf }) {
+  bytes.copyWithin(to, from, from + sizeOf);
 }
 
-/** Which signature a sign-in asks for. */
-export function askedOfAssertion(module, credential, response) {
-  const image = new Image(SIGNATURE_CALL.sizeOf);
-  assertionResponse(image, SIGNATURE_CALL.assertion, response);
-  key(image, SIGNATURE_CALL.key, credential);
-  return asked(module, image, Math.max(response.authData.length, response.signature.length));
+/** Which signature a registration asks for, whose call lies at this address. */
+export function askedOfRegistration(module, call, { openProfile }, response) {
+  return asked(module, response.attestationObject.length, (bytes, at) => {
+    bytes[at + SIGNATURE_CALL.is_registration] = 1;
+    bytes[at + SIGNATURE_CALL.open_profile] = openProfile ? 1 : 0;
+    copyPart(bytes, at + SIGNATURE_CALL.registration, call + REGISTRATION_CALL.response, REGISTRATION_RESPONSE);
+  });
+}
+
+/** Which signature a sign-in asks for, whose call lies at this address. */
+export function askedOfAssertion(module, call, response) {
+  return asked(module, Math.max(response.authData.length, response.signature.length), (bytes, at) => {
+    copyPart(bytes, at + SIGNATURE_CALL.assertion, call + ASSERTION_CALL.response, ASSERTION_RESPONSE);
+    copyPart(bytes, at + SIGNATURE_CALL.key, call + ASSERTION_CALL.credential + CREDENTIAL.key, KEY);
+  });
 }
 
 /** The text of an answer; empty where it has none. */
 export function refusalText(module, isRegistration, answer) {
   return module.within(() => {
-    const [at] = module.place(new Image(0), MOST_OF_A_TEXT);
+    const at = module.take(MOST_OF_A_TEXT);
     const size = module.call("passkey_refusal_text", Number(isRegistration), answer, BigInt(at), BigInt(MOST_OF_A_TEXT));
     return String.fromCharCode(...new Room(module, at).copy(0, Number(size)));
   });
@@ -212,18 +215,15 @@ export function checkAnswer(module, isRegistration, answer) {
 
 /** Whether the bytes are one value of canonical CBOR (CTAP 2.1), and no more. */
 export function isCanonical(module, value) {
-  return module.within(() => {
-    const image = new Image(0), offset = image.add(value), [at] = module.place(image, 0);
-    return module.call("passkey_is_canonical", BigInt(at + offset), BigInt(value.length)) !== 0;
-  });
+  return module.within(() => module.call("passkey_is_canonical", BigInt(module.lend(value)), BigInt(value.length)) !== 0);
 }
 
 /** The algorithm, x and y of COSE_Key bytes (RFC 9052, section 7); null where they are no key's in canonical CBOR. */
 export function keyFromCose(module, value) {
   return module.within(() => {
-    const image = new Image(0), offset = image.add(value), [at, behind] = module.place(image, KEY_OUT.sizeOf);
-    const is = module.call("passkey_key_from_cose", BigInt(at + offset), BigInt(value.length), BigInt(behind));
-    return is === 0 ? null : keyIn(new Room(module, behind), 0);
+    const at = module.lend(value), out = module.take(KEY_OUT.sizeOf);
+    const is = module.call("passkey_key_from_cose", BigInt(at), BigInt(value.length), BigInt(out));
+    return is === 0 ? null : keyIn(new Room(module, out), 0);
   });
 }
 
@@ -233,6 +233,7 @@ export function keyToCose(module, parts) {
     const image = new Image(KEY.sizeOf);
     key(image, 0, parts);
     const [at, behind] = module.place(image, MOST_OF_A_COSE_KEY);
+    image.end();
     const size = module.call("passkey_key_to_cose", BigInt(at), BigInt(behind), BigInt(MOST_OF_A_COSE_KEY));
     return new Room(module, behind).copy(0, Number(size));
   });

@@ -2,6 +2,8 @@
 const cluster = require("node:cluster");
 require("./party.cjs"); // The primary has the program, or gives its workers the secret.
 
+// Each takes connections itself: one that the primary hands to a process that is killed is lost, and its browser waits.
+cluster.schedulingPolicy = cluster.SCHED_NONE;
 if (cluster.isPrimary) {
   for (let count = 0; count < Number(process.env.WORKERS ?? 4); count++) cluster.fork();
   cluster.on("exit", () => setTimeout(() => cluster.fork(), 100));

@@ -1,12 +1,13 @@
 #!/usr/bin/python3
 """The package in a headless browser: browsers.py Chromium|Firefox FOLDER, in which the package is installed and the sites of
 examples/node lie. The page judges the table of responses by `garvoeng/web` (MALFORMED, HOSTILE, RECORDED); then `garvoeng/browser` signs in
-at each site, over the proved program (PROGRAM) and over PostgreSQL, whose address stands in the environment, by four processes. The
-last line is 'N passed, M failed'."""
+at each site, over the proved program (PROGRAM) and over PostgreSQL, whose address stands in the environment, by four processes, and at
+the end while one of these is killed after the other. The last line is 'N passed, M failed'."""
 import functools
 import http.server
 import json
 import os
+import random
 import signal
 import socket
 import subprocess
@@ -64,7 +65,7 @@ PAGE = """(async () => {{
 VISIT = """(async () => {
   const { register, signIn } = await import('/browser.js');
   const post = async (path, body) => {
-    const answer = await fetch(path, { method: 'POST', headers: { 'Content-Type': 'application/json' }, body: JSON.stringify(body) });
+    const answer = await fetch(path, { method: 'POST', headers: { 'Content-Type': 'application/json' }, body: JSON.stringify(body), signal: AbortSignal.timeout(10_000) });
     return { status: answer.status, ...await answer.json() };
   };
   const visit = async (act, change = (made) => made) => {
@@ -73,6 +74,24 @@ VISIT = """(async () => {
     return post(`/${act}/complete`, change(await (act === 'register' ? register : signIn)(options)));
   };
   return SCRIPT;
+})()"""
+# Sign-ins for so many milliseconds, each response sent twice at once, whatever the site does meanwhile.
+WITHOUT_END = """await (async () => {
+  const counted = { accepted: 0, failed: 0, twice: 0 }, ends = Date.now() + MILLISECONDS;
+  while (Date.now() < ends) {
+    try {
+      const { status, ...options } = await post('/sign-in/begin', {});
+      if (status !== 200) throw new Error('no session');
+      const made = await signIn(options), answers = await Promise.all([made, made].map((one) => post('/sign-in/complete', one).catch(() => ({ status: 0 }))));
+      const accepted = answers.filter((answer) => answer.status === 200).length;
+      counted.accepted += accepted;
+      if (accepted > 1) counted.twice++;
+    } catch {
+      counted.failed++;
+      await new Promise((done) => setTimeout(done, 50));
+    }
+  }
+  return counted;
 })()"""
 # As a browser that has no JSON calls.
 OLD = """(async () => { for (const name of ['parseCreationOptionsFromJSON', 'parseRequestOptionsFromJSON']) delete PublicKeyCredential[name];
@@ -100,7 +119,7 @@ def in_page(opened):
 def started(site, **environment):
     """A site of four processes, which answers at its port."""
     port = free_port()
-    said = {**os.environ, "PORT": str(port), "SECRET": "a secret", **environment}
+    said = {**os.environ, "PORT": str(port), "SECRET": "a secret of thirty-two characters", **environment}
     run = subprocess.Popen(["node", "workers.cjs", f"./{site}.cjs"], cwd=folder, env=said, stderr=subprocess.DEVNULL)
     for _ in range(200):
         try:
@@ -128,18 +147,16 @@ def hostile_requests(site, port):
     other = posted(port, "/sign-in/begin", b"{}")[2].split(";")[0]
     response = {"id": "AA", "rawId": "AA", "type": "public-key", "response": {"clientDataJSON": "AA", "authenticatorData": "AA", "signature": "AA"}}
     whole = json.dumps(response).encode()
-    check(f"{site}: a response of nobody", posted(port, "/sign-in/complete", whole, cookie)[1].startswith('{"error":"W3'))
-    mixed = cookie.split(".")[0] + "." + other.split(".")[1]
-    for sent in ("", "begun=", "begun=1", mixed, cookie[:-1], cookie[:-2] + "AA", cookie.replace("begun", "user"), "begun=" + "A" * 4000, "begun=s%3Aj%3A%7B%7D.AA",
-                 "begun=%", "begun=j:{\"session\":1}"):
+    check(f"{site}: a response of nobody", json.loads(posted(port, "/sign-in/complete", whole, cookie)[1]).get("refusal"), "W3")
+    mixed, name = cookie.split(".")[0] + "." + other.split(".")[1], cookie.split("=")[0]
+    for sent in ("", f"{name}=", f"{name}=1", mixed, cookie[:-1], cookie[:-2] + "AA", cookie.replace("sign_in", "registration"), f"{name}=" + "A" * 4000, f"{name}=%"):
         status, said, _ = posted(port, "/sign-in/complete", whole, sent)
-        check(f"{site}: the cookie {sent[:40]}", (status, "W1:" in said or "BadInput" in said), (400, True))
+        check(f"{site}: the cookie {sent[:40]}", (status, json.loads(said).get("refusal")), (403, "W1"))
     for path in ("/register/begin", "/register/complete", "/sign-in/complete"):
-        for body in (b"", b"null", b"[]", b"7", b'"x"', b"{", b"\xff", b'{"name":{"toString":1}}', b'{"name":null}', b"<script>", b"[" * 50_000, b'{"__proto__":{}}'):
+        for body in (b"", b"null", b"[]", b"7", b'"x"', b"{", b"\xff", b'{"name":{"toString":1}}', b'{"name":null}', b"<script>", b"[" * 50_000, b'{"__proto__":{}}',
+                     b'{"name":"\\ud800"}', b'{"name":1e999}', b'{"id":' + b"[" * 60_000 + b"]" * 60_000 + b"}", b"A" * 140_000, json.dumps({"name": "A" * 70_000}).encode()):
             status, said, _ = posted(port, path, body, cookie)
-            check(f"{site}: {path} {body[:20]}", (status, "error" in json.loads(said)), (400, True))
-    status = posted(port, "/register/begin", json.dumps({"name": "A" * 70_000}).encode())[0]
-    check(f"{site}: a long one", status in (400, 413))
+            check(f"{site}: {path} {body[:20]}", (status, list(json.loads(said))), (400, ["error"]))
     check(f"{site}: no such page", posted(port, "/toString", b"{}")[0], 404)
     check(f"{site}: it goes on", posted(port, "/sign-in/begin", b"{}")[0], 200)
 
@@ -150,28 +167,36 @@ def visits(opened, site, port):
     opened.open(origin + "browser.js")  # Where nothing asks for autofill.
     key = opened.authenticator()
     run = lambda script: opened.run(VISIT.replace("SCRIPT", script))  # noqa: E731
-    made = run("await visit('register')")
-    check(f"{site}: registered", (made.get("status"), len(made.get("user", ""))), (200, 22))
+    made, transports = run("await (async () => { let kept; return [await visit('register', (one) => (kept = one)), kept.response.transports]; })()")
+    check(f"{site}: registered", (made.get("status"), len(made.get("user", ""))), (200, 43))
     signed = run("await visit('sign-in')")
     check(f"{site}: signed in", signed, made)
     wrong = run("await visit('sign-in', (made) => ({ ...made, response: { ...made.response, signature: 'AA' } }))")
-    check(f"{site}: another signature", (wrong.get("status"), wrong.get("error", "")[:4]), (400, "W14:"))
+    check(f"{site}: another signature", (wrong.get("status"), wrong.get("refusal")), (403, "W14"))
+    account = "await (async () => { const answer = await fetch('/account'); return [answer.status, await answer.text()]; })()"
+    check(f"{site}: whose account it is", run(account), [200, made.get("user")])
+    check(f"{site}: signed out", (run("await post('/sign-out', {})"), run(account)), ({"status": 200}, [401, "nobody is signed in"]))
     twice = run("await (async () => { let kept; const first = await visit('sign-in', (made) => (kept = made));"
                 " return [first, await post('/sign-in/complete', kept)]; })()")
-    check(f"{site}: once", (twice[0], twice[1].get("error", "")[:3]), (made, "W1:"))
+    check(f"{site}: once", (twice[0], twice[1].get("refusal")), (made, "W1"))
     check(f"{site}: a page of old", opened.run(OLD), "undefined")
     check(f"{site}: its sign-in", run("await visit('sign-in')"), made)
+    asked = run("await (async () => { const own = navigator.credentials.get, asked = [];"
+                " navigator.credentials.get = async (options) => { asked.push([options.mediation ?? null, options.signal instanceof AbortSignal]); throw new Error('none'); };"
+                " for (const how of [{ mediation: 'conditional' }, {}, undefined]) await signIn({ challenge: 'AAAA' }, how).catch(() => {});"
+                " navigator.credentials.get = own; return asked; })()")
+    check(f"{site}: what is asked of the browser", asked, [["conditional", True], [None, True], [None, True]])
     opened.without(key)
     key = opened.authenticator()
     second = run("await visit('register')")
-    check(f"{site}: its registration", (second.get("status"), run("await visit('sign-in')")), (200, second))
-    listed = run("await (async () => { let kept; await visit('register', (made) => (kept = made));"
+    check(f"{site}: its registration, of the same account", (second, run("await visit('sign-in')")), (made, made))
+    listed = run("await (async () => { let kept; await post('/sign-out', {}); await visit('register', (made) => (kept = made));"
                  " const named = (error) => error.name, list = (id) => [{ type: 'public-key', id }];"
                  " const again = { ...await post('/register/begin', { name: 'ada' }), excludeCredentials: list(kept.id) };"
                  " const other = { ...await post('/sign-in/begin', {}), allowCredentials: list('AAAA'), timeout: 500 };"
                  " const own = { ...other, allowCredentials: list(kept.id) };"
-                 " return [await register(again).catch(named), (await signIn(own)).id === kept.id, await signIn(other).catch(named)]; })()")
-    check(f"{site}: its lists", listed, ["InvalidStateError", True, "NotAllowedError"])
+                 " return [await register(again).catch(named), (await signIn(own)).id === kept.id, await signIn(other).catch(named), kept.response.transports]; })()")
+    check(f"{site}: its lists", listed, ["InvalidStateError", True, "NotAllowedError", transports])
     ended = run("await (async () => { const controller = new AbortController(); const first = visit('sign-in', (made) => made);"
                 " controller.abort(new Error('enough'));"
                 " const options = { challenge: 'AAAA', rpId: 'localhost', allowCredentials: [] };"
@@ -190,9 +215,45 @@ def visits(opened, site, port):
     click = "(async () => {{ document.getElementById('{0}').click(); const said = () => document.getElementById('said').textContent;" \
             " for (let n = 0; n < 100 && !said().startsWith('{0}: '); n++) await new Promise((done) => setTimeout(done, 50)); return said(); }})()"
     first = opened.run(click.format("register"))
-    check(f"{site}: the page registers", len(first), len("register: ") + 22)
+    check(f"{site}: the page registers", len(first), len("register: ") + 43)
     check(f"{site}: the page signs in", opened.run(click.format("sign-in")), first.replace("register", "sign-in"))
     check(f"{site}: autofill is asked for", run("await (await import('/browser.js')).canAutofill()") in (True, False))
+    opened.without(key)
+
+
+def workers_of(primary):
+    children = Path(f"/proc/{primary.pid}/task/{primary.pid}/children").read_text().split()
+    return [int(pid) for pid in children if Path(f"/proc/{pid}/comm").read_text().startswith("node")]
+
+
+def kills(primary, ends, killed):
+    """Ends one of the site's processes at a time, whichever, and notes which."""
+    while time.monotonic() < ends:
+        time.sleep(random.uniform(0.1, 0.5))
+        try:
+            killed.append(random.choice(workers_of(primary)))
+            os.kill(killed[-1], signal.SIGKILL)
+        except (OSError, IndexError):
+            continue
+
+
+def visits_while_killed(opened, site, port, primary):
+    opened.open(f"http://localhost:{port}/browser.js")
+    key = opened.authenticator()
+    run = lambda script: opened.run(VISIT.replace("SCRIPT", script))  # noqa: E731
+    made, killed, seconds = run("await visit('register')"), [], 4
+    killing = threading.Thread(target=kills, args=(primary, time.monotonic() + seconds, killed))
+    killing.start()
+    counted = run(WITHOUT_END.replace("MILLISECONDS", str(1000 * seconds)))
+    killing.join()
+    check(f"{site}: workers were killed", len(set(killed)) >= 4)
+    check(f"{site}: accepted while they were", (counted.get("accepted", 0) >= 5, counted.get("twice")), (True, 0))
+    for _ in range(100):
+        if len(workers_of(primary)) == 4:
+            break
+        time.sleep(0.1)
+    time.sleep(1)  # The last one listens.
+    check(f"{site}: and afterwards", run("await visit('sign-in')"), made)
     opened.without(key)
 
 
@@ -205,6 +266,7 @@ try:
             try:
                 visits(opened, f"{site} over {storage}", port)
                 hostile_requests(f"{site} over {storage}", port)
+                visits_while_killed(opened, f"{site} over {storage}", port, run)
             finally:
                 run.send_signal(signal.SIGTERM)
                 run.wait(30)

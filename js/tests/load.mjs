@@ -38,7 +38,7 @@ async function post(path, body, cookie = "") {
 async function asked(path, body, cookie) {
   for (;;) {
     const answer = await post(path, body, cookie);
-    if (answer.status === 200 || answer.status === 400) return answer;
+    if ([200, 400, 403].includes(answer.status)) return answer;
     counted.failed++;
     await sleep(50);
   }
@@ -46,7 +46,7 @@ async function asked(path, body, cookie) {
 
 function kindOf({ status, told }) {
   if (status === 200) return "accepted";
-  return status === 400 && /^W(1|15):/.test(told.error) ? "refused" : "failed";
+  return status === 403 && ["W1", "W15"].includes(told.refusal) ? "refused" : "failed";
 }
 
 async function visit(index) {

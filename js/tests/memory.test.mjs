@@ -6,7 +6,7 @@ import { NoMemory, RegistrationSession, SignInSession, fromText } from "garvoeng
 import { Device, changed } from "./device.mjs";
 
 const own = (name) => import(new URL(`../node_modules/garvoeng/${name}`, import.meta.url));
-const { Module, MOST_LENT } = await own("module.js"), { serverOver, helpersOver } = await own("server.js"), { isValid } = await own("node_signatures.js");
+const { Image, Module, MOST_LENT } = await own("module.js"), { serverOver, helpersOver } = await own("server.js"), { isValid } = await own("node_signatures.js");
 const file = readFileSync(new URL("../node_modules/garvoeng/passkey.wasm", import.meta.url));
 const user = Buffer.from("account 7"), MEGABYTES_64 = 64 * 1024 * 1024;
 
@@ -72,6 +72,41 @@ test("nothing of a call is left", async () => {
   assert.equal(seen, 12);
 });
 
+test("an image that ended is overwritten, and is nobody's while another has it", async () => {
+  for (const size of [0, 500, 2_000]) {
+    const one = new Image(16), { bytes } = one;
+    one.flag(0, true);
+    one.u32(4, 0xffffffff);
+    one.lend(0, Buffer.alloc(size, 255));
+    one.lendList(0, 8, [Buffer.from("secret"), Buffer.alloc(0)]);
+    const grown = one.bytes;
+    one.end();
+    for (const left of [bytes, grown]) assert.ok(left.every((byte) => byte === 0), `${size}`);
+  }
+  const [two, three] = [new Image(16), new Image(16)];
+  assert.notEqual(two.bytes.buffer, three.bytes.buffer);
+  two.add(Buffer.from("secret"));
+  assert.ok(three.bytes.every((byte) => byte === 0));
+  for (const image of [two, three]) image.end();
+  assert.ok(new Image(16).bytes.every((byte) => byte === 0));
+  // Sign-ins that are in flight at once, each with a verifier that answers in another order, and one of which is not valid.
+  const made = serving(), kept = [], device = new Device(), accounts = ["one", "two", "three"].map((name) => Buffer.from(name));
+  const Waiting = serverOver(() => made.module, (size) => crypto.getRandomValues(new Uint8Array(size)), (...asked) => new Promise((resolve) => kept.push(() => resolve(isValid(...asked)))));
+  const server = new Waiting("example.com", ["https://example.com"]), { credential } = await registeredBy(made.server, device);
+  const calls = accounts.map((account, index) => {
+    const { options, session } = server.authenticateBegin({ user: account }), response = device.signIn(options, { user: account });
+    const sent = index === 1 ? changed(response, "signature", (value) => (value[value.length - 1] ^= 1, value)) : response;
+    return server.authenticateComplete(session, sent, { credential: () => ({ ...credential, user: account }) }).then((said) => [Buffer.from(said.credential.user).toString(), said.credential.signCount], ({ name }) => name);
+  });
+  while (kept.length < 3) await new Promise(setImmediate);
+  for (const answer of [kept[2], kept[0], kept[1]]) {
+    answer();
+    await new Promise(setImmediate);
+  }
+  assert.deepEqual(await Promise.all(calls), [["one", 1], "W14", ["three", 3]]);
+  assert.ok(isAsAtFirst(made));
+});
+
 test("a text that a visitor sent is nowhere in the memory", async () => {
   const made = serving(), secret = "a secret of this visitor";
   await assert.rejects(visited(made, (value) => Buffer.from(value.toString().replace(/}$/, `,"secret":"${secret}"}`))), { name: "W14" });
@@ -90,6 +125,10 @@ test("a module that runs out of memory says so, and goes on", async () => {
   const small = serving(limited(3));
   await assert.rejects(visited(small, padded(44_000)), NoMemory);
   assert.equal((await visited(small)).credential.signCount, 1);
+  for (const call of [() => small.module.take(60_000), () => small.module.lend(new Uint8Array(60_000)), () => small.module.place(new Image(60_000), 8)])
+    assert.throws(() => small.module.within(call), NoMemory, "an address of 0 is none");
+  assert.equal((await visited(small)).credential.signCount, 1);
+  assert.ok(isAsAtFirst(small));
 });
 
 test("64 MB at most", async () => {
@@ -118,11 +157,13 @@ test("64 MB at most", async () => {
     }
   }
   assert.ok(most > 10_000_000 && most <= MEGABYTES_64, `${most}`);
+  await assert.rejects(server.authenticateCompleteParts(session, credential, { ...parts, clientData: Buffer.alloc(1_000_000) }), { name: "W5" });
   assert.equal((await visited(made)).credential.signCount, 1);
+  assert.equal(module.bytes().length, made.first.length, "a module that had grown was let go");
 });
 
-async function registeredBy(server) {
-  const device = new Device(), { options, session } = server.registerBegin(user, "name");
+async function registeredBy(server, device = new Device()) {
+  const { options, session } = server.registerBegin(user, "name");
   return server.registerComplete(session, device.register(options), { isRegistered: () => false });
 }
 

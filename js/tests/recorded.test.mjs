@@ -100,6 +100,16 @@ test("what the host verified by mistake is refused", async () => {
   }
 });
 
+test("an algorithm that WebCrypto does not have is no verdict", async (context) => {
+  const { isValid } = await import(new URL("../node_modules/garvoeng/web_signatures.js", import.meta.url));
+  const key = [node.EDDSA, new Uint8Array(32), new Uint8Array(0), new Uint8Array(1), new Uint8Array(64)], { subtle } = crypto;
+  context.after(() => delete subtle.importKey);
+  for (const [name, wanted] of [["NotSupportedError", "NotSupportedError"], ["DataError", false], ["OperationError", false]]) {
+    subtle.importKey = async () => Promise.reject(new DOMException("none", name));
+    assert.deepEqual(await isValid(...key).catch((error) => error.name), wanted);
+  }
+});
+
 test("a signature of ES256 has one form in DER, by WebCrypto as by node:crypto", async () => {
   const { isValid } = await import(new URL("../node_modules/garvoeng/web_signatures.js", import.meta.url));
   const forms = await import(new URL("../node_modules/garvoeng/node_signatures.js", import.meta.url));

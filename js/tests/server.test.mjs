@@ -106,6 +106,18 @@ test("a sign-in is refused at each step", async () => {
   assert.equal((await complete()).credential.signCount, 1);
 });
 
+test("counters up to 2^32 - 1", async () => {
+  const device = new Device(), { credential } = await registered(device), { options, session } = server.authenticateBegin({ user });
+  const signs = (count, signCount) => {
+    device.count = count - 1;
+    return server.authenticateComplete(session, device.signIn(options), { credential: () => ({ ...credential, signCount }) });
+  };
+  for (const [count, signCount] of [[2 ** 31, 2 ** 31 - 1], [2 ** 31 + 1, 2 ** 31], [2 ** 32 - 1, 2 ** 32 - 2], [2 ** 32 - 1, 1]])
+    assert.equal((await signs(count, signCount)).credential.signCount, count);
+  for (const [count, signCount] of [[1, 2 ** 31], [2 ** 31, 2 ** 31], [2 ** 31 - 1, 2 ** 31], [2 ** 32 - 1, 2 ** 32 - 1], [1, 2 ** 32 - 1]])
+    await assert.rejects(signs(count, signCount), { name: "W15" });
+});
+
 test("extensions and the strict profile", async () => {
   const strict = new Server("example.com", ["https://example.com"], { openProfile: false }), device = new Device();
   const how = { flags: UP | UV | AT | ED, outputs };

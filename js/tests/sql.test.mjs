@@ -56,6 +56,10 @@ test("the tables, and what stands in them", async () => {
     id: device.id, user_handle: user, public_key: device.coseKey(), sign_count: "0", backup_eligible: 0, retired: 0, backed_up: 0, transports: "usb,nfc",
     aaguid: device.aaguid, created_at: 0, used_at: null });
   assert.deepEqual(await server.rows(), [credential]);
+  const listed = { type: "public-key", id: "a2V5", transports: ["usb", "nfc"] };
+  assert.deepEqual((await serving().authenticateBegin({ user })).options.allowCredentials, [listed]);
+  assert.deepEqual((await serving().registerBegin(user, "name")).options.excludeCredentials, [listed]);
+  await run("delete from garvoeng_session");
   const { options, session } = await server.authenticateBegin({ user, allow: [credential] });
   assert.deepEqual(JSON.parse((await run("select data from garvoeng_session"))[0].data),
                    { challenge: options.challenge, user: "YWNjb3VudCA3", allow: ["a2V5"], user_verification: false });

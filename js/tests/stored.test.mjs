@@ -91,6 +91,8 @@ test("options are those of Server, and the session is of what they ask", async (
   await server.registerComplete(begun.session, device.register(begun.options));
   const listed = await server.authenticateBegin({ allow: [id], userVerification: "required" });
   await assert.rejects(server.authenticateComplete(listed.session, device.signIn(listed.options)), { name: "W2" });
+  const second = await server.authenticateBegin({ allow: [id, device.id] });
+  assert.equal((await server.authenticateComplete(second.session, device.signIn(second.options, { user }))).signCount, 2);
   const verified = await server.authenticateBegin({ user, userVerification: "required" });
   await assert.rejects(server.authenticateComplete(verified.session, device.signIn(verified.options, { flags: UP })), { name: "W13" });
   const others = await server.authenticateBegin({ user: Buffer.from("somebody else") });
@@ -106,6 +108,10 @@ test("what the server takes", async () => {
     await server.registerComplete(session, device.register(options, { isPacked: isPacked === false }));
     await server.close();
   }
+  const two = new StoredServer(PROGRAM, path("two.db"), "example.com", ["https://example.com", "https://www.example.com"], quiet);
+  for (const [index, origin] of ["https://www.example.com", "https://example.com"].entries()) await registered(two, new Device(EDDSA, { id: Buffer.from(`${index}`), origin }));
+  await assert.rejects(registered(two, new Device(EDDSA, { origin: "https://other.example.com" })), { name: "G5" });
+  await two.close();
   const few = serving("few.db", { maxOpen: 1, maxCredentials: 1 }), first = (await few.authenticateBegin()).session;
   const second = (await few.authenticateBegin()).session;
   assert.deepEqual([await few.abandon(first), await few.abandon(second)], [false, true], "the oldest ended");
@@ -151,6 +157,10 @@ test("what hosts hand in by mistake", async () => {
   ];
   for (const call of rows) await assert.rejects(call(), BadInput, `${call}`);
   await assert.rejects(server.registerBegin(user, "\u00e9".repeat(40_000)), { text: "the line is too long" });
+  const spied = broken("spied", 'stdin.on("data", () => stdout.write("{}\\n")); stdin.on("end", () => process.exit(0));');
+  await assert.rejects(spied.registerBegin(user, "\u00e9".repeat(40_000)), { text: "the line is too long" }, "bytes are counted, and not characters");
+  assert.equal(children().length, 2, "it was not asked");
+  await spied.close();
   assert.equal(children().length, 1);
   assert.equal(await server.abandon(session), true);
   assert.equal((await server.authenticateBegin()).session, session + 1, "nothing began");
@@ -216,6 +226,37 @@ test("programs that answer something else, or nothing", async () => {
   const odd = broken("odd", 'stdin.on("data", () => stdout.write("{\\"id\\":1,\\"unknown\\":0}\\n"));');
   await assert.rejects(odd.authenticateComplete(1, new Device().signIn({ challenge: "AA" })), StoreFailed);
   await odd.close();
+  const idle = serving("idle.db"), timers = () => process.getActiveResourcesInfo().filter((name) => name === "Timeout").length, before = timers();
+  await idle.rows();
+  assert.equal(timers(), before, "one that has answered is not ended later");
+  await idle.close();
+});
+
+test("each answer goes to who asked, also where it has no number, by a program that reads slowly", async () => {
+  // It answers each line by its own name, the second of three without a number, and takes one line in 5 milliseconds.
+  const slow = broken("slow", `let rest = "", lines = [];
+  stdin.setEncoding("utf8").on("data", (text) => { [...lines] = [...lines, ...(rest + text).split("\\n")]; rest = lines.pop(); }).on("end", () => process.exit(0));
+  setInterval(() => {
+    if (lines.length === 0) return;
+    const { id, user_name } = JSON.parse(lines.shift());
+    stdout.write(JSON.stringify({ ...(id % 3 === 0 ? {} : { id: id % 3 === 1 ? id : null }), error: user_name }) + "\\n");
+  }, 5);`, { timeout: 20_000 });
+  const names = Array.from({ length: 60 }, (_, index) => `${index} ${"x".repeat(index % 7 === 0 ? 60_000 : 9)}`);
+  const found = await Promise.all(names.map((name) => slow.registerBegin(user, name).catch(({ text }) => text)));
+  assert.deepEqual(found, names);
+  await slow.close();
+  // The proved program: lines that it can't read, among others.
+  const server = serving("mixed.db"), device = new Device(), wrong = ["\ud800", "A".repeat(65_000), "\udc00a\ud800", "\u2028", "\0"];
+  await registered(server, device);
+  const calls = Array.from({ length: 60 }, async (_, index) => {
+    if (index % 2 === 0) return server.registerBegin(user, wrong[index % 5]).then(() => "begun", ({ name }) => name);
+    const { options, session } = await server.authenticateBegin({ allow: [Buffer.from(`${index}`)] });
+    const refused = await server.authenticateComplete(session, device.signIn(options, { user })).catch(({ name }) => name);
+    return [refused, Buffer.from(options.allowCredentials[0].id, "base64url").toString(), await server.abandon(session)];
+  });
+  for (const [index, answer] of (await Promise.all(calls)).entries())
+    assert.deepEqual(answer, index % 2 === 1 ? ["W2", `${index}`, true] : index % 5 === 3 || index % 5 === 4 || index % 5 === 1 ? "begun" : "BadInput", `${index}`);
+  await server.close();
 });
 
 test("what could not be started says why", async () => {
@@ -399,4 +440,23 @@ if (cluster.isPrimary) {
 }`);
   await run.ended;
   assert.deepEqual(run.lines().map((line) => JSON.parse(line)), [[true, []], "StoreFailed"]);
+});
+
+test("a worker whose primary does not answer in time", async () => {
+  const run = apart("deaf", `
+const server = serving({ timeout: 1_000 });
+if (cluster.isPrimary) {
+  cluster.fork().on("message", (message) => message === "wait" && Atomics.wait(new Int32Array(new SharedArrayBuffer(4)), 0, 0, 3_000)).on("exit", () => server.close());
+} else {
+  process.send("wait");
+  await new Promise((resolve) => setTimeout(resolve, 200));
+  const found = await Promise.allSettled([server.rows(), server.authenticateBegin()]);
+  let again = null;
+  while (again === null) again = await server.rows().catch(() => null);
+  console.log(JSON.stringify([found.map(({ reason }) => reason?.message), again]));
+  process.exit(0);
+}`);
+  await run.ended;
+  const said = "the primary process did not answer in 1 seconds";
+  assert.deepEqual(run.lines().map((line) => JSON.parse(line)), [[[said, said], []]]);
 });
