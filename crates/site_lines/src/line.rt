@@ -164,9 +164,9 @@ fn commit<S: Store>(
         return site.commit();
     }
     let began = Instant::now(clock);
-    let committed = site.commit();
+    site.commit()?;
     tally.note_commit(since(clock, began));
-    committed
+    Ok(())
 }
 
 /// Answers lines that came together, at this second of the host's clock: each is carried out, in order, and all are committed
