@@ -1,6 +1,6 @@
 //! The store of a site's files.
 
-ghost use Rattle.std.specs.Prelude.{◌≡◌, IfOk, IfSome, IsTrue, false, true};
+ghost use Rattle.std.specs.Prelude.{◌≡◌, IfOk, IfSome, IsTrue, OnOk, false, true};
 ghost use Rattle.sqlite_wal.specs.Files.{image_at};
 ghost use Rattle.sqlite_std_file.specs.File.{IsFresh, file_is_usable};
 ghost use Rattle.sqlite_trees.specs.Tree.{Trees};
@@ -99,6 +99,7 @@ fn without_roots(alloc: Global, listed: &[Row]) -> Result<Vec<Row>, AllocError> 
 /// What files list, of which only that is read.
 fn list_of_files<D: Disk>(alloc: Global, it: &mut Unopened<D>) -> Result<Listed, FileError>
     requires { AreUsable it.old }
+    ensures usable { OnOk result (AreUsable it.new) }
 {
     match it.read_catalog() {
         Ok(listed) => {
@@ -137,17 +138,13 @@ fn opened<D: Disk + Drop>(it: Unopened<D>) -> Result<FileStore<D>, FileError>
 }
 
 /// The store of files that list the tables of version 2, and none where they don't, or where their list is not read.
-pub fn second_of<D: Disk + Drop>(
+fn second_in<D: Disk + Drop>(
+    mut it: Unopened<D>,
     alloc: Global,
-    files: Files<D>,
-    options: Options,
 ) -> Result<Option<FileStore<D>>, FileError>
+    requires { AreUsable it }
     ensures numbered { IfOk result (λ found. IfSome found (λ store. IsTrue (view store).is_numbered)) }
 {
-    if !files.may_be_used() {
-        return Err(FileError::Failed(StoreError::Io));
-    }
-    let mut it = unopened(alloc, files, options)?;
     match list_of_files(alloc, &mut it) {
         Ok(Listed::Second) => Ok(Some(opened(it)?)),
         _ => {
@@ -155,6 +152,20 @@ pub fn second_of<D: Disk + Drop>(
             Ok(None)
         }
     }
+}
+
+/// The same of files that were not opened yet.
+pub fn second_of<D: Disk + Drop>(
+    alloc: Global,
+    files: Files<D>,
+    options: Options,
+) -> Result<Option<FileStore<D>>, FileError>
+    ensures numbered { IfOk result (λ found. IfSome found (λ store. IsTrue (view store).is_numbered)) }
+{
+    if !files.log.may_be_used() || !files.db.may_be_used() {
+        return Err(FileError::Failed(StoreError::Io));
+    }
+    second_in(unopened(alloc, files, options)?, alloc)
 }
 
 /// The store of files that SQL opens.
