@@ -10,7 +10,9 @@ use crate::FileSite;
 use crate::bounds::check_bounds;
 use crate::error::FileError;
 use crate::first::check_empty;
-use crate::path::{Found, found_at};
+use crate::looking::looked_at;
+use crate::opening::same_party;
+use crate::path::{Found, found_at, lock};
 use crate::stores::{list_at, second_at};
 use crate::tables::{Listed, list_of, made, upgraded};
 use kept_site::{Bounds, KeptSite};
@@ -130,16 +132,41 @@ fn found_file<S: Start>(
     }
 }
 
-/// The store of a new file, where no other file stands at the path.
-fn store_for<S: Start>(
+/// That the files at a path hold nothing, and a site can be made in them. All that a creation does is done over what is read of
+/// them, so that nothing is written where it refuses them.
+fn check_create(
     rt: &HostRuntime,
     path: &str,
-    start: S,
-) -> Result<FileStore<FileFrom<S>>, FileError> {
+    party: &RelyingParty,
+    policy: Policy,
+    bounds: Bounds,
+) -> Result<(), FileError> {
+    let alloc = rt.alloc();
+    let locked = lock(rt, path)?;
+    let party = same_party(alloc, party)?;
+    let site = create_over(alloc, party, policy, bounds, looked_at(rt, path)?);
+    drop(locked);
+    match site {
+        Ok(_site) => Ok(()),
+        Err((e, _store)) => Err(e),
+    }
+}
+
+/// That no file stands at a path, or one in which a site can be made: whether it is to be looked at as a SQLite file.
+fn is_there(
+    rt: &HostRuntime,
+    path: &str,
+    party: &RelyingParty,
+    policy: Policy,
+    bounds: Bounds,
+) -> Result<bool, FileError> {
     match found_at(rt, path)? {
         Found::Other => Err(FileError::Exists),
-        Found::Nothing | Found::Empty => new_file(rt, path, start),
-        Found::Sqlite => found_file(rt, path, start),
+        Found::Nothing | Found::Empty => Ok(false),
+        Found::Sqlite => {
+            check_create(rt, path, party, policy, bounds)?;
+            Ok(true)
+        }
     }
 }
 
@@ -147,8 +174,8 @@ fn store_for<S: Start>(
 /// sessions. A program passes `Unknown` as `start`, which stands for what the files held.
 ///
 /// `BadBound` where more than 1,000,000 sessions could be open or as many credentials registered, `Exists` where a file is there
-/// that holds something, and `LoneLog` where its log is there alone; nothing is made then. `InUse`, `CannotOpen` and `Failed`
-/// where the system, the disk or memory failed.
+/// that holds something, `LoneLog` where its log is there alone, `NotSqlite` and `DamagedLog` where the two are no sound SQLite file;
+/// nothing is made or changed then. `InUse`, `CannotOpen` and `Failed` where the system, the disk or memory failed.
 ///
 /// A creation that is cut off leaves no file, or one that holds nothing: it is empty, or has no table, or the tables of a
 /// site without rows. `open` refuses it as `NoSite`, and the next `create` takes it up.
@@ -165,7 +192,11 @@ pub fn create<S: Start>(
     ensures held { IfOk result (λ s. IsClean (view s.store) → IsHeld finite.empty s (view s.store).trees) }
 {
     check_bounds(bounds)?;
-    let store = store_for(rt, path, start)?;
+    let store = if is_there(rt, path, &party, policy, bounds)? {
+        found_file(rt, path, start)?
+    } else {
+        new_file(rt, path, start)?
+    };
     match site_over(rt.alloc(), party, policy, bounds, store) {
         Ok(site) => Ok(site),
         Err((e, store)) => {

@@ -24,6 +24,9 @@ pub enum FileError {
     /// The system doesn't open the file, or a second name, a link or a rollback journal stands in the way.
     #[error("the file can't be opened")]
     CannotOpen,
+    /// The header of the file's log is damaged, and what it may hold would be passed over.
+    #[error("the file's log (FILE-wal) is damaged")]
+    DamagedLog,
     /// The file is no sound SQLite file.
     #[error("the file is no sound SQLite file")]
     NotSqlite,

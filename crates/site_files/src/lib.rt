@@ -7,6 +7,8 @@ mod closing;
 mod creating;
 mod error;
 mod first;
+mod look;
+mod looking;
 mod opening;
 mod path;
 mod stores;

@@ -15,7 +15,8 @@ use crate::FileSite;
 use crate::bounds::check_bounds;
 use crate::error::FileError;
 use crate::first::{check_first, why_other};
-use crate::path::{Found, found_at};
+use crate::looking::looked_at;
+use crate::path::{Found, found_at, lock};
 use crate::stores::{list_at, second_at};
 use crate::tables::{Listed, list_of, upgraded};
 use kept_site::{Bounds, KeptSite};
@@ -61,7 +62,6 @@ fn store_at<S: Start>(
     ensures rests { IfOk result (λ store. IsClean (view store) → IsTrue (view store).is_open → (view store).committed ≡ (view store).trees) }
     ensures found { IfOk result (λ store. IsClean (view store) → IsTrue (view store).is_open → IsHeldIn (image_at S.Start) (view store).trees) }
 {
-    check_sqlite(rt, path)?;
     match list_at(rt, path) {
         Ok(Listed::Second) => second_at(rt, path, start),
         _ => connected(rt, path, start),
@@ -129,14 +129,39 @@ pub fn open_over<S: Alter + Drop>(
     }
 }
 
+/// A relying party of the same rp id, without origins.
+pub fn same_party(alloc: Global, party: &RelyingParty) -> Result<RelyingParty, FileError> {
+    Ok(RelyingParty::with_profile(alloc, party.profile(), party.rp_id(), &[])?)
+}
+
+/// That the files at a path are opened as they stand. All that an open does is done over what is read of them, so that nothing is
+/// written where it refuses them.
+fn check_open(
+    rt: &HostRuntime,
+    path: &str,
+    party: &RelyingParty,
+    policy: Policy,
+    bounds: Bounds,
+) -> Result<(), FileError> {
+    let alloc = rt.alloc();
+    let locked = lock(rt, path)?;
+    let party = same_party(alloc, party)?;
+    let site = open_over(alloc, party, policy, bounds, looked_at(rt, path)?);
+    drop(locked);
+    match site {
+        Ok(_site) => Ok(()),
+        Err((e, _store)) => Err(e),
+    }
+}
+
 /// The site of a file, of this relying party. No session is open, and the numbers go on. A program passes `Unknown` as `start`,
 /// which stands for what the files held.
 ///
 /// A file of version 1 is upgraded, in one commit. Its open sessions end.
 ///
 /// `BadBound` where more than 1,000,000 sessions could be open or as many credentials registered, `NoFile`, `LoneLog`, `InUse`
-/// and `CannotOpen` where the file is not opened, `NotSqlite` where it is no sound SQLite file, `NoSite` where it is empty or has
-/// no table, `OtherTables` where it lists other tables than `create` makes, `NoSite` where they have no row of a site, `Newer`
+/// and `CannotOpen` where the file is not opened, `DamagedLog` where its log's header is damaged, `NotSqlite` where it is no sound
+/// SQLite file, `NoSite` where it is empty or has no table, `OtherTables` where it lists other tables than `create` makes, `NoSite` where they have no row of a site, `Newer`
 /// where that row has a later version, `OtherSite` where it has another rp id, `TooMany` and `BadRow` where a row is no
 /// credential's, `Failed` where the disk or memory failed.
 pub fn open<S: Start>(
@@ -159,6 +184,8 @@ pub fn open<S: Start>(
         × (((view s.store).trees ≡ was) ⊎ IsFirst party.rp_id was)) }
 {
     check_bounds(bounds)?;
+    check_sqlite(rt, path)?;
+    check_open(rt, path, &party, policy, bounds)?;
     let store = store_at(rt, path, start)?;
     match open_over(rt.alloc(), party, policy, bounds, store) {
         Ok(site) => Ok(site),

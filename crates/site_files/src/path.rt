@@ -1,8 +1,11 @@
 //! What stands at a path, looked at before SQLite's files are opened.
 
 use crate::error::FileError;
+use os::RangeLock;
 use std::fs::{self, File};
 use std::io::{self, Read};
+use std::os::fd::AsRawFd;
+use std::path::PathBuf;
 
 /// What a SQLite file begins with (fileformat2.html, 1.2).
 const HEAD: [u8; 16] = *b"SQLite format 3\0";
@@ -20,10 +23,33 @@ pub enum Found {
     Other,
 }
 
-/// Whether the log of a file at a path is there.
-fn has_log(rt: &HostRuntime, path: &str) -> Result<bool, FileError> {
-    let log = format!(in rt.alloc(); "{path}-wal")?;
-    Ok(fs::exists(rt, log.as_str())?)
+/// The path of a file's log, which stands beside the file that a link leads to.
+pub fn log_of(rt: &HostRuntime, path: &str) -> Result<String, FileError> {
+    let real = match fs::canonicalize(rt, path) {
+        Err(e) if e.kind() == io::ErrorKind::NotFound => PathBuf::from(String::from_str(
+            rt.alloc(),
+            path,
+        )?),
+        real => real?,
+    };
+    Ok(format!(in rt.alloc(); "{}-wal", real.as_str())?)
+}
+
+/// A handle of the file at a path, beside which nobody writes it. `InUse` where somebody does.
+pub fn lock(rt: &HostRuntime, path: &str) -> Result<File, FileError> {
+    if !fs::metadata(rt, path)?.is_file() {
+        return Err(FileError::CannotOpen);
+    }
+    let file = File::open(rt, path)?;
+    // SQLite's pending, reserved and shared locks.
+    if os::try_lock_range(file.as_raw_fd(), RangeLock::Shared, 1 << 30, 512) == 0 {
+        return Ok(file);
+    }
+    let error = io::Error::from_raw_os_error(os::errno());
+    if error.kind() == io::ErrorKind::WouldBlock {
+        return Err(FileError::InUse);
+    }
+    Err(error.into())
 }
 
 /// What a file begins as.
@@ -41,12 +67,22 @@ pub fn head_at(rt: &HostRuntime, path: &str) -> Result<Found, FileError> {
     }
 }
 
-/// What stands at a path. `LoneLog` where no file does, but a log.
+/// What stands at a path. `LoneLog` where no file does, but a log, and `InUse` where somebody has the file open.
 pub fn found_at(rt: &HostRuntime, path: &str) -> Result<Found, FileError> {
-    match (fs::exists(rt, path)?, has_log(rt, path)?) {
-        (true, true) => Ok(Found::Sqlite),
-        (true, false) => head_at(rt, path),
-        (false, true) => Err(FileError::LoneLog),
-        (false, false) => Ok(Found::Nothing),
+    let has_log = fs::exists(rt, log_of(rt, path)?.as_str())?;
+    if !fs::exists(rt, path)? {
+        return if has_log {
+            Err(FileError::LoneLog)
+        } else {
+            Ok(Found::Nothing)
+        };
     }
+    let locked = lock(rt, path)?;
+    let found = if has_log {
+        Ok(Found::Sqlite)
+    } else {
+        head_at(rt, path)
+    };
+    drop(locked);
+    found
 }

@@ -1,6 +1,6 @@
 //! The store of a site's files.
 
-ghost use Rattle.std.specs.Prelude.{◌≡◌, IfOk, IsTrue, false, true};
+ghost use Rattle.std.specs.Prelude.{◌≡◌, IfOk, IfSome, IsTrue, OnOk, false, true};
 ghost use Rattle.sqlite_wal.specs.Files.{image_at};
 ghost use Rattle.sqlite_std_file.specs.File.{IsFresh, file_is_usable};
 ghost use Rattle.sqlite_trees.specs.Tree.{Trees};
@@ -12,7 +12,7 @@ ghost use Rattle.site_files.specs.Files.{IsFoundIn, IsHeldIn};
 use crate::error::FileError;
 use crate::path::{Found, head_at};
 use crate::tables::{Listed, list_in, second};
-use sqlite::{FileFrom, FileStore, Files, Options, Start, Unknown};
+use sqlite::{Connection, FileFrom, FileStore, Files, Options, Start, Unknown};
 use sqlite_disk::Disk;
 use sqlite_pager::Pager;
 use sqlite_std_file::OpenError as PathError;
@@ -49,7 +49,7 @@ fn files_at<S: Start>(
 }
 
 /// A number that others don't know, for the sums of the log.
-fn options(rt: &HostRuntime) -> Result<Options, FileError> {
+pub fn options(rt: &HostRuntime) -> Result<Options, FileError> {
     let seed = RandomState::new(rt)?.hash_one(&0u8);
     Ok(Options::new(seed))
 }
@@ -99,6 +99,7 @@ fn without_roots(alloc: Global, listed: &[Row]) -> Result<Vec<Row>, AllocError> 
 /// What files list, of which only that is read.
 fn list_of_files<D: Disk>(alloc: Global, it: &mut Unopened<D>) -> Result<Listed, FileError>
     requires { AreUsable it.old }
+    ensures usable { OnOk result (AreUsable it.new) }
 {
     match it.read_catalog() {
         Ok(listed) => {
@@ -133,6 +134,54 @@ fn opened<D: Disk + Drop>(it: Unopened<D>) -> Result<FileStore<D>, FileError>
     match it.open_numbered() {
         Ok(store) => Ok(store),
         Err((e, _)) => Err(failure(e)),
+    }
+}
+
+/// The store of files that list the tables of version 2, and none where they don't, or where their list is not read.
+fn second_in<D: Disk + Drop>(
+    mut it: Unopened<D>,
+    alloc: Global,
+) -> Result<Option<FileStore<D>>, FileError>
+    requires { AreUsable it }
+    ensures numbered { IfOk result (λ found. IfSome found (λ store. IsTrue (view store).is_numbered)) }
+{
+    match list_of_files(alloc, &mut it) {
+        Ok(Listed::Second) => Ok(Some(opened(it)?)),
+        _ => {
+            drop(it.close());
+            Ok(None)
+        }
+    }
+}
+
+/// The same of files that were not opened yet.
+pub fn second_of<D: Disk + Drop>(
+    alloc: Global,
+    files: Files<D>,
+    options: Options,
+) -> Result<Option<FileStore<D>>, FileError>
+    ensures numbered { IfOk result (λ found. IfSome found (λ store. IsTrue (view store).is_numbered)) }
+{
+    if !files.log.may_be_used() || !files.db.may_be_used() {
+        return Err(FileError::Failed(StoreError::Io));
+    }
+    second_in(unopened(alloc, files, options)?, alloc)
+}
+
+/// The store of files that SQL opens.
+pub fn by_sql<D: Disk + Drop>(
+    alloc: Global,
+    files: Files<D>,
+    options: Options,
+) -> Result<FileStore<D>, FileError>
+    ensures numbered { IfOk result (λ store. IsClean (view store) → IsTrue (view store).is_numbered) }
+{
+    if !files.may_be_used() {
+        return Err(FileError::Failed(StoreError::Io));
+    }
+    match Connection::open_files(alloc, files, options) {
+        Ok(conn) => Ok(conn.into_store()),
+        Err((e, _)) => Err(e.into()),
     }
 }
 

@@ -1,0 +1,112 @@
+//! What an open would find in the files at a path, looked at before one of them is changed.
+
+ghost use Rattle.std.specs.Prelude.{IfOk, IsTrue};
+ghost use Rattle.sqlite_trees.specs.View.{IsClean};
+ghost use Rattle.sqlite_store.specs.FileStore.{view};
+
+use crate::error::FileError;
+use crate::look::Look;
+use crate::path::log_of;
+use crate::stores::{by_sql, options, second_of};
+use sqlite::{FileStore, Files, Options};
+use sqlite_disk::{Disk, Memory};
+use sqlite_trees::error::StoreError;
+use sqlite_wal::checksum_of;
+use std::alloc::Global;
+use std::fs::{self, File};
+
+/// A file that is looked at, as far as it is in memory.
+pub type Seen = Look<Memory>;
+
+/// A database file of no more bytes is read into memory: a first open that was cut off is finished there.
+const SMALL: u64 = 65_536;
+
+/// The bytes of a log's header and of a frame's: SQLite passes over a log that is shorter.
+const SHORTEST: usize = 56;
+
+/// The number at this place of a log's header.
+fn number_at(log: &[u8], at: usize) -> u32 {
+    match log.get(at..at.saturating_add(4)) {
+        Some([a, b, c, d]) => u32::from_be_bytes([*a, *b, *c, *d]),
+        _ => 0,
+    }
+}
+
+/// Whether the header of a log is whole (fileformat2.html, 4.1).
+fn is_whole(log: &[u8]) -> bool {
+    let is_big = match number_at(log, 0) {
+        0x377f_0682 => false,
+        0x377f_0683 => true,
+        _ => return false,
+    };
+    let Some(signed) = log.get(..24) else {
+        return false;
+    };
+    checksum_of(is_big, (0, 0), signed) == (number_at(log, 24), number_at(log, 28))
+}
+
+/// That no open passes over a log that may hold commits. The first byte of a header is 0 while it is written.
+fn check_log(log: &[u8]) -> Result<(), FileError> {
+    if log.len() < SHORTEST || log.first() == Some(&0) || is_whole(log) {
+        return Ok(());
+    }
+    Err(FileError::DamagedLog)
+}
+
+/// A file in memory with these bytes.
+fn in_memory(alloc: Global, bytes: &[u8]) -> Result<Seen, FileError> {
+    let mut memory = Memory::new(alloc);
+    if memory.write_at(0, bytes).is_err() {
+        return Err(FileError::Failed(StoreError::OutOfMemory));
+    }
+    Ok(Look::in_memory(memory))
+}
+
+/// The bytes of a file, none where it is not there.
+fn bytes_of(rt: &HostRuntime, path: &str) -> Result<Vec<u8>, FileError> {
+    if !fs::exists(rt, path)? {
+        return Ok(Vec::new(rt.alloc()));
+    }
+    Ok(fs::read(rt, path)?)
+}
+
+/// The database file at this path.
+fn database_at(rt: &HostRuntime, path: &str) -> Result<Seen, FileError> {
+    if fs::metadata(rt, path)?.len() <= SMALL {
+        return in_memory(rt.alloc(), bytes_of(rt, path)?.as_slice());
+    }
+    let file = File::open(rt, path)?;
+    Ok(Look::on_disk(file, Memory::new(rt.alloc())))
+}
+
+/// The files at a path. `NotSqlite` where the file is empty, and its log may hold commits: an open would begin anew.
+fn files_at(rt: &HostRuntime, path: &str) -> Result<Files<Seen>, FileError> {
+    let log = bytes_of(rt, log_of(rt, path)?.as_str())?;
+    check_log(log.as_slice())?;
+    if SHORTEST <= log.len() && fs::metadata(rt, path)?.len() == 0 {
+        return Err(FileError::NotSqlite);
+    }
+    Ok(Files {
+        log: in_memory(rt.alloc(), log.as_slice())?,
+        db: database_at(rt, path)?,
+    })
+}
+
+/// As for an open, but that the log is never copied into the file.
+fn options_without_checkpoint(rt: &HostRuntime) -> Result<Options, FileError> {
+    let mut options = options(rt)?;
+    options.checkpoint_frames = usize::MAX;
+    Ok(options)
+}
+
+/// The store of the files at a path, whose writes are kept in memory. `DamagedLog` where the header of the log is damaged, and
+/// else as an open refuses them.
+pub fn looked_at(rt: &HostRuntime, path: &str) -> Result<FileStore<Seen>, FileError>
+    ensures numbered { IfOk result (λ store. IsClean (view store) → IsTrue (view store).is_numbered) }
+{
+    let options = options_without_checkpoint(rt)?;
+    match second_of(rt.alloc(), files_at(rt, path)?, options)? {
+        Some(store) => Ok(store),
+        None => by_sql(rt.alloc(), files_at(rt, path)?, options),
+    }
+}

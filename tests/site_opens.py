@@ -1,0 +1,208 @@
+#!/usr/bin/python3
+"""Opens that are refused, of the program of crates/site_program: tests/site_opens.py PROGRAM. Damaged files, each bit of the heads of
+a file and of a log among them, files of another kind, other sites' files, and files that are made again: what is refused keeps
+its bytes, the file's and the log's, and what is opened has the site that it had. Then three processes make one file at once, 150
+times: one gets it. The last line is 'N passed, M failed'."""
+import json
+import random
+import sqlite3
+import subprocess
+import sys
+import tempfile
+import time
+from collections import Counter
+from pathlib import Path
+
+from site_lines import PARTY, Device, EDDSA, Host, Tests, to_text
+
+HEAD, MANY = 100, 600
+LINES = b'{"id":1,"act":"rows"}\n'
+OTHER = ["--rp-id", "other.example", "--origin", "https://other.example"]
+
+
+def both(path):
+    """The bytes of a file and of its log, None of one that is not there."""
+    return [one.read_bytes() if one.exists() else None for one in (path, Path(f"{path}-wal"))]
+
+
+def put(path, pair):
+    for one, content in zip((path, Path(f"{path}-wal")), pair):
+        one.unlink(missing_ok=True)
+        if content is not None:
+            one.write_bytes(content)
+
+
+def flipped(pair, which, bit):
+    content = bytearray(pair[which])
+    content[bit // 8] ^= 1 << bit % 8
+    return [bytes(content) if place == which else one for place, one in enumerate(pair)]
+
+
+class Opens(Tests):
+    def __init__(self, program):
+        super().__init__(program)
+        memory = Path("/dev/shm")
+        self.folder = tempfile.TemporaryDirectory(dir=memory if memory.is_dir() else None)
+        self.path = self.file("open.db")
+        self.killed, self.closed, self.rows = self.sites()
+
+    def register(self, host, device):
+        begun = host.ask("begin_registration", user=to_text(b"user"), user_name="name")
+        host.ask("finish_registration", session=begun["session"], response=device.register(begun["options"]))
+
+    def sites(self):
+        """The files of a site that was killed, whose log has been copied once, and of one that was closed, and the rows of both:
+        so many that the file is not read into memory."""
+        path = self.file("site.db")
+        host = Host(self.program, path, *PARTY)
+        for number in range(MANY):
+            self.register(host, Device(EDDSA, credential=b"earlier device %d" % number))
+        self.check("the first end", host.end()[0], 0)
+        host = Host(self.program, path, *PARTY)
+        for number in range(20):
+            self.register(host, Device(EDDSA, credential=b"device %d" % number))
+        rows = host.ask("rows")["rows"]
+        host.process.kill()
+        host.process.wait()
+        killed = both(path)
+        self.check("the end", Host(self.program, path, *PARTY).end()[0], 0)
+        self.check("the file is large", len(killed[0]) > 65_536)
+        return killed, both(path), rows
+
+    def open(self, pair, *words, party=PARTY):
+        """Opens files: the rows, or None and why they were refused."""
+        put(self.path, pair)
+        run = subprocess.run([self.program, str(self.path), *party, *words], input=LINES, capture_output=True)
+        if run.returncode == 0:
+            return json.loads(run.stdout)["rows"], ""
+        return None, run.stderr.decode()
+
+    def is_kept(self, what, pair, *words, party=PARTY):
+        """Files are refused, and keep their bytes: why."""
+        rows, why = self.open(pair, *words, party=party)
+        self.check(f"{what}: refused", rows, None)
+        self.check(f"{what}: the bytes, {why}", both(self.path) == list(pair))
+        return why
+
+    def bits(self):
+        """Each bit of the head of the file and of the log is turned."""
+        for name, pair in (("killed", self.killed), ("closed", self.closed)):
+            for which, part in enumerate(("file", "log")):
+                ends = Counter()
+                whole = 8 * min(HEAD, len(pair[which]))
+                # Of a file that is killed, and of the log's frames, not each.
+                bits = range(whole) if name == "closed" else range(0, whole, 7) if part == "file" else [*range(256), *range(256, whole, 7)]
+                for bit in bits:
+                    changed = flipped(pair, which, bit)
+                    rows, why = self.open(changed, "--existing")
+                    if rows is None:
+                        self.check(f"bit {bit} of the {part}, {name}: {why}", both(self.path) == changed)
+                        ends[why.strip()] += 1
+                    else:
+                        ends["the same rows" if rows == self.rows else "older rows"] += 1
+                        # What SQLite passes over in the log's frames is an older site: no flip of the header is one.
+                        self.check(f"bit {bit} of the {part}, {name}", rows == self.rows or (which == 1 and 256 <= bit))
+                print(f"{len(bits)} bits of the first {HEAD} bytes of the {part}, {name}: {dict(ends)}")
+
+    def others(self):
+        """Files of another kind beside the log, and others' sites."""
+        rng, (file, log) = random.Random(5), self.killed
+        text = b"a text that is no file of SQLite\n" * 300
+        for what, pair in (("a text beside a log", (text, log)), ("a short text beside a log", (b"text", log)),
+                           ("random bytes beside a log", (rng.randbytes(len(file)), log)), ("an empty file beside a log", (b"", log)),
+                           ("a text", (text, None)), ("an empty file", (b"", None)), ("a text with a text as its log", (text, text)),
+                           ("a site with a text as its log", (file, text)), ("half of a page", (file[:2048], None)),
+                           ("a file without its last pages", (self.closed[0][:8192], None)),
+                           ("a file without its last pages, and its log", (self.closed[0][:8192], self.closed[1])),
+                           ("a file with zeros", (bytes(len(file)), None)),
+                           ("a file with a page of zeros", (self.closed[0][:4096] + bytes(4096) + self.closed[0][8192:], None))):
+            self.is_kept(what, pair, "--existing")
+            if file not in pair and b"" not in pair:
+                self.is_kept(f"{what}, made", pair, "--new")
+        for name, pair in (("killed", self.killed), ("closed", self.closed), ("closed, without its log", (self.closed[0], None))):
+            self.check(f"{name}: another rp id", self.is_kept(f"{name}, of another", pair, party=OTHER),
+                       "the file is of another site or version\n")
+            self.check(f"{name}: made", self.is_kept(f"{name}, made", pair, "--new"), "there is a file at this path\n")
+            self.check(f"{name}: opened", self.open(pair)[0], self.rows)
+
+    def edited(self):
+        """Tables and rows that no site writes, in the file and in its log."""
+        for text, why in (("create table note (id integer primary key)", "the file has other tables than a site's\n"),
+                          ("drop index credential_by_user", "the file has other tables than a site's\n"),
+                          ("update site set version = 3", "the file is of a later version\n"),
+                          ("update site set next_session = 0", "the file has no site\n"),
+                          ("delete from site", "the file has no site\n"),
+                          ("update credential set sign_count = -1 where place = 3", "a row is not one that a site has written\n"),
+                          ("update credential set x = x'01' where place = 20", "a row is not one that a site has written\n")):
+            for is_closed in (True, False):
+                put(self.path, self.closed)
+                file = sqlite3.connect(self.path)
+                file.execute(text)
+                file.commit()
+                pair = both(self.path)
+                file.close()
+                if is_closed:
+                    pair = both(self.path)
+                self.check(f"{text}, closed {is_closed}", self.is_kept(text, pair), why)
+
+    def torn(self):
+        """A file whose first page is damaged, while its log has it whole."""
+        put(self.path, self.closed)
+        host = Host(self.program, self.path, *PARTY)
+        for number in range(60):
+            self.register(host, Device(EDDSA, credential=b"more %d" % number))
+        rows = host.ask("rows")["rows"]
+        host.process.kill()
+        host.process.wait()
+        file, log = both(self.path)
+        pages = {int.from_bytes(log[at:at + 4], "big") for at in range(32, len(log) - 4119, 4120)}
+        rng = random.Random(6)
+        for page in sorted(pages & set(range(1, len(file) // 4096 + 1))):
+            for start in range(0, 4096, 512):
+                at = 4096 * (page - 1) + start
+                changed = file[:at] + rng.randbytes(512) + file[at + 512:]
+                self.check(f"page {page} damaged at {start}, whole in the log", self.open((changed, log), "--existing")[0] == rows)
+        self.check("the log has the first page", 1 in pages)
+
+    def races(self, count):
+        """Three processes make one file at once: one has it, and the others are told that it is in use."""
+        ends, rng = Counter(), random.Random(7)
+        for number in range(count):
+            path = self.file(f"race{number}.db")
+            hosts = []
+            for _ in range(3):
+                hosts.append(Host(self.program, path, *PARTY))
+                time.sleep(rng.choice((0, 0, rng.uniform(0, 0.004))))
+            answers = []
+            for host in hosts:
+                try:
+                    answers.append(host.ask("begin_sign_in")["session"])
+                except (BrokenPipeError, json.JSONDecodeError):
+                    answers.append(None)
+            self.check(f"race {number}: one has the file", [answer for answer in answers if answer], [1])
+            for host, answer in zip(hosts, answers):
+                if answer is None:
+                    status = host.process.wait()
+                    host.errors.seek(0)
+                    why = host.errors.read().decode()
+                    ends[why.strip()] += 1
+                    self.check(f"race {number}: a loser", (status, why), (4, "the file is in use\n"))
+                else:
+                    self.check(f"race {number}: the end", host.end()[0], 0)
+            self.check(f"race {number}: sound", self.open(both(path), "--existing"), ([], ""))
+        print(f"{count} races of three processes: {dict(ends)}")
+
+
+def main():
+    opens = Opens(str(Path(sys.argv[1]).resolve()))
+    opens.bits()
+    opens.others()
+    opens.edited()
+    opens.torn()
+    opens.races(150)
+    print(f"{opens.passed} passed, {opens.failed} failed")
+    return opens.failed != 0
+
+
+if __name__ == "__main__":
+    sys.exit(main())
