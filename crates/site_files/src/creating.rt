@@ -10,9 +10,9 @@ use crate::FileSite;
 use crate::bounds::check_bounds;
 use crate::error::FileError;
 use crate::first::check_empty;
-use crate::looking::looked_at;
+use crate::looking::{looked_at, unless_in_use};
 use crate::opening::same_party;
-use crate::path::{Found, found_at, lock};
+use crate::path::{Found, found_at};
 use crate::stores::{list_at, second_at};
 use crate::tables::{Listed, list_of, made, upgraded};
 use kept_site::{Bounds, KeptSite};
@@ -142,11 +142,8 @@ fn check_create(
     bounds: Bounds,
 ) -> Result<(), FileError> {
     let alloc = rt.alloc();
-    let locked = lock(rt, path)?;
     let party = same_party(alloc, party)?;
-    let site = create_over(alloc, party, policy, bounds, looked_at(rt, path)?);
-    drop(locked);
-    match site {
+    match create_over(alloc, party, policy, bounds, looked_at(rt, path)?) {
         Ok(_site) => Ok(()),
         Err((e, _store)) => Err(e),
     }
@@ -192,10 +189,10 @@ pub fn create<S: Start>(
     ensures held { IfOk result (λ s. IsClean (view s.store) → IsHeld finite.empty s (view s.store).trees) }
 {
     check_bounds(bounds)?;
-    let store = if is_there(rt, path, &party, policy, bounds)? {
-        found_file(rt, path, start)?
-    } else {
-        new_file(rt, path, start)?
+    let store = match is_there(rt, path, &party, policy, bounds) {
+        Ok(true) => found_file(rt, path, start)?,
+        Ok(false) => new_file(rt, path, start)?,
+        Err(e) => return Err(unless_in_use(rt, path, e)),
     };
     match site_over(rt.alloc(), party, policy, bounds, store) {
         Ok(site) => Ok(site),

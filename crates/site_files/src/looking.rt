@@ -7,8 +7,8 @@ ghost use Rattle.sqlite_store.specs.FileStore.{view};
 use crate::error::FileError;
 use crate::look::Look;
 use crate::path::log_of;
-use crate::stores::{by_sql, options, second_of};
-use sqlite::{FileStore, Files, Options};
+use crate::stores::{by_sql, files_at as locked_files, options, second_of};
+use sqlite::{FileStore, Files, Options, Unknown};
 use sqlite_disk::{Disk, Memory};
 use sqlite_trees::error::StoreError;
 use sqlite_wal::checksum_of;
@@ -108,5 +108,41 @@ pub fn looked_at(rt: &HostRuntime, path: &str) -> Result<FileStore<Seen>, FileEr
     match second_of(rt.alloc(), files_at(rt, path)?, options)? {
         Some(store) => Ok(store),
         None => by_sql(rt.alloc(), files_at(rt, path)?, options),
+    }
+}
+
+/// Takes away a log that an open has made, while it has the files.
+fn remove_log(rt: &HostRuntime, path: &str) -> Result<(), FileError> {
+    fs::remove_file(rt, log_of(rt, path)?.as_str())?;
+    Ok(())
+}
+
+/// Whether somebody has the files at a path open. No log is left that was not there.
+fn is_in_use(rt: &HostRuntime, path: &str) -> Result<bool, FileError> {
+    let had_log = fs::exists(rt, log_of(rt, path)?.as_str())?;
+    match locked_files(rt, path, Unknown) {
+        Ok(files) => {
+            let left = if had_log {
+                Ok(())
+            } else {
+                remove_log(rt, path)
+            };
+            drop(files);
+            left?;
+            Ok(false)
+        }
+        Err(FileError::InUse) => Ok(true),
+        Err(e) => Err(e),
+    }
+}
+
+/// Why files are refused: `InUse` where somebody has them open, since they were read while he may have written them.
+pub fn unless_in_use(rt: &HostRuntime, path: &str, e: FileError) -> FileError {
+    if e == FileError::NoFile || e == FileError::LoneLog {
+        return e;
+    }
+    match is_in_use(rt, path) {
+        Ok(true) => FileError::InUse,
+        _ => e,
     }
 }

@@ -15,8 +15,8 @@ use crate::FileSite;
 use crate::bounds::check_bounds;
 use crate::error::FileError;
 use crate::first::{check_first, why_other};
-use crate::looking::looked_at;
-use crate::path::{Found, found_at, lock};
+use crate::looking::{looked_at, unless_in_use};
+use crate::path::{Found, found_at};
 use crate::stores::{list_at, second_at};
 use crate::tables::{Listed, list_of, upgraded};
 use kept_site::{Bounds, KeptSite};
@@ -143,12 +143,10 @@ fn check_open(
     policy: Policy,
     bounds: Bounds,
 ) -> Result<(), FileError> {
+    check_sqlite(rt, path)?;
     let alloc = rt.alloc();
-    let locked = lock(rt, path)?;
     let party = same_party(alloc, party)?;
-    let site = open_over(alloc, party, policy, bounds, looked_at(rt, path)?);
-    drop(locked);
-    match site {
+    match open_over(alloc, party, policy, bounds, looked_at(rt, path)?) {
         Ok(_site) => Ok(()),
         Err((e, _store)) => Err(e),
     }
@@ -184,8 +182,9 @@ pub fn open<S: Start>(
         × (((view s.store).trees ≡ was) ⊎ IsFirst party.rp_id was)) }
 {
     check_bounds(bounds)?;
-    check_sqlite(rt, path)?;
-    check_open(rt, path, &party, policy, bounds)?;
+    if let Err(e) = check_open(rt, path, &party, policy, bounds) {
+        return Err(unless_in_use(rt, path, e));
+    }
     let store = store_at(rt, path, start)?;
     match open_over(rt.alloc(), party, policy, bounds, store) {
         Ok(site) => Ok(site),

@@ -1,10 +1,8 @@
 //! What stands at a path, looked at before SQLite's files are opened.
 
 use crate::error::FileError;
-use os::RangeLock;
 use std::fs::{self, File};
 use std::io::{self, Read};
-use std::os::fd::AsRawFd;
 use std::path::PathBuf;
 
 /// What a SQLite file begins with (fileformat2.html, 1.2).
@@ -35,23 +33,6 @@ pub fn log_of(rt: &HostRuntime, path: &str) -> Result<String, FileError> {
     Ok(format!(in rt.alloc(); "{}-wal", real.as_str())?)
 }
 
-/// A handle of the file at a path, beside which nobody writes it. `InUse` where somebody does.
-pub fn lock(rt: &HostRuntime, path: &str) -> Result<File, FileError> {
-    if !fs::metadata(rt, path)?.is_file() {
-        return Err(FileError::CannotOpen);
-    }
-    let file = File::open(rt, path)?;
-    // SQLite's pending, reserved and shared locks.
-    if os::try_lock_range(file.as_raw_fd(), RangeLock::Shared, 1 << 30, 512) == 0 {
-        return Ok(file);
-    }
-    let error = io::Error::from_raw_os_error(os::errno());
-    if error.kind() == io::ErrorKind::WouldBlock {
-        return Err(FileError::InUse);
-    }
-    Err(error.into())
-}
-
 /// What a file begins as.
 pub fn head_at(rt: &HostRuntime, path: &str) -> Result<Found, FileError> {
     if fs::metadata(rt, path)?.len() == 0 {
@@ -67,22 +48,13 @@ pub fn head_at(rt: &HostRuntime, path: &str) -> Result<Found, FileError> {
     }
 }
 
-/// What stands at a path. `LoneLog` where no file does, but a log, and `InUse` where somebody has the file open.
+/// What stands at a path. `LoneLog` where no file does, but a log.
 pub fn found_at(rt: &HostRuntime, path: &str) -> Result<Found, FileError> {
     let has_log = fs::exists(rt, log_of(rt, path)?.as_str())?;
-    if !fs::exists(rt, path)? {
-        return if has_log {
-            Err(FileError::LoneLog)
-        } else {
-            Ok(Found::Nothing)
-        };
+    match (fs::exists(rt, path)?, has_log) {
+        (true, true) => Ok(Found::Sqlite),
+        (true, false) => head_at(rt, path),
+        (false, true) => Err(FileError::LoneLog),
+        (false, false) => Ok(Found::Nothing),
     }
-    let locked = lock(rt, path)?;
-    let found = if has_log {
-        Ok(Found::Sqlite)
-    } else {
-        head_at(rt, path)
-    };
-    drop(locked);
-    found
 }

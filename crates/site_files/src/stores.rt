@@ -27,8 +27,8 @@ use std::io::ErrorKind;
 /// The size of a page in a site's file.
 const PAGE_SIZE: usize = 4096;
 
-/// The files at a path.
-fn files_at<S: Start>(
+/// The files at a path, which nobody else has.
+pub fn files_at<S: Start>(
     rt: &HostRuntime,
     path: &str,
     start: S,
