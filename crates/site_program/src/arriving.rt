@@ -52,6 +52,22 @@ fn take_line<R: BufRead, W: Read>(
     Ok(true)
 }
 
+/// Takes the next line where it has come: false where none has, or none is left.
+fn take_ready<R: Read, W: Read>(
+    alloc: Global,
+    reader: &mut BufReader<R>,
+    random: &mut W,
+    arrived: &mut Vec<Arrived>,
+) -> io::Result<bool>
+    ensures { OnOk result ((more : List Line) × (arrived.new.items ≡ arrived.old.items ++ more)
+        × Consumes (W.remaining random.old) (W.remaining random.new) (words_in more)) }
+{
+    if !has_line(reader) {
+        return Ok(false);
+    }
+    take_line(alloc, reader, random, arrived)
+}
+
 /// Waits for a line, and takes those that have come with it: none where the input has ended.
 pub(crate) fn take_lines<R: Read, W: Read>(
     alloc: Global,
@@ -66,8 +82,8 @@ pub(crate) fn take_lines<R: Read, W: Read>(
         return Ok(arrived);
     }
     for _ in 1..MOST_TOGETHER {
-        if !has_line(reader) || !take_line(alloc, reader, random, &mut arrived)? {
-            break;
+        if !take_ready(alloc, reader, random, &mut arrived)? {
+            return Ok(arrived);
         }
     }
     Ok(arrived)
