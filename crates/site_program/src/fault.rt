@@ -1,6 +1,6 @@
 //! Why the program ends early.
 
-use crate::party::PartyFault;
+use site_command_line::PartyFault;
 use site_files::FileError;
 use std::io;
 

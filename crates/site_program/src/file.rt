@@ -1,9 +1,8 @@
 //! The site's file.
 
 use crate::fault::Fault;
-use crate::options::Options;
-use crate::party::check_party;
 use kept_site::Bounds;
+use site_command_line::{Options, check_party};
 use site_files::{FileError, FileSite, Unknown, create, open};
 use std::alloc::Global;
 use verification::RelyingParty;

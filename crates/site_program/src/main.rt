@@ -5,19 +5,16 @@ mod arriving;
 mod fault;
 mod file;
 mod input;
-mod options;
-mod party;
 mod serving;
 
 use clap::error::ErrorKind;
 use fault::Fault;
 use file::site_of;
 use input::check_input;
-use options::{Options, command_line, options_of};
 use serving::serve;
+use site_command_line::{Options, command_line, joined, options_of};
 use site_files::close;
 use site_lines::acts_help;
-use std::alloc::{AllocError, Global};
 use std::io::Write;
 use std::process::ExitCode;
 use std::{env, io};
@@ -29,24 +26,6 @@ fn arguments(rt: &HostRuntime) -> io::Result<Vec<String>> {
         arguments.push(word)?;
     }
     Ok(arguments)
-}
-
-/// The words with the value of `--log` joined to it, as the parser takes it: the word behind it is its value only where it
-/// is one.
-fn joined<'a>(alloc: Global, owned: &'a [String]) -> Result<Vec<&'a str>, AllocError> {
-    let mut words: Vec<&'a str> = Vec::with_capacity(alloc, owned.len())?;
-    for word in owned {
-        let word = match (words.last(), word.as_str()) {
-            (Some(&"--log"), "all") => "--log=all",
-            (Some(&"--log"), "refusals") => "--log=refusals",
-            (_, word) => word,
-        };
-        if word.starts_with("--log=") && words.last() == Some(&"--log") {
-            words.pop();
-        }
-        words.push(word)?;
-    }
-    Ok(words)
 }
 
 /// Serves lines over the site's file, and closes it.

@@ -3,7 +3,7 @@
 use crate::arriving::take_lines;
 use crate::fault::Fault;
 use crate::input::READ_AT_ONCE;
-use crate::options::Options;
+use site_command_line::{Log, Options};
 use site_files::{FileSite, Start, backup};
 use site_lines::{
     Answer, Answered, Arrived, Logged, Tally, Teller, answer_lines, log_line, write_answer,
@@ -22,6 +22,14 @@ fn seconds(rt: &HostRuntime) -> io::Result<u64> {
     match now.duration_since(UNIX_EPOCH) {
         Ok(since) => Ok(since.as_secs()),
         Err(_) => Err(io::Error::from(io::ErrorKind::InvalidData)),
+    }
+}
+
+/// What is logged, of the word of the command line.
+fn logged(log: Log) -> Logged {
+    match log {
+        Log::Refusals => Logged::Refusals,
+        Log::All => Logged::All,
     }
 }
 
@@ -63,7 +71,7 @@ fn tell(
         return Ok(());
     };
     for answered in answers {
-        log(rt, which, now, answered)?;
+        log(rt, logged(which), now, answered)?;
     }
     Ok(())
 }

@@ -1,8 +1,9 @@
 //! The command line.
 
+ghost use Rattle.std.specs.Prelude.{◌≡◌, ◌≤◌, IfOk, IfSome};
+
 use authdata::Profile;
 use clap::{Arg, ArgAction, ArgMatches, Command, Error};
-use site_lines::Logged;
 use std::alloc::{AllocError, Global};
 use verification::Policy;
 
@@ -15,33 +16,42 @@ static ATTESTATIONS: [&str; 3] = ["any", "none", "self"];
 /// What is logged.
 static LOGS: [&str; 2] = ["refusals", "all"];
 
+/// What is told on standard error.
+#[derive(Clone, Copy, Debug, PartialEq, Eq, Drop)]
+pub enum Log {
+    /// Refusals, failures, sessions that don't begin, and backups that fail.
+    Refusals,
+    /// Acceptances and each other error too.
+    All,
+}
+
 /// What the command line asks for.
 #[derive(Drop)]
-pub(crate) struct Options<'a> {
+pub struct Options<'a> {
     /// The path of the site's file.
-    pub(crate) file: &'a str,
+    pub file: &'a str,
     /// The rp id.
-    pub(crate) rp_id: &'a str,
+    pub rp_id: &'a str,
     /// The relying party's name, which the page shows.
-    pub(crate) rp_name: &'a str,
+    pub rp_name: &'a str,
     /// The origins of its pages.
-    pub(crate) origins: Vec<&'a str>,
+    pub origins: Vec<&'a str>,
     /// Which responses it takes.
-    pub(crate) profile: Profile,
+    pub profile: Profile,
     /// Which attestations it accepts.
-    pub(crate) policy: Policy,
+    pub policy: Policy,
     /// The most sessions that stay open.
-    pub(crate) max_open: u32,
+    pub max_open: u32,
     /// The most credentials.
-    pub(crate) max_credentials: u32,
+    pub max_credentials: u32,
     /// Whether the file must not be there yet.
-    pub(crate) is_new: bool,
+    pub is_new: bool,
     /// Whether the file must be there.
-    pub(crate) is_existing: bool,
+    pub is_existing: bool,
     /// What is told on standard error, if anything.
-    pub(crate) log: Option<Logged>,
+    pub log: Option<Log>,
     /// After how many seconds an open session ends by itself.
-    pub(crate) expire: u64,
+    pub expire: u64,
 }
 
 /// An option with a value.
@@ -165,8 +175,26 @@ fn parser<'a>(alloc: Global, help: &'a str) -> Result<Command<'a>, AllocError> {
         .arg(log)
 }
 
+/// The words with the value of `--log` joined to it, as the parser takes it: the word behind it is its value only where it
+/// is one.
+pub fn joined<'a>(alloc: Global, owned: &'a [String]) -> Result<Vec<&'a str>, AllocError> {
+    let mut words: Vec<&'a str> = Vec::with_capacity(alloc, owned.len())?;
+    for word in owned {
+        let word = match (words.last(), word.as_str()) {
+            (Some(&"--log"), "all") => "--log=all",
+            (Some(&"--log"), "refusals") => "--log=refusals",
+            (_, word) => word,
+        };
+        if word.starts_with("--log=") && words.last() == Some(&"--log") {
+            words.pop();
+        }
+        words.push(word)?;
+    }
+    Ok(words)
+}
+
 /// What clap reads of the arguments, the program's name first, with this text behind the help.
-pub(crate) fn command_line<'a>(
+pub fn command_line<'a>(
     alloc: Global,
     help: &'a str,
     arguments: &'a [&'a str],
@@ -193,10 +221,10 @@ fn profile_named(word: Option<&str>) -> Profile {
 }
 
 /// What is logged, of its word; nothing where there is none.
-fn log_named(word: Option<&str>) -> Option<Logged> {
+fn log_named(word: Option<&str>) -> Option<Log> {
     match word {
-        Some("all") => Some(Logged::All),
-        Some(_) => Some(Logged::Refusals),
+        Some("all") => Some(Log::All),
+        Some(_) => Some(Log::Refusals),
         None => None,
     }
 }
@@ -210,7 +238,9 @@ fn number(word: Option<&str>, absent: u64) -> Option<u64> {
 }
 
 /// The same of a bound, from 1 to 1,000,000.
-fn bound(word: Option<&str>, absent: u64) -> Option<u32> {
+fn bound(word: Option<&str>, absent: u64) -> Option<u32>
+    ensures { IfSome result (λ n. (1 ≤ n) × (n ≤ 1000000)) }
+{
     let bound = number(word, absent)?;
     if bound < 1 || 1_000_000 < bound {
         return None;
@@ -219,10 +249,13 @@ fn bound(word: Option<&str>, absent: u64) -> Option<u32> {
 }
 
 /// The options that were read; nothing where a value is missing, no number, or out of its bounds.
-pub(crate) fn options_of<'a>(
+pub fn options_of<'a>(
     alloc: Global,
     matches: &ArgMatches<'a>,
-) -> Result<Option<Options<'a>>, AllocError> {
+) -> Result<Option<Options<'a>>, AllocError>
+    ensures within { IfOk result (λ found. IfSome found (λ o.
+        ((1 ≤ o.max_open) × (o.max_open ≤ 1000000)) × ((1 ≤ o.max_credentials) × (o.max_credentials ≤ 1000000)))) }
+{
     let (Some(file), Some(rp_id), Some(origins)) = (
         matches.get_str("FILE"),
         matches.get_str("rp-id"),

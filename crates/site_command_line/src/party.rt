@@ -8,7 +8,7 @@ const MOST_OF_AN_RP_ID: usize = 253;
 
 /// Why a relying party is refused.
 #[derive(Clone, Copy, Debug, PartialEq, Eq, Drop, thiserror::Error)]
-pub(crate) enum PartyFault {
+pub enum PartyFault {
     /// The rp id is no domain of 1 to 253 bytes in lower case.
     #[error("the rp id is not a domain in lower case, as example.com")]
     BadRpId,
@@ -170,7 +170,7 @@ fn is_of(host: &str, rp_id: &str) -> bool {
 
 /// That an rp id and origins are as browsers write them, and that the host of a web origin, where there is one, is the rp id
 /// or ends in it.
-pub(crate) fn check_party(rp_id: &str, origins: &[&str]) -> Result<(), PartyFault> {
+pub fn check_party(rp_id: &str, origins: &[&str]) -> Result<(), PartyFault> {
     check_rp_id(rp_id)?;
     let (mut has_web, mut has_own) = (false, false);
     for origin in origins {

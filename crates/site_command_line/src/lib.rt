@@ -1,0 +1,8 @@
+//! The arguments of the site over lines, and what its relying party may be.
+#![tactic(auto)]
+
+mod options;
+mod party;
+
+pub use options::{Log, Options, command_line, joined, options_of};
+pub use party::{PartyFault, check_party};
