@@ -48,7 +48,11 @@ export class Image {
   }
 
   flag(at, is) {
-    this.bytes[at] = is ? 1 : 0;
+    this.u8(at, is ? 1 : 0);
+  }
+
+  u8(at, number) {
+    this.bytes[at] = number;
   }
 
   i32(at, number) {
