@@ -70,7 +70,7 @@ export const REGISTRATION_OUT = struct({
 });
 
 export const SIGNATURE_CALL = struct({
-  is_registration: U8, profile: U8, registration: REGISTRATION_RESPONSE, assertion: ASSERTION_RESPONSE, key: KEY,
+  is_registration: U8, profile: U8, registration: REGISTRATION_RESPONSE, assertion: ASSERTION_RESPONSE, key: KEY, attestation: U8,
 });
 
 export const SIGNATURE_OUT = struct({ is_asked: U8, key: KEY_OUT, message_size: SIZE, signature_size: SIZE });

@@ -86,7 +86,7 @@ export function serverOver(moduleOf, randomBytes, isValid) {
       const module = moduleOf(), begun = sessionOf(session, RegistrationSession), user = begun?.user.slice();
       const image = registrationImage(this.#party, begun, response, { freeId, isFull });
       const { told, answer } = await this.#judged(module, true, image, judgeRegistration, BAD_STATEMENT,
-                                                 (at) => askedOfRegistration(module, at, this.#party, response));
+                                                 (at) => askedOfRegistration(module, at, this.#party, begun, response));
       checkAnswer(module, true, answer);
       const { id, algorithm, x, y, signCount, eligible, extensionsSize, ...rest } = told;
       const credential = new Credential({ id, user, algorithm, x, y, signCount, eligible, transports });

@@ -182,10 +182,11 @@ function copyPart(bytes, to, from, { sizeOf }) {
 }
 
 /** Which signature a registration asks for, whose call lies at this address. */
-export function askedOfRegistration(module, call, { profile }, response) {
+export function askedOfRegistration(module, call, { profile }, session, response) {
   return asked(module, response.attestationObject.length, (bytes, at) => {
     bytes[at + SIGNATURE_CALL.is_registration] = 1;
     bytes[at + SIGNATURE_CALL.profile] = profile;
+    bytes[at + SIGNATURE_CALL.attestation] = session?.attestation ? 1 : 0;
     copyPart(bytes, at + SIGNATURE_CALL.registration, call + REGISTRATION_CALL.response, REGISTRATION_RESPONSE);
   });
 }

@@ -170,7 +170,7 @@ static PyObject *registration(PyObject *Py_UNUSED(module), PyObject *words)
     uint32_t answer;
     PROVED(answer = passkey_registration(&call, &out));
     if (answer == PASSKEY_REGISTRATION_BAD_STATEMENT) {
-        passkey_signature_call asked = {.is_registration = 1, .profile = (uint8_t)profile, .registration = call.response};
+        passkey_signature_call asked = {.is_registration = 1, .profile = (uint8_t)profile, .registration = call.response, .attestation = (uint8_t)attestation};
         if (!verify_by(verify, &asked, part[ATTESTATION_OBJECT].size, &all, &call.has_verified, &call.verified, &answer)) return released(&all, NULL);
         if (call.has_verified) PROVED(answer = passkey_registration(&call, &out));
     }
