@@ -23,7 +23,7 @@ def server():
 
 
 def told(server, device, **more):
-    options, session = server.register_begin(USER, "name")
+    options, session = server.register_begin(USER, "name", attestation="direct")
     return server.register_complete(session, device.register(options, **more), is_registered=free)
 
 
@@ -91,8 +91,8 @@ CRED_PROTECT = b"\xa1\x6bcredProtect\x02"
 @pytest.mark.parametrize("packed", [False, True])
 @pytest.mark.parametrize("size", [22, 65, 300, 1023])
 def test_open_profile(packed, size):
-    strict = Server("example.com", ["https://example.com"], open_profile=False)
-    server = Server("example.com", ["https://example.com"])
+    strict = Server("example.com", ["https://example.com"], profile="strict")
+    server = Server("example.com", ["https://example.com"], profile="open")
     device = Device(credential=bytes(range(1, 94)) * 11 if size == 1023 else bytes(size))
     assert len(device.id) == size
     made = {"flags": UP | UV | AT | ED, "packed": packed, "outputs": CRED_PROTECT}
@@ -267,10 +267,10 @@ def test_any_of_the_origins():
     assert refusal(lambda: registered(server, Device(origin="https://www.example.com.evil"))) == "G5"
 
 
-@pytest.mark.parametrize("open_profile", [False, True])
+@pytest.mark.parametrize("profile", ["strict", "open", "level3"])
 @pytest.mark.parametrize("algorithm", [ES256, EDDSA, RS256])
-def test_algorithm_not_offered(algorithm, open_profile):
-    server = Server("example.com", ["https://example.com"], open_profile=open_profile)
+def test_algorithm_not_offered(algorithm, profile):
+    server = Server("example.com", ["https://example.com"], profile=profile)
     device = Device(algorithm)
     others = tuple({ES256, EDDSA, RS256} - {algorithm})
     for algorithms in (others, others[:1], others[1:], ()):
