@@ -118,18 +118,18 @@ static PyObject *assertion(PyObject *Py_UNUSED(module), PyObject *words)
     held all = {0};
     passkey_assertion_out out;
     PyObject *credential_type, *type, *names, *verify, *before, *transports, *eligible, *numbers, *lists[4];
-    int profile, has_session, verification, has_credential, algorithm, retired;
-    long long count;
+    int has_session, verification, has_credential, algorithm, retired;
+    unsigned char profile; long long count;
     if (!PyArg_UnpackTuple(words, "assertion", 12, 12, &credential_type, &type, &names, &verify, &before, &transports, &eligible, &numbers,
             &lists[0], &lists[1], &lists[2], &lists[3]) ||
-        !PyArg_ParseTuple(numbers, "ipppiLp", &profile, &has_session, &verification, &has_credential, &algorithm, &count, &retired)) return NULL;
+        !PyArg_ParseTuple(numbers, "bpppiLp", &profile, &has_session, &verification, &has_credential, &algorithm, &count, &retired)) return NULL;
     if (count < 0 || count > UINT32_MAX) return PyErr_Format(PyExc_OverflowError, "the signature counter is out of its limits");
     int is_eligible = PyObject_IsTrue(eligible);
     if (is_eligible < 0 || !lend(&all, lists, 4, OF_ASSERTION, MAY_BE_NONE)) return released(&all, NULL);
     size_t origins = (size_t)PyTuple_Size(lists[1]), pages = (size_t)PyTuple_Size(lists[2]);
     const passkey_bytes *part = all.items, *listed = part + OF_ASSERTION, *ids = listed + origins + pages;
     passkey_assertion_call call = {
-        .party = {part[RP_ID], listed, origins, (uint8_t)profile, listed + origins, pages},
+        .party = {part[RP_ID], listed, origins, profile, listed + origins, pages},
         .has_session = (uint8_t)has_session,
         .session = {part[CHALLENGE], (uint8_t)verification, all.objects[ACCOUNT] != Py_None, part[ACCOUNT], ids, all.count - (size_t)(ids - part)},
         .has_credential = (uint8_t)has_credential,
@@ -156,13 +156,13 @@ static PyObject *registration(PyObject *Py_UNUSED(module), PyObject *words)
     held all = {0};
     passkey_registration_out out;
     PyObject *verify, *lists[3];
-    int profile, accept_none, accept_self, has_session, verification, es256, eddsa, rs256, conditional, attestation, is_full;
-    if (!PyArg_ParseTuple(words, "O(ipppppppppp)OOO", &verify, &profile, &accept_none, &accept_self, &has_session, &verification, &es256, &eddsa,
+    unsigned char profile; int accept_none, accept_self, has_session, verification, es256, eddsa, rs256, conditional, attestation, is_full;
+    if (!PyArg_ParseTuple(words, "O(bpppppppppp)OOO", &verify, &profile, &accept_none, &accept_self, &has_session, &verification, &es256, &eddsa,
             &rs256, &conditional, &attestation, &is_full, &lists[0], &lists[1], &lists[2]) || !lend(&all, lists, 3, OF_REGISTRATION, FREE_ID + 1)) return released(&all, NULL);
     size_t origins = (size_t)PyTuple_Size(lists[1]), pages = (size_t)PyTuple_Size(lists[2]);
     const passkey_bytes *part = all.items, *listed = part + OF_REGISTRATION;
     passkey_registration_call call = {
-        .party = {part[PARTY], listed, origins, (uint8_t)profile, listed + origins, pages},
+        .party = {part[PARTY], listed, origins, profile, listed + origins, pages},
         .accept_none = (uint8_t)accept_none, .accept_self = (uint8_t)accept_self, .has_session = (uint8_t)has_session,
         .session = {part[NONCE], part[HOLDER], (uint8_t)verification, (uint8_t)es256, (uint8_t)eddsa, (uint8_t)rs256, (uint8_t)conditional, (uint8_t)attestation},
         .response = {part[ATTESTATION_OBJECT], part[CREATED]},
@@ -170,7 +170,7 @@ static PyObject *registration(PyObject *Py_UNUSED(module), PyObject *words)
     uint32_t answer;
     PROVED(answer = passkey_registration(&call, &out));
     if (answer == PASSKEY_REGISTRATION_BAD_STATEMENT) {
-        passkey_signature_call asked = {.is_registration = 1, .profile = (uint8_t)profile, .registration = call.response, .attestation = (uint8_t)attestation};
+        passkey_signature_call asked = {.is_registration = 1, .profile = profile, .registration = call.response, .attestation = (uint8_t)attestation};
         if (!verify_by(verify, &asked, part[ATTESTATION_OBJECT].size, &all, &call.has_verified, &call.verified, &answer)) return released(&all, NULL);
         if (call.has_verified) PROVED(answer = passkey_registration(&call, &out));
     }
