@@ -1,5 +1,7 @@
 -- What the judgement of a registration answers.
-use Rattle.std.specs.Prelude.{◌≡◌, ℕ, List, true}
+use Rattle.std.specs.Prelude.{◌≡◌, ℕ, List, Bool, true, false}
+use Rattle.authdata.specs.declared.profile.Profile.{Profile}
+use Rattle.authdata.specs.declared.profile.Profile.TheVariants.{Level3}
 use Rattle.authdata.specs.Flags.{is_set, BE}
 use Rattle.authdata.specs.Layout.{AttestedCredential, AuthenticatorData}
 use Rattle.authdata.specs.Objects.{Attestation, ObjectOf}
@@ -35,6 +37,8 @@ step_of line.Readable = step.UnreadableClientData
 step_of line.Type = step.WrongType
 step_of line.Challenge = step.WrongChallenge
 step_of line.Origin = step.WrongOrigin
+step_of line.CrossOrigin = step.CrossOrigin
+step_of line.TopOrigin = step.WrongTopOrigin
 step_of line.TokenBinding = step.TokenBinding
 
 -- the bytes are no attestation object; want of memory says nothing
@@ -42,6 +46,10 @@ abbrev pub IsNoObject : List ℕ → VerificationError RegistrationRefusal → T
 IsNoObject bs (errors.Refused step.BadAttestationObject) = (o : Attestation) → ObjectOf o bs → ⊥
 IsNoObject bs (errors.Refused w) = ⊥
 IsNoObject bs errors.Memory = Unit {0}
+
+-- the statement counts as none, whatever it is
+abbrev pub IsUnasked : Profile → Bool → Type 0
+IsUnasked profile asked = (profile ≡ Level3) × (asked ≡ false)
 
 -- how the statement attests the credential
 abbrev pub AttestsAs : Validity → Attestation → CoseKey → List ℕ → AttestationType → Type 0

@@ -16,8 +16,14 @@ returns-then-not-is_challenge_text-clause-refused c = first_at 2 refl (search ru
 pub returns-then-not-has_origin-clause-refused : goal.returns-then-not-has_origin-clause-refused
 returns-then-not-has_origin-clause-refused c = first_at 3 refl (search rules) (search rules)
 
+pub returns-then-not-may_be_framed-clause-refused : goal.returns-then-not-may_be_framed-clause-refused
+returns-then-not-may_be_framed-clause-refused c = first_at 4 refl (search rules) (search rules)
+
+pub returns-then-not-has_top_origin-clause-refused : goal.returns-then-not-has_top_origin-clause-refused
+returns-then-not-has_top_origin-clause-refused c = first_at 5 refl (search rules) (search rules)
+
 pub returns-then-not-has_no_binding-clause-refused : goal.returns-then-not-has_no_binding-clause-refused
-returns-then-not-has_no_binding-clause-refused c = first_at 4 refl (search rules) (search rules)
+returns-then-not-has_no_binding-clause-refused c = first_at 6 refl (search rules) (search rules)
 
 pub returns-then-expects-clause-passes : goal.returns-then-expects-clause-passes
 returns-then-expects-clause-passes c = expected_says c.args.kind c.args.challenge.now c.args.bytes.now c.args.party.now (c.expects.ensures.0 c.if-expects.true)
