@@ -16,8 +16,8 @@ use Rattle.verification.specs.Shared.{HasType, HasChallenge, HasOrigin, HasNoBin
 use Rattle.verification.proofs.Steps.{of_some}
 
 not_cross : (says : Bool) → says ≡ false → (crossing_of says ≡ cross.Absent) ⊎ (crossing_of says ≡ cross.False)
-not_cross false no = inr refl
-not_cross true no = absurd cc
+not_cross false unsaid = inr refl
+not_cross true unsaid = absurd cc
 
 pub expected_says : (kind : CeremonyType) (challenge t : List ℕ) (rp : RelyingParty) → IsSerialised kind challenge rp t
     → Each (PassesClientDataStep kind challenge rp t) client_data_order

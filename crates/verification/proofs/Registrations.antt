@@ -98,12 +98,9 @@ module _ (x : JudgedRegistration) (o : Attestation) (a : AuthenticatorData) (c :
       abbrev PresentFor : ExpectedRegistration → Type 0
       PresentFor f = Attested x.rp.profile x.response (λ q b d. IsPresent b ⊎ NeedsNoPresence x.rp.profile f)
 
-      pub not_present : (IsPresent a → ⊥) → (NeedsNoPresence x.rp.profile e → ⊥)
+      pub not_present : (IsPresent a ⊎ NeedsNoPresence x.rp.profile e → ⊥)
           → FirstFailing (PassesRegistrationStep never x) auth_data_steps step.UserNotPresent
-      not_present absent needed = first_at 2 refl (found, (for_party, tt)) (λ passes. elim (passes e is o a c h) [
-        | inl p ↦ absent p
-        | inr p ↦ needed p
-      ])
+      not_present absent = first_at 2 refl (found, (for_party, tt)) (λ passes. absent (passes e is o a c h))
 
       module _ (present : IsPresent a ⊎ NeedsNoPresence x.rp.profile e) where
         is_present : PassesRegistrationStep never x step.UserNotPresent

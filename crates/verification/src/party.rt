@@ -2,7 +2,7 @@
 
 ghost use Rattle.std.specs.Prelude.{◌≡◌, ◌↔◌, [], Contains, IfOk, IsTrue, string_bytes};
 ghost use Rattle.sha2.specs.Sha256.{sha256};
-ghost use Rattle.authdata.specs.declared.profile.Profile.TheVariants.{Open, Strict};
+ghost use Rattle.authdata.specs.declared.profile.Profile.TheVariants.{Level3, Open, Strict};
 ghost use Rattle.verification.specs.ClientData.{IsSerialised};
 ghost use Rattle.verification.specs.Shared.{HasNoBinding, HasTopOrigin, IsUnframed, MayBeFramed};
 ghost use Rattle.verification.specs.Views.{texts_of};
@@ -187,11 +187,21 @@ impl RelyingParty {
         }
     }
 
+    /// Whether it looks at what the client data say of frames.
+    fn looks_at_frames(&self) -> bool
+        ensures { IsTrue result ↔ (self.now.profile ≡ Level3) }
+    {
+        match self.profile {
+            Profile::Strict | Profile::Open => false,
+            Profile::Level3 => true,
+        }
+    }
+
     /// Whether the page may be in a frame of another site, where the client data say that it is.
     pub(crate) fn may_be_framed(&self, seen: &Seen) -> bool
         ensures { IsTrue result ↔ MayBeFramed self.now seen.now }
     {
-        if self.profile != Profile::Level3 || is_unframed(seen) {
+        if !self.looks_at_frames() || is_unframed(seen) {
             return true;
         }
         !self.top_origins.is_empty() && seen.cross_origin != CrossOrigin::Other
@@ -201,7 +211,7 @@ impl RelyingParty {
     pub(crate) fn has_top_origin(&self, seen: &Seen) -> bool
         ensures { IsTrue result ↔ HasTopOrigin self.now seen.now }
     {
-        if self.profile != Profile::Level3 || is_unframed(seen) {
+        if !self.looks_at_frames() || is_unframed(seen) {
             return true;
         }
         match &seen.top_origin {
@@ -215,7 +225,7 @@ impl RelyingParty {
     pub(crate) fn expects(&self, bytes: &[u8], kind: CeremonyType, challenge: &[u8; 32]) -> bool
         ensures { IsTrue result ↔ IsSerialised kind challenge.now self.now bytes.now }
     {
-        let takes_cross = self.profile != Profile::Level3;
+        let takes_cross = !self.looks_at_frames();
         is_serialised_for_any(bytes, kind, challenge, &self.origins, takes_cross)
     }
 }

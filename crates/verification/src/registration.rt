@@ -1,7 +1,8 @@
 //! Judging a registration (WebAuthn Level 2, section 7.1).
 
-ghost use Rattle.std.specs.Prelude.{◌≡◌, ◌↔◌, Bool, Contains, IfErr, IfOk, IfSome, IsTrue, List, None, OnOk, Some, ℕ};
+ghost use Rattle.std.specs.Prelude.{◌≡◌, ◌↔◌, ◌⊎◌, Bool, Contains, IfErr, IfOk, IfSome, IsTrue, List, None, OnOk, Some, true, ℕ};
 ghost use Rattle.refusal_order.specs.Lines.{Each, FirstFailing};
+ghost use Rattle.authdata.specs.Flags.{is_set, UP};
 ghost use Rattle.cose.specs.Keys.{alg_of, lent_key_view};
 ghost use Rattle.authdata.specs.Objects.{ObjectOf, object_view};
 ghost use Rattle.authdata.specs.Layout.{AttestedCredential, AuthOf, AuthenticatorData, lent_attested_view, lent_auth_view};
@@ -104,11 +105,11 @@ fn offers(session: &RegistrationSession, key: &KeyView<'_>) -> bool
     is_offered(&session.algorithms, key.alg())
 }
 
-/// Whether presence is not asked for.
-fn needs_no_presence(profile: Profile, session: &RegistrationSession) -> bool
-    ensures { IsTrue result ↔ NeedsNoPresence profile (registration_view session.now) }
+/// Whether the flags say that the user was present, where that is required.
+fn is_present_as(profile: Profile, session: &RegistrationSession, flags: u8) -> bool
+    ensures { IsTrue result ↔ ((is_set flags UP ≡ true) ⊎ NeedsNoPresence profile (registration_view session.now)) }
 {
-    profile == Profile::Level3 && session.conditional
+    flags::is_set(flags, flags::UP) || (profile == Profile::Level3 && session.conditional)
 }
 
 /// Whether the statement counts as none, whatever it is, where one was asked for or not.
@@ -229,8 +230,7 @@ impl<'a> RegistrationAttempt<'a> {
         if !self.party.is_hash(&auth_data.rp_id_hash) {
             return Err(RegistrationRefusal::WrongRelyingParty);
         }
-        let is_present = flags::is_set(auth_data.flags, flags::UP);
-        if !is_present && !needs_no_presence(self.party.profile(), session) {
+        if !is_present_as(self.party.profile(), session, auth_data.flags) {
             return Err(RegistrationRefusal::UserNotPresent);
         }
         if !is_verified_as(session.uv, auth_data.flags) {
