@@ -10,7 +10,7 @@ use Rattle.authdata.specs.declared.profile.Profile.{Profile}
 use Rattle.authdata.specs.declared.profile.Profile.TheVariants.{Level3, Open, Strict}
 use Rattle.authdata.specs.Layout.{AuthenticatorData, AttestedCredential, AuthOf}
 use Rattle.authdata.specs.Objects.{Attestation, ObjectOf}
-use Rattle.authdata.specs.Statements.{IsKnownFormat, IsNone, IsSelfSigned}
+use Rattle.authdata.specs.Statements.{IsKnownFormat, IsNone}
 use Rattle.authdata.specs.declared.statement.AttestationType.{AttestationType}
 use Rattle.authdata.specs.declared.statement.AttestationType.TheVariants as types
 use Rattle.authdata.proofs.Objects.{one_object}
@@ -18,12 +18,12 @@ use Rattle.authdata.proofs.Unique.{one_value}
 use Rattle.verification.specs.Records.{ExpectedRegistration}
 use Rattle.cose.specs.Schemes.{Validity}
 use Rattle.verification.specs.Shared.{FailsIn, IsFor, IsPresent, IsVerifiedAs, never}
-use Rattle.verification.specs.Registration.{Attested, Attests, IsAccepted, IsFirstFailing, IsStated, JudgedRegistration, NeedsNoPresence}
+use Rattle.verification.specs.Registration.{Attested, Attests, CountsAsNone, IsAccepted, IsFirstFailing, IsStated, JudgedRegistration, NeedsNoPresence}
 use Rattle.verification.specs.Registration.{PassesRegistration, PassesRegistrationStep, attestation_steps, auth_data_steps, counted}
 use Rattle.verification.specs.Registration.{client_data_steps, hash_in, response_steps, table_steps}
 use Rattle.verification.specs.ClientData.{PassesClientDataStep, client_data_order}
 use Rattle.verification.specs.RegistrationAnswers.{AcceptsAttestation, IsNoObject, IsRefused, AttestsAs, AttestsAsNothing}
-use Rattle.verification.specs.RegistrationAnswers.{IsUnasked, IsVerifiedRegistration, step_of}
+use Rattle.verification.specs.RegistrationAnswers.{IsVerifiedRegistration, step_of}
 use Rattle.verification.specs.declared.client_data.ClientDataStep.{ClientDataStep}
 use Rattle.verification.specs.declared.client_data.ClientDataStep.TheVariants as line
 use Rattle.verification.specs.declared.refusal.VerificationError.{VerificationError}
@@ -161,10 +161,10 @@ two_formats : (fmt : List ℕ) → fmt ≡ codes "none" → fmt ≡ codes "packe
 two_formats fmt none packed = let same : codes "none" ≡ codes "packed" = sym none ∙ packed in cc
 
 -- what counts as the object: one with no attestation, where none was asked for, and else the object
-pub counted_none : (p : Profile) (asked : Bool) (o : Attestation) → IsUnasked p asked → IsNone (counted p asked o)
+pub counted_none : (p : Profile) (asked : Bool) (o : Attestation) → CountsAsNone p asked → IsNone (counted p asked o)
 counted_none p asked o unasked = rw (unasked.0, unasked.1) (refl, refl)
 
-pub counted_whole : (p : Profile) (asked : Bool) (o : Attestation) → (IsUnasked p asked → ⊥) → counted p asked o ≡ o
+pub counted_whole : (p : Profile) (asked : Bool) (o : Attestation) → (CountsAsNone p asked → ⊥) → counted p asked o ≡ o
 counted_whole Strict asked o any = refl
 counted_whole Open asked o any = refl
 counted_whole Level3 true o any = refl

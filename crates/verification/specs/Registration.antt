@@ -51,11 +51,15 @@ hash_in r = sha256 r.client_data
 abbrev pub NeedsNoPresence : Profile → ExpectedRegistration → Type 0
 NeedsNoPresence profile e = (profile ≡ Level3) × (e.conditional ≡ true)
 
+-- the statement counts as none, whatever it is: in Level 3, where none was asked for (5.4.7, "none")
+abbrev pub CountsAsNone : Profile → Bool → Type 0
+CountsAsNone profile asked = (profile ≡ Level3) × (asked ≡ false)
+
 -- the object with no attestation
 abbrev pub unattested : Attestation → Attestation
 unattested o = record { fmt = codes "none"; statement = none_statement; auth_data = o.auth_data }
 
--- the object as it counts: in Level 3, where the session asked for no attestation, with none (5.4.7, "none")
+-- the object as it counts
 abbrev pub counted : Profile → Bool → Attestation → Attestation
 counted Level3 asked o = if asked then o else unattested o
 counted profile asked o = o

@@ -1,7 +1,5 @@
 -- What the judgement of a registration answers.
-use Rattle.std.specs.Prelude.{◌≡◌, ℕ, List, Bool, true, false}
-use Rattle.authdata.specs.declared.profile.Profile.{Profile}
-use Rattle.authdata.specs.declared.profile.Profile.TheVariants.{Level3}
+use Rattle.std.specs.Prelude.{◌≡◌, ℕ, List, true}
 use Rattle.authdata.specs.Flags.{is_set, BE}
 use Rattle.authdata.specs.Layout.{AttestedCredential, AuthenticatorData}
 use Rattle.authdata.specs.Objects.{Attestation, ObjectOf}
@@ -46,10 +44,6 @@ abbrev pub IsNoObject : List ℕ → VerificationError RegistrationRefusal → T
 IsNoObject bs (errors.Refused step.BadAttestationObject) = (o : Attestation) → ObjectOf o bs → ⊥
 IsNoObject bs (errors.Refused w) = ⊥
 IsNoObject bs errors.Memory = Unit {0}
-
--- the statement counts as none, whatever it is
-abbrev pub IsUnasked : Profile → Bool → Type 0
-IsUnasked profile asked = (profile ≡ Level3) × (asked ≡ false)
 
 -- how the statement attests the credential
 abbrev pub AttestsAs : Validity → Attestation → CoseKey → List ℕ → AttestationType → Type 0

@@ -6,11 +6,11 @@ ghost use Rattle.authdata.specs.Flags.{is_set, UP};
 ghost use Rattle.cose.specs.Keys.{alg_of, lent_key_view};
 ghost use Rattle.authdata.specs.Objects.{ObjectOf, object_view};
 ghost use Rattle.authdata.specs.Layout.{AttestedCredential, AuthOf, AuthenticatorData, lent_attested_view, lent_auth_view};
-ghost use Rattle.verification.specs.Registration.{Attests, JudgedRegistration, NeedsNoPresence, PassesRegistrationStep, attestation_steps, auth_data_steps, counted};
+ghost use Rattle.verification.specs.Registration.{Attests, CountsAsNone, JudgedRegistration, NeedsNoPresence, PassesRegistrationStep, attestation_steps, auth_data_steps, counted};
 ghost use Rattle.verification.specs.Registration.{client_data_steps, response_steps, table_steps};
 ghost use Rattle.verification.specs.Shared.{FailsIn, never};
 ghost use Rattle.verification.specs.RegistrationAnswers.{AcceptsAttestation, IsNoObject, IsRefused, AttestsAs};
-ghost use Rattle.verification.specs.RegistrationAnswers.{AttestsAsNothing, IsUnasked, IsVerifiedRegistration, step_of};
+ghost use Rattle.verification.specs.RegistrationAnswers.{AttestsAsNothing, IsVerifiedRegistration, step_of};
 ghost use Rattle.verification.specs.Attested.{IsOf};
 ghost use Rattle.verification.specs.Views.{admitted_view, judged_registration_view, judged_without_table, registration_view, registration_parts_view};
 
@@ -112,9 +112,10 @@ fn is_present_as(profile: Profile, session: &RegistrationSession, flags: u8) -> 
     flags::is_set(flags, flags::UP) || (profile == Profile::Level3 && session.conditional)
 }
 
-/// Whether the statement counts as none, whatever it is, where one was asked for or not.
-fn is_unasked(profile: Profile, asked: bool) -> bool
-    ensures { IsTrue result ↔ IsUnasked profile asked }
+/// Whether an attestation statement counts as none, whatever it is: in Level 3, where none was asked for (WebAuthn Level 3,
+/// section 5.4.7, "none").
+pub fn counts_as_none(profile: Profile, asked: bool) -> bool
+    ensures { IsTrue result ↔ CountsAsNone profile asked }
 {
     profile == Profile::Level3 && !asked
 }
@@ -133,7 +134,7 @@ fn statement<V: Verifier>(
     ensures refused { IfErr result (AttestsAsNothing (V.valid verifier.now) (counted profile asked (object_view object.now))
         (lent_key_view key.now) hash.now) }
 {
-    if is_unasked(profile, asked) {
+    if counts_as_none(profile, asked) {
         return Ok(AttestationType::None);
     }
     match check_statement(verifier, object, key, hash) {

@@ -1,5 +1,5 @@
 -- What is owed of `RelyingParty::expects`.
-use Rattle.std.proofs.Common.{◌≡◌, Bool, true, false, not, Contains, refl, ap, subst, sym, ◌∙◌}
+use Rattle.std.proofs.Common.{◌≡◌, Bool, true, false, not, Contains, refl, ap, subst, sym}
 use Rattle.verification.specs.Records.{RelyingParty}
 use Rattle.verification.proofs.party.RelyingParty.expects.Goals as goal
 

@@ -1,5 +1,5 @@
 -- What is owed of `RelyingParty::has_top_origin`.
-use Rattle.std.proofs.Common.{◌≡◌, List, ℕ, Contains, inl, inr, subst, sym, ◌∙◌}
+use Rattle.std.proofs.Common.{◌≡◌, Contains, inl, inr, subst, sym}
 use Rattle.verification.specs.Records.{RelyingParty}
 use Rattle.verification.proofs.party.RelyingParty.has_top_origin.Goals as goal
 

@@ -1,5 +1,5 @@
 -- What is owed of `RegistrationAttempt::attested`.
-use Rattle.std.proofs.Common.{◌≡◌, ℕ, List, Some, sym, ◌∙◌, refl}
+use Rattle.std.proofs.Common.{◌≡◌, ℕ, List, Some, sym, refl}
 use Rattle.verification.specs.Views.{judged_without_table, registration_view}
 use Rattle.authdata.specs.Objects.{Attestation, ObjectOf, object_view}
 use Rattle.authdata.specs.Layout.{AttestedCredential, AuthenticatorData, AuthOf, lent_attested_view, lent_auth_view}
