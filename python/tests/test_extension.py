@@ -28,7 +28,7 @@ class Ceremony:
 
     def __init__(self, algorithm=ES256, **more):
         self.server, self.device = party(**more), Device(algorithm)
-        options, self.begun = self.server.register_begin(USER, "name")
+        options, self.begun = self.server.register_begin(USER, "name", attestation="direct")
         self.made = self.device.register(options, packed=True, flags=UP | UV | AT | ED, outputs=CRED_PROTECT)
         self.credential = self.register().credential
         options, self.session = self.server.authenticate_begin(user=USER, allow=[self.credential])

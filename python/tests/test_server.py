@@ -214,12 +214,12 @@ def test_creation_options():
         "authenticatorSelection": {"residentKey": "required", "requireResidentKey": True, "userVerification": "required"},
         "attestation": "none",
     }
-    assert session == RegistrationSession(session.challenge, USER, True, (ES256, EDDSA, RS256))
+    assert session == RegistrationSession(session.challenge, USER, True, (ES256, EDDSA, RS256), attestation=False)
     options, session = server.register_begin(USER, "name", resident=False, algorithms=(EDDSA,))
     assert options["authenticatorSelection"] == {
         "residentKey": "discouraged", "requireResidentKey": False, "userVerification": "preferred"}
     assert options["pubKeyCredParams"] == [{"type": "public-key", "alg": -8}] and options["user"]["displayName"] == "name"
-    assert session == RegistrationSession(session.challenge, USER, False, (EDDSA,))
+    assert session == RegistrationSession(session.challenge, USER, False, (EDDSA,), attestation=False)
 
 
 def test_request_options(server):
