@@ -2,7 +2,7 @@
 import { BYTES } from "./layout.js";
 import { NoMemory } from "./errors.js";
 
-const ABI_VERSION = 3;
+const ABI_VERSION = 4;
 // The most bytes that a call lends and its rooms have: by them the module's memory stays below 64 MB.
 export const MOST_LENT = 4 * 1024 * 1024;
 // A module whose memory has grown beyond this is let go after the call, so that no later one has much to overwrite.

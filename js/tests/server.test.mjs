@@ -152,7 +152,7 @@ test("options of a registration", () => {
                               authenticatorAttachment: "platform" },
     attestation: "none", timeout: 60_000, hints: ["security-key"], extensions: { credProps: true },
   });
-  assert.deepEqual(session, new RegistrationSession({ challenge: session.challenge, user, userVerification: true, algorithms: [EDDSA] }));
+  assert.deepEqual(session, new RegistrationSession({ challenge: session.challenge, user, userVerification: true, algorithms: [EDDSA], attestation: false }));
   const plain = server.registerBegin(user, "name");
   assert.deepEqual(plain.options.authenticatorSelection, { residentKey: "required", requireResidentKey: true, userVerification: "preferred" });
   assert.equal(plain.options.user.displayName, "name");
