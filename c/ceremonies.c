@@ -56,7 +56,7 @@ static passkey_verified asked(void)
 {
     static uint8_t message[ROOM + 32], signature[ROOM];
     static passkey_signature_out told;
-    passkey_signature_call which = { is_registration, true, enrol.response, call.response, call.credential.key };
+    passkey_signature_call which = { is_registration, true, enrol.response, call.response, call.credential.key, true };
     MUST(passkey_signature_asked(&which, message, sizeof message, signature, sizeof signature, &told) == PASSKEY_ACCEPTED);
     MUST(told.is_asked);
     passkey_verified signed_by = { lent_key(&told.key), bytes(message, told.message_size),
@@ -168,7 +168,7 @@ int main(void)
             rp_id = words[0];
             origin_text = words[1];
             origin = lent(&origin_text);
-            call.party = (passkey_party){ lent(&rp_id), &origin, 1, true };
+            call.party = (passkey_party){ lent(&rp_id), &origin, 1, 1, NULL, 0 };
         } else if (strcmp(kind, "registration") == 0) {
             registration();
         } else {

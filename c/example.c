@@ -249,7 +249,7 @@ int main(void)
 {
     MUST(passkey_abi_version() == PASSKEY_ABI_VERSION);
     const passkey_bytes origins[] = { text("https://example.com") };
-    const passkey_party party = { text("example.com"), origins, 1, true };
+    const passkey_party party = { text("example.com"), origins, 1, 1, NULL, 0 };
     uint8_t challenge[32], object[256];
     char client_data[256];
     device_answer made;

@@ -1,4 +1,4 @@
-/* Each flag that a host hands in: a byte of 1, 2, 4 and so on to 255 says the same, and 0 something else. What is told comes
+/* Each flag that a host hands in: a byte of 1, 2, 4 and so on to 255 says the same, and 0 something else. Each number of a profile. What is told comes
  * into memory that was not initialised. Prints one line. */
 #include "made.h"
 
@@ -32,19 +32,36 @@ static uint32_t sign_in(const passkey_assertion_call *call, uint8_t data_flags, 
 static void try_sign_in(passkey_assertion_call *call, uint8_t *flag, struct answers answers)
 {
     uint8_t data[64], before = *flag;
-    uint8_t data_flags = call->party.open_profile || flag == &call->party.open_profile ? 0x81 : 0x01;
-    size_t more = data_flags == 0x81 ? sizeof extensions : 0;
-    call->response.auth_data = lent(data, auth_data(data, data_flags, 7, lent(extensions, more)));
+    const uint8_t data_flags = 0x01;
+    call->response.auth_data = lent(data, auth_data(data, data_flags, 7, lent(NULL, 0)));
     verify_sign_in(call);
     MUST(call->has_verified == 1);
     before = flag == &call->has_verified ? 1 : before;
     *flag = 0;
-    MUST(sign_in(call, data_flags, more) == answers.clear);
+    MUST(sign_in(call, data_flags, 0) == answers.clear);
     for (size_t i = 0; i < sizeof set_flags; i++) {
         *flag = set_flags[i];
-        MUST(sign_in(call, data_flags, more) == answers.set);
+        MUST(sign_in(call, data_flags, 0) == answers.set);
     }
     *flag = before;
+}
+
+/* What each number of a profile answers to extensions. */
+static uint32_t answer_of(unsigned profile, uint32_t refused)
+{
+    return profile == PASSKEY_STRICT ? refused : profile <= PASSKEY_LEVEL3 ? PASSKEY_ACCEPTED : PASSKEY_LIMIT_PROFILE;
+}
+
+static void profiles_of_sign_ins(passkey_assertion_call call)
+{
+    uint8_t data[64];
+    call.party.profile = PASSKEY_OPEN;
+    call.response.auth_data = lent(data, auth_data(data, 0x81, 7, lent(extensions, sizeof extensions)));
+    verify_sign_in(&call);
+    for (unsigned number = 0; number < 256; number++) {
+        call.party.profile = (uint8_t)number;
+        MUST(sign_in(&call, 0x81, sizeof extensions) == answer_of(number, PASSKEY_BAD_AUTHENTICATOR_DATA));
+    }
 }
 
 static void sign_ins(void)
@@ -63,7 +80,7 @@ static void sign_ins(void)
     struct answers accepted_set = { 0, PASSKEY_ACCEPTED }, accepted_clear = { PASSKEY_ACCEPTED, 0 };
 #define SET(flag, answer) (accepted_set.clear = answer, try_sign_in(&call, &call.flag, accepted_set))
 #define CLEAR(flag, answer) (accepted_clear.set = answer, try_sign_in(&call, &call.flag, accepted_clear))
-    SET(party.open_profile, PASSKEY_BAD_AUTHENTICATOR_DATA);
+    profiles_of_sign_ins(call);
     SET(has_session, PASSKEY_SESSION_NOT_OPEN);
     SET(has_credential, PASSKEY_UNKNOWN_CREDENTIAL);
     SET(has_verified, PASSKEY_BAD_SIGNATURE);
@@ -90,7 +107,7 @@ static uint32_t registration(const passkey_registration_call *call, uint32_t for
     uint32_t answer = passkey_registration(call, out);
     if (answer == PASSKEY_ACCEPTED)
         MUST(out->format == format && out->extensions_size == extensions_size && memcmp(out->aaguid, aaguid, 16) == 0 &&
-             out->flags == (extensions_size != 0 ? 0xc1 : 0x41) && !out->user_verified && !out->backed_up && !out->eligible &&
+             (out->flags & 0xfe) == (extensions_size != 0 ? 0xc0 : 0x40) && !out->user_verified && !out->backed_up && !out->eligible &&
              out->id_size == 2 && memcmp(out->id, "id", 2) == 0);
     free(out);
     calls++;
@@ -103,20 +120,48 @@ static void try_registration(passkey_registration_call *call, uint8_t *flag, boo
 {
     static uint8_t object[1024];
     uint8_t before = *flag;
-    bool is_open = call->party.open_profile || flag == &call->party.open_profile;
-    passkey_bytes outputs = lent(extensions, is_open ? sizeof extensions : 0);
-    call->response.object = lent(object, attestation_object(object, is_packed, is_open ? 0xc1 : 0x41, id, key, outputs));
+    call->response.object = lent(object, attestation_object(object, is_packed, 0x41, id, key, lent(NULL, 0)));
     call->has_verified = 0;
     if (is_packed)
         verify_registration(call);
     MUST(call->has_verified == is_packed);
     *flag = 0;
-    MUST(registration(call, is_packed, outputs.size) == answers.clear);
+    MUST(registration(call, is_packed, 0) == answers.clear);
     for (size_t i = 0; i < sizeof set_flags; i++) {
         *flag = set_flags[i];
-        MUST(registration(call, is_packed, outputs.size) == answers.set);
+        MUST(registration(call, is_packed, 0) == answers.set);
     }
     *flag = before;
+}
+
+static void profiles_of_registrations(passkey_registration_call call)
+{
+    static uint8_t object[1024];
+    call.response.object = lent(object, attestation_object(object, false, 0xc1, id, &es256, lent(extensions, sizeof extensions)));
+    for (unsigned number = 0; number < 256; number++) {
+        call.party.profile = (uint8_t)number;
+        MUST(registration(&call, PASSKEY_FORMAT_NONE, sizeof extensions) == answer_of(number, PASSKEY_REGISTRATION_BAD_ATTESTATION_OBJECT));
+    }
+}
+
+/* What Level 3 alone looks at: without presence, and with a statement whose signature nobody verified. */
+static void level3(passkey_registration_call call)
+{
+    static uint8_t absent[1024], packed[1024];
+    const passkey_bytes objects[] = {
+        lent(absent, attestation_object(absent, false, 0x40, id, &es256, lent(NULL, 0))),
+        lent(packed, attestation_object(packed, true, 0x41, id, &es256, lent(NULL, 0))) };
+    for (int flag = 0; flag < 256; flag++) {
+        call.party.profile = PASSKEY_LEVEL3;
+        call.response.object = objects[0], call.session.conditional = (uint8_t)flag, call.session.attestation = 0;
+        MUST(registration(&call, PASSKEY_FORMAT_NONE, 0) == (flag != 0 ? PASSKEY_ACCEPTED : PASSKEY_REGISTRATION_USER_NOT_PRESENT));
+        call.response.object = objects[1], call.session.conditional = 0, call.session.attestation = (uint8_t)flag;
+        MUST(registration(&call, PASSKEY_FORMAT_NONE, 0) == (flag != 0 ? PASSKEY_REGISTRATION_BAD_STATEMENT : PASSKEY_ACCEPTED));
+        call.party.profile = PASSKEY_OPEN;
+        MUST(registration(&call, PASSKEY_FORMAT_NONE, 0) == PASSKEY_REGISTRATION_BAD_STATEMENT);
+        call.response.object = objects[0], call.session.conditional = (uint8_t)flag;
+        MUST(registration(&call, PASSKEY_FORMAT_NONE, 0) == PASSKEY_REGISTRATION_USER_NOT_PRESENT);
+    }
 }
 
 static void registrations(void)
@@ -141,7 +186,8 @@ static void registrations(void)
 #define SET(flag, is_packed, key, answer) \
     (accepted_set.clear = answer, try_registration(&call, &call.flag, is_packed, &key, accepted_set))
 #define CLEAR(flag, answer) (accepted_clear.set = answer, try_registration(&call, &call.flag, false, &es256, accepted_clear))
-    SET(party.open_profile, false, es256, PASSKEY_REGISTRATION_BAD_ATTESTATION_OBJECT);
+    profiles_of_registrations(call);
+    level3(call);
     SET(accept_none, false, es256, PASSKEY_REGISTRATION_ATTESTATION_NOT_ACCEPTED);
     SET(accept_self, true, es256, PASSKEY_REGISTRATION_ATTESTATION_NOT_ACCEPTED);
     SET(has_session, false, es256, PASSKEY_REGISTRATION_SESSION_NOT_OPEN);
@@ -163,7 +209,6 @@ static void signatures(void)
     static uint8_t object[1024], data[37], message[1024], signature[1024];
     size_t size = attestation_object(object, false, 0xc1, id, &es256, lent(extensions, sizeof extensions));
     passkey_signature_call call = {
-        .open_profile = 1,
         .registration = { lent(object, size), lent("{}", 2) },
         .assertion = { .auth_data = lent(data, sizeof data), .signature = lent("signature", 9), .client_data = lent("{}", 2) },
         .key = es256,
@@ -174,12 +219,22 @@ static void signatures(void)
         call.is_registration = 0;
         MUST(passkey_signature_asked(&call, message, 1024, signature, 1024, out) == 0 && out->is_asked);
         call.is_registration = set_flags[i];
-        call.open_profile = 0;
-        MUST(passkey_signature_asked(&call, message, 1024, signature, 1024, out) == 7);
-        call.open_profile = set_flags[i];
+        for (unsigned number = 0; number < 256; number++) {
+            call.profile = (uint8_t)number;
+            MUST(passkey_signature_asked(&call, message, 1024, signature, 1024, out) ==
+                 answer_of(number, PASSKEY_REGISTRATION_BAD_ATTESTATION_OBJECT));
+        }
+        call.profile = PASSKEY_OPEN;
         MUST(passkey_signature_asked(&call, message, 1024, signature, 1024, out) == 0 && !out->is_asked);
         free(out);
-        calls += 3;
+        calls += 258;
+    }
+    size = attestation_object(object, true, 0x41, id, &es256, lent(NULL, 0));
+    call.registration.object = lent(object, size), call.profile = PASSKEY_LEVEL3;
+    for (int flag = 0; flag < 256; flag++, calls++) {
+        static passkey_signature_out out;
+        call.attestation = (uint8_t)flag;
+        MUST(passkey_signature_asked(&call, message, 1024, signature, 1024, &out) == 0 && out.is_asked == (flag != 0));
     }
 }
 

@@ -196,7 +196,7 @@ static void limits(void)
         MUST(assertion(&call) == PASSKEY_LIMIT_ORIGIN);
         call.party.rp_id = bad_text;
         MUST(assertion(&call) == PASSKEY_LIMIT_RP_ID);
-        call.party.open_profile = true;
+        call.party.profile = 1;
         MUST(assertion(&call) == PASSKEY_LIMIT_RP_ID);
         drop(some), drop(good), drop(bad_text);
     }
@@ -273,7 +273,7 @@ static void large(void)
     list[COUNT - 1] = origin;
     passkey_assertion_call call;
     memset(&call, 0, sizeof call);
-    call.party = (passkey_party){ copy("abc", 3), list, COUNT, false };
+    call.party = (passkey_party){ copy("abc", 3), list, COUNT, 0, NULL, 0 };
     call.has_session = call.has_credential = true;
     call.session.challenge = copy(challenge, 32);
     call.credential = (passkey_credential){ .id = id, .user = id, .key = { PASSKEY_EDDSA, key, { NULL, 0 } } };

@@ -119,8 +119,8 @@ static inline void verify_sign_in(passkey_assertion_call *call)
 
 static inline void verify_registration(passkey_registration_call *call)
 {
-    passkey_signature_call asked = { .is_registration = 1, .open_profile = call->party.open_profile,
-                                     .registration = call->response };
+    passkey_signature_call asked = { .is_registration = 1, .profile = call->party.profile, .registration = call->response,
+                                     .attestation = call->session.attestation };
     verify(&asked, &call->has_verified, &call->verified);
 }
 

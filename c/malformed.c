@@ -96,7 +96,7 @@ static uint32_t registration(passkey_party party, const char *kind)
         .accept_none = true,
         .accept_self = true,
         .has_session = true,
-        .session = { bytes(challenge, 32), bytes("\1", 1), false, true, true },
+        .session = { .challenge = bytes(challenge, 32), .user = bytes("\1", 1), .offers_es256 = true, .offers_eddsa = true },
         .response = { lent(part_of(kind, "object")), lent(part_of(kind, "client_data")) },
         .has_free_id = true,
         .free_id = bytes("\x0a\x0b", 2),
@@ -110,7 +110,7 @@ static uint32_t registration(passkey_party party, const char *kind)
 static uint32_t judged(const char *kind)
 {
     const passkey_bytes origin = bytes("https://abc", 11);
-    passkey_party party = { bytes("abc", 3), &origin, 1, false };
+    passkey_party party = { bytes("abc", 3), &origin, 1, 0, NULL, 0 };
     return strcmp(kind, "sign-in") == 0 ? sign_in(party) : registration(party, kind);
 }
 

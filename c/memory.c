@@ -75,7 +75,7 @@ static long refused(uint32_t (*judge)(void))
 int main(void)
 {
     const passkey_bytes origins[] = { text("https://example.com") };
-    const passkey_party party = { text("example.com"), origins, 1, true };
+    const passkey_party party = { text("example.com"), origins, 1, 1, NULL, 0 };
     uint8_t challenge[32], object[256];
     char client_data[256];
     device_answer made;

@@ -1,5 +1,5 @@
 /* passkey.h: the steps by which a relying party verifies a passkey's sign-in and registration (WebAuthn Level 2,
- * sections 7.2 and 7.1), as proved code. C11 and C++.
+ * sections 7.2 and 7.1, and Level 3), as proved code. C11 and C++.
  *
  * Each call judges one response by what it is handed, and keeps nothing: sessions, credentials and the mathematics of
  * signatures are the host's. No call changes anything but what it tells, which it writes with the answer 0 alone.
@@ -20,11 +20,11 @@
  * passkey_signature_asked overlap each other or the response, it answers 0 and tells a wrong message or signature.
  *
  * Sizes: credential ids and user handles that are handed in are compared, and have no limit here. An id that is told has 1
- * to 64 bytes, with open_profile 1 to 1,023.
+ * to 64 bytes in the strict profile, and else 1 to 1,023.
  * Keys: no test is made that a point lies on its curve, or that a modulus is a product of two primes. The library that
  * verifies signatures has to refuse such a key.
  *
- * PASSKEY_ABI_VERSION, which is also the number in libpasskey.so.3, is another one after each change of a struct, of a
+ * PASSKEY_ABI_VERSION, which is also the number in libpasskey.so.4, is another one after each change of a struct, of a
  * call's parameters, or of what a number means. New calls and new answers leave it as it is.
  */
 #ifndef PASSKEY_H
@@ -38,7 +38,7 @@
 extern "C" {
 #endif
 
-#define PASSKEY_ABI_VERSION 3
+#define PASSKEY_ABI_VERSION 4
 
 #define PASSKEY_ES256 (-7) /* ECDSA over P-256 with SHA-256 */
 #define PASSKEY_EDDSA (-8) /* EdDSA over Ed25519 */
@@ -60,7 +60,14 @@ enum {
     PASSKEY_FORMAT_PACKED_SELF = 1 /* by a packed statement with a signature of its own key (section 8.2) */
 };
 
-/* Answers. 1 to 16 are the steps, in their order. */
+/* Which responses a relying party takes. */
+enum {
+    PASSKEY_STRICT = 0, /* no extension data, ids of up to 64 bytes, token binding supported at most */
+    PASSKEY_OPEN = 1,   /* extension data, ids of up to 1,023 bytes, token binding not-supported too: real keys and browsers */
+    PASSKEY_LEVEL3 = 2  /* the same by the steps of WebAuthn Level 3: frames, conditional creation, attestation only where asked */
+};
+
+/* Answers. 1 to 18 are the steps. 1 to 16 are tested in their order; 17 and 18 come right after the origin's. */
 enum {
     PASSKEY_ACCEPTED = 0,
 
@@ -81,6 +88,8 @@ enum {
     PASSKEY_BAD_SIGNATURE = 14,
     PASSKEY_COUNTER_NOT_GREATER = 15,
     PASSKEY_ELIGIBILITY_CHANGED = 16,
+    PASSKEY_CROSS_ORIGIN = 17,
+    PASSKEY_WRONG_TOP_ORIGIN = 18,
 
     /* of a registration */
     PASSKEY_REGISTRATION_SESSION_NOT_OPEN = 1,
@@ -99,6 +108,8 @@ enum {
     PASSKEY_REGISTRATION_ATTESTATION_NOT_ACCEPTED = 14,
     PASSKEY_REGISTRATION_CREDENTIAL_REGISTERED = 15,
     PASSKEY_REGISTRATION_NO_ROOM = 16,
+    PASSKEY_REGISTRATION_CROSS_ORIGIN = 17,
+    PASSKEY_REGISTRATION_WRONG_TOP_ORIGIN = 18,
 
     /* a member that is out of its limits */
     PASSKEY_LIMIT_RP_ID = 101,             /* party.rp_id: UTF-8 */
@@ -112,6 +123,8 @@ enum {
     PASSKEY_LIMIT_VERIFIED_Y = 109,        /* verified.key.y: 32 bytes, of ES256; of RS256 an exponent */
     PASSKEY_LIMIT_MESSAGE_ROOM = 110,      /* the room for a message is too small */
     PASSKEY_LIMIT_SIGNATURE_ROOM = 111,    /* the room for a signature is too small */
+    PASSKEY_LIMIT_PROFILE = 112,           /* party.profile: PASSKEY_STRICT, PASSKEY_OPEN or PASSKEY_LEVEL3 */
+    PASSKEY_LIMIT_TOP_ORIGIN = 113,        /* party.top_origins: each in UTF-8 */
 
     PASSKEY_NO_MEMORY = 127
 };
@@ -146,8 +159,10 @@ typedef struct passkey_party {
     passkey_bytes rp_id; /* UTF-8, as "example.com" */
     const passkey_bytes *origins; /* each UTF-8, as "https://example.com"; compared as texts */
     size_t origin_count;
-    uint8_t open_profile; /* whether extension data, ids of up to 1,023 bytes and the status not-supported of token
-                             binding are taken, as real keys and browsers send them */
+    uint8_t profile; /* PASSKEY_STRICT, PASSKEY_OPEN or PASSKEY_LEVEL3 */
+    const passkey_bytes *top_origins; /* each UTF-8: the origins of other sites' pages that may have this site's in a frame; in
+                                         PASSKEY_LEVEL3 a response that was made in any other frame is refused */
+    size_t top_origin_count;
 } passkey_party;
 
 /* A public key, a message and a signature that the host's own library found to be valid. */
@@ -210,7 +225,7 @@ typedef struct passkey_assertion_out {
     size_t extensions_size; /* in bytes: the last ones of response.auth_data are the map of extensions; 0: there is none */
 } passkey_assertion_out;
 
-/* Judges a sign-in: PASSKEY_ACCEPTED, or the first step that is not passed (1 to 16), or a member that is out of its
+/* Judges a sign-in: PASSKEY_ACCEPTED, or the first step that is not passed (1 to 18), or a member that is out of its
  * limits, or PASSKEY_NO_MEMORY. */
 uint32_t passkey_assertion(const passkey_assertion_call *call, passkey_assertion_out *out);
 
@@ -222,6 +237,8 @@ typedef struct passkey_registration_session {
     uint8_t offers_es256;    /* PASSKEY_ES256 was offered */
     uint8_t offers_eddsa;    /* PASSKEY_EDDSA was offered */
     uint8_t offers_rs256;    /* PASSKEY_RS256 was offered */
+    uint8_t conditional;     /* the browser may answer by itself, so that UP is not required: looked at in PASSKEY_LEVEL3 */
+    uint8_t attestation;     /* an attestation was asked for; in PASSKEY_LEVEL3 the statement counts as none where it was not */
 } passkey_registration_session;
 
 /* A client's answer to a registration. */
@@ -266,10 +283,11 @@ uint32_t passkey_registration(const passkey_registration_call *call, passkey_reg
 /* A response whose signature is to be verified. */
 typedef struct passkey_signature_call {
     uint8_t is_registration;
-    uint8_t open_profile;                       /* of a registration: as party.open_profile */
+    uint8_t profile;                            /* of a registration: as party.profile */
     passkey_registration_response registration; /* of a registration */
     passkey_assertion_response assertion;       /* of a sign-in */
     passkey_key key;                            /* of a sign-in: the credential's */
+    uint8_t attestation;                        /* of a registration: as session.attestation */
 } passkey_signature_call;
 
 /* Which signature the host is to verify. */
@@ -283,7 +301,7 @@ typedef struct passkey_signature_out {
 /* Tells which key, message and signature the host is to verify: of a sign-in those of the response, of a registration
  * those of self attestation, or that there is none. A sign-in's message has auth_data.size + 32 bytes, a registration's at
  * most object.size + 32, its signature at most object.size: rooms of these sizes are always enough. Answers
- * PASSKEY_ACCEPTED, PASSKEY_REGISTRATION_BAD_ATTESTATION_OBJECT, PASSKEY_LIMIT_KEY_ALGORITHM, PASSKEY_LIMIT_KEY_X,
+ * PASSKEY_ACCEPTED, PASSKEY_REGISTRATION_BAD_ATTESTATION_OBJECT, PASSKEY_LIMIT_PROFILE, PASSKEY_LIMIT_KEY_ALGORITHM, PASSKEY_LIMIT_KEY_X,
  * PASSKEY_LIMIT_KEY_Y, PASSKEY_LIMIT_MESSAGE_ROOM, PASSKEY_LIMIT_SIGNATURE_ROOM or PASSKEY_NO_MEMORY. */
 uint32_t passkey_signature_asked(const passkey_signature_call *call, uint8_t *message, size_t message_room,
                                  uint8_t *signature, size_t signature_room, passkey_signature_out *out);

@@ -21,7 +21,7 @@ static void sign_in(const struct sizes *sizes)
     size_t client_size = client_data(client, "get", sizes->origins[sizes->origin_count - 1], sizes->client_data);
     passkey_assertion_out out;
     passkey_assertion_call call = {
-        .party = { lent("abc", 3), sizes->origins, sizes->origin_count, true },
+        .party = { lent("abc", 3), sizes->origins, sizes->origin_count, 1, NULL, 0 },
         .has_session = true,
         .session = { .challenge = lent(challenge, 32), .has_user = true, .user = sizes->user, .allow = sizes->allow,
                      .allow_count = sizes->allow_count },
@@ -46,7 +46,7 @@ static void registration(const struct sizes *sizes)
     size_t client_size = client_data(client, "create", sizes->origins[sizes->origin_count - 1], sizes->client_data);
     size_t size = attestation_object(object, false, PASSKEY_FLAG_UP | PASSKEY_FLAG_AT, sizes->id, &es256, lent(NULL, 0));
     passkey_registration_call call = {
-        .party = { lent("abc", 3), sizes->origins, sizes->origin_count, true },
+        .party = { lent("abc", 3), sizes->origins, sizes->origin_count, 1, NULL, 0 },
         .accept_none = true,
         .has_session = true,
         .session = { .challenge = lent(challenge, 32), .user = sizes->user, .offers_es256 = true },

@@ -3,12 +3,12 @@
 export const SIGN_IN_STEPS = Object.freeze([
   "SessionNotOpen", "CredentialNotAllowed", "UnknownCredential", "OtherUser", "UnreadableClientData", "WrongType",
   "WrongChallenge", "WrongOrigin", "TokenBinding", "BadAuthenticatorData", "WrongRelyingParty", "UserNotPresent",
-  "UserNotVerified", "BadSignature", "CounterNotGreater", "EligibilityChanged",
+  "UserNotVerified", "BadSignature", "CounterNotGreater", "EligibilityChanged", "CrossOrigin", "WrongTopOrigin",
 ]);
 export const REGISTRATION_STEPS = Object.freeze([
   "SessionNotOpen", "UnreadableClientData", "WrongType", "WrongChallenge", "WrongOrigin", "TokenBinding",
   "BadAttestationObject", "WrongRelyingParty", "UserNotPresent", "UserNotVerified", "AlgorithmNotOffered",
-  "UnknownFormat", "BadStatement", "AttestationNotAccepted", "CredentialRegistered", "TableFull",
+  "UnknownFormat", "BadStatement", "AttestationNotAccepted", "CredentialRegistered", "TableFull", "CrossOrigin", "WrongTopOrigin",
 ]);
 
 /** A response is refused at a step of section 7.1 (registration) or 7.2 (sign-in) of WebAuthn, the first that it does not

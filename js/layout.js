@@ -25,7 +25,9 @@ export const KEY = struct({ algorithm: I32, x: BYTES, y: BYTES });
 
 export const KEY_OUT = struct({ algorithm: I32, x_size: SIZE, x: room(512), y_size: SIZE, y: room(32) });
 
-export const PARTY = struct({ rp_id: BYTES, origins: POINTER, origin_count: SIZE, open_profile: U8 });
+export const PARTY = struct({
+  rp_id: BYTES, origins: POINTER, origin_count: SIZE, profile: U8, top_origins: POINTER, top_origin_count: SIZE,
+});
 
 export const VERIFIED = struct({ key: KEY, message: BYTES, signature: BYTES });
 
@@ -51,7 +53,8 @@ export const ASSERTION_OUT = struct({
 });
 
 export const REGISTRATION_SESSION = struct({
-  challenge: BYTES, user: BYTES, user_verification: U8, offers_es256: U8, offers_eddsa: U8, offers_rs256: U8,
+  challenge: BYTES, user: BYTES, user_verification: U8, offers_es256: U8, offers_eddsa: U8, offers_rs256: U8, conditional: U8,
+  attestation: U8,
 });
 
 export const REGISTRATION_RESPONSE = struct({ object: BYTES, client_data: BYTES });
@@ -67,7 +70,7 @@ export const REGISTRATION_OUT = struct({
 });
 
 export const SIGNATURE_CALL = struct({
-  is_registration: U8, open_profile: U8, registration: REGISTRATION_RESPONSE, assertion: ASSERTION_RESPONSE, key: KEY,
+  is_registration: U8, profile: U8, registration: REGISTRATION_RESPONSE, assertion: ASSERTION_RESPONSE, key: KEY, attestation: U8,
 });
 
 export const SIGNATURE_OUT = struct({ is_asked: U8, key: KEY_OUT, message_size: SIZE, signature_size: SIZE });

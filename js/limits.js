@@ -16,6 +16,9 @@ export const MAX_USER = 64;
 /** The most bytes of a credential id (WebAuthn Level 2, section 4). */
 export const MAX_ID = 1023;
 
+/** Which responses a relying party takes, by the library's number. */
+export const PROFILES = Object.freeze(["strict", "open", "level3"]);
+
 const DOMAIN = /^[a-z0-9_](?:[a-z0-9_-]*[a-z0-9_])?(?:\.[a-z0-9_](?:[a-z0-9_-]*[a-z0-9_])?)*$/;
 const ORIGIN = /^([a-z][a-z0-9+.-]*):\/\/([a-z0-9._-]+|\[[0-9a-f:]+\])(?::([1-9][0-9]{0,4}))?$/;
 const ANDROID = /^android:apk-key-hash:[A-Za-z0-9_-]+$/;
@@ -51,6 +54,13 @@ export function checkParty(rpId, origins) {
   if (hosts.length > 0 && !hosts.some((host) => host === rpId || host.endsWith("." + rpId)))
     throw new BadInput("the rp id is not of an origin's host");
   return Object.freeze(listed);
+}
+
+/** The origins of the pages that may have the site's in a frame (WebAuthn Level 3, section 5.8.1, `topOrigin`). */
+export function checkTopOrigins(topOrigins) {
+  if (!Array.isArray(topOrigins)) throw new BadInput("topOrigins is a list of texts");
+  topOrigins.forEach(hostOf);
+  return Object.freeze([...topOrigins]);
 }
 
 /** A copy of bytes, which the host can change no more. */

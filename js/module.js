@@ -2,7 +2,7 @@
 import { BYTES } from "./layout.js";
 import { NoMemory } from "./errors.js";
 
-const ABI_VERSION = 3;
+const ABI_VERSION = 4;
 // The most bytes that a call lends and its rooms have: by them the module's memory stays below 64 MB.
 export const MOST_LENT = 4 * 1024 * 1024;
 // A module whose memory has grown beyond this is let go after the call, so that no later one has much to overwrite.
@@ -48,7 +48,11 @@ export class Image {
   }
 
   flag(at, is) {
-    this.bytes[at] = is ? 1 : 0;
+    this.u8(at, is ? 1 : 0);
+  }
+
+  u8(at, number) {
+    this.bytes[at] = number;
   }
 
   i32(at, number) {

@@ -6,7 +6,12 @@ import { checkOneOf } from "./limits.js";
 
 const REQUIREMENTS = ["required", "preferred", "discouraged"];
 const ATTACHMENTS = ["platform", "cross-platform"];
+const ATTESTATIONS = ["none", "indirect", "direct", "enterprise"];
 const HINTS = ["security-key", "client-device", "hybrid"];
+
+export function checkAttestation(value) {
+  return checkOneOf(value, "attestation", ATTESTATIONS);
+}
 
 export function checkUserVerification(value) {
   return checkOneOf(value, "userVerification", REQUIREMENTS);
@@ -37,7 +42,7 @@ function checkName(value, what) {
 
 /** The options of a registration. `session` is a `RegistrationSession`. */
 export function creationOptions(rp, session, userName, exclude, how) {
-  const { userVerification, residentKey, authenticatorAttachment } = how, displayName = how.displayName ?? userName;
+  const { userVerification, residentKey, authenticatorAttachment, attestation = "none" } = how, displayName = how.displayName ?? userName;
   const authenticatorSelection = {
     residentKey: checkOneOf(residentKey, "residentKey", REQUIREMENTS),
     requireResidentKey: residentKey === "required",
@@ -52,7 +57,7 @@ export function creationOptions(rp, session, userName, exclude, how) {
     pubKeyCredParams: session.algorithms.map((alg) => ({ type: "public-key", alg })),
     excludeCredentials: exclude.map(descriptor),
     authenticatorSelection,
-    attestation: "none",
+    attestation: checkAttestation(attestation),
     ...more(how),
   };
 }

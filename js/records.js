@@ -24,24 +24,28 @@ function flagIn(value, name) {
 
 /** What a registration that has begun expects. It answers one response; the site deletes it then. */
 export class RegistrationSession {
-  constructor({ challenge, user, userVerification = false, algorithms = ALGORITHMS }) {
+  constructor({ challenge, user, userVerification = false, algorithms = ALGORITHMS, conditional = false, attestation = true }) {
     this.challenge = checkBytes(challenge, "challenge");
     this.user = checkBytes(user, "user");
     this.userVerification = userVerification;
     this.algorithms = checkAlgorithms(algorithms);
+    this.conditional = conditional;
+    this.attestation = attestation;
     Object.freeze(this);
   }
 
   toJSON() {
     return { challenge: toText(this.challenge), user: toText(this.user), user_verification: Boolean(this.userVerification),
-             algorithms: this.algorithms };
+             algorithms: this.algorithms, conditional: Boolean(this.conditional), attestation: Boolean(this.attestation) };
   }
 
   /** The session of what `toJSON` gave, or of its text. Throws `BadInput`. */
   static from(json) {
-    const value = objectOf(json);
+    // An older session has neither of the last two.
+    const value = { conditional: false, attestation: true, ...objectOf(json) };
     return new RegistrationSession({ challenge: fromText(value.challenge, "challenge"), user: fromText(value.user, "user"),
-                                     userVerification: flagIn(value, "user_verification"), algorithms: value.algorithms });
+                                     userVerification: flagIn(value, "user_verification"), algorithms: value.algorithms,
+                                     conditional: flagIn(value, "conditional"), attestation: flagIn(value, "attestation") });
   }
 }
 

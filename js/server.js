@@ -1,7 +1,7 @@
 // A relying party over the proved steps. It keeps nothing: sessions and credentials are the site's.
 import { BadInput } from "./errors.js";
-import { REGISTRATION_MEMBERS, SIGN_IN_MEMBERS, bytesIn } from "./forms.js";
-import { ALGORITHMS, checkBytes, checkCredential, checkIds, checkParty, checkUser, transportsIn } from "./limits.js";
+import { REGISTRATION_MEMBERS, SIGN_IN_MEMBERS, bytesIn, toText } from "./forms.js";
+import { ALGORITHMS, checkBytes, checkCredential, checkIds, checkOneOf, checkParty, checkTopOrigins, checkUser, PROFILES, transportsIn } from "./limits.js";
 import { checkUserVerification, creationOptions, requestOptions } from "./options.js";
 import { Credential, RegistrationSession, SignInSession } from "./records.js";
 import {
@@ -43,22 +43,28 @@ export function serverOver(moduleOf, randomBytes, isValid) {
   return class Server {
     #party;
 
-    constructor(rpId, origins, { rpName = rpId, acceptNone = true, acceptSelf = true, openProfile = true, verify = isValid } = {}) {
+    constructor(rpId, origins, {
+      rpName = rpId, acceptNone = true, acceptSelf = true, profile = "level3", topOrigins = [], verify = isValid,
+    } = {}) {
       this.origins = checkParty(rpId, origins);
       this.rpId = rpId;
       this.rpName = rpName;
       this.verify = verify;
-      this.#party = { rpId: ofBytes(rpId), origins: this.origins.map(ofBytes), acceptNone, acceptSelf, openProfile };
+      this.profile = checkOneOf(profile, "profile", PROFILES);
+      this.topOrigins = checkTopOrigins(topOrigins);
+      this.#party = { rpId: ofBytes(rpId), origins: this.origins.map(ofBytes), acceptNone, acceptSelf, profile: PROFILES.indexOf(profile),
+                      topOrigins: this.topOrigins.map(ofBytes) };
     }
 
     registerBegin(user, userName, { exclude = [], algorithms = ALGORITHMS, userVerification = "preferred", residentKey = "required",
-                                    ...how } = {}) {
+                                    attestation = "none", conditional = false, ...how } = {}) {
       const session = new RegistrationSession({
         challenge: randomBytes(CHALLENGE), user: checkUser(user), algorithms,
-        userVerification: checkUserVerification(userVerification) === "required",
+        userVerification: checkUserVerification(userVerification) === "required", conditional: conditional === true,
+        attestation: attestation !== "none",
       });
       const rp = { id: this.rpId, name: this.rpName };
-      const options = creationOptions(rp, session, userName, checkIds(exclude), { ...how, userVerification, residentKey });
+      const options = creationOptions(rp, session, userName, checkIds(exclude), { ...how, userVerification, residentKey, attestation });
       return { options, session };
     }
 
@@ -80,7 +86,7 @@ export function serverOver(moduleOf, randomBytes, isValid) {
       const module = moduleOf(), begun = sessionOf(session, RegistrationSession), user = begun?.user.slice();
       const image = registrationImage(this.#party, begun, response, { freeId, isFull });
       const { told, answer } = await this.#judged(module, true, image, judgeRegistration, BAD_STATEMENT,
-                                                 (at) => askedOfRegistration(module, at, this.#party, response));
+                                                 (at) => askedOfRegistration(module, at, this.#party, begun, response));
       checkAnswer(module, true, answer);
       const { id, algorithm, x, y, signCount, eligible, extensionsSize, ...rest } = told;
       const credential = new Credential({ id, user, algorithm, x, y, signCount, eligible, transports });
@@ -121,6 +127,23 @@ export function serverOver(moduleOf, randomBytes, isValid) {
       const { signCount, eligible, backedUp, userVerified, flags, extensionsSize } = told;
       return Object.freeze({ credential: before.received(signCount, eligible), before, backedUp, userVerified, flags,
                              extensions: last(response.authData, extensionsSize) });
+    }
+
+    relatedOrigins() {
+      return { origins: this.origins.filter((origin) => origin.startsWith("https://")) };
+    }
+
+    signalUnknownCredential(id) {
+      return { rpId: this.rpId, credentialId: toText(checkBytes(id, "id")) };
+    }
+
+    signalAllAccepted(user, credentials) {
+      const listed = checkIds(credentials.filter((one) => one?.retired !== true), Infinity);
+      return { rpId: this.rpId, userId: toText(checkUser(user)), allAcceptedCredentialIds: listed.map(({ id }) => toText(id)) };
+    }
+
+    signalUserDetails(user, userName, displayName = userName) {
+      return { rpId: this.rpId, userId: toText(checkUser(user)), name: userName, displayName };
     }
 
     // The last answer: where the first one is that of the signature's step, the signature is verified, and where it is valid the

@@ -3,7 +3,7 @@
 import cluster from "node:cluster";
 import { BadInput, Refused, StoreFailed } from "./errors.js";
 import { REGISTRATION_MEMBERS, SIGN_IN_MEMBERS, fromText, handedOn, toText } from "./forms.js";
-import { ALGORITHMS, MAX_STORED_LIST, checkAlgorithms, checkBytes, checkIds, checkOneOf, checkParty, checkUser } from "./limits.js";
+import { ALGORITHMS, MAX_STORED_LIST, PROFILES, checkAlgorithms, checkBytes, checkIds, checkOneOf, checkParty, checkTopOrigins, checkUser } from "./limits.js";
 import { isValid } from "./node_signatures.js";
 import { checkUserVerification, creationOptions, requestOptions } from "./options.js";
 import { Program } from "./program.js";
@@ -23,12 +23,12 @@ function textOf(value, what) {
 }
 
 function wordsOf(program, file, rpId, origins, how) {
-  const { rpName, acceptNone, acceptSelf, openProfile, maxOpen, maxCredentials, isExisting, log, expire } = how;
+  const { rpName, acceptNone, acceptSelf, profile, topOrigins, maxOpen, maxCredentials, isExisting, log, expire } = how;
   if (!acceptNone && !acceptSelf) throw new BadInput("no attestation is accepted");
   checkOneOf(log, "log", LOGS);
   return [
     textOf(program, "the program's path"), `--rp-id=${rpId}`, `--rp-name=${textOf(rpName, "rpName")}`, ...origins.map((origin) => `--origin=${origin}`),
-    `--profile=${openProfile ? "open" : "strict"}`, `--attestation=${acceptNone && acceptSelf ? "any" : acceptNone ? "none" : "self"}`,
+    ...checkTopOrigins(topOrigins).map((origin) => `--top-origin=${origin}`), `--profile=${checkOneOf(profile, "profile", PROFILES)}`, `--attestation=${acceptNone && acceptSelf ? "any" : acceptNone ? "none" : "self"}`,
     ...(maxOpen === undefined ? [] : [`--max-open=${numberIn(maxOpen, "maxOpen", 1)}`]),
     ...(maxCredentials === undefined ? [] : [`--max-credentials=${numberIn(maxCredentials, "maxCredentials", 1)}`]), ...(isExisting ? ["--existing"] : []),
     ...(log === false ? [] : [`--log=${log === true ? "refusals" : log}`]),
@@ -55,14 +55,16 @@ export class StoredServer {
   #program;
 
   constructor(program, file, rpId, origins, {
-    rpName = rpId, acceptNone = true, acceptSelf = true, openProfile = true, maxOpen, maxCredentials, isExisting = false, log = false, expire,
+    rpName = rpId, acceptNone = true, acceptSelf = true, profile = "level3", topOrigins = [], maxOpen, maxCredentials, isExisting = false, log = false, expire,
     timeout = 30_000, logger = console.error, verify = isValid,
   } = {}) {
     this.origins = checkParty(rpId, origins);
     this.rpId = rpId;
     this.rpName = rpName;
     this.verify = verify;
-    const words = wordsOf(program, file, rpId, this.origins, { rpName, acceptNone, acceptSelf, openProfile, maxOpen, maxCredentials, isExisting, log, expire });
+    const words = wordsOf(program, file, rpId, this.origins, {
+      rpName, acceptNone, acceptSelf, profile, topOrigins, maxOpen, maxCredentials, isExisting, log, expire,
+    });
     const key = JSON.stringify(words);
     numberIn(timeout, "timeout", 1);
     if (cluster.isWorker) {
@@ -94,14 +96,15 @@ export class StoredServer {
   }
 
   async registerBegin(user, userName, { exclude = [], algorithms = ALGORITHMS, userVerification = "preferred", residentKey = "required",
-                                        ...how } = {}) {
+                                        attestation = "none", conditional = false, ...how } = {}) {
     const listed = checkIds(exclude, MAX_STORED_LIST), begun = { user: checkUser(user), algorithms: checkAlgorithms(algorithms) };
     const optionsOf = (challenge) => creationOptions({ id: this.rpId, name: this.rpName }, { ...begun, challenge }, userName, listed,
-                                                     { ...how, userVerification: checkUserVerification(userVerification), residentKey });
+                                                     { ...how, userVerification: checkUserVerification(userVerification), residentKey, attestation });
     optionsOf(new Uint8Array(0));
     const { session, options } = await this.#ask("begin_registration", {
       user: toText(begun.user), user_name: userName, display_name: how.displayName, exclude: listed.map(({ id }) => toText(id)),
       user_verification: userVerification === "required", resident: residentKey !== "discouraged", algorithms: begun.algorithms,
+      conditional: conditional === true, attestation: attestation !== "none",
     });
     return { options: optionsOf(fromText(options.challenge, "challenge")), session };
   }

@@ -12,17 +12,18 @@ export const ACCEPTED = 0;
 export const BAD_STATEMENT = 13;
 /** Of a sign-in. */
 export const BAD_SIGNATURE = 14;
-const LAST_STEP = 16;
+const LAST_STEP = 18;
 const NO_MEMORY = 127;
 const MOST_OF_A_TEXT = 128;
 const MOST_OF_A_COSE_KEY = 13 + 512 + 4;
 
 const FORMATS = ["none", "packed"];
 
-function party(image, at, { rpId, origins, openProfile }) {
+function party(image, at, { rpId, origins, profile, topOrigins }) {
   image.lend(at + PARTY.rp_id, rpId);
   image.lendList(at + PARTY.origins, at + PARTY.origin_count, origins);
-  image.flag(at + PARTY.open_profile, openProfile);
+  image.u8(at + PARTY.profile, profile);
+  image.lendList(at + PARTY.top_origins, at + PARTY.top_origin_count, topOrigins);
 }
 
 function key(image, at, { algorithm, x, y }) {
@@ -66,6 +67,8 @@ export function registrationImage(of, session, response, { freeId, isFull }) {
     image.flag(at + REGISTRATION_SESSION.offers_es256, session.algorithms.includes(ES256));
     image.flag(at + REGISTRATION_SESSION.offers_eddsa, session.algorithms.includes(EDDSA));
     image.flag(at + REGISTRATION_SESSION.offers_rs256, session.algorithms.includes(RS256));
+    image.flag(at + REGISTRATION_SESSION.conditional, session.conditional);
+    image.flag(at + REGISTRATION_SESSION.attestation, session.attestation);
   }
   registrationResponse(image, REGISTRATION_CALL.response, response);
   if (freeId !== null) {
@@ -179,10 +182,11 @@ function copyPart(bytes, to, from, { sizeOf }) {
 }
 
 /** Which signature a registration asks for, whose call lies at this address. */
-export function askedOfRegistration(module, call, { openProfile }, response) {
+export function askedOfRegistration(module, call, { profile }, session, response) {
   return asked(module, response.attestationObject.length, (bytes, at) => {
     bytes[at + SIGNATURE_CALL.is_registration] = 1;
-    bytes[at + SIGNATURE_CALL.open_profile] = openProfile ? 1 : 0;
+    bytes[at + SIGNATURE_CALL.profile] = profile;
+    bytes[at + SIGNATURE_CALL.attestation] = session?.attestation ? 1 : 0;
     copyPart(bytes, at + SIGNATURE_CALL.registration, call + REGISTRATION_CALL.response, REGISTRATION_RESPONSE);
   });
 }

@@ -17,13 +17,18 @@ export type Requirement = "required" | "preferred" | "discouraged";
 
 /** What a registration that has begun expects. It answers one response; the site deletes it then. */
 export class RegistrationSession {
-  constructor(members: { challenge: Uint8Array; user: Uint8Array; userVerification?: boolean; algorithms?: readonly number[] });
+  constructor(members: { challenge: Uint8Array; user: Uint8Array; userVerification?: boolean; algorithms?: readonly number[];
+                         conditional?: boolean; attestation?: boolean });
   /** 32 bytes, which no other session has. */
   readonly challenge: Uint8Array;
   /** The user handle: 1 to 64 bytes. */
   readonly user: Uint8Array;
   readonly userVerification: boolean;
   readonly algorithms: readonly number[];
+  /** Whether a browser may answer by itself, so that the user need not be present. Of the profile `level3`. */
+  readonly conditional: boolean;
+  /** Whether an attestation was asked for: where it was not, the profile `level3` does not look at the statement. */
+  readonly attestation: boolean;
   toJSON(): object;
   /** The session of what `toJSON` gave, or of its text. Throws `BadInput`. */
   static from(json: unknown): RegistrationSession;
@@ -130,6 +135,11 @@ export interface RegistrationOptions extends OptionsOfBoth {
   /** Whether the key keeps the credential; `required`. */
   residentKey?: Requirement;
   authenticatorAttachment?: "platform" | "cross-platform";
+  /** Which attestation is asked for: `none`. In the profile `level3` the statement is then not looked at. */
+  attestation?: "none" | "indirect" | "direct" | "enterprise";
+  /** For a page that lets the browser make a passkey by itself after another sign-in (WebAuthn Level 3, section 5.1.3, `mediation`):
+   *  then nobody need be present. Looked at in the profile `level3`. */
+  conditional?: boolean;
 }
 
 export interface SignInOptions extends OptionsOfBoth {
@@ -148,8 +158,11 @@ export interface ServerOptions {
   /** Which attestation is taken: both. */
   acceptNone?: boolean;
   acceptSelf?: boolean;
-  /** Whether extension data and ids of up to 1,023 bytes are taken, as browsers and keys send them: true. */
-  openProfile?: boolean;
+  /** Which responses are taken: `level3`, as browsers send them today, `open` or `strict` (docs/LIMITS.md). */
+  profile?: "level3" | "open" | "strict";
+  /** The origins of other sites' pages that may have this site's in a frame: none. In `level3` a response that was made in any other
+   *  frame is refused. */
+  topOrigins?: readonly string[];
   verify?: Verify;
 }
 
@@ -179,13 +192,25 @@ export class Server {
   authenticateCompleteParts(session: SignInSession | null, credential: CredentialMembers | null, parts: {
     rawId: Uint8Array; user?: Uint8Array | null; authData: Uint8Array; signature: Uint8Array; clientData: Uint8Array;
   }): Promise<SignedIn>;
+  readonly profile: "level3" | "open" | "strict";
+  readonly topOrigins: readonly string[];
+  /** What `https://RP_ID/.well-known/webauthn` answers, so that pages of these origins may use this rp id (WebAuthn Level 3,
+   *  section 5.11). */
+  relatedOrigins(): { origins: string[] };
+  /** What the page hands to `PublicKeyCredential.signalUnknownCredential` after a sign-in was refused by W3 (section 5.1.10). */
+  signalUnknownCredential(id: Uint8Array): { rpId: string; credentialId: string };
+  /** What the page hands to `signalAllAcceptedCredentials`, of a user who is signed in: all of his credentials, of which those that
+   *  are retired are left out, or their ids. A passkey that is left out is hidden or deleted. */
+  signalAllAccepted(user: Uint8Array, credentials: Ids): { rpId: string; userId: string; allAcceptedCredentialIds: string[] };
+  /** What the page hands to `signalCurrentUserDetails` where an account's names changed. */
+  signalUserDetails(user: Uint8Array, userName: string, displayName?: string): { rpId: string; userId: string; name: string; displayName: string };
 }
 
 /** A response is refused at a step of section 7.1 or 7.2 of WebAuthn, the first that it does not pass. */
 export class Refused extends Error {
   constructor(isRegistration: boolean, number: number, text: string);
   readonly isRegistration: boolean;
-  /** 1 to 16. */
+  /** 1 to 18. */
   readonly number: number;
   /** The name of the step. */
   readonly step: string;

@@ -11,7 +11,7 @@
 
 enum { MOST_CHARACTERS = 65536, COSE_ROOM = 1024, TEXT_ROOM = 128, FEW = 16, OF_CREDENTIAL = 9, OF_SIGN_IN = 6 };
 
-/* What is lent of a sign-in, and of a registration. Behind it come origins, then the ids of a list. */
+/* What is lent of a sign-in, and of a registration. Behind it come origins, those of pages that may frame, then the ids of a list. */
 enum { ACCOUNT, HANDLE, MAY_BE_NONE, RP_ID = MAY_BE_NONE, CHALLENGE, ID, USER, X, Y, RAW_ID, CLIENT_DATA, AUTH_DATA, SIGNATURE, OF_ASSERTION };
 enum { FREE_ID, PARTY, NONCE, HOLDER, CREATED, ATTESTATION_OBJECT, OF_REGISTRATION };
 
@@ -117,21 +117,21 @@ static PyObject *assertion(PyObject *Py_UNUSED(module), PyObject *words)
 {
     held all = {0};
     passkey_assertion_out out;
-    PyObject *credential_type, *type, *names, *verify, *before, *transports, *eligible, *numbers, *lists[3];
-    int open_profile, has_session, verification, has_credential, algorithm, retired;
-    long long count;
-    if (!PyArg_UnpackTuple(words, "assertion", 11, 11, &credential_type, &type, &names, &verify, &before, &transports, &eligible, &numbers,
-            &lists[0], &lists[1], &lists[2]) ||
-        !PyArg_ParseTuple(numbers, "ppppiLp", &open_profile, &has_session, &verification, &has_credential, &algorithm, &count, &retired)) return NULL;
+    PyObject *credential_type, *type, *names, *verify, *before, *transports, *eligible, *numbers, *lists[4];
+    int has_session, verification, has_credential, algorithm, retired;
+    unsigned char profile; long long count;
+    if (!PyArg_UnpackTuple(words, "assertion", 12, 12, &credential_type, &type, &names, &verify, &before, &transports, &eligible, &numbers,
+            &lists[0], &lists[1], &lists[2], &lists[3]) ||
+        !PyArg_ParseTuple(numbers, "bpppiLp", &profile, &has_session, &verification, &has_credential, &algorithm, &count, &retired)) return NULL;
     if (count < 0 || count > UINT32_MAX) return PyErr_Format(PyExc_OverflowError, "the signature counter is out of its limits");
     int is_eligible = PyObject_IsTrue(eligible);
-    if (is_eligible < 0 || !lend(&all, lists, 3, OF_ASSERTION, MAY_BE_NONE)) return released(&all, NULL);
-    size_t origins = (size_t)PyTuple_Size(lists[1]);
-    const passkey_bytes *part = all.items, *listed = part + OF_ASSERTION;
+    if (is_eligible < 0 || !lend(&all, lists, 4, OF_ASSERTION, MAY_BE_NONE)) return released(&all, NULL);
+    size_t origins = (size_t)PyTuple_Size(lists[1]), pages = (size_t)PyTuple_Size(lists[2]);
+    const passkey_bytes *part = all.items, *listed = part + OF_ASSERTION, *ids = listed + origins + pages;
     passkey_assertion_call call = {
-        .party = {part[RP_ID], listed, origins, (uint8_t)open_profile},
+        .party = {part[RP_ID], listed, origins, profile, listed + origins, pages},
         .has_session = (uint8_t)has_session,
-        .session = {part[CHALLENGE], (uint8_t)verification, all.objects[ACCOUNT] != Py_None, part[ACCOUNT], listed + origins, all.count - OF_ASSERTION - origins},
+        .session = {part[CHALLENGE], (uint8_t)verification, all.objects[ACCOUNT] != Py_None, part[ACCOUNT], ids, all.count - (size_t)(ids - part)},
         .has_credential = (uint8_t)has_credential,
         .credential = {part[ID], part[USER], {algorithm, part[X], part[Y]}, (uint32_t)count, eligible != Py_None, (uint8_t)is_eligible, (uint8_t)retired},
         .response = {part[RAW_ID], all.objects[HANDLE] != Py_None, part[HANDLE], part[AUTH_DATA], part[SIGNATURE], part[CLIENT_DATA]}};
@@ -155,21 +155,22 @@ static PyObject *registration(PyObject *Py_UNUSED(module), PyObject *words)
 {
     held all = {0};
     passkey_registration_out out;
-    PyObject *verify, *lists[2];
-    int open_profile, accept_none, accept_self, has_session, verification, es256, eddsa, rs256, is_full;
-    if (!PyArg_ParseTuple(words, "O(ppppppppp)OO", &verify, &open_profile, &accept_none, &accept_self, &has_session, &verification,
-            &es256, &eddsa, &rs256, &is_full, &lists[0], &lists[1]) || !lend(&all, lists, 2, OF_REGISTRATION, FREE_ID + 1)) return released(&all, NULL);
-    const passkey_bytes *part = all.items;
+    PyObject *verify, *lists[3];
+    unsigned char profile; int accept_none, accept_self, has_session, verification, es256, eddsa, rs256, conditional, attestation, is_full;
+    if (!PyArg_ParseTuple(words, "O(bpppppppppp)OOO", &verify, &profile, &accept_none, &accept_self, &has_session, &verification, &es256, &eddsa,
+            &rs256, &conditional, &attestation, &is_full, &lists[0], &lists[1], &lists[2]) || !lend(&all, lists, 3, OF_REGISTRATION, FREE_ID + 1)) return released(&all, NULL);
+    size_t origins = (size_t)PyTuple_Size(lists[1]), pages = (size_t)PyTuple_Size(lists[2]);
+    const passkey_bytes *part = all.items, *listed = part + OF_REGISTRATION;
     passkey_registration_call call = {
-        .party = {part[PARTY], part + OF_REGISTRATION, all.count - OF_REGISTRATION, (uint8_t)open_profile},
+        .party = {part[PARTY], listed, origins, profile, listed + origins, pages},
         .accept_none = (uint8_t)accept_none, .accept_self = (uint8_t)accept_self, .has_session = (uint8_t)has_session,
-        .session = {part[NONCE], part[HOLDER], (uint8_t)verification, (uint8_t)es256, (uint8_t)eddsa, (uint8_t)rs256},
+        .session = {part[NONCE], part[HOLDER], (uint8_t)verification, (uint8_t)es256, (uint8_t)eddsa, (uint8_t)rs256, (uint8_t)conditional, (uint8_t)attestation},
         .response = {part[ATTESTATION_OBJECT], part[CREATED]},
         .has_free_id = all.objects[FREE_ID] != Py_None, .free_id = part[FREE_ID], .is_full = (uint8_t)is_full};
     uint32_t answer;
     PROVED(answer = passkey_registration(&call, &out));
     if (answer == PASSKEY_REGISTRATION_BAD_STATEMENT) {
-        passkey_signature_call asked = {.is_registration = 1, .open_profile = (uint8_t)open_profile, .registration = call.response};
+        passkey_signature_call asked = {.is_registration = 1, .profile = profile, .registration = call.response, .attestation = (uint8_t)attestation};
         if (!verify_by(verify, &asked, part[ATTESTATION_OBJECT].size, &all, &call.has_verified, &call.verified, &answer)) return released(&all, NULL);
         if (call.has_verified) PROVED(answer = passkey_registration(&call, &out));
     }

@@ -83,7 +83,7 @@ int main(int argc, char **argv)
     new_challenge(1, challenge);
     device_sign_in(&made, 1, challenge);
     passkey_assertion_call call = {
-        .party = { text("example.com"), origins, 1, true },
+        .party = { text("example.com"), origins, 1, 1, NULL, 0 },
         .has_session = true,
         .session = { .challenge = bytes(challenge, 32), .user_verification = true },
         .has_credential = true,

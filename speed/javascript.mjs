@@ -32,7 +32,7 @@ const text = JSON.stringify({ id: toText(id), rawId: toText(id), type: "public-k
 const find = { credential: () => credential };
 
 const module = new Module(new WebAssembly.Module(readFileSync(`${process.argv[2]}/node_modules/garvoeng/passkey.wasm`)));
-const bytes = (value) => new TextEncoder().encode(value), party = { rpId: bytes("example.com"), origins: [bytes("https://example.com")], openProfile: true };
+const bytes = (value) => new TextEncoder().encode(value), party = { rpId: bytes("example.com"), origins: [bytes("https://example.com")], profile: 1, topOrigins: [] };
 const image = assertionImage(party, session, credential, { rawId: id, user, authData, signature, clientData });
 handIn(image, false, { ...credential, message, signature });
 if (module.within(() => judgeAssertion(module, image)).answer !== 0) throw new Error("not accepted");

@@ -128,7 +128,7 @@ def settings(tests):
         tests.check("and of a sign-in", (who.user_verified, who.flags, who.extensions), (False, UP | ED, b"\xa1\x61a\x01"))
     for name, how, packed, wanted in (
             ("none.db", {"accept_self": False}, True, "G14"), ("self.db", {"accept_none": False}, False, "G14"),
-            ("strict.db", {"open_profile": False}, None, "G7")):
+            ("strict.db", {"profile": "strict"}, None, "G7")):
         with tests.server(name, **how) as server:
             device = Device(EDDSA)
             options, session = server.register_begin(USER, "name")

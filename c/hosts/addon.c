@@ -69,7 +69,7 @@ static napi_value judge(napi_env env, napi_callback_info info)
     passkey_bytes origin = part(env, words[0], "origin");
     passkey_assertion_out out = { .sign_count = 0 };
     passkey_assertion_call call = {
-        .party = { part(env, words[0], "rp_id"), &origin, 1, 1 },
+        .party = { part(env, words[0], "rp_id"), &origin, 1, 1, NULL, 0 },
         .has_session = 1,
         .session = { .challenge = part(env, words[0], "challenge") },
         .has_credential = 1,

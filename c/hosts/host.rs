@@ -1,7 +1,7 @@
 // A whole sign-in from Rust, of which Chromium made the response; OpenSSL verifies its signature. With recorded.txt and
-// libpasskey.so.3 in the folder:
+// libpasskey.so.4 in the folder:
 //
-//     rustc --edition 2024 host.rs -C link-arg=./libpasskey.so.3 -C link-arg=-lcrypto -C link-arg=-Wl,-rpath,.
+//     rustc --edition 2024 host.rs -C link-arg=./libpasskey.so.4 -C link-arg=-lcrypto -C link-arg=-Wl,-rpath,.
 use std::ffi::{c_int, c_long, c_void};
 use std::ptr::{null, null_mut};
 
@@ -51,7 +51,9 @@ struct Party {
     rp_id: Bytes,
     origins: *const Bytes,
     origin_count: usize,
-    open_profile: u8,
+    profile: u8,
+    top_origins: *const Bytes,
+    top_origin_count: usize,
 }
 
 #[repr(C)]
@@ -125,10 +127,11 @@ struct RegistrationResponse {
 #[repr(C)]
 struct SignatureCall {
     is_registration: u8,
-    open_profile: u8,
+    profile: u8,
     registration: RegistrationResponse,
     assertion: AssertionResponse,
     key: Key,
+    attestation: u8,
 }
 
 #[repr(C)]
@@ -193,10 +196,11 @@ fn sign_in(call: &mut AssertionCall, out: &mut AssertionOut) -> u32 {
     let mut signature = vec![0; call.response.signature.size];
     let asked = SignatureCall {
         is_registration: 0,
-        open_profile: 0,
+        profile: 0,
         registration: RegistrationResponse { object: Bytes::NONE, client_data: Bytes::NONE },
         assertion: call.response,
         key: call.credential.key,
+        attestation: 0,
     };
     let mut told = SignatureOut {
         is_asked: false,
@@ -237,7 +241,9 @@ fn main() {
         let mut signature = signature.clone();
         *signature.last_mut().expect("a byte") ^= u8::from(changed);
         let mut call = AssertionCall {
-            party: Party { rp_id: Bytes::of(&rp_id), origins: origins.as_ptr(), origin_count: 1, open_profile: 1 },
+            party: Party {
+                rp_id: Bytes::of(&rp_id), origins: origins.as_ptr(), origin_count: 1, profile: 1, top_origins: null(), top_origin_count: 0,
+            },
             has_session: 1,
             session: Session {
                 challenge: Bytes::of(&challenge), user_verification: 0, has_user: 0, user: Bytes::NONE, allow: null(), allow_count: 0,

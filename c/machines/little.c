@@ -10,7 +10,7 @@ static uint32_t judged(size_t size)
     uint8_t data[37];
     const passkey_bytes origin = lent("https://abc", 11), bytes = lent(id, 2);
     passkey_assertion_call call = {
-        .party = { lent("abc", 3), &origin, 1, 0 },
+        .party = { lent("abc", 3), &origin, 1, 0, NULL, 0 },
         .has_session = 1,
         .session = { .challenge = lent(challenge, 32) },
         .has_credential = 1,

@@ -128,8 +128,8 @@ static void put_party(run *run, const passkey_party *party)
 {
     put_bytes(run, party->rp_id);
     put_list(run, party->origins, party->origin_count);
-    put(run, party->open_profile, 1);
-    align(run);
+    put(run, party->profile, 1);
+    put_list(run, party->top_origins, party->top_origin_count);
 }
 
 static void put_verified(run *run, uint8_t has_verified, const passkey_verified *verified)
@@ -174,9 +174,9 @@ static void get_key(run *run, passkey_key_out *key)
 
 /* Where the module's structs have a part whose place does not depend on the parts before it, and their sizes. */
 enum {
-    SIGN_IN_SESSION = 48, SIGN_IN_CREDENTIAL = 104, SIGN_IN_RESPONSE = 192, SIGN_IN_VERIFIED = 280, SIGN_IN_SIZE = 360,
-    SESSION = 48, RESPONSE = 88, FREE_ID = 120, VERIFIED = 145, REGISTRATION_SIZE = 224,
-    ASKED_REGISTRATION = 8, ASKED_ASSERTION = 40, ASKED_KEY = 128, ASKED_SIZE = 168,
+    SIGN_IN_SESSION = 64, SIGN_IN_CREDENTIAL = 120, SIGN_IN_RESPONSE = 208, SIGN_IN_VERIFIED = 296, SIGN_IN_SIZE = 376,
+    SESSION = 64, RESPONSE = 104, FREE_ID = 136, VERIFIED = 161, REGISTRATION_SIZE = 240,
+    ASKED_REGISTRATION = 8, ASKED_ASSERTION = 40, ASKED_KEY = 128, ASKED_ATTESTATION = 168, ASKED_SIZE = 176,
     SIGN_IN_OUT_SIZE = 16, REGISTRATION_OUT_SIZE = 1640, ASKED_OUT_SIZE = 592, KEY_OUT_SIZE = 568
 };
 
@@ -259,6 +259,8 @@ uint32_t passkey_registration(const passkey_registration_call *call, passkey_reg
             put(&run, session->offers_es256, 1);
             put(&run, session->offers_eddsa, 1);
             put(&run, session->offers_rs256, 1);
+            put(&run, session->conditional, 1);
+            put(&run, session->attestation, 1);
         }
         run.cursor = from + RESPONSE;
         put_registration_response(&run, &call->response);
@@ -306,10 +308,12 @@ uint32_t passkey_signature_asked(const passkey_signature_call *call, uint8_t *me
         signature_most = signature_room < signature_most ? signature_room : signature_most;
         u64 message_at = room(&run, message_most), signature_at = room(&run, signature_most);
         put(&run, call->is_registration, 1);
-        put(&run, call->open_profile, 1);
+        put(&run, call->profile, 1);
         run.cursor = from + (is_registration ? ASKED_REGISTRATION : ASKED_ASSERTION);
         if (is_registration) {
             put_registration_response(&run, &call->registration);
+            run.cursor = from + ASKED_ATTESTATION;
+            put(&run, call->attestation, 1);
         } else {
             put_assertion_response(&run, &call->assertion);
             run.cursor = from + ASKED_KEY;

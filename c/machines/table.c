@@ -6,7 +6,8 @@
 #include "table_host.h"
 
 enum { SIGN_IN = 1, REGISTRATION = 2, CHANGE = 3, MEMBERS = 16, ROOM = 2304, CALLS = 100000, SEED = 64738 };
-enum { OPEN = 1, SESSION = 2, UV = 4, VERIFIED = 1024 }; /* flags of both kinds */
+enum { OPEN = 1, SESSION = 2, UV = 4, VERIFIED = 1024, LEVEL3 = 2048, FRAMED = 4096 }; /* flags of both kinds */
+enum { ASKED = 8192, CONDITIONAL = 16384 }; /* of a registration */
 
 /* ---- what is told, and its digest (FNV-1a of 64 bits) */
 
@@ -86,6 +87,18 @@ static bool has(const record *from, unsigned flag)
     return (from->flags & flag) != 0;
 }
 
+static uint8_t profile_of(const record *from)
+{
+    return has(from, LEVEL3) ? 2 : has(from, OPEN);
+}
+
+/* Where its pages are framed, it is by each other. */
+static passkey_party party_of(const record *from)
+{
+    const passkey_bytes *m = from->members;
+    return (passkey_party){ m[0], &m[1], 1, profile_of(from), &m[1], has(from, FRAMED) };
+}
+
 static passkey_assertion_response assertion_response(const record *from)
 {
     const passkey_bytes *m = from->members;
@@ -97,7 +110,7 @@ static uint32_t sign_in(const record *from, const passkey_verified *verified)
 {
     const passkey_bytes *m = from->members;
     passkey_assertion_call call = {
-        .party = { m[0], &m[1], 1, has(from, OPEN) },
+        .party = party_of(from),
         .has_session = has(from, SESSION),
         .session = { m[2], has(from, UV), has(from, 8), m[3], &m[4], has(from, 16) },
         .has_credential = has(from, 32),
@@ -125,11 +138,12 @@ static uint32_t registration(const record *from, const passkey_verified *verifie
     static passkey_registration_out out;
     const passkey_bytes *m = from->members;
     passkey_registration_call call = {
-        .party = { m[0], &m[1], 1, has(from, OPEN) },
+        .party = party_of(from),
         .accept_none = has(from, 8),
         .accept_self = has(from, 16),
         .has_session = has(from, SESSION),
-        .session = { m[2], m[3], has(from, UV), has(from, 32), has(from, 64), has(from, 128) },
+        .session = { m[2], m[3], has(from, UV), has(from, 32), has(from, 64), has(from, 128), has(from, CONDITIONAL),
+                     has(from, ASKED) },
         .response = { m[7], m[8] },
         .has_free_id = has(from, 256),
         .free_id = m[4],
@@ -162,7 +176,7 @@ static bool asked(const record *from, size_t message_room, size_t signature_room
     static uint8_t message[ROOM + 32], signature[ROOM];
     static passkey_signature_out out;
     const passkey_bytes *m = from->members;
-    passkey_signature_call call = { .is_registration = from->kind == REGISTRATION, .open_profile = has(from, OPEN) };
+    passkey_signature_call call = { .is_registration = from->kind == REGISTRATION, .profile = profile_of(from), .attestation = has(from, ASKED) };
     if (from->kind == REGISTRATION)
         call.registration = (passkey_registration_response){ m[7], m[8] };
     else

@@ -23,6 +23,7 @@ SIGN_IN, REGISTRATION, CHANGE, END = 1, 2, 3, 0
 HOW = {"01": 1, "80": 2, "cut": 3}
 OPEN, SESSION, UV = 1, 2, 4
 USER, ALLOW, CREDENTIAL, KNOWN, ELIGIBLE, RESPONSE_USER, VERIFIED = 8, 16, 32, 64, 128, 512, 1024
+LEVEL3, FRAMED, ASKED, CONDITIONAL = 2048, 4096, 8192, 16384
 ACCEPTED, OFFERED, FREE = 8 | 16, {-7: 32, -8: 64, -257: 128}, 256
 
 
@@ -61,8 +62,9 @@ def visited(rp_id, origin, visit):
     flags = OPEN | SESSION | ACCEPTED | FREE | (UV if session["user_verification"] else 0)
     for offered in session["algorithms"]:
         flags |= OFFERED[offered]
-    yield record(REGISTRATION, flags, algorithm, 0, rp_id, origin, text(session["challenge"]), user, id, x, y, item,
-                 text(made["response"]["clientDataJSON"]), b"", b"")
+    for more in (0, LEVEL3, LEVEL3 | FRAMED | ASKED | CONDITIONAL):
+        yield record(REGISTRATION, flags | more, algorithm, 0, rp_id, origin, text(session["challenge"]), user, id, x, y, item,
+                     text(made["response"]["clientDataJSON"]), b"", b"")
     count = int.from_bytes(data[33:37], "big")
     for line in visit["sign_ins"]:
         session, answer = line["session"], line["response"]["response"]
@@ -71,9 +73,10 @@ def visited(rp_id, origin, visit):
         flags |= (USER if session["user"] else 0) | (ALLOW if allow else 0) | (ELIGIBLE if data[32] & 8 else 0)
         flags |= RESPONSE_USER if handle is not None else 0
         signed = text(answer["authenticatorData"])
-        yield record(SIGN_IN, flags, algorithm, count, rp_id, origin, text(session["challenge"]), text(session["user"]),
-                     text(allow[0]) if allow else b"", id, user, x, y, id, text(handle), signed, text(answer["signature"]),
-                     text(answer["clientDataJSON"]), b"", b"")
+        for more in (0, LEVEL3, LEVEL3 | FRAMED):
+            yield record(SIGN_IN, flags | more, algorithm, count, rp_id, origin, text(session["challenge"]), text(session["user"]),
+                         text(allow[0]) if allow else b"", id, user, x, y, id, text(handle), signed, text(answer["signature"]),
+                         text(answer["clientDataJSON"]), b"", b"")
         count = int.from_bytes(signed[33:37], "big")
 
 

@@ -21,7 +21,7 @@ function byteString(value) {
 
 export class Device {
   constructor(algorithm = ES256, { id = Buffer.from("credential of 22 bytes"), rpId = "example.com", origin = "https://example.com" } = {}) {
-    Object.assign(this, { algorithm, id, rpId, origin, count: 0, aaguid: Buffer.from([...Array(16).keys()]) });
+    Object.assign(this, { algorithm, id, rpId, origin, count: 0, aaguid: Buffer.from([...Array(16).keys()]), said: { crossOrigin: false } });
     const [kind, how] = KINDS[algorithm], { publicKey, privateKey } = generateKeyPairSync(kind, how);
     const { x, y, n, e } = publicKey.export({ format: "jwk" });
     this.key = privateKey;
@@ -45,7 +45,7 @@ export class Device {
   }
 
   clientData(type, challenge) {
-    return Buffer.from(JSON.stringify({ type, challenge, origin: this.origin, crossOrigin: false }));
+    return Buffer.from(JSON.stringify({ type, challenge, origin: this.origin, ...this.said }));
   }
 
   response(parts) {

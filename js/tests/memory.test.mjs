@@ -33,7 +33,7 @@ const padded = (size) => (value) => Buffer.from(JSON.stringify({ ...JSON.parse(v
 const nested = (depth) => (value) => Buffer.from(value.toString().replace(/}$/, `,"a":${'{"a":'.repeat(depth)}0${"}".repeat(depth)}}`));
 
 async function visited(made, change = (value) => value) {
-  const { server } = made, device = new Device(), begun = server.registerBegin(user, "name");
+  const { server } = made, device = new Device(), begun = server.registerBegin(user, "name", { attestation: "direct" });
   const response = changed(device.register(begun.options, { isPacked: true }), "clientDataJSON", (value) => value);
   const { credential } = await server.registerComplete(begun.session, response, { isRegistered: () => false });
   assert.ok(isAsAtFirst(made), "a registration");

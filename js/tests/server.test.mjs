@@ -7,7 +7,14 @@ import {
 } from "garvoeng";
 import { AT, BE, BS, Device, ED, UP, UV, changed } from "./device.mjs";
 
-const user = Buffer.from("account 7"), server = new Server("example.com", ["https://example.com"]);
+// In the open profile, which looks at each step of Level 2; level3.test.mjs has that of Level 3.
+class OpenServer extends Server {
+  constructor(rpId, origins, how) {
+    super(rpId, origins, { profile: "open", ...how });
+  }
+}
+
+const user = Buffer.from("account 7"), server = new OpenServer("example.com", ["https://example.com"]);
 const free = () => false;
 const outputs = "a16b6372656450726f7465637402";
 const of = (session, more) => Object.assign(Object.create(Object.getPrototypeOf(session)), session, more);
@@ -54,16 +61,16 @@ test("a registration is refused at each step", async () => {
     ["G1", complete(good, { begun: null })], ["G1", server.registerComplete(undefined, good, { isRegistered: free })],
     ["G2", complete(text(() => "{"))], ["G3", complete(text((said) => said.replace("create", "get")))],
     ["G4", complete(good, { begun: of(session, { challenge: new Uint8Array(32) }) })],
-    ["G5", complete(good, { on: new Server("example.com", ["https://www.example.com"]) })],
+    ["G5", complete(good, { on: new OpenServer("example.com", ["https://www.example.com"]) })],
     ["G6", complete(text((said) => said.slice(0, -1) + binding))],
     ["G7", complete(changed(good, "attestationObject", (value) => value.subarray(0, -1)))],
-    ["G8", complete(good, { on: new Server("other.com", ["https://other.com", "https://example.com"]) })],
+    ["G8", complete(good, { on: new OpenServer("other.com", ["https://other.com", "https://example.com"]) })],
     ["G9", complete(device.register(options, { flags: UV | AT }))], ["G10", complete(device.register(options, { flags: UP | AT }))],
     ["G11", complete(good, { begun: of(session, { algorithms: [EDDSA, RS256] }) })],
     ["G12", complete(changed(good, "attestationObject", (value) => Buffer.from(value.toString("latin1").replace("dnone", "dnonf"), "latin1")))],
     ["G13", complete(changed(packed, "clientDataJSON", (value) => Buffer.from(value.toString().replace("false", "true"))))],
-    ["G14", complete(good, { on: new Server("example.com", ["https://example.com"], { acceptNone: false }) })],
-    ["G14", complete(packed, { on: new Server("example.com", ["https://example.com"], { acceptSelf: false }) })],
+    ["G14", complete(good, { on: new OpenServer("example.com", ["https://example.com"], { acceptNone: false }) })],
+    ["G14", complete(packed, { on: new OpenServer("example.com", ["https://example.com"], { acceptSelf: false }) })],
     ["G15", complete(good, { isRegistered: async () => true })], ["G15", complete(good, { isRegistered: () => "yes" })],
     ["G16", complete(good, { isFull: true })],
   ];
@@ -88,10 +95,10 @@ test("a sign-in is refused at each step", async () => {
     ["W4", complete(withText(good, "userHandle", toText(user)), { begun: of(session, { user: new Uint8Array(0) }) })],
     ["W5", complete(text(() => "{"))], ["W6", complete(text((said) => said.replace(".get", ".create")))],
     ["W7", complete(good, { begun: of(session, { challenge: new Uint8Array(32) }) })],
-    ["W8", complete(good, { on: new Server("example.com", ["https://www.example.com"]) })],
+    ["W8", complete(good, { on: new OpenServer("example.com", ["https://www.example.com"]) })],
     ["W9", complete(text((said) => said.slice(0, -1) + binding))],
     ["W10", complete(changed(good, "authenticatorData", (value) => Buffer.concat([value, Buffer.alloc(1)])))],
-    ["W11", complete(good, { on: new Server("other.com", ["https://other.com", "https://example.com"]) })],
+    ["W11", complete(good, { on: new OpenServer("other.com", ["https://other.com", "https://example.com"]) })],
     ["W12", complete(device.signIn(options, { flags: UV }))], ["W13", complete(device.signIn(options, { flags: UP }))],
     ["W14", complete(changed(good, "signature", (value) => (value[10] ^= 1, value)))],
     ["W14", complete(good, { found: { ...credential, x: new Uint8Array(32) } })],
@@ -119,7 +126,7 @@ test("counters up to 2^32 - 1", async () => {
 });
 
 test("extensions and the strict profile", async () => {
-  const strict = new Server("example.com", ["https://example.com"], { openProfile: false }), device = new Device();
+  const strict = new OpenServer("example.com", ["https://example.com"], { profile: "strict" }), device = new Device();
   const how = { flags: UP | UV | AT | ED, outputs };
   await assert.rejects(registered(device, how, strict), { name: "G7" });
   const { credential, extensions } = await registered(device, how);
@@ -131,7 +138,7 @@ test("extensions and the strict profile", async () => {
 });
 
 test("options of a registration", () => {
-  const named = new Server("example.com", ["https://example.com"], { rpName: "A site" });
+  const named = new OpenServer("example.com", ["https://example.com"], { rpName: "A site" });
   const one = { id: Buffer.from("one"), transports: ["usb", "internal"] };
   const { options, session } = named.registerBegin(user, "name", {
     displayName: "Display Name", exclude: [one, Buffer.from("two")], userVerification: "required", residentKey: "preferred",
@@ -145,7 +152,7 @@ test("options of a registration", () => {
                               authenticatorAttachment: "platform" },
     attestation: "none", timeout: 60_000, hints: ["security-key"], extensions: { credProps: true },
   });
-  assert.deepEqual(session, new RegistrationSession({ challenge: session.challenge, user, userVerification: true, algorithms: [EDDSA] }));
+  assert.deepEqual(session, new RegistrationSession({ challenge: session.challenge, user, userVerification: true, algorithms: [EDDSA], attestation: false }));
   const plain = server.registerBegin(user, "name");
   assert.deepEqual(plain.options.authenticatorSelection, { residentKey: "required", requireResidentKey: true, userVerification: "preferred" });
   assert.equal(plain.options.user.displayName, "name");
@@ -279,7 +286,7 @@ test("rp ids and origins that are none", () => {
                          ["https://user@example.com"], ["https://example.com?x"], ["null"], ["*"], ["https://*.example.com"], ["https://other.com"],
                          ["https://notexample.com"], ["https://example.com.evil.com"], ["https://com"], ["https://example.com", "https://example.com/"],
                          ["https://example.com\n"], undefined, null])
-    assert.throws(() => new Server("example.com", origins), BadInput, `${origins}`);
+    assert.throws(() => new OpenServer("example.com", origins), BadInput, `${origins}`);
   for (const [rpId, origins] of [["example.com", ["https://example.com:8443"]], ["example.com", ["https://a.b.example.com"]],
                                  ["localhost", ["http://localhost:8080"]], ["example.com", ["android:apk-key-hash:abc-_"]],
                                  ["example.com", ["https://example.com", "https://example.org"]], ["intern", ["https://intern"]]])

@@ -33,7 +33,7 @@ async function step(form, kind, parts, accepted) {
   const challenge = new Uint8Array(32).fill(1, 7, 8), x = new Uint8Array(32).fill(0x11), y = new Uint8Array(32).fill(0x33), user = Uint8Array.of(1);
   const verify = (algorithm, keyX, keyY, message, signature) =>
     algorithm === form.ES256 && is(keyX, x) && is(keyY, y) && is(message, accepted.message) && is(signature, accepted.verified);
-  const server = new form.Server("abc", ["https://abc"], { openProfile: false, verify });
+  const server = new form.Server("abc", ["https://abc"], { profile: "strict", verify });
   try {
     if (kind === "sign-in") {
       const stored = new form.Credential({ id: Uint8Array.of(10), user, algorithm: form.ES256, x, y, signCount: 0 });

@@ -2,7 +2,7 @@
 import { BadInput, Credential, Refused, Server, StoreFailed, StoredServer, StoredSignIn } from "garvoeng";
 import { SqlPool, SqlServer } from "garvoeng/sql";
 
-const how = { rpName: "A site", openProfile: false };
+const how = { rpName: "A site", profile: "strict" as const };
 const stored: StoredServer = new StoredServer("passkey-site", "site.db", "example.com", ["https://example.com"], { ...how, log: "all", expire: 300, maxOpen: 9 });
 declare const pool: SqlPool;
 const sql: SqlServer = new SqlServer(new Server("example.com", ["https://example.com"], how), pool, { lifetime: 60 });

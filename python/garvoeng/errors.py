@@ -6,12 +6,12 @@ from typing import Any, Tuple
 SIGN_IN_STEPS = (
     "SessionNotOpen", "CredentialNotAllowed", "UnknownCredential", "OtherUser", "UnreadableClientData", "WrongType",
     "WrongChallenge", "WrongOrigin", "TokenBinding", "BadAuthenticatorData", "WrongRelyingParty", "UserNotPresent",
-    "UserNotVerified", "BadSignature", "CounterNotGreater", "EligibilityChanged",
+    "UserNotVerified", "BadSignature", "CounterNotGreater", "EligibilityChanged", "CrossOrigin", "WrongTopOrigin",
 )
 REGISTRATION_STEPS = (
     "SessionNotOpen", "UnreadableClientData", "WrongType", "WrongChallenge", "WrongOrigin", "TokenBinding",
     "BadAttestationObject", "WrongRelyingParty", "UserNotPresent", "UserNotVerified", "AlgorithmNotOffered",
-    "UnknownFormat", "BadStatement", "AttestationNotAccepted", "CredentialRegistered", "TableFull",
+    "UnknownFormat", "BadStatement", "AttestationNotAccepted", "CredentialRegistered", "TableFull", "CrossOrigin", "WrongTopOrigin",
 )
 
 
@@ -22,7 +22,7 @@ class Refused(Exception):
     def __init__(self, is_registration: bool, number: int, text: str) -> None:
         self.is_registration = is_registration
         self.number = number
-        """1 to 16."""
+        """1 to 18."""
         self.step = (REGISTRATION_STEPS if is_registration else SIGN_IN_STEPS)[number - 1]
         """The name of the step."""
         self.name = f"{'G' if is_registration else 'W'}{number}"

@@ -5,15 +5,18 @@ from typing import Optional, Tuple
 
 from . import _passkey
 
-ABI_VERSION = 3
+ABI_VERSION = 4
 ES256 = -7
 EDDSA = -8
 RS256 = -257
 MAX_ID = 1023
 
 ACCEPTED = 0
-LAST_STEP = 16
+LAST_STEP = 18
 NO_MEMORY = 127
+
+PROFILES = ("strict", "open", "level3")
+"""Which responses a relying party takes, by the library's number (docs/LIMITS.md)."""
 
 FORMATS = ("none", "packed")
 """How a credential is attested, by the library's number: not at all, or by a packed statement of its own key."""

@@ -6,7 +6,7 @@ import re
 from typing import Iterable, Sequence, Tuple
 
 from .errors import BadInput
-from .library import EDDSA, ES256, MAX_ID, RS256
+from .library import EDDSA, ES256, MAX_ID, PROFILES, RS256
 
 MAX_LIST = 64
 """The most credential ids of a list of `Server`. Browsers take no longer one."""
@@ -56,6 +56,23 @@ def check_party(rp_id: str, origins: Sequence[str]) -> Tuple[str, ...]:
     if hosts and not any(host == rp_id or host.endswith("." + rp_id) for host in hosts):
         raise BadInput("the rp id is not of an origin's host")
     return tuple(origins)
+
+
+def check_top_origins(top_origins: Sequence[str]) -> Tuple[str, ...]:
+    """The origins of the pages that may have the site's in a frame (WebAuthn Level 3, section 5.8.1, `topOrigin`)."""
+    if isinstance(top_origins, (str, bytes)):
+        raise BadInput("top_origins is a list of texts")
+    listed = tuple(top_origins)
+    for origin in listed:
+        _host_of(origin)
+    return listed
+
+
+def check_profile(profile: str) -> int:
+    """The library's number of a profile."""
+    if not isinstance(profile, str) or profile not in PROFILES:
+        raise BadInput(f"profile is one of {', '.join(PROFILES)}")
+    return PROFILES.index(profile)
 
 
 def check_user(user: bytes) -> bytes:

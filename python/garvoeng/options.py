@@ -10,6 +10,7 @@ from .records import Credential, RegistrationSession, SignInSession
 
 REQUIREMENTS = ("required", "preferred", "discouraged")
 ATTACHMENTS = ("platform", "cross-platform")
+ATTESTATIONS = ("none", "indirect", "direct", "enterprise")
 HINTS = ("security-key", "client-device", "hybrid")
 
 Requirement = Union[bool, str]
@@ -51,16 +52,17 @@ def _more(timeout: Optional[int], hints: Sequence[str], extensions: Optional[Map
     return made
 
 
-def of_creation(user_verification: str, resident: Requirement, attachment: Optional[str], timeout: Optional[int], hints: Sequence[str],
-                extensions: Optional[Mapping[str, Any]]) -> Dict[str, Any]:
-    """The members of creation options that no verdict looks at but by `user_verification` of the session (WebAuthn Level 2, section
-    5.4). Raises `BadInput`."""
+def of_creation(user_verification: str, resident: Requirement, attachment: Optional[str], attestation: str, timeout: Optional[int],
+                hints: Sequence[str], extensions: Optional[Mapping[str, Any]]) -> Dict[str, Any]:
+    """The members of creation options that no verdict looks at but by `user_verification` and `attestation` of the session (WebAuthn
+    Level 2, section 5.4). Raises `BadInput`."""
     resident_key = _resident_of(resident)
     selection: Dict[str, Any] = {"residentKey": resident_key, "requireResidentKey": resident_key == "required",
                                  "userVerification": user_verification}
     if attachment is not None:
         selection["authenticatorAttachment"] = _one_of(attachment, "attachment", ATTACHMENTS)
-    return {"authenticatorSelection": selection, **_more(timeout, hints, extensions)}
+    return {"authenticatorSelection": selection, "attestation": _one_of(attestation, "attestation", ATTESTATIONS),
+            **_more(timeout, hints, extensions)}
 
 
 def of_request(user_verification: str, timeout: Optional[int], hints: Sequence[str],
@@ -87,7 +89,6 @@ def creation_options(rp: Dict[str, str], session: RegistrationSession, user_name
         "challenge": forms.to_text(session.challenge),
         "pubKeyCredParams": [{"type": "public-key", "alg": number} for number in session.algorithms],
         "excludeCredentials": _descriptors(exclude),
-        "attestation": "none",
         **more,
     }
 

@@ -37,11 +37,16 @@ class RegistrationSession:
     """Whether user verification is required."""
     algorithms: Tuple[int, ...] = (ES256, EDDSA, RS256)
     """The COSE numbers that were offered."""
+    conditional: bool = False
+    """Whether a browser may answer by itself, so that the user need not be present. Of the profile `level3`."""
+    attestation: bool = True
+    """Whether an attestation was asked for: where it was not, the profile `level3` does not look at the statement."""
 
     def to_json(self) -> Dict[str, Any]:
         """The session as values of JSON; bytes in base64url."""
         return {"challenge": forms.to_text(self.challenge), "user": forms.to_text(self.user),
-                "user_verification": bool(self.user_verification), "algorithms": list(self.algorithms)}
+                "user_verification": bool(self.user_verification), "algorithms": list(self.algorithms),
+                "conditional": bool(self.conditional), "attestation": bool(self.attestation)}
 
     @classmethod
     def from_json(cls, value: Union[str, Mapping[str, Any]]) -> "RegistrationSession":
@@ -49,8 +54,12 @@ class RegistrationSession:
         said = _members(value, "algorithms")
         if any(type(number) is not int or number not in (ES256, EDDSA, RS256) for number in said["algorithms"]):
             raise BadInput("algorithms are ES256 (-7), EDDSA (-8) and RS256 (-257)")
+        # An older session has neither.
+        conditional, attestation = said.get("conditional", False), said.get("attestation", True)
+        if not isinstance(conditional, bool) or not isinstance(attestation, bool):
+            raise BadInput("conditional and attestation are true or false")
         return cls(forms.from_text(said.get("challenge"), "challenge"), forms.from_text(said.get("user"), "user"),
-                   said["user_verification"], tuple(said["algorithms"]))
+                   said["user_verification"], tuple(said["algorithms"]), conditional, attestation)
 
 
 @dataclass(frozen=True)

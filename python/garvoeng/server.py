@@ -37,16 +37,21 @@ def verify_by_cryptography() -> Verify:
 class Server:
     """A relying party: an rp id and the origins of its pages.
 
-    `verify(algorithm, x, y, message, signature)` tells whether a signature is valid; by default `cryptography` does.
+    `profile` says which responses it takes: `level3`, as browsers send them today, `open` or `strict` (docs/LIMITS.md).
+    `top_origins` are the origins of other sites' pages that may have this site's in a frame: in `level3` a response that was
+    made in any other frame is refused. `accept_none` and `accept_self` say which attestation is taken. `verify(algorithm, x, y, message, signature)` tells whether a signature is valid; by default `cryptography` does.
     """
 
     def __init__(self, rp_id: str, origins: Sequence[str], rp_name: Optional[str] = None, *, accept_none: bool = True,
-                 accept_self: bool = True, open_profile: bool = True, verify: Optional[Verify] = None) -> None:
+                 accept_self: bool = True, profile: str = "level3", top_origins: Sequence[str] = (),
+                 verify: Optional[Verify] = None) -> None:
         self._origins = limits.check_party(rp_id, origins)
         self._rp_id = rp_id
         self._rp_id_bytes = rp_id.encode()
         self._origins_bytes = tuple(origin.encode() for origin in self._origins)
-        self._open_profile = bool(open_profile)
+        self._profile = limits.check_profile(profile)
+        self._top_origins = limits.check_top_origins(top_origins)
+        self._top_origins_bytes = tuple(origin.encode() for origin in self._top_origins)
         self.rp_name = rp_name if rp_name is not None else rp_id
         self.accept_none = accept_none
         self.accept_self = accept_self
@@ -60,25 +65,35 @@ class Server:
     def origins(self) -> Tuple[str, ...]:
         return self._origins
 
+    @property
+    def profile(self) -> str:
+        return library.PROFILES[self._profile]
+
+    @property
+    def top_origins(self) -> Tuple[str, ...]:
+        return self._top_origins
+
     # ---- registration
 
     def register_begin(self, user: bytes, user_name: str, display_name: Optional[str] = None, *, exclude: Ids = (),
                        user_verification: Requirement = False, resident: Requirement = True,
                        algorithms: Sequence[int] = (ES256, EDDSA, RS256), attachment: Optional[str] = None,
-                       timeout: Optional[int] = None, hints: Sequence[str] = (),
+                       attestation: str = "none", conditional: bool = False, timeout: Optional[int] = None, hints: Sequence[str] = (),
                        extensions: Optional[Mapping[str, Any]] = None) -> Tuple[Dict[str, Any], RegistrationSession]:
         """PublicKeyCredentialCreationOptionsJSON for the page, and the session that the site keeps (WebAuthn Level 2, section 5.4).
 
         `user` is the user handle, 1 to 64 bytes that name nobody; `exclude` are the account's credentials or their ids, 64 at most.
         `user_verification` is true (`required`), false (`preferred`) or `discouraged`; `resident` is true (`required`), false
-        (`discouraged`) or `preferred`. `attachment` is `platform` or `cross-platform`, `timeout` milliseconds, `hints` a list of
+        (`discouraged`) or `preferred`. `attachment` is `platform` or `cross-platform`, `attestation` `none`, `indirect`, `direct` or
+        `enterprise`; `conditional` is for a page that lets the browser make a passkey by itself after another sign-in (Level 3,
+        section 5.1.3, `mediation`): then nobody need be present. Both are looked at in the profile `level3`. `timeout` is milliseconds, `hints` a list of
         `security-key`, `client-device` and `hybrid`; `extensions` are handed on to the page. Raises `BadInput`.
         """
         listed, verification = list(exclude), options.user_verification_of(user_verification)
         options.ids_of(listed)
-        more = options.of_creation(verification, resident, attachment, timeout, hints, extensions)
+        more = options.of_creation(verification, resident, attachment, attestation, timeout, hints, extensions)
         session = RegistrationSession(secrets.token_bytes(32), limits.check_user(user), verification == "required",
-                                      limits.check_algorithms(algorithms))
+                                      limits.check_algorithms(algorithms), bool(conditional), attestation != "none")
         return options.creation_options({"id": self.rp_id, "name": self.rp_name}, session, user_name, display_name, listed, more), session
 
     def register_complete(self, session: Optional[RegistrationSession], response: Mapping[str, Any], *,
@@ -110,9 +125,11 @@ class Server:
         begun = _NO_REGISTRATION if session is None else session
         said = _passkey.registration(
             self.verify,
-            (self._open_profile, self.accept_none, self.accept_self, session is not None, begun.user_verification,
-             ES256 in begun.algorithms, EDDSA in begun.algorithms, RS256 in begun.algorithms, is_full),
-            (free_id, self._rp_id_bytes, begun.challenge, begun.user, client_data, attestation_object), self._origins_bytes)
+            (self._profile, self.accept_none, self.accept_self, session is not None, begun.user_verification,
+             ES256 in begun.algorithms, EDDSA in begun.algorithms, RS256 in begun.algorithms, begun.conditional, begun.attestation,
+             is_full),
+            (free_id, self._rp_id_bytes, begun.challenge, begun.user, client_data, attestation_object), self._origins_bytes,
+            self._top_origins_bytes)
         if isinstance(said, int):
             raise _raised(True, said)
         assert session is not None
@@ -166,13 +183,38 @@ class Server:
         try:
             said = _passkey.assertion(
                 Credential, SignedIn, _MEMBERS, self.verify, credential, stored.transports, stored.eligible,
-                (self._open_profile, session is not None, begun.user_verification, credential is not None, stored.algorithm,
+                (self._profile, session is not None, begun.user_verification, credential is not None, stored.algorithm,
                  stored.sign_count, stored.retired),
                 (begun.user, user, self._rp_id_bytes, begun.challenge, stored.id, stored.user, stored.x, stored.y, raw_id, client_data,
-                 auth_data, signature), self._origins_bytes, allow if type(allow) is tuple else tuple(allow))
+                 auth_data, signature), self._origins_bytes, self._top_origins_bytes, allow if type(allow) is tuple else tuple(allow))
         except OverflowError:
             limits.check_credential(stored.algorithm, stored.sign_count)
             raise
         if isinstance(said, int):
             raise _raised(False, said)
         return said
+
+    # ---- what a site tells browsers
+
+    def related_origins(self) -> Dict[str, Any]:
+        """What `https://RP_ID/.well-known/webauthn` answers, so that pages of these origins may use this rp id (WebAuthn Level 3,
+        section 5.11)."""
+        return {"origins": [origin for origin in self._origins if origin.startswith("https://")]}
+
+    def signal_unknown_credential(self, credential_id: bytes) -> Dict[str, str]:
+        """What the page hands to `PublicKeyCredential.signalUnknownCredential` after a sign-in was refused by W3 (WebAuthn Level 3,
+        section 5.1.10)."""
+        return {"rpId": self._rp_id, "credentialId": forms.to_text(credential_id)}
+
+    def signal_all_accepted(self, user: bytes, credentials: Ids) -> Dict[str, Any]:
+        """What the page hands to `signalAllAcceptedCredentials`, of a user who is signed in: all of his credentials that may sign in, or
+        their ids. A passkey that is left out is hidden or deleted."""
+        listed = [one.id if isinstance(one, Credential) else bytes(one) for one in credentials
+                  if not (isinstance(one, Credential) and one.retired)]
+        return {"rpId": self._rp_id, "userId": forms.to_text(limits.check_user(user)),
+                "allAcceptedCredentialIds": [forms.to_text(one) for one in listed]}
+
+    def signal_user_details(self, user: bytes, user_name: str, display_name: Optional[str] = None) -> Dict[str, str]:
+        """What the page hands to `signalCurrentUserDetails` where an account's names changed."""
+        return {"rpId": self._rp_id, "userId": forms.to_text(limits.check_user(user)), "name": user_name,
+                "displayName": display_name or user_name}

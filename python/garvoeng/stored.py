@@ -209,19 +209,22 @@ class StoredServer:
     """
 
     def __init__(self, program: str, file: str, rp_id: str, origins: Sequence[str], rp_name: Optional[str] = None, *,
-                 accept_none: bool = True, accept_self: bool = True, open_profile: bool = True, max_open: int = 100_000,
+                 accept_none: bool = True, accept_self: bool = True, profile: str = "level3", top_origins: Sequence[str] = (),
+                 max_open: int = 100_000,
                  max_credentials: int = 1_000_000, existing: bool = False, log: Union[bool, str] = False, expire: int = 300, timeout: float = 30.0,
                  shared: bool = False, verify: Optional[Verify] = None) -> None:
         origins = limits.check_party(rp_id, origins)
+        limits.check_profile(profile)
         if not (accept_none or accept_self):
             raise BadInput("no attestation is accepted")
         if log not in (False, True, "refusals", "all"):
             raise BadInput("log is true or false, refusals or all")
         attestation = "any" if accept_none and accept_self else "none" if accept_none else "self"
         self._words = [program, f"--rp-id={rp_id}", f"--rp-name={rp_id if rp_name is None else rp_name}",
-                       "--profile", "open" if open_profile else "strict", "--attestation", attestation,
+                       "--profile", profile, "--attestation", attestation,
                        f"--max-open={max_open}", f"--max-credentials={max_credentials}", f"--expire={expire}",
                        *(f"--origin={origin}" for origin in origins),
+                       *(f"--top-origin={origin}" for origin in limits.check_top_origins(top_origins)),
                        *(["--existing"] if existing else []),
                        *([f"--log={'refusals' if log is True else log}"] if log else []),
                        "--", file]
@@ -291,17 +294,18 @@ class StoredServer:
     def register_begin(self, user: bytes, user_name: str, display_name: Optional[str] = None, *, exclude: Ids = (),
                        user_verification: Requirement = False, resident: Requirement = True,
                        algorithms: Sequence[int] = (ES256, EDDSA, RS256), attachment: Optional[str] = None,
-                       timeout: Optional[int] = None, hints: Sequence[str] = (),
+                       attestation: str = "none", conditional: bool = False, timeout: Optional[int] = None, hints: Sequence[str] = (),
                        extensions: Optional[Mapping[str, Any]] = None) -> Tuple[Dict[str, Any], int]:
         """PublicKeyCredentialCreationOptionsJSON for the page, and the session's number, which only this visitor may have.
 
         The parameters are as in `Server.register_begin`; `exclude` has 8 at most.
         """
         verification = options.user_verification_of(user_verification)
-        more = options.of_creation(verification, resident, attachment, timeout, hints, extensions)
+        more = options.of_creation(verification, resident, attachment, attestation, timeout, hints, extensions)
         answer = self._ask("begin_registration", user=forms.to_text(limits.check_user(user)), user_name=user_name,
                            display_name=display_name, exclude=_listed(exclude), user_verification=verification == "required",
-                           algorithms=list(limits.check_algorithms(algorithms)))
+                           algorithms=list(limits.check_algorithms(algorithms)), conditional=bool(conditional),
+                           attestation=attestation != "none")
         return {**answer["options"], **more}, answer["session"]
 
     async def register_begin_async(self, user: bytes, user_name: str, display_name: Optional[str] = None,

@@ -36,6 +36,7 @@ class Device:
                  origin="https://example.com", bits=2048, exponent=65537, counts=True):
         self.algorithm, self.id, self.rp_id, self.origin, self.count = algorithm, credential, rp_id, origin, 0
         self.counts = counts
+        self.said = {"crossOrigin": False}
         self.aaguid = bytes(range(16))
         if algorithm == ES256:
             self.key = ec.generate_private_key(ec.SECP256R1())
@@ -71,7 +72,7 @@ class Device:
         return data + outputs
 
     def client_data(self, kind, challenge):
-        return json.dumps({"type": kind, "challenge": challenge, "origin": self.origin, "crossOrigin": False},
+        return json.dumps({"type": kind, "challenge": challenge, "origin": self.origin, **self.said},
                           separators=(",", ":")).encode()
 
     def register(self, options, flags=UP | UV | AT, packed=False, message=None, outputs=b""):

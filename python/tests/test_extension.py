@@ -28,7 +28,7 @@ class Ceremony:
 
     def __init__(self, algorithm=ES256, **more):
         self.server, self.device = party(**more), Device(algorithm)
-        options, self.begun = self.server.register_begin(USER, "name")
+        options, self.begun = self.server.register_begin(USER, "name", attestation="direct")
         self.made = self.device.register(options, packed=True, flags=UP | UV | AT | ED, outputs=CRED_PROTECT)
         self.credential = self.register().credential
         options, self.session = self.server.authenticate_begin(user=USER, allow=[self.credential])
@@ -154,17 +154,21 @@ def every_way(one):
 def misused(one):
     """The two calls of the module with words that the package never hands in."""
     parts = (USER, USER, b"example.com", bytes(32), *[b"x"] * 8)
-    good = (Credential, SignedIn, server._MEMBERS, lambda *_: True, one.credential, (), None, (True, True, False, True, ES256, 0, False), parts, (ORIGIN.encode(),), ())
-    for at, values in ((1, (7, object, None)), (2, ((), ("id",), 7)), (7, ((), None, (True,) * 7, (True, True, False, True, 2**40, 0, False),
-                                                                         (True, True, False, True, ES256, -1, False),
-                                                                         (True, True, False, True, ES256, 2**32, False))),
-                       (8, ((), parts[:-1], (*parts, b"x"), list(parts), None)), (9, ([], None, (None,), ("text",), (bytearray(3),) * 20)), (10, ([], None, (None,)))):
+    good = (Credential, SignedIn, server._MEMBERS, lambda *_: True, one.credential, (), None, (1, True, False, True, ES256, 0, False), parts, (ORIGIN.encode(),), (), ())
+    for at, values in ((1, (7, object, None)), (2, ((), ("id",), 7)), (7, ((), None, (True,) * 7, (1, True, False, True, 2**40, 0, False),
+                                                                         (1, True, False, True, ES256, -1, False), (256, True, False, True, ES256, 0, False),
+                                                                         (-1, True, False, True, ES256, 0, False), ("1", True, False, True, ES256, 0, False),
+                                                                         (1, True, False, True, ES256, 2**32, False))),
+                       (8, ((), parts[:-1], (*parts, b"x"), list(parts), None)), (9, ([], None, (None,), ("text",), (bytearray(3),) * 20)), (10, ([], None, (None,), ("text",))),
+                       (11, ([], None, (None,)))):
         for value in values:
             yield lambda at=at, value=value: _passkey.assertion(*good[:at], value, *good[at + 1:])
     told = (b"id", b"example.com", bytes(32), USER, b"{}", b"x")
-    for at, values in ((1, ((), (True,) * 8, (Untrue(),) * 9, None)), (2, ((), told[:-1], (*told, b"x"), None, (*told[:-1], None))), (3, ([], (None,)))):
+    flags = (1, *(True,) * 10)
+    for at, values in ((1, ((), flags[:-1], (1, *(Untrue(),) * 10), (256, *flags[1:]), (-1, *flags[1:]), None)),
+                       (2, ((), told[:-1], (*told, b"x"), None, (*told[:-1], None))), (3, ([], (None,))), (4, ([], (None,), ("text",)))):
         for value in values:
-            words = [lambda *_: True, (True,) * 9, told, (ORIGIN.encode(),)]
+            words = [lambda *_: True, flags, told, (ORIGIN.encode(),), ()]
             words[at] = value
             yield lambda words=words: _passkey.registration(*words)
 
@@ -248,7 +252,7 @@ def test_words_that_the_package_never_hands_in():
                                             (parts, (None,), (), TypeError), (parts, (b"x",), (None,), TypeError), (parts, (), ("x",), TypeError)):
             def call():
                 return _passkey.assertion(Credential, SignedIn, server._MEMBERS, lambda *_: True, None, (), None,
-                                          (True, True, False, True, *numbers, False), lent, origins, allow)
+                                          (1, True, False, True, *numbers, False), lent, origins, (), allow)
 
             if error or wrong:
                 with pytest.raises((error or wrong, wrong or error)):
@@ -260,9 +264,9 @@ def test_words_that_the_package_never_hands_in():
                                  ((told[0], None, *told[2:]), (), TypeError), (told, (None,), TypeError)):
         if wrong:
             with pytest.raises(wrong):
-                _passkey.registration(lambda *_: True, (True,) * 9, lent, origins)
+                _passkey.registration(lambda *_: True, (1, *(True,) * 10), lent, origins, ())
         else:
-            assert isinstance(_passkey.registration(lambda *_: True, (True,) * 9, lent, origins), int)
+            assert isinstance(_passkey.registration(lambda *_: True, (1, *(True,) * 10), lent, origins, ()), int)
 
 
 def test_kinds_and_names_that_are_none():
@@ -274,7 +278,7 @@ def test_kinds_and_names_that_are_none():
 
     def call(credential_type=Credential, kind=SignedIn, names=server._MEMBERS):
         return _passkey.assertion(credential_type, kind, names, lambda *_: True, stored, (), None,
-                                  (True, True, False, True, ES256, 0, False), lent, (ORIGIN.encode(),), ())
+                                  (1, True, False, True, ES256, 0, False), lent, (ORIGIN.encode(),), (), ())
 
     assert call().credential.sign_count == 1
     for wrong in ({"credential_type": 7}, {"kind": 7}, {"kind": None}, {"kind": object}, {"credential_type": int}, {"names": ()}, {"names": None},
@@ -408,7 +412,7 @@ fake = types.ModuleType("garvoeng")
 fake.__path__ = [{package}]
 sys.modules["garvoeng"] = fake
 from garvoeng import _passkey
-assert _passkey.ABI_VERSION == 3
+assert _passkey.ABI_VERSION == 4
 assert _passkey.parts({{"it": "AAEC"}}, {{}}, ("it",), 1) == (bytes([0, 1, 2]),)
 assert _passkey.refusal_text(False, 14) == "the signature is not valid"
 try:

@@ -12,13 +12,14 @@ def steps(kind, front):
     """The names of a kind of steps in the header, in the order of their numbers."""
     part = HEADER.read_text().split(f"/* of a {kind} */")[1].split("\n\n")[0]
     found = re.findall(rf"\bPASSKEY_{front}([A-Z_]+) = ([0-9]+),", part)
-    assert [int(number) for _, number in found] == list(range(1, 17))
+    assert [int(number) for _, number in found] == list(range(1, 19))
     return tuple("".join(word.capitalize() for word in name.split("_")) for name, _ in found)
 
 
 def test_steps():
     assert steps("sign-in", "") == errors.SIGN_IN_STEPS
-    assert steps("registration", "REGISTRATION_")[:-1] == errors.REGISTRATION_STEPS[:-1]
+    named = steps("registration", "REGISTRATION_")
+    assert named[15] == "NoRoom" and named[:15] + ("TableFull",) + named[16:] == errors.REGISTRATION_STEPS
 
 
 LIMITS = {
@@ -33,6 +34,8 @@ LIMITS = {
     "VERIFIED_Y": "the y of the verified key is out of its limits",
     "MESSAGE_ROOM": "the room for the message is too small",
     "SIGNATURE_ROOM": "the room for the signature is too small",
+    "PROFILE": "the profile is not known",
+    "TOP_ORIGIN": "a top origin is not UTF-8",
 }
 
 
@@ -43,4 +46,5 @@ def test_numbers():
     algorithms = dict(re.findall(r"#define PASSKEY_([A-Z]+[0-9]*) \((-[0-9]+)\)", text))
     assert algorithms == {"ES256": str(library.ES256), "EDDSA": str(library.EDDSA), "RS256": str(library.RS256)}
     assert f"#define PASSKEY_ABI_VERSION {library.ABI_VERSION}\n" in text
+    assert all(re.search(rf"\bPASSKEY_{name.upper()} = {number}\b", text) for number, name in enumerate(library.PROFILES))
     assert "PASSKEY_ACCEPTED = 0," in text and "PASSKEY_NO_MEMORY = 127\n" in text

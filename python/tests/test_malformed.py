@@ -40,7 +40,7 @@ def answer(kind, parts, accepted):
     def verify(algorithm, x, y, message, signature):
         return (algorithm, x, y, message, signature) == (ES256, X, Y, accepted["message"], accepted["verified"])
 
-    server = Server("abc", ["https://abc"], open_profile=False, verify=verify)
+    server = Server("abc", ["https://abc"], profile="strict", verify=verify)
     try:
         if kind == "sign-in":
             stored = Credential(b"\x0a", b"\x01", ES256, X, Y, 0, None)

@@ -95,7 +95,7 @@ def test_extensions_are_refused_by_the_strict_profile():
                 (line, lambda party, line=line: sign_in(party, line, credential)) for line in visit["sign_ins"]]:
             is_refused = False
             try:
-                call(server(open_profile=False))
+                call(server(profile="strict"))
             except Refused as caught:
                 assert caught.name in ("G7", "W10")
                 is_refused = True

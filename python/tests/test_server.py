@@ -13,13 +13,20 @@ from garvoeng.forms import to_text
 USER = b"account 7"
 
 
+class OpenServer(Server):
+    """In the open profile, which looks at each step of Level 2; test_level3.py has that of Level 3."""
+
+    def __init__(self, *words, **how):
+        super().__init__(*words, **{"profile": "open", **how})
+
+
 def free(_id):
     return False
 
 
 @pytest.fixture
 def server():
-    return Server("example.com", ["https://example.com"])
+    return OpenServer("example.com", ["https://example.com"])
 
 
 def told(server, device, **more):
@@ -91,8 +98,8 @@ CRED_PROTECT = b"\xa1\x6bcredProtect\x02"
 @pytest.mark.parametrize("packed", [False, True])
 @pytest.mark.parametrize("size", [22, 65, 300, 1023])
 def test_open_profile(packed, size):
-    strict = Server("example.com", ["https://example.com"], open_profile=False)
-    server = Server("example.com", ["https://example.com"])
+    strict = OpenServer("example.com", ["https://example.com"], profile="strict")
+    server = OpenServer("example.com", ["https://example.com"], profile="open")
     device = Device(credential=bytes(range(1, 94)) * 11 if size == 1023 else bytes(size))
     assert len(device.id) == size
     made = {"flags": UP | UV | AT | ED, "packed": packed, "outputs": CRED_PROTECT}
@@ -196,7 +203,7 @@ def test_open_profile_ends(server):
 
 
 def test_creation_options():
-    server = Server("example.com", ["https://example.com"], "A site")
+    server = OpenServer("example.com", ["https://example.com"], "A site")
     options, session = server.register_begin(USER, "name", "Display Name", exclude=[b"one"], user_verification=True)
     assert options == {
         "rp": {"id": "example.com", "name": "A site"},
@@ -207,12 +214,12 @@ def test_creation_options():
         "authenticatorSelection": {"residentKey": "required", "requireResidentKey": True, "userVerification": "required"},
         "attestation": "none",
     }
-    assert session == RegistrationSession(session.challenge, USER, True, (ES256, EDDSA, RS256))
+    assert session == RegistrationSession(session.challenge, USER, True, (ES256, EDDSA, RS256), attestation=False)
     options, session = server.register_begin(USER, "name", resident=False, algorithms=(EDDSA,))
     assert options["authenticatorSelection"] == {
         "residentKey": "discouraged", "requireResidentKey": False, "userVerification": "preferred"}
     assert options["pubKeyCredParams"] == [{"type": "public-key", "alg": -8}] and options["user"]["displayName"] == "name"
-    assert session == RegistrationSession(session.challenge, USER, False, (EDDSA,))
+    assert session == RegistrationSession(session.challenge, USER, False, (EDDSA,), attestation=False)
 
 
 def test_request_options(server):
@@ -245,7 +252,7 @@ def test_values_are_frozen(server):
 
 def test_any_of_a_list(server):
     """Each id of a list may answer, wherever it stands, also beside several origins; another one may not."""
-    several = Server("example.com", ["https://example.com", "https://www.example.com", "https://a.example.com"])
+    several = OpenServer("example.com", ["https://example.com", "https://www.example.com", "https://a.example.com"])
     devices = [Device(credential=b"credential %d" % number) for number in range(20)]
     table = {device.id: registered(server, device) for device in devices}
     for party in (server, several):
@@ -260,17 +267,17 @@ def test_any_of_a_list(server):
 
 def test_any_of_the_origins():
     origins = ["https://example.com", "https://www.example.com"]
-    server = Server("example.com", origins)
+    server = OpenServer("example.com", origins)
     for origin in origins:
         credential = registered(server, Device(origin=origin))
         assert credential.user == USER
     assert refusal(lambda: registered(server, Device(origin="https://www.example.com.evil"))) == "G5"
 
 
-@pytest.mark.parametrize("open_profile", [False, True])
+@pytest.mark.parametrize("profile", ["strict", "open", "level3"])
 @pytest.mark.parametrize("algorithm", [ES256, EDDSA, RS256])
-def test_algorithm_not_offered(algorithm, open_profile):
-    server = Server("example.com", ["https://example.com"], open_profile=open_profile)
+def test_algorithm_not_offered(algorithm, profile):
+    server = OpenServer("example.com", ["https://example.com"], profile=profile)
     device = Device(algorithm)
     others = tuple({ES256, EDDSA, RS256} - {algorithm})
     for algorithms in (others, others[:1], others[1:], ()):
@@ -282,7 +289,7 @@ def test_algorithm_not_offered(algorithm, open_profile):
 
 def test_attestations_that_are_not_accepted():
     for accept_none, accept_self in ((False, True), (True, False), (False, False)):
-        server = Server("example.com", ["https://example.com"], accept_none=accept_none, accept_self=accept_self)
+        server = OpenServer("example.com", ["https://example.com"], accept_none=accept_none, accept_self=accept_self)
         for packed, accepted in ((False, accept_none), (True, accept_self)):
             if accepted:
                 assert registered(server, Device(), packed=packed).user == USER
@@ -308,13 +315,13 @@ def test_registration_refused(server):
     def complete(response=good, open_session=session, used=free, on=server, **more):
         return lambda: on.register_complete(open_session, response, is_registered=used, **more)
 
-    other = Server("other.com", ["https://other.com", "https://example.com"])
-    plain = Server("example.com", ["https://example.com"], accept_none=False)
+    other = OpenServer("other.com", ["https://other.com", "https://example.com"])
+    plain = OpenServer("example.com", ["https://example.com"], accept_none=False)
     assert refusal(complete(open_session=None)) == "G1"
     assert refusal(complete(changed(good, "clientDataJSON", lambda _: b"{"))) == "G2"
     assert refusal(complete(changed(good, "clientDataJSON", lambda b: b.replace(b"create", b"get")))) == "G3"
     assert refusal(complete(open_session=replace(session, challenge=bytes(32)))) == "G4"
-    assert refusal(complete(on=Server("example.com", ["https://www.example.com"]))) == "G5"
+    assert refusal(complete(on=OpenServer("example.com", ["https://www.example.com"]))) == "G5"
     binding = b',"tokenBinding":{"status":"present","id":"x"}}'
     assert refusal(complete(changed(good, "clientDataJSON", lambda b: b[:-1] + binding))) == "G6"
     assert refusal(complete(changed(good, "attestationObject", lambda b: b[:-1]))) == "G7"
@@ -352,11 +359,11 @@ def test_sign_in_refused(server):
     assert refusal(complete(changed(good, "clientDataJSON", lambda _: b"{"))) == "W5"
     assert refusal(complete(changed(good, "clientDataJSON", lambda b: b.replace(b".get", b".create")))) == "W6"
     assert refusal(complete(open_session=replace(session, challenge=bytes(32)))) == "W7"
-    assert refusal(complete(on=Server("example.com", ["https://www.example.com"]))) == "W8"
+    assert refusal(complete(on=OpenServer("example.com", ["https://www.example.com"]))) == "W8"
     binding = b',"tokenBinding":{"status":"present","id":"x"}}'
     assert refusal(complete(changed(good, "clientDataJSON", lambda b: b[:-1] + binding))) == "W9"
     assert refusal(complete(changed(good, "authenticatorData", lambda b: b + b"\0"))) == "W10"
-    assert refusal(complete(on=Server("other.com", ["https://other.com", "https://example.com"]))) == "W11"
+    assert refusal(complete(on=OpenServer("other.com", ["https://other.com", "https://example.com"]))) == "W11"
     assert refusal(complete(device.sign_in(options, flags=UV))) == "W12"
     assert refusal(complete(device.sign_in(options, flags=UP))) == "W13"
     assert refusal(complete(device.sign_in(options, message=b"another"))) == "W14"
@@ -372,7 +379,7 @@ def test_sign_in_refused(server):
 
 def test_nothing_to_verify_is_not_verified():
     """A statement of the format none that is not empty is refused, whatever a verifier says: it asks for no signature."""
-    willing = Server("example.com", ["https://example.com"], verify=lambda *asked: True)
+    willing = OpenServer("example.com", ["https://example.com"], verify=lambda *asked: True)
     options, session = willing.register_begin(USER, "name")
     made = changed(Device().register(options), "attestationObject", lambda b: b.replace(b"attStmt\xa0", b"attStmt\xa1\x01\x01"))
     assert refusal(lambda: willing.register_complete(session, made, is_registered=free)) == "G13"
@@ -385,10 +392,10 @@ def test_none_without_a_signature(server):
     options, session = server.authenticate_begin(user=USER)
     response = device.sign_in(options)
 
-    never = Server("example.com", ["https://example.com"], verify=lambda *_: False)
+    never = OpenServer("example.com", ["https://example.com"], verify=lambda *_: False)
     assert refusal(lambda: never.authenticate_complete(session, response, credential=lambda _: credential)) == "W14"
     for wrong in (0, None, "", []):
-        no = Server("example.com", ["https://example.com"], verify=lambda *_: wrong)
+        no = OpenServer("example.com", ["https://example.com"], verify=lambda *_: wrong)
         assert refusal(lambda: no.authenticate_complete(session, response, credential=lambda _: credential)) == "W14"
 
 
@@ -416,7 +423,7 @@ def test_input(server):
         with pytest.raises(BadInput):
             server.register_begin(USER, "name", algorithms=other)
     with pytest.raises(BadInput):
-        Server("example.com", "https://example.com")
+        OpenServer("example.com", "https://example.com")
 
 
 def test_small():

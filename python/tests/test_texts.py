@@ -18,6 +18,8 @@ SIGN_IN = [
     "the signature is not valid",
     "the signature counter is not greater than the one stored",
     "the credential's eligibility for backup has changed",
+    "the page is in another site's frame",
+    "the page at the top is none that the relying party names",
 ]
 
 REGISTRATION = [
@@ -37,6 +39,8 @@ REGISTRATION = [
     "the attestation is not accepted",
     "the credential is registered",
     "there is no room for another credential",
+    "the page is in another site's frame",
+    "the page at the top is none that the relying party names",
 ]
 
 LIMITS = [
@@ -51,14 +55,16 @@ LIMITS = [
     "the y of the verified key is out of its limits",
     "the room for the message is too small",
     "the room for the signature is too small",
+    "the profile is not known",
+    "a top origin is not UTF-8",
 ]
 
 
 def test_texts():
-    assert [library.refusal_text(False, number) for number in range(1, 17)] == SIGN_IN
-    assert [library.refusal_text(True, number) for number in range(1, 17)] == REGISTRATION
+    assert [library.refusal_text(False, number) for number in range(1, 19)] == SIGN_IN
+    assert [library.refusal_text(True, number) for number in range(1, 19)] == REGISTRATION
     assert [library.refusal_text(False, 101 + place) for place in range(len(LIMITS))] == LIMITS
     assert [library.refusal_text(True, 101 + place) for place in range(len(LIMITS))] == LIMITS
     assert library.refusal_text(False, 0) == "accepted" and library.refusal_text(True, 127) == "out of memory"
-    others = [*range(17, 101), *range(101 + len(LIMITS), 127), 128, 256, 2**32 - 1]
+    others = [*range(19, 101), *range(101 + len(LIMITS), 127), 128, 256, 2**32 - 1]
     assert not any(library.refusal_text(which, number) for which in (False, True) for number in others)

@@ -96,7 +96,7 @@ module _ (valid : Validity) (public : Keys) (b : Below valid public) where
   accepted m i n r row l acc =
       let x = done_by m.old m.new m.event i n r (subst (λ (e : EventEnd). Happens valid public m.old m.event e m.new) acc.done l.happens) acc.tries.brings in
       let passes = x.1.passes in
-      let a = passes.1.1.1.1.1.1.1.1.1.0 in
+      let a = passes.1.1.1.1.1.1.1.1.1.1.1.0 in
       let stores = b.sites.stores (m.old.site i) n r x.0 row x.1.after acc.tries.found in
       let same = b.readings.one_value (m.old.site i).rp.profile (m.old.site i).rp.profile stores.0 a.0 r.auth_data stores.1 a.1 in
       record {
@@ -153,6 +153,7 @@ module _ (valid : Validity) (public : Keys) (b : Below valid public) where
           kind_is = passes.1.1.1.1.1.0 x.0 x.1;
           challenge_is = passes.1.1.1.1.1.1.0 e.0 e.1 x.0 x.1;
           origin = passes.1.1.1.1.1.1.1.0 x.0 x.1;
+          framed = passes.1.1.1.1.1.1.1.1.1.0 x.0 x.1;
         };
       }
 
@@ -177,7 +178,7 @@ module _ (valid : Validity) (public : Keys) (b : Below valid public) where
   pub agrees : (m : Moment) → Lived valid public b m → IsIdeal valid m → Agrees m
   agrees m l ideal i n r row acc made =
       let a = accepted m i n r row l acc in
-      let found = ideal i n r row acc.tries (a.passes.1.1.1.1.1.1.1.1.1.1.1.1.1.0 row acc.tries.found) made in
+      let found = ideal i n r row acc.tries (a.passes.1.1.1.1.1.1.1.1.1.1.1.1.1.1.1.0 row acc.tries.found) made in
       let matched = matches (m.old.site i).rp.profile a.auth r found.entry a.spelled a.bare found.of (sound_at m found.holder found.entry l found.there) in (
         (found.entry, record { there = (found.holder, found.there); purpose = matched.purpose; key = found.under; message = found.of }),
         λ e rests.
@@ -188,15 +189,15 @@ module _ (valid : Validity) (public : Keys) (b : Below valid public) where
                 spelled = a.spelled;
                 bare = a.bare;
                 message = rests.message;
-                rp_id = a.passes.1.1.1.1.1.1.1.1.1.1.0 a.auth a.spelled;
+                rp_id = a.passes.1.1.1.1.1.1.1.1.1.1.1.1.0 a.auth a.spelled;
                 after = a.after;
                 stored = a.stored;
                 sign_count = a.count;
                 fresh = fresh m i n r a.passes;
               },
               record {
-                present = x.present (a.passes.1.1.1.1.1.1.1.1.1.1.1.0 a.auth a.spelled);
-                verified = λ y is uv. x.verified (a.passes.1.1.1.1.1.1.1.1.1.1.1.1.0 y is a.auth a.spelled uv);
+                present = x.present (a.passes.1.1.1.1.1.1.1.1.1.1.1.1.1.0 a.auth a.spelled);
+                verified = λ y is uv. x.verified (a.passes.1.1.1.1.1.1.1.1.1.1.1.1.1.1.0 y is a.auth a.spelled uv);
               },
             ),
       )
@@ -214,7 +215,7 @@ module _ (valid : Validity) (public : Keys) (b : Below valid public) where
       let now : later.now.sign_count ≡ low.sign_count = ap (λ (z : Credential). z.sign_count) (same_Some later.now low is) in
       clash a.auth.sign_count c.auth.sign_count a.after.sign_count later.now.sign_count low.sign_count x.counts
       (ap (λ (d : AuthenticatorData). d.sign_count) one.0) a.count later.sign_count now
-      (c.passes.1.1.1.1.1.1.1.1.1.1.1.1.1.1.0 low al.tries.found c.auth c.spelled)
+      (c.passes.1.1.1.1.1.1.1.1.1.1.1.1.1.1.1.1.0 low al.tries.found c.auth c.spelled)
 
   -- ---- sessions
 
@@ -292,8 +293,8 @@ module _ (valid : Validity) (public : Keys) (b : Below valid public) where
       let one = b.readings.one_front (m.old.site i).rp.profile (l.old.site j).rp.profile a.auth c.auth r.auth_data t.auth_data (sha256 r.client_data)
       (sha256 t.client_data) a.spelled c.spelled (sym rm.message
       ∙ rl.message) in
-      let parties = sym (a.passes.1.1.1.1.1.1.1.1.1.1.0 a.auth a.spelled) ∙ ap (λ (d : AuthenticatorData). d.rp_id_hash) one.0
-      ∙ c.passes.1.1.1.1.1.1.1.1.1.1.0 c.auth c.spelled in
+      let parties = sym (a.passes.1.1.1.1.1.1.1.1.1.1.1.1.0 a.auth a.spelled) ∙ ap (λ (d : AuthenticatorData). d.rp_id_hash) one.0
+      ∙ c.passes.1.1.1.1.1.1.1.1.1.1.1.1.0 c.auth c.spelled in
       let site : i ≡ j = apart parties in
       let same : r.client_data ≡ t.client_data = clear one.2 in
       let x = challenged m i n r lm a.passes in

@@ -22,7 +22,7 @@ use Rattle.agreement.proofs.Sites.{Registered, SignedIn, carried_there, left_ope
 -- it is what was asked for
 as_asked : (n : ℕ) (o : Opening) → ExpectsAsked n o (expected_of n o)
 as_asked n (OpensSignIn user allow uv words) = (refl, refl, refl, refl)
-as_asked n (OpensRegistration user algorithms uv words) = (refl, refl, refl, refl)
+as_asked n (OpensRegistration user algorithms uv words asks) = (refl, refl, refl, refl, refl, refl)
 
 still_begun : (i n : ℕ) (past : List Moment) (m : Moment) (e : Expected) → IsBegun i n past e → IsBegun i n (past ++ m ∷ []) e
 still_begun i n past m e x = record {

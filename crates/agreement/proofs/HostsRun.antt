@@ -7,7 +7,7 @@ use Rattle.authdata.specs.Statements.{IsNone, IsSelfSigned}
 use Rattle.verification.specs.SignIn as authentication
 use Rattle.verification.specs.SignIn.{JudgedSignIn, PassesSignIn, PassesSignInStep}
 use Rattle.verification.specs.Registration as registration
-use Rattle.verification.specs.Registration.{Attested, JudgedRegistration, PassesRegistration, PassesRegistrationStep, hash_in}
+use Rattle.verification.specs.Registration.{JudgedRegistration, PassesRegistration, PassesRegistrationStep, counted, hash_in}
 use Rattle.verification.specs.declared.refusal.SignInRefusal.{SignInRefusal}
 use Rattle.verification.specs.declared.refusal.SignInRefusal.TheVariants as signing
 use Rattle.verification.specs.declared.refusal.RegistrationRefusal.{RegistrationRefusal}
@@ -34,29 +34,29 @@ module _ (narrow wide : Validity) (within : IsWithin narrow wide) where
   signs_in x h = each_weaker (PassesSignInStep narrow x) (PassesSignInStep wide x) (sign_in_step x) authentication.steps h
 
   abbrev Stated : Validity → JudgedRegistration → Type 0
-  Stated valid x = Attested x.rp.profile x.response (λ o a c. IsNone o ⊎ IsSelfSigned valid o c.key (hash_in x.response))
+  Stated valid x = PassesRegistrationStep valid x step.BadStatement
 
   self_signed : (o : Attestation) (c : AttestedCredential) (hash : List ℕ) → IsSelfSigned narrow o c.key hash → IsSelfSigned wide o c.key hash
   self_signed o c hash h = (h.0, (h.1.0, h.1.1, within _ _ _ h.1.2))
 
   registration_step : (x : JudgedRegistration) → Stated narrow x → (w : RegistrationRefusal) → PassesRegistrationStep narrow x w
       → PassesRegistrationStep wide x w
-  registration_step x stated step.BadStatement h = λ o a c is. elim (h o a c is) [
+  registration_step x stated step.BadStatement h = λ e open_for o a c is. elim (h e open_for o a c is) [
     | inl none ↦ inl none
-    | inr self ↦ inr (self_signed o c (hash_in x.response) self)
+    | inr self ↦ inr (self_signed (counted x.rp.profile e.attestation o) c (hash_in x.response) self)
   ]
-  registration_step x stated step.AttestationNotAccepted h = λ o a c is. (
-    (h o a c is).0,
-    λ self. elim (stated o a c is) [
-      | inl none ↦ absurd (not_packed o.fmt none.0 self.0)
-      | inr before ↦ (h o a c is).1 before
+  registration_step x stated step.AttestationNotAccepted h = λ e open_for o a c is. (
+    (h e open_for o a c is).0,
+    λ self. elim (stated e open_for o a c is) [
+      | inl none ↦ absurd (not_packed (counted x.rp.profile e.attestation o).fmt none.0 self.0)
+      | inr before ↦ (h e open_for o a c is).1 before
     ],
   )
   registration_step x stated _ h = h
 
   pub registers : (x : JudgedRegistration) → PassesRegistration narrow x → PassesRegistration wide x
   registers x h =
-      each_weaker (PassesRegistrationStep narrow x) (PassesRegistrationStep wide x) (registration_step x h.1.1.1.1.1.1.1.1.1.1.1.1.0) registration.steps h
+      each_weaker (PassesRegistrationStep narrow x) (PassesRegistrationStep wide x) (registration_step x h.1.1.1.1.1.1.1.1.1.1.1.1.1.1.0) registration.steps h
 
   acts : (s t : SiteState) (e : SiteEvent) → SiteActs narrow s e t → SiteActs wide s e t
   acts s t (SignsIn n r) h = (signs_in (judged_sign_in s n r) h.0, h.1)

@@ -20,7 +20,7 @@ use Rattle.ctap_replies.proofs.Texts.{plain}
 use Rattle.verification.specs.declared.party.Policy.{Policy}
 use Rattle.verification.specs.Records as expects
 use Rattle.credential_table.specs.Table.{signed_in as counted_row, with_row}
-use Rattle.ceremony_sessions.specs.Sessions.{Opening, OpenSessions, OpensRegistration, OpensSignIn, begun, challenge_of, closed, expected_of}
+use Rattle.ceremony_sessions.specs.Sessions.{Opening, OpenSessions, OpensRegistration, OpensSignIn, begun, challenge_of, closed, expected_of, usual}
 use Rattle.ceremony_sessions.specs.Sessions.{for_registration, for_sign_in}
 use Rattle.saved_table.specs.Saved.{TableOf, table_item, version_of}
 use Rattle.site.specs.State.{SiteState, idle, party_of, registered, saved_of}
@@ -62,7 +62,7 @@ random_bytes : IsBytes random
 random_bytes = bytes_zeros 24
 
 abbrev pub for_registration_of : Opening
-for_registration_of = OpensRegistration user (given.registering []).algs false random
+for_registration_of = OpensRegistration user (given.registering []).algs false random usual
 
 abbrev pub for_sign_in_by : Opening
 for_sign_in_by = OpensSignIn None [] false random
@@ -117,7 +117,14 @@ module _ (b : Below bench_valid bench_public) where
   asking = after_begin at_first for_registration_of
 
   abbrev expected : expects.ExpectedRegistration
-  expected = record { user = user; algorithms = (given.registering []).algs; uv = false; challenge = challenge }
+  expected = record {
+    user = user;
+    algorithms = (given.registering []).algs;
+    uv = false;
+    challenge = challenge;
+    conditional = false;
+    attestation = true;
+  }
 
   abbrev pub registering : Registering
   registering = record {

@@ -1,7 +1,14 @@
 -- An accepted registration of a run answers its session.
-use Rattle.std.proofs.Common.{◌≡◌, [], ◌∷◌, ◌++◌, refl, ◌∙◌, ap}
+use Rattle.std.proofs.Common.{◌≡◌, ◌⊎◌, inl, inr, ℕ, Bool, true, false, List, [], ◌∷◌, ◌++◌, refl, ◌∙◌, ap}
 use Rattle.clientdata.specs.Reading.{seen_of}
+use Rattle.sha2.specs.Sha256.{sha256}
+use Rattle.authdata.specs.declared.profile.Profile.{Profile}
+use Rattle.authdata.specs.declared.profile.Profile.TheVariants.{Level3, Open, Strict}
+use Rattle.authdata.specs.Objects.{Attestation}
+use Rattle.authdata.specs.Statements.{IsNone, IsSelfSigned}
 use Rattle.cose.specs.Schemes.{Validity}
+use Rattle.cose.specs.declared.key.CoseKey.{CoseKey}
+use Rattle.verification.specs.Registration.{IsStated, counted}
 use Rattle.credential_table.specs.Table.{row_of}
 use Rattle.site.specs.State.{SiteState, registered}
 use Rattle.authenticator.specs.Steps.{Keys}
@@ -13,6 +20,14 @@ use Rattle.agreement.proofs.Storing.{row_last}
 use Rattle.agreement.proofs.Worlds.{Lived}
 use Rattle.agreement.proofs.Accepted.{the_one}
 use Rattle.agreement.proofs.Retired.{effect_at}
+
+-- what the object shows, as it counts
+as_shown : (valid : Validity) (p : Profile) (asked : Bool) (o : Attestation) (key : CoseKey) (hash : List ℕ) → IsStated valid (counted p asked o) key hash
+    → ((p ≡ Level3) × (asked ≡ false)) ⊎ IsNone o ⊎ IsSelfSigned valid o key hash
+as_shown valid Strict asked o key hash shown = inr shown
+as_shown valid Open asked o key hash shown = inr shown
+as_shown valid Level3 true o key hash shown = inr shown
+as_shown valid Level3 false o key hash shown = inl (refl, refl)
 
 module _ (valid : Validity) (public : Keys) (b : Below valid public) where
   pub fits_registration : (m : Moment) → Lived valid public b m → Registered valid m
@@ -36,16 +51,18 @@ module _ (valid : Validity) (public : Keys) (b : Below valid public) where
           kind_is = x.passes.1.1.0 seen.0 seen.1;
           challenge_is = x.passes.1.1.1.0 e after.4 seen.0 seen.1;
           origin = x.passes.1.1.1.1.0 seen.0 seen.1;
+          framed = x.passes.1.1.1.1.1.1.0 seen.0 seen.1;
         };
         object = after.1;
         auth = a;
         credential = c;
         attests = after.5;
-        rp_id = x.passes.1.1.1.1.1.1.1.0 after.1 a c after.5;
-        present = x.passes.1.1.1.1.1.1.1.1.0 after.1 a c after.5;
-        verified = x.passes.1.1.1.1.1.1.1.1.1.0 e after.4 after.1 a c after.5;
-        offered = x.passes.1.1.1.1.1.1.1.1.1.1.0 e after.4 after.1 a c after.5;
-        statement = x.passes.1.1.1.1.1.1.1.1.1.1.1.1.0 after.1 a c after.5;
+        rp_id = x.passes.1.1.1.1.1.1.1.1.1.0 after.1 a c after.5;
+        present = x.passes.1.1.1.1.1.1.1.1.1.1.0 e after.4 after.1 a c after.5;
+        verified = x.passes.1.1.1.1.1.1.1.1.1.1.1.0 e after.4 after.1 a c after.5;
+        offered = x.passes.1.1.1.1.1.1.1.1.1.1.1.1.0 e after.4 after.1 a c after.5;
+        statement = as_shown valid old.rp.profile e.attestation after.1 c.key (sha256 r.client_data)
+            (x.passes.1.1.1.1.1.1.1.1.1.1.1.1.1.1.0 e after.4 after.1 a c after.5);
         new = absent;
         row = registered e a c;
         stored = ap (row_of c.id) rows ∙ row_last old.rows (registered e a c) absent;

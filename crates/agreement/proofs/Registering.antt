@@ -13,12 +13,15 @@ use Rattle.authdata.specs.Flags.{is_set, BE, UP, UV}
 use Rattle.authdata.specs.Layout.{AttestedCredential, AuthenticatorData}
 use Rattle.authdata.specs.Objects.{Attestation}
 use Rattle.authdata.specs.Statements.{IsKnownFormat, IsNone, IsSelfSigned}
+use Rattle.authdata.specs.declared.profile.Profile.{Profile}
+use Rattle.authdata.specs.declared.profile.Profile.TheVariants.{Level3, Open, Strict}
 use Rattle.authdata.specs.declared.statement.AttestationType.{AttestationType}
 use Rattle.authdata.specs.declared.statement.AttestationType.TheVariants as types
 use Rattle.ctap_replies.specs.Replies.{Creation, ReplyOf, creation_reply}
 use Rattle.ctap_requests.specs.Requests.{CreationRequest, make_credential}
 use Rattle.verification.specs.Records as expects
 use Rattle.verification.specs.Registration as steps
+use Rattle.verification.specs.Registration.{counted}
 use Rattle.verification.specs.RegistrationAnswers.{AcceptsAttestation}
 use Rattle.verification.specs.declared.party.Policy.{Policy}
 use Rattle.verification.proofs.Expected.{expected_says}
@@ -38,7 +41,7 @@ use Rattle.ceremony.specs.Verdict.{Delivers}
 use Rattle.ceremony.proofs.Objects.{has_object}
 use Rattle.ceremony.proofs.OneVerdict.{registration_one}
 use Rattle.agreement.specs.Ends.{IsIdleOn}
-use Rattle.agreement.specs.Honest.{IsHonestRegistration, IsShared, Registering, Registers}
+use Rattle.agreement.specs.Honest.{IsHonestRegistration, counts_as, IsShared, Registering, Registers}
 use Rattle.agreement.specs.Below.{Below, KeepsAlg}
 use Rattle.agreement.specs.Lived.{attested_by}
 use Rattle.agreement.proofs.Exchanges.{IsStep, Replied, Stepped, replied}
@@ -79,6 +82,19 @@ stated valid policy types.None key hash consent r signed accepts x = record {
 stated valid policy types.SelfSigned key hash consent r signed accepts x =
     let self : IsSelfSigned valid (object_of r) key hash = (x.0, (x.1.0, x.1.2, x.1.1.2)) in
     record { known = inr x.0; statement = inr self; accepted = (λ n. absurd (not_packed r.fmt n.0 x.0), λ s. accepts) }
+
+-- and as it counts for the session
+stated_as : (valid : Validity) (policy : Policy) (p : Profile) (asked : Bool) (attest : AttestationType) (key : CoseKey) (hash : List ℕ) (consent : Consent)
+    (r : Creation) (signed : List Entry) → AcceptsAttestation policy (counts_as p asked attest) → MakesStatement valid key hash consent attest r signed
+    → Stated valid policy (counted p asked (object_of r)) key hash
+stated_as valid policy Strict asked attest key hash consent r signed accepts x = stated valid policy attest key hash consent r signed accepts x
+stated_as valid policy Open asked attest key hash consent r signed accepts x = stated valid policy attest key hash consent r signed accepts x
+stated_as valid policy Level3 true attest key hash consent r signed accepts x = stated valid policy attest key hash consent r signed accepts x
+stated_as valid policy Level3 false attest key hash consent r signed accepts x = record {
+  known = inl refl;
+  statement = inl (refl, refl);
+  accepted = (λ n. accepts, λ s. absurd (not_packed (codes "none") refl s.0));
+}
 
 signed_for : (valid : Validity) (key : CoseKey) (hash : List ℕ) (consent : Consent) (attest : AttestationType) (r : Creation) (signed : List Entry)
     → MakesStatement valid key hash consent attest r signed
@@ -164,17 +180,17 @@ module _ (valid : Validity) (public : Keys) (b : Below valid public) (keeps : Ke
       let same : signed_alg c.0 ≡ alg_of key = (let is : c.0 ≡ creates.alg = cc in ap signed_alg is ∙ sym (keeps creates.alg x.words.secret)) in
       subst (λ (offered : List Alg). Contains offered (alg_of key)) h.algorithms (subst (λ (alg : Alg). Contains x.options.algs alg) same c.2)
 
-  says_how : Stated valid x.site.policy (object_of r) key (hash_of t)
+  says_how : Stated valid x.site.policy (counted x.site.rp.profile x.expected.attestation (object_of r)) key (hash_of t)
   says_how =
-      subst (λ (b : List ℕ). Stated valid x.site.policy (object_of r) key (hash_of b)) (sym text_is)
-      (stated valid x.site.policy a.attest key q.client_data_hash h.decided.consent r came.steps.0 h.accepted creates.attested)
+      subst (λ (b : List ℕ). Stated valid x.site.policy (counted x.site.rp.profile x.expected.attestation (object_of r)) key (hash_of b)) (sym text_is)
+      (stated_as valid x.site.policy x.site.rp.profile x.expected.attestation a.attest key q.client_data_hash h.decided.consent r came.steps.0 h.accepted creates.attested)
 
   meets : MeetsSteps b.readings valid judged x.expected (object_of r) auth attested
   meets = record {
     is_open = h.is_open;
     says =
         expected_says Create x.expected.challenge t x.site.rp
-        (x.origin, false, h.origin, h.origin_text, text_is ∙ ap (λ c. client_data_text Create c x.origin false) h.challenge);
+        (x.origin, false, λ _. refl, h.origin, h.origin_text, text_is ∙ ap (λ c. client_data_text Create c x.origin false) h.challenge);
     attests = attests;
     party = ap hash_of h.rp_id;
     present = ap (λ f. is_set f UP) flags_are ∙ (creation_bits x.options.uv).present;

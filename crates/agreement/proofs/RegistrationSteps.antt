@@ -1,5 +1,5 @@
 -- A response passes each step of a registration.
-use Rattle.std.proofs.Common.{◌≡◌, ◌⊎◌, true, false, Some, refl, sym, ◌∙◌, ap, subst, get_or, Contains}
+use Rattle.std.proofs.Common.{◌≡◌, inl, true, false, Some, refl, sym, ◌∙◌, ap, subst, get_or, Contains}
 use Rattle.refusal_order.specs.Lines.{Each}
 use Rattle.clientdata.specs.declared.record.CeremonyType.TheVariants.{Create}
 use Rattle.cose.specs.Keys.{alg_of}
@@ -7,10 +7,10 @@ use Rattle.authdata.specs.declared.profile.Profile.{Profile}
 use Rattle.authdata.specs.Layout.{AttestedCredential, AuthenticatorData, AuthOf}
 use Rattle.authdata.specs.Objects.{Attestation}
 use Rattle.authdata.specs.Responses as responses
-use Rattle.authdata.specs.Statements.{IsKnownFormat, IsNone, IsSelfSigned}
+use Rattle.authdata.specs.Statements.{IsKnownFormat}
 use Rattle.verification.specs.ClientData.{PassesClientDataStep, client_data_order}
 use Rattle.verification.specs.Records.{ExpectedRegistration}
-use Rattle.verification.specs.Registration.{Attested, Attests, JudgedRegistration, PassesRegistrationStep, PassesRegistration, hash_in, steps}
+use Rattle.verification.specs.Registration.{Attested, Attests, IsAccepted, IsStated, JudgedRegistration, PassesRegistrationStep, PassesRegistration, counted, hash_in, steps}
 use Rattle.verification.specs.declared.refusal.RegistrationRefusal.{RegistrationRefusal}
 use Rattle.verification.specs.declared.refusal.RegistrationRefusal.TheVariants as step
 use Rattle.std.proofs.lemmas.List.Elements.{recursion_from_All}
@@ -52,9 +52,9 @@ module _ (readings : Readings) (valid : Validity) (x : JudgedRegistration) (e : 
     pub present : IsPresent a
     pub verified : IsVerifiedAs e.uv a
     pub offered : Contains e.algorithms (alg_of c.key)
-    pub known : IsKnownFormat o.fmt
-    pub statement : IsNone o ⊎ IsSelfSigned valid o c.key (hash_in x.response)
-    pub accepted : (IsNone o → x.policy.accept_none ≡ true) × (IsSelfSigned valid o c.key (hash_in x.response) → x.policy.accept_self ≡ true)
+    pub known : IsKnownFormat (counted x.rp.profile e.attestation o).fmt
+    pub statement : IsStated valid (counted x.rp.profile e.attestation o) c.key (hash_in x.response)
+    pub accepted : IsAccepted valid x.policy (counted x.rp.profile e.attestation o) c.key (hash_in x.response)
     pub not_registered : x.is_registered c.id ≡ false
     pub not_full : x.is_full ≡ false
 
@@ -64,15 +64,17 @@ module _ (readings : Readings) (valid : Validity) (x : JudgedRegistration) (e : 
   passed h step.WrongType = h.says.1.0
   passed h step.WrongChallenge = of_some _ x.session e h.is_open h.says.1.1.0
   passed h step.WrongOrigin = h.says.1.1.1.0
-  passed h step.TokenBinding = h.says.1.1.1.1.0
+  passed h step.CrossOrigin = h.says.1.1.1.1.0
+  passed h step.WrongTopOrigin = h.says.1.1.1.1.1.0
+  passed h step.TokenBinding = h.says.1.1.1.1.1.1.0
   passed h step.BadAttestationObject = (o, a, c, h.attests)
   passed h step.WrongRelyingParty = all _ h.attests h.party
-  passed h step.UserNotPresent = all _ h.attests h.present
+  passed h step.UserNotPresent = of_some _ x.session e h.is_open (all _ h.attests (inl h.present))
   passed h step.UserNotVerified = of_some _ x.session e h.is_open (all _ h.attests h.verified)
   passed h step.AlgorithmNotOffered = of_some _ x.session e h.is_open (all _ h.attests h.offered)
-  passed h step.UnknownFormat = all _ h.attests h.known
-  passed h step.BadStatement = all _ h.attests h.statement
-  passed h step.AttestationNotAccepted = all _ h.attests h.accepted
+  passed h step.UnknownFormat = of_some _ x.session e h.is_open (all _ h.attests h.known)
+  passed h step.BadStatement = of_some _ x.session e h.is_open (all _ h.attests h.statement)
+  passed h step.AttestationNotAccepted = of_some _ x.session e h.is_open (all _ h.attests h.accepted)
   passed h step.CredentialRegistered = all _ h.attests h.not_registered
   passed h step.TableFull = h.not_full
 

@@ -90,7 +90,9 @@ module _ (readings : Readings) (valid : Validity) (x : JudgedSignIn) (e : expect
   passed h step.WrongType = h.says.1.0
   passed h step.WrongChallenge = of_some _ x.session e h.is_open h.says.1.1.0
   passed h step.WrongOrigin = h.says.1.1.1.0
-  passed h step.TokenBinding = h.says.1.1.1.1.0
+  passed h step.CrossOrigin = h.says.1.1.1.1.0
+  passed h step.WrongTopOrigin = h.says.1.1.1.1.1.0
+  passed h step.TokenBinding = h.says.1.1.1.1.1.1.0
   passed h step.BadAuthenticatorData = (a, h.spelled, h.bare)
   passed h step.WrongRelyingParty = all _ h.spelled h.party
   passed h step.UserNotPresent = all _ h.spelled h.present
@@ -243,7 +245,7 @@ module _ (valid : Validity) (public : Keys) (b : Below valid public) (x : Signin
     user = subst (λ (o : Option (List ℕ)). AreUser x.expected.user o c.user) (sym user_is) (user_named c a x.expected asked_for);
     says =
         expected_says Get x.expected.challenge t x.site.rp
-        (x.origin, false, h.origin, h.origin_text, text_is ∙ ap (λ k. client_data_text Get k x.origin false) h.challenge);
+        (x.origin, false, λ _. refl, h.origin, h.origin_text, text_is ∙ ap (λ k. client_data_text Get k x.origin false) h.challenge);
     spelled = spelled;
     bare = ap (λ f. is_set f AT) flags_are ∙ (assertion_bits x.options.uv).bare;
     party = ap hash_of shared.rp_id;

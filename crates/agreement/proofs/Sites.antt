@@ -48,7 +48,7 @@ AreBytes s = (n : ℕ) (e : Expected) → finite.get s.sessions.expected n ≡ S
 
 new_bytes : (n : ℕ) (o : Opening) → n < 2 ^ 64 → IsBytes (words_of o) → IsBytes (challenge_in (expected_of n o))
 new_bytes n (OpensSignIn user allow uv words) lt is = bytes-append (to_be_bytes w64 n) words (bytes_of_64 n lt) is
-new_bytes n (OpensRegistration user algorithms uv words) lt is = bytes-append (to_be_bytes w64 n) words (bytes_of_64 n lt) is
+new_bytes n (OpensRegistration user algorithms uv words asks) lt is = bytes-append (to_be_bytes w64 n) words (bytes_of_64 n lt) is
 
 bytes_begun : (s : SiteState) (o : Opening) → s.sessions.next < 2 ^ 64 - 1 → IsBytes (words_of o) → AreBytes s → AreBytes (after_begin s o)
 bytes_begun s o lt is old n e h = elim (begun_or s o n e h) [

@@ -5,7 +5,10 @@ use Rattle.sha2.specs.Sha256.{sha256}
 use Rattle.hidframe.specs.declared.Packet.{Packet}
 use Rattle.clientdata.specs.Reading.{seen_of}
 use Rattle.clientdata.specs.Serialised.{challenge_text_of}
+use Rattle.clientdata.specs.declared.seen.CrossOrigin.TheVariants as cross
+use Rattle.clientdata.specs.declared.seen.TopOrigin.TheVariants as top
 use Rattle.clientdata.specs.declared.seen.Seen.{Seen}
+use Rattle.authdata.specs.declared.profile.Profile.TheVariants.{Level3}
 use Rattle.cose.specs.Keys.{alg_of}
 use Rattle.cose.specs.Schemes.{Validity}
 use Rattle.cose.specs.declared.key.CoseKey.{CoseKey}
@@ -114,13 +117,23 @@ pub record RestsOn (m : Moment) (r : AuthenticatorAssertionResponse) (row : Cred
 
 -- ---- what holds
 
--- client data of this type and challenge, from a page that is one of the site's
+-- no other site's page frames the one that asked (Level 3, 5.8.1): crossOrigin is absent or false, and there is no topOrigin
+abbrev pub IsAlone : Seen → Type 0
+IsAlone seen = ((seen.cross_origin ≡ cross.Absent) ⊎ (seen.cross_origin ≡ cross.False)) × (seen.top_origin ≡ top.Absent)
+
+-- the page at the top is one that the site names
+abbrev pub IsFramedByNamed : SiteState → Seen → Type 0
+IsFramedByNamed s seen = (page : List ℕ) × (seen.top_origin ≡ top.Named page) × Contains s.rp.top_origins page
+
+-- client data of this type and challenge, from a page that is one of the site's; of a site of Level 3, one that no other
+-- site's page frames, but one that it names (Level 3, 7.1 and 7.2)
 pub record SaysFor (s : SiteState) (kind challenge client_data : List ℕ) : Type 0 where
   pub seen : Seen
   pub reads : seen_of client_data ≡ Some seen
   pub kind_is : seen.kind ≡ kind
   pub challenge_is : seen.challenge ≡ challenge_text_of challenge
   pub origin : Contains s.rp.origins seen.origin
+  pub framed : s.rp.profile ≡ Level3 → IsAlone seen ⊎ IsFramedByNamed s seen
 
 -- the client data were made for this sign-in: their type is get, their challenge is the one that the answered session
 -- gave out, and the page is one of the site's (WebAuthn Level 2, section 7.2, steps 11 to 13)
@@ -148,7 +161,8 @@ Fits m = (i n : ℕ) (r : AuthenticatorAssertionResponse) (row : Credential) →
 -- challenge, from a page that is one of the site's; the authenticator data are for the site's rp id, with the user present, and
 -- verified if the session requires it; the key is of an algorithm that was offered, and its statement shows no attestation, or
 -- is signed with it over these client data; the id was not registered, and is from then on, with the session's user, the key
--- and the counter that came
+-- and the counter that came. In Level 3 the user need not be present where the session is conditional, and the statement is
+-- not looked at where none was asked for
 pub record FitsRegistration (valid : Validity) (m : Moment) (i n : ℕ) (r : responses.AuthenticatorAttestationResponse) : Type 0 where
   pub expected : ExpectedRegistration
   pub session : registration_at n (m.old.site i).sessions ≡ Some expected
@@ -158,10 +172,11 @@ pub record FitsRegistration (valid : Validity) (m : Moment) (i n : ℕ) (r : res
   pub credential : AttestedCredential
   pub attests : Attests (m.old.site i).rp.profile r object auth credential
   pub rp_id : auth.rp_id_hash ≡ sha256 (m.old.site i).rp.rp_id
-  pub present : is_set auth.flags UP ≡ true
+  pub present : (is_set auth.flags UP ≡ true) ⊎ (((m.old.site i).rp.profile ≡ Level3) × (expected.conditional ≡ true))
   pub verified : expected.uv ≡ true → is_set auth.flags UV ≡ true
   pub offered : Contains expected.algorithms (alg_of credential.key)
-  pub statement : IsNone object ⊎ IsSelfSigned valid object credential.key (sha256 r.client_data)
+  pub statement : (((m.old.site i).rp.profile ≡ Level3) × (expected.attestation ≡ false)) ⊎ IsNone object
+      ⊎ IsSelfSigned valid object credential.key (sha256 r.client_data)
   pub new : row_of credential.id (m.old.site i).rows ≡ None
   pub row : Credential
   pub stored : row_of credential.id (m.new.site i).rows ≡ Some row

@@ -14,12 +14,13 @@ abbrev pub IsChallenge : ℕ → List ℕ → List ℕ → Type 0
 IsChallenge n words challenge = challenge ≡ to_be_bytes w64 n ++ words
 
 -- the session of this number expects what was asked of it: the user, the credentials that may answer or the algorithms that
--- are offered, whether the user is to be verified, and the challenge with those words
+-- are offered, whether the user is to be verified, the challenge with those words, and how a registration is begun
 abbrev pub ExpectsAsked : ℕ → Opening → Expected → Type 0
 ExpectsAsked n (OpensSignIn user allow uv words) (ForSignIn e) =
     (e.user ≡ user) × (e.allow ≡ allow) × (e.uv ≡ uv) × IsChallenge n words e.challenge
-ExpectsAsked n (OpensRegistration user algorithms uv words) (ForRegistration e) =
+ExpectsAsked n (OpensRegistration user algorithms uv words asks) (ForRegistration e) =
     (e.user ≡ user) × (e.algorithms ≡ algorithms) × (e.uv ≡ uv) × IsChallenge n words e.challenge
+    × (e.conditional ≡ asks.conditional) × (e.attestation ≡ asks.attestation)
 ExpectsAsked n o e = ⊥
 
 -- at one of these moments site i began the session of this number, which was the next, and asked it for what it expects

@@ -1,12 +1,16 @@
 -- An honest run: a site, a client, a device and an authenticator that do what they are asked, and a user who consents
 -- (WebAuthn Level 2, sections 7.1 and 7.2).
-use Rattle.std.specs.Prelude.{◌≡◌, ◌<◌, ◌⊎◌, ◌+◌, ℕ, List, [], ◌∷◌, ◌++◌, length, map, replicate, Bool, true, false, Some, None, Contains, IsUtf8}
+use Rattle.std.specs.Prelude.{◌≡◌, ◌<◌, ◌⊎◌, ◌+◌, ℕ, List, [], ◌∷◌, ◌++◌, length, map, replicate, Bool, true, false, Some, None, Contains, IsUtf8, if◌then◌else◌}
 use Rattle.std.specs.Option.{ForSome}
 use Rattle.hidframe.specs.declared.Packet.{Packet}
 use Rattle.cose.specs.declared.key.Alg.{Alg}
 use Rattle.cose.specs.declared.key.SigningAlg.{SigningAlg}
 use Rattle.cose.specs.Keys.{signed_alg}
 use Rattle.cose.specs.Schemes.{Validity}
+use Rattle.authdata.specs.declared.profile.Profile.{Profile}
+use Rattle.authdata.specs.declared.profile.Profile.TheVariants.{Level3}
+use Rattle.authdata.specs.declared.statement.AttestationType.{AttestationType}
+use Rattle.authdata.specs.declared.statement.AttestationType.TheVariants as types
 use Rattle.ctap_replies.specs.Replies as replies
 use Rattle.verification.specs.Records as expects
 use Rattle.verification.specs.RegistrationAnswers.{AcceptsAttestation}
@@ -79,6 +83,11 @@ Registering = Ceremony expects.ExpectedRegistration options.RegistrationOptions
 abbrev pub OffersSigning : List Alg → Type 0
 OffersSigning offered = (alg : SigningAlg) × Contains offered (signed_alg alg)
 
+-- the attestation as it counts: in Level 3, where the session asked for none, as none
+abbrev pub counts_as : Profile → Bool → AttestationType → AttestationType
+counts_as Level3 asked attest = if asked then attest else types.None
+counts_as profile asked attest = attest
+
 pub record IsHonestRegistration (valid : Validity) (public : Keys) (x : Registering) : Type 0 where
   -- the session is open, and the options are its own
   pub is_open : registration_at x.session x.site.sessions ≡ Some x.expected
@@ -91,8 +100,8 @@ pub record IsHonestRegistration (valid : Validity) (public : Keys) (x : Register
   -- the page is one of the site's
   pub origin : Contains x.site.rp.origins x.origin
   pub origin_text : IsUtf8 x.origin
-  -- the site accepts what the authenticator attests
-  pub accepted : AcceptsAttestation x.site.policy x.before.authenticator.attest
+  -- the site accepts what the authenticator attests, as it counts
+  pub accepted : AcceptsAttestation x.site.policy (counts_as x.site.rp.profile x.expected.attestation x.before.authenticator.attest)
   -- the credential is new at both ends, and there is room for it; none that is excluded is stored
   pub not_stored : credential_of x.words.id x.before.authenticator.credentials ≡ None
   pub not_registered : row_of x.words.id x.site.rows ≡ None

@@ -66,7 +66,7 @@ pub data Event : Type 0 where
 -- the words of a session's challenge
 abbrev pub words_of : Opening → List ℕ
 words_of (OpensSignIn user allow uv words) = words
-words_of (OpensRegistration user algorithms uv words) = words
+words_of (OpensRegistration user algorithms uv words asks) = words
 
 -- what is loaded of what was saved, for the same relying party
 pub record Loads (s t : site.SiteState) : Type 0 where

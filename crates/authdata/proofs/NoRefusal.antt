@@ -1,7 +1,8 @@
 -- No refusal applies to the bytes of authenticator data.
 use Rattle.std.proofs.Common.{◌≡◌, ◌+◌, ◌^◌, ◌<◌, ◌≤◌, ℕ, suc, true, false, List, [], ◌∷◌, ◌++◌, Option, Some, None, length, is_some, sym, ◌∙◌, ap, refl}
 use Rattle.std.proofs.Common.{subst, arith, take, drop, get_or, append_assoc, append-nil, inl, inr}
-use Rattle.std.specs.Prelude.{IfSome}
+use Rattle.std.specs.Prelude.{◌↔◌, IfSome}
+use Rattle.authdata.specs.Profiles.{max_id}
 use Rattle.std.specs.Int.{w16, w32, to_be_bytes, from_be_bytes}
 use Rattle.std.proofs.lemmas.List.{length-append, drop_at}
 use Rattle.std.proofs.lemmas.Nat.{from_be_bytes-to_be_bytes_2}
@@ -16,7 +17,7 @@ use Rattle.authdata.specs.Flags.{is_set, HasBackup, AT, ED}
 use Rattle.authdata.specs.Layout.{AttestedCredential, AuthenticatorData, AuthOf, IsAttestedCredential, IsAuthenticatorData}
 use Rattle.authdata.specs.Layout.{attested_bytes, extension_bytes, key_bytes}
 use Rattle.authdata.specs.declared.profile.Profile.{Profile}
-use Rattle.authdata.specs.declared.profile.Profile.TheVariants.{Strict, Open}
+use Rattle.authdata.specs.declared.profile.Profile.TheVariants.{Strict, Open, Level3}
 use Rattle.authdata.specs.Refusals.{Applies, IsAttested, flags_in, id_len_in, order}
 use Rattle.authdata.proofs.Unique.{is_credential, length-data, length-full, most_id, one_front}
 
@@ -147,12 +148,26 @@ of_profile p q a is none attested = record {
   extensions = is.extensions;
 }
 
-pub opened : (p : Profile) (a : AuthenticatorData) (bs : List ℕ) → AuthOf Strict a bs → AuthOf p a bs
-opened Strict a bs h = h
-opened Open a bs h = (of_profile Strict Open a h.0 (λ bad. absurd cc) (of a.attested h.0.attested), h.1) where
+-- two profiles of the same limits take the same
+alike : (p q : Profile) → (q ≡ Strict → ⊥) → max_id p ≡ max_id q → (a : AuthenticatorData) (bs : List ℕ) → AuthOf p a bs → AuthOf q a bs
+alike p q wide same a bs h = (of_profile p q a h.0 (λ bad. absurd (wide bad)) (of a.attested h.0.attested), h.1) where
+  of : (o : Option AttestedCredential) → IfSome o (IsAttestedCredential p) → IfSome o (IsAttestedCredential q)
+  of None is = is
+  of (Some c) is = record { aaguid = is.aaguid; id_low = is.id_low; id_high = omega (arith, is.id_high, same); key = is.key }
+
+pub level3 : (a : AuthenticatorData) (bs : List ℕ) → AuthOf Level3 a bs ↔ AuthOf Open a bs
+level3 a bs = (alike Level3 Open (λ bad. absurd cc) refl a bs, alike Open Level3 (λ bad. absurd cc) refl a bs)
+
+to_open : (a : AuthenticatorData) (bs : List ℕ) → AuthOf Strict a bs → AuthOf Open a bs
+to_open a bs h = (of_profile Strict Open a h.0 (λ bad. absurd cc) (of a.attested h.0.attested), h.1) where
   of : (o : Option AttestedCredential) → IfSome o (IsAttestedCredential Strict) → IfSome o (IsAttestedCredential Open)
   of None is = is
   of (Some c) is = record { aaguid = is.aaguid; id_low = is.id_low; id_high = omega (arith, is.id_high); key = is.key }
+
+pub opened : (p : Profile) (a : AuthenticatorData) (bs : List ℕ) → AuthOf Strict a bs → AuthOf p a bs
+opened Strict a bs h = h
+opened Open a bs h = to_open a bs h
+opened Level3 a bs h = (level3 a bs).1 (to_open a bs h)
 
 pub closed : (a : AuthenticatorData) (bs : List ℕ) → AuthOf Open a bs → a.extensions ≡ None → IfSome a.attested (λ c. length c.id ≤ 64) → AuthOf Strict a bs
 closed a bs h none low = (of_profile Open Strict a h.0 (λ _. none) (of a.attested h.0.attested low), h.1) where

@@ -12,7 +12,7 @@ use Rattle.cose.specs.Keys.{item_of, IsKey, encoded_length}
 use Rattle.cose.specs.declared.key.CoseKey.TheVariants as keys
 use Rattle.cose.proofs.KeyLemmas.{key_canon, length-key, one_key}
 use Rattle.authdata.specs.declared.profile.Profile.{Profile}
-use Rattle.authdata.specs.declared.profile.Profile.TheVariants.{Strict, Open}
+use Rattle.authdata.specs.declared.profile.Profile.TheVariants.{Strict, Open, Level3}
 use Rattle.authdata.specs.Profiles.{max_id}
 use Rattle.authdata.specs.Flags.{is_set, AT, ED}
 use Rattle.authdata.specs.Layout.{AttestedCredential, AuthenticatorData, AuthOf, IsAttestedCredential, IsAuthenticatorData, attested_bytes}
@@ -21,6 +21,7 @@ use Rattle.authdata.specs.Layout.{IsExtensionMap, credential_bytes, data_bytes, 
 pub most_id : (p : Profile) → max_id p ≤ 1023
 most_id Strict = omega arith
 most_id Open = omega arith
+most_id Level3 = omega arith
 
 -- lists of one length that begin two equal lists are equal, and so is what follows
 pub same_parts : (a b c d : List ℕ) → a ++ b ≡ c ++ d → length a ≡ length c → (a ≡ c) × (b ≡ d)

@@ -1,6 +1,6 @@
 //! Laws of authenticator data, attestation objects and statements.
 
-ghost use Rattle.std.specs.Prelude.{◌≡◌, ◌≤◌, ◌+◌, ◌++◌, ℕ, List, IfSome, Result, Some, None, drop, length};
+ghost use Rattle.std.specs.Prelude.{◌≡◌, ◌↔◌, ◌≤◌, ◌+◌, ◌++◌, ℕ, List, IfSome, Result, Some, None, drop, length};
 ghost use Rattle.refusal_order.specs.Lines.{First};
 ghost use Rattle.ccbor.specs.Canon.{Canon};
 ghost use Rattle.cose.specs.Keys.{IsKey, encoded_length, item_of};
@@ -12,7 +12,7 @@ ghost use Rattle.authdata.specs.Refusals.{Applies, order};
 ghost use Rattle.authdata.specs.Statements.{Statement};
 ghost use Rattle.authdata.specs.declared.error.Error.{Error};
 ghost use Rattle.authdata.specs.declared.profile.Profile.{Profile};
-ghost use Rattle.authdata.specs.declared.profile.Profile.TheVariants.{Open, Strict};
+ghost use Rattle.authdata.specs.declared.profile.Profile.TheVariants.{Level3, Open, Strict};
 ghost use Rattle.authdata.specs.Profiles.{max_id};
 ghost use Rattle.authdata.specs.declared.statement.AttestationType.{AttestationType};
 
@@ -42,12 +42,13 @@ pub fn sizes()
 {}
 
 /// Each profile takes all that the strict one takes. What the open one takes besides has extensions, or an id of more
-/// than 64 bytes.
+/// than 64 bytes. That of Level 3 takes just what the open one takes.
 pub fn profiles()
     ensures taken { (profile : Profile) (a : AuthenticatorData) (bs : List ℕ) → AuthOf Strict a bs → AuthOf profile a bs }
     ensures strict { (a : AuthenticatorData) (bs : List ℕ) → AuthOf Open a bs → a.extensions ≡ None
         → IfSome a.attested (λ c. length c.id ≤ 64) → AuthOf Strict a bs }
-    ensures limits { (max_id Strict ≡ 64) × (max_id Open ≡ 1023) }
+    ensures level3 { (a : AuthenticatorData) (bs : List ℕ) → AuthOf Level3 a bs ↔ AuthOf Open a bs }
+    ensures limits { (max_id Strict ≡ 64) × (max_id Open ≡ 1023) × (max_id Level3 ≡ 1023) }
 {}
 
 /// Behind the credential id stands the key's canonical encoding, and where there are no extensions nothing more.

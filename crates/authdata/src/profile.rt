@@ -7,8 +7,8 @@ ghost use Rattle.authdata.specs.declared.profile.Profile.TheVariants.{Strict};
 
 use crate::flags;
 
-/// Which responses a relying party takes. The steps are the same in both; three of them ask less in the open one: those on
-/// token binding, on authenticator data and on attestation objects.
+/// Which responses a relying party takes. The steps are the same in each. In the open one three of them ask less than in the
+/// strict one: those on token binding, on authenticator data and on attestation objects.
 #[derive(Clone, Copy, Debug, PartialEq, Eq, Drop)]
 pub enum Profile {
     /// No extension data, credential ids of 1 to 64 bytes, no token binding but `supported`.
@@ -17,6 +17,9 @@ pub enum Profile {
     /// 7.1, step 17, and 7.2, step 18), credential ids of 1 to 1,023 bytes (Level 3, section 4, "Credential ID"), and the
     /// status `not-supported` of token binding, which older browsers write.
     Open,
+    /// WebAuthn Level 3, sections 7.1 and 7.2: authenticator data as in the open one, token binding is not looked at, and the
+    /// steps on frames, presence and attestation are Level 3's.
+    Level3,
 }
 
 impl Profile {
@@ -26,7 +29,7 @@ impl Profile {
     {
         match self {
             Profile::Strict => 64,
-            Profile::Open => 1023,
+            Profile::Open | Profile::Level3 => 1023,
         }
     }
 
@@ -36,7 +39,7 @@ impl Profile {
     {
         match self {
             Profile::Strict => flags::is_set(flags, flags::ED),
-            Profile::Open => false,
+            Profile::Open | Profile::Level3 => false,
         }
     }
 }

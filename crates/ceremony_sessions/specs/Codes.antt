@@ -23,9 +23,17 @@ sign_in_code =
 
 abbrev pub registration_code : Coded ExpectedRegistration
 registration_code =
-    code_by (Bytes × (List Alg × (Bool × Bytes))) (coded× coded_bytes (coded× (coded_list alg.the_row.coded) (coded× coded_bool coded_bytes)))
-    (λ e. (e.user, (e.algorithms, (e.uv, e.challenge))))
-    (λ p. record { user = p.0; algorithms = p.1.0; uv = p.1.1.0; challenge = p.1.1.1 }) (λ _. refl)
+    code_by (Bytes × (List Alg × (Bool × (Bytes × (Bool × Bool)))))
+    (coded× coded_bytes (coded× (coded_list alg.the_row.coded) (coded× coded_bool (coded× coded_bytes (coded× coded_bool coded_bool)))))
+    (λ e. (e.user, (e.algorithms, (e.uv, (e.challenge, (e.conditional, e.attestation))))))
+    (λ p. record {
+      user = p.0;
+      algorithms = p.1.0;
+      uv = p.1.1.0;
+      challenge = p.1.1.1.0;
+      conditional = p.1.1.1.1.0;
+      attestation = p.1.1.1.1.1;
+    }) (λ _. refl)
 
 abbrev split : Expected → ExpectedSignIn ⊎ ExpectedRegistration
 split (ForSignIn e) = inl e

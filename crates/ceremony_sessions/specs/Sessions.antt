@@ -1,6 +1,6 @@
 -- The ceremonies that a relying party has begun (WebAuthn Level 2, sections 7.1 and 7.2: the options that were
 -- passed to the client, and their challenge, section 13.4.3).
-use Rattle.std.specs.Prelude.{◌≡◌, ◌≤◌, ◌<◌, ◌+◌, ◌-◌, ◌^◌, ℕ, List, [], ◌∷◌, ◌++◌, length, Bool, Option, Some, None}
+use Rattle.std.specs.Prelude.{◌≡◌, ◌≤◌, ◌<◌, ◌+◌, ◌-◌, ◌^◌, ℕ, List, [], ◌∷◌, ◌++◌, length, Bool, true, false, Option, Some, None}
 use Rattle.std.specs.Option.{ForSome}
 use Rattle.std.specs.List.{AllByRecursion}
 use Rattle.std.specs.Int.{w64, to_be_bytes}
@@ -13,6 +13,7 @@ use Rattle.authdata.specs.Profiles.{max_id}
 use Rattle.verification.specs.Records.{ExpectedSignIn, ExpectedRegistration}
 use Rattle.credential_table.specs.Table.{IsWithin}
 use Rattle.ceremony_sessions.specs.declared.error.Error.{Error}
+use Rattle.ceremony_sessions.specs.declared.session.Asks.{Asks}
 use Rattle.ceremony_sessions.specs.declared.error.Error.TheVariants as errors
 
 -- what a session expects
@@ -52,10 +53,14 @@ AreLimits (Some (ForRegistration e)) = IsWithin 64 e.user
 -- ---- a session begins
 
 -- what is asked of a session: the user, where one is named; the credentials that may answer, or the algorithms
--- that are offered; whether the user is to be verified; and the words of its challenge
+-- that are offered; whether the user is to be verified; the words of its challenge; and how a registration is begun
 pub data Opening : Type 0 where
   OpensSignIn : (user : Option (List ℕ)) (allow : List (List ℕ)) (uv : Bool) (words : List ℕ) → Opening
-  OpensRegistration : (user : List ℕ) (algorithms : List Alg) (uv : Bool) (words : List ℕ) → Opening
+  OpensRegistration : (user : List ℕ) (algorithms : List Alg) (uv : Bool) (words : List ℕ) (asks : Asks) → Opening
+
+-- not conditional, and an attestation is asked for
+abbrev pub usual : Asks
+usual = record { conditional = false; attestation = true }
 
 -- the challenge: the session's number, in 8 big-endian bytes, then the words
 abbrev pub challenge_of : ℕ → List ℕ → List ℕ
@@ -64,8 +69,14 @@ challenge_of n words = to_be_bytes w64 n ++ words
 abbrev pub expected_of : ℕ → Opening → Expected
 expected_of n (OpensSignIn user allow uv words) =
     ForSignIn (record { user = user; allow = allow; uv = uv; challenge = challenge_of n words })
-expected_of n (OpensRegistration user algorithms uv words) =
-    ForRegistration (record { user = user; algorithms = algorithms; uv = uv; challenge = challenge_of n words })
+expected_of n (OpensRegistration user algorithms uv words asks) = ForRegistration (record {
+  user = user;
+  algorithms = algorithms;
+  uv = uv;
+  challenge = challenge_of n words;
+  conditional = asks.conditional;
+  attestation = asks.attestation;
+})
 
 -- the next number is opened, and the one behind it is next
 abbrev pub begun : OpenSessions → Opening → OpenSessions
@@ -97,7 +108,7 @@ HaveNumbers next expected = (n : ℕ) (e : Expected) → finite.get expected n �
 abbrev pub IsInput : Profile → Opening → Type 0
 IsInput profile (OpensSignIn user allow uv words) =
     ForSome user (IsWithin 64) × (length allow ≤ 8) × AllByRecursion (IsWithin (max_id profile)) allow
-IsInput profile (OpensRegistration user algorithms uv words) = IsWithin 64 user × (1 ≤ length algorithms)
+IsInput profile (OpensRegistration user algorithms uv words asks) = IsWithin 64 user × (1 ≤ length algorithms)
 
 -- there is no reason to refuse it: what is asked is within its limits; fewer sessions are open than
 -- the most; the next number is not the last

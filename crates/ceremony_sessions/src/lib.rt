@@ -7,5 +7,5 @@ mod session;
 mod sessions;
 
 pub use error::Error;
-pub use session::Session;
+pub use session::{Asks, Session};
 pub use sessions::{MAX_LISTED, MAX_OPEN, Sessions, Started};

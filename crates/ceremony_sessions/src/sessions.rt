@@ -10,13 +10,14 @@ ghost use Rattle.authdata.specs.Profiles.{max_id};
 ghost use Rattle.credential_table.specs.Table.{IsWithin};
 ghost use Rattle.verification.specs.Views.{registration_view, sign_in_view};
 ghost use Rattle.ceremony_sessions.specs.Sessions.{AreLimits, Opening, OpensRegistration, OpensSignIn, IsInput, IsRefused, PassesOpeningStep};
-ghost use Rattle.ceremony_sessions.specs.Sessions.{PassesOpening, HasNumber, HaveNumbers, begun, challenge_of, closed, registration_at, sign_in_at};
+ghost use Rattle.ceremony_sessions.specs.Sessions.{PassesOpening, HasNumber, HaveNumbers, begun, challenge_of, closed, registration_at, sign_in_at, usual};
+ghost use Rattle.ceremony_sessions.specs.declared.session.Asks.{Asks as HowBegun};
 ghost use Rattle.ceremony_sessions.specs.Sessions.{challenge_in as expected_challenge};
 ghost use Rattle.ceremony_sessions.specs.Views.{sessions_view, session_view};
 ghost use Rattle.ceremony_sessions.specs.declared.error.Error.TheVariants as errors;
 
 use crate::error::Error;
-use crate::session::Session;
+use crate::session::{Asks, Session};
 use authdata::Profile;
 use byteorder::{BigEndian, ByteOrder};
 use cose::Alg;
@@ -106,7 +107,8 @@ fn is_sign_in(profile: Profile, user: Option<&[u8]>, allow: &[&[u8]]) -> bool
 
 /// Whether what a registration is asked with is within its limits.
 fn is_registration(user: &[u8], algorithms: &[Alg]) -> bool
-    ensures { (profile : IdProfile) (words : List ℕ) (uv : Bool) → IsTrue result ↔ IsInput profile (OpensRegistration user.now algorithms.now uv words) }
+    ensures { (profile : IdProfile) (words : List ℕ) (uv : Bool) (asks : HowBegun) → IsTrue result
+        ↔ IsInput profile (OpensRegistration user.now algorithms.now uv words asks) }
 {
     is_within(user, MAX_USER) && 1 <= algorithms.len()
 }
@@ -306,7 +308,8 @@ impl Sessions {
     }
 
     /// Begins a registration for the account with this user handle, with these algorithms offered; the user is
-    /// to be verified or not. The words are 24 random bytes of the challenge.
+    /// to be verified or not. It is not conditional, and asks for an attestation. The words are 24 random bytes of the
+    /// challenge.
     ///
     /// `BadInput` where the user handle is not of 1 to 64 bytes or no algorithm is offered, then as for a sign-in.
     pub fn begin_registration(
@@ -317,10 +320,29 @@ impl Sessions {
         words: [u8; 24],
     ) -> Result<Started, Error>
         // No profile differs in it.
-        ensures passes { (profile : IdProfile) → OnOk result (PassesOpening profile self.old (OpensRegistration user.now algorithms.now uv words)) }
+        ensures passes { (profile : IdProfile) → OnOk result (PassesOpening profile self.old (OpensRegistration user.now algorithms.now uv words usual)) }
         ensures started { IfOk result (λ s. (s.session ≡ self.old.next) × (s.challenge ≡ challenge_of self.old.next words)) }
-        ensures begun { OnOk result (self.new ≡ begun self.old (OpensRegistration user.now algorithms.now uv words)) }
-        ensures refused { (profile : IdProfile) → IfErr result (IsRefused profile self.old (OpensRegistration user.now algorithms.now uv words)) }
+        ensures begun { OnOk result (self.new ≡ begun self.old (OpensRegistration user.now algorithms.now uv words usual)) }
+        ensures refused { (profile : IdProfile) → IfErr result (IsRefused profile self.old (OpensRegistration user.now algorithms.now uv words usual)) }
+        ensures unchanged { OnErr result (self.new ≡ self.old) }
+    {
+        self.begin_registration_for(user, algorithms, uv, Asks::usual(), words)
+    }
+
+    /// The same, conditional or not, and with an attestation asked for or not.
+    pub fn begin_registration_for(
+        &mut self,
+        user: &[u8],
+        algorithms: &[Alg],
+        uv: bool,
+        asks: Asks,
+        words: [u8; 24],
+    ) -> Result<Started, Error>
+        // No profile differs in it.
+        ensures passes { (profile : IdProfile) → OnOk result (PassesOpening profile self.old (OpensRegistration user.now algorithms.now uv words asks)) }
+        ensures started { IfOk result (λ s. (s.session ≡ self.old.next) × (s.challenge ≡ challenge_of self.old.next words)) }
+        ensures begun { OnOk result (self.new ≡ begun self.old (OpensRegistration user.now algorithms.now uv words asks)) }
+        ensures refused { (profile : IdProfile) → IfErr result (IsRefused profile self.old (OpensRegistration user.now algorithms.now uv words asks)) }
         ensures unchanged { OnErr result (self.new ≡ self.old) }
     {
         self.admit(is_registration(user, algorithms))?;
@@ -332,6 +354,8 @@ impl Sessions {
             algorithms: Vec::from_slice(alloc, algorithms)?,
             uv,
             challenge,
+            conditional: asks.conditional,
+            attestation: asks.attestation,
         }))?;
         Ok(Started { session, challenge })
     }

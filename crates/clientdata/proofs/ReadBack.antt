@@ -16,10 +16,11 @@ use Rattle.serde_json.specs.Read.{read, of_json, max_depth}
 use Rattle.clientdata.specs.declared.record.CeremonyType.{CeremonyType}
 use Rattle.clientdata.specs.declared.record.CeremonyType.TheVariants.{Create, Get}
 use Rattle.clientdata.specs.declared.seen.Binding.TheVariants.{Absent}
+use Rattle.clientdata.specs.declared.seen.TopOrigin.TheVariants as top
 use Rattle.clientdata.specs.declared.seen.Seen.{Seen}
 use Rattle.clientdata.specs.Quoted.{escaped, quoted}
 use Rattle.clientdata.specs.Serialised.{type_of, challenge_text_of, truth_of, client_data_front, client_data_text}
-use Rattle.clientdata.specs.Reading.{seen_in, seen_of}
+use Rattle.clientdata.specs.Reading.{crossing_of, seen_in, seen_of}
 use Rattle.clientdata.proofs.Escapes.{content-escaped, lex-escaped}
 use Rattle.clientdata.proofs.OneText.{one_challenge}
 use Rattle.clientdata.proofs.Texts.{IsUtf8-type_of, IsUtf8-challenge, is_text-text}
@@ -81,7 +82,8 @@ module _ (t c o : List ℕ) (cross : Bool) where
   unfolding punctuate
   punctuate-lexemes = refl
 
-  read-pieces : IsUtf8 t → IsUtf8 c → IsUtf8 o → option_and_then seen_in (read pieces) ≡ Some (record { kind = t; challenge = c; origin = o; binding = Absent })
+  read-pieces : IsUtf8 t → IsUtf8 c → IsUtf8 o → option_and_then seen_in (read pieces) ≡ Some
+      (record { kind = t; challenge = c; origin = o; binding = Absent; cross_origin = crossing_of cross; top_origin = top.Absent })
   read-pieces ut uc uo =
       let same = ap (punctuate fresh) (lex-pieces ut uc uo) ∙ punctuate-lexemes ∙ sym (append-nil (json_tokens tree)) in
       let parsed = ap (json.value max_depth) same ∙ value-json_tokens tree max_depth [] (omega arith) in
@@ -94,7 +96,7 @@ pieces-text kind challenge origin cross = simp append_assoc
 
 pub seen_of-text : (kind : CeremonyType) (challenge origin : List ℕ) (cross : Bool) → IsUtf8 origin
     → seen_of (client_data_text kind challenge origin cross) ≡ Some
-    (record { kind = type_of kind; challenge = challenge_text_of challenge; origin = origin; binding = Absent })
+    (record { kind = type_of kind; challenge = challenge_text_of challenge; origin = origin; binding = Absent; cross_origin = crossing_of cross; top_origin = top.Absent })
 unfolding seen_of
 seen_of-text kind challenge origin cross u =
     rw (is_text-text kind challenge origin cross u)
@@ -127,7 +129,7 @@ one_cross kind challenge origin x y e =
     ++ codes ",\"origin\":" ++ quoted origin ++ codes ",\"crossOrigin\":") x y e
 
 abbrev some_seen : Option Seen → Seen
-some_seen None = record { kind = []; challenge = []; origin = []; binding = Absent }
+some_seen None = record { kind = []; challenge = []; origin = []; binding = Absent; cross_origin = crossing_of false; top_origin = top.Absent }
 some_seen (Some seen) = seen
 
 pub one_record : (k l : CeremonyType) (a b o p : List ℕ) (x y : Bool) → IsBytes a → IsBytes b → IsUtf8 o → IsUtf8 p

@@ -51,3 +51,8 @@ pub ends : (origin rest last : List ℕ) → rest ≡ behind_challenge origin ++
     → (last ≡ codes "false}") ⊎ (last ≡ codes "true}")
 ends origin rest last is (false, e) = inl (append_cancel_left (behind_challenge origin) _ _ (sym is ∙ e))
 ends origin rest last is (true, e) = inr (append_cancel_left (behind_challenge origin) _ _ (sym is ∙ e))
+
+pub not_crossing : (origin rest last : List ℕ) → rest ≡ behind_challenge origin ++ last → (cross : Bool) → cross ≡ false
+    → IsBehindChallenge origin cross rest → last ≡ codes "false}"
+not_crossing origin rest last is false e behind = append_cancel_left (behind_challenge origin) _ _ (sym is ∙ behind)
+not_crossing origin rest last is true e behind = absurd cc

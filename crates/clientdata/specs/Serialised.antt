@@ -1,5 +1,5 @@
 -- The text of client data (WebAuthn Level 2, section 5.8.1.1), and its hash.
-use Rattle.std.specs.Prelude.{ℕ, Bool, List, ◌++◌, codes, if◌then◌else◌, string_bytes}
+use Rattle.std.specs.Prelude.{◌≡◌, ℕ, Bool, false, List, ◌++◌, codes, if◌then◌else◌, string_bytes}
 use Rattle.base64.specs.GeneralPurpose.{encode_of}
 use Rattle.base64.specs.Engines.{url_safe_no_pad}
 use Rattle.sha2.specs.Sha256.{sha256}
@@ -32,6 +32,10 @@ client_data_front kind challenge origin cross_origin =
 -- the whole text
 abbrev pub client_data_text : CeremonyType → List ℕ → List ℕ → Bool → List ℕ
 client_data_text kind challenge origin cross_origin = client_data_front kind challenge origin cross_origin ++ codes "}"
+
+-- a text that says `crossOrigin` is taken, or only one that says that it is not
+abbrev pub MayCross : Bool → Bool → Type 0
+MayCross taken cross = taken ≡ false → cross ≡ false
 
 -- the same of a record: the text without its last brace, and whole
 abbrev pub front_of : ClientData → List ℕ

@@ -2,7 +2,7 @@
 
 ghost use Rattle.std.specs.Prelude.{◌≡◌, ◌≢◌, ◌↔◌, ◌++◌, ℕ, List, Bool, Contains, IfOk, IsTrue, IsUtf8, MatchOption};
 ghost use Rattle.clientdata.specs.Expected.{IsBehindChallenge, before_challenge, behind_challenge};
-ghost use Rattle.clientdata.specs.Serialised.{client_data_text};
+ghost use Rattle.clientdata.specs.Serialised.{MayCross, client_data_text};
 
 use crate::challenge::challenge_characters;
 use crate::quoting::push_quoted;
@@ -58,13 +58,15 @@ impl ExpectedOrigin {
         self.written.as_bytes()
     }
 
-    /// Whether these bytes stand behind the challenge in serialised client data of this origin, cross-origin or not.
-    fn ends(&self, rest: &[u8]) -> bool
-        ensures told { IsTrue result ↔ ((cross : Bool) × IsBehindChallenge self.now cross rest.now) }
+    /// Whether these bytes stand behind the challenge in serialised client data of this origin, cross-origin only where that is
+    /// taken.
+    fn ends(&self, rest: &[u8], takes_cross: bool) -> bool
+        ensures told { IsTrue result ↔ ((cross : Bool) × MayCross takes_cross cross × IsBehindChallenge self.now cross rest.now) }
         ensures utf8 { IsUtf8 self.now }
     {
         match behind(rest, self.written()) {
-            Some(rest) => rest == b"false}".as_slice() || rest == b"true}".as_slice(),
+            Some(rest) if rest == b"false}".as_slice() => true,
+            Some(rest) => takes_cross && rest == b"true}".as_slice(),
             None => false,
         }
     }
@@ -115,26 +117,28 @@ pub fn is_serialised(
     ensures utf8 { IsTrue result → IsUtf8 origin.now }
 {
     match behind_challenge(bytes, kind, challenge) {
-        Some(rest) => origin.ends(rest),
+        Some(rest) => origin.ends(rest, true),
         None => false,
     }
 }
 
-/// The same for one of several origins: the challenge's text is made and compared once. It takes no memory.
+/// The same for one of several origins, cross-origin only where that is taken: the challenge's text is made and compared
+/// once. It takes no memory.
 pub fn is_serialised_for_any(
     bytes: &[u8],
     kind: CeremonyType,
     challenge: &[u8; 32],
     origins: &[ExpectedOrigin],
+    takes_cross: bool,
 ) -> bool
-    ensures { IsTrue result ↔ ((origin : List ℕ) × (cross : Bool) × Contains origins.now origin × IsUtf8 origin
+    ensures { IsTrue result ↔ ((origin : List ℕ) × (cross : Bool) × MayCross takes_cross cross × Contains origins.now origin × IsUtf8 origin
         × (bytes.now ≡ client_data_text kind challenge.now origin cross)) }
 {
     let Some(rest) = behind_challenge(bytes, kind, challenge) else {
         return false;
     };
     for origin in origins {
-        if origin.ends(rest) {
+        if origin.ends(rest, takes_cross) {
             return true;
         }
     }

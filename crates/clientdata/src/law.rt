@@ -2,12 +2,13 @@
 
 ghost use Rattle.std.specs.Prelude.{◌≡◌, ℕ, Bool, List, length, IsUtf8, Some};
 ghost use Rattle.base64.specs.GeneralPurpose.{IsBytes};
-ghost use Rattle.clientdata.specs.Reading.{seen_of};
+ghost use Rattle.clientdata.specs.Reading.{crossing_of, seen_of};
 ghost use Rattle.clientdata.specs.Serialised.{challenge_text_of, hash_of, type_of};
 ghost use Rattle.clientdata.specs.Serialised.{client_data_front, client_data_text};
 ghost use Rattle.clientdata.specs.Verified.{IsVerified};
 ghost use Rattle.clientdata.specs.declared.record.CeremonyType.{CeremonyType};
 ghost use Rattle.clientdata.specs.declared.seen.Binding.TheVariants.{Absent};
+ghost use Rattle.clientdata.specs.declared.seen.TopOrigin.TheVariants as TopOrigin;
 
 /// A hash of client data has 32 bytes.
 pub fn digest_lengths()
@@ -21,7 +22,7 @@ pub fn challenge_texts()
 {}
 
 /// A serialised text is verified against its own record. It is read as its own type, challenge text
-/// and origin, without token binding, whatever the origin. Two records with one text are one.
+/// origin and `crossOrigin`, without token binding and `topOrigin`, whatever the origin. Two records with one text are one.
 pub fn serialised_texts()
     ensures verified { (kind : CeremonyType) (challenge origin : List ℕ) (cross : Bool)
         → IsVerified (client_data_text kind challenge origin cross)
@@ -33,6 +34,8 @@ pub fn serialised_texts()
           challenge = challenge_text_of challenge;
           origin = origin;
           binding = Absent;
+          cross_origin = crossing_of cross;
+          top_origin = TopOrigin.Absent;
         }) }
     ensures one_record { (k l : CeremonyType) (a b o p : List ℕ) (x y : Bool)
         → IsBytes a → IsBytes b → IsUtf8 o → IsUtf8 p

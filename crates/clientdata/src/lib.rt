@@ -20,6 +20,6 @@ pub use expected::{ExpectedOrigin, is_serialised, is_serialised_for_any};
 pub use law::{challenge_texts, digest_lengths, serialised_texts};
 pub use quoting::quoted_text;
 pub use record::{CeremonyType, ClientData};
-pub use seen::{Binding, Seen, read};
+pub use seen::{Binding, CrossOrigin, Seen, TopOrigin, read};
 pub use serialising::{limited_verify, serialise};
 pub use text::Text;

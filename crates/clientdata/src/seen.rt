@@ -3,8 +3,7 @@
 ghost use Rattle.std.specs.Prelude.{◌≡◌, IfOk, IsErr, IsErrOf, MatchOption, option_map, true, false};
 ghost use Rattle.serde_json.specs.Read.{read as json_read};
 ghost use Rattle.serde_json.specs.View.{view};
-ghost use Rattle.clientdata.specs.Reading.{is_text, text_member, binding_in, seen_in, seen_of};
-ghost use Rattle.clientdata.specs.declared.seen.Binding.{Binding};
+ghost use Rattle.clientdata.specs.Reading.{is_text, text_member, binding_in, cross_origin_in, seen_in, seen_of, top_origin_in};
 
 use crate::error::Error;
 use crate::text::Text;
@@ -25,6 +24,30 @@ pub enum Binding {
     Other,
 }
 
+/// What client data say of `crossOrigin` (WebAuthn Level 3, section 5.8.1): whether the page is in one of another origin.
+#[derive(Clone, Copy, Debug, PartialEq, Eq)]
+pub enum CrossOrigin {
+    /// There is no member `crossOrigin`.
+    Absent,
+    /// The member is `false`.
+    False,
+    /// The member is `true`.
+    True,
+    /// The member is anything else: a text, a number, `null`.
+    Other,
+}
+
+/// What client data say of `topOrigin` (WebAuthn Level 3, section 5.8.1): the origin of the page at the top.
+#[derive(Debug, Drop)]
+pub enum TopOrigin {
+    /// There is no member `topOrigin`.
+    Absent,
+    /// The member is this text.
+    Named(Text),
+    /// The member is no text.
+    Other,
+}
+
 /// What a relying party reads of client data.
 #[derive(Debug, Drop)]
 pub struct Seen {
@@ -36,11 +59,16 @@ pub struct Seen {
     pub origin: Text,
     /// The member `tokenBinding`.
     pub binding: Binding,
+    /// The member `crossOrigin`.
+    pub cross_origin: CrossOrigin,
+    /// The member `topOrigin`.
+    pub top_origin: TopOrigin,
 }
 
 /// Reads client data (WebAuthn Level 2, section 5.8.1): UTF-8 without a byte order mark, of any
 /// length, that is a JSON object (RFC 8259) as `serde_json` reads one, whose members `type`,
-/// `challenge` and `origin` are texts. `crossOrigin` and unknown members aren't looked at.
+/// `challenge` and `origin` are texts. Whatever `tokenBinding`, `crossOrigin` and `topOrigin` are, the text is readable;
+/// unknown members aren't looked at.
 ///
 /// From the reading of `serde_json` it follows that of members with one name, after unescaping, the
 /// last one stands, and that the whole text is unreadable where any number in it is too large for a
@@ -104,7 +132,7 @@ fn seen_from(alloc: Global, value: &Value) -> Result<Seen, Error>
     ) else {
         return Err(Error::Unreadable);
     };
-    Ok(copied(alloc, kind, challenge, origin, token_binding(value))?)
+    Ok(copied(alloc, kind, challenge, origin, value)?)
 }
 
 /// The text of a member, if there is such a member and it is a text.
@@ -128,25 +156,56 @@ fn token_binding(value: &Value) -> Binding
     }
 }
 
-/// What was read, in memory of its own.
+/// What the value says of `crossOrigin`.
+fn cross_origin(value: &Value) -> CrossOrigin
+    ensures { result ≡ cross_origin_in (view value.now) }
+{
+    match value.get("crossOrigin") {
+        None => CrossOrigin::Absent,
+        Some(member) => match member.as_bool() {
+            None => CrossOrigin::Other,
+            Some(false) => CrossOrigin::False,
+            Some(true) => CrossOrigin::True,
+        },
+    }
+}
+
+/// What the value says of `topOrigin`, in memory of its own.
+fn top_origin(alloc: Global, value: &Value) -> Result<TopOrigin, AllocError>
+    ensures { IfOk result (λ top. top ≡ top_origin_in (view value.now)) }
+{
+    match value.get("topOrigin") {
+        None => Ok(TopOrigin::Absent),
+        Some(member) => match member.as_str() {
+            None => Ok(TopOrigin::Other),
+            Some(text) => Ok(TopOrigin::Named(Text::from(String::from_str(alloc, text)?))),
+        },
+    }
+}
+
+/// What was read, in memory of its own: these texts, and the other members of the value.
 fn copied(
     alloc: Global,
     kind: &str,
     challenge: &str,
     origin: &str,
-    binding: Binding,
+    value: &Value,
 ) -> Result<Seen, AllocError>
     ensures { IfOk result (λ seen. seen ≡ record {
       kind = kind.now;
       challenge = challenge.now;
       origin = origin.now;
-      binding = binding;
+      binding = binding_in (view value.now);
+      cross_origin = cross_origin_in (view value.now);
+      top_origin = top_origin_in (view value.now);
     }) }
 {
     Ok(Seen {
         kind: Text::from(String::from_str(alloc, kind)?),
         challenge: Text::from(String::from_str(alloc, challenge)?),
         origin: Text::from(String::from_str(alloc, origin)?),
-        binding,
+        binding: token_binding(value),
+        cross_origin: cross_origin(value),
+        top_origin: top_origin(alloc, value)?,
     })
 }

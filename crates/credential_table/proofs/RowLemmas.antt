@@ -4,7 +4,7 @@ use Rattle.std.specs.Str.{bytes_eq}
 use Rattle.std.specs.Cmp.Lexicographic.{bytes_decides}
 use Rattle.std.proofs.lemmas.Grind.{common_steps}
 use Rattle.authdata.specs.declared.profile.Profile.{Profile}
-use Rattle.authdata.specs.declared.profile.Profile.TheVariants.{Open, Strict}
+use Rattle.authdata.specs.declared.profile.Profile.TheVariants.{Level3, Open, Strict}
 use Rattle.verification.specs.Records.{Credential}
 use Rattle.credential_table.specs.Table.{row_of, has_long, with_row, IsRow, AreRows}
 
@@ -91,10 +91,16 @@ found_id id (r ∷ rows) row is = grind (arith, common_steps, is, same_id id r.i
 looser_row : (p : Profile) (row : Credential) → IsRow p row → IsRow Open row
 looser_row Strict row is = ((is.0.0, omega (arith, is.0.1)), is.1)
 looser_row Open row is = is
+looser_row Level3 row is = is
 
 pub looser : (p : Profile) (rows : List Credential) → AreRows p rows → AreRows Open rows
 looser p [] are = tt
 looser p (row ∷ rows) are = (looser_row p row are.0, are.1, looser p rows are.2)
+
+-- those of Level 3 are those of the open one
+pub level3_rows : (rows : List Credential) → AreRows Open rows → AreRows Level3 rows
+level3_rows [] are = tt
+level3_rows (row ∷ rows) are = (are.0, are.1, level3_rows rows are.2)
 
 -- the ids are those of the strict profile exactly where none is longer
 pub none_long : (rows : List Credential) → AreRows Strict rows → has_long rows ≡ false

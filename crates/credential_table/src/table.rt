@@ -266,7 +266,7 @@ impl Table {
     {
         match profile {
             Profile::Strict => !self.has_long_id(),
-            Profile::Open => {
+            Profile::Open | Profile::Level3 => {
                 // The table's own limits are these.
                 let _ = &self.rows;
                 true

@@ -4,7 +4,7 @@ ghost use Rattle.std.specs.Prelude.{◌≡◌, ◌↔◌, ◌+◌, ◌<◌, ◌�
 ghost use Rattle.sqlite_trees.specs.Tree.{Trees};
 ghost use Rattle.sqlite_trees.specs.View.{IsClean};
 ghost use Rattle.credential_store.specs.Held.{Placed};
-ghost use Rattle.ceremony_sessions.specs.Sessions.{OpensRegistration, OpensSignIn, challenge_of};
+ghost use Rattle.ceremony_sessions.specs.Sessions.{OpensRegistration, OpensSignIn, challenge_of, usual};
 ghost use Rattle.timed_sessions.specs.Timed.{IsTrimmed, after_begin};
 ghost use Rattle.kept_site.specs.State.{IsHeld};
 ghost use Rattle.kept_site.specs.Calls.{IsNotBegun, IsOneSite};
@@ -13,7 +13,7 @@ ghost use Rattle.kept_site.specs.declared.failure.BeginFailure.TheVariants as be
 
 use crate::failure::{BeginFailure, Failure};
 use crate::kept::KeptSite;
-use ceremony_sessions::{Error as BeginError, Started};
+use ceremony_sessions::{Asks, Error as BeginError, Started};
 use cose::Alg;
 use sqlite_trees::store::Store;
 
@@ -65,7 +65,8 @@ impl<S: Store> KeptSite<S> {
         Ok(started)
     }
 
-    /// Begins a registration as `TimedSessions` does; else as `begin_sign_in`.
+    /// Begins a registration as `TimedSessions` does; else as `begin_sign_in`. It is not conditional,
+    /// and asks for an attestation.
     pub fn begin_registration(
         &mut self,
         user: &[u8],
@@ -76,11 +77,36 @@ impl<S: Store> KeptSite<S> {
     ) -> Result<Started, BeginFailure>
         ensures started { IfOk result (λ s. (s.session ≡ self.old.timed.open_sessions.next)
             × (s.challenge ≡ challenge_of self.old.timed.open_sessions.next words)) }
-        ensures begun { OnOk result (IsTrimmed (after_begin self.old.timed (OpensRegistration user.now algorithms.now uv words) now) self.new.timed) }
+        ensures begun { OnOk result (IsTrimmed (after_begin self.old.timed (OpensRegistration user.now algorithms.now uv words usual) now) self.new.timed) }
         ensures held { OnOk result (IsClean (S.Store.view self.new.store) → (placed : Placed) → IsHeld placed self.old (S.Store.view self.old.store).trees
             → IsHeld placed self.new (S.Store.view self.new.store).trees) }
         ensures one { OnOk result (IsOneSite self.old self.new × (self.new.is_shut ≡ false)) }
-        ensures refused { IfErr result (IsNotBegun self.old self.new (OpensRegistration user.now algorithms.now uv words)) }
+        ensures refused { IfErr result (IsNotBegun self.old self.new (OpensRegistration user.now algorithms.now uv words usual)) }
+        // However many sessions are open.
+        ensures room { IfErr result (λ e. e ≡ begins.Site BeginError.SessionsFull → ⊥) }
+        ensures shut { self.old.is_shut ≡ true → IsErrOf result (begins.Store failures.Shut) }
+        ensures crash { (db : Trees) → S.Store.recovers self.new.store db → S.Store.recovers self.old.store db }
+    {
+        self.begin_registration_for(user, algorithms, uv, Asks::usual(), words, now)
+    }
+
+    /// The same, conditional or not, and with an attestation asked for or not.
+    pub fn begin_registration_for(
+        &mut self,
+        user: &[u8],
+        algorithms: &[Alg],
+        uv: bool,
+        asks: Asks,
+        words: [u8; 24],
+        now: u64,
+    ) -> Result<Started, BeginFailure>
+        ensures started { IfOk result (λ s. (s.session ≡ self.old.timed.open_sessions.next)
+            × (s.challenge ≡ challenge_of self.old.timed.open_sessions.next words)) }
+        ensures begun { OnOk result (IsTrimmed (after_begin self.old.timed (OpensRegistration user.now algorithms.now uv words asks) now) self.new.timed) }
+        ensures held { OnOk result (IsClean (S.Store.view self.new.store) → (placed : Placed) → IsHeld placed self.old (S.Store.view self.old.store).trees
+            → IsHeld placed self.new (S.Store.view self.new.store).trees) }
+        ensures one { OnOk result (IsOneSite self.old self.new × (self.new.is_shut ≡ false)) }
+        ensures refused { IfErr result (IsNotBegun self.old self.new (OpensRegistration user.now algorithms.now uv words asks)) }
         // However many sessions are open.
         ensures room { IfErr result (λ e. e ≡ begins.Site BeginError.SessionsFull → ⊥) }
         ensures shut { self.old.is_shut ≡ true → IsErrOf result (begins.Store failures.Shut) }
@@ -94,7 +120,7 @@ impl<S: Store> KeptSite<S> {
         }
         let started = self
             .sessions
-            .begin_registration(user, algorithms, uv, words, now)?;
+            .begin_registration_for(user, algorithms, uv, asks, words, now)?;
         self.held
             .reserve_for(self.party.rp_id(), self.sessions.next())?;
         Ok(started)

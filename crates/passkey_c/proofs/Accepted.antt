@@ -1,6 +1,6 @@
 -- What an accepted response says: the data that are told are those that its bytes spell.
 use Rattle.std.proofs.Common.{◌≡◌, ◌++◌, ◌∷◌, ◌∙◌, ◌⊎◌, inl, inr, ℕ, Bool, true, false, List, [], Some, ap, refl, subst, sym}
-use Rattle.std.specs.Prelude.{◌↔◌, IsTrue, codes, if◌then◌else◌, length}
+use Rattle.std.specs.Prelude.{◌↔◌, IsSome, IsTrue, codes, if◌then◌else◌, length}
 use Rattle.ccbor.specs.Canon.{head, spelling}
 use Rattle.ccbor.specs.Item.{text}
 use Rattle.cose.specs.Schemes.{Validity}
@@ -14,9 +14,9 @@ use Rattle.authdata.specs.Statements.{IsNone, IsSelfSigned}
 use Rattle.authdata.specs.declared.auth.AuthView.{AuthView}
 use Rattle.authdata.specs.declared.profile.Profile.{Profile}
 use Rattle.verification.specs.Registration.{Attests, PassesRegistration, hash_in}
-use Rattle.passkey_c.specs.Parts.{EndsIn}
+use Rattle.passkey_c.specs.Parts.{EndsIn, flag_of, given, profile_of}
 use Rattle.passkey_c.specs.Seen.{IsAccepted, IsSeen, TellsSeen, TellsView}
-use Rattle.passkey_c.specs.Registrations.{IsFormat, TellsRegistration, judged_registration}
+use Rattle.passkey_c.specs.Registrations.{IsFormat, TellsRegistration, counted_in, judged_registration}
 use Rattle.passkey_c.specs.SignIns.{TellsSignIn, judged_sign_in}
 use Rattle.passkey_c.specs.declared.parts.AssertionCall.{AssertionCall}
 use Rattle.passkey_c.specs.declared.parts.AssertionOut.{AssertionOut}
@@ -74,21 +74,28 @@ tells_sign_in call out view spelled told =
     subst (λ (l : List ℕ). EndsIn l (extension_bytes (lent_auth_view view).extensions)) (sym spelled.1) (data_end (lent_auth_view view)) in
     (lent_auth_view view, spelled, (told.0, told.1, told.2, told.3, told.4, (told.5, end)))
 
+-- a session that is there is the one that is given
+is_given : {T : Type 0} (there : Bool) (x : T) → IsSome (given there x) → given there x ≡ Some x
+is_given true x some = refl
+is_given false x none = absurd cc
+
 -- what was read of an accepted registration is what it attests
-pub accepted_as : (call : RegistrationCall) (seen : SeenRegistration) (profile : Profile) (valid : Validity)
-    → profile ≡ (judged_registration call).rp.profile → PassesRegistration valid (judged_registration call)
+pub accepted_as : (call : RegistrationCall) (seen : SeenRegistration) (profile : Profile) (asked : Bool) (valid : Validity)
+    → profile ≡ profile_of call.party.profile → asked ≡ flag_of call.session.attestation → PassesRegistration valid (judged_registration call)
     → ((o : Attestation) (a : AuthenticatorData) (c : AttestedCredential) → ObjectOf o call.response.object.now → AuthOf profile a o.auth_data
-    → a.attested ≡ Some c → IsSeen profile o seen)
+    → a.attested ≡ Some c → IsSeen profile asked o seen)
     → IsAccepted call seen
-accepted_as call seen profile valid same passes sees =
-    let found = passes.1.1.1.1.1.1.0 in
+accepted_as call seen profile asked valid same flag passes sees =
+    let found = passes.1.1.1.1.1.1.1.1.0 in
     let o = found.0 in
     let a = found.1 in
     let attests = found.3 in
     let auth = subst (λ (p : Profile). AuthOf p a o.auth_data) (sym same) attests.auth_data in
-    let read = subst (λ (p : Profile). IsSeen p o seen) same (sees o a found.2 attests.object auth attests.attested) in
+    let read = subst (λ (b : Bool). IsSeen (profile_of call.party.profile) b o seen) flag
+    (subst (λ (p : Profile). IsSeen p asked o seen) same (sees o a found.2 attests.object auth attests.attested)) in
     let view : Attests (judged_registration call).rp.profile (judged_registration call).response o (lent_auth_view seen.data)
     (lent_attested_view seen.credential) = record { object = attests.object; auth_data = read.0; attested = read.1 } in
-    let statement = passes.1.1.1.1.1.1.1.1.1.1.1.1.0 o (lent_auth_view seen.data) (lent_attested_view seen.credential) view in
+    let statement = passes.1.1.1.1.1.1.1.1.1.1.1.1.1.1.0 _ (is_given (flag_of call.has_session) _ passes.0) o (lent_auth_view seen.data)
+    (lent_attested_view seen.credential) view in
     let hash = hash_in (judged_registration call).response in
-    (o, attests.object, read, format_of seen.is_none o (lent_attested_view seen.credential).key valid hash read.2 statement)
+    (o, attests.object, read, format_of seen.is_none (counted_in call o) (lent_attested_view seen.credential).key valid hash read.2 statement)

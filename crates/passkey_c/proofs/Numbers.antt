@@ -24,6 +24,8 @@ step_back sign_in.UnreadableClientData = refl
 step_back sign_in.WrongType = refl
 step_back sign_in.WrongChallenge = refl
 step_back sign_in.WrongOrigin = refl
+step_back sign_in.CrossOrigin = refl
+step_back sign_in.WrongTopOrigin = refl
 step_back sign_in.TokenBinding = refl
 step_back sign_in.BadAuthenticatorData = refl
 step_back sign_in.WrongRelyingParty = refl
@@ -37,7 +39,7 @@ pub same_step : (v w : SignInRefusal) → sign_in_number v ≡ sign_in_number w 
 same_step v w e =
     let there : Some v ≡ Some w = sym (step_back v) ∙ (ap step_at e ∙ step_back w) in cc
 
-pub step_range : (step : SignInRefusal) → (1 ≤ sign_in_number step) × (sign_in_number step ≤ 16)
+pub step_range : (step : SignInRefusal) → (1 ≤ sign_in_number step) × (sign_in_number step ≤ 18)
 step_range sign_in.SessionNotOpen = (omega arith, omega arith)
 step_range sign_in.CredentialNotAllowed = (omega arith, omega arith)
 step_range sign_in.UnknownCredential = (omega arith, omega arith)
@@ -46,6 +48,8 @@ step_range sign_in.UnreadableClientData = (omega arith, omega arith)
 step_range sign_in.WrongType = (omega arith, omega arith)
 step_range sign_in.WrongChallenge = (omega arith, omega arith)
 step_range sign_in.WrongOrigin = (omega arith, omega arith)
+step_range sign_in.CrossOrigin = (omega arith, omega arith)
+step_range sign_in.WrongTopOrigin = (omega arith, omega arith)
 step_range sign_in.TokenBinding = (omega arith, omega arith)
 step_range sign_in.BadAuthenticatorData = (omega arith, omega arith)
 step_range sign_in.WrongRelyingParty = (omega arith, omega arith)
@@ -58,7 +62,8 @@ step_range sign_in.EligibilityChanged = (omega arith, omega arith)
 abbrev limits_all : List Limit
 limits_all =
     limits.RpId ∷ limits.Origin ∷ limits.Challenge ∷ limits.KeyAlgorithm ∷ limits.KeyX ∷ limits.KeyY
-    ∷ limits.VerifiedAlgorithm ∷ limits.VerifiedX ∷ limits.VerifiedY ∷ limits.MessageRoom ∷ limits.SignatureRoom ∷ []
+    ∷ limits.VerifiedAlgorithm ∷ limits.VerifiedX ∷ limits.VerifiedY ∷ limits.MessageRoom ∷ limits.SignatureRoom ∷ limits.Profile
+    ∷ limits.TopOrigin ∷ []
 
 abbrev limit_at : ℕ → Option Limit
 limit_at n = find (λ limit. limit_number limit == n) limits_all
@@ -75,6 +80,8 @@ limit_back limits.VerifiedX = refl
 limit_back limits.VerifiedY = refl
 limit_back limits.MessageRoom = refl
 limit_back limits.SignatureRoom = refl
+limit_back limits.Profile = refl
+limit_back limits.TopOrigin = refl
 
 pub same_limit : (l m : Limit) → limit_number l ≡ limit_number m → l ≡ m
 same_limit l m e =
@@ -92,6 +99,8 @@ limit_range limits.VerifiedX = (omega arith, omega arith)
 limit_range limits.VerifiedY = (omega arith, omega arith)
 limit_range limits.MessageRoom = (omega arith, omega arith)
 limit_range limits.SignatureRoom = (omega arith, omega arith)
+limit_range limits.Profile = (omega arith, omega arith)
+limit_range limits.TopOrigin = (omega arith, omega arith)
 
 abbrev registration_at : ℕ → Option RegistrationRefusal
 registration_at n = find (λ step. registration_number step == n) registrations.steps
@@ -102,6 +111,8 @@ registration_back registration.UnreadableClientData = refl
 registration_back registration.WrongType = refl
 registration_back registration.WrongChallenge = refl
 registration_back registration.WrongOrigin = refl
+registration_back registration.CrossOrigin = refl
+registration_back registration.WrongTopOrigin = refl
 registration_back registration.TokenBinding = refl
 registration_back registration.BadAttestationObject = refl
 registration_back registration.WrongRelyingParty = refl
@@ -118,12 +129,14 @@ pub same_registration_step : (v w : RegistrationRefusal) → registration_number
 same_registration_step v w e =
     let there : Some v ≡ Some w = sym (registration_back v) ∙ (ap registration_at e ∙ registration_back w) in cc
 
-pub registration_range : (step : RegistrationRefusal) → (1 ≤ registration_number step) × (registration_number step ≤ 16)
+pub registration_range : (step : RegistrationRefusal) → (1 ≤ registration_number step) × (registration_number step ≤ 18)
 registration_range registration.SessionNotOpen = (omega arith, omega arith)
 registration_range registration.UnreadableClientData = (omega arith, omega arith)
 registration_range registration.WrongType = (omega arith, omega arith)
 registration_range registration.WrongChallenge = (omega arith, omega arith)
 registration_range registration.WrongOrigin = (omega arith, omega arith)
+registration_range registration.CrossOrigin = (omega arith, omega arith)
+registration_range registration.WrongTopOrigin = (omega arith, omega arith)
 registration_range registration.TokenBinding = (omega arith, omega arith)
 registration_range registration.BadAttestationObject = (omega arith, omega arith)
 registration_range registration.WrongRelyingParty = (omega arith, omega arith)

@@ -13,7 +13,7 @@ one_step_text false n s t a b = a.2 ∙ (ap sign_in_text (same_step a.0 b.0 (a.1
 limit_numbers : (n : ℕ) (t : List ℕ) → IsLimitText n t → (100 ≤ n) × (n ≤ 126)
 limit_numbers n t a = let range = limit_range a.0 in rw (sym a.1) range
 
-step_numbers : (r : Bool) (n : ℕ) (t : List ℕ) → IsStepText r n t → (1 ≤ n) × (n ≤ 16)
+step_numbers : (r : Bool) (n : ℕ) (t : List ℕ) → IsStepText r n t → (1 ≤ n) × (n ≤ 18)
 step_numbers true n t a = let range = registration_range a.0 in rw (sym a.1) range
 step_numbers false n t a = let range = step_range a.0 in rw (sym a.1) range
 

@@ -1,5 +1,5 @@
 -- Which signature a registration asks for, by its parts.
-use Rattle.std.proofs.Common.{◌≡◌, ◌++◌, ℕ, List, subst, sym}
+use Rattle.std.proofs.Common.{◌≡◌, ◌++◌, ℕ, Bool, List, subst, sym}
 use Rattle.authdata.specs.declared.profile.Profile.{Profile}
 use Rattle.authdata.specs.Layout.{AuthOf}
 use Rattle.authdata.specs.Objects.{Attestation, ObjectOf}
@@ -8,7 +8,7 @@ use Rattle.authdata.specs.Statements.{IsSelfSignedBy}
 use Rattle.authdata.proofs.Objects.{one_object}
 use Rattle.cose.specs.Keys.{lent_key_view}
 use Rattle.cose.specs.declared.key.CoseKey.{CoseKey}
-use Rattle.verification.specs.Registration.{hash_in}
+use Rattle.verification.specs.Registration.{counted, hash_in}
 use Rattle.verified_signature.specs.Attested.{AttestsKey, AttestsNoKey}
 use Rattle.passkey_c.specs.Asked.{Asks, AsksNothing, IsBroken, IsNotSelfSigned, IsSmall, IsUnread, SelfAsks, Tells, TellsAs}
 use Rattle.passkey_c.specs.Parts.{flag_of}
@@ -18,25 +18,26 @@ use Rattle.passkey_c.specs.declared.asked.AskedSignature.{AskedSignature}
 use Rattle.passkey_c.specs.declared.parts.SignatureCall.{SignatureCall}
 use Rattle.passkey_c.specs.declared.parts.SignatureOut.{SignatureOut}
 
-pub asks_nothing : (p : Profile) (r : AuthenticatorAttestationResponse) (o : Attestation) (key : CoseKey) → ObjectOf o r.object → AttestsKey p o.auth_data key
-    → IsNotSelfSigned o key → AsksNothing p r
-asks_nothing p r o key spelled attests none = (
+pub asks_nothing : (p : Profile) (asked : Bool) (r : AuthenticatorAttestationResponse) (o : Attestation) (key : CoseKey) → ObjectOf o r.object
+    → AttestsKey p o.auth_data key → IsNotSelfSigned (counted p asked o) key → AsksNothing p asked r
+asks_nothing p asked r o key spelled attests none = (
   o,
   attests.0,
   attests.1,
   record { object = spelled; auth_data = attests.2; attested = attests.3 },
-  subst (IsNotSelfSigned o) (sym attests.4) none,
+  subst (IsNotSelfSigned (counted p asked o)) (sym attests.4) none,
 )
 
-pub self_asks : (p : Profile) (r : AuthenticatorAttestationResponse) (o : Attestation) (key : CoseKey) (message signature : List ℕ) → ObjectOf o r.object
-    → AttestsKey p o.auth_data key → IsSelfSignedBy o key signature → message ≡ o.auth_data ++ hash_in r → SelfAsks p r key message signature
-self_asks p r o key message signature spelled attests signed joined = (
+pub self_asks : (p : Profile) (asked : Bool) (r : AuthenticatorAttestationResponse) (o : Attestation) (key : CoseKey) (message signature : List ℕ)
+    → ObjectOf o r.object → AttestsKey p o.auth_data key → IsSelfSignedBy (counted p asked o) key signature → message ≡ o.auth_data ++ hash_in r
+    → SelfAsks p asked r key message signature
+self_asks p asked r o key message signature spelled attests signed joined = (
   o,
   attests.0,
   attests.1,
   record { object = spelled; auth_data = attests.2; attested = attests.3 },
   attests.4,
-  subst (λ k. IsSelfSignedBy o k signature) (sym attests.4) signed,
+  subst (λ k. IsSelfSignedBy (counted p asked o) k signature) (sym attests.4) signed,
   joined,
 )
 
@@ -61,6 +62,8 @@ broken call m s asked limits.MessageRoom asks small = (lent_key_view asked.key, 
 broken call m s asked limits.SignatureRoom asks small = (lent_key_view asked.key, asked.auth_data.now ++ asked.hash, asked.signature.now, asks, small)
 broken call m s asked limits.RpId asks small = absurd small
 broken call m s asked limits.Origin asks small = absurd small
+broken call m s asked limits.Profile asks small = absurd small
+broken call m s asked limits.TopOrigin asks small = absurd small
 broken call m s asked limits.Challenge asks small = absurd small
 broken call m s asked limits.KeyAlgorithm asks small = absurd small
 broken call m s asked limits.KeyX asks small = absurd small

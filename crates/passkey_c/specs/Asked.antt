@@ -10,7 +10,7 @@ use Rattle.authdata.specs.Layout.{AttestedCredential, AuthenticatorData}
 use Rattle.authdata.specs.Objects.{Attestation}
 use Rattle.authdata.specs.Responses.{AuthenticatorAttestationResponse}
 use Rattle.authdata.specs.Statements.{IsSelfSignedBy}
-use Rattle.verification.specs.Registration.{Attests, hash_in}
+use Rattle.verification.specs.Registration.{Attests, counted, hash_in}
 use Rattle.passkey_c.specs.declared.answers.Limit.{Limit}
 use Rattle.passkey_c.specs.declared.answers.Limit.TheVariants as limits
 use Rattle.passkey_c.specs.declared.asked.AskedSignature.{AskedSignature}
@@ -21,7 +21,7 @@ use Rattle.passkey_c.specs.declared.parts.AttestationParts.{AttestationParts}
 use Rattle.passkey_c.specs.declared.parts.SignatureCall.{SignatureCall}
 use Rattle.passkey_c.specs.declared.parts.SignatureOut.{SignatureOut}
 use Rattle.passkey_c.specs.Limits.{KeyKeeps, key_order}
-use Rattle.passkey_c.specs.Parts.{Fills, TellsKey, flag_of, key_of, profile_of}
+use Rattle.passkey_c.specs.Parts.{Fills, IsProfile, TellsKey, flag_of, key_of, profile_of}
 
 abbrev pub response_of : AttestationParts → AuthenticatorAttestationResponse
 response_of parts = record { object = parts.object.now; client_data = parts.client_data.now }
@@ -30,16 +30,17 @@ abbrev pub IsNotSelfSigned : Attestation → CoseKey → Type 0
 IsNotSelfSigned o key = (signature : List ℕ) → IsSelfSignedBy o key signature → ⊥
 
 -- a registration asks for this signature: of the authenticator data as they came, then the hash of the client data,
--- under the key that they attest
-abbrev pub SelfAsks : Profile → AuthenticatorAttestationResponse → CoseKey → List ℕ → List ℕ → Type 0
-SelfAsks profile r key message signature =
+-- under the key that they attest; where an attestation was asked for or not
+abbrev pub SelfAsks : Profile → Bool → AuthenticatorAttestationResponse → CoseKey → List ℕ → List ℕ → Type 0
+SelfAsks profile asked r key message signature =
     (o : Attestation) × (a : AuthenticatorData) × (c : AttestedCredential) × Attests profile r o a c
-    × (c.key ≡ key) × IsSelfSignedBy o c.key signature × (message ≡ o.auth_data ++ hash_in r)
+    × (c.key ≡ key) × IsSelfSignedBy (counted profile asked o) c.key signature × (message ≡ o.auth_data ++ hash_in r)
 
 -- it asks for none
-abbrev pub AsksNothing : Profile → AuthenticatorAttestationResponse → Type 0
-AsksNothing profile r =
-    (o : Attestation) × (a : AuthenticatorData) × (c : AttestedCredential) × Attests profile r o a c × IsNotSelfSigned o c.key
+abbrev pub AsksNothing : Profile → Bool → AuthenticatorAttestationResponse → Type 0
+AsksNothing profile asked r =
+    (o : Attestation) × (a : AuthenticatorData) × (c : AttestedCredential) × Attests profile r o a c
+    × IsNotSelfSigned (counted profile asked o) c.key
 
 -- it attests nothing
 abbrev pub IsUnread : Profile → AuthenticatorAttestationResponse → Type 0
@@ -48,7 +49,7 @@ IsUnread profile r = (o : Attestation) (a : AuthenticatorData) (c : AttestedCred
 -- a sign-in asks for the response's signature, of the authenticator data as they came, then the hash of the client data,
 -- under the credential's key
 abbrev pub Asks : Bool → SignatureCall → CoseKey → List ℕ → List ℕ → Type 0
-Asks true call = SelfAsks (profile_of (flag_of call.open_profile)) (response_of call.registration)
+Asks true call = SelfAsks (profile_of call.profile) (flag_of call.attestation) (response_of call.registration)
 Asks false call = λ key message signature.
     (key_of call.key ≡ Some key) × (message ≡ call.assertion.auth_data.now ++ sha256 call.assertion.client_data.now)
     × (signature ≡ call.assertion.signature.now)
@@ -59,7 +60,7 @@ Tells call out message signature true =
     (key : CoseKey) × (m : List ℕ) × (s : List ℕ) × Asks (flag_of call.is_registration) call key m s
     × TellsKey out.key key × Fills out.message_length message m × Fills out.signature_length signature s
 Tells call out message signature false =
-    (flag_of call.is_registration ≡ true) × AsksNothing (profile_of (flag_of call.open_profile)) (response_of call.registration)
+    (flag_of call.is_registration ≡ true) × AsksNothing (profile_of call.profile) (flag_of call.attestation) (response_of call.registration)
 
 -- the signature that is asked does not fit
 abbrev pub IsRoom : SignatureCall → (List ℕ → List ℕ → Type 0) → Type 0
@@ -67,23 +68,24 @@ IsRoom call P =
     (key : CoseKey) × (message : List ℕ) × (signature : List ℕ) × Asks (flag_of call.is_registration) call key message signature
     × P message signature
 
--- a limit that is not kept, with rooms of these lengths: of a sign-in's key, or of a room
+-- a limit that is not kept, with rooms of these lengths: of a sign-in's key, of a registration's profile, or of a room
 abbrev pub IsBroken : SignatureCall → ℕ → ℕ → Limit → Type 0
 IsBroken call m s limits.KeyAlgorithm = (flag_of call.is_registration ≡ false) × (KeyKeeps call.key key_limits.Algorithm → ⊥)
 IsBroken call m s limits.KeyX = (flag_of call.is_registration ≡ false) × (KeyKeeps call.key key_limits.X → ⊥)
 IsBroken call m s limits.KeyY = (flag_of call.is_registration ≡ false) × (KeyKeeps call.key key_limits.Y → ⊥)
+IsBroken call m s limits.Profile = (flag_of call.is_registration ≡ true) × (IsProfile call.profile → ⊥)
 IsBroken call m s limits.MessageRoom = IsRoom call (λ message _. m < length message)
 IsBroken call m s limits.SignatureRoom = IsRoom call (λ _ signature. s < length signature)
 IsBroken call m s _ = ⊥
 
--- the limits of what is handed in are kept: of a sign-in those of its key
+-- the limits of what is handed in are kept: of a registration that of the profile, of a sign-in those of its key
 abbrev pub AskKeeps : Bool → SignatureCall → Type 0
-AskKeeps true call = Unit {0}
+AskKeeps true call = IsProfile call.profile
 AskKeeps false call = Each (KeyKeeps call.key) key_order
 
 -- why nothing is told: a registration attests nothing, or a limit is not kept; want of memory says nothing
 abbrev pub IsUntold : SignatureCall → ℕ → ℕ → AskError → Type 0
-IsUntold call m s errors.Unreadable = (flag_of call.is_registration ≡ true) × IsUnread (profile_of (flag_of call.open_profile)) (response_of call.registration)
+IsUntold call m s errors.Unreadable = (flag_of call.is_registration ≡ true) × IsUnread (profile_of call.profile) (response_of call.registration)
 IsUntold call m s (errors.Limit limit) = IsBroken call m s limit
 IsUntold call m s errors.Memory = Unit {0}
 

@@ -3,6 +3,7 @@ use Rattle.std.specs.Prelude.{◌≡◌, true, List, [], ◌∷◌, ◌++◌, If
 use Rattle.std.specs.Str.{IsUtf8}
 use Rattle.refusal_order.specs.Lines.{Each}
 use Rattle.verified_signature.specs.Coordinates.{IsX, IsY}
+use Rattle.passkey_c.specs.declared.parts.Bytes.{Bytes}
 use Rattle.passkey_c.specs.declared.parts.KeyParts.{KeyParts}
 use Rattle.passkey_c.specs.declared.parts.PartyParts.{PartyParts}
 use Rattle.passkey_c.specs.declared.parts.AssertionCall.{AssertionCall}
@@ -13,7 +14,7 @@ use Rattle.passkey_c.specs.declared.answers.Limit.{Limit}
 use Rattle.passkey_c.specs.declared.answers.Limit.TheVariants as limits
 use Rattle.passkey_c.specs.declared.input.KeyLimit.{KeyLimit}
 use Rattle.passkey_c.specs.declared.input.KeyLimit.TheVariants as key_limits
-use Rattle.passkey_c.specs.Parts.{IsAlg, alg_in, flag_of}
+use Rattle.passkey_c.specs.Parts.{IsAlg, IsProfile, alg_in, flag_of}
 
 -- a public key: one of three algorithms, and its coordinates or its numbers
 abbrev pub KeyKeeps : KeyParts → KeyLimit → Type 0
@@ -24,14 +25,19 @@ KeyKeeps key key_limits.Y = IfSome (alg_in key.algorithm) (λ alg. IsY alg key.y
 abbrev pub key_order : List KeyLimit
 key_order = key_limits.Algorithm ∷ key_limits.X ∷ key_limits.Y ∷ []
 
--- a relying party: texts of UTF-8
+abbrev pub AreTexts : List Bytes → Type 0
+AreTexts parts = Each (λ part. IsUtf8 part.bytes.now) parts
+
+-- a relying party: texts of UTF-8, and the number of a profile
 abbrev pub PartyKeeps : PartyParts → Limit → Type 0
 PartyKeeps party limits.RpId = IsUtf8 party.rp_id.now
-PartyKeeps party limits.Origin = Each (λ origin. IsUtf8 origin.bytes.now) party.origins.now
+PartyKeeps party limits.Origin = AreTexts party.origins.now
+PartyKeeps party limits.Profile = IsProfile party.profile
+PartyKeeps party limits.TopOrigin = AreTexts party.top_origins.now
 PartyKeeps party _ = Unit {0}
 
 abbrev pub party_limits : List Limit
-party_limits = limits.RpId ∷ limits.Origin ∷ []
+party_limits = limits.RpId ∷ limits.Origin ∷ limits.Profile ∷ limits.TopOrigin ∷ []
 
 -- a sign-in: those of the relying party; and of what its flags say is there, a challenge of 32 bytes, the
 -- credential's key, and the key that the host verified with

@@ -1,4 +1,4 @@
--- The answers as numbers: 0 accepted, 1 to 16 the step that refuses, 100 and up a member that is out of its limits,
+-- The answers as numbers: 0 accepted, 1 to 18 the step that refuses, 100 and up a member that is out of its limits,
 -- 127 no memory.
 use Rattle.std.specs.Prelude.{◌≡◌, ◌⊎◌, ℕ}
 use Rattle.passkey_c.specs.declared.answers.Limit.{Limit}
@@ -20,6 +20,8 @@ limit_number limits.VerifiedX = 108
 limit_number limits.VerifiedY = 109
 limit_number limits.MessageRoom = 110
 limit_number limits.SignatureRoom = 111
+limit_number limits.Profile = 112
+limit_number limits.TopOrigin = 113
 
 abbrev pub fault_number : InputFault → ℕ
 fault_number (faults.Limit limit) = limit_number limit

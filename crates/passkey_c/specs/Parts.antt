@@ -1,5 +1,5 @@
 -- What the parts that a host hands in stand for.
-use Rattle.std.specs.Prelude.{◌≡◌, ◌==◌, ℕ, ℤ, pos, negsuc, Bool, true, false, not, List, [], ◌∷◌, ◌++◌, length, map, take, Option, Some, None, option_map}
+use Rattle.std.specs.Prelude.{◌≡◌, ◌==◌, ◌<◌, ℕ, ℤ, pos, negsuc, Bool, true, false, not, List, [], ◌∷◌, ◌++◌, length, map, take, Option, Some, None, option_map}
 use Rattle.std.specs.Prelude.{if◌then◌else◌}
 use Rattle.cose.specs.declared.key.Alg.{Alg}
 use Rattle.cose.specs.declared.key.Alg.TheVariants as algs
@@ -7,7 +7,7 @@ use Rattle.cose.specs.declared.key.CoseKey.{CoseKey}
 use Rattle.cose.specs.declared.key.CoseKey.TheVariants as keys
 use Rattle.cose.specs.Keys.{alg_of, number_of, x_of}
 use Rattle.authdata.specs.declared.profile.Profile.{Profile}
-use Rattle.authdata.specs.declared.profile.Profile.TheVariants.{Open, Strict}
+use Rattle.authdata.specs.declared.profile.Profile.TheVariants.{Level3, Open, Strict}
 use Rattle.verification.specs.Records.{RelyingParty}
 use Rattle.verified_signature.specs.Coordinates.{key_with}
 use Rattle.verified_signature.specs.Signed.{Signed}
@@ -78,12 +78,20 @@ Fills size room bytes = (size ≡ length bytes) × (take size room ≡ bytes)
 abbrev pub TellsKey : KeyOut → CoseKey → Type 0
 TellsKey out key = (out.algorithm ≡ number_of (alg_of key)) × Fills out.x_length out.x (x_of key) × Fills out.y_length out.y (y_of key)
 
--- the profile of its flag
-abbrev pub profile_of : Bool → Profile
-profile_of open_profile = if open_profile then Open else Strict
+-- the profile of its number: 0 is the strict one, 1 the open one, 2 that of Level 3, and no other number is a profile's
+abbrev pub IsProfile : ℕ → Type 0
+IsProfile number = number < 3
+
+abbrev pub profile_of : ℕ → Profile
+profile_of number = if number == 0 then Strict else if number == 1 then Open else Level3
 
 abbrev pub party_of : PartyParts → RelyingParty
-party_of party = record { rp_id = party.rp_id.now; origins = lent party.origins.now; profile = profile_of (flag_of party.open_profile) }
+party_of party = record {
+  rp_id = party.rp_id.now;
+  origins = lent party.origins.now;
+  top_origins = lent party.top_origins.now;
+  profile = profile_of party.profile;
+}
 
 -- the signature that the host verified, where it says that it did; none where its key is none
 abbrev pub verified_in : Bool → VerifiedParts → Option Signed

@@ -9,7 +9,7 @@ use Rattle.authdata.specs.Layout.{AttestedCredential, AuthenticatorData, extensi
 use Rattle.authdata.specs.Objects.{Attestation}
 use Rattle.authdata.specs.Statements.{IsNone, IsSelfSignedBy}
 use Rattle.verification.specs.Numbers.{registration_number}
-use Rattle.verification.specs.Registration.{Attests, JudgedRegistration, IsFirstFailing}
+use Rattle.verification.specs.Registration.{Attests, JudgedRegistration, IsFirstFailing, counted}
 use Rattle.verification.specs.declared.refusal.RegistrationRefusal.{RegistrationRefusal}
 use Rattle.verified_signature.specs.Signed.{only_verified}
 use Rattle.passkey_c.specs.declared.answers.InputFault.{InputFault}
@@ -19,7 +19,7 @@ use Rattle.passkey_c.specs.declared.registration.Refusal.{Refusal}
 use Rattle.passkey_c.specs.declared.registration.Refusal.TheVariants as refusals
 use Rattle.passkey_c.specs.Limits.{IsFault, RegistrationKeeps, registration_limits}
 use Rattle.passkey_c.specs.Numbers.{fault_number}
-use Rattle.passkey_c.specs.Parts.{Fills, IsEnd, TellsKey, flag_of, given, offered, party_of, verified_in}
+use Rattle.passkey_c.specs.Parts.{Fills, IsEnd, TellsKey, flag_of, given, offered, party_of, profile_of, verified_in}
 
 -- each id but the free one is registered
 abbrev pub registered_but : Bool → List ℕ → List ℕ → Bool
@@ -34,6 +34,8 @@ judged_registration call = record {
     algorithms = offered (flag_of call.session.offers_es256) (flag_of call.session.offers_eddsa) (flag_of call.session.offers_rs256);
     uv = flag_of call.session.user_verification;
     challenge = call.session.challenge.now;
+    conditional = flag_of call.session.conditional;
+    attestation = flag_of call.session.attestation;
   });
   response = record { object = call.response.object.now; client_data = call.response.client_data.now };
   is_registered = registered_but (flag_of call.has_free_id) call.free_id.now;
@@ -49,7 +51,8 @@ registration_validity call = only_verified (verified_in (flag_of call.has_verifi
 abbrev pub IsFormat : ℕ → Attestation → CoseKey → Type 0
 IsFormat format o key = ((format ≡ 0) × IsNone o) ⊎ ((format ≡ 1) × ((signature : List ℕ) × IsSelfSignedBy o key signature))
 
--- what the host is told of what the response attests: the credential, and what the authenticator data and the object say
+-- what the host is told of what the response attests: the credential, and what the authenticator data and the object, as it
+-- counts, say
 abbrev pub TellsAttested : RegistrationOut → Attestation → AuthenticatorData → AttestedCredential → List ℕ → Type 0
 TellsAttested out o a c object =
     Fills out.id_length out.id c.id × TellsKey out.key c.key × (out.aaguid ≡ c.aaguid)
@@ -57,11 +60,15 @@ TellsAttested out o a c object =
     × (out.eligible ≡ is_set a.flags BE) × (out.backed_up ≡ is_set a.flags BS) × (out.user_verified ≡ is_set a.flags UV)
     × IsFormat out.format o c.key × IsEnd out.extensions_length object (extension_bytes a.extensions)
 
+-- the object as it counts for the session
+abbrev pub counted_in : RegistrationCall → Attestation → Attestation
+counted_in call = counted (profile_of call.party.profile) (flag_of call.session.attestation)
+
 abbrev pub TellsRegistration : RegistrationCall → RegistrationOut → Type 0
 TellsRegistration call out =
     (o : Attestation) × (a : AuthenticatorData) × (c : AttestedCredential)
     × Attests (judged_registration call).rp.profile (judged_registration call).response o a c
-    × TellsAttested out o a c call.response.object.now
+    × TellsAttested out (counted_in call o) a c call.response.object.now
 
 -- the numbers that are answered
 abbrev pub IsRegistrationAnswer : ℕ → Type 0

@@ -1,22 +1,23 @@
 -- What an accepted response says, read where it lies. Private functions are proved against this.
-use Rattle.std.specs.Prelude.{◌≡◌, ◌↔◌, IsTrue, Some, codes, if◌then◌else◌, length}
+use Rattle.std.specs.Prelude.{◌≡◌, ◌↔◌, Bool, IsTrue, Some, codes, if◌then◌else◌, length}
 use Rattle.authdata.specs.declared.profile.Profile.{Profile}
 use Rattle.authdata.specs.declared.auth.AuthView.{AuthView}
 use Rattle.authdata.specs.Flags.{is_set, BE, BS, UV}
 use Rattle.authdata.specs.Layout.{AuthOf, extension_bytes, lent_attested_view, lent_auth_view}
 use Rattle.authdata.specs.Objects.{Attestation, ObjectOf}
+use Rattle.verification.specs.Registration.{counted}
 use Rattle.passkey_c.specs.declared.parts.AssertionOut.{AssertionOut}
 use Rattle.passkey_c.specs.declared.parts.RegistrationOut.{RegistrationOut}
 use Rattle.passkey_c.specs.declared.seen.SeenRegistration.{SeenRegistration}
 use Rattle.passkey_c.specs.declared.parts.RegistrationCall.{RegistrationCall}
-use Rattle.passkey_c.specs.Parts.{Fills, TellsKey}
-use Rattle.passkey_c.specs.Registrations.{IsFormat, judged_registration}
+use Rattle.passkey_c.specs.Parts.{Fills, TellsKey, flag_of, profile_of}
+use Rattle.passkey_c.specs.Registrations.{IsFormat, counted_in}
 
--- this is the object's authenticator data, the credential that they attest, and whether its format is none
-abbrev pub IsSeen : Profile → Attestation → SeenRegistration → Type 0
-IsSeen profile o s =
+-- this is the object's authenticator data, the credential that they attest, and whether its format is none, as it counts
+abbrev pub IsSeen : Profile → Bool → Attestation → SeenRegistration → Type 0
+IsSeen profile asked o s =
     AuthOf profile (lent_auth_view s.data) o.auth_data × ((lent_auth_view s.data).attested ≡ Some (lent_attested_view s.credential))
-    × (IsTrue s.is_none ↔ (o.fmt ≡ codes "none"))
+    × (IsTrue s.is_none ↔ ((counted profile asked o).fmt ≡ codes "none"))
 
 -- what the authenticator data say is told
 abbrev pub TellsView : AssertionOut → AuthView → Type 0
@@ -36,5 +37,6 @@ TellsSeen out s =
 -- this is what an accepted registration attests
 abbrev pub IsAccepted : RegistrationCall → SeenRegistration → Type 0
 IsAccepted call s =
-    (o : Attestation) × ObjectOf o call.response.object.now × IsSeen (judged_registration call).rp.profile o s
-    × IsFormat (if s.is_none then 0 else 1) o (lent_attested_view s.credential).key
+    (o : Attestation) × ObjectOf o call.response.object.now
+    × IsSeen (profile_of call.party.profile) (flag_of call.session.attestation) o s
+    × IsFormat (if s.is_none then 0 else 1) (counted_in call o) (lent_attested_view s.credential).key

@@ -18,6 +18,8 @@ sign_in_text sign_in.UnreadableClientData = codes "the client data cannot be rea
 sign_in_text sign_in.WrongType = codes "the client data are not of a sign-in"
 sign_in_text sign_in.WrongChallenge = codes "the challenge is not the session's"
 sign_in_text sign_in.WrongOrigin = codes "the origin is not the relying party's"
+sign_in_text sign_in.CrossOrigin = codes "the page is in another site's frame"
+sign_in_text sign_in.WrongTopOrigin = codes "the page at the top is none that the relying party names"
 sign_in_text sign_in.TokenBinding = codes "token binding is used"
 sign_in_text sign_in.BadAuthenticatorData = codes "the authenticator data cannot be read, or they attest a credential"
 sign_in_text sign_in.WrongRelyingParty = codes "the authenticator data are for another relying party"
@@ -33,6 +35,8 @@ registration_text registration.UnreadableClientData = codes "the client data can
 registration_text registration.WrongType = codes "the client data are not of a registration"
 registration_text registration.WrongChallenge = codes "the challenge is not the session's"
 registration_text registration.WrongOrigin = codes "the origin is not the relying party's"
+registration_text registration.CrossOrigin = codes "the page is in another site's frame"
+registration_text registration.WrongTopOrigin = codes "the page at the top is none that the relying party names"
 registration_text registration.TokenBinding = codes "token binding is used"
 registration_text registration.BadAttestationObject = codes "the attestation object cannot be read, or attests no credential"
 registration_text registration.WrongRelyingParty = codes "the authenticator data are for another relying party"
@@ -57,6 +61,8 @@ limit_text limits.VerifiedX = codes "the x of the verified key is out of its lim
 limit_text limits.VerifiedY = codes "the y of the verified key is out of its limits"
 limit_text limits.MessageRoom = codes "the room for the message is too small"
 limit_text limits.SignatureRoom = codes "the room for the signature is too small"
+limit_text limits.Profile = codes "the profile is not known"
+limit_text limits.TopOrigin = codes "a top origin is not UTF-8"
 
 -- the text is that of a step, of a registration or a sign-in
 abbrev pub IsStepText : Bool → ℕ → List ℕ → Type 0

@@ -35,6 +35,10 @@ pub enum Limit {
     MessageRoom,
     /// 111: the room for a signature is too small.
     SignatureRoom,
+    /// 112: the number of the profile is none of 0, 1 and 2.
+    Profile,
+    /// 113: a top origin is not UTF-8.
+    TopOrigin,
 }
 
 impl Limit {
@@ -54,10 +58,12 @@ impl Limit {
             Limit::VerifiedY => 109,
             Limit::MessageRoom => 110,
             Limit::SignatureRoom => 111,
+            Limit::Profile => 112,
+            Limit::TopOrigin => 113,
         }
     }
 
-    /// The limit of this number, the inverse of `number`: 101 to 111. None where it is another number.
+    /// The limit of this number, the inverse of `number`: 101 to 113. None where it is another number.
     pub fn from_number(number: u32) -> Option<Limit>
         ensures { MatchOption result ((limit : Limit) → limit_number limit ≢ number) (λ limit. limit_number limit ≡ number) }
     {
@@ -73,6 +79,8 @@ impl Limit {
             109 => Some(Limit::VerifiedY),
             110 => Some(Limit::MessageRoom),
             111 => Some(Limit::SignatureRoom),
+            112 => Some(Limit::Profile),
+            113 => Some(Limit::TopOrigin),
             _ => None,
         }
     }
@@ -93,6 +101,8 @@ impl Limit {
             Limit::VerifiedY => "the y of the verified key is out of its limits",
             Limit::MessageRoom => "the room for the message is too small",
             Limit::SignatureRoom => "the room for the signature is too small",
+            Limit::Profile => "the profile is not known",
+            Limit::TopOrigin => "a top origin is not UTF-8",
         }
     }
 }

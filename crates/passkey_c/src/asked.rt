@@ -1,20 +1,24 @@
 //! Which signature a host is to verify.
 
-ghost use Rattle.std.specs.Prelude.{◌≡◌, ◌≢◌, ◌+◌, ◌++◌, ◌≤◌, ◌<◌, IfErr, OnErr, OnOk, false, length, true};
+ghost use Rattle.std.specs.Prelude.{◌≡◌, ◌≢◌, ◌+◌, ◌++◌, ◌≤◌, ◌<◌, IfErr, MatchOption, OnErr, OnOk, false, length, true};
 ghost use Rattle.authdata.specs.Objects.{ObjectOf, object_view};
-ghost use Rattle.passkey_c.specs.Asked.{AskKeeps, IsBroken, IsSmall, IsUnread, IsUntold, Tells, TellsAs};
+ghost use Rattle.authdata.specs.Statements.{IsSelfSignedBy};
+ghost use Rattle.cose.specs.Keys.{lent_key_view};
+ghost use Rattle.verification.specs.Registration.{counted};
+ghost use Rattle.passkey_c.specs.Asked.{AskKeeps, IsBroken, IsNotSelfSigned, IsSmall, IsUnread, IsUntold, Tells, TellsAs};
 ghost use Rattle.passkey_c.specs.Asked.{response_of};
 ghost use Rattle.passkey_c.specs.Numbers.{IsAskAnswer, ask_number, limit_number};
 ghost use Rattle.passkey_c.specs.Parts.{Fills, flag_of, profile_of};
 ghost use Rattle.passkey_c.specs.declared.answers.Limit.{Limit};
 
 use crate::answers::{ACCEPTED, Limit};
-use crate::input::{KeyLimit, key_from, profile_from, write_front, write_key};
+use crate::input::{KeyLimit, is_profile, key_from, profile_from, write_front, write_key};
 use crate::parts::{SignatureCall, SignatureOut};
-use authdata::{AttestationObject, self_signature};
+use authdata::{AttestationObject, Profile, self_signature};
 use clientdata::hash;
 use cose::KeyView;
 use std::alloc::Global;
+use verification::counts_as_none;
 use verified_signature::attested_key;
 
 /// A signature that is to be verified, of the authenticator data and then the hash of the client data.
@@ -85,6 +89,23 @@ fn tell(
     Ok(())
 }
 
+/// The signature by which an object, as it counts, attests this key itself.
+fn counted_signature<'a>(
+    profile: Profile,
+    asked: bool,
+    object: &'a AttestationObject,
+    key: &KeyView<'_>,
+) -> Option<&'a [u8]>
+    ensures { MatchOption result
+        (IsNotSelfSigned (counted profile asked (object_view object.now)) (lent_key_view key.now))
+        (λ sig. IsSelfSignedBy (counted profile asked (object_view object.now)) (lent_key_view key.now) sig.now) }
+{
+    if counts_as_none(profile, asked) {
+        return None;
+    }
+    self_signature(object, key)
+}
+
 /// Tells the signature that an object asks for, or that it asks for none.
 fn tell_object(
     call: &SignatureCall<'_>,
@@ -99,10 +120,12 @@ fn tell_object(
     ensures refused { IfErr result (IsUntold call.now (length message.old) (length signature.old)) }
     ensures untouched { OnErr result ((out.new ≡ out.old) × (message.new ≡ message.old) × (signature.new ≡ signature.old)) }
 {
-    let Some(key) = attested_key(profile_from(call.open_profile != 0), &object.auth_data) else {
+    let profile = profile_from(call.profile);
+    let Some(key) = attested_key(profile, &object.auth_data) else {
         return Err(AskError::Unreadable);
     };
-    let Some(self_signature) = self_signature(object, &key) else {
+    let asked = call.attestation != 0;
+    let Some(self_signature) = counted_signature(profile, asked, object, &key) else {
         out.is_asked = false;
         return Ok(());
     };
@@ -171,8 +194,8 @@ fn tell_sign_in(
 }
 
 /// Tells which signature the host is to verify: 0 where it is told, or that there is none; 7 where a registration attests
-/// nothing; 104 to 106 where a sign-in's key is out of its limits; 110 or 111 where a room is too small; 127 where there
-/// was no memory.
+/// nothing; 104 to 106 where a sign-in's key is out of its limits; 110 or 111 where a room is too small; 112 where a
+/// registration's profile is not known; 127 where there was no memory.
 #[unsafe(no_mangle)]
 pub extern "C" fn passkey_signature_asked(
     alloc: Global,
@@ -182,20 +205,22 @@ pub extern "C" fn passkey_signature_asked(
     out: &mut SignatureOut,
 ) -> u32
     ensures told { result ≡ 0 → Tells call.now out.new message.new signature.new out.new.is_asked }
-    ensures unread { result ≡ 7 → (flag_of call.now.is_registration ≡ true) × IsUnread (profile_of (flag_of call.now.open_profile)) (response_of call.now.registration) }
+    ensures unread { result ≡ 7 → (flag_of call.now.is_registration ≡ true) × IsUnread (profile_of call.now.profile) (response_of call.now.registration) }
     ensures limit { (limit : Limit) → result ≡ limit_number limit → IsBroken call.now (length message.old) (length signature.old) limit }
     ensures within { result < 100 → AskKeeps (flag_of call.now.is_registration) call.now }
     ensures memory { result ≡ 127 → flag_of call.now.is_registration ≡ true }
     ensures answer { IsAskAnswer result }
     ensures untouched { result ≢ 0 → (out.new ≡ out.old) × (message.new ≡ message.old) × (signature.new ≡ signature.old) }
 {
-    let told = if call.is_registration != 0 {
-        tell_registration(alloc, call, message, signature, out)
-    } else {
+    let told = if call.is_registration == 0 {
         match tell_sign_in(call, message, signature, out) {
             Ok(()) => Ok(()),
             Err(limit) => Err(AskError::Limit(limit)),
         }
+    } else if is_profile(call.profile) {
+        tell_registration(alloc, call, message, signature, out)
+    } else {
+        Err(AskError::Limit(Limit::Profile))
     };
     match told {
         Ok(()) => ACCEPTED,

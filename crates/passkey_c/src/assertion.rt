@@ -192,7 +192,7 @@ fn accepted_data<'a>(call: &AssertionCall<'a>) -> AuthView<'a>
     ensures { AuthOf (judged_sign_in call.now).rp.profile (lent_auth_view result) call.now.response.auth_data.now }
 {
     match read_view(
-        profile_from(call.party.open_profile != 0),
+        profile_from(call.party.profile),
         call.response.auth_data,
     ) {
         Ok(data) => data,
@@ -201,7 +201,7 @@ fn accepted_data<'a>(call: &AssertionCall<'a>) -> AuthView<'a>
 }
 
 /// Judges a sign-in: 0 where each step of section 7.2 is passed, the only valid signature being the one that the host
-/// verified, and then what it says is written; else 1 to 16 for the first step that is not passed, 100 and up for a
+/// verified, and then what it says is written; else 1 to 18 for the first step that is not passed, 100 and up for a
 /// member that is out of its limits, 127 where there was no memory, and nothing is written.
 #[unsafe(no_mangle)]
 pub extern "C" fn passkey_assertion(

@@ -1,10 +1,10 @@
 //! What a host hands in, as values of the crates below.
 
-ghost use Rattle.std.specs.Prelude.{◌≡◌, ◌≢◌, ◌≤◌, IfErr, IfOk, IfSome, None, OnOk, Some, length, map, option_map};
+ghost use Rattle.std.specs.Prelude.{◌≡◌, ◌≢◌, ◌↔◌, ◌≤◌, IfErr, IfOk, IfSome, IsTrue, None, OnOk, Some, length, map, option_map};
 ghost use Rattle.refusal_order.specs.Lines.{Each};
 ghost use Rattle.cose.specs.Keys.{lent_key_view};
-ghost use Rattle.passkey_c.specs.Limits.{IsFault, KeyKeeps, PartyKeeps, key_order, party_limits};
-ghost use Rattle.passkey_c.specs.Parts.{Fills, IsAlg, TellsKey, alg_in, flag_of, given, key_of, lent, party_of, profile_of};
+ghost use Rattle.passkey_c.specs.Limits.{AreTexts, IsFault, KeyKeeps, PartyKeeps, key_order, party_limits};
+ghost use Rattle.passkey_c.specs.Parts.{Fills, IsAlg, IsProfile, TellsKey, alg_in, flag_of, given, key_of, lent, party_of, profile_of};
 
 use crate::answers::{InputFault, Limit};
 use crate::parts::{Bytes, KeyOut, KeyParts, PartyParts};
@@ -122,17 +122,20 @@ pub(crate) fn copy_of(
     }
 }
 
-/// The origins as texts.
-fn origins<'a>(alloc: Global, party: &PartyParts<'a>) -> Result<Vec<&'a str>, InputFault>
-    ensures found { IfOk result (λ texts. map (λ text. text.now) texts.items ≡ lent party.now.origins.now) }
-    ensures kept { OnOk result (PartyKeeps party.now Limit.Origin) }
-    ensures refused { IfErr result (IsFault (PartyKeeps party.now)) }
+/// The parts as texts; a part that is none breaks this limit.
+fn texts<'a>(
+    alloc: Global,
+    parts: &[Bytes<'a>],
+    limit: Limit,
+) -> Result<Vec<&'a str>, InputFault>
+    ensures found { IfOk result (λ texts. map (λ text. text.now) texts.items ≡ lent parts.now) }
+    ensures kept { OnOk result (AreTexts parts.now) }
+    ensures refused { IfErr result (IsFault (λ broken. broken ≡ limit → AreTexts parts.now)) }
 {
-    let parts = party.origins;
     let mut texts = Vec::with_capacity(alloc, parts.len())?;
     for part in parts {
         let Ok(text) = str::from_utf8(part.bytes) else {
-            return Err(InputFault::Limit(Limit::Origin));
+            return Err(InputFault::Limit(limit));
         };
         if texts.push(text).is_err() {
             return Err(InputFault::Memory);
@@ -141,15 +144,22 @@ fn origins<'a>(alloc: Global, party: &PartyParts<'a>) -> Result<Vec<&'a str>, In
     Ok(texts)
 }
 
-/// The profile of its flag.
-pub(crate) fn profile_from(open_profile: bool) -> Profile
-    ensures { result ≡ profile_of open_profile }
+/// The profile of its number, of one of the three.
+pub(crate) fn profile_from(number: u8) -> Profile
+    ensures { result ≡ profile_of number }
 {
-    if open_profile {
-        Profile::Open
-    } else {
-        Profile::Strict
+    match number {
+        0 => Profile::Strict,
+        1 => Profile::Open,
+        _ => Profile::Level3,
     }
+}
+
+/// Whether the number is a profile's.
+pub(crate) fn is_profile(number: u8) -> bool
+    ensures { IsTrue result ↔ IsProfile number }
+{
+    number < 3
 }
 
 /// The relying party that is handed in.
@@ -161,9 +171,13 @@ pub(crate) fn party_from(alloc: Global, parts: &PartyParts<'_>) -> Result<Relyin
     let Ok(rp_id) = str::from_utf8(parts.rp_id) else {
         return Err(InputFault::Limit(Limit::RpId));
     };
-    let origins = origins(alloc, parts)?;
-    let profile = profile_from(parts.open_profile != 0);
-    match RelyingParty::with_profile(alloc, profile, rp_id, &origins) {
+    let origins = texts(alloc, parts.origins, Limit::Origin)?;
+    if !is_profile(parts.profile) {
+        return Err(InputFault::Limit(Limit::Profile));
+    }
+    let profile = profile_from(parts.profile);
+    let top_origins = texts(alloc, parts.top_origins, Limit::TopOrigin)?;
+    match RelyingParty::framed_by(alloc, profile, rp_id, &origins, &top_origins) {
         Ok(party) => Ok(party),
         Err(_) => Err(InputFault::Memory),
     }

@@ -1,7 +1,7 @@
 //! The steps of a relying party for hosts in other languages: each call judges one response by what it is handed,
 //! and keeps nothing. `c/passkey.h` declares the calls, and says of each member what it is.
 //!
-//! A call answers 0 where the response is accepted, 1 to 16 for the step that refuses it, 100 and up for a member
+//! A call answers 0 where the response is accepted, 1 to 18 for the step that refuses it, 100 and up for a member
 //! that is out of its limits, and 127 where there was no memory. What it tells is written only with the answer 0.
 //!
 //! The mathematics of signatures is the host's. It hands in the public key, the message and the signature that it

@@ -31,8 +31,10 @@ pub struct PartyParts<'a> {
     pub rp_id: &'a [u8],
     /// The origins of its pages, each in UTF-8.
     pub origins: &'a [Bytes<'a>],
-    /// Whether responses are read by the open profile; else by the strict one.
-    pub open_profile: u8,
+    /// Which responses are taken: 0 the strict profile, 1 the open one, 2 that of Level 3.
+    pub profile: u8,
+    /// The origins of other sites' pages that may frame its own, each in UTF-8. Level 3 alone looks at them.
+    pub top_origins: &'a [Bytes<'a>],
 }
 
 /// A public key, a message and a signature, of which the host found that the signature is valid.
@@ -157,6 +159,10 @@ pub struct RegisterParts<'a> {
     pub offers_eddsa: u8,
     /// Whether RS256 was offered (-257).
     pub offers_rs256: u8,
+    /// Whether it was begun as a conditional create. Level 3 alone looks at it.
+    pub conditional: u8,
+    /// Whether an attestation was asked for. Level 3 alone looks at it.
+    pub attestation: u8,
 }
 
 /// A client's answer to a registration.
@@ -247,14 +253,16 @@ pub struct RegistrationOut {
 pub struct SignatureCall<'a> {
     /// Whether it answers a registration; else a sign-in.
     pub is_registration: u8,
-    /// Of a registration: whether the response is read by the open profile; else by the strict one.
-    pub open_profile: u8,
+    /// Of a registration: which responses are taken, as `PartyParts` has it.
+    pub profile: u8,
     /// Of a registration: the client's answer.
     pub registration: AttestationParts<'a>,
     /// Of a sign-in: the client's answer.
     pub assertion: AnswerParts<'a>,
     /// Of a sign-in: the public key of the credential.
     pub key: KeyParts<'a>,
+    /// Of a registration: whether an attestation was asked for. Level 3 alone looks at it.
+    pub attestation: u8,
 }
 
 /// Which signature the host is to verify.

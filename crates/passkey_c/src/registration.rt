@@ -86,6 +86,8 @@ fn expected(
         algorithms,
         uv: call.session.user_verification != 0,
         challenge,
+        conditional: call.session.conditional != 0,
+        attestation: call.session.attestation != 0,
     }))
 }
 
@@ -170,7 +172,8 @@ fn accepted_credential<'a>(call: &RegistrationCall<'a>) -> SeenRegistration<'a>
     ensures { IsAccepted call.now result }
 {
     match seen_in(
-        profile_from(call.party.open_profile != 0),
+        profile_from(call.party.profile),
+        call.session.attestation != 0,
         call.response.object,
     ) {
         Some(seen) => seen,
@@ -180,7 +183,7 @@ fn accepted_credential<'a>(call: &RegistrationCall<'a>) -> SeenRegistration<'a>
 
 /// Judges a registration: 0 where each step of section 7.1 is passed, the only valid signature being the one that the
 /// host verified and the only id that is not registered the one that it found to be free, and then what it attests is
-/// written; else 1 to 16 for the first step that is not passed, 100 and up for a member that is out of its limits, 127
+/// written; else 1 to 18 for the first step that is not passed, 100 and up for a member that is out of its limits, 127
 /// where there was no memory, and nothing is written.
 #[unsafe(no_mangle)]
 pub extern "C" fn passkey_registration(

@@ -10,11 +10,12 @@ use crate::input::{write_front, write_key};
 use crate::parts::{AssertionOut, RegistrationOut};
 use authdata::{AttestedView, AuthView, Profile, flags, read_view};
 use ccbor::{MapKey, View};
+use verification::counts_as_none;
 
 /// What a registration attests.
 #[derive(Clone, Copy, Drop)]
 pub struct SeenRegistration<'a> {
-    /// Whether the format of its statement is `none`.
+    /// Whether the format of its statement is `none`, or counts as that.
     pub is_none: bool,
     /// The authenticator data.
     pub data: AuthView<'a>,
@@ -59,10 +60,15 @@ fn object_parts(object: &[u8]) -> Option<(bool, &[u8])>
     }
 }
 
-/// What the attestation object of a registration attests, which it was read for already.
-pub(crate) fn seen_in(profile: Profile, object: &[u8]) -> Option<SeenRegistration<'_>>
+/// What the attestation object of a registration attests, which it was read for already, where an attestation was asked for
+/// or not.
+pub(crate) fn seen_in(
+    profile: Profile,
+    asked: bool,
+    object: &[u8],
+) -> Option<SeenRegistration<'_>>
     ensures { (o : Attestation) (a : AuthenticatorData) (c : AttestedCredential) → ObjectOf o object.now → AuthOf profile a o.auth_data
-        → a.attested ≡ Some c → MatchOption result ⊥ (IsSeen profile o) }
+        → a.attested ≡ Some c → MatchOption result ⊥ (IsSeen profile asked o) }
 {
     let Some((is_none, bytes)) = object_parts(object) else {
         return None;
@@ -72,7 +78,7 @@ pub(crate) fn seen_in(profile: Profile, object: &[u8]) -> Option<SeenRegistratio
     };
     match data.attested {
         Some(credential) => Some(SeenRegistration {
-            is_none,
+            is_none: counts_as_none(profile, asked) || is_none,
             data,
             credential,
         }),

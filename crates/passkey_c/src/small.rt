@@ -13,9 +13,9 @@ use clientdata::challenge_characters;
 /// The version of these calls.
 #[unsafe(no_mangle)]
 pub extern "C" fn passkey_abi_version() -> u32
-    ensures { result ≡ 3 }
+    ensures { result ≡ 4 }
 {
-    3
+    4
 }
 
 /// Whether the bytes are one value of canonical CBOR, and no more.

@@ -20,6 +20,10 @@ fn sign_in_text(step: SignInRefusal) -> &'static str
         SignInRefusal::WrongType => "the client data are not of a sign-in",
         SignInRefusal::WrongChallenge => "the challenge is not the session's",
         SignInRefusal::WrongOrigin => "the origin is not the relying party's",
+        SignInRefusal::CrossOrigin => "the page is in another site's frame",
+        SignInRefusal::WrongTopOrigin => {
+            "the page at the top is none that the relying party names"
+        }
         SignInRefusal::TokenBinding => "token binding is used",
         SignInRefusal::BadAuthenticatorData =>
             "the authenticator data cannot be read, or they attest a credential",
@@ -43,6 +47,10 @@ fn registration_text(step: RegistrationRefusal) -> &'static str
         RegistrationRefusal::WrongType => "the client data are not of a registration",
         RegistrationRefusal::WrongChallenge => "the challenge is not the session's",
         RegistrationRefusal::WrongOrigin => "the origin is not the relying party's",
+        RegistrationRefusal::CrossOrigin => "the page is in another site's frame",
+        RegistrationRefusal::WrongTopOrigin => {
+            "the page at the top is none that the relying party names"
+        }
         RegistrationRefusal::TokenBinding => "token binding is used",
         RegistrationRefusal::BadAttestationObject => {
             "the attestation object cannot be read, or attests no credential"

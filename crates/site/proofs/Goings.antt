@@ -96,7 +96,7 @@ numbered_closed s rows k f n e h = f n e (still s k n e h)
 
 new_challenge : (n : ℕ) (o : Opening) → (words : List ℕ) × (challenge_in (expected_of n o) ≡ challenge_of n words)
 new_challenge n (OpensSignIn user allow uv words) = (words, refl)
-new_challenge n (OpensRegistration user algorithms uv words) = (words, refl)
+new_challenge n (OpensRegistration user algorithms uv words asks) = (words, refl)
 
 pub begun_or : (s : SiteState) (o : Opening) (n : ℕ) (e : Expected) → finite.get (begun s.sessions o).expected n ≡ Some e
     → ((n ≡ s.sessions.next) × (e ≡ expected_of s.sessions.next o)) ⊎ (finite.get s.sessions.expected n ≡ Some e)
@@ -164,8 +164,8 @@ sign_in_keeps valid s n r a passes is x there = record {
   id = refl;
   key = refl;
   user = refl;
-  sign_count = not_lower x.sign_count a.sign_count (passes.1.1.1.1.1.1.1.1.1.1.1.1.1.1.0 x there a is);
-  eligible = λ known e. ap Some (passes.1.1.1.1.1.1.1.1.1.1.1.1.1.1.1.0 x there known e a is);
+  sign_count = not_lower x.sign_count a.sign_count (passes.1.1.1.1.1.1.1.1.1.1.1.1.1.1.1.1.0 x there a is);
+  eligible = λ known e. ap Some (passes.1.1.1.1.1.1.1.1.1.1.1.1.1.1.1.1.1.0 x there known e a is);
   retired = λ e. e;
 }
 
@@ -229,7 +229,7 @@ retired_refused valid s n r row there is passes = let no : row.retired ≡ false
 registered_refused : (valid : Validity) (s : SiteState) (n : ℕ) (r : responses.AuthenticatorAttestationResponse)
     → registration.PassesRegistration valid (judged_registration s n r)
     → registration.Attested s.rp.profile r (λ o a c. row_of c.id s.rows ≡ None)
-registered_refused valid s n r passes o a c attests = no_row (row_of c.id s.rows) (passes.1.1.1.1.1.1.1.1.1.1.1.1.1.1.0 o a c attests)
+registered_refused valid s n r passes o a c attests = no_row (row_of c.id s.rows) (passes.1.1.1.1.1.1.1.1.1.1.1.1.1.1.1.1.0 o a c attests)
 
 one_table : (s t : SiteState) (v w : ℕ) (bs : List ℕ) → TableOf v (saved_of s) bs → TableOf w (saved_of t) bs → (t.rows ≡ s.rows)
     × (t.sessions.next ≡ s.sessions.next)

@@ -4,7 +4,7 @@ use Rattle.std.proofs.lemmas.Grind.{common_steps}
 use Rattle.std.proofs.lemmas.Bool.{cases_Bool}
 use Rattle.std.specs.Prelude.{Bool, true, false, not, Option, Some, None, IsSome, IsTrue, is_some, option_map}
 use Rattle.authdata.specs.declared.profile.Profile.{Profile}
-use Rattle.authdata.specs.declared.profile.Profile.TheVariants.{Open, Strict}
+use Rattle.authdata.specs.declared.profile.Profile.TheVariants.{Level3, Open, Strict}
 use Rattle.authdata.specs.Profiles.{max_id}
 use Rattle.authdata.specs.Layout.{AuthenticatorData, AttestedCredential, IsAuthenticatorData}
 use Rattle.authdata.proofs.Unique.{is_credential}
@@ -81,6 +81,7 @@ row_limits p a c id user handle is e ids handles low =
 pub looser_id : (p : Profile) (id : List ℕ) → IsWithin (max_id p) id → IsWithin 1023 id
 looser_id Strict id is = (is.0, omega (arith, is.1))
 looser_id Open id is = is
+looser_id Level3 id is = is
 
 abbrev pub admitted_as : RelyingParty → Policy → responses.AuthenticatorAttestationResponse → List Credential → Option ExpectedRegistration → JudgedRegistration
 admitted_as rp policy r rows session = registration_with rp policy r (λ id. is_some (row_of id rows)) (is_full rows) session

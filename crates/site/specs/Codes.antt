@@ -14,8 +14,10 @@ use Rattle.site.specs.State.{SiteState}
 
 abbrev party_code : Coded RelyingParty
 party_code =
-    code_by (Bytes × (List Bytes × Profile)) (coded× coded_bytes (coded× (coded_list coded_bytes) profile.the_row.coded))
-    (λ p. (p.rp_id, (p.origins, p.profile))) (λ p. record { rp_id = p.0; origins = p.1.0; profile = p.1.1 }) (λ _. refl)
+    code_by (Bytes × (List Bytes × (List Bytes × Profile)))
+    (coded× coded_bytes (coded× (coded_list coded_bytes) (coded× (coded_list coded_bytes) profile.the_row.coded)))
+    (λ p. (p.rp_id, (p.origins, (p.top_origins, p.profile))))
+    (λ p. record { rp_id = p.0; origins = p.1.0; top_origins = p.1.1.0; profile = p.1.1.1 }) (λ _. refl)
 
 abbrev credential_code : Coded Credential
 credential_code =

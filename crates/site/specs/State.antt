@@ -26,9 +26,13 @@ pub record SiteState : Type 0 where
 abbrev pub IsParty : RelyingParty → Type 0
 IsParty rp = IsWithin 253 rp.rp_id × (1 ≤ length rp.origins)
 
--- the relying party of these texts, which takes responses of this profile
+-- the relying party of these texts, which takes responses of this profile, where pages of these other sites may frame its own
+abbrev pub framed_party : Profile → List ℕ → List (List ℕ) → List (List ℕ) → RelyingParty
+framed_party profile rp_id origins top_origins = record { rp_id = rp_id; origins = origins; top_origins = top_origins; profile = profile }
+
+-- and where none may
 abbrev pub party_of : Profile → List ℕ → List (List ℕ) → RelyingParty
-party_of profile rp_id origins = record { rp_id = rp_id; origins = origins; profile = profile }
+party_of profile rp_id origins = framed_party profile rp_id origins []
 
 -- no session is open
 abbrev pub none_open : ℕ → ℕ → OpenSessions

@@ -8,15 +8,15 @@ ghost use Rattle.authdata.specs.declared.profile.Profile.TheVariants.{Open, Stri
 ghost use Rattle.verification.specs.Views.{credential_view, texts_of};
 ghost use Rattle.credential_table.specs.Table.{IsTable, IsWithin, retired, row_of, with_row};
 ghost use Rattle.credential_table.specs.Views.{rows_view, stored_row_view};
-ghost use Rattle.ceremony_sessions.specs.Sessions.{IsRefused, OpensRegistration, OpensSignIn, PassesOpening, begun, challenge_of, closed};
+ghost use Rattle.ceremony_sessions.specs.Sessions.{IsRefused, OpensRegistration, OpensSignIn, PassesOpening, begun, challenge_of, closed, usual};
 ghost use Rattle.ceremony_sessions.specs.Views.{session_view};
 ghost use Rattle.saved_table.specs.Saved.{AppendsTable};
-ghost use Rattle.site.specs.State.{IsLoaded, IsNoTable, IsParty, idle, party_of, saved_of};
+ghost use Rattle.site.specs.State.{IsLoaded, IsNoTable, IsParty, framed_party, idle, party_of, saved_of};
 ghost use Rattle.site.specs.declared.error.Error.TheVariants as errors;
 
 use crate::error::Error;
 use authdata::Profile;
-use ceremony_sessions::{Session, Sessions, Started};
+use ceremony_sessions::{Asks, Session, Sessions, Started};
 use cose::Alg;
 use credential_table::{Row, Rows, Table, is_within};
 use saved_table::{Loaded, save};
@@ -137,13 +137,32 @@ impl Site {
         ensures input { IsErrOf result Error.BadInput ↔ ¬ IsParty (party_of profile rp_id.now (texts_of origins.now)) }
         ensures table { IsErrOf result Error.BadTable → IsTable profile table → ⊥ }
     {
+        Site::framed_by(alloc, profile, rp_id, origins, &[], policy, table)
+    }
+
+    /// The same where other sites' pages of these origins may frame its own (WebAuthn Level 3, sections 7.1 and 7.2,
+    /// `topOrigin`), of which each is compared as a text. Level 3 alone looks at them.
+    pub fn framed_by(
+        alloc: Global,
+        profile: Profile,
+        rp_id: &str,
+        origins: &[&str],
+        top_origins: &[&str],
+        policy: Policy,
+        table: Table,
+    ) -> Result<Site, Error>
+        ensures made { IfOk result (λ s. s
+            ≡ idle (framed_party profile rp_id.now (texts_of origins.now) (texts_of top_origins.now)) policy table 1) }
+        ensures input { IsErrOf result Error.BadInput ↔ ¬ IsParty (party_of profile rp_id.now (texts_of origins.now)) }
+        ensures table { IsErrOf result Error.BadTable → IsTable profile table → ⊥ }
+    {
         if !is_party(rp_id, origins) {
             return Err(Error::BadInput);
         }
         if !table.is_of(profile) {
             return Err(Error::BadTable);
         }
-        let party = RelyingParty::with_profile(alloc, profile, rp_id, origins)?;
+        let party = RelyingParty::framed_by(alloc, profile, rp_id, origins, top_origins)?;
         Ok(site_with(alloc, party, policy, table, 1))
     }
 
@@ -210,12 +229,29 @@ impl Site {
         ensures input { IsErrOf result Error.BadInput ↔ ¬ IsParty (party_of profile rp_id.now (texts_of origins.now)) }
         ensures table { IsErrOf result Error.BadTable → IsNoTable (party_of profile rp_id.now (texts_of origins.now)) bytes.now }
     {
+        Site::load_framed_by(alloc, profile, bytes, rp_id, origins, &[], policy)
+    }
+
+    /// The same where other sites' pages of these origins may frame its own, as for `framed_by`.
+    pub fn load_framed_by(
+        alloc: Global,
+        profile: Profile,
+        bytes: &[u8],
+        rp_id: &str,
+        origins: &[&str],
+        top_origins: &[&str],
+        policy: Policy,
+    ) -> Result<Site, Error>
+        ensures loaded { IfOk result (IsLoaded (framed_party profile rp_id.now (texts_of origins.now) (texts_of top_origins.now)) policy bytes.now) }
+        ensures input { IsErrOf result Error.BadInput ↔ ¬ IsParty (party_of profile rp_id.now (texts_of origins.now)) }
+        ensures table { IsErrOf result Error.BadTable → IsNoTable (party_of profile rp_id.now (texts_of origins.now)) bytes.now }
+    {
         if !is_party(rp_id, origins) {
             return Err(Error::BadInput);
         }
         match saved_table::load(alloc, profile, bytes, rp_id) {
             Ok(Loaded { table, next }) => {
-                let party = RelyingParty::with_profile(alloc, profile, rp_id, origins)?;
+                let party = RelyingParty::framed_by(alloc, profile, rp_id, origins, top_origins)?;
                 Ok(site_with(alloc, party, policy, table, next))
             }
             Err(saved_table::Error::BadTable) => Err(Error::BadTable),
@@ -267,7 +303,8 @@ impl Site {
     }
 
     /// Begins a registration for the account with this user handle, with these algorithms offered, and with the user
-    /// verified or not. The words are 24 random bytes, never used before.
+    /// verified or not. It is not conditional, and asks for an attestation. The words are 24 random bytes, never used
+    /// before.
     ///
     /// `BadInput` where the user handle is not of 1 to 64 bytes or no algorithm is offered, then as for a sign-in.
     pub fn begin_registration(
@@ -277,14 +314,32 @@ impl Site {
         uv: bool,
         words: [u8; 24],
     ) -> Result<Started, ceremony_sessions::Error>
-        ensures passes { OnOk result (PassesOpening self.old.rp.profile self.old.sessions (OpensRegistration user.now algorithms.now uv words)) }
+        ensures passes { OnOk result (PassesOpening self.old.rp.profile self.old.sessions (OpensRegistration user.now algorithms.now uv words usual)) }
         ensures started { IfOk result (λ s. (s.session ≡ self.old.sessions.next) × (s.challenge ≡ challenge_of self.old.sessions.next words)) }
-        ensures begun { OnOk result (self.new ≡ record self.old { sessions = begun self.old.sessions (OpensRegistration user.now algorithms.now uv words) }) }
-        ensures refused { IfErr result (IsRefused self.old.rp.profile self.old.sessions (OpensRegistration user.now algorithms.now uv words)) }
+        ensures begun { OnOk result (self.new ≡ record self.old { sessions = begun self.old.sessions (OpensRegistration user.now algorithms.now uv words usual) }) }
+        ensures refused { IfErr result (IsRefused self.old.rp.profile self.old.sessions (OpensRegistration user.now algorithms.now uv words usual)) }
+        ensures unchanged { OnErr result (self.new ≡ self.old) }
+    {
+        self.begin_registration_for(user, algorithms, uv, Asks::usual(), words)
+    }
+
+    /// The same, conditional or not, and with an attestation asked for or not.
+    pub fn begin_registration_for(
+        &mut self,
+        user: &[u8],
+        algorithms: &[Alg],
+        uv: bool,
+        asks: Asks,
+        words: [u8; 24],
+    ) -> Result<Started, ceremony_sessions::Error>
+        ensures passes { OnOk result (PassesOpening self.old.rp.profile self.old.sessions (OpensRegistration user.now algorithms.now uv words asks)) }
+        ensures started { IfOk result (λ s. (s.session ≡ self.old.sessions.next) × (s.challenge ≡ challenge_of self.old.sessions.next words)) }
+        ensures begun { OnOk result (self.new ≡ record self.old { sessions = begun self.old.sessions (OpensRegistration user.now algorithms.now uv words asks) }) }
+        ensures refused { IfErr result (IsRefused self.old.rp.profile self.old.sessions (OpensRegistration user.now algorithms.now uv words asks)) }
         ensures unchanged { OnErr result (self.new ≡ self.old) }
     {
         self.sessions
-            .begin_registration(user, algorithms, uv, words)
+            .begin_registration_for(user, algorithms, uv, asks, words)
     }
 
     /// Closes a session: true exactly where it was open. It takes no memory.

@@ -5,14 +5,14 @@ ghost use Rattle.std.specs.FinMap as finite;
 ghost use Rattle.std.specs.Option.{ForSome};
 ghost use Rattle.verification.specs.Views.{registration_view, sign_in_view};
 ghost use Rattle.credential_table.specs.Table.{IsWithin};
-ghost use Rattle.ceremony_sessions.specs.Sessions.{IsInput, IsRefused, OpensRegistration, OpensSignIn, challenge_of, registration_at, sign_in_at};
+ghost use Rattle.ceremony_sessions.specs.Sessions.{IsInput, IsRefused, OpensRegistration, OpensSignIn, challenge_of, registration_at, sign_in_at, usual};
 ghost use Rattle.authdata.specs.declared.profile.Profile.{Profile as IdProfile};
 ghost use Rattle.timed_sessions.specs.Timed.{HaveMoments, IsTrimmed, after_begin, after_end, since};
 ghost use Rattle.timed_sessions.specs.Private.{removed};
 
 use crate::began_at::BeganAt;
 use authdata::Profile;
-use ceremony_sessions::{Error, Sessions, Started};
+use ceremony_sessions::{Asks, Error, Sessions, Started};
 use cose::Alg;
 use std::alloc::{AllocError, Global};
 use std::marker::Model;
@@ -172,8 +172,28 @@ impl TimedSessions {
         now: u64,
     ) -> Result<Started, Error>
         ensures started { IfOk result (λ s. (s.session ≡ self.old.open_sessions.next) × (s.challenge ≡ challenge_of self.old.open_sessions.next words)) }
-        ensures begun { OnOk result (IsTrimmed (after_begin self.old (OpensRegistration user.now algorithms.now uv words) now) self.new) }
-        ensures refused { (profile : IdProfile) → IfErr result (IsRefused profile self.old.open_sessions (OpensRegistration user.now algorithms.now uv words)) }
+        ensures begun { OnOk result (IsTrimmed (after_begin self.old (OpensRegistration user.now algorithms.now uv words usual) now) self.new) }
+        ensures refused { (profile : IdProfile) → IfErr result (IsRefused profile self.old.open_sessions (OpensRegistration user.now algorithms.now uv words usual)) }
+        // For want of room none is refused.
+        ensures room { IfErr result (λ e. e ≡ Error.SessionsFull → ⊥) }
+        ensures unchanged { OnErr result (self.new ≡ self.old) }
+    {
+        self.begin_registration_for(user, algorithms, uv, Asks::usual(), words, now)
+    }
+
+    /// The same, conditional or not, and with an attestation asked for or not.
+    pub fn begin_registration_for(
+        &mut self,
+        user: &[u8],
+        algorithms: &[Alg],
+        uv: bool,
+        asks: Asks,
+        words: [u8; 24],
+        now: u64,
+    ) -> Result<Started, Error>
+        ensures started { IfOk result (λ s. (s.session ≡ self.old.open_sessions.next) × (s.challenge ≡ challenge_of self.old.open_sessions.next words)) }
+        ensures begun { OnOk result (IsTrimmed (after_begin self.old (OpensRegistration user.now algorithms.now uv words asks) now) self.new) }
+        ensures refused { (profile : IdProfile) → IfErr result (IsRefused profile self.old.open_sessions (OpensRegistration user.now algorithms.now uv words asks)) }
         // For want of room none is refused.
         ensures room { IfErr result (λ e. e ≡ Error.SessionsFull → ⊥) }
         ensures unchanged { OnErr result (self.new ≡ self.old) }
@@ -182,7 +202,7 @@ impl TimedSessions {
         self.began.insert(number, now)?;
         match self
             .open_sessions
-            .begin_registration(user, algorithms, uv, words)
+            .begin_registration_for(user, algorithms, uv, asks, words)
         {
             Ok(started) => {
                 trim(&mut self.open_sessions, &mut self.began);

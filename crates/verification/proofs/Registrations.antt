@@ -3,11 +3,14 @@ use Rattle.std.proofs.Common.{◌≡◌, ◌⊎◌, inl, inr, ℕ, List, [], ◌
 use Rattle.refusal_order.proofs.Laws.{each_joined, first_along, first_at, first_before, first_behind, first_image}
 use Rattle.refusal_order.specs.Lines.{Each, FirstFailing}
 use Rattle.clientdata.specs.declared.record.CeremonyType.TheVariants.{Create}
+use Rattle.std.specs.Option.{ForSome}
 use Rattle.cose.specs.Keys.{alg_of}
+use Rattle.cose.specs.declared.key.CoseKey.{CoseKey}
 use Rattle.authdata.specs.declared.profile.Profile.{Profile}
+use Rattle.authdata.specs.declared.profile.Profile.TheVariants.{Level3, Open, Strict}
 use Rattle.authdata.specs.Layout.{AuthenticatorData, AttestedCredential, AuthOf}
 use Rattle.authdata.specs.Objects.{Attestation, ObjectOf}
-use Rattle.authdata.specs.Statements.{IsKnownFormat, IsNone, IsSelfSigned}
+use Rattle.authdata.specs.Statements.{IsKnownFormat, IsNone}
 use Rattle.authdata.specs.declared.statement.AttestationType.{AttestationType}
 use Rattle.authdata.specs.declared.statement.AttestationType.TheVariants as types
 use Rattle.authdata.proofs.Objects.{one_object}
@@ -15,8 +18,8 @@ use Rattle.authdata.proofs.Unique.{one_value}
 use Rattle.verification.specs.Records.{ExpectedRegistration}
 use Rattle.cose.specs.Schemes.{Validity}
 use Rattle.verification.specs.Shared.{FailsIn, IsFor, IsPresent, IsVerifiedAs, never}
-use Rattle.verification.specs.Registration.{Attested, Attests, IsFirstFailing, JudgedRegistration, PassesRegistration, PassesRegistrationStep}
-use Rattle.verification.specs.Registration.{attestation_steps, auth_data_steps}
+use Rattle.verification.specs.Registration.{Attested, Attests, CountsAsNone, IsAccepted, IsFirstFailing, IsStated, JudgedRegistration, NeedsNoPresence}
+use Rattle.verification.specs.Registration.{PassesRegistration, PassesRegistrationStep, attestation_steps, auth_data_steps, counted}
 use Rattle.verification.specs.Registration.{client_data_steps, hash_in, response_steps, table_steps}
 use Rattle.verification.specs.ClientData.{PassesClientDataStep, client_data_order}
 use Rattle.verification.specs.RegistrationAnswers.{AcceptsAttestation, IsNoObject, IsRefused, AttestsAs, AttestsAsNothing}
@@ -38,6 +41,8 @@ line_passes x e is line.Readable says = says
 line_passes x e is line.Type says = says
 line_passes x e is line.Challenge says = λ other other_is. let same : e ≡ other = cc in rw (sym same) says
 line_passes x e is line.Origin says = says
+line_passes x e is line.CrossOrigin says = says
+line_passes x e is line.TopOrigin says = says
 line_passes x e is line.TokenBinding says = says
 
 line_says : (x : JudgedRegistration) (e : ExpectedRegistration) → x.session ≡ Some e → (l : ClientDataStep) → PassesRegistrationStep never x (step_of l)
@@ -46,6 +51,8 @@ line_says x e is line.Readable passes = passes
 line_says x e is line.Type passes = passes
 line_says x e is line.Challenge passes = passes e is
 line_says x e is line.Origin passes = passes
+line_says x e is line.CrossOrigin passes = passes
+line_says x e is line.TopOrigin passes = passes
 line_says x e is line.TokenBinding passes = passes
 
 pub client_data_fails : (x : JudgedRegistration) (e : ExpectedRegistration) (l : ClientDataStep) → x.session ≡ Some e
@@ -87,40 +94,45 @@ module _ (x : JudgedRegistration) (o : Attestation) (a : AuthenticatorData) (c :
     for_party : PassesRegistrationStep never x step.WrongRelyingParty
     for_party = of_attested (λ q b d. IsFor x.rp b) party
 
-    pub not_present : (IsPresent a → ⊥) → FirstFailing (PassesRegistrationStep never x) auth_data_steps step.UserNotPresent
-    not_present absent = first_at 2 refl (found, (for_party, tt)) (λ passes. absent (passes o a c h))
+    module _ (e : ExpectedRegistration) (is : x.session ≡ Some e) where
+      abbrev PresentFor : ExpectedRegistration → Type 0
+      PresentFor f = Attested x.rp.profile x.response (λ q b d. IsPresent b ⊎ NeedsNoPresence x.rp.profile f)
 
-    module _ (present : IsPresent a) (e : ExpectedRegistration) (is : x.session ≡ Some e) where
-      is_present : PassesRegistrationStep never x step.UserNotPresent
-      is_present = of_attested (λ q b d. IsPresent b) present
+      pub not_present : (IsPresent a ⊎ NeedsNoPresence x.rp.profile e → ⊥)
+          → FirstFailing (PassesRegistrationStep never x) auth_data_steps step.UserNotPresent
+      not_present absent = first_at 2 refl (found, (for_party, tt)) (λ passes. absent (passes e is o a c h))
 
-      pub not_verified : (IsVerifiedAs e.uv a → ⊥) → FirstFailing (PassesRegistrationStep never x) auth_data_steps step.UserNotVerified
-      not_verified unverified = first_at 3 refl (found, (for_party, (is_present, tt))) (λ passes. unverified (passes e is o a c h))
+      module _ (present : IsPresent a ⊎ NeedsNoPresence x.rp.profile e) where
+        is_present : PassesRegistrationStep never x step.UserNotPresent
+        is_present = of_some PresentFor x.session e is (of_attested (λ q b d. IsPresent b ⊎ NeedsNoPresence x.rp.profile e) present)
 
-      module _ (verified : IsVerifiedAs e.uv a) where
-        abbrev Verified : ExpectedRegistration → Type 0
-        Verified f = Attested x.rp.profile x.response (λ q b d. IsVerifiedAs f.uv b)
+        pub not_verified : (IsVerifiedAs e.uv a → ⊥) → FirstFailing (PassesRegistrationStep never x) auth_data_steps step.UserNotVerified
+        not_verified unverified = first_at 3 refl (found, (for_party, (is_present, tt))) (λ passes. unverified (passes e is o a c h))
 
-        is_verified : PassesRegistrationStep never x step.UserNotVerified
-        is_verified = of_some Verified x.session e is (of_attested (λ q b d. IsVerifiedAs e.uv b) verified)
+        module _ (verified : IsVerifiedAs e.uv a) where
+          abbrev Verified : ExpectedRegistration → Type 0
+          Verified f = Attested x.rp.profile x.response (λ q b d. IsVerifiedAs f.uv b)
 
-        pub not_offered : (Contains e.algorithms (alg_of c.key) → ⊥) → FirstFailing (PassesRegistrationStep never x) auth_data_steps step.AlgorithmNotOffered
-        not_offered other = first_at 4 refl (found, (for_party, (is_present, (is_verified, tt)))) (λ passes. other (passes e is o a c h))
+          is_verified : PassesRegistrationStep never x step.UserNotVerified
+          is_verified = of_some Verified x.session e is (of_attested (λ q b d. IsVerifiedAs e.uv b) verified)
 
-        abbrev Offered : ExpectedRegistration → Type 0
-        Offered f = Attested x.rp.profile x.response (λ q b d. Contains f.algorithms (alg_of d.key))
+          pub not_offered : (Contains e.algorithms (alg_of c.key) → ⊥) → FirstFailing (PassesRegistrationStep never x) auth_data_steps step.AlgorithmNotOffered
+          not_offered other = first_at 4 refl (found, (for_party, (is_present, (is_verified, tt)))) (λ passes. other (passes e is o a c h))
 
-        pub data_passes : Contains e.algorithms (alg_of c.key) → Each (PassesRegistrationStep never x) auth_data_steps
-        data_passes offered = (
-          found,
-          (
-            for_party,
+          abbrev Offered : ExpectedRegistration → Type 0
+          Offered f = Attested x.rp.profile x.response (λ q b d. Contains f.algorithms (alg_of d.key))
+
+          pub data_passes : Contains e.algorithms (alg_of c.key) → Each (PassesRegistrationStep never x) auth_data_steps
+          data_passes offered = (
+            found,
             (
-              is_present,
-              (is_verified, (of_some Offered x.session e is (of_attested (λ q b d. Contains e.algorithms (alg_of d.key)) offered), tt)),
+              for_party,
+              (
+                is_present,
+                (is_verified, (of_some Offered x.session e is (of_attested (λ q b d. Contains e.algorithms (alg_of d.key)) offered), tt)),
+              ),
             ),
-          ),
-        )
+          )
 
 -- bytes that are no object fail at the object
 pub no_object : (x : JudgedRegistration) (e : VerificationError RegistrationRefusal) → IsNoObject x.response.object e
@@ -148,44 +160,63 @@ bare p a bs read none b c other some = let same : a ≡ b = one_value p p a b bs
 two_formats : (fmt : List ℕ) → fmt ≡ codes "none" → fmt ≡ codes "packed" → ⊥
 two_formats fmt none packed = let same : codes "none" ≡ codes "packed" = sym none ∙ packed in cc
 
+-- what counts as the object: one with no attestation, where none was asked for, and else the object
+pub counted_none : (p : Profile) (asked : Bool) (o : Attestation) → CountsAsNone p asked → IsNone (counted p asked o)
+counted_none p asked o unasked = rw (unasked.0, unasked.1) (refl, refl)
+
+pub counted_whole : (p : Profile) (asked : Bool) (o : Attestation) → (CountsAsNone p asked → ⊥) → counted p asked o ≡ o
+counted_whole Strict asked o any = refl
+counted_whole Open asked o any = refl
+counted_whole Level3 true o any = refl
+counted_whole Level3 false o any = absurd (any (refl, refl))
+
 module _ (valid : Validity) (x : JudgedRegistration) (o : Attestation) (a : AuthenticatorData) (c : AttestedCredential)
-    (h : Attests x.rp.profile x.response o a c) where
+    (h : Attests x.rp.profile x.response o a c) (e : ExpectedRegistration) (is : x.session ≡ Some e) where
+  abbrev count : ExpectedRegistration → Attestation → Attestation
+  count f q = counted x.rp.profile f.attestation q
+
   abbrev ShownAs : AttestationType → Type 0
-  ShownAs kind = AttestsAs valid o c.key (hash_in x.response) kind
+  ShownAs kind = AttestsAs valid (count e o) c.key (hash_in x.response) kind
+
+  -- what holds of the object as it counts is what a step on it asks
+  of_counted : (P : Attestation → CoseKey → Type 0) → P (count e o) c.key
+      → ForSome x.session (λ f. Attested x.rp.profile x.response (λ q b d. P (count f q) d.key))
+  of_counted P p = of_some (λ (f : ExpectedRegistration). Attested x.rp.profile x.response (λ q b d. P (count f q) d.key)) x.session e is
+      (of_attested x o a c h (λ q b d. P (count e q) d.key) p)
 
   known : (kind : AttestationType) → ShownAs kind → PassesRegistrationStep valid x step.UnknownFormat
-  known types.None shown = of_attested x o a c h (λ q b d. IsKnownFormat q.fmt) (inl shown.0)
-  known types.SelfSigned shown = of_attested x o a c h (λ q b d. IsKnownFormat q.fmt) (inr shown.0)
+  known types.None shown = of_counted (λ q key. IsKnownFormat q.fmt) (inl shown.0)
+  known types.SelfSigned shown = of_counted (λ q key. IsKnownFormat q.fmt) (inr shown.0)
 
   stated : (kind : AttestationType) → ShownAs kind → PassesRegistrationStep valid x step.BadStatement
-  stated types.None shown = of_attested x o a c h (λ q b d. IsNone q ⊎ IsSelfSigned valid q d.key (hash_in x.response)) (inl shown)
-  stated types.SelfSigned shown = of_attested x o a c h (λ q b d. IsNone q ⊎ IsSelfSigned valid q d.key (hash_in x.response)) (inr shown)
+  stated types.None shown = of_counted (λ q key. IsStated valid q key (hash_in x.response)) (inl shown)
+  stated types.SelfSigned shown = of_counted (λ q key. IsStated valid q key (hash_in x.response)) (inr shown)
 
-  pub statement_fails : (w : RegistrationRefusal) → AttestsAsNothing valid o c.key (hash_in x.response) w
+  pub statement_fails : (w : RegistrationRefusal) → AttestsAsNothing valid (count e o) c.key (hash_in x.response) w
       → FirstFailing (PassesRegistrationStep valid x) attestation_steps w
-  statement_fails step.UnknownFormat none = first_at 0 refl tt (λ passes. none (passes o a c h))
+  statement_fails step.UnknownFormat none = first_at 0 refl tt (λ passes. none (passes e is o a c h))
   statement_fails step.BadStatement none =
-      first_at 1 refl (of_attested x o a c h (λ q b d. IsKnownFormat q.fmt) none.0, tt)
-      (λ passes. elim (passes o a c h) [ inl p ↦ none.1 p | inr p ↦ none.2 p ])
+      first_at 1 refl (of_counted (λ q key. IsKnownFormat q.fmt) none.0, tt)
+      (λ passes. elim (passes e is o a c h) [ inl p ↦ none.1 p | inr p ↦ none.2 p ])
   statement_fails w none = absurd none
 
   pub not_accepted : (kind : AttestationType) → ShownAs kind → (AcceptsAttestation x.policy kind → ⊥)
       → FirstFailing (PassesRegistrationStep valid x) attestation_steps step.AttestationNotAccepted
   not_accepted types.None shown other =
-      first_at 2 refl (known types.None shown, (stated types.None shown, tt)) (λ passes. other ((passes o a c h).0 shown))
+      first_at 2 refl (known types.None shown, (stated types.None shown, tt)) (λ passes. other ((passes e is o a c h).0 shown))
   not_accepted types.SelfSigned shown other =
-      first_at 2 refl (known types.SelfSigned shown, (stated types.SelfSigned shown, tt)) (λ passes. other ((passes o a c h).1 shown))
+      first_at 2 refl (known types.SelfSigned shown, (stated types.SelfSigned shown, tt)) (λ passes. other ((passes e is o a c h).1 shown))
 
-  abbrev AcceptedAs : Attestation → AuthenticatorData → AttestedCredential → Type 0
-  AcceptedAs q b d = (IsNone q → x.policy.accept_none ≡ true) × (IsSelfSigned valid q d.key (hash_in x.response) → x.policy.accept_self ≡ true)
-
-  accepted_as : (kind : AttestationType) → ShownAs kind → AcceptsAttestation x.policy kind → AcceptedAs o a c
-  accepted_as types.None shown accepts = (λ none. accepts, λ self. absurd (two_formats o.fmt shown.0 self.0))
-  accepted_as types.SelfSigned shown accepts = (λ none. absurd (two_formats o.fmt none.0 shown.0), λ self. accepts)
+  accepted_as : (kind : AttestationType) → ShownAs kind → AcceptsAttestation x.policy kind
+      → IsAccepted valid x.policy (count e o) c.key (hash_in x.response)
+  accepted_as types.None shown accepts = (λ none. accepts, λ self. absurd (two_formats (count e o).fmt shown.0 self.0))
+  accepted_as types.SelfSigned shown accepts = (λ none. absurd (two_formats (count e o).fmt none.0 shown.0), λ self. accepts)
 
   pub attestation_passes : (kind : AttestationType) → ShownAs kind → AcceptsAttestation x.policy kind → Each (PassesRegistrationStep valid x) attestation_steps
-  attestation_passes kind shown accepts =
-      (known kind shown, (stated kind shown, (of_attested x o a c h AcceptedAs (accepted_as kind shown accepts), tt)))
+  attestation_passes kind shown accepts = (
+    known kind shown,
+    (stated kind shown, (of_counted (λ q key. IsAccepted valid x.policy q key (hash_in x.response)) (accepted_as kind shown accepts), tt)),
+  )
 
 -- ---- the groups joined
 
@@ -207,7 +238,8 @@ Same valid x other y w = (PassesRegistrationStep valid x w → PassesRegistratio
 
 module _ (valid : Validity) (x : JudgedRegistration) (is_registered : List ℕ → Bool) (is_full : Bool) where
   client_same : Each (Same never x valid (before x is_registered is_full)) client_data_steps
-  client_same = ((λ h. h, λ h. h), ((λ h. h, λ h. h), ((λ h. h, λ h. h), ((λ h. h, λ h. h), ((λ h. h, λ h. h), ((λ h. h, λ h. h), tt))))))
+  client_same = ((λ h. h, λ h. h), ((λ h. h, λ h. h), ((λ h. h, λ h. h), ((λ h. h, λ h. h), ((λ h. h, λ h. h), ((λ h. h, λ h. h),
+      ((λ h. h, λ h. h), ((λ h. h, λ h. h), tt))))))))
 
   data_same : Each (Same never x valid (before x is_registered is_full)) auth_data_steps
   data_same = ((λ h. h, λ h. h), ((λ h. h, λ h. h), ((λ h. h, λ h. h), ((λ h. h, λ h. h), ((λ h. h, λ h. h), tt)))))

@@ -31,6 +31,8 @@ line_passes x e is line.Readable says = says
 line_passes x e is line.Type says = says
 line_passes x e is line.Challenge says = λ other other_is. let same : e ≡ other = cc in rw (sym same) says
 line_passes x e is line.Origin says = says
+line_passes x e is line.CrossOrigin says = says
+line_passes x e is line.TopOrigin says = says
 line_passes x e is line.TokenBinding says = says
 
 line_says : (x : JudgedSignIn) (e : ExpectedSignIn) → x.session ≡ Some e → (l : ClientDataStep) → PassesSignInStep never x (step_of l)
@@ -39,6 +41,8 @@ line_says x e is line.Readable passes = passes
 line_says x e is line.Type passes = passes
 line_says x e is line.Challenge passes = passes e is
 line_says x e is line.Origin passes = passes
+line_says x e is line.CrossOrigin passes = passes
+line_says x e is line.TopOrigin passes = passes
 line_says x e is line.TokenBinding passes = passes
 
 pub client_data_fails : (x : JudgedSignIn) (e : ExpectedSignIn) (l : ClientDataStep) → x.session ≡ Some e
@@ -154,7 +158,7 @@ client_as_any : (valid : Validity) (x : JudgedSignIn)
     → Each (λ w. (PassesSignInStep never x w → PassesSignInStep valid x w) × ((PassesSignInStep never x w → ⊥) → PassesSignInStep valid x w → ⊥))
     client_data_steps
 client_as_any valid x =
-    ((λ h. h, λ h. h), ((λ h. h, λ h. h), ((λ h. h, λ h. h), ((λ h. h, λ h. h), ((λ h. h, λ h. h), tt)))))
+    ((λ h. h, λ h. h), ((λ h. h, λ h. h), ((λ h. h, λ h. h), ((λ h. h, λ h. h), ((λ h. h, λ h. h), ((λ h. h, λ h. h), ((λ h. h, λ h. h), tt)))))))
 
 data_as_any : (valid : Validity) (x : JudgedSignIn)
     → Each (λ w. (PassesSignInStep never x w → PassesSignInStep valid x w) × ((PassesSignInStep never x w → ⊥) → PassesSignInStep valid x w → ⊥))

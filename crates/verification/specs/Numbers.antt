@@ -1,4 +1,5 @@
--- The product's numbers of the steps, in the order in which they are tested.
+-- The product's numbers of the steps, in the order in which they are tested; but 17 and 18, of Level 3, are tested right
+-- behind the origin.
 use Rattle.std.specs.Prelude.{ℕ}
 use Rattle.verification.specs.declared.refusal.SignInRefusal.{SignInRefusal}
 use Rattle.verification.specs.declared.refusal.SignInRefusal.TheVariants as sign_in
@@ -22,6 +23,8 @@ sign_in_number sign_in.UserNotVerified = 13
 sign_in_number sign_in.BadSignature = 14
 sign_in_number sign_in.CounterNotGreater = 15
 sign_in_number sign_in.EligibilityChanged = 16
+sign_in_number sign_in.CrossOrigin = 17
+sign_in_number sign_in.WrongTopOrigin = 18
 
 abbrev pub registration_number : RegistrationRefusal → ℕ
 registration_number registration.SessionNotOpen = 1
@@ -40,3 +43,5 @@ registration_number registration.BadStatement = 13
 registration_number registration.AttestationNotAccepted = 14
 registration_number registration.CredentialRegistered = 15
 registration_number registration.TableFull = 16
+registration_number registration.CrossOrigin = 17
+registration_number registration.WrongTopOrigin = 18

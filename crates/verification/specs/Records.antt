@@ -4,10 +4,12 @@ use Rattle.authdata.specs.declared.profile.Profile.{Profile}
 use Rattle.cose.specs.declared.key.Alg.{Alg}
 use Rattle.cose.specs.declared.key.CoseKey.{CoseKey}
 
--- its rp id, the origins that its pages have, and which responses it takes
+-- its rp id, the origins that its pages have, those of other sites' pages that may frame them (Level 3, 7.1 and 7.2,
+-- `topOrigin`), and which responses it takes
 pub record RelyingParty : Type 0 where
   pub rp_id : List ℕ
   pub origins : List (List ℕ)
+  pub top_origins : List (List ℕ)
   pub profile : Profile
 
 -- a registered credential: its id, the user handle, the public key, the signature counter last received,
@@ -36,10 +38,12 @@ pub record ExpectedSignIn : Type 0 where
   pub uv : Bool
   pub challenge : List ℕ
 
--- what a registration expects: the user, the algorithms offered, whether the user is to be verified, and the
--- challenge
+-- what a registration expects: the user, the algorithms offered, whether the user is to be verified, the challenge,
+-- whether it was begun as a conditional create (Level 3, 5.1.3), and whether an attestation was asked for (5.4.7)
 pub record ExpectedRegistration : Type 0 where
   pub user : List ℕ
   pub algorithms : List Alg
   pub uv : Bool
   pub challenge : List ℕ
+  pub conditional : Bool
+  pub attestation : Bool

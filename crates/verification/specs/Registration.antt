@@ -1,19 +1,21 @@
--- The steps that register a credential (WebAuthn Level 2, section 7.1).
-use Rattle.std.specs.Prelude.{◌≡◌, ◌⊎◌, ℕ, List, [], ◌∷◌, ◌++◌, Option, Some, IsSome, Bool, true, false, Contains}
+-- The steps that register a credential (WebAuthn Level 2, section 7.1), and those of Level 3, section 7.1.
+use Rattle.std.specs.Prelude.{◌≡◌, ◌⊎◌, ℕ, List, [], ◌∷◌, ◌++◌, Option, Some, IsSome, Bool, true, false, Contains, codes, if◌then◌else◌}
 use Rattle.std.specs.Option.{ForSome}
 use Rattle.sha2.specs.Sha256.{sha256}
 use Rattle.refusal_order.specs.Lines.{Each, FirstFailing}
 use Rattle.cose.specs.Keys.{alg_of}
+use Rattle.cose.specs.declared.key.CoseKey.{CoseKey}
 use Rattle.clientdata.specs.Reading.{seen_of}
 use Rattle.clientdata.specs.declared.record.CeremonyType.TheVariants.{Create}
 use Rattle.authdata.specs.declared.profile.Profile.{Profile}
+use Rattle.authdata.specs.declared.profile.Profile.TheVariants.{Level3}
 use Rattle.authdata.specs.Layout.{AuthenticatorData, AttestedCredential, AuthOf}
 use Rattle.authdata.specs.Objects.{Attestation, ObjectOf}
 use Rattle.authdata.specs.Responses as responses
-use Rattle.authdata.specs.Statements.{IsKnownFormat, IsNone, IsSelfSigned}
+use Rattle.authdata.specs.Statements.{IsKnownFormat, IsNone, IsSelfSigned, none_statement}
 use Rattle.verification.specs.Records.{RelyingParty, ExpectedRegistration}
 use Rattle.cose.specs.Schemes.{Validity}
-use Rattle.verification.specs.Shared.{HasType, HasChallenge, HasOrigin, HasNoBinding, IsFor, IsPresent, IsVerifiedAs}
+use Rattle.verification.specs.Shared.{HasType, HasChallenge, HasOrigin, HasNoBinding, HasTopOrigin, MayBeFramed, IsFor, IsPresent, IsVerifiedAs}
 use Rattle.verification.specs.declared.party.Policy.{Policy}
 use Rattle.verification.specs.declared.refusal.RegistrationRefusal.{RegistrationRefusal}
 use Rattle.verification.specs.declared.refusal.RegistrationRefusal.TheVariants as step
@@ -45,6 +47,31 @@ Attested profile r P = (o : Attestation) (a : AuthenticatorData) (c : AttestedCr
 abbrev pub hash_in : responses.AuthenticatorAttestationResponse → List ℕ
 hash_in r = sha256 r.client_data
 
+-- in Level 3, of a conditional create (7.1, "User Present")
+abbrev pub NeedsNoPresence : Profile → ExpectedRegistration → Type 0
+NeedsNoPresence profile e = (profile ≡ Level3) × (e.conditional ≡ true)
+
+-- the statement counts as none, whatever it is: in Level 3, where none was asked for (5.4.7, "none")
+abbrev pub CountsAsNone : Profile → Bool → Type 0
+CountsAsNone profile asked = (profile ≡ Level3) × (asked ≡ false)
+
+-- the object with no attestation
+abbrev pub unattested : Attestation → Attestation
+unattested o = record { fmt = codes "none"; statement = none_statement; auth_data = o.auth_data }
+
+-- the object as it counts
+abbrev pub counted : Profile → Bool → Attestation → Attestation
+counted Level3 asked o = if asked then o else unattested o
+counted profile asked o = o
+
+-- the statement shows no attestation, or self attestation
+abbrev pub IsStated : Validity → Attestation → CoseKey → List ℕ → Type 0
+IsStated valid o key hash = IsNone o ⊎ IsSelfSigned valid o key hash
+
+-- the policy accepts what it shows
+abbrev pub IsAccepted : Validity → Policy → Attestation → CoseKey → List ℕ → Type 0
+IsAccepted valid policy o key hash = (IsNone o → policy.accept_none ≡ true) × (IsSelfSigned valid o key hash → policy.accept_self ≡ true)
+
 -- the response passes a step, where it passes the earlier ones
 abbrev pub PassesRegistrationStep : Validity → JudgedRegistration → RegistrationRefusal → Type 0
 -- the session is open, for registration
@@ -57,27 +84,34 @@ PassesRegistrationStep valid x step.WrongType = ForSome (seen_of x.response.clie
 PassesRegistrationStep valid x step.WrongChallenge = ForSome x.session (λ e. ForSome (seen_of x.response.client_data) (HasChallenge e.challenge))
 -- their origin is one of the relying party's
 PassesRegistrationStep valid x step.WrongOrigin = ForSome (seen_of x.response.client_data) (HasOrigin x.rp)
--- token binding is not used
+-- in Level 3, its page is in no frame of another site, unless the relying party allows that
+PassesRegistrationStep valid x step.CrossOrigin = ForSome (seen_of x.response.client_data) (MayBeFramed x.rp)
+-- and then the page at the top is one of those that it names
+PassesRegistrationStep valid x step.WrongTopOrigin = ForSome (seen_of x.response.client_data) (HasTopOrigin x.rp)
+-- token binding is not used; Level 3 does not look at it
 PassesRegistrationStep valid x step.TokenBinding = ForSome (seen_of x.response.client_data) (HasNoBinding x.rp.profile)
 -- the bytes are an attestation object, whose authenticator data attest a credential
 PassesRegistrationStep valid x step.BadAttestationObject = (o : Attestation) × (a : AuthenticatorData) × (c : AttestedCredential)
     × Attests x.rp.profile x.response o a c
 -- rpIdHash is the hash of the rp id
 PassesRegistrationStep valid x step.WrongRelyingParty = Attested x.rp.profile x.response (λ o a c. IsFor x.rp a)
--- UP is set
-PassesRegistrationStep valid x step.UserNotPresent = Attested x.rp.profile x.response (λ o a c. IsPresent a)
+-- UP is set; in Level 3, unless the session was begun as conditional
+PassesRegistrationStep valid x step.UserNotPresent = ForSome x.session
+    (λ e. Attested x.rp.profile x.response (λ o a c. IsPresent a ⊎ NeedsNoPresence x.rp.profile e))
 -- UV is set, where the session requires it
 PassesRegistrationStep valid x step.UserNotVerified = ForSome x.session (λ e. Attested x.rp.profile x.response (λ o a c. IsVerifiedAs e.uv a))
 -- the key's algorithm is one of those offered
 PassesRegistrationStep valid x step.AlgorithmNotOffered = ForSome x.session
     (λ e. Attested x.rp.profile x.response (λ o a c. Contains e.algorithms (alg_of c.key)))
--- the statement's format is known
-PassesRegistrationStep valid x step.UnknownFormat = Attested x.rp.profile x.response (λ o a c. IsKnownFormat o.fmt)
+-- the statement's format is known, of what counts as the object
+PassesRegistrationStep valid x step.UnknownFormat = ForSome x.session
+    (λ e. Attested x.rp.profile x.response (λ o a c. IsKnownFormat (counted x.rp.profile e.attestation o).fmt))
 -- the statement shows no attestation, or self attestation
-PassesRegistrationStep valid x step.BadStatement = Attested x.rp.profile x.response (λ o a c. IsNone o ⊎ IsSelfSigned valid o c.key (hash_in x.response))
+PassesRegistrationStep valid x step.BadStatement = ForSome x.session
+    (λ e. Attested x.rp.profile x.response (λ o a c. IsStated valid (counted x.rp.profile e.attestation o) c.key (hash_in x.response)))
 -- the relying party accepts that
-PassesRegistrationStep valid x step.AttestationNotAccepted = Attested x.rp.profile x.response (λ o a c.
-    (IsNone o → x.policy.accept_none ≡ true) × (IsSelfSigned valid o c.key (hash_in x.response) → x.policy.accept_self ≡ true))
+PassesRegistrationStep valid x step.AttestationNotAccepted = ForSome x.session
+    (λ e. Attested x.rp.profile x.response (λ o a c. IsAccepted valid x.policy (counted x.rp.profile e.attestation o) c.key (hash_in x.response)))
 -- the credential is not registered, to anyone
 PassesRegistrationStep valid x step.CredentialRegistered = Attested x.rp.profile x.response (λ o a c. x.is_registered c.id ≡ false)
 -- there is room for it
@@ -87,7 +121,8 @@ PassesRegistrationStep valid x step.TableFull = x.is_full ≡ false
 -- on the table
 abbrev pub client_data_steps : List RegistrationRefusal
 client_data_steps =
-    step.SessionNotOpen ∷ step.UnreadableClientData ∷ step.WrongType ∷ step.WrongChallenge ∷ step.WrongOrigin ∷ step.TokenBinding ∷ []
+    step.SessionNotOpen ∷ step.UnreadableClientData ∷ step.WrongType ∷ step.WrongChallenge ∷ step.WrongOrigin ∷ step.CrossOrigin ∷ step.WrongTopOrigin
+    ∷ step.TokenBinding ∷ []
 
 abbrev pub auth_data_steps : List RegistrationRefusal
 auth_data_steps =

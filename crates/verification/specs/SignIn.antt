@@ -1,5 +1,5 @@
--- The steps that verify an authentication assertion (WebAuthn Level 2, section 7.2), and the rules on backup
--- that profile 2 adds.
+-- The steps that verify an authentication assertion (WebAuthn Level 2, section 7.2), the rules on backup that profile 2
+-- adds, and those on frames of Level 3, section 7.2.
 use Rattle.std.specs.Prelude.{◌≡◌, ◌<◌, ◌⊎◌, ℕ, List, [], ◌∷◌, ◌++◌, Option, Some, None, IsSome, false, Contains}
 use Rattle.std.specs.Option.{ForSome}
 use Rattle.sha2.specs.Sha256.{sha256}
@@ -11,7 +11,7 @@ use Rattle.authdata.specs.Layout.{AuthenticatorData, AuthOf}
 use Rattle.authdata.specs.Responses.{AuthenticatorAssertionResponse}
 use Rattle.verification.specs.Records.{RelyingParty, Credential, ExpectedSignIn}
 use Rattle.cose.specs.Schemes.{Validity}
-use Rattle.verification.specs.Shared.{HasType, HasChallenge, HasOrigin, HasNoBinding, IsFor, IsPresent, IsVerifiedAs}
+use Rattle.verification.specs.Shared.{HasType, HasChallenge, HasOrigin, HasNoBinding, HasTopOrigin, MayBeFramed, IsFor, IsPresent, IsVerifiedAs}
 use Rattle.verification.specs.declared.refusal.SignInRefusal.{SignInRefusal}
 use Rattle.verification.specs.declared.refusal.SignInRefusal.TheVariants as step
 
@@ -52,7 +52,11 @@ PassesSignInStep valid x step.WrongType = ForSome (seen_of x.response.client_dat
 PassesSignInStep valid x step.WrongChallenge = ForSome x.session (λ e. ForSome (seen_of x.response.client_data) (HasChallenge e.challenge))
 -- their origin is one of the relying party's
 PassesSignInStep valid x step.WrongOrigin = ForSome (seen_of x.response.client_data) (HasOrigin x.rp)
--- token binding is not used
+-- in Level 3, its page is in no frame of another site, unless the relying party allows that
+PassesSignInStep valid x step.CrossOrigin = ForSome (seen_of x.response.client_data) (MayBeFramed x.rp)
+-- and then the page at the top is one of those that it names
+PassesSignInStep valid x step.WrongTopOrigin = ForSome (seen_of x.response.client_data) (HasTopOrigin x.rp)
+-- token binding is not used; Level 3 does not look at it
 PassesSignInStep valid x step.TokenBinding = ForSome (seen_of x.response.client_data) (HasNoBinding x.rp.profile)
 -- the bytes are authenticator data with AT clear
 PassesSignInStep valid x step.BadAuthenticatorData = (a : AuthenticatorData) × AuthOf x.rp.profile a x.response.auth_data × (is_set a.flags AT ≡ false)
@@ -79,7 +83,9 @@ abbrev pub credential_steps : List SignInRefusal
 credential_steps = step.SessionNotOpen ∷ step.CredentialNotAllowed ∷ step.UnknownCredential ∷ step.OtherUser ∷ []
 
 abbrev pub client_data_steps : List SignInRefusal
-client_data_steps = step.UnreadableClientData ∷ step.WrongType ∷ step.WrongChallenge ∷ step.WrongOrigin ∷ step.TokenBinding ∷ []
+client_data_steps =
+    step.UnreadableClientData ∷ step.WrongType ∷ step.WrongChallenge ∷ step.WrongOrigin ∷ step.CrossOrigin ∷ step.WrongTopOrigin
+    ∷ step.TokenBinding ∷ []
 
 abbrev pub auth_data_steps : List SignInRefusal
 auth_data_steps = step.BadAuthenticatorData ∷ step.WrongRelyingParty ∷ step.UserNotPresent ∷ step.UserNotVerified ∷ []

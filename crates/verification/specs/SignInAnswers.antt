@@ -38,4 +38,6 @@ step_of line.Readable = step.UnreadableClientData
 step_of line.Type = step.WrongType
 step_of line.Challenge = step.WrongChallenge
 step_of line.Origin = step.WrongOrigin
+step_of line.CrossOrigin = step.CrossOrigin
+step_of line.TopOrigin = step.WrongTopOrigin
 step_of line.TokenBinding = step.TokenBinding

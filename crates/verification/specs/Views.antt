@@ -35,7 +35,14 @@ sign_in_view s = record {
 }
 
 abbrev pub registration_view : RegistrationSession → ExpectedRegistration
-registration_view s = record { user = s.user.items; algorithms = s.algorithms.items; uv = s.uv; challenge = s.challenge }
+registration_view s = record {
+  user = s.user.items;
+  algorithms = s.algorithms.items;
+  uv = s.uv;
+  challenge = s.challenge;
+  conditional = s.conditional;
+  attestation = s.attestation;
+}
 
 abbrev pub assertion_parts_view : AssertionParts → AuthenticatorAssertionResponse
 assertion_parts_view p = record {

@@ -1,4 +1,4 @@
-//! The steps on client data that both ceremonies have (WebAuthn Level 2, section 5.8.1).
+//! The steps on client data that both ceremonies have (WebAuthn Level 2, section 5.8.1; on frames, Level 3).
 
 ghost use Rattle.std.specs.Prelude.{◌≡◌, IfErr, IsErrOf, OnOk};
 ghost use Rattle.refusal_order.specs.Lines.{Each};
@@ -15,6 +15,8 @@ pub(crate) enum ClientDataStep {
     Type,
     Challenge,
     Origin,
+    CrossOrigin,
+    TopOrigin,
     TokenBinding,
 }
 
@@ -56,6 +58,12 @@ pub(crate) fn check_client_data(
     }
     if !party.has_origin(seen.origin.as_str()) {
         return Err(ClientDataError::Fails(ClientDataStep::Origin));
+    }
+    if !party.may_be_framed(&seen) {
+        return Err(ClientDataError::Fails(ClientDataStep::CrossOrigin));
+    }
+    if !party.has_top_origin(&seen) {
+        return Err(ClientDataError::Fails(ClientDataStep::TopOrigin));
     }
     if !party.has_no_binding(&seen) {
         return Err(ClientDataError::Fails(ClientDataStep::TokenBinding));

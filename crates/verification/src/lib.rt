@@ -16,6 +16,7 @@ pub use party::{Policy, RelyingParty};
 pub use record::{AssertionParts, RegistrationParts, RegistrationSession, RowView, SignInSession};
 pub use refusal::{RegistrationRefusal, SignInRefusal, VerificationError};
 pub use registration::{
-    AdmittedCredential, RegistrationAttempt, VerifiedRegistration, verify_registration,
+    AdmittedCredential, RegistrationAttempt, VerifiedRegistration, counts_as_none,
+    verify_registration,
 };
 pub use signing_in::{SignInAttempt, VerifiedAssertion, verify_assertion};

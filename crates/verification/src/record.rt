@@ -43,6 +43,11 @@ pub struct RegistrationSession {
     pub uv: bool,
     /// The challenge, of which no other session has the same.
     pub challenge: [u8; 32],
+    /// Whether it was begun as a conditional create (WebAuthn Level 3, section 5.1.3). Level 3 alone looks at it: it then
+    /// requires no user presence.
+    pub conditional: bool,
+    /// Whether an attestation was asked for. Level 3 alone looks at it: where none was, the statement counts as none.
+    pub attestation: bool,
 }
 
 /// A client's answer to a sign-in, lent.

@@ -38,6 +38,14 @@ pub enum SignInRefusal {
     /// 8: the origin is none of the relying party's.
     #[error("the origin is not the relying party's")]
     WrongOrigin,
+    /// 17: in Level 3, `crossOrigin` is neither absent nor `false`, or there is a `topOrigin`, and the relying party names no
+    /// page that may frame its own; or `crossOrigin` is no truth value.
+    #[error("the page is in another site's frame")]
+    CrossOrigin,
+    /// 18: in Level 3, `crossOrigin` is `true` or there is a `topOrigin`, and it is none of the pages that may frame the
+    /// relying party's.
+    #[error("the page at the top is none that the relying party names")]
+    WrongTopOrigin,
     /// 9: token binding is used.
     #[error("token binding is used")]
     TokenBinding,
@@ -87,10 +95,12 @@ impl SignInRefusal {
             SignInRefusal::BadSignature => 14,
             SignInRefusal::CounterNotGreater => 15,
             SignInRefusal::EligibilityChanged => 16,
+            SignInRefusal::CrossOrigin => 17,
+            SignInRefusal::WrongTopOrigin => 18,
         }
     }
 
-    /// The step of this number: 1 to 16.
+    /// The step of this number: 1 to 18.
     pub fn from_number(number: u8) -> Option<SignInRefusal>
         ensures { MatchOption result ((step : SignInRefusal) → sign_in_number step ≢ number) (λ step. sign_in_number step ≡ number) }
     {
@@ -111,6 +121,8 @@ impl SignInRefusal {
             14 => Some(SignInRefusal::BadSignature),
             15 => Some(SignInRefusal::CounterNotGreater),
             16 => Some(SignInRefusal::EligibilityChanged),
+            17 => Some(SignInRefusal::CrossOrigin),
+            18 => Some(SignInRefusal::WrongTopOrigin),
             _ => None,
         }
     }
@@ -135,6 +147,14 @@ pub enum RegistrationRefusal {
     /// 5: the origin is none of the relying party's.
     #[error("the origin is not the relying party's")]
     WrongOrigin,
+    /// 17: in Level 3, `crossOrigin` is neither absent nor `false`, or there is a `topOrigin`, and the relying party names no
+    /// page that may frame its own; or `crossOrigin` is no truth value.
+    #[error("the page is in another site's frame")]
+    CrossOrigin,
+    /// 18: in Level 3, `crossOrigin` is `true` or there is a `topOrigin`, and it is none of the pages that may frame the
+    /// relying party's.
+    #[error("the page at the top is none that the relying party names")]
+    WrongTopOrigin,
     /// 6: token binding is used.
     #[error("token binding is used")]
     TokenBinding,
@@ -145,7 +165,7 @@ pub enum RegistrationRefusal {
     /// 8: the relying party's hash is not SHA-256 of the rp id.
     #[error("the authenticator data are for another relying party")]
     WrongRelyingParty,
-    /// 9: the flag of user presence is clear.
+    /// 9: the flag of user presence is clear; in Level 3, where the session was not begun as conditional.
     #[error("the user was not present")]
     UserNotPresent,
     /// 10: the session requires verification, and its flag is clear.
@@ -154,7 +174,8 @@ pub enum RegistrationRefusal {
     /// 11: the key's algorithm was not offered.
     #[error("the key's algorithm was not offered")]
     AlgorithmNotOffered,
-    /// 12: the format of the attestation statement is neither `none` nor `packed`.
+    /// 12: the format of the attestation statement is neither `none` nor `packed`. In Level 3 steps 12 to 14 take it as `none`
+    /// where the session asked for no attestation.
     #[error("the attestation statement's format is unknown")]
     UnknownFormat,
     /// 13: the attestation statement is not what its format asks for.
@@ -193,10 +214,12 @@ impl RegistrationRefusal {
             RegistrationRefusal::AttestationNotAccepted => 14,
             RegistrationRefusal::CredentialRegistered => 15,
             RegistrationRefusal::TableFull => 16,
+            RegistrationRefusal::CrossOrigin => 17,
+            RegistrationRefusal::WrongTopOrigin => 18,
         }
     }
 
-    /// The step of this number: 1 to 16.
+    /// The step of this number: 1 to 18.
     pub fn from_number(number: u8) -> Option<RegistrationRefusal>
         ensures { MatchOption result ((step : RegistrationRefusal) → registration_number step ≢ number) (λ step. registration_number step ≡ number) }
     {
@@ -217,6 +240,8 @@ impl RegistrationRefusal {
             14 => Some(RegistrationRefusal::AttestationNotAccepted),
             15 => Some(RegistrationRefusal::CredentialRegistered),
             16 => Some(RegistrationRefusal::TableFull),
+            17 => Some(RegistrationRefusal::CrossOrigin),
+            18 => Some(RegistrationRefusal::WrongTopOrigin),
             _ => None,
         }
     }

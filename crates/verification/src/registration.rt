@@ -1,11 +1,12 @@
 //! Judging a registration (WebAuthn Level 2, section 7.1).
 
-ghost use Rattle.std.specs.Prelude.{◌≡◌, ◌↔◌, Bool, Contains, IfErr, IfOk, IfSome, IsTrue, List, None, OnOk, Some, ℕ};
+ghost use Rattle.std.specs.Prelude.{◌≡◌, ◌↔◌, ◌⊎◌, Bool, Contains, IfErr, IfOk, IfSome, IsTrue, List, None, OnOk, Some, true, ℕ};
 ghost use Rattle.refusal_order.specs.Lines.{Each, FirstFailing};
+ghost use Rattle.authdata.specs.Flags.{is_set, UP};
 ghost use Rattle.cose.specs.Keys.{alg_of, lent_key_view};
 ghost use Rattle.authdata.specs.Objects.{ObjectOf, object_view};
 ghost use Rattle.authdata.specs.Layout.{AttestedCredential, AuthOf, AuthenticatorData, lent_attested_view, lent_auth_view};
-ghost use Rattle.verification.specs.Registration.{Attests, JudgedRegistration, PassesRegistrationStep, attestation_steps, auth_data_steps};
+ghost use Rattle.verification.specs.Registration.{Attests, CountsAsNone, JudgedRegistration, NeedsNoPresence, PassesRegistrationStep, attestation_steps, auth_data_steps, counted};
 ghost use Rattle.verification.specs.Registration.{client_data_steps, response_steps, table_steps};
 ghost use Rattle.verification.specs.Shared.{FailsIn, never};
 ghost use Rattle.verification.specs.RegistrationAnswers.{AcceptsAttestation, IsNoObject, IsRefused, AttestsAs};
@@ -79,6 +80,8 @@ fn refusal_of(line: ClientDataStep) -> RegistrationRefusal
         ClientDataStep::Type => RegistrationRefusal::WrongType,
         ClientDataStep::Challenge => RegistrationRefusal::WrongChallenge,
         ClientDataStep::Origin => RegistrationRefusal::WrongOrigin,
+        ClientDataStep::CrossOrigin => RegistrationRefusal::CrossOrigin,
+        ClientDataStep::TopOrigin => RegistrationRefusal::WrongTopOrigin,
         ClientDataStep::TokenBinding => RegistrationRefusal::TokenBinding,
     }
 }
@@ -102,16 +105,38 @@ fn offers(session: &RegistrationSession, key: &KeyView<'_>) -> bool
     is_offered(&session.algorithms, key.alg())
 }
 
-/// How the object attests a credential of this key.
+/// Whether the flags say that the user was present, where that is required.
+fn is_present_as(profile: Profile, session: &RegistrationSession, flags: u8) -> bool
+    ensures { IsTrue result ↔ ((is_set flags UP ≡ true) ⊎ NeedsNoPresence profile (registration_view session.now)) }
+{
+    flags::is_set(flags, flags::UP) || (profile == Profile::Level3 && session.conditional)
+}
+
+/// Whether an attestation statement counts as none, whatever it is: in Level 3, where none was asked for (WebAuthn Level 3,
+/// section 5.4.7, "none").
+pub fn counts_as_none(profile: Profile, asked: bool) -> bool
+    ensures { IsTrue result ↔ CountsAsNone profile asked }
+{
+    profile == Profile::Level3 && !asked
+}
+
+/// How the object, as it counts, attests a credential of this key.
 fn statement<V: Verifier>(
     verifier: &V,
+    profile: Profile,
+    asked: bool,
     object: &AttestationObject,
     key: &KeyView<'_>,
     hash: &[u8; 32],
 ) -> Result<AttestationType, RegistrationRefusal>
-    ensures shown { IfOk result (AttestsAs (V.valid verifier.now) (object_view object.now) (lent_key_view key.now) hash.now) }
-    ensures refused { IfErr result (AttestsAsNothing (V.valid verifier.now) (object_view object.now) (lent_key_view key.now) hash.now) }
+    ensures shown { IfOk result (AttestsAs (V.valid verifier.now) (counted profile asked (object_view object.now))
+        (lent_key_view key.now) hash.now) }
+    ensures refused { IfErr result (AttestsAsNothing (V.valid verifier.now) (counted profile asked (object_view object.now))
+        (lent_key_view key.now) hash.now) }
 {
+    if counts_as_none(profile, asked) {
+        return Ok(AttestationType::None);
+    }
     match check_statement(verifier, object, key, hash) {
         Ok(kind) => Ok(kind),
         Err(authdata::Error::UnknownFormat) => Err(RegistrationRefusal::UnknownFormat),
@@ -206,7 +231,7 @@ impl<'a> RegistrationAttempt<'a> {
         if !self.party.is_hash(&auth_data.rp_id_hash) {
             return Err(RegistrationRefusal::WrongRelyingParty);
         }
-        if !flags::is_set(auth_data.flags, flags::UP) {
+        if !is_present_as(self.party.profile(), session, auth_data.flags) {
             return Err(RegistrationRefusal::UserNotPresent);
         }
         if !is_verified_as(session.uv, auth_data.flags) {
@@ -222,18 +247,22 @@ impl<'a> RegistrationAttempt<'a> {
     fn check_attestation<V: Verifier>(
         &self,
         verifier: &V,
+        session: &RegistrationSession,
         object: &AttestationObject,
         auth_data: &AuthView<'_>,
         credential: &AttestedView<'_>,
     ) -> Result<(), RegistrationRefusal>
-        requires { Attests (judged_without_table self.now).rp.profile (judged_without_table self.now).response (object_view object.now)
+        requires session { (judged_without_table self.now).session ≡ Some (registration_view session.now) }
+        requires attests { Attests (judged_without_table self.now).rp.profile (judged_without_table self.now).response (object_view object.now)
             (lent_auth_view auth_data.now) (lent_attested_view credential.now) }
         ensures passes { OnOk result (Each (PassesRegistrationStep (V.valid verifier.now) (judged_without_table self.now)) attestation_steps) }
         ensures refused { IfErr result (FirstFailing (PassesRegistrationStep (V.valid verifier.now) (judged_without_table self.now)) attestation_steps) }
     {
         let hash = hash(self.response.client_data);
         // A match, since `?` would hide that the refusal is the callee's.
-        let kind = match statement(verifier, object, &credential.key, &hash) {
+        let profile = self.party.profile();
+        let asked = session.attestation;
+        let kind = match statement(verifier, profile, asked, object, &credential.key, &hash) {
             Ok(kind) => kind,
             Err(refusal) => return Err(refusal),
         };
@@ -281,7 +310,7 @@ pub fn verify_registration<V: Verifier>(
     let session = attempt.check_client_data(alloc)?;
     let object = object_in(alloc, attempt.response.object)?;
     let (auth_data, credential) = attempt.attested(&object, session)?;
-    attempt.check_attestation(verifier, &object, &auth_data, &credential)?;
+    attempt.check_attestation(verifier, session, &object, &auth_data, &credential)?;
     Ok(verified(alloc, &auth_data, &credential)?)
 }
 

@@ -91,6 +91,8 @@ fn refusal_of(line: ClientDataStep) -> SignInRefusal
         ClientDataStep::Type => SignInRefusal::WrongType,
         ClientDataStep::Challenge => SignInRefusal::WrongChallenge,
         ClientDataStep::Origin => SignInRefusal::WrongOrigin,
+        ClientDataStep::CrossOrigin => SignInRefusal::CrossOrigin,
+        ClientDataStep::TopOrigin => SignInRefusal::WrongTopOrigin,
         ClientDataStep::TokenBinding => SignInRefusal::TokenBinding,
     }
 }

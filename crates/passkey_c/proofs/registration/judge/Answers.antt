@@ -21,5 +21,5 @@ returns-clause-refused c =
     let session = c.in_ok-session.ensures in
     let signature = c.in_ok-verifier.ensures in (
       table_fails (registration_validity c.args.call.now) x c.in-Err.step accepted.1 (c.in-Err.ensures.refused x accepted.0 taken refl),
-      (kept.0, (kept.1.0, (session.challenge, (signature.algorithm, (signature.x, (signature.y, tt)))))),
+      (kept.0, (kept.1.0, (kept.1.1.0, (kept.1.1.1.0, (session.challenge, (signature.algorithm, (signature.x, (signature.y, tt)))))))),
     )

@@ -1,5 +1,5 @@
 -- What is owed of `RegistrationAttempt::attested`.
-use Rattle.std.proofs.Common.{◌≡◌, ℕ, List, Some, sym, ◌∙◌, refl}
+use Rattle.std.proofs.Common.{◌≡◌, ℕ, List, Some, sym, refl}
 use Rattle.verification.specs.Views.{judged_without_table, registration_view}
 use Rattle.authdata.specs.Objects.{Attestation, ObjectOf, object_view}
 use Rattle.authdata.specs.Layout.{AttestedCredential, AuthenticatorData, AuthOf, lent_attested_view, lent_auth_view}
@@ -30,20 +30,21 @@ returns-then-not-is_hash-clause-refused c =
     c.profile.ensures c.deref.ensures.value c.in-Some.ensures.found in
     wrong_party _ _ _ _ h (λ same. let yes = c.is_hash.ensures.1 same in let no = c.if-not-is_hash.true in absurd cc)
 
-pub returns-then-not-is_set-clause-refused : goal.returns-then-not-is_set-clause-refused
-returns-then-not-is_set-clause-refused c =
+pub returns-then-not-is_present_as-clause-refused : goal.returns-then-not-is_present_as-clause-refused
+returns-then-not-is_present_as-clause-refused c =
     let x = judged_without_table c.args.self.now in
     let h = attests x (object_view c.args.object.now) (lent_auth_view c.in-Some.auth_data) (lent_attested_view c.in-Some.credential) c.requires.object
     c.profile.ensures c.deref.ensures.value c.in-Some.ensures.found in
-    not_present _ _ _ _ h (c.is_hash.ensures.0 c.if-not-is_hash.false) (λ set. let yes = c.is_set.ensures ∙ set in let no = c.if-not-is_set.true in absurd cc)
+    not_present _ _ _ _ h (c.is_hash.ensures.0 c.if-not-is_hash.false) (registration_view c.args.session.now) c.requires.session
+    (λ present. let yes = c.is_present_as.ensures.1 (rw c.profile-2.ensures present) in let no = c.if-not-is_present_as.true in absurd cc)
 
 pub returns-then-not-is_verified_as-clause-refused : goal.returns-then-not-is_verified_as-clause-refused
 returns-then-not-is_verified_as-clause-refused c =
     let x = judged_without_table c.args.self.now in
     let h = attests x (object_view c.args.object.now) (lent_auth_view c.in-Some.auth_data) (lent_attested_view c.in-Some.credential) c.requires.object
     c.profile.ensures c.deref.ensures.value c.in-Some.ensures.found in
-    not_verified _ _ _ _ h (c.is_hash.ensures.0 c.if-not-is_hash.false) (sym c.is_set.ensures ∙ c.if-not-is_set.false)
-    (registration_view c.args.session.now) c.requires.session
+    not_verified _ _ _ _ h (c.is_hash.ensures.0 c.if-not-is_hash.false) (registration_view c.args.session.now) c.requires.session
+    (rw (sym c.profile-2.ensures) (c.is_present_as.ensures.0 c.if-not-is_present_as.false))
     (λ verified. let yes = c.is_verified_as.ensures.1 verified in let no = c.if-not-is_verified_as.true in absurd cc)
 
 pub returns-then-not-offers-clause-refused : goal.returns-then-not-offers-clause-refused
@@ -51,8 +52,8 @@ returns-then-not-offers-clause-refused c =
     let x = judged_without_table c.args.self.now in
     let h = attests x (object_view c.args.object.now) (lent_auth_view c.in-Some.auth_data) (lent_attested_view c.in-Some.credential) c.requires.object
     c.profile.ensures c.deref.ensures.value c.in-Some.ensures.found in
-    not_offered _ _ _ _ h (c.is_hash.ensures.0 c.if-not-is_hash.false) (sym c.is_set.ensures ∙ c.if-not-is_set.false)
-    (registration_view c.args.session.now) c.requires.session
+    not_offered _ _ _ _ h (c.is_hash.ensures.0 c.if-not-is_hash.false) (registration_view c.args.session.now) c.requires.session
+    (rw (sym c.profile-2.ensures) (c.is_present_as.ensures.0 c.if-not-is_present_as.false))
     (c.is_verified_as.ensures.0 c.if-not-is_verified_as.false) (λ offered. let yes = c.offers.ensures.1 offered in let no = c.if-not-offers.true in absurd cc)
 
 pub returns-clause-passes : goal.returns-clause-passes
@@ -60,6 +61,6 @@ returns-clause-passes c =
     let x = judged_without_table c.args.self.now in
     let h = attests x (object_view c.args.object.now) (lent_auth_view c.in-Some.auth_data) (lent_attested_view c.in-Some.credential) c.requires.object
     c.profile.ensures c.deref.ensures.value c.in-Some.ensures.found in
-    data_passes (judged_without_table c.args.self.now) _ _ _ h (c.is_hash.ensures.0 c.if-not-is_hash.false) (sym c.is_set.ensures ∙ c.if-not-is_set.false)
-    (registration_view c.args.session.now) c.requires.session
+    data_passes (judged_without_table c.args.self.now) _ _ _ h (c.is_hash.ensures.0 c.if-not-is_hash.false) (registration_view c.args.session.now) c.requires.session
+    (rw (sym c.profile-2.ensures) (c.is_present_as.ensures.0 c.if-not-is_present_as.false))
     (c.is_verified_as.ensures.0 c.if-not-is_verified_as.false) (c.offers.ensures.0 c.if-not-offers.false)

@@ -1,9 +1,9 @@
--- What the loop of `origins` keeps.
+-- What the loop of `texts` keeps.
 use Rattle.std.proofs.Common.{◌≡◌, map, take}
 use Rattle.std.specs.Str.{IsUtf8}
 use Rattle.refusal_order.specs.Lines.{Each}
 use Rattle.passkey_c.specs.Parts.{lent}
-use Rattle.passkey_c.proofs.input.origins.Given as goal
+use Rattle.passkey_c.proofs.input.texts.Given as goal
 
 abbrev pub invariant-loop-part : goal.invariant-loop-part
 invariant-loop-part l = record {

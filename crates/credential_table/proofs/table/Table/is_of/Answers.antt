@@ -1,0 +1,18 @@
+-- What is owed of `Table::is_of`.
+use Rattle.std.proofs.Common.{◌≡◌, ◌≤◌, List, inl, inr, length, refl, sym, subst}
+use Rattle.authdata.specs.declared.profile.Profile.{Profile}
+use Rattle.authdata.specs.declared.profile.Profile.TheVariants.{Level3, Open}
+use Rattle.verification.specs.Records.{Credential}
+use Rattle.credential_table.specs.Table.{IsTable}
+use Rattle.credential_table.proofs.RowLemmas.{level3_rows}
+use Rattle.credential_table.proofs.table.Table.is_of.Goals as goal
+
+pub returns-in-Open : goal.returns-in-Open
+returns-in-Open c =
+    let wide : IsTable Open c.args.self.now = subst (IsTable Open) c.self.view_is c.self.invariant in (
+      λ _. elim c.in-Open.is [
+        | inl open_one ↦ subst (λ (p : Profile). IsTable p c.args.self.now) (sym open_one) wide
+        | inr level3 ↦ subst (λ (p : Profile). IsTable p c.args.self.now) (sym level3) (wide.0, level3_rows c.args.self.now wide.1)
+      ],
+      λ _. refl,
+    )
