@@ -11,6 +11,7 @@ mod law;
 mod options;
 mod origin;
 mod outgoing;
+mod reading;
 mod responses;
 
 pub use asking::{assertion_request, creation_request};
@@ -18,4 +19,5 @@ pub use error::{RequestError, ResponseError};
 pub use law::one_asking;
 pub use options::{CreationOptions, RequestOptions};
 pub use outgoing::{Outgoing, next_request};
-pub use responses::{assertion_response, attestation_object, creation_response};
+pub use reading::{read_assertion, read_creation};
+pub use responses::{assertion_response, assertion_response_of, attestation_object, creation_response};

@@ -1,16 +1,16 @@
 //! The responses that a client hands to a relying party.
 
-ghost use Rattle.std.specs.Prelude.{◌≡◌, ℕ, IfOk, IsErrOf, List};
+ghost use Rattle.std.specs.Prelude.{◌≡◌, ℕ, IfOk, IsErrOf, List, option_map};
 ghost use Rattle.authdata.specs.Objects.{ObjectOf};
 ghost use Rattle.authdata.specs.Responses.{assertion_response_view};
-ghost use Rattle.ctap_replies.specs.ReplyView.{assertion_reply_view, creation_reply_view};
+ghost use Rattle.ctap_replies.specs.ReplyView.{assertion_reply_view, creation_reply_view, lent_assertion_view};
 ghost use Rattle.client.specs.Responses.{object_of, response_of};
 ghost use Rattle.client.specs.declared.error.ResponseError.TheVariants as errors;
 
 use crate::error::ResponseError;
 use authdata::{AssertionResponse, AttestationObject, RegistrationResponse};
-use ctap_replies::{AssertionReply, CreationReply};
-use std::alloc::Global;
+use ctap_replies::{AssertionReply, AssertionView, CreationReply};
+use std::alloc::{AllocError, Global};
 
 /// The response of a sign-in (`AuthenticatorAssertionResponse`, WebAuthn Level 2, section 5.2.2): the members
 /// of the authenticator's reply, unchanged, and the client data that were sent with its request. Takes no memory.
@@ -24,6 +24,34 @@ pub fn assertion_response(reply: AssertionReply, client_data: Vec<u8>) -> Assert
         signature: reply.signature,
         client_data,
     }
+}
+
+/// Bytes that may be absent, in memory of their own.
+fn owned_if_there(alloc: Global, held: Option<&[u8]>) -> Result<Option<Vec<u8>>, AllocError>
+    ensures { IfOk result (λ o. option_map (λ v. v.items) o ≡ option_map (λ b. b.now) held.entry) }
+{
+    match held {
+        Some(content) => Ok(Some(Vec::from_slice(alloc, content)?)),
+        None => Ok(None),
+    }
+}
+
+/// The response of a sign-in, as of [`assertion_response`], of an assertion whose members are lent, as
+/// [`read_assertion`](crate::read_assertion) gives it: they are copied.
+pub fn assertion_response_of(
+    alloc: Global,
+    reply: &AssertionView<'_>,
+    client_data: Vec<u8>,
+) -> Result<AssertionResponse, AllocError>
+    ensures { IfOk result (λ r. assertion_response_view r ≡ response_of (lent_assertion_view reply.now) client_data.items) }
+{
+    Ok(AssertionResponse {
+        credential: Vec::from_slice(alloc, reply.credential)?,
+        user: owned_if_there(alloc, reply.user)?,
+        auth_data: Vec::from_slice(alloc, reply.auth_data)?,
+        signature: Vec::from_slice(alloc, reply.signature)?,
+        client_data,
+    })
 }
 
 /// The attestation object (WebAuthn Level 2, section 6.5.4) of a reply to makeCredential.

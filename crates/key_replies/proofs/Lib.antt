@@ -1,0 +1,3 @@
+pub mod Failing
+pub mod Telling
+pub mod Laws

@@ -1,0 +1,5 @@
+pub mod Telling
+pub mod Replies
+pub mod ReplyView
+pub mod Reading
+pub mod Pieces
