@@ -8,7 +8,7 @@ use std::alloc::{AllocError, Global};
 use verification::Policy;
 
 /// The profiles.
-static PROFILES: [&str; 2] = ["open", "strict"];
+static PROFILES: [&str; 3] = ["level3", "open", "strict"];
 
 /// The attestations that are accepted.
 static ATTESTATIONS: [&str; 3] = ["any", "none", "self"];
@@ -36,6 +36,8 @@ pub struct Options<'a> {
     pub rp_name: &'a str,
     /// The origins of its pages.
     pub origins: Vec<&'a str>,
+    /// The origins of other sites' pages that may have these in a frame.
+    pub top_origins: Vec<&'a str>,
     /// Which responses it takes.
     pub profile: Profile,
     /// Which attestations it accepts.
@@ -104,7 +106,7 @@ fn policy_options<'a>(alloc: Global, help: &'a str) -> Result<Command<'a>, Alloc
         alloc,
         "profile",
         "PROFILE",
-        "Which responses it takes; open",
+        "Which responses it takes; level3",
     )
     .value_parser(PROFILES.as_slice());
     let attestation = option(
@@ -114,7 +116,15 @@ fn policy_options<'a>(alloc: Global, help: &'a str) -> Result<Command<'a>, Alloc
         "Which attestations it accepts; any",
     )
     .value_parser(ATTESTATIONS.as_slice());
+    let top_origin = option(
+        alloc,
+        "top-origin",
+        "ORIGIN",
+        "An origin of a page that may have its pages in a frame; may come again",
+    )
+    .action(ArgAction::Append);
     party_options(alloc, help)?
+        .arg(top_origin)?
         .arg(name)?
         .arg(profile)?
         .arg(attestation)
@@ -211,12 +221,12 @@ fn policy_named(word: Option<&str>) -> Policy {
     }
 }
 
-/// The profile of its word; the open one where there is none.
+/// The profile of its word; that of Level 3 where there is none.
 fn profile_named(word: Option<&str>) -> Profile {
-    if word == Some("strict") {
-        Profile::Strict
-    } else {
-        Profile::Open
+    match word {
+        Some("strict") => Profile::Strict,
+        Some("open") => Profile::Open,
+        _ => Profile::Level3,
     }
 }
 
@@ -275,6 +285,7 @@ pub fn options_of<'a>(
         rp_id,
         rp_name: matches.get_str("rp-name").unwrap_or(rp_id),
         origins: Vec::from_slice(alloc, origins)?,
+        top_origins: Vec::from_slice(alloc, matches.get_strs("top-origin").unwrap_or(&[]))?,
         profile: profile_named(matches.get_str("profile")),
         policy: policy_named(matches.get_str("attestation")),
         max_open,

@@ -168,10 +168,13 @@ fn is_of(host: &str, rp_id: &str) -> bool {
     }
 }
 
-/// That an rp id and origins are as browsers write them, and that the host of a web origin, where there is one, is the rp id
-/// or ends in it.
-pub fn check_party(rp_id: &str, origins: &[&str]) -> Result<(), PartyFault> {
+/// That an rp id, origins and those of pages that may frame are as browsers write them, and that the host of a web origin,
+/// where there is one, is the rp id or ends in it.
+pub fn check_party(rp_id: &str, origins: &[&str], top_origins: &[&str]) -> Result<(), PartyFault> {
     check_rp_id(rp_id)?;
+    for origin in top_origins {
+        host_of(origin)?;
+    }
     let (mut has_web, mut has_own) = (false, false);
     for origin in origins {
         if let Some(host) = host_of(origin)? {
