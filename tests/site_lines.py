@@ -33,11 +33,12 @@ def in_place_of_random(path):
 
 
 class Host:
-    """A host: it runs the program, and speaks with it by lines."""
+    """A host: it runs the program, in the open profile if not said, and speaks with it by lines."""
 
     def __init__(self, program, file, *words, random_bytes=None):
         self.errors = tempfile.TemporaryFile()
-        self.process = subprocess.Popen([*in_place_of_random(random_bytes), program, str(file), *words], stdin=subprocess.PIPE,
+        profile = [] if any(word.startswith("--profile") for word in words) else ["--profile", "open"]
+        self.process = subprocess.Popen([*in_place_of_random(random_bytes), program, str(file), *profile, *words], stdin=subprocess.PIPE,
                                         stdout=subprocess.PIPE, stderr=self.errors)
         self.number = 0
 
