@@ -1,5 +1,5 @@
-/* passkey.h: the steps by which a relying party verifies a passkey's sign-in and registration (WebAuthn Level 2,
- * sections 7.2 and 7.1), as proved code. C11 and C++.
+/* passkey.h: the steps by which a relying party verifies a passkey's sign-in and registration (WebAuthn Level 2 and
+ * Level 3, sections 7.2 and 7.1), as proved code. C11 and C++.
  *
  * Each call judges one response by what it is handed, and keeps nothing: sessions, credentials and the mathematics of
  * signatures are the host's. No call changes anything but what it tells, which it writes with the answer 0 alone.
@@ -20,11 +20,11 @@
  * passkey_signature_asked overlap each other or the response, it answers 0 and tells a wrong message or signature.
  *
  * Sizes: credential ids and user handles that are handed in are compared, and have no limit here. An id that is told has 1
- * to 64 bytes, with open_profile 1 to 1,023.
+ * to 64 bytes in the strict profile, and 1 to 1,023 in the others.
  * Keys: no test is made that a point lies on its curve, or that a modulus is a product of two primes. The library that
  * verifies signatures has to refuse such a key.
  *
- * PASSKEY_ABI_VERSION, which is also the number in libpasskey.so.3, is another one after each change of a struct, of a
+ * PASSKEY_ABI_VERSION, which is also the number in libpasskey.so.4, is another one after each change of a struct, of a
  * call's parameters, or of what a number means. New calls and new answers leave it as it is.
  */
 #ifndef PASSKEY_H
@@ -38,7 +38,7 @@
 extern "C" {
 #endif
 
-#define PASSKEY_ABI_VERSION 3
+#define PASSKEY_ABI_VERSION 4
 
 #define PASSKEY_ES256 (-7) /* ECDSA over P-256 with SHA-256 */
 #define PASSKEY_EDDSA (-8) /* EdDSA over Ed25519 */
@@ -60,7 +60,15 @@ enum {
     PASSKEY_FORMAT_PACKED_SELF = 1 /* by a packed statement with a signature of its own key (section 8.2) */
 };
 
-/* Answers. 1 to 16 are the steps, in their order. */
+/* The profiles: which responses a relying party takes. */
+enum {
+    PASSKEY_PROFILE_STRICT = 0, /* no extension data, ids of 1 to 64 bytes, no status not-supported of token binding */
+    PASSKEY_PROFILE_OPEN = 1,   /* these too, and ids of up to 1,023 bytes, as real keys and browsers send them */
+    PASSKEY_PROFILE_LEVEL3 = 2  /* as the open one; token binding is not looked at, and frames are (Level 3) */
+};
+
+/* Answers. 1 to 18 are the steps: 1 to 16 in their order, and 17 and 18, of Level 3, right behind the origin (8 of a
+ * sign-in, 5 of a registration). */
 enum {
     PASSKEY_ACCEPTED = 0,
 
@@ -81,6 +89,8 @@ enum {
     PASSKEY_BAD_SIGNATURE = 14,
     PASSKEY_COUNTER_NOT_GREATER = 15,
     PASSKEY_ELIGIBILITY_CHANGED = 16,
+    PASSKEY_CROSS_ORIGIN = 17,
+    PASSKEY_WRONG_TOP_ORIGIN = 18,
 
     /* of a registration */
     PASSKEY_REGISTRATION_SESSION_NOT_OPEN = 1,
@@ -99,6 +109,8 @@ enum {
     PASSKEY_REGISTRATION_ATTESTATION_NOT_ACCEPTED = 14,
     PASSKEY_REGISTRATION_CREDENTIAL_REGISTERED = 15,
     PASSKEY_REGISTRATION_NO_ROOM = 16,
+    PASSKEY_REGISTRATION_CROSS_ORIGIN = 17,
+    PASSKEY_REGISTRATION_WRONG_TOP_ORIGIN = 18,
 
     /* a member that is out of its limits */
     PASSKEY_LIMIT_RP_ID = 101,             /* party.rp_id: UTF-8 */
@@ -112,6 +124,8 @@ enum {
     PASSKEY_LIMIT_VERIFIED_Y = 109,        /* verified.key.y: 32 bytes, of ES256; of RS256 an exponent */
     PASSKEY_LIMIT_MESSAGE_ROOM = 110,      /* the room for a message is too small */
     PASSKEY_LIMIT_SIGNATURE_ROOM = 111,    /* the room for a signature is too small */
+    PASSKEY_LIMIT_PROFILE = 112,           /* party.profile, or call.profile of passkey_signature_asked: 0, 1 or 2 */
+    PASSKEY_LIMIT_TOP_ORIGIN = 113,        /* party.top_origins: each in UTF-8 */
 
     PASSKEY_NO_MEMORY = 127
 };
@@ -146,8 +160,10 @@ typedef struct passkey_party {
     passkey_bytes rp_id; /* UTF-8, as "example.com" */
     const passkey_bytes *origins; /* each UTF-8, as "https://example.com"; compared as texts */
     size_t origin_count;
-    uint8_t open_profile; /* whether extension data, ids of up to 1,023 bytes and the status not-supported of token
-                             binding are taken, as real keys and browsers send them */
+    uint8_t profile; /* PASSKEY_PROFILE_STRICT, PASSKEY_PROFILE_OPEN or PASSKEY_PROFILE_LEVEL3 */
+    const passkey_bytes *top_origins; /* the pages of other sites that may frame its own: each UTF-8, compared as texts;
+                                         none: it is not framed. In Level 3 alone looked at */
+    size_t top_origin_count;
 } passkey_party;
 
 /* A public key, a message and a signature that the host's own library found to be valid. */
@@ -210,7 +226,7 @@ typedef struct passkey_assertion_out {
     size_t extensions_size; /* in bytes: the last ones of response.auth_data are the map of extensions; 0: there is none */
 } passkey_assertion_out;
 
-/* Judges a sign-in: PASSKEY_ACCEPTED, or the first step that is not passed (1 to 16), or a member that is out of its
+/* Judges a sign-in: PASSKEY_ACCEPTED, or the first step that is not passed (1 to 18), or a member that is out of its
  * limits, or PASSKEY_NO_MEMORY. */
 uint32_t passkey_assertion(const passkey_assertion_call *call, passkey_assertion_out *out);
 
@@ -222,6 +238,8 @@ typedef struct passkey_registration_session {
     uint8_t offers_es256;    /* PASSKEY_ES256 was offered */
     uint8_t offers_eddsa;    /* PASSKEY_EDDSA was offered */
     uint8_t offers_rs256;    /* PASSKEY_RS256 was offered */
+    uint8_t conditional;     /* it was begun as a conditional create: in Level 3 UP is then not required */
+    uint8_t attestation;     /* an attestation was asked for: where none was, in Level 3 the statement counts as none */
 } passkey_registration_session;
 
 /* A client's answer to a registration. */
@@ -266,10 +284,11 @@ uint32_t passkey_registration(const passkey_registration_call *call, passkey_reg
 /* A response whose signature is to be verified. */
 typedef struct passkey_signature_call {
     uint8_t is_registration;
-    uint8_t open_profile;                       /* of a registration: as party.open_profile */
+    uint8_t profile;                            /* of a registration: as party.profile */
     passkey_registration_response registration; /* of a registration */
     passkey_assertion_response assertion;       /* of a sign-in */
     passkey_key key;                            /* of a sign-in: the credential's */
+    uint8_t attestation;                        /* of a registration: as session.attestation */
 } passkey_signature_call;
 
 /* Which signature the host is to verify. */
@@ -284,7 +303,8 @@ typedef struct passkey_signature_out {
  * those of self attestation, or that there is none. A sign-in's message has auth_data.size + 32 bytes, a registration's at
  * most object.size + 32, its signature at most object.size: rooms of these sizes are always enough. Answers
  * PASSKEY_ACCEPTED, PASSKEY_REGISTRATION_BAD_ATTESTATION_OBJECT, PASSKEY_LIMIT_KEY_ALGORITHM, PASSKEY_LIMIT_KEY_X,
- * PASSKEY_LIMIT_KEY_Y, PASSKEY_LIMIT_MESSAGE_ROOM, PASSKEY_LIMIT_SIGNATURE_ROOM or PASSKEY_NO_MEMORY. */
+ * PASSKEY_LIMIT_KEY_Y, PASSKEY_LIMIT_MESSAGE_ROOM, PASSKEY_LIMIT_SIGNATURE_ROOM, PASSKEY_LIMIT_PROFILE or
+ * PASSKEY_NO_MEMORY. */
 uint32_t passkey_signature_asked(const passkey_signature_call *call, uint8_t *message, size_t message_room,
                                  uint8_t *signature, size_t signature_room, passkey_signature_out *out);
 
