@@ -49,13 +49,13 @@ static void try_sign_in(passkey_assertion_call *call, uint8_t *flag, struct answ
 /* What each number of a profile answers to extensions. */
 static uint32_t answer_of(unsigned profile, uint32_t refused)
 {
-    return profile == PASSKEY_STRICT ? refused : profile <= PASSKEY_LEVEL3 ? PASSKEY_ACCEPTED : PASSKEY_LIMIT_PROFILE;
+    return profile == PASSKEY_PROFILE_STRICT ? refused : profile <= PASSKEY_PROFILE_LEVEL3 ? PASSKEY_ACCEPTED : PASSKEY_LIMIT_PROFILE;
 }
 
 static void profiles_of_sign_ins(passkey_assertion_call call)
 {
     uint8_t data[64];
-    call.party.profile = PASSKEY_OPEN;
+    call.party.profile = PASSKEY_PROFILE_OPEN;
     call.response.auth_data = lent(data, auth_data(data, 0x81, 7, lent(extensions, sizeof extensions)));
     verify_sign_in(&call);
     for (unsigned number = 0; number < 256; number++) {
@@ -152,12 +152,12 @@ static void level3(passkey_registration_call call)
         lent(absent, attestation_object(absent, false, 0x40, id, &es256, lent(NULL, 0))),
         lent(packed, attestation_object(packed, true, 0x41, id, &es256, lent(NULL, 0))) };
     for (int flag = 0; flag < 256; flag++) {
-        call.party.profile = PASSKEY_LEVEL3;
+        call.party.profile = PASSKEY_PROFILE_LEVEL3;
         call.response.object = objects[0], call.session.conditional = (uint8_t)flag, call.session.attestation = 0;
         MUST(registration(&call, PASSKEY_FORMAT_NONE, 0) == (flag != 0 ? PASSKEY_ACCEPTED : PASSKEY_REGISTRATION_USER_NOT_PRESENT));
         call.response.object = objects[1], call.session.conditional = 0, call.session.attestation = (uint8_t)flag;
         MUST(registration(&call, PASSKEY_FORMAT_NONE, 0) == (flag != 0 ? PASSKEY_REGISTRATION_BAD_STATEMENT : PASSKEY_ACCEPTED));
-        call.party.profile = PASSKEY_OPEN;
+        call.party.profile = PASSKEY_PROFILE_OPEN;
         MUST(registration(&call, PASSKEY_FORMAT_NONE, 0) == PASSKEY_REGISTRATION_BAD_STATEMENT);
         call.response.object = objects[0], call.session.conditional = (uint8_t)flag;
         MUST(registration(&call, PASSKEY_FORMAT_NONE, 0) == PASSKEY_REGISTRATION_USER_NOT_PRESENT);
@@ -224,13 +224,13 @@ static void signatures(void)
             MUST(passkey_signature_asked(&call, message, 1024, signature, 1024, out) ==
                  answer_of(number, PASSKEY_REGISTRATION_BAD_ATTESTATION_OBJECT));
         }
-        call.profile = PASSKEY_OPEN;
+        call.profile = PASSKEY_PROFILE_OPEN;
         MUST(passkey_signature_asked(&call, message, 1024, signature, 1024, out) == 0 && !out->is_asked);
         free(out);
         calls += 258;
     }
     size = attestation_object(object, true, 0x41, id, &es256, lent(NULL, 0));
-    call.registration.object = lent(object, size), call.profile = PASSKEY_LEVEL3;
+    call.registration.object = lent(object, size), call.profile = PASSKEY_PROFILE_LEVEL3;
     for (int flag = 0; flag < 256; flag++, calls++) {
         static passkey_signature_out out;
         call.attestation = (uint8_t)flag;

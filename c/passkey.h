@@ -1,5 +1,5 @@
-/* passkey.h: the steps by which a relying party verifies a passkey's sign-in and registration (WebAuthn Level 2,
- * sections 7.2 and 7.1, and Level 3), as proved code. C11 and C++.
+/* passkey.h: the steps by which a relying party verifies a passkey's sign-in and registration (WebAuthn Level 2 and
+ * Level 3, sections 7.2 and 7.1), as proved code. C11 and C++.
  *
  * Each call judges one response by what it is handed, and keeps nothing: sessions, credentials and the mathematics of
  * signatures are the host's. No call changes anything but what it tells, which it writes with the answer 0 alone.
@@ -20,7 +20,7 @@
  * passkey_signature_asked overlap each other or the response, it answers 0 and tells a wrong message or signature.
  *
  * Sizes: credential ids and user handles that are handed in are compared, and have no limit here. An id that is told has 1
- * to 64 bytes in the strict profile, and else 1 to 1,023.
+ * to 64 bytes in the strict profile, and 1 to 1,023 in the others.
  * Keys: no test is made that a point lies on its curve, or that a modulus is a product of two primes. The library that
  * verifies signatures has to refuse such a key.
  *
@@ -60,14 +60,15 @@ enum {
     PASSKEY_FORMAT_PACKED_SELF = 1 /* by a packed statement with a signature of its own key (section 8.2) */
 };
 
-/* Which responses a relying party takes. */
+/* The profiles: which responses a relying party takes. */
 enum {
-    PASSKEY_STRICT = 0, /* no extension data, ids of up to 64 bytes, token binding supported at most */
-    PASSKEY_OPEN = 1,   /* extension data, ids of up to 1,023 bytes, token binding not-supported too: real keys and browsers */
-    PASSKEY_LEVEL3 = 2  /* the same by the steps of WebAuthn Level 3: frames, conditional creation, attestation only where asked */
+    PASSKEY_PROFILE_STRICT = 0, /* no extension data, ids of 1 to 64 bytes, no status not-supported of token binding */
+    PASSKEY_PROFILE_OPEN = 1,   /* these too, and ids of up to 1,023 bytes, as real keys and browsers send them */
+    PASSKEY_PROFILE_LEVEL3 = 2  /* as the open one; token binding is not looked at, and frames are (Level 3) */
 };
 
-/* Answers. 1 to 18 are the steps. 1 to 16 are tested in their order; 17 and 18 come right after the origin's. */
+/* Answers. 1 to 18 are the steps: 1 to 16 in their order, and 17 and 18, of Level 3, right after the origin (8 of a
+ * sign-in, 5 of a registration). */
 enum {
     PASSKEY_ACCEPTED = 0,
 
@@ -123,7 +124,7 @@ enum {
     PASSKEY_LIMIT_VERIFIED_Y = 109,        /* verified.key.y: 32 bytes, of ES256; of RS256 an exponent */
     PASSKEY_LIMIT_MESSAGE_ROOM = 110,      /* the room for a message is too small */
     PASSKEY_LIMIT_SIGNATURE_ROOM = 111,    /* the room for a signature is too small */
-    PASSKEY_LIMIT_PROFILE = 112,           /* party.profile: PASSKEY_STRICT, PASSKEY_OPEN or PASSKEY_LEVEL3 */
+    PASSKEY_LIMIT_PROFILE = 112,           /* party.profile, or call.profile of passkey_signature_asked: 0, 1 or 2 */
     PASSKEY_LIMIT_TOP_ORIGIN = 113,        /* party.top_origins: each in UTF-8 */
 
     PASSKEY_NO_MEMORY = 127
@@ -159,9 +160,9 @@ typedef struct passkey_party {
     passkey_bytes rp_id; /* UTF-8, as "example.com" */
     const passkey_bytes *origins; /* each UTF-8, as "https://example.com"; compared as texts */
     size_t origin_count;
-    uint8_t profile; /* PASSKEY_STRICT, PASSKEY_OPEN or PASSKEY_LEVEL3 */
-    const passkey_bytes *top_origins; /* each UTF-8: the origins of other sites' pages that may have this site's in a frame; in
-                                         PASSKEY_LEVEL3 a response that was made in any other frame is refused */
+    uint8_t profile; /* PASSKEY_PROFILE_STRICT, PASSKEY_PROFILE_OPEN or PASSKEY_PROFILE_LEVEL3 */
+    const passkey_bytes *top_origins; /* the pages of other sites that may frame its own: each UTF-8, compared as texts;
+                                         none: it is not framed. In Level 3 alone looked at */
     size_t top_origin_count;
 } passkey_party;
 
@@ -237,8 +238,8 @@ typedef struct passkey_registration_session {
     uint8_t offers_es256;    /* PASSKEY_ES256 was offered */
     uint8_t offers_eddsa;    /* PASSKEY_EDDSA was offered */
     uint8_t offers_rs256;    /* PASSKEY_RS256 was offered */
-    uint8_t conditional;     /* the browser may answer by itself, so that UP is not required: looked at in PASSKEY_LEVEL3 */
-    uint8_t attestation;     /* an attestation was asked for; in PASSKEY_LEVEL3 the statement counts as none where it was not */
+    uint8_t conditional;     /* it was begun as a conditional create: in Level 3 UP is then not required */
+    uint8_t attestation;     /* an attestation was asked for: where none was, in Level 3 the statement counts as none */
 } passkey_registration_session;
 
 /* A client's answer to a registration. */
@@ -301,8 +302,9 @@ typedef struct passkey_signature_out {
 /* Tells which key, message and signature the host is to verify: of a sign-in those of the response, of a registration
  * those of self attestation, or that there is none. A sign-in's message has auth_data.size + 32 bytes, a registration's at
  * most object.size + 32, its signature at most object.size: rooms of these sizes are always enough. Answers
- * PASSKEY_ACCEPTED, PASSKEY_REGISTRATION_BAD_ATTESTATION_OBJECT, PASSKEY_LIMIT_PROFILE, PASSKEY_LIMIT_KEY_ALGORITHM, PASSKEY_LIMIT_KEY_X,
- * PASSKEY_LIMIT_KEY_Y, PASSKEY_LIMIT_MESSAGE_ROOM, PASSKEY_LIMIT_SIGNATURE_ROOM or PASSKEY_NO_MEMORY. */
+ * PASSKEY_ACCEPTED, PASSKEY_REGISTRATION_BAD_ATTESTATION_OBJECT, PASSKEY_LIMIT_KEY_ALGORITHM, PASSKEY_LIMIT_KEY_X,
+ * PASSKEY_LIMIT_KEY_Y, PASSKEY_LIMIT_MESSAGE_ROOM, PASSKEY_LIMIT_SIGNATURE_ROOM, PASSKEY_LIMIT_PROFILE or
+ * PASSKEY_NO_MEMORY. */
 uint32_t passkey_signature_asked(const passkey_signature_call *call, uint8_t *message, size_t message_room,
                                  uint8_t *signature, size_t signature_room, passkey_signature_out *out);
 

@@ -46,5 +46,5 @@ def test_numbers():
     algorithms = dict(re.findall(r"#define PASSKEY_([A-Z]+[0-9]*) \((-[0-9]+)\)", text))
     assert algorithms == {"ES256": str(library.ES256), "EDDSA": str(library.EDDSA), "RS256": str(library.RS256)}
     assert f"#define PASSKEY_ABI_VERSION {library.ABI_VERSION}\n" in text
-    assert all(re.search(rf"\bPASSKEY_{name.upper()} = {number}\b", text) for number, name in enumerate(library.PROFILES))
+    assert all(re.search(rf"\bPASSKEY_PROFILE_{name.upper()} = {number}\b", text) for number, name in enumerate(library.PROFILES))
     assert "PASSKEY_ACCEPTED = 0," in text and "PASSKEY_NO_MEMORY = 127\n" in text
