@@ -2,7 +2,7 @@
 
 use crate::fault::Fault;
 use crate::options::Options;
-use crate::party::check_party;
+use crate::party::{check_origins, check_party};
 use kept_site::Bounds;
 use site_files::{FileError, FileSite, Unknown, create, open};
 use std::alloc::Global;
@@ -10,11 +10,12 @@ use verification::RelyingParty;
 
 /// The relying party.
 fn party(alloc: Global, options: &Options<'_>) -> Result<RelyingParty, Fault> {
-    let Ok(party) = RelyingParty::with_profile(
+    let Ok(party) = RelyingParty::framed_by(
         alloc,
         options.profile,
         options.rp_id,
         options.origins.as_slice(),
+        options.top_origins.as_slice(),
     ) else {
         return Err(Fault::Memory);
     };
@@ -66,6 +67,7 @@ fn taken_up(rt: &HostRuntime, options: &Options<'_>) -> Result<FileSite<Unknown>
 /// The site of the file: one that is made with `--new`, opened with `--existing`, and else opened where it is there.
 pub(crate) fn site_of(rt: &HostRuntime, options: &Options<'_>) -> Result<FileSite<Unknown>, Fault> {
     check_party(options.rp_id, options.origins.as_slice())?;
+    check_origins(options.top_origins.as_slice())?;
     if options.is_new {
         return made(rt, options);
     }

@@ -7,7 +7,7 @@ use std::alloc::{AllocError, Global};
 use verification::Policy;
 
 /// The profiles.
-static PROFILES: [&str; 2] = ["open", "strict"];
+static PROFILES: [&str; 3] = ["level3", "open", "strict"];
 
 /// The attestations that are accepted.
 static ATTESTATIONS: [&str; 3] = ["any", "none", "self"];
@@ -26,6 +26,8 @@ pub(crate) struct Options<'a> {
     pub(crate) rp_name: &'a str,
     /// The origins of its pages.
     pub(crate) origins: Vec<&'a str>,
+    /// The origins of other sites' pages that may frame its own.
+    pub(crate) top_origins: Vec<&'a str>,
     /// Which responses it takes.
     pub(crate) profile: Profile,
     /// Which attestations it accepts.
@@ -97,6 +99,13 @@ fn policy_options<'a>(alloc: Global, help: &'a str) -> Result<Command<'a>, Alloc
         "Which responses it takes; open",
     )
     .value_parser(PROFILES.as_slice());
+    let top_origin = option(
+        alloc,
+        "top-origin",
+        "ORIGIN",
+        "An origin whose pages may frame its own, in level3; may come again",
+    )
+    .action(ArgAction::Append);
     let attestation = option(
         alloc,
         "attestation",
@@ -107,6 +116,7 @@ fn policy_options<'a>(alloc: Global, help: &'a str) -> Result<Command<'a>, Alloc
     party_options(alloc, help)?
         .arg(name)?
         .arg(profile)?
+        .arg(top_origin)?
         .arg(attestation)
 }
 
@@ -185,10 +195,10 @@ fn policy_named(word: Option<&str>) -> Policy {
 
 /// The profile of its word; the open one where there is none.
 fn profile_named(word: Option<&str>) -> Profile {
-    if word == Some("strict") {
-        Profile::Strict
-    } else {
-        Profile::Open
+    match word {
+        Some("strict") => Profile::Strict,
+        Some("level3") => Profile::Level3,
+        _ => Profile::Open,
     }
 }
 
@@ -237,11 +247,16 @@ pub(crate) fn options_of<'a>(
     ) else {
         return Ok(None);
     };
+    let top_origins = match matches.get_strs("top-origin") {
+        Some(top_origins) => Vec::from_slice(alloc, top_origins)?,
+        None => Vec::new(alloc),
+    };
     Ok(Some(Options {
         file,
         rp_id,
         rp_name: matches.get_str("rp-name").unwrap_or(rp_id),
         origins: Vec::from_slice(alloc, origins)?,
+        top_origins,
         profile: profile_named(matches.get_str("profile")),
         policy: policy_named(matches.get_str("attestation")),
         max_open,

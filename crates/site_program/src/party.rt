@@ -168,6 +168,14 @@ fn is_of(host: &str, rp_id: &str) -> bool {
     }
 }
 
+/// That origins are as browsers write them.
+pub(crate) fn check_origins(origins: &[&str]) -> Result<(), PartyFault> {
+    for origin in origins {
+        host_of(origin)?;
+    }
+    Ok(())
+}
+
 /// That an rp id and origins are as browsers write them, and that the host of a web origin, where there is one, is the rp id
 /// or ends in it.
 pub(crate) fn check_party(rp_id: &str, origins: &[&str]) -> Result<(), PartyFault> {
