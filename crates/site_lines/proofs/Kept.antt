@@ -4,7 +4,8 @@ use Rattle.std.specs.declared.result.Result.{Result}
 use Rattle.std.proofs.Common.{◌≡◌, ℕ, Bool, List, Option, ap, refl, sym, subst, ◌∙◌, false, true≢false}
 use Rattle.sqlite_trees.specs.View.{IsClean, View}
 use Rattle.cose.specs.declared.key.Alg.{Alg}
-use Rattle.ceremony_sessions.specs.Sessions.{Opening, OpensRegistration, OpensSignIn, challenge_of, usual}
+use Rattle.ceremony_sessions.specs.Sessions.{Opening, OpensRegistration, OpensSignIn, challenge_of}
+use Rattle.ceremony_sessions.specs.declared.session.Asks.{Asks}
 use Rattle.ceremony_sessions.specs.declared.error.Error.TheVariants as full
 use Rattle.timed_sessions.specs.Timed.{IsTrimmed, after_begin}
 use Rattle.credential_store.specs.Held.{Placed}
@@ -61,9 +62,9 @@ pub same_sign_in : (u v : Option (List ℕ)) (a b : List (List ℕ)) (uv : Bool)
     → OpensSignIn u a uv words ≡ OpensSignIn v b uv words
 same_sign_in u v a b uv words user allow = rw (user, allow) refl
 
-pub same_registration : (u v : List ℕ) (a b : List Alg) (uv : Bool) (words : List ℕ) → u ≡ v → a ≡ b
-    → OpensRegistration u a uv words usual ≡ OpensRegistration v b uv words usual
-same_registration u v a b uv words user algorithms = rw (user, algorithms) refl
+pub same_registration : (u v : List ℕ) (a b : List Alg) (uv : Bool) (words : List ℕ) (asks : Asks) → u ≡ v → a ≡ b
+    → OpensRegistration u a uv words asks ≡ OpensRegistration v b uv words asks
+same_registration u v a b uv words asks user algorithms = rw (user, algorithms) refl
 
 -- where the site's call begins no session
 pub begins_none : {S T : Type 0} (p o : Opening) (old new : KeptState S) (result : Result T BeginFailure) → p ≡ o

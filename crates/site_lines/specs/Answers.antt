@@ -11,7 +11,7 @@ use Rattle.authdata.specs.Objects.{Attestation}
 use Rattle.authdata.specs.Responses.{AuthenticatorAssertionResponse, assertion_response_view, registration_response_view}
 use Rattle.authdata.specs.Responses as responses
 use Rattle.authdata.specs.Statements.{IsSelfSignedBy}
-use Rattle.ceremony_sessions.specs.Sessions.{IsRefused, Opening, OpensRegistration, OpensSignIn, challenge_of, usual}
+use Rattle.ceremony_sessions.specs.Sessions.{IsRefused, Opening, OpensRegistration, OpensSignIn, challenge_of}
 use Rattle.ceremony_sessions.specs.declared.error.Error.TheVariants as begins
 use Rattle.verification.specs.Records.{Credential}
 use Rattle.verification.specs.Registration.{Attests, hash_in}
@@ -125,7 +125,7 @@ abbrev pub opens_sign_in : BeginSignIn → List ℕ → Opening
 opens_sign_in b words = OpensSignIn (option_map (λ u. u.items) b.user) (map (λ id. id.items) b.allow.items) b.user_verification words
 
 abbrev pub opens_registration : BeginRegistration → List ℕ → Opening
-opens_registration b words = OpensRegistration b.user.items b.algorithms.items b.user_verification words usual
+opens_registration b words = OpensRegistration b.user.items b.algorithms.items b.user_verification words b.asks
 
 -- why none begins: what is asked is out of its limits, of which the first is named, and never that too many are open; or no
 -- number is left; want of memory says nothing

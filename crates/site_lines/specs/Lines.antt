@@ -13,6 +13,7 @@ use Rattle.cose.specs.declared.key.CoseKey.TheVariants as keys
 use Rattle.cose.specs.Keys.{alg_of, number_of, x_of}
 use Rattle.authdata.specs.declared.response.AssertionResponse.{AssertionResponse}
 use Rattle.authdata.specs.declared.response.RegistrationResponse.{RegistrationResponse}
+use Rattle.ceremony_sessions.specs.declared.session.Asks.{Asks}
 use Rattle.site_lines.specs.declared.verified.Verified.{Verified}
 use Rattle.site_lines.specs.declared.verified.Verified.TheVariants as found
 use Rattle.site_lines.specs.declared.act.Act.{Act}
@@ -81,6 +82,11 @@ HasAlgorithms d algs =
 
 -- ---- the acts
 
+-- how it is begun: not conditional, and with no attestation asked for, unless the line says so
+pub record SaysAsks (d : Data) (asks : Asks) : Type 0 where
+  pub conditional : HasFlag (codes "conditional") d false asks.conditional
+  pub attestation : HasFlag (codes "attestation") d false asks.attestation
+
 -- a registration that is to begin; the user's name is the account's where it is absent
 pub record SaysBeginRegistration (d : Data) (b : BeginRegistration) : Type 0 where
   pub user : HasBytes (codes "user") d b.user.items
@@ -91,6 +97,7 @@ pub record SaysBeginRegistration (d : Data) (b : BeginRegistration) : Type 0 whe
   pub user_verification : HasFlag (codes "user_verification") d false b.user_verification
   pub resident : HasFlag (codes "resident") d true b.resident
   pub algorithms : HasAlgorithms d b.algorithms.items
+  pub asks : SaysAsks d b.asks
 
 -- a sign-in that is to begin
 pub record SaysBeginSignIn (d : Data) (b : BeginSignIn) : Type 0 where

@@ -28,6 +28,11 @@ abbrev pub resident_key : Bool → List ℕ
 resident_key true = codes "required"
 resident_key false = codes "discouraged"
 
+-- the attestation that is asked for (5.4.7)
+abbrev pub conveyance : Bool → List ℕ
+conveyance true = codes "direct"
+conveyance false = codes "none"
+
 abbrev pub account : BeginRegistration → Data
 account b =
     object (member (codes "displayName") (string (string_bytes b.display_name))
@@ -43,7 +48,7 @@ selection b =
 -- the options of a registration: for this relying party, with the session's challenge, and what the line asks for
 abbrev pub creation_options : List ℕ → List ℕ → List ℕ → BeginRegistration → Data
 creation_options rp_id rp_name challenge b =
-    object (member (codes "attestation") (string (codes "none"))
+    object (member (codes "attestation") (string (conveyance b.asks.attestation))
     (member (codes "authenticatorSelection") (selection b)
     (member (codes "challenge") (base64url challenge)
     (member (codes "excludeCredentials") (array (items_of (map (λ id. descriptor id.items) b.exclude.items)))

@@ -2,6 +2,7 @@
 
 use crate::verified::Verified;
 use authdata::{AssertionResponse, RegistrationResponse};
+use ceremony_sessions::Asks;
 use cose::Alg;
 
 /// A registration that is to begin.
@@ -21,6 +22,8 @@ pub struct BeginRegistration {
     pub resident: bool,
     /// The algorithms that are offered.
     pub algorithms: Vec<Alg>,
+    /// How it is begun; without a word not conditional, and with no attestation asked for.
+    pub asks: Asks,
 }
 
 /// A sign-in that is to begin.

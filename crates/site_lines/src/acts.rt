@@ -120,7 +120,7 @@ static FORMS: [Form; 11] = [
 ];
 
 /// Each act's members, beside `id` and `act`.
-static MEMBERS: [Member; 22] = [
+static MEMBERS: [Member; 24] = [
     Member {
         act: ActKind::BeginRegistration,
         name: "user",
@@ -162,6 +162,18 @@ static MEMBERS: [Member; 22] = [
         name: "algorithms",
         is_needed: false,
         meaning: "some of -7, -8, -257; all",
+    },
+    Member {
+        act: ActKind::BeginRegistration,
+        name: "conditional",
+        is_needed: false,
+        meaning: "true: a conditional create",
+    },
+    Member {
+        act: ActKind::BeginRegistration,
+        name: "attestation",
+        is_needed: false,
+        meaning: "true: an attestation is asked for",
     },
     Member {
         act: ActKind::FinishRegistration,

@@ -90,10 +90,11 @@ fn started_registration<S: Store>(
     ensures refused { IfErr result (BeginsNone site.old site.new (opens_registration begin.now words)) }
     ensures crash { (db : Trees) → S.Store.recovers site.new.store db → S.Store.recovers site.old.store db }
 {
-    site.begin_registration(
+    site.begin_registration_for(
         begin.user.as_slice(),
         begin.algorithms.as_slice(),
         begin.user_verification,
+        begin.asks,
         words,
         now,
     )

@@ -4,7 +4,7 @@
 ghost use Rattle.std.specs.Prelude.{◌≡◌, IfOk, map};
 ghost use Rattle.serde_json.specs.Data.{array, string};
 ghost use Rattle.serde_json.specs.View.{items_of, view};
-ghost use Rattle.site_lines.specs.Options.{account, base64url, creation_options as creation_options_of, descriptor as descriptor_of, parameter as parameter_of, request_options as request_options_of, resident_key as resident_key_of, selection as selection_of, verification as verification_of};
+ghost use Rattle.site_lines.specs.Options.{account, base64url, conveyance as conveyance_of, creation_options as creation_options_of, descriptor as descriptor_of, parameter as parameter_of, request_options as request_options_of, resident_key as resident_key_of, selection as selection_of, verification as verification_of};
 
 use crate::act::{BeginRegistration, BeginSignIn};
 use base64::engine::general_purpose::URL_SAFE_NO_PAD;
@@ -112,6 +112,13 @@ fn selection(alloc: Global, begin: &BeginRegistration) -> Result<Value, AllocErr
     json!(in alloc; {"residentKey": key, "requireResidentKey": resident, "userVerification": verification})
 }
 
+/// The attestation that is asked for.
+fn conveyance(is_asked: bool) -> &'static str
+    ensures { result.now ≡ conveyance_of is_asked }
+{
+    if is_asked { "direct" } else { "none" }
+}
+
 /// The options of a registration.
 pub(crate) fn creation_options(
     alloc: Global,
@@ -127,10 +134,11 @@ pub(crate) fn creation_options(
     let parameters = parameters(alloc, begin.algorithms.as_slice())?;
     let exclude = descriptors(alloc, begin.exclude.as_slice())?;
     let selection = selection(alloc, begin)?;
+    let attestation = conveyance(begin.asks.attestation);
     let rp = json!(in alloc; {"id": rp_id, "name": rp_name})?;
     json!(in alloc; {
         "rp": rp, "user": user, "challenge": challenge, "pubKeyCredParams": parameters,
-        "excludeCredentials": exclude, "authenticatorSelection": selection, "attestation": "none"
+        "excludeCredentials": exclude, "authenticatorSelection": selection, "attestation": attestation
     })
 }
 

@@ -3,7 +3,7 @@
 ghost use Rattle.std.specs.Prelude.{◌≡◌, IfOk, Some};
 ghost use Rattle.serde_json.specs.Read.{read};
 ghost use Rattle.serde_json.specs.View.{view};
-ghost use Rattle.site_lines.specs.Lines.{HasMembers, HasVerified, Reads, Says, SaysBeginRegistration, SaysBeginSignIn, SaysFinishRegistration, SaysFinishSignIn, name_of};
+ghost use Rattle.site_lines.specs.Lines.{HasMembers, HasVerified, Reads, Says, SaysAsks, SaysBeginRegistration, SaysBeginSignIn, SaysFinishRegistration, SaysFinishSignIn, name_of};
 ghost use Rattle.site_lines.specs.Private.{kind_name};
 
 use crate::act::{Act, BeginRegistration, BeginSignIn, FinishRegistration, FinishSignIn};
@@ -16,6 +16,7 @@ use crate::members::{
 };
 use crate::response::{assertion_response, credential_id, registration_response};
 use crate::verified::Verified;
+use ceremony_sessions::Asks;
 use serde_json::Value;
 use std::alloc::Global;
 use verified_signature::VerifiedSignature;
@@ -59,6 +60,16 @@ fn verified(alloc: Global, line: &Value) -> Result<Verified, LineError>
     }))
 }
 
+/// How a registration is to begin.
+fn asks(line: &Value) -> Result<Asks, LineError>
+    ensures { IfOk result (SaysAsks (view line.now)) }
+{
+    Ok(Asks {
+        conditional: flag(line, "conditional", false)?,
+        attestation: flag(line, "attestation", false)?,
+    })
+}
+
 /// A registration that is to begin.
 fn begin_registration(alloc: Global, line: &Value) -> Result<BeginRegistration, LineError>
     ensures { IfOk result (SaysBeginRegistration (view line.now)) }
@@ -73,6 +84,7 @@ fn begin_registration(alloc: Global, line: &Value) -> Result<BeginRegistration, 
         user_verification: flag(line, "user_verification", false)?,
         resident: flag(line, "resident", true)?,
         algorithms: algorithms(alloc, line)?,
+        asks: asks(line)?,
     })
 }
 
