@@ -191,10 +191,7 @@ fn accepted_data<'a>(call: &AssertionCall<'a>) -> AuthView<'a>
     requires { PassesSignIn (sign_in_validity call.now) (judged_sign_in call.now) }
     ensures { AuthOf (judged_sign_in call.now).rp.profile (lent_auth_view result) call.now.response.auth_data.now }
 {
-    match read_view(
-        profile_from(call.party.profile),
-        call.response.auth_data,
-    ) {
+    match read_view(profile_from(call.party.profile), call.response.auth_data) {
         Ok(data) => data,
         Err(_) => unreachable!("the data were read for their step"),
     }

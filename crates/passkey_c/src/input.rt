@@ -123,11 +123,7 @@ pub(crate) fn copy_of(
 }
 
 /// The parts as texts; a part that is none breaks this limit.
-fn texts<'a>(
-    alloc: Global,
-    parts: &[Bytes<'a>],
-    limit: Limit,
-) -> Result<Vec<&'a str>, InputFault>
+fn texts<'a>(alloc: Global, parts: &[Bytes<'a>], limit: Limit) -> Result<Vec<&'a str>, InputFault>
     ensures found { IfOk result (λ texts. map (λ text. text.now) texts.items ≡ lent parts.now) }
     ensures kept { OnOk result (AreTexts parts.now) }
     ensures refused { IfErr result (IsFault (λ broken. broken ≡ limit → AreTexts parts.now)) }

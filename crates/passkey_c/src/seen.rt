@@ -62,11 +62,7 @@ fn object_parts(object: &[u8]) -> Option<(bool, &[u8])>
 
 /// What the attestation object of a registration attests, which it was read for already, where an attestation was asked for
 /// or not.
-pub(crate) fn seen_in(
-    profile: Profile,
-    asked: bool,
-    object: &[u8],
-) -> Option<SeenRegistration<'_>>
+pub(crate) fn seen_in(profile: Profile, asked: bool, object: &[u8]) -> Option<SeenRegistration<'_>>
     ensures { (o : Attestation) (a : AuthenticatorData) (c : AttestedCredential) → ObjectOf o object.now → AuthOf profile a o.auth_data
         → a.attested ≡ Some c → MatchOption result ⊥ (IsSeen profile asked o) }
 {

@@ -1,3 +1,4 @@
 pub mod Steps
 pub mod Registrations
 pub mod Expected
+pub mod Differing

@@ -238,8 +238,25 @@ Same valid x other y w = (PassesRegistrationStep valid x w → PassesRegistratio
 
 module _ (valid : Validity) (x : JudgedRegistration) (is_registered : List ℕ → Bool) (is_full : Bool) where
   client_same : Each (Same never x valid (before x is_registered is_full)) client_data_steps
-  client_same = ((λ h. h, λ h. h), ((λ h. h, λ h. h), ((λ h. h, λ h. h), ((λ h. h, λ h. h), ((λ h. h, λ h. h), ((λ h. h, λ h. h),
-      ((λ h. h, λ h. h), ((λ h. h, λ h. h), tt))))))))
+  client_same = (
+    (λ h. h, λ h. h),
+    (
+      (λ h. h, λ h. h),
+      (
+        (λ h. h, λ h. h),
+        (
+          (λ h. h, λ h. h),
+          (
+            (λ h. h, λ h. h),
+            (
+              (λ h. h, λ h. h),
+              ((λ h. h, λ h. h), ((λ h. h, λ h. h), tt)),
+            ),
+          ),
+        ),
+      ),
+    ),
+  )
 
   data_same : Each (Same never x valid (before x is_registered is_full)) auth_data_steps
   data_same = ((λ h. h, λ h. h), ((λ h. h, λ h. h), ((λ h. h, λ h. h), ((λ h. h, λ h. h), ((λ h. h, λ h. h), tt)))))

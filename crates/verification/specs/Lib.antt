@@ -7,4 +7,5 @@ pub mod SignInAnswers
 pub mod RegistrationAnswers
 pub mod Views
 pub mod Numbers
+pub mod Differences
 pub mod Attested

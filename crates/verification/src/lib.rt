@@ -5,6 +5,7 @@
 
 mod client_data;
 mod flag;
+mod law;
 mod party;
 mod record;
 mod refusal;
@@ -12,6 +13,7 @@ mod registration;
 mod signing_in;
 
 pub use authdata::Profile;
+pub use law::profiles;
 pub use party::{Policy, RelyingParty};
 pub use record::{AssertionParts, RegistrationParts, RegistrationSession, RowView, SignInSession};
 pub use refusal::{RegistrationRefusal, SignInRefusal, VerificationError};

@@ -9,7 +9,8 @@ ghost use Rattle.verification.specs.Views.{texts_of};
 
 use authdata::Profile;
 use clientdata::{
-    Binding, CeremonyType, CrossOrigin, ExpectedOrigin, Seen, Text, TopOrigin, is_serialised_for_any,
+    Binding, CeremonyType, CrossOrigin, ExpectedOrigin, Seen, Text, TopOrigin,
+    is_serialised_for_any,
 };
 use sha2::{Digest, Sha256};
 use std::alloc::{AllocError, Global};

@@ -1,7 +1,7 @@
--- What is owed of `KeptSite::begin_registration`.
+-- What is owed of `KeptSite::begin_registration_for`.
 use Rattle.std.proofs.lemmas.Result.{err_from_is_err_and}
 use Rattle.kept_site.proofs.Same.{same_sessions}
-use Rattle.kept_site.proofs.kept.KeptSite.begin_registration.Goals as goal
+use Rattle.kept_site.proofs.kept.KeptSite.begin_registration_for.Goals as goal
 
 pub returns-in_err-started-clause-refused : goal.returns-in_err-started-clause-refused
 returns-in_err-started-clause-refused g c =
