@@ -1,8 +1,7 @@
 -- What is owed of `Table::is_of`.
-use Rattle.std.proofs.Common.{◌≡◌, ◌≤◌, List, inl, inr, length, refl, sym, subst}
+use Rattle.std.proofs.Common.{inl, inr, refl, sym, subst}
 use Rattle.authdata.specs.declared.profile.Profile.{Profile}
-use Rattle.authdata.specs.declared.profile.Profile.TheVariants.{Level3, Open}
-use Rattle.verification.specs.Records.{Credential}
+use Rattle.authdata.specs.declared.profile.Profile.TheVariants.{Open}
 use Rattle.credential_table.specs.Table.{IsTable}
 use Rattle.credential_table.proofs.RowLemmas.{level3_rows}
 use Rattle.credential_table.proofs.table.Table.is_of.Goals as goal
