@@ -120,7 +120,7 @@ static FORMS: [Form; 11] = [
 ];
 
 /// Each act's members, beside `id` and `act`.
-static MEMBERS: [Member; 24] = [
+static MEMBERS: [Member; 25] = [
     Member {
         act: ActKind::BeginRegistration,
         name: "user",
@@ -186,6 +186,12 @@ static MEMBERS: [Member; 24] = [
         name: "response",
         is_needed: true,
         meaning: "the browser's credential.toJSON()",
+    },
+    Member {
+        act: ActKind::FinishRegistration,
+        name: "transports",
+        is_needed: false,
+        meaning: "the texts of the browser's getTransports()",
     },
     Member {
         act: ActKind::FinishRegistration,
