@@ -25,6 +25,16 @@ export interface StoredSignIn extends Told {
   readonly signCount: number;
 }
 
+/** A credential of a `StoredServer`'s file, and what is known of it. A row that was made before these were kept has null, and no transports. */
+export interface KeptCredential extends Credential {
+  /** The kind of the authenticator, by its own word: 16 bytes. */
+  readonly aaguid: Uint8Array | null;
+  /** When it was registered: seconds since 1970. */
+  readonly createdAt: number | null;
+  /** When it signed in last: seconds since 1970. */
+  readonly usedAt: number | null;
+}
+
 export interface StoredServerOptions extends ServerOptions {
   /** The most sessions that are open at a time, up to 1,000,000; where more begin the oldest ends: 100,000. */
   maxOpen?: number;
@@ -67,7 +77,7 @@ export class StoredServer {
   readonly origins: readonly string[];
   /** As that of `Server`, with at most 8 credentials in `exclude`. `session` is a number that only this visitor may have. */
   registerBegin(user: Uint8Array, userName: string, options?: RegistrationOptions): Promise<{ options: object; session: number }>;
-  /** What a RegistrationResponseJSON registers. It is in the file, but for transports. Rejected by `Refused`, `BadInput` or
+  /** What a RegistrationResponseJSON registers. It is in the file, with its transports. Rejected by `Refused`, `BadInput` or
    *  `StoreFailed`. */
   registerComplete(session: number | null, response: unknown): Promise<Registered>;
   /** As that of `Server`, with at most 8 credentials in `allow`. */
@@ -82,8 +92,8 @@ export class StoredServer {
   abandon(session: number): Promise<boolean>;
   /** Ends the sessions that began more than so many seconds ago, by the system's clock; how many they were. */
   expire(olderThan: number): Promise<number>;
-  /** The credentials of a user, or all, in order of registration. */
-  rows(user?: Uint8Array | null): Promise<Credential[]>;
+  /** The credentials of a user, or all, in order of registration, with what is known of each. */
+  rows(user?: Uint8Array | null): Promise<KeptCredential[]>;
   /** How the site is, for a health check and for metrics. */
   status(): Promise<SiteStatus>;
   /** Copies the file to a path of the program's machine at which nothing stands: a whole file of one moment, on the disk once this

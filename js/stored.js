@@ -3,7 +3,7 @@
 import cluster from "node:cluster";
 import { BadInput, Refused, StoreFailed } from "./errors.js";
 import { REGISTRATION_MEMBERS, SIGN_IN_MEMBERS, fromText, handedOn, toText } from "./forms.js";
-import { ALGORITHMS, MAX_STORED_LIST, checkAlgorithms, checkBytes, checkIds, checkOneOf, checkParty, checkUser } from "./limits.js";
+import { ALGORITHMS, MAX_STORED_LIST, checkAlgorithms, checkBytes, checkIds, checkOneOf, checkParty, checkUser, transportsIn } from "./limits.js";
 import { isValid } from "./node_signatures.js";
 import { checkUserVerification, creationOptions, requestOptions } from "./options.js";
 import { Program } from "./program.js";
@@ -40,9 +40,21 @@ function bytesOf(value, ...names) {
   return names.map((name) => fromText(value[name], name));
 }
 
-function credentialOf(row) {
+function partsOf(row) {
   const [id, user, x, y] = bytesOf(row, "credential", "user", "x", "y");
-  return new Credential({ id, user, x, y, algorithm: row.algorithm, signCount: row.sign_count, eligible: row.eligible, retired: row.retired });
+  return { id, user, x, y, algorithm: row.algorithm, signCount: row.sign_count, eligible: row.eligible, retired: row.retired };
+}
+
+// A credential of the file, and what is known of it.
+function keptOf(row) {
+  const credential = new Credential({ ...partsOf(row), transports: row.transports });
+  const known = { aaguid: row.aaguid === null ? null : fromText(row.aaguid, "aaguid"), createdAt: row.created_at, usedAt: row.used_at };
+  return Object.freeze(Object.assign(Object.create(Credential.prototype), credential, known));
+}
+
+// The credentials of a list, with the transports that the file has of those that have none.
+function knownOf(listed, told) {
+  return listed.map((one, at) => one.transports.length > 0 ? one : { ...one, transports: transportsIn(told[at]?.transports) });
 }
 
 function toldOf(accepted) {
@@ -81,8 +93,8 @@ export class StoredServer {
 
   // What was accepted. The program tells the signature that is asked for; where it is valid it is handed back, and else the program
   // is told that it is not, so that its log has the refusal.
-  async #finish(act, session, response) {
-    const members = { session: numberIn(session ?? 0, "the session", 0), response };
+  async #finish(act, session, response, more = {}) {
+    const members = { session: numberIn(session ?? 0, "the session", 0), response, ...more };
     let answer = await this.#ask(act, members);
     if (answer.verify !== undefined) {
       const asked = answer.verify, valid = await this.verify(asked.algorithm, ...bytesOf(asked, "x", "y", "message", "signature"));
@@ -96,31 +108,32 @@ export class StoredServer {
   async registerBegin(user, userName, { exclude = [], algorithms = ALGORITHMS, userVerification = "preferred", residentKey = "required",
                                         ...how } = {}) {
     const listed = checkIds(exclude, MAX_STORED_LIST), begun = { user: checkUser(user), algorithms: checkAlgorithms(algorithms) };
-    const optionsOf = (challenge) => creationOptions({ id: this.rpId, name: this.rpName }, { ...begun, challenge }, userName, listed,
+    const optionsOf = (challenge, list) => creationOptions({ id: this.rpId, name: this.rpName }, { ...begun, challenge }, userName, list,
                                                      { ...how, userVerification: checkUserVerification(userVerification), residentKey });
-    optionsOf(new Uint8Array(0));
+    optionsOf(new Uint8Array(0), listed);
     const { session, options } = await this.#ask("begin_registration", {
       user: toText(begun.user), user_name: userName, display_name: how.displayName, exclude: listed.map(({ id }) => toText(id)),
       user_verification: userVerification === "required", resident: residentKey !== "discouraged", algorithms: begun.algorithms,
     });
-    return { options: optionsOf(fromText(options.challenge, "challenge")), session };
+    return { options: optionsOf(fromText(options.challenge, "challenge"), knownOf(listed, options.excludeCredentials)), session };
   }
 
   async registerComplete(session, response) {
-    const made = await this.#finish("finish_registration", session, handedOn(response, REGISTRATION_MEMBERS));
+    const handed = handedOn(response, REGISTRATION_MEMBERS), transports = transportsIn(response.response.transports);
+    const made = await this.#finish("finish_registration", session, handed, { transports });
     const [aaguid] = bytesOf(made, "aaguid");
-    return Object.freeze({ credential: credentialOf(made), aaguid, format: made.format, ...toldOf(made) });
+    return Object.freeze({ credential: new Credential({ ...partsOf(made), transports }), aaguid, format: made.format, ...toldOf(made) });
   }
 
   async authenticateBegin({ user = null, allow = [], userVerification = "preferred", ...how } = {}) {
     const listed = checkIds(allow, MAX_STORED_LIST), handle = user === null ? null : checkUser(user);
-    const optionsOf = (challenge) => requestOptions(this.rpId, { challenge }, listed, checkUserVerification(userVerification), how);
-    optionsOf(new Uint8Array(0));
+    const optionsOf = (challenge, list) => requestOptions(this.rpId, { challenge }, list, checkUserVerification(userVerification), how);
+    optionsOf(new Uint8Array(0), listed);
     const { session, options } = await this.#ask("begin_sign_in", {
       user: handle === null ? undefined : toText(handle), allow: listed.map(({ id }) => toText(id)),
       user_verification: userVerification === "required",
     });
-    return { options: optionsOf(fromText(options.challenge, "challenge")), session };
+    return { options: optionsOf(fromText(options.challenge, "challenge"), knownOf(listed, options.allowCredentials)), session };
   }
 
   async authenticateComplete(session, response) {
@@ -147,7 +160,7 @@ export class StoredServer {
 
   async rows(user = null) {
     const { rows } = await this.#ask("rows", user === null ? {} : { user: toText(checkBytes(user, "user")) });
-    return rows.map(credentialOf);
+    return rows.map(keptOf);
   }
 
   async status() {

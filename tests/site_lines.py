@@ -423,6 +423,56 @@ def bad_lines(tests, count=2000):
     tests.check("the end", host.end(), (0, b"", ""))
 
 
+KNOWN = ("created_at", "used_at", "transports", "aaguid")
+
+
+def known(host):
+    return [tuple(row[name] for name in KNOWN) for row in host.ask("rows")["rows"]]
+
+
+def details(tests):
+    """What is known of a credential beside what verdicts ask for: kept with it, given back in options, gone with it; and what is
+    told of rows that others have written, or that are damaged."""
+    path = tests.file("details.db")
+    host = Host(tests.program, path, *PARTY)
+    one, two = Device(ES256, credential=b"one"), Device(EDDSA, credential=b"two")
+    began = int(time.time())
+    for device, transports in ((one, ["usb", "smart-card"]), (two, None)):
+        begun = host.ask("begin_registration", user=to_text(USER), user_name="name", exclude=[to_text(b"one"), to_text(b"two")])
+        tests.check("excluded", [each.get("transports") for each in begun["options"]["excludeCredentials"]],
+                    [None if device is one else ["usb", "smart-card"], None])
+        made = device.register(begun["options"])
+        members = {} if transports is None else {"transports": transports}
+        tests.check("registered", "accepted" in host.ask("finish_registration", session=begun["session"], response=made, **members))
+    (created, used, transports, aaguid), (_, _, none, other) = known(host)
+    tests.check("as it was registered", (used, transports, aaguid, none, other),
+                (None, ["usb", "smart-card"], to_text(one.aaguid), [], to_text(two.aaguid)))
+    tests.check("its second", began <= created <= int(time.time()))
+    begun = host.ask("begin_sign_in", allow=[to_text(b"two"), to_text(b"one"), to_text(b"none")])
+    tests.check("allowed", [each.get("transports") for each in begun["options"]["allowCredentials"]], [None, ["usb", "smart-card"], None])
+    tests.check("signed in", "accepted" in host.finish("finish_sign_in", begun["session"], one.sign_in(begun["options"])))
+    (again, used, transports, _), second = known(host)
+    tests.check("as it was used", (again, transports, second[1]), (created, ["usb", "smart-card"], None))
+    tests.check("the second of its use", created <= used <= int(time.time()))
+    for wrong in (["USB"], [""], ["a,b"], ["a" * 33], [7], "usb", ["usb"] * 17):
+        tests.check(f"transports {wrong}", host.ask("finish_registration", session=1, response=made, transports=wrong),
+                    {"error": "transports is not in its form"})
+    tests.check("deleted", host.ask("delete", credential=to_text(b"one")), {"deleted": True})
+    tests.check("the end", host.end(), (0, b"", ""))
+    file = sqlite3.connect(path)
+    tests.check("the details that are left", file.execute("select place, transports, length(aaguid), used_at from detail").fetchall(), [(2, "", 16, None)])
+    for change, wanted in (("update detail set aaguid = x'%s'" % ("07" * 15), (True, None, [], None)),
+                           ("update detail set transports = 'usb,,nfc'", (True, None, [], None)),
+                           ("delete from detail", (False, None, [], None))):
+        file.execute(change)
+        file.commit()
+        host = Host(tests.program, path, *PARTY, "--existing")
+        (created, *rest), = known(host)
+        tests.check(change, (created is not None, *rest), wanted)
+        host.end()
+    file.close()
+
+
 def read_by_sqlite(tests):
     """What C's SQLite reads of a file that is closed: it is sound, and has the tables and a row of the site."""
     file = sqlite3.connect(tests.file("visits.db"))
@@ -440,6 +490,7 @@ def main():
     tests = Tests(str(Path(sys.argv[1]).resolve()))
     visits(tests)
     read_by_sqlite(tests)
+    details(tests)
     told(tests)
     logs(tests)
     numbers(tests)

@@ -52,6 +52,16 @@ test("visits", async () => {
   }
   assert.deepEqual((await server.rows(user)).map(({ id, signCount }) => [Buffer.from(id).toString(), signCount]), [["0", 1], ["1", 1], ["2", 1]]);
   assert.deepEqual(await server.rows(Buffer.from("nobody")), []);
+  const [{ createdAt, usedAt, aaguid, transports }] = await server.rows(user), second = Date.now() / 1000;
+  assert.deepEqual([aaguid, transports], [Uint8Array.from(device.aaguid), []]);
+  assert.ok(second - 60 < createdAt && createdAt <= usedAt && usedAt <= second);
+  const begun = await server.registerBegin(user, "name"), told = new Device(ES256, { id: Buffer.from("told") }), answer = told.register(begun.options);
+  const { credential } = await server.registerComplete(begun.session, { ...answer, response: { ...answer.response, transports: ["usb", 7, "No"] } });
+  assert.deepEqual(credential.transports, ["usb"]);
+  const asked = await server.authenticateBegin({ allow: [told.id] });
+  assert.deepEqual(asked.options.allowCredentials.map((one) => one.transports), [["usb"]]);
+  assert.deepEqual((await server.rows()).map((row) => [row.usedAt === null, row.transports]).at(-1), [true, ["usb"]]);
+  assert.equal(await server.delete(told.id), true);
   await assert.rejects(registered(server, device), { name: "G15", isRegistration: true });
   for (const none of [null, undefined, 0]) await assert.rejects(server.authenticateComplete(none, response), { name: "W1" });
   assert.deepEqual([await server.retire(device.id), await server.retire(device.id)], [true, false]);

@@ -14,8 +14,8 @@ from .library import EDDSA, ES256, RS256, is_canonical
 from .limits import MAX_LIST, MAX_STORED_LIST
 from .records import Credential, Registered, RegistrationSession, SignedIn, SignInSession
 from .server import Server
-from .stored import StoredServer, StoredSignIn, StoreFailed
+from .stored import KeptCredential, StoredServer, StoredSignIn, StoreFailed
 
-__all__ = ["EDDSA", "ES256", "MAX_LIST", "MAX_STORED_LIST", "RS256", "BadInput", "Credential", "Refused",
-           "Registered", "RegistrationSession", "Server", "SignInSession", "SignedIn", "StoreFailed", "StoredServer",
+__all__ = ["EDDSA", "ES256", "MAX_LIST", "MAX_STORED_LIST", "RS256", "BadInput", "Credential", "KeptCredential",
+           "Refused", "Registered", "RegistrationSession", "Server", "SignInSession", "SignedIn", "StoreFailed", "StoredServer",
            "StoredSignIn", "is_canonical"]

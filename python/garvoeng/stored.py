@@ -55,10 +55,28 @@ def _extensions(accepted: Mapping[str, Any]) -> bytes:
     return forms.from_text(accepted["extensions"] or "", "extensions")
 
 
-def _credential(row: Mapping[str, Any]) -> Credential:
-    return Credential(forms.from_text(row["credential"], "credential"), forms.from_text(row["user"], "user"),
-                      row["algorithm"], forms.from_text(row["x"], "x"), forms.from_text(row["y"], "y"),
-                      row["sign_count"], row["eligible"], row["retired"])
+@dataclass(frozen=True)
+class KeptCredential(Credential):
+    """A credential of the file, and what is known of it. A row that was made before these were kept has None and no transports."""
+
+    aaguid: Optional[bytes] = None
+    """The kind of the authenticator, by its own word: 16 bytes."""
+    created_at: Optional[int] = None
+    """When it was registered: seconds since 1970."""
+    used_at: Optional[int] = None
+    """When it signed in last: seconds since 1970."""
+
+
+def _parts(row: Mapping[str, Any]) -> Tuple[Any, ...]:
+    return (forms.from_text(row["credential"], "credential"), forms.from_text(row["user"], "user"),
+            row["algorithm"], forms.from_text(row["x"], "x"), forms.from_text(row["y"], "y"),
+            row["sign_count"], row["eligible"], row["retired"])
+
+
+def _kept(row: Mapping[str, Any]) -> KeptCredential:
+    aaguid = row["aaguid"]
+    return KeptCredential(*_parts(row), forms.transports_in(row["transports"]),
+                          None if aaguid is None else forms.from_text(aaguid, "aaguid"), row["created_at"], row["used_at"])
 
 
 def _listed(ids: Ids) -> List[str]:
@@ -271,16 +289,16 @@ class StoredServer:
             if kind is None:
                 raise
 
-    def _finish(self, act: str, session: Optional[int], response: Dict[str, Any]) -> Dict[str, Any]:
+    def _finish(self, act: str, session: Optional[int], response: Dict[str, Any], **more: Any) -> Dict[str, Any]:
         """What was accepted. The program tells the signature that is asked for; where it is valid it is handed back, and
         else it is told that it is not, so that its log has the refusal."""
         number = 0 if session is None else session
-        answer = self._ask(act, session=number, response=response)
+        answer = self._ask(act, session=number, response=response, **more)
         if "verify" in answer:
             asked = answer["verify"]
             is_valid = self.verify(asked["algorithm"], *(forms.from_text(asked[name], name) for name in (
                 "x", "y", "message", "signature")))
-            answer = self._ask(act, session=number, response=response, verified=asked if is_valid else False)
+            answer = self._ask(act, session=number, response=response, verified=asked if is_valid else False, **more)
         if "refused" in answer:
             raise Refused(act == "finish_registration", answer["refused"]["number"], answer["refused"]["text"])
         accepted: Dict[str, Any] = answer["accepted"]
@@ -314,9 +332,10 @@ class StoredServer:
         """What a RegistrationResponseJSON registers: the credential, which is in the file, and what is known of it. Raises
         `Refused` with the first step that is not passed, `BadInput` where the response is not in the form of JSON."""
         raw_id, client_data, attestation_object = forms.registration_parts(response)
+        transports = forms.transports_in(response["response"].get("transports"))
         made = self._finish("finish_registration", session, _handed_on(
-            raw_id, attestationObject=attestation_object, clientDataJSON=client_data))
-        return Registered(_credential(made), forms.from_text(made["aaguid"], "aaguid"), made["format"],
+            raw_id, attestationObject=attestation_object, clientDataJSON=client_data), transports=list(transports))
+        return Registered(Credential(*_parts(made), transports), forms.from_text(made["aaguid"], "aaguid"), made["format"],
                           made["user_verified"], made["backed_up"], made["flags"], _extensions(made))
 
     async def register_complete_async(self, session: Optional[int], response: Mapping[str, Any]) -> Registered:
@@ -373,10 +392,10 @@ class StoredServer:
         """Ends the sessions that began more than so many seconds ago, by the system's clock; how many they were."""
         return int(self._ask("expire", older_than=older_than)["expired"])
 
-    def rows(self, user: Optional[bytes] = None) -> List[Credential]:
-        """The credentials of a user, or all, in order of registration."""
+    def rows(self, user: Optional[bytes] = None) -> List[KeptCredential]:
+        """The credentials of a user, or all, in order of registration, with what is known of each."""
         answer = self._ask("rows", user=None if user is None else forms.to_text(user))
-        return [_credential(row) for row in answer["rows"]]
+        return [_kept(row) for row in answer["rows"]]
 
     # ---- the program's own
 

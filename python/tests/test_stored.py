@@ -113,6 +113,31 @@ def test_lists(site):
     assert len(site.authenticate_begin(allow=[b"x"] * 8)[0]["allowCredentials"]) == 8
 
 
+def test_what_is_known_of_a_credential(tmp_path):
+    """It is kept with the credential, given back in options, told by rows, and gone with the credential."""
+    began, one, two = int(time.time()), Device(credential=b"one"), Device(credential=b"two")
+    with stored(tmp_path) as site:
+        for device, transports in ((one, ["usb", "no text", 7]), (two, None)):
+            options, session = site.register_begin(USER, "name", exclude=[b"one"])
+            assert options["excludeCredentials"][0].get("transports") == (None if device is one else ["usb"])
+            response = device.register(options)
+            if transports is not None:
+                response["response"]["transports"] = transports
+            made = site.register_complete(session, response)
+            assert made.credential.transports == (("usb",) if device is one else ())
+        options, session = site.authenticate_begin(allow=[b"two", b"one"])
+        assert [row.get("transports") for row in options["allowCredentials"]] == [None, ["usb"]]
+        assert [row.used_at for row in site.rows()] == [None, None]
+        site.authenticate_complete(session, one.sign_in(options, user=USER))
+    with stored(tmp_path) as site:
+        first, second = site.rows(USER)
+        assert (first.transports, first.aaguid, second.transports, second.aaguid) == (("usb",), one.aaguid, (), two.aaguid)
+        assert began <= first.created_at <= first.used_at <= time.time() and second.used_at is None
+        assert site.delete(b"one") and site.rows() == [second]
+    file = sqlite3.connect(tmp_path / "site.db")
+    assert file.execute("select place from detail").fetchall() == [(2,)]
+
+
 async def visit(server, number):
     """Registers and signs in, awaited; what was accepted, and what is refused."""
     device, user = Device(credential=b"credential %d" % number), b"account %d" % number

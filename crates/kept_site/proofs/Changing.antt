@@ -9,10 +9,11 @@ use Rattle.credential_table.specs.Table.{retired}
 use Rattle.credential_table.specs.Views.{row_view}
 use Rattle.credential_store.specs.Held.{IsAt, Placed}
 use Rattle.credential_store.specs.declared.finding.Found.{Found}
-use Rattle.kept_site.specs.Calls.{IsFound, TellsDeleted, TellsRetired}
+use Rattle.kept_site.specs.Calls.{IsFound, TellsDeleted, TellsForgotten, TellsRetired}
+use Rattle.credential_details.specs.Details.{Details, HoldsDetails}
 use Rattle.kept_site.specs.Private.{DeletesFound, IsFoundAs, RetiresFound, credential_of}
 use Rattle.kept_site.specs.State.{IsHeld, KeptState}
-use Rattle.kept_site.proofs.Held.{held_removed, held_same, held_set}
+use Rattle.kept_site.proofs.Held.{details_stay, held_beside, held_removed, held_same, held_set}
 
 not_there : (placed : Placed) (id : List ℕ) (found : Option Found) → IsFoundAs placed id found → ForSome (credential_of found) (λ c. c.retired ≡ true)
     → (f : Option Credential) × IsFound placed id f × ForSome f (λ c. c.retired ≡ true)
@@ -42,10 +43,28 @@ pub tells_deleted : {S : Type 0} (placed : Placed) (id : List ℕ) (s t : KeptSt
 tells_deleted placed id s t first old new found Same true is kept i same clean h rp reserved count last =
     let f = i.0 in
     let at : IsAt placed id f.place (row_view f.credential) = subst (IsFoundAs placed id) i.1 is in
-    let held : IsHeld placed s old.trees = subst (IsHeld placed s) (sym same) h in (
+    let held : IsHeld placed s old.trees = subst (IsHeld placed s) (sym same) h in
+    let mid = (i.2 clean).0 in (
       finite.remove placed f.place,
       (f.place, row_view f.credential, at, refl),
-      held_removed placed s t old new f.place (row_view f.credential) at.there held (i.2 clean placed held.holds.credentials at.there) rp reserved count last,
+      held_beside (finite.remove placed f.place) t mid new _ (i.2 clean).2
+          (held_removed placed s t old mid f.place (row_view f.credential) at.there held ((i.2 clean).1 placed held.holds.credentials at.there) rp reserved count last),
     )
 tells_deleted placed id s t first old new found Same false is kept i same clean h rp reserved count last =
     (placed, (refl, subst (IsFoundAs placed id) i.1 is), held_same placed s t first new h (kept i.0 ∙ same) rp reserved count last)
+
+pub tells_forgotten : {S : Type 0} (placed : Placed) (id : List ℕ) (s : KeptState S) (first old new : View) (found : Option Found) (Same : Type 0) (told : Bool)
+    (details : Details) → IsFoundAs placed id found → (Same → new.trees ≡ old.trees) → DeletesFound found Same old new told → old.trees ≡ first.trees → IsClean new
+    → IsHeld placed s first.trees → HoldsDetails details first.trees → TellsForgotten placed id told details new.trees
+tells_forgotten placed id s first old new found Same true details is kept i same clean h d =
+    let f = i.0 in
+    let at : IsAt placed id f.place (row_view f.credential) = subst (IsFoundAs placed id) i.1 is in
+    let held : IsHeld placed s old.trees = subst (IsHeld placed s) (sym same) h in (
+      f.place,
+      row_view f.credential,
+      at,
+      (i.2 clean).2.holds details
+          (details_stay old (i.2 clean).0 _ details ((i.2 clean).1 placed held.holds.credentials at.there) (subst (HoldsDetails details) (sym same) d)),
+    )
+tells_forgotten placed id s first old new found Same false details is kept i same clean h d =
+    subst (HoldsDetails details) (sym (kept i.0 ∙ same)) d

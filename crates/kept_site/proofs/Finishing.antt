@@ -1,7 +1,7 @@
 -- A ceremony that is finished.
 use Rattle.std.proofs.Common.{◌≡◌, ℕ, List, Bool, refl, sym, subst, true, false}
 use Rattle.std.specs.FinMap as finite
-use Rattle.std.specs.Prelude.{Option, Some, None}
+use Rattle.std.specs.Prelude.{Option, Some, None, ℤ}
 use Rattle.sqlite_trees.specs.View.{IsClean, View}
 use Rattle.cose.specs.Schemes.{Validity}
 use Rattle.authdata.specs.Flags.{is_set, BE}
@@ -16,26 +16,28 @@ use Rattle.ceremony_sessions.specs.Sessions.{sign_in_at}
 use Rattle.credential_store.specs.Held.{HasNone, IsAt, IsWritten, Placed}
 use Rattle.credential_store.specs.declared.finding.Found.{Found}
 use Rattle.verification.specs.Records.{Credential, ExpectedSignIn, RelyingParty}
-use Rattle.kept_site.specs.Calls.{IsFound, IsNotFinished, IsSame, SignsIn, TellsIds}
+use Rattle.kept_site.specs.Calls.{IsFound, IsNotFinished, IsSame, SignsIn, TellsIds, TellsUsed}
+use Rattle.credential_details.specs.Details.{Details, HoldsDetails}
 use Rattle.kept_site.specs.Private.{IsFoundAs, IsStopped, SignsInAs, TellsHad, judged}
 use Rattle.kept_site.specs.declared.failure.Failure.TheVariants as failures
 use Rattle.kept_site.specs.declared.failure.FinishFailure.{FinishFailure}
 use Rattle.kept_site.specs.declared.failure.FinishFailure.TheVariants as finishes
 use Rattle.kept_site.specs.State.{IsHeld, KeptState}
 use Rattle.kept_site.specs.declared.finish.SignedIn.{SignedIn}
-use Rattle.kept_site.proofs.Held.{held_set}
+use Rattle.kept_site.proofs.Held.{details_stay, held_beside, held_set}
 
 -- what was found and passes is the credential of the response's id
-pub signs_in : {S : Type 0} (valid : Validity) (placed : Placed) (s t : KeptState S) (n : ℕ) (r : AuthenticatorAssertionResponse) (x : SignedIn) (found : Option Found)
+pub signs_in : {S : Type 0} (valid : Validity) (placed : Placed) (s t : KeptState S) (n : ℕ) (r : AuthenticatorAssertionResponse) (now : ℤ) (x : SignedIn) (found : Option Found)
     (first old new : View)
-    → IsFoundAs placed r.credential found → SignsInAs valid s.rp (sign_in_at n s.timed.open_sessions) found r x old new → old.trees ≡ first.trees → IsClean new
+    → IsFoundAs placed r.credential found → SignsInAs valid s.rp (sign_in_at n s.timed.open_sessions) found r now x old new → old.trees ≡ first.trees → IsClean new
     → IsHeld placed s first.trees → t.rp ≡ s.rp → t.reserved ≡ s.reserved → t.count ≡ s.count → t.last ≡ s.last
     → (after : Placed) × SignsIn valid placed s n r x after × IsHeld after t new.trees
-signs_in valid placed s t n r x found first old new is i same clean h rp reserved count last =
+signs_in valid placed s t n r now x found first old new is i same clean h rp reserved count last =
     let at : IsAt placed r.credential i.at.place (row_view i.at.credential) = subst (IsFoundAs placed r.credential) i.is is in
     let held : IsHeld placed s old.trees = subst (IsHeld placed s) (sym same) h in
     let c = signed_in i.data_read.sign_count (is_set i.data_read.flags BE) (row_view i.at.credential) in
-    let w : IsWritten old new (finite.insert placed i.at.place c) = i.written clean placed held.holds.credentials at.there in (
+    let mid = (i.written clean).0 in
+    let w : IsWritten old mid (finite.insert placed i.at.place c) = (i.written clean).1 placed held.holds.credentials at.there in (
       finite.insert placed i.at.place c,
       record {
         place = i.at.place;
@@ -49,7 +51,24 @@ signs_in valid placed s t n r x found first old new is i same clean h rp reserve
         tells_backup = i.backup;
         after_is = refl;
       },
-      held_set placed s t old new i.at.place (row_view i.at.credential) c at.there held w rp reserved count last,
+      held_beside (finite.insert placed i.at.place c) t mid new _ (i.written clean).2
+          (held_set placed s t old mid i.at.place (row_view i.at.credential) c at.there held w rp reserved count last),
+    )
+
+-- and its detail tells so
+pub tells_used : {S : Type 0} (valid : Validity) (placed : Placed) (s : KeptState S) (n : ℕ) (r : AuthenticatorAssertionResponse) (now : ℤ) (x : SignedIn) (found : Option Found)
+    (first old new : View) (details : Details)
+    → IsFoundAs placed r.credential found → SignsInAs valid s.rp (sign_in_at n s.timed.open_sessions) found r now x old new → old.trees ≡ first.trees → IsClean new
+    → IsHeld placed s first.trees → HoldsDetails details first.trees → TellsUsed placed r.credential now details new.trees
+tells_used valid placed s n r now x found first old new details is i same clean h d =
+    let at : IsAt placed r.credential i.at.place (row_view i.at.credential) = subst (IsFoundAs placed r.credential) i.is is in
+    let held : IsHeld placed s old.trees = subst (IsHeld placed s) (sym same) h in
+    let w = (i.written clean).1 placed held.holds.credentials at.there in (
+      i.at.place,
+      row_view i.at.credential,
+      at,
+      (i.written clean).2.holds details
+          (details_stay old (i.written clean).0 _ details w (subst (HoldsDetails details) (sym same) d)),
     )
 
 -- what was found is named with the step

@@ -10,7 +10,8 @@ use Rattle.sqlite_trees.specs.Tree.{Trees}
 use Rattle.sqlite_trees.specs.View.{View}
 use Rattle.verification.specs.Records.{Credential}
 use Rattle.credential_table.specs.Views.{row_view}
-use Rattle.credential_store.specs.Held.{HasNone, IsAt, IsWritten, Placed}
+use Rattle.credential_store.specs.Held.{HasNone, Indexes, IsAt, IsWritten, Placed}
+use Rattle.credential_details.specs.Details.{Details, HoldsDetails, IsDetailed}
 use Rattle.credential_store.specs.declared.finding.Found.{Found}
 use Rattle.kept_site.specs.Private.{IsFoundAs}
 use Rattle.kept_site.specs.State.{HoldsSite, IsHeld, KeptState}
@@ -105,3 +106,30 @@ held_added placed s t old new c h w rp reserved count last = record {
   last = λ p d x. subst (λ k. p ≤ k) (sym last)
       (there_or placed (s.last + 1) p c d (s.last + 1) x (omega arith) (λ there. let low = h.last p d there in omega (arith, low)));
 }
+
+-- the table of details is written, and no other
+pub held_beside : {S : Type 0} (placed : Placed) (t : KeptState S) (old new : View) (To : Details → Details) → IsDetailed old new To → IsHeld placed t old.trees
+    → IsHeld placed t new.trees
+held_beside placed t old new To d h =
+    let table = d.others 0 (λ e. grind (arith, common_steps, e)) in
+    let site = d.others 2 (λ e. grind (arith, common_steps, e)) in
+    let ids = d.others 3 (λ e. grind (arith, common_steps, e)) in
+    let users = d.others 4 (λ e. grind (arith, common_steps, e)) in
+    record {
+      holds = record {
+        credentials = record {
+          table = table ∙ h.holds.credentials.table;
+          by_id = subst (Indexes (λ c. c.id) placed) (sym ids) h.holds.credentials.by_id;
+          by_user = subst (Indexes (λ c. c.user) placed) (sym users) h.holds.credentials.by_user;
+          are = h.holds.credentials.are;
+        };
+        site = site ∙ h.holds.site;
+      };
+      count = h.count;
+      last = h.last;
+    }
+
+-- a write of credentials leaves the details
+pub details_stay : (old new : View) (placed : Placed) (details : Details) → IsWritten old new placed → HoldsDetails details old.trees → HoldsDetails details new.trees
+details_stay old new placed details w h =
+    w.others 5 (λ e. grind (arith, common_steps, e)) (λ e. grind (arith, common_steps, e)) (λ e. grind (arith, common_steps, e)) ∙ h

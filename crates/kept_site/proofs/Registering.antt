@@ -10,6 +10,7 @@ use Rattle.authdata.specs.Responses as responses
 use Rattle.cose.specs.declared.key.CoseKey.{CoseKey}
 use Rattle.verification.specs.Records.{Credential, ExpectedRegistration, NewCredential}
 use Rattle.credential_table.specs.Views.{row_view}
+use Rattle.credential_table.specs.declared.row.Row.{Row as StoredRow}
 use Rattle.ceremony_sessions.specs.Sessions.{registration_at}
 use Rattle.credential_store.specs.Held.{HasNone, Holds, IsWritten, Placed}
 use Rattle.kept_site.specs.Calls.{Registers, is_full, registered}
@@ -31,6 +32,24 @@ same_row e a c n ids keys counts marks =
     ap (λ x. row_with x e.user n.key n.sign_count n.eligible) ids ∙ ap (λ x. row_with c.id e.user x n.sign_count n.eligible) keys
     ∙ ap (λ x. row_with c.id e.user c.key x n.eligible) counts ∙ ap (row_with c.id e.user c.key a.sign_count) marks
 
+-- the row that is added stands last
+pub written_last : {S : Type 0} (valid : Validity) (placed : Placed) (s : KeptState S) (n : ℕ) (r : responses.AuthenticatorAttestationResponse) (x : StoredRow)
+    (c : NewCredential) (first mid new : View)
+    → Admits valid s.rp s.policy (registration_at n s.timed.open_sessions) r (is_full s) c first mid
+    → ((e : ExpectedRegistration) → registration_at n s.timed.open_sessions ≡ Some e → row_view x ≡ admitted_as e.user c)
+    → (IsClean new → (placed : Placed) → Holds placed mid.trees
+    → finite.get placed (s.last + 1) ≡ None → HasNone placed (row_view x).id → IsWritten mid new (finite.insert placed (s.last + 1) (row_view x)))
+    → mid.trees ≡ first.trees → IsClean mid → IsClean new → IsHeld placed s first.trees
+    → IsWritten mid new (finite.insert placed (s.last + 1) (row_view x))
+written_last valid placed s n r x c first mid new i tells written same clean_mid clean h =
+    let session = the_some (registration_at n s.timed.open_sessions) i.open_session in
+    let held : IsHeld placed s mid.trees = subst (IsHeld placed s) (sym same) h in
+    let a = i.attests in
+    let fresh = i.fresh clean_mid placed h.holds.credentials in
+    let row = tells session.0 session.1 ∙ same_row session.0 a.1 a.2 c a.4 a.5 a.6 a.7 in
+    let none = subst (HasNone placed) (a.4 ∙ sym (ap (λ k. k.id) row)) fresh in
+    written clean placed held.holds.credentials (free placed s mid.trees held) none
+
 pub registers : {S : Type 0} (valid : Validity) (placed : Placed) (s t : KeptState S) (n : ℕ) (r : responses.AuthenticatorAttestationResponse) (x : Registered)
     (c : NewCredential) (first mid new : View)
     → Admits valid s.rp s.policy (registration_at n s.timed.open_sessions) r (is_full s) c first mid
@@ -46,8 +65,7 @@ registers valid placed s t n r x c first mid new i tells written same clean_mid 
     let a = i.attests in
     let fresh = i.fresh clean_mid placed h.holds.credentials in
     let row = tells session.0 session.1 ∙ same_row session.0 a.1 a.2 c a.4 a.5 a.6 a.7 in
-    let none = subst (HasNone placed) (a.4 ∙ sym (ap (λ k. k.id) row)) fresh in
-    let w = written clean placed held.holds.credentials (free placed s mid.trees held) none in (
+    let w = written_last valid placed s n r x.credential c first mid new i tells written same clean_mid clean h in (
       finite.insert placed (s.last + 1) (row_view x.credential),
       record {
         expected = session.0;

@@ -1,5 +1,5 @@
 -- What the calls of a site over a store make of it.
-use Rattle.std.specs.Prelude.{◌≡◌, ◌+◌, ◌≤◌, ◌^◌, ℕ, List, Bool, Option, Some, None, true, false, not, nat_lt, ◌&&◌}
+use Rattle.std.specs.Prelude.{◌≡◌, ◌+◌, ◌≤◌, ◌^◌, ◌⊎◌, ℕ, ℤ, List, Bool, Option, Some, None, true, false, not, nat_lt, ◌&&◌}
 use Rattle.std.specs.FinMap as finite
 use Rattle.sqlite_trees.specs.View.{View, IsClean}
 use Rattle.cose.specs.Schemes.{Validity}
@@ -22,6 +22,8 @@ use Rattle.verification.specs.declared.refusal.RegistrationRefusal.{Registration
 use Rattle.verification.specs.declared.refusal.VerificationError.{VerificationError}
 use Rattle.verification.specs.declared.refusal.SignInRefusal.{SignInRefusal}
 use Rattle.credential_store.specs.Held.{HasNone, IsAt, Placed}
+use Rattle.credential_details.specs.Details.{Detail, Details, HoldsDetails, used}
+use Rattle.sqlite_trees.specs.Tree.{Trees}
 use Rattle.kept_site.specs.State.{KeptState}
 use Rattle.kept_site.specs.declared.failure.Failure.{Failure}
 use Rattle.kept_site.specs.declared.failure.Failure.TheVariants as failures
@@ -160,3 +162,20 @@ TellsRetired placed id false after = (after ≡ placed) × ((found : Option Cred
 abbrev pub TellsDeleted : Placed → List ℕ → Bool → Placed → Type 0
 TellsDeleted placed id true after = (place : ℕ) × (c : Credential) × IsAt placed id place c × (after ≡ finite.remove placed place)
 TellsDeleted placed id false after = (after ≡ placed) × HasNone placed id
+
+-- ---- details
+
+-- the detail of the credential that has an id tells when it was used, and nothing else of details has changed
+abbrev pub TellsUsed : Placed → List ℕ → ℤ → Details → Trees → Type 0
+TellsUsed placed id now details after =
+    (place : ℕ) × (c : Credential) × IsAt placed id place c × HoldsDetails (finite.insert details place (used now (finite.get details place))) after
+
+-- with a credential that is deleted its detail is gone, and no other
+abbrev pub TellsForgotten : Placed → List ℕ → Bool → Details → Trees → Type 0
+TellsForgotten placed id true details after = (place : ℕ) × (c : Credential) × IsAt placed id place c × HoldsDetails (finite.remove details place) after
+TellsForgotten placed id false details after = HoldsDetails details after
+
+-- what is told of the credential of an id: what is known of it; none where nothing is, or where none has the id
+abbrev pub TellsDetail : Placed → List ℕ → Details → Option Detail → Type 0
+TellsDetail placed id details told =
+    ((place : ℕ) × (c : Credential) × IsAt placed id place c × (told ≡ finite.get details place)) ⊎ (HasNone placed id × (told ≡ None))

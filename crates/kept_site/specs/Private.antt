@@ -1,5 +1,5 @@
 -- What private functions are proved against; no public clause cites it.
-use Rattle.std.specs.Prelude.{◌≡◌, ◌≤◌, ℕ, List, [], Bool, Option, Some, None, true, false, option_map, IsSome, IsTrue}
+use Rattle.std.specs.Prelude.{◌≡◌, ◌≤◌, ℕ, ℤ, List, [], Bool, Option, Some, None, true, false, option_map, IsSome, IsTrue}
 use Rattle.std.specs.FinMap as finite
 use Rattle.sqlite_value.specs.Order.{Row}
 use Rattle.credential_store.specs.Rows.{credential_row}
@@ -23,6 +23,7 @@ use Rattle.credential_table.specs.Views.{row_view}
 use Rattle.credential_store.specs.Held.{HasNone, HasTrees, Holds, IsAt, IsWritten, Placed}
 use Rattle.sqlite_trees.specs.declared.store.Shape.TheVariants.{Table}
 use Rattle.credential_store.specs.declared.finding.Found.{Found}
+use Rattle.credential_details.specs.Details.{IsDetailed, used}
 use Rattle.kept_site.specs.Calls.{TellsIds}
 use Rattle.kept_site.specs.declared.finish.SignedIn.{SignedIn}
 use Rattle.kept_site.specs.declared.failure.Failure.TheVariants as failures
@@ -45,9 +46,9 @@ IsStopped same is_shut IsRefusal (finishes.Store why) = (is_shut ≡ true) × (w
 abbrev pub judged : RelyingParty → Option ExpectedSignIn → Option Found → AuthenticatorAssertionResponse → JudgedSignIn
 judged rp session found r = record { rp = rp; session = session; credential = credential_of found; response = r }
 
--- what was found passes each step, and is written with the counter and the mark that came
+-- what was found passes each step, and is written with the counter and the mark that came, and with the second of its use
 pub record SignsInAs (valid : Validity) (rp : RelyingParty) (session : Option ExpectedSignIn) (found : Option Found) (r : AuthenticatorAssertionResponse)
-    (x : SignedIn) (old new : View) : Type 0 where
+    (now : ℤ) (x : SignedIn) (old new : View) : Type 0 where
   pub at : Found
   pub data_read : AuthenticatorData
   pub is : found ≡ Some at
@@ -56,8 +57,10 @@ pub record SignsInAs (valid : Validity) (rp : RelyingParty) (session : Option Ex
   pub user : x.user.items ≡ (row_view at.credential).user
   pub credential : x.credential.items ≡ r.credential
   pub backup : x.backed_up ≡ is_set data_read.flags BS
-  pub written : IsClean new → (placed : Placed) → Holds placed old.trees → finite.get placed at.place ≡ Some (row_view at.credential)
-      → IsWritten old new (finite.insert placed at.place (signed_in data_read.sign_count (is_set data_read.flags BE) (row_view at.credential)))
+  pub written : IsClean new → (mid : View)
+      × ((placed : Placed) → Holds placed old.trees → finite.get placed at.place ≡ Some (row_view at.credential)
+      → IsWritten old mid (finite.insert placed at.place (signed_in data_read.sign_count (is_set data_read.flags BE) (row_view at.credential))))
+      × IsDetailed mid new (λ details. finite.insert details at.place (used now (finite.get details at.place)))
 
 -- what was found is retired, where it was not before
 abbrev pub RetiresFound : Option Found → Type 0 → View → View → Bool → Type 0
@@ -67,12 +70,13 @@ RetiresFound found same old new true =
     → IsWritten old new (finite.insert placed f.place (retired (row_view f.credential))))
 RetiresFound found same old new false = same × ForSome (credential_of found) (λ c. c.retired ≡ true)
 
--- what was found is deleted
+-- what was found is deleted, with its detail
 abbrev pub DeletesFound : Option Found → Type 0 → View → View → Bool → Type 0
 DeletesFound found same old new true =
     (f : Found) × (found ≡ Some f)
-    × (IsClean new → (placed : Placed) → Holds placed old.trees → finite.get placed f.place ≡ Some (row_view f.credential)
-    → IsWritten old new (finite.remove placed f.place))
+    × (IsClean new → (mid : View)
+    × ((placed : Placed) → Holds placed old.trees → finite.get placed f.place ≡ Some (row_view f.credential) → IsWritten old mid (finite.remove placed f.place))
+    × IsDetailed mid new (λ details. finite.remove details f.place))
 DeletesFound found same old new false = same × (found ≡ None)
 
 -- a registration as it is judged
@@ -115,11 +119,12 @@ pub record IsAtRest (v : View) : Type 0 where
 -- the store has the trees of a site, without rows
 pub record IsNew (v : View) : Type 0 where
   pub rest : IsAtRest v
-  pub shapes : HasTrees v × (v.shape 2 ≡ Table)
+  pub shapes : HasTrees v × (v.shape 2 ≡ Table) × (v.shape 5 ≡ Table)
   pub credentials : v.trees 0 ≡ []
   pub site : v.trees 2 ≡ []
   pub by_id : v.trees 3 ≡ []
   pub by_user : v.trees 4 ≡ []
+  pub details : v.trees 5 ≡ []
 
 -- where a row is a credential's, its place is not above this one
 abbrev pub IsUpTo : ℕ → Row → Type 0

@@ -80,6 +80,7 @@ pub record IsHeld {S : Type 0} (placed : Placed) (s : KeptState S) (db : Trees) 
 pub record IsReady (v : View) (is_pending : Bool) : Type 0 where
   pub trees : HasTrees v
   pub site : v.shape 2 ≡ Table
+  pub details : v.shape 5 ≡ Table
   pub is_open : IsTrue v.is_open
   pub committed : is_pending ≡ false → v.trees ≡ v.committed
 

@@ -48,6 +48,7 @@ impl<S: Store> KeptSite<S> {
         ensures refused { IfErr result (IsNotBegun self.old self.new (OpensSignIn (option_map (λ u. u.now) user.entry) (map (λ id. id.now) allow.now) uv words)) }
         // However many sessions are open.
         ensures room { IfErr result (λ e. e ≡ begins.Site BeginError.SessionsFull → ⊥) }
+        ensures clean { OnOk result (IsClean (S.Store.view self.new.store) → IsClean (S.Store.view self.old.store)) }
         ensures shut { self.old.is_shut ≡ true → IsErrOf result (begins.Store failures.Shut) }
         ensures crash { (db : Trees) → S.Store.recovers self.new.store db → S.Store.recovers self.old.store db }
     {
@@ -83,6 +84,7 @@ impl<S: Store> KeptSite<S> {
         ensures refused { IfErr result (IsNotBegun self.old self.new (OpensRegistration user.now algorithms.now uv words)) }
         // However many sessions are open.
         ensures room { IfErr result (λ e. e ≡ begins.Site BeginError.SessionsFull → ⊥) }
+        ensures clean { OnOk result (IsClean (S.Store.view self.new.store) → IsClean (S.Store.view self.old.store)) }
         ensures shut { self.old.is_shut ≡ true → IsErrOf result (begins.Store failures.Shut) }
         ensures crash { (db : Trees) → S.Store.recovers self.new.store db → S.Store.recovers self.old.store db }
     {

@@ -7,8 +7,9 @@ ghost use Rattle.sqlite_trees.specs.View.{IsClean};
 ghost use Rattle.verification.specs.Views.{credential_view};
 ghost use Rattle.credential_table.specs.Table as table;
 ghost use Rattle.credential_store.specs.Held.{Placed};
+ghost use Rattle.credential_details.specs.Details.{Details, HoldsDetails};
 ghost use Rattle.kept_site.specs.State.{IsHeld, IsReady};
-ghost use Rattle.kept_site.specs.Calls.{IsFailure, IsOneSite, TellsDeleted, TellsRetired};
+ghost use Rattle.kept_site.specs.Calls.{IsFailure, IsOneSite, TellsDeleted, TellsForgotten, TellsRetired};
 ghost use Rattle.kept_site.specs.Private.{DeletesFound, RetiresFound};
 ghost use Rattle.kept_site.specs.declared.failure.Failure.TheVariants as failures;
 
@@ -58,7 +59,7 @@ fn retire_found<S: Store>(held: &mut SiteStore<S>, found: &Option<Found>) -> Res
     Ok(true)
 }
 
-/// Deletes the credential that was found: true where there is one.
+/// Deletes the credential that was found, and its detail: true where there is one.
 fn delete_found<S: Store>(held: &mut SiteStore<S>, found: &Option<Found>) -> Result<bool, Failure>
     requires open { held.old.is_shut ≡ false }
     requires ready { IsClean (S.Store.view held.old.store) → IsReady (S.Store.view held.old.store) held.old.is_pending }
@@ -74,6 +75,7 @@ fn delete_found<S: Store>(held: &mut SiteStore<S>, found: &Option<Found>) -> Res
         return Ok(false);
     };
     held.remove(found.place, &lent(&found.credential))?;
+    held.forget(found.place)?;
     Ok(true)
 }
 
@@ -101,6 +103,9 @@ impl<S: Store> KeptSite<S> {
     pub fn delete(&mut self, id: &[u8]) -> Result<bool, Failure>
         ensures told { IfOk result (λ was. IsClean (S.Store.view self.new.store) → (placed : Placed) → IsHeld placed self.old (S.Store.view self.old.store).trees
             → (after : Placed) × TellsDeleted placed id.now was after × IsHeld after self.new (S.Store.view self.new.store).trees) }
+        ensures forgotten { IfOk result (λ was. IsClean (S.Store.view self.new.store) → (placed : Placed) → IsHeld placed self.old (S.Store.view self.old.store).trees
+            → (details : Details) → HoldsDetails details (S.Store.view self.old.store).trees
+            → TellsForgotten placed id.now was details (S.Store.view self.new.store).trees) }
         ensures one { OnOk result (IsOneSite self.old self.new × (self.new.is_shut ≡ false) × (self.new.timed ≡ self.old.timed)) }
         ensures failed { IfErr result (IsFailure self.old self.new) }
         ensures shut { self.old.is_shut ≡ true → IsErrOf result failures.Shut }

@@ -40,7 +40,8 @@ fn check_new<S: Store>(alloc: Global, store: &mut S) -> Result<(), CreateFailure
     let site = is_empty(alloc, store, 2)?;
     let by_id = is_empty(alloc, store, 3)?;
     let by_user = is_empty(alloc, store, 4)?;
-    if !(credentials && site && by_id && by_user) {
+    let details = is_empty(alloc, store, 5)?;
+    if !(credentials && site && by_id && by_user && details) {
         return Err(CreateFailure::NotNew);
     }
     Ok(())
@@ -64,7 +65,7 @@ fn write_new<S: Store>(
 }
 
 impl<S: Store> KeptSite<S> {
-    /// A site without credentials and sessions, in a store whose trees 0 and 2 are tables and 3 and 4 indices, without rows. What
+    /// A site without credentials and sessions, in a store whose trees 0, 2 and 5 are tables and 3 and 4 indices, without rows. What
     /// an earlier transaction of the store has not committed is undone.
     ///
     /// `NotNew` where a tree has another shape, or a row; nothing is written then. `Failed` where the disk or memory failed. The

@@ -7,10 +7,11 @@ ghost use Rattle.verification.specs.SignInAnswers.{IsRefused};
 ghost use Rattle.verification.specs.Views.{assertion_parts_view, credential_view};
 ghost use Rattle.credential_table.specs.Table as table;
 ghost use Rattle.credential_store.specs.Held.{Placed};
+ghost use Rattle.credential_details.specs.Details.{Details, HoldsDetails};
 ghost use Rattle.ceremony_sessions.specs.Sessions.{sign_in_at};
 ghost use Rattle.timed_sessions.specs.Timed.{after_end};
 ghost use Rattle.kept_site.specs.State.{IsHeld, IsReady};
-ghost use Rattle.kept_site.specs.Calls.{IsNotFinished, IsOneSite, RefusesSignIn, SignsIn};
+ghost use Rattle.kept_site.specs.Calls.{IsNotFinished, IsOneSite, RefusesSignIn, SignsIn, TellsUsed};
 ghost use Rattle.kept_site.specs.Private.{IsStopped, SignsInAs, credential_of, judged};
 ghost use Rattle.kept_site.specs.declared.failure.Failure.TheVariants as failures;
 ghost use Rattle.kept_site.specs.declared.failure.FinishFailure.TheVariants as finishes;
@@ -77,7 +78,7 @@ fn counted<'a>(row: RowView<'a>, verified: VerifiedAssertion) -> RowView<'a>
     }
 }
 
-/// Judges a response with what was found for it, and writes what it changes of the credential.
+/// Judges a response with what was found for it, and writes what it changes of the credential and of its detail.
 fn sign_in_found<S: Store, V: Verifier>(
     party: &RelyingParty,
     sessions: &TimedSessions,
@@ -86,11 +87,12 @@ fn sign_in_found<S: Store, V: Verifier>(
     session: u64,
     response: &AssertionParts<'_>,
     found: &Option<Found>,
+    now: i64,
 ) -> Result<SignedIn, FinishFailure<SignInRefusal>>
     requires open { held.old.is_shut ≡ false }
     requires ready { IsClean (S.Store.view held.old.store) → IsReady (S.Store.view held.old.store) held.old.is_pending }
     ensures accepted { IfOk result (λ x. SignsInAs (V.valid verifier.now) party.now (sign_in_at session sessions.now.open_sessions) found.now
-        (assertion_parts_view response.now) x (S.Store.view held.old.store) (S.Store.view held.new.store)) }
+        (assertion_parts_view response.now) now x (S.Store.view held.old.store) (S.Store.view held.new.store)) }
     ensures refused { IfErr result (IsStopped (held.new ≡ held.old) held.new.is_shut (IsRefused (V.valid verifier.now)
         (judged party.now (sign_in_at session sessions.now.open_sessions) found.now (assertion_parts_view response.now)))) }
     ensures ready { OnOk result (IsClean (S.Store.view held.new.store) → IsReady (S.Store.view held.new.store) held.new.is_pending) }
@@ -119,12 +121,13 @@ fn sign_in_found<S: Store, V: Verifier>(
         verified.backed_up,
     )?;
     held.set(found.place, &counted(credential, verified))?;
+    held.mark_used(found.place, now)?;
     Ok(signed_in)
 }
 
 impl<S: Store> KeptSite<S> {
     /// Finishes a sign-in: the response's credential keeps the counter and the mark of eligibility that came, and the session is
-    /// closed. It is to be committed before it is told.
+    /// closed. Its detail keeps this second of the host's clock as that of its last use. It is to be committed before it is told.
     ///
     /// `Site` with the first step of section 7.2 that the response does not pass in this session, or with want of memory. Then
     /// nothing has changed: the session is open.
@@ -133,10 +136,14 @@ impl<S: Store> KeptSite<S> {
         verifier: &V,
         session: u64,
         response: &AssertionParts<'_>,
+        now: i64,
     ) -> Result<SignedIn, FinishFailure<SignInRefusal>>
         ensures accepted { IfOk result (λ x. IsClean (S.Store.view self.new.store) → (placed : Placed) → IsHeld placed self.old (S.Store.view self.old.store).trees
             → (after : Placed) × SignsIn (V.valid verifier.now) placed self.old session (assertion_parts_view response.now) x after
             × IsHeld after self.new (S.Store.view self.new.store).trees) }
+        ensures used { OnOk result (IsClean (S.Store.view self.new.store) → (placed : Placed) → IsHeld placed self.old (S.Store.view self.old.store).trees
+            → (details : Details) → HoldsDetails details (S.Store.view self.old.store).trees
+            → TellsUsed placed response.now.credential.now now details (S.Store.view self.new.store).trees) }
         ensures closed { OnOk result (self.new.timed ≡ after_end self.old.timed session) }
         ensures one { OnOk result (IsOneSite self.old self.new × (self.new.is_shut ≡ false)) }
         ensures refused { IfErr result (IsNotFinished S.Store.view self.old self.new (λ why. IsClean (S.Store.view self.new.store) → (placed : Placed)
@@ -157,6 +164,7 @@ impl<S: Store> KeptSite<S> {
             session,
             response,
             &found,
+            now,
         )?;
         self.sessions.close(session);
         Ok(signed_in)

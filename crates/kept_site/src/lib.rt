@@ -4,6 +4,7 @@
 mod begin;
 mod change;
 mod create;
+mod details;
 mod failure;
 mod finish;
 mod kept;

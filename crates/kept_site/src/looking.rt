@@ -1,17 +1,19 @@
-//! A credential by its id.
+//! A credential by its id, and its detail.
 
 ghost use Rattle.std.specs.Prelude.{◌≡◌, IfErr, IfOk, IsErrOf, OnOk, option_map, true};
 ghost use Rattle.sqlite_trees.specs.Tree.{Trees};
 ghost use Rattle.sqlite_trees.specs.View.{IsClean};
 ghost use Rattle.credential_table.specs.Views.{row_view};
 ghost use Rattle.credential_store.specs.Held.{Placed};
+ghost use Rattle.credential_details.specs.Details.{Details, HoldsDetails, detail_view};
 ghost use Rattle.kept_site.specs.State.{IsHeld};
-ghost use Rattle.kept_site.specs.Calls.{IsFailure, IsFound, IsSame};
+ghost use Rattle.kept_site.specs.Calls.{IsFailure, IsFound, IsSame, TellsDetail};
 ghost use Rattle.kept_site.specs.Private.{credential_of as credential_in};
 ghost use Rattle.kept_site.specs.declared.failure.Failure.TheVariants as failures;
 
 use crate::failure::Failure;
 use crate::kept::KeptSite;
+use credential_details::Detail;
 use credential_store::Found;
 use credential_table::Row;
 use sqlite_trees::store::Store;
@@ -41,5 +43,24 @@ impl<S: Store> KeptSite<S> {
         }
         let found = self.held.find(id)?;
         Ok(credential_of(found))
+    }
+
+    /// What is known of the credential of an id beside what verdicts ask for; none where nothing is, or where none has the id.
+    pub fn detail(&mut self, id: &[u8]) -> Result<Option<Detail>, Failure>
+        ensures told { IfOk result (λ d. IsClean (S.Store.view self.new.store) → (placed : Placed) → IsHeld placed self.old (S.Store.view self.old.store).trees
+            → (details : Details) → HoldsDetails details (S.Store.view self.old.store).trees → TellsDetail placed id.now details (option_map detail_view d)) }
+        ensures same { OnOk result (IsSame S.Store.view self.old self.new) }
+        ensures failed { IfErr result (IsFailure self.old self.new) }
+        ensures shut { self.old.is_shut ≡ true → IsErrOf result failures.Shut }
+        ensures crash { (db : Trees) → S.Store.recovers self.new.store db → S.Store.recovers self.old.store db }
+    {
+        if self.held.is_shut {
+            return Err(Failure::Shut);
+        }
+        let Some(found) = self.held.find(id)? else {
+            return Ok(None);
+        };
+        let detail = self.held.detail(found.place)?;
+        Ok(detail)
     }
 }

@@ -12,6 +12,7 @@ ghost use Rattle.refusal_order.specs.Lines.{Each, FirstFailing};
 ghost use Rattle.verification.specs.Shared.{never};
 ghost use Rattle.credential_table.specs.Views.{row_view};
 ghost use Rattle.credential_store.specs.Held.{HasNone, Holds, IsSameView, IsWritten, Placed};
+ghost use Rattle.credential_details.specs.Details.{Details, HoldsDetails, detail_view};
 ghost use Rattle.ceremony_sessions.specs.Sessions.{registration_at};
 ghost use Rattle.timed_sessions.specs.Timed.{after_end};
 ghost use Rattle.kept_site.specs.State.{IsHeld, IsReady};
@@ -24,6 +25,7 @@ use crate::failure::{Failure, FinishFailure};
 use crate::kept::KeptSite;
 use crate::site_store::SiteStore;
 use cose::Verifier;
+use credential_details::Detail;
 use credential_store::lent;
 use credential_table::Row;
 use sqlite_trees::store::Store;
@@ -129,7 +131,7 @@ fn row_of(
 
 impl<S: Store> KeptSite<S> {
     /// Finishes a registration: the credential that the response attests stands last, as the session's user's, and the session is
-    /// closed. It is to be committed before it is told.
+    /// closed. The detail is kept with it. It is to be committed before it is told.
     ///
     /// `Site` with the first step of section 7.1 that the response does not pass in this session, or with want of memory. Then
     /// nothing has changed: the session is open.
@@ -138,10 +140,14 @@ impl<S: Store> KeptSite<S> {
         verifier: &V,
         session: u64,
         response: &RegistrationParts<'_>,
+        detail: &Detail,
     ) -> Result<Registered, FinishFailure<RegistrationRefusal>>
         ensures accepted { IfOk result (λ x. IsClean (S.Store.view self.new.store) → (placed : Placed) → IsHeld placed self.old (S.Store.view self.old.store).trees
             → (after : Placed) × Registers (V.valid verifier.now) placed self.old session (registration_parts_view response.now) x after
             × IsHeld after self.new (S.Store.view self.new.store).trees) }
+        ensures detailed { OnOk result (IsClean (S.Store.view self.new.store) → (placed : Placed) → IsHeld placed self.old (S.Store.view self.old.store).trees
+            → (details : Details) → HoldsDetails details (S.Store.view self.old.store).trees
+            → HoldsDetails (finite.insert details (self.old.last + 1) (detail_view detail.now)) (S.Store.view self.new.store).trees) }
         ensures closed { OnOk result (self.new.timed ≡ after_end self.old.timed session) }
         ensures one { OnOk result (IsOneSite self.old self.new × (self.new.is_shut ≡ false)) }
         ensures refused { IfErr result (IsNotFinished S.Store.view self.old self.new (λ why. IsClean (S.Store.view self.new.store) → (placed : Placed)
@@ -166,6 +172,7 @@ impl<S: Store> KeptSite<S> {
         let row = row_of(self.held.alloc, &self.sessions, session, admitted)?;
         let place = self.last + 1;
         self.held.add(place, &lent(&row))?;
+        self.held.put_detail(place, detail)?;
         self.count += 1;
         self.last = place;
         self.sessions.close(session);

@@ -58,8 +58,8 @@ sign_in_step view f old new r why step v verified same is refuses =
 -- what is told of that step, after a second look
 pub sign_in_refused : {S : Type 0} (view : S → View) (f : FinishSignIn) (old mid new : KeptState S) (step : SignInRefusal) (a : Answer)
     → IsSame view old mid → Stops view f old mid step → IsRefusedSignIn view step f mid new a → Keeps view mid new a → TellsSignIn view f old new a
-sign_in_refused view f old mid new step (answers.RegistrationBegun started b) same stops h k = absurd h
-sign_in_refused view f old mid new step (answers.SignInBegun started b) same stops h k = absurd h
+sign_in_refused view f old mid new step (answers.RegistrationBegun started b known) same stops h k = absurd h
+sign_in_refused view f old mid new step (answers.SignInBegun started b known) same stops h k = absurd h
 sign_in_refused view f old mid new step (answers.Registered x told) same stops h k = absurd h
 sign_in_refused view f old mid new step (answers.SignedIn x told) same stops h k = absurd h
 sign_in_refused view f old mid new step (answers.Verify t) same stops h k = (
@@ -89,7 +89,7 @@ sign_in_refused view f old mid new step (answers.Retired was) same stops h k = a
 sign_in_refused view f old mid new step (answers.Deleted was) same stops h k = absurd h
 sign_in_refused view f old mid new step (answers.Abandoned was) same stops h k = absurd h
 sign_in_refused view f old mid new step (answers.Expired count) same stops h k = absurd h
-sign_in_refused view f old mid new step (answers.Rows rows) same stops h k = absurd h
+sign_in_refused view f old mid new step (answers.Rows rows known) same stops h k = absurd h
 sign_in_refused view f old mid new step (answers.Status counts) same stops h k = absurd h
 sign_in_refused view f old mid new step (answers.Backup path) same stops h k = absurd h
 sign_in_refused view f old mid new step (answers.NotBackedUp why) same stops h k = absurd h
@@ -99,8 +99,8 @@ sign_in_refused view f old mid new step (answers.Failed why) same stops h k = tt
 -- and what it leaves
 pub sign_in_left : {S : Type 0} (view : S → View) (f : FinishSignIn) (old mid new : KeptState S) (step : SignInRefusal) (a : Answer)
     → old.is_shut ≡ false → IsSame view old mid → IsRefusedSignIn view step f mid new a → Keeps view mid new a → Keeps view old new a
-sign_in_left view f old mid new step (answers.RegistrationBegun started b) live same h k = absurd h
-sign_in_left view f old mid new step (answers.SignInBegun started b) live same h k = absurd h
+sign_in_left view f old mid new step (answers.RegistrationBegun started b known) live same h k = absurd h
+sign_in_left view f old mid new step (answers.SignInBegun started b known) live same h k = absurd h
 sign_in_left view f old mid new step (answers.Registered x told) live same h k = absurd h
 sign_in_left view f old mid new step (answers.SignedIn x told) live same h k = absurd h
 sign_in_left view f old mid new step (answers.Verify t) live same h k = same_then view old mid new same k
@@ -110,7 +110,7 @@ sign_in_left view f old mid new step (answers.Retired was) live same h k = absur
 sign_in_left view f old mid new step (answers.Deleted was) live same h k = absurd h
 sign_in_left view f old mid new step (answers.Abandoned was) live same h k = absurd h
 sign_in_left view f old mid new step (answers.Expired count) live same h k = absurd h
-sign_in_left view f old mid new step (answers.Rows rows) live same h k = absurd h
+sign_in_left view f old mid new step (answers.Rows rows known) live same h k = absurd h
 sign_in_left view f old mid new step (answers.Status counts) live same h k = absurd h
 sign_in_left view f old mid new step (answers.Backup path) live same h k = absurd h
 sign_in_left view f old mid new step (answers.NotBackedUp why) live same h k = absurd h
@@ -151,8 +151,8 @@ registration_step view f old new r why step v verified same is refuses =
 -- what is told of that step
 pub registration_refused : {S : Type 0} (view : S → View) (f : FinishRegistration) (old new : KeptState S) (step : RegistrationRefusal) (a : Answer)
     → StopsRegistration view f old new step → IsRefusedRegistration old.rp.profile step f a → TellsRegistration view f old new a
-registration_refused view f old new step (answers.RegistrationBegun started b) stops h = absurd h
-registration_refused view f old new step (answers.SignInBegun started b) stops h = absurd h
+registration_refused view f old new step (answers.RegistrationBegun started b known) stops h = absurd h
+registration_refused view f old new step (answers.SignInBegun started b known) stops h = absurd h
 registration_refused view f old new step (answers.Registered x told) stops h = absurd h
 registration_refused view f old new step (answers.SignedIn x told) stops h = absurd h
 registration_refused view f old new step (answers.Verify t) stops h = (h.1, h.2, subst (StopsRegistration view f old new) h.0 stops)
@@ -162,7 +162,7 @@ registration_refused view f old new step (answers.Retired was) stops h = absurd 
 registration_refused view f old new step (answers.Deleted was) stops h = absurd h
 registration_refused view f old new step (answers.Abandoned was) stops h = absurd h
 registration_refused view f old new step (answers.Expired count) stops h = absurd h
-registration_refused view f old new step (answers.Rows rows) stops h = absurd h
+registration_refused view f old new step (answers.Rows rows known) stops h = absurd h
 registration_refused view f old new step (answers.Status counts) stops h = absurd h
 registration_refused view f old new step (answers.Backup path) stops h = absurd h
 registration_refused view f old new step (answers.NotBackedUp why) stops h = absurd h
@@ -172,8 +172,8 @@ registration_refused view f old new step (answers.Failed why) stops h = absurd h
 -- and what it leaves
 pub registration_left : {S : Type 0} (view : S → View) (f : FinishRegistration) (profile : Profile) (old new : KeptState S) (step : RegistrationRefusal) (a : Answer)
     → IsSame view old new → IsRefusedRegistration profile step f a → Keeps view old new a
-registration_left view f p old new step (answers.RegistrationBegun started b) same h = absurd h
-registration_left view f p old new step (answers.SignInBegun started b) same h = absurd h
+registration_left view f p old new step (answers.RegistrationBegun started b known) same h = absurd h
+registration_left view f p old new step (answers.SignInBegun started b known) same h = absurd h
 registration_left view f p old new step (answers.Registered x told) same h = absurd h
 registration_left view f p old new step (answers.SignedIn x told) same h = absurd h
 registration_left view f p old new step (answers.Verify t) same h = same
@@ -183,7 +183,7 @@ registration_left view f p old new step (answers.Retired was) same h = absurd h
 registration_left view f p old new step (answers.Deleted was) same h = absurd h
 registration_left view f p old new step (answers.Abandoned was) same h = absurd h
 registration_left view f p old new step (answers.Expired count) same h = absurd h
-registration_left view f p old new step (answers.Rows rows) same h = absurd h
+registration_left view f p old new step (answers.Rows rows known) same h = absurd h
 registration_left view f p old new step (answers.Status counts) same h = absurd h
 registration_left view f p old new step (answers.Backup path) same h = absurd h
 registration_left view f p old new step (answers.NotBackedUp why) same h = absurd h

@@ -3,4 +3,5 @@ pub mod Lists
 pub mod Kept
 pub mod Asked
 pub mod Finished
+pub mod Detailed
 pub mod Batched

@@ -46,7 +46,7 @@ Keeps view old new (answers.Error why) = IsSame view old new
 Keeps view old new (answers.Verify t) = IsSame view old new
 Keeps view old new (answers.RegistrationRefused step id) = IsSame view old new
 Keeps view old new (answers.SignInRefused step id) = IsSame view old new
-Keeps view old new (answers.Rows rows) = IsSame view old new
+Keeps view old new (answers.Rows rows known) = IsSame view old new
 Keeps view old new (answers.Status counts) = IsSame view old new
 Keeps view old new (answers.Backup path) = IsSame view old new
 Keeps view old new (answers.Failed why) = IsFailure old new why
@@ -142,14 +142,14 @@ Begins view opening words now session challenge old new =
     × IsTrimmed (after_begin old.timed opening now) new.timed × IsOneSite old new × Becomes view old new (λ placed after. after ≡ placed)
 
 abbrev pub TellsSignInBegun : {S : Type 0} → (S → View) → BeginSignIn → List ℕ → ℕ → KeptState S → KeptState S → Answer → Type 0
-TellsSignInBegun view b words now old new (answers.SignInBegun started asked) =
+TellsSignInBegun view b words now old new (answers.SignInBegun started asked known) =
     (asked ≡ b) × Begins view (opens_sign_in b words) words now started.session started.challenge old new
 TellsSignInBegun view b words now old new (answers.Error why) = IsNotBegun old (opens_sign_in b words) why
 TellsSignInBegun view b words now old new (answers.Failed why) = Unit {0}
 TellsSignInBegun view b words now old new _ = ⊥
 
 abbrev pub TellsRegistrationBegun : {S : Type 0} → (S → View) → BeginRegistration → List ℕ → ℕ → KeptState S → KeptState S → Answer → Type 0
-TellsRegistrationBegun view b words now old new (answers.RegistrationBegun started asked) =
+TellsRegistrationBegun view b words now old new (answers.RegistrationBegun started asked known) =
     (asked ≡ b) × Begins view (opens_registration b words) words now started.session started.challenge old new
 TellsRegistrationBegun view b words now old new (answers.Error why) = IsNotBegun old (opens_registration b words) why
 TellsRegistrationBegun view b words now old new (answers.Failed why) = Unit {0}
@@ -193,7 +193,8 @@ asked_rows (Some user) placed = filter (λ c. bytes_eq c.user user) (rows_of pla
 
 -- these are told
 abbrev pub TellsRows : {S : Type 0} → (S → View) → Option (List ℕ) → KeptState S → KeptState S → Answer → Type 0
-TellsRows view user old new (answers.Rows rows) = OfHeld view old new (λ placed. rows_view rows.items ≡ asked_rows user placed)
+TellsRows view user old new (answers.Rows rows known) = OfHeld view old new (λ placed. rows_view rows.items ≡ asked_rows user placed)
+TellsRows view user old new (answers.Error why) = why ≡ errors.Memory
 TellsRows view user old new (answers.Failed why) = Unit {0}
 TellsRows view user old new _ = ⊥
 

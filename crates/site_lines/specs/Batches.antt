@@ -6,6 +6,7 @@ use Rattle.sqlite_trees.specs.View.{View, IsClean}
 use Rattle.kept_site.specs.State.{KeptState}
 use Rattle.kept_site.specs.declared.failure.Failure.{Failure}
 use Rattle.site_lines.specs.Answers.{Keeps, Tells}
+use Rattle.site_lines.specs.Details.{TellsDetails}
 use Rattle.site_lines.specs.Lines.{Reads}
 use Rattle.site_lines.specs.declared.act.Act.{Act}
 use Rattle.site_lines.specs.declared.error.LineError.{LineError}
@@ -16,7 +17,8 @@ use Rattle.site_lines.specs.declared.answer.Answer.TheVariants as answers
 -- a line is answered with its number, by what its act tells, with its own random bytes; or it is refused
 abbrev pub IsAnswered : {S : Type 0} → (S → View) → ℕ → Arrived → KeptState S → KeptState S → Answered → Type 0
 IsAnswered view now line old new a =
-    ((id : ℕ) × (act : Act) × Reads line.line.items id act × (a.id ≡ Some id) × Tells view line.words now act old new a.answer)
+    ((id : ℕ) × (act : Act) × Reads line.line.items id act × (a.id ≡ Some id) × Tells view line.words now act old new a.answer
+    × TellsDetails view now act old new a.answer)
     ⊎ ((why : LineError) × (a.answer ≡ answers.Error why))
 
 -- each line is answered, in order

@@ -67,6 +67,16 @@ HasList name d list =
     ((ds : List Data) × (option_and_then as_array (member name d) ≡ Some (items_of ds)) × AreBase64url ds list)
     ⊎ ((member name d ≡ None) × (list ≡ []))
 
+-- each value is the text beside it
+abbrev pub AreTexts : List Data → List (List ℕ) → Type 0
+AreTexts ds list = map as_str ds ≡ map (λ text. Some text) list
+
+-- a list of texts, which is empty where it is absent
+abbrev pub HasTexts : List ℕ → Data → List (List ℕ) → Type 0
+HasTexts name d list =
+    ((ds : List Data) × (option_and_then as_array (member name d) ≡ Some (items_of ds)) × AreTexts ds list)
+    ⊎ ((member name d ≡ None) × (list ≡ []))
+
 abbrev pub IsAlgorithm : Data → Alg → Type 0
 IsAlgorithm d alg = option_and_then as_i64 (as_number d) ≡ Some (number_of alg)
 
@@ -139,6 +149,7 @@ pub record IsAssertionResponse (d : Data) (r : AssertionResponse) : Type 0 where
 pub record SaysFinishRegistration (d : Data) (f : FinishRegistration) : Type 0 where
   pub session : HasNumber (codes "session") d f.session
   pub response : (m : Data) × (member (codes "response") d ≡ Some m) × IsRegistrationResponse m f.credential.items f.response
+  pub transports : HasTexts (codes "transports") d (map string_bytes f.transports.items)
   pub verified : HasVerified d f.verified
 
 -- a sign-in that is to be finished

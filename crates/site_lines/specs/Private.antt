@@ -1,5 +1,5 @@
 -- What private functions are proved against; no public clause cites it.
-use Rattle.std.specs.Prelude.{◌≡◌, ◌⊎◌, ℕ, ⊤, List, [], codes, None, Some, option_and_then}
+use Rattle.std.specs.Prelude.{◌≡◌, ◌⊎◌, ◌≤◌, ◌+◌, ◌^◌, ℕ, ⊤, List, [], codes, Option, None, Some, Vec, map, option_and_then}
 use Rattle.serde_json.specs.Data.{Data}
 use Rattle.serde_json.specs.Find.{as_array}
 use Rattle.serde_json.specs.View.{items_view}
@@ -11,10 +11,13 @@ use Rattle.verification.specs.declared.refusal.SignInRefusal.{SignInRefusal}
 use Rattle.verification.specs.declared.refusal.SignInRefusal.TheVariants as sign_in
 use Rattle.verification.specs.declared.refusal.RegistrationRefusal.{RegistrationRefusal}
 use Rattle.verification.specs.declared.refusal.RegistrationRefusal.TheVariants as register
-use Rattle.ceremony_sessions.specs.Sessions.{Opening}
+use Rattle.ceremony_sessions.specs.Sessions.{IsRefused, Opening}
 use Rattle.ceremony_sessions.specs.declared.error.Error.TheVariants as full
 use Rattle.kept_site.specs.State.{KeptState}
-use Rattle.kept_site.specs.Calls.{IsNotBegun}
+use Rattle.kept_site.specs.Calls.{IsFailure, IsNotBegun, IsSame}
+use Rattle.authdata.specs.Layout.{AttestedCredential, AuthenticatorData, AuthOf}
+use Rattle.site_lines.specs.declared.knowing.Unknown.{Unknown}
+use Rattle.site_lines.specs.declared.knowing.Unknown.TheVariants as unknowns
 use Rattle.kept_site.specs.declared.failure.BeginFailure.{BeginFailure}
 use Rattle.kept_site.specs.declared.failure.BeginFailure.TheVariants as begins
 use Rattle.site_lines.specs.declared.act.FinishRegistration.{FinishRegistration}
@@ -30,6 +33,11 @@ use Rattle.authdata.specs.declared.response.RegistrationResponse.{RegistrationRe
 use Rattle.site_lines.specs.declared.acts.ActKind.{ActKind}
 use Rattle.site_lines.specs.declared.acts.ActKind.TheVariants as kinds
 use Rattle.site_lines.specs.Answers.{OfHeld, RegistrationAsks, SignInAsks}
+use Rattle.site_lines.specs.Details.{AreKnown, OfDetails}
+use Rattle.credential_details.specs.Details.{Detail, HoldsDetails}
+use Rattle.std.specs.FinMap as finite
+use Rattle.std.specs.Global.{Global}
+use Rattle.credential_table.specs.declared.row.Row.{Row}
 
 -- what is answered where no session begins
 abbrev pub not_begun : BeginFailure → Answer
@@ -40,6 +48,13 @@ not_begun (begins.Store why) = answers.Failed why
 -- why no session begins, however many are open
 abbrev pub BeginsNone : {S : Type 0} → KeptState S → KeptState S → Opening → BeginFailure → Type 0
 BeginsNone old new o why = IsNotBegun old new o why × (why ≡ begins.Site full.SessionsFull → ⊥)
+
+-- why no session begins, after a look at the credentials that are named
+abbrev pub IsNotBegunAfter : {S : Type 0} → (S → View) → KeptState S → KeptState S → Opening → BeginFailure → Type 0
+IsNotBegunAfter view old new o (begins.Site why) =
+    IsSame view old new × IsRefused old.rp.profile old.timed.open_sessions o why × (why ≡ full.SessionsFull → ⊥)
+IsNotBegunAfter view old new o begins.NoNumber = IsSame view old new × (2 ^ 63 ≤ old.timed.open_sessions.next + 100001)
+IsNotBegunAfter view old new o (begins.Store why) = IsFailure old new why
 
 -- what is answered where a step refuses a sign-in: the step, a question, or want of memory
 abbrev pub IsRefusedSignIn : {S : Type 0} → (S → View) → SignInRefusal → FinishSignIn → KeptState S → KeptState S → Answer → Type 0
@@ -91,3 +106,31 @@ abbrev pub HasParts : Data → RegistrationResponse → Type 0
 HasParts d r =
     (parts : Data) × (member (codes "response") d ≡ Some parts) × HasBytes (codes "attestationObject") parts r.object.items
     × HasBytes (codes "clientDataJSON") parts r.client_data.items
+
+-- why nothing is told of credentials: want of memory, and nothing has changed; or a failure
+abbrev pub IsUnknown : {S : Type 0} → (S → View) → KeptState S → KeptState S → Unknown → Type 0
+IsUnknown view old new unknowns.Memory = IsSame view old new
+IsUnknown view old new (unknowns.Failed why) = IsFailure old new why
+
+-- the aaguid of the credential that authenticator data attest
+abbrev pub IsAaguidOf : Profile → List ℕ → Option (List ℕ) → Type 0
+IsAaguidOf profile bs found = (a : AuthenticatorData) (c : AttestedCredential) → AuthOf profile a bs → a.attested ≡ Some c → found ≡ Some c.aaguid
+
+-- what is answered where nothing is told of credentials
+abbrev pub unknown : Unknown → Answer
+unknown unknowns.Memory = answers.Error errors.Memory
+unknown (unknowns.Failed why) = answers.Failed why
+
+-- rows are told with what is known of each; or nothing is
+abbrev pub IsWithKnown : {S : Type 0} → (S → View) → Vec Row Global → KeptState S → KeptState S → Answer → Type 0
+IsWithKnown view rows old new (answers.Rows told known) =
+    (told ≡ rows) × AreKnown view old new (map (λ r. r.id.items) rows.items) known.items × IsSame view old new
+IsWithKnown view rows old new (answers.Error why) = (why ≡ errors.Memory) × IsSame view old new
+IsWithKnown view rows old new (answers.Failed why) = IsFailure old new why
+IsWithKnown view rows old new _ = ⊥
+
+-- a credential that is registered has this detail
+abbrev pub KeepsDetail : {S : Type 0} → (S → View) → Detail → KeptState S → KeptState S → Answer → Type 0
+KeepsDetail view d old new (answers.Registered x response) =
+    OfDetails view old new (λ placed details. HoldsDetails (finite.insert details (old.last + 1) d) (view new.store).trees)
+KeepsDetail view d old new _ = Unit {0}

@@ -43,6 +43,8 @@ pub struct FinishRegistration {
     pub credential: Vec<u8>,
     /// The response.
     pub response: RegistrationResponse,
+    /// The transports that the client tells (WebAuthn Level 2, section 5.8.4).
+    pub transports: Vec<String>,
     /// What the host found of the signature.
     pub verified: Verified,
 }

@@ -1,17 +1,22 @@
 //! Carrying out an act.
 
-ghost use Rattle.std.specs.Prelude.{◌≡◌, None, Some, option_map};
+ghost use Rattle.std.specs.Prelude.{◌≡◌, IfErr, IfOk, None, OnOk, Some, false, map, option_map};
 ghost use Rattle.sqlite_trees.specs.Tree.{Trees};
 ghost use Rattle.site_lines.specs.Answers.{Keeps, Tells, TellsAbandoned, TellsDeleted, TellsExpired, TellsRetired, TellsRows, TellsStatus};
+ghost use Rattle.site_lines.specs.Details.{AreKnown, ForgetsDetail, TellsDetails, TellsRowDetails};
+ghost use Rattle.site_lines.specs.Private.{IsUnknown, IsWithKnown, unknown as unknown_of};
+ghost use Rattle.kept_site.specs.Calls.{IsSame};
 
 use crate::act::Act;
-use crate::answer::{Answer, Counts};
+use crate::answer::{Answer, Counts, Known};
 use crate::beginning::{begin_registration, begin_sign_in};
 use crate::error::LineError;
 use crate::finishing::{finish_registration, finish_sign_in};
+use crate::knowing::{Unknown, all_known};
+use credential_table::Row;
 use kept_site::{Failure, KeptSite};
 use sqlite_trees::store::Store;
-use std::alloc::Global;
+use std::alloc::{AllocError, Global};
 
 /// Retires the credential of an id.
 fn retire<S: Store>(site: &mut KeptSite<S>, credential: &[u8]) -> Answer
@@ -28,6 +33,7 @@ fn retire<S: Store>(site: &mut KeptSite<S>, credential: &[u8]) -> Answer
 /// Deletes the credential of an id.
 fn delete<S: Store>(site: &mut KeptSite<S>, credential: &[u8]) -> Answer
     ensures told { TellsDeleted S.Store.view credential.now site.old site.new result }
+    ensures details { ForgetsDetail S.Store.view credential.now site.old site.new result }
     ensures kept { Keeps S.Store.view site.old site.new result }
     ensures crash { (db : Trees) → S.Store.recovers site.new.store db → S.Store.recovers site.old.store db }
 {
@@ -58,39 +64,94 @@ fn expire<S: Store>(site: &mut KeptSite<S>, now: u64, age: u64) -> Answer
     }
 }
 
+/// The ids of rows, lent.
+fn ids_of<'a>(alloc: Global, rows: &'a [Row]) -> Result<Vec<&'a [u8]>, AllocError>
+    ensures { IfOk result (λ list. map (λ id. id.now) list.items ≡ map (λ r. r.id.items) rows.now) }
+{
+    let mut list = Vec::with_capacity(alloc, rows.len())?;
+    for row in rows {
+        list.push(row.id.as_slice())?;
+    }
+    Ok(list)
+}
+
+/// What is known of the credentials of rows.
+fn known_of<S: Store>(
+    alloc: Global,
+    site: &mut KeptSite<S>,
+    rows: &[Row],
+) -> Result<Vec<Known>, Unknown>
+    requires live { site.old.is_shut ≡ false }
+    ensures known { IfOk result (λ list. AreKnown S.Store.view site.old site.new (map (λ r. r.id.items) rows.now) list.items) }
+    ensures same { OnOk result (IsSame S.Store.view site.old site.new) }
+    ensures unknown { IfErr result (IsUnknown S.Store.view site.old site.new) }
+    ensures crash { (db : Trees) → S.Store.recovers site.new.store db → S.Store.recovers site.old.store db }
+{
+    let ids = ids_of(alloc, rows)?;
+    all_known(alloc, site, ids.as_slice())
+}
+
+/// What is answered where nothing is told of credentials.
+fn unknown(why: Unknown) -> Answer
+    ensures { result ≡ unknown_of why }
+{
+    match why {
+        Unknown::Memory => Answer::Error(LineError::Memory),
+        Unknown::Failed(why) => Answer::Failed(why),
+    }
+}
+
+/// Rows, with what is known of each.
+fn with_known<S: Store>(alloc: Global, site: &mut KeptSite<S>, rows: Vec<Row>) -> Answer
+    requires live { site.old.is_shut ≡ false }
+    ensures told { IsWithKnown S.Store.view rows site.old site.new result }
+    ensures crash { (db : Trees) → S.Store.recovers site.new.store db → S.Store.recovers site.old.store db }
+{
+    match known_of(alloc, site, rows.as_slice()) {
+        Ok(known) => Answer::Rows(rows, known),
+        Err(why) => unknown(why),
+    }
+}
+
 /// The credentials of a user.
-fn rows_of<S: Store>(site: &mut KeptSite<S>, user: &[u8]) -> Answer
+fn rows_of<S: Store>(alloc: Global, site: &mut KeptSite<S>, user: &[u8]) -> Answer
+    requires live { site.old.is_shut ≡ false }
+    ensures details { TellsRowDetails S.Store.view site.old site.new result }
     ensures told { TellsRows S.Store.view (Some user.now) site.old site.new result }
     ensures kept { Keeps S.Store.view site.old site.new result }
     ensures crash { (db : Trees) → S.Store.recovers site.new.store db → S.Store.recovers site.old.store db }
 {
     match site.rows_of(user) {
-        Ok(rows) => Answer::Rows(rows),
+        Ok(rows) => with_known(alloc, site, rows),
         Err(why) => Answer::Failed(why),
     }
 }
 
 /// All credentials.
-fn all_rows<S: Store>(site: &mut KeptSite<S>) -> Answer
+fn all_rows<S: Store>(alloc: Global, site: &mut KeptSite<S>) -> Answer
+    requires live { site.old.is_shut ≡ false }
+    ensures details { TellsRowDetails S.Store.view site.old site.new result }
     ensures told { TellsRows S.Store.view None site.old site.new result }
     ensures kept { Keeps S.Store.view site.old site.new result }
     ensures crash { (db : Trees) → S.Store.recovers site.new.store db → S.Store.recovers site.old.store db }
 {
     match site.rows() {
-        Ok(rows) => Answer::Rows(rows),
+        Ok(rows) => with_known(alloc, site, rows),
         Err(why) => Answer::Failed(why),
     }
 }
 
 /// The credentials of a user, or all.
-fn rows<S: Store>(site: &mut KeptSite<S>, user: Option<&[u8]>) -> Answer
+fn rows<S: Store>(alloc: Global, site: &mut KeptSite<S>, user: Option<&[u8]>) -> Answer
+    requires live { site.old.is_shut ≡ false }
+    ensures details { TellsRowDetails S.Store.view site.old site.new result }
     ensures told { TellsRows S.Store.view (option_map (λ u. u.now) user.entry) site.old site.new result }
     ensures kept { Keeps S.Store.view site.old site.new result }
     ensures crash { (db : Trees) → S.Store.recovers site.new.store db → S.Store.recovers site.old.store db }
 {
     match user {
-        Some(user) => rows_of(site, user),
-        None => all_rows(site),
+        Some(user) => rows_of(alloc, site, user),
+        None => all_rows(alloc, site),
     }
 }
 
@@ -107,6 +168,7 @@ fn status<S: Store>(site: &KeptSite<S>) -> Answer
 }
 
 /// Carries out an act, at this second of the host's clock. What it answers is to be committed before it is told.
+#[tactic(auto, using(crate::proofs::Detailed::fails))]
 pub fn carry_out<S: Store>(
     alloc: Global,
     site: &mut KeptSite<S>,
@@ -115,6 +177,7 @@ pub fn carry_out<S: Store>(
     act: Act,
 ) -> Answer
     ensures told { Tells S.Store.view words now act site.old site.new result }
+    ensures details { TellsDetails S.Store.view now act site.old site.new result }
     ensures kept { Keeps S.Store.view site.old site.new result }
     // Nothing of it is in the file before it is committed.
     ensures crash { (db : Trees) → S.Store.recovers site.new.store db → S.Store.recovers site.old.store db }
@@ -123,15 +186,15 @@ pub fn carry_out<S: Store>(
         return Answer::Failed(Failure::Shut);
     }
     match act {
-        Act::BeginRegistration(begin) => begin_registration(site, words, now, begin),
-        Act::FinishRegistration(finish) => finish_registration(alloc, site, finish),
+        Act::BeginRegistration(begin) => begin_registration(alloc, site, words, now, begin),
+        Act::FinishRegistration(finish) => finish_registration(alloc, site, now, finish),
         Act::BeginSignIn(begin) => begin_sign_in(alloc, site, words, now, begin),
-        Act::FinishSignIn(finish) => finish_sign_in(alloc, site, finish),
+        Act::FinishSignIn(finish) => finish_sign_in(alloc, site, now, finish),
         Act::Retire(credential) => retire(site, credential.as_slice()),
         Act::Delete(credential) => delete(site, credential.as_slice()),
         Act::Abandon(session) => abandon(site, session),
         Act::Expire(age) => expire(site, now, age),
-        Act::Rows(user) => rows(site, user.as_deref()),
+        Act::Rows(user) => rows(alloc, site, user.as_deref()),
         Act::Status => status(site),
         Act::Backup(path) => Answer::Backup(path),
     }

@@ -120,7 +120,7 @@ static FORMS: [Form; 11] = [
 ];
 
 /// Each act's members, beside `id` and `act`.
-static MEMBERS: [Member; 22] = [
+static MEMBERS: [Member; 23] = [
     Member {
         act: ActKind::BeginRegistration,
         name: "user",
@@ -174,6 +174,12 @@ static MEMBERS: [Member; 22] = [
         name: "response",
         is_needed: true,
         meaning: "the browser's credential.toJSON()",
+    },
+    Member {
+        act: ActKind::FinishRegistration,
+        name: "transports",
+        is_needed: false,
+        meaning: "the texts of the browser's getTransports()",
     },
     Member {
         act: ActKind::FinishRegistration,

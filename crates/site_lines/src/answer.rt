@@ -4,6 +4,7 @@ use crate::act::{BeginRegistration, BeginSignIn};
 use crate::error::LineError;
 use authdata::{AssertionResponse, RegistrationResponse};
 use ceremony_sessions::Started;
+use credential_details::Detail;
 use credential_table::Row;
 use kept_site::{Failure, Registered, SignedIn};
 use verification::{RegistrationRefusal, SignInRefusal};
@@ -20,13 +21,24 @@ pub struct Counts {
     pub next_session: u64,
 }
 
+/// A credential by its id, and what is known of it beside what verdicts ask for.
+#[derive(Debug, Drop)]
+pub struct Known {
+    /// Its id.
+    pub id: Vec<u8>,
+    /// What is known of it.
+    pub detail: Option<Detail>,
+    /// Its transports; none where they are not known, or are none.
+    pub transports: Vec<String>,
+}
+
 /// What a line is answered.
 #[derive(Debug, Drop)]
 pub enum Answer {
-    /// A registration has begun, and what it was asked for.
-    RegistrationBegun(Started, BeginRegistration),
-    /// A sign-in has begun, and what it was asked for.
-    SignInBegun(Started, BeginSignIn),
+    /// A registration has begun, what it was asked for, and what is known of the credentials that the account has.
+    RegistrationBegun(Started, BeginRegistration, Vec<Known>),
+    /// A sign-in has begun, what it was asked for, and what is known of the credentials that may answer.
+    SignInBegun(Started, BeginSignIn, Vec<Known>),
     /// A credential is registered, by this response.
     Registered(Registered, RegistrationResponse),
     /// A user signed in, by this response.
@@ -45,8 +57,8 @@ pub enum Answer {
     Abandoned(bool),
     /// How many sessions ended by their age.
     Expired(usize),
-    /// The credentials of a user, or all.
-    Rows(Vec<Row>),
+    /// The credentials of a user, or all, and what is known of each.
+    Rows(Vec<Row>, Vec<Known>),
     /// How many there are.
     Status(Counts),
     /// The path to which the site's file is to be copied, once all is committed.

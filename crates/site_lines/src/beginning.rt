@@ -1,17 +1,29 @@
 //! Beginning a ceremony.
 
-ghost use Rattle.std.specs.Prelude.{◌≡◌, IfErr, IfOk, map};
+ghost use Rattle.std.specs.Prelude.{◌≡◌, IfErr, IfOk, OnOk, false, map};
 ghost use Rattle.sqlite_trees.specs.Tree.{Trees};
+ghost use Rattle.sqlite_trees.specs.View.{IsClean};
+ghost use Rattle.kept_site.specs.Calls.{IsSame};
+ghost use Rattle.ceremony_sessions.specs.Sessions.{Opening};
 ghost use Rattle.site_lines.specs.Answers.{Begins, Keeps, TellsRegistrationBegun, TellsSignInBegun, opens_registration, opens_sign_in};
-ghost use Rattle.site_lines.specs.Private.{BeginsNone, not_begun as not_begun_of};
+ghost use Rattle.site_lines.specs.Details.{AreKnown, TellsAllowed, TellsExcluded};
+ghost use Rattle.site_lines.specs.Private.{BeginsNone, IsNotBegunAfter, not_begun as not_begun_of};
 
 use crate::act::{BeginRegistration, BeginSignIn};
-use crate::answer::Answer;
+use crate::answer::{Answer, Known};
 use crate::error::LineError;
+use crate::knowing::{Unknown, all_known};
 use ceremony_sessions::{Error as BeginError, Started};
 use kept_site::{BeginFailure, KeptSite};
 use sqlite_trees::store::Store;
 use std::alloc::{AllocError, Global};
+
+/// A session that has begun, and what is known of the credentials that are named.
+#[derive(Drop)]
+struct Begun {
+    started: Started,
+    known: Vec<Known>,
+}
 
 /// The ids, lent.
 fn lent<'a>(alloc: Global, ids: &'a [Vec<u8>]) -> Result<Vec<&'a [u8]>, AllocError>
@@ -22,6 +34,28 @@ fn lent<'a>(alloc: Global, ids: &'a [Vec<u8>]) -> Result<Vec<&'a [u8]>, AllocErr
         list.push(id.as_slice())?;
     }
     Ok(list)
+}
+
+/// What is known of the credentials that are named.
+fn named<S: Store>(
+    alloc: Global,
+    site: &mut KeptSite<S>,
+    ids: &[Vec<u8>],
+) -> Result<Vec<Known>, BeginFailure>
+    requires live { site.old.is_shut ≡ false }
+    ensures known { IfOk result (λ list. AreKnown S.Store.view site.old site.new (map (λ id. id.items) ids.now) list.items) }
+    ensures same { OnOk result (IsSame S.Store.view site.old site.new) }
+    ensures refused { IfErr result (λ why. (o : Opening) → IsNotBegunAfter S.Store.view site.old site.new o why) }
+    ensures crash { (db : Trees) → S.Store.recovers site.new.store db → S.Store.recovers site.old.store db }
+{
+    let Ok(ids) = lent(alloc, ids) else {
+        return Err(BeginFailure::Site(BeginError::Memory));
+    };
+    match all_known(alloc, site, ids.as_slice()) {
+        Ok(known) => Ok(known),
+        Err(Unknown::Memory) => Err(BeginFailure::Site(BeginError::Memory)),
+        Err(Unknown::Failed(why)) => Err(BeginFailure::Store(why)),
+    }
 }
 
 /// Begins a sign-in.
@@ -35,6 +69,7 @@ fn started_sign_in<S: Store>(
     ensures begun { IfOk result (λ s.
         Begins S.Store.view (opens_sign_in begin.now words) words now s.session s.challenge site.old site.new) }
     ensures refused { IfErr result (BeginsNone site.old site.new (opens_sign_in begin.now words)) }
+    ensures clean { OnOk result (IsClean (S.Store.view site.new.store) → IsClean (S.Store.view site.old.store)) }
     ensures crash { (db : Trees) → S.Store.recovers site.new.store db → S.Store.recovers site.old.store db }
 {
     let Ok(allow) = lent(alloc, begin.allow.as_slice()) else {
@@ -60,7 +95,34 @@ fn not_begun(why: BeginFailure) -> Answer
     }
 }
 
+/// Begins a sign-in, with what is known of the credentials that may answer.
+#[tactic(auto, using(crate::proofs::Detailed::begins_after, crate::proofs::Detailed::not_begun_after, crate::proofs::Detailed::of_details_then))]
+fn known_sign_in<S: Store>(
+    alloc: Global,
+    site: &mut KeptSite<S>,
+    words: [u8; 24],
+    now: u64,
+    begin: &BeginSignIn,
+) -> Result<Begun, BeginFailure>
+    requires live { site.old.is_shut ≡ false }
+    ensures begun { IfOk result (λ b.
+        Begins S.Store.view (opens_sign_in begin.now words) words now b.started.session b.started.challenge site.old site.new) }
+    ensures known { IfOk result (λ b. AreKnown S.Store.view site.old site.new (map (λ id. id.items) begin.now.allow.items) b.known.items) }
+    ensures refused { IfErr result (IsNotBegunAfter S.Store.view site.old site.new (opens_sign_in begin.now words)) }
+    ensures crash { (db : Trees) → S.Store.recovers site.new.store db → S.Store.recovers site.old.store db }
+{
+    let known = match named(alloc, site, begin.allow.as_slice()) {
+        Ok(known) => known,
+        Err(why) => return Err(why),
+    };
+    match started_sign_in(alloc, site, words, now, begin) {
+        Ok(started) => Ok(Begun { started, known }),
+        Err(why) => Err(why),
+    }
+}
+
 /// Begins a sign-in.
+#[tactic(auto, using(crate::proofs::Detailed::sign_in_after, crate::proofs::Detailed::keeps_after))]
 pub(crate) fn begin_sign_in<S: Store>(
     alloc: Global,
     site: &mut KeptSite<S>,
@@ -68,12 +130,14 @@ pub(crate) fn begin_sign_in<S: Store>(
     now: u64,
     begin: BeginSignIn,
 ) -> Answer
+    requires live { site.old.is_shut ≡ false }
     ensures told { TellsSignInBegun S.Store.view begin words now site.old site.new result }
+    ensures details { TellsAllowed S.Store.view begin site.old site.new result }
     ensures kept { Keeps S.Store.view site.old site.new result }
     ensures crash { (db : Trees) → S.Store.recovers site.new.store db → S.Store.recovers site.old.store db }
 {
-    match started_sign_in(alloc, site, words, now, &begin) {
-        Ok(started) => Answer::SignInBegun(started, begin),
+    match known_sign_in(alloc, site, words, now, &begin) {
+        Ok(begun) => Answer::SignInBegun(begun.started, begin, begun.known),
         Err(why) => not_begun(why),
     }
 }
@@ -88,6 +152,7 @@ fn started_registration<S: Store>(
     ensures begun { IfOk result (λ s.
         Begins S.Store.view (opens_registration begin.now words) words now s.session s.challenge site.old site.new) }
     ensures refused { IfErr result (BeginsNone site.old site.new (opens_registration begin.now words)) }
+    ensures clean { OnOk result (IsClean (S.Store.view site.new.store) → IsClean (S.Store.view site.old.store)) }
     ensures crash { (db : Trees) → S.Store.recovers site.new.store db → S.Store.recovers site.old.store db }
 {
     site.begin_registration(
@@ -99,19 +164,49 @@ fn started_registration<S: Store>(
     )
 }
 
+/// Begins a registration, with what is known of the credentials that the account has.
+#[tactic(auto, using(crate::proofs::Detailed::begins_after, crate::proofs::Detailed::not_begun_after, crate::proofs::Detailed::of_details_then))]
+fn known_registration<S: Store>(
+    alloc: Global,
+    site: &mut KeptSite<S>,
+    words: [u8; 24],
+    now: u64,
+    begin: &BeginRegistration,
+) -> Result<Begun, BeginFailure>
+    requires live { site.old.is_shut ≡ false }
+    ensures begun { IfOk result (λ b.
+        Begins S.Store.view (opens_registration begin.now words) words now b.started.session b.started.challenge site.old site.new) }
+    ensures known { IfOk result (λ b. AreKnown S.Store.view site.old site.new (map (λ id. id.items) begin.now.exclude.items) b.known.items) }
+    ensures refused { IfErr result (IsNotBegunAfter S.Store.view site.old site.new (opens_registration begin.now words)) }
+    ensures crash { (db : Trees) → S.Store.recovers site.new.store db → S.Store.recovers site.old.store db }
+{
+    let known = match named(alloc, site, begin.exclude.as_slice()) {
+        Ok(known) => known,
+        Err(why) => return Err(why),
+    };
+    match started_registration(site, words, now, begin) {
+        Ok(started) => Ok(Begun { started, known }),
+        Err(why) => Err(why),
+    }
+}
+
 /// Begins a registration.
+#[tactic(auto, using(crate::proofs::Detailed::registration_after, crate::proofs::Detailed::keeps_after))]
 pub(crate) fn begin_registration<S: Store>(
+    alloc: Global,
     site: &mut KeptSite<S>,
     words: [u8; 24],
     now: u64,
     begin: BeginRegistration,
 ) -> Answer
+    requires live { site.old.is_shut ≡ false }
     ensures told { TellsRegistrationBegun S.Store.view begin words now site.old site.new result }
+    ensures details { TellsExcluded S.Store.view begin site.old site.new result }
     ensures kept { Keeps S.Store.view site.old site.new result }
     ensures crash { (db : Trees) → S.Store.recovers site.new.store db → S.Store.recovers site.old.store db }
 {
-    match started_registration(site, words, now, &begin) {
-        Ok(started) => Answer::RegistrationBegun(started, begin),
+    match known_registration(alloc, site, words, now, &begin) {
+        Ok(begun) => Answer::RegistrationBegun(begun.started, begin, begun.known),
         Err(why) => not_begun(why),
     }
 }

@@ -5,13 +5,17 @@ ghost use Rattle.sqlite_trees.specs.Tree.{Trees};
 ghost use Rattle.authdata.specs.Responses.{assertion_response_view, registration_response_view};
 ghost use Rattle.verification.specs.Views.{assertion_parts_view, registration_parts_view};
 ghost use Rattle.site_lines.specs.Answers.{Keeps, TellsRegistration, TellsSignIn};
-ghost use Rattle.site_lines.specs.Private.{IsRefusedRegistration, IsRefusedSignIn};
+ghost use Rattle.credential_details.specs.Details.{detail_view};
+ghost use Rattle.site_lines.specs.Details.{RegistersDetail, UsesDetail};
+ghost use Rattle.site_lines.specs.Private.{KeepsDetail, IsRefusedRegistration, IsRefusedSignIn};
 
 use crate::act::{FinishRegistration, FinishSignIn};
 use crate::answer::Answer;
 use crate::asking::{registration_asks, sign_in_asks};
 use crate::error::LineError;
+use crate::knowing::{detail_of, second};
 use authdata::{AssertionResponse, Profile, RegistrationResponse};
+use credential_details::Detail;
 use kept_site::{FinishFailure, KeptSite};
 use sqlite_trees::store::Store;
 use std::alloc::Global;
@@ -91,16 +95,18 @@ fn refused_registration(
 pub(crate) fn finish_sign_in<S: Store>(
     alloc: Global,
     site: &mut KeptSite<S>,
+    now: u64,
     finish: FinishSignIn,
 ) -> Answer
     requires live { site.old.is_shut ≡ false }
     ensures told { TellsSignIn S.Store.view finish site.old site.new result }
+    ensures details { UsesDetail S.Store.view now finish site.old site.new result }
     ensures kept { Keeps S.Store.view site.old site.new result }
     ensures crash { (db : Trees) → S.Store.recovers site.new.store db → S.Store.recovers site.old.store db }
 {
     let parts = assertion_parts(&finish.response);
     let verifier = finish.verified.verifier();
-    match site.finish_parts(&verifier, finish.session, &parts) {
+    match site.finish_parts(&verifier, finish.session, &parts, second(now)) {
         Ok(signed_in) => Answer::SignedIn(signed_in, finish.response),
         Err(FinishFailure::Site(VerificationError::Refused(step))) => {
             refused_sign_in(alloc, site, step, finish)
@@ -110,20 +116,22 @@ pub(crate) fn finish_sign_in<S: Store>(
     }
 }
 
-/// Finishes a registration, or asks for its signature.
-pub(crate) fn finish_registration<S: Store>(
+/// Finishes a registration of a credential with this detail, or asks for its signature.
+fn finish_with<S: Store>(
     alloc: Global,
     site: &mut KeptSite<S>,
     finish: FinishRegistration,
+    detail: &Detail,
 ) -> Answer
     requires live { site.old.is_shut ≡ false }
     ensures told { TellsRegistration S.Store.view finish site.old site.new result }
+    ensures details { KeepsDetail S.Store.view (detail_view detail.now) site.old site.new result }
     ensures kept { Keeps S.Store.view site.old site.new result }
     ensures crash { (db : Trees) → S.Store.recovers site.new.store db → S.Store.recovers site.old.store db }
 {
     let parts = registration_parts(&finish.response);
     let verifier = finish.verified.verifier();
-    match site.finish_registration_parts(&verifier, finish.session, &parts) {
+    match site.finish_registration_parts(&verifier, finish.session, &parts, detail) {
         Ok(registered) => Answer::Registered(registered, finish.response),
         Err(FinishFailure::Site(VerificationError::Refused(step))) => {
             refused_registration(alloc, site.party().profile(), step, finish)
@@ -131,4 +139,26 @@ pub(crate) fn finish_registration<S: Store>(
         Err(FinishFailure::Site(VerificationError::Memory)) => Answer::Error(LineError::Memory),
         Err(FinishFailure::Store(why)) => Answer::Failed(why),
     }
+}
+
+/// Finishes a registration, or asks for its signature.
+#[tactic(auto, using(crate::proofs::Detailed::registers_detail, crate::proofs::Kept::same_site))]
+pub(crate) fn finish_registration<S: Store>(
+    alloc: Global,
+    site: &mut KeptSite<S>,
+    now: u64,
+    finish: FinishRegistration,
+) -> Answer
+    requires live { site.old.is_shut ≡ false }
+    ensures told { TellsRegistration S.Store.view finish site.old site.new result }
+    ensures details { RegistersDetail S.Store.view now finish site.old site.new result }
+    ensures kept { Keeps S.Store.view site.old site.new result }
+    ensures crash { (db : Trees) → S.Store.recovers site.new.store db → S.Store.recovers site.old.store db }
+{
+    let profile = site.party().profile();
+    let transports = finish.transports.as_slice();
+    let Ok(detail) = detail_of(alloc, profile, now, transports, &finish.response) else {
+        return Answer::Error(LineError::Memory);
+    };
+    finish_with(alloc, site, finish, &detail)
 }

@@ -4,6 +4,7 @@ ghost use Rattle.std.specs.Prelude.{◌≡◌, ◌⊎◌, IfOk, OnErr, OnOk, Som
 ghost use Rattle.sqlite_trees.specs.Tree.{Trees};
 ghost use Rattle.site_lines.specs.declared.answer.Answer.TheVariants as answers;
 ghost use Rattle.site_lines.specs.Answers.{Keeps, Tells};
+ghost use Rattle.site_lines.specs.Details.{TellsDetails};
 ghost use Rattle.site_lines.specs.Batches.{Answers, AreFailed, IsAnswered, IsCommitted, Leaves, Runs};
 
 use crate::act::Act;
@@ -50,8 +51,8 @@ fn named_session(act: &Act) -> Option<u64> {
 /// The session that an answer begins, or else the one that its line names.
 fn session_of(named: Option<u64>, answer: &Answer) -> Option<u64> {
     match answer {
-        Answer::RegistrationBegun(started, _) => Some(started.session),
-        Answer::SignInBegun(started, _) => Some(started.session),
+        Answer::RegistrationBegun(started, ..) => Some(started.session),
+        Answer::SignInBegun(started, ..) => Some(started.session),
         _ => named,
     }
 }
@@ -65,6 +66,7 @@ fn carried_out<S: Store>(
     line: Line,
 ) -> Answered
     ensures told { Tells S.Store.view words now line.act site.old site.new result.answer }
+    ensures details { TellsDetails S.Store.view now line.act site.old site.new result.answer }
     ensures kept { Keeps S.Store.view site.old site.new result.answer }
     ensures number { result.id ≡ Some line.id }
     ensures crash { (db : Trees) → S.Store.recovers site.new.store db → S.Store.recovers site.old.store db }

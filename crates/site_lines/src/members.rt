@@ -71,7 +71,7 @@ pub(crate) fn optional_bytes(
 }
 
 /// The items of a member that is a list; none where it is absent.
-fn items<'a>(object: &'a Value, name: &'static str) -> Result<&'a [Value], LineError>
+pub(crate) fn items<'a>(object: &'a Value, name: &'static str) -> Result<&'a [Value], LineError>
     ensures { IfOk result (λ items. AreItems name.now (view object.now) items.now) }
 {
     match member(object, name) {

@@ -1,12 +1,13 @@
 //! What the page is given: `PublicKeyCredentialCreationOptionsJSON` and `PublicKeyCredentialRequestOptionsJSON` (WebAuthn
 //! Level 3, sections 5.1.8 and 5.1.9), each value of bytes in base64url without padding.
 
-ghost use Rattle.std.specs.Prelude.{◌≡◌, IfOk, map};
+ghost use Rattle.std.specs.Prelude.{◌≡◌, IfOk, map, string_bytes};
 ghost use Rattle.serde_json.specs.Data.{array, string};
 ghost use Rattle.serde_json.specs.View.{items_of, view};
 ghost use Rattle.site_lines.specs.Options.{account, base64url, creation_options as creation_options_of, descriptor as descriptor_of, parameter as parameter_of, request_options as request_options_of, resident_key as resident_key_of, selection as selection_of, verification as verification_of};
 
 use crate::act::{BeginRegistration, BeginSignIn};
+use crate::answer::Known;
 use base64::engine::general_purpose::URL_SAFE_NO_PAD;
 use ceremony_sessions::Started;
 use cose::Alg;
@@ -20,30 +21,53 @@ pub(crate) fn base64_text(alloc: Global, bytes: &[u8]) -> Result<Value, AllocErr
     Ok(Value::String(URL_SAFE_NO_PAD.encode(alloc, bytes)?))
 }
 
-/// The descriptor of a credential.
-fn descriptor(alloc: Global, id: &[u8]) -> Result<Value, AllocError>
-    ensures { IfOk result (λ v. view v ≡ descriptor_of id.now) }
+/// Texts, as a list.
+fn text_list(alloc: Global, texts: &[String]) -> Result<Vec<Value>, AllocError>
+    ensures { IfOk result (λ list. map view list.items ≡ map (λ t. string (string_bytes t)) texts.now) }
 {
-    let id = base64_text(alloc, id)?;
-    json!(in alloc; {"type": "public-key", "id": id})
-}
-
-/// The descriptors of credentials, as a list.
-fn descriptor_list(alloc: Global, ids: &[Vec<u8>]) -> Result<Vec<Value>, AllocError>
-    ensures { IfOk result (λ list. map view list.items ≡ map (λ id. descriptor_of id.items) ids.now) }
-{
-    let mut list = Vec::with_capacity(alloc, ids.len())?;
-    for id in ids {
-        list.push(descriptor(alloc, id.as_slice())?)?;
+    let mut list = Vec::with_capacity(alloc, texts.len())?;
+    for text in texts {
+        list.push(Value::String(String::from_str(alloc, text.as_str())?))?;
     }
     Ok(list)
 }
 
-/// The descriptors of credentials.
-fn descriptors(alloc: Global, ids: &[Vec<u8>]) -> Result<Value, AllocError>
-    ensures { IfOk result (λ v. view v ≡ array (items_of (map (λ id. descriptor_of id.items) ids.now))) }
+/// Texts.
+pub(crate) fn texts(alloc: Global, texts: &[String]) -> Result<Value, AllocError>
+    ensures { IfOk result (λ v. view v ≡ array (items_of (map (λ t. string (string_bytes t)) texts.now))) }
 {
-    let list = descriptor_list(alloc, ids)?;
+    let list = text_list(alloc, texts)?;
+    Ok(Value::Array(list))
+}
+
+/// The descriptor of a credential, with its transports where they are known.
+fn descriptor(alloc: Global, known: &Known) -> Result<Value, AllocError>
+    ensures { IfOk result (λ v. view v ≡ descriptor_of known.now) }
+{
+    let id = base64_text(alloc, known.id.as_slice())?;
+    if known.transports.as_slice().is_empty() {
+        return json!(in alloc; {"type": "public-key", "id": id});
+    }
+    let transports = texts(alloc, known.transports.as_slice())?;
+    json!(in alloc; {"type": "public-key", "id": id, "transports": transports})
+}
+
+/// The descriptors of credentials, as a list.
+fn descriptor_list(alloc: Global, list: &[Known]) -> Result<Vec<Value>, AllocError>
+    ensures { IfOk result (λ told. map view told.items ≡ map descriptor_of list.now) }
+{
+    let mut told = Vec::with_capacity(alloc, list.len())?;
+    for known in list {
+        told.push(descriptor(alloc, known)?)?;
+    }
+    Ok(told)
+}
+
+/// The descriptors of credentials.
+fn descriptors(alloc: Global, list: &[Known]) -> Result<Value, AllocError>
+    ensures { IfOk result (λ v. view v ≡ array (items_of (map descriptor_of list.now))) }
+{
+    let list = descriptor_list(alloc, list)?;
     Ok(Value::Array(list))
 }
 
@@ -119,13 +143,14 @@ pub(crate) fn creation_options(
     rp_name: &str,
     started: &Started,
     begin: &BeginRegistration,
+    known: &[Known],
 ) -> Result<Value, AllocError>
-    ensures { IfOk result (λ v. view v ≡ creation_options_of rp_id.now rp_name.now started.now.challenge begin.now) }
+    ensures { IfOk result (λ v. view v ≡ creation_options_of rp_id.now rp_name.now started.now.challenge begin.now known.now) }
 {
     let challenge = base64_text(alloc, &started.challenge)?;
     let user = user(alloc, begin)?;
     let parameters = parameters(alloc, begin.algorithms.as_slice())?;
-    let exclude = descriptors(alloc, begin.exclude.as_slice())?;
+    let exclude = descriptors(alloc, known)?;
     let selection = selection(alloc, begin)?;
     let rp = json!(in alloc; {"id": rp_id, "name": rp_name})?;
     json!(in alloc; {
@@ -140,11 +165,12 @@ pub(crate) fn request_options(
     rp_id: &str,
     started: &Started,
     begin: &BeginSignIn,
+    known: &[Known],
 ) -> Result<Value, AllocError>
-    ensures { IfOk result (λ v. view v ≡ request_options_of rp_id.now started.now.challenge begin.now) }
+    ensures { IfOk result (λ v. view v ≡ request_options_of rp_id.now started.now.challenge begin.now known.now) }
 {
     let challenge = base64_text(alloc, &started.challenge)?;
-    let allow = descriptors(alloc, begin.allow.as_slice())?;
+    let allow = descriptors(alloc, known)?;
     let verification = verification(begin.user_verification);
     json!(in alloc; {"challenge": challenge, "rpId": rp_id, "allowCredentials": allow, "userVerification": verification})
 }

@@ -14,6 +14,7 @@ use crate::line_id::id_of;
 use crate::members::{
     algorithms, bytes, flag, list_of_bytes, member, needed, number, optional_bytes, text, text_or,
 };
+use crate::transports::transports;
 use crate::response::{assertion_response, credential_id, registration_response};
 use crate::verified::Verified;
 use serde_json::Value;
@@ -96,6 +97,7 @@ fn finish_registration(alloc: Global, line: &Value) -> Result<FinishRegistration
         session: number(line, "session")?,
         credential: credential_id(alloc, response)?,
         response: registration_response(alloc, response)?,
+        transports: transports(alloc, line)?,
         verified: verified(alloc, line)?,
     })
 }

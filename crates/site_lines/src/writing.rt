@@ -1,8 +1,8 @@
 //! Writing an answer.
 
-use crate::answer::{Answer, Counts};
+use crate::answer::{Answer, Counts, Known};
 use crate::line::Answered;
-use crate::options::{base64_text, creation_options, request_options};
+use crate::options::{base64_text, creation_options, request_options, texts};
 use crate::tally::Tally;
 use authdata::flags::{BS, UV, is_set};
 use authdata::{
@@ -70,11 +70,45 @@ fn row_value(alloc: Global, row: &RowView<'_>) -> Result<Value, AllocError> {
     })
 }
 
-/// Credentials.
-fn rows(alloc: Global, rows: &[Row]) -> Result<Value, AllocError> {
+/// A number; null where it is not known.
+fn number_or_null(known: Option<i64>) -> Value {
+    match known {
+        Some(number) => Value::from(number),
+        None => Value::Null,
+    }
+}
+
+/// An aaguid; null where it is not known, or has not 16 bytes.
+fn aaguid_value(alloc: Global, aaguid: Option<&[u8]>) -> Result<Value, AllocError> {
+    match aaguid {
+        Some(bytes) if bytes.len() == 16 => base64_text(alloc, bytes),
+        _ => Ok(Value::Null),
+    }
+}
+
+/// What is known of a credential beside what verdicts ask for.
+fn known_value(alloc: Global, known: &Known) -> Result<Value, AllocError> {
+    let transports = texts(alloc, known.transports.as_slice())?;
+    let (created_at, used_at, aaguid) = match &known.detail {
+        Some(detail) => (detail.created_at, detail.used_at, detail.aaguid.as_deref()),
+        None => (None, None, None),
+    };
+    let (created_at, used_at) = (number_or_null(created_at), number_or_null(used_at));
+    let aaguid = aaguid_value(alloc, aaguid)?;
+    json!(in alloc; {"created_at": created_at, "used_at": used_at, "transports": transports, "aaguid": aaguid})
+}
+
+/// A credential, with what is known of it.
+fn whole_row(alloc: Global, row: &Row, known: &Known) -> Result<Value, AllocError> {
+    let front = row_value(alloc, &lent(row))?;
+    joined(front, known_value(alloc, known)?)
+}
+
+/// Credentials, each with what is known of it.
+fn rows(alloc: Global, rows: &[Row], known: &[Known]) -> Result<Value, AllocError> {
     let mut list = Vec::with_capacity(alloc, rows.len())?;
-    for row in rows {
-        list.push(row_value(alloc, &lent(row))?)?;
+    for (row, known) in rows.iter().zip(known) {
+        list.push(whole_row(alloc, row, known)?)?;
     }
     Ok(Value::Array(list))
 }
@@ -243,8 +277,8 @@ fn other_value(
         Answer::Deleted(was) => member_value(alloc, id, "deleted", Value::Bool(*was)),
         Answer::Abandoned(was) => member_value(alloc, id, "abandoned", Value::Bool(*was)),
         Answer::Expired(count) => member_value(alloc, id, "expired", Value::from(*count as u64)),
-        Answer::Rows(list) => {
-            let rows = rows(alloc, list.as_slice())?;
+        Answer::Rows(list, known) => {
+            let rows = rows(alloc, list.as_slice(), known.as_slice())?;
             member_value(alloc, id, "rows", rows)
         }
         Answer::Status(counts) => {
@@ -278,12 +312,13 @@ fn ceremony_value(
 ) -> Result<Value, AllocError> {
     let party = teller.party;
     match answer {
-        Answer::RegistrationBegun(started, begin) => {
-            let options = creation_options(alloc, party.rp_id(), teller.rp_name, started, begin)?;
+        Answer::RegistrationBegun(started, begin, known) => {
+            let (rp_id, rp_name) = (party.rp_id(), teller.rp_name);
+            let options = creation_options(alloc, rp_id, rp_name, started, begin, known)?;
             begun_value(alloc, id, started.session, options)
         }
-        Answer::SignInBegun(started, begin) => {
-            let options = request_options(alloc, party.rp_id(), started, begin)?;
+        Answer::SignInBegun(started, begin, known) => {
+            let options = request_options(alloc, party.rp_id(), started, begin, known)?;
             begun_value(alloc, id, started.session, options)
         }
         Answer::Registered(registered, response) => {

@@ -1,11 +1,12 @@
 -- What is owed of `sign_in_found`.
-use Rattle.std.proofs.Common.{◌∙◌, ap, sym, subst}
+use Rattle.std.proofs.Common.{◌∙◌, ap, rules, sym, subst}
 use Rattle.std.specs.FinMap as finite
 use Rattle.std.specs.Option.{option_copied}
 use Rattle.verification.specs.SignIn.{PassesSignIn}
 use Rattle.verification.specs.Views.{assertion_parts_view}
 use Rattle.credential_table.specs.Views.{row_view}
 use Rattle.credential_store.specs.Held.{IsWritten}
+use Rattle.credential_details.specs.Details.{IsDetailed, used}
 use Rattle.kept_site.proofs.Signing.{same_attempt, same_counted}
 use Rattle.kept_site.proofs.finish.sign_in_found.Goals as goal
 
@@ -24,8 +25,13 @@ returns-clause-accepted g c =
       user = c.in_ok-signed_in.ensures.copied.0 ∙ ap (λ x. x.user) row;
       credential = c.in_ok-signed_in.ensures.copied.1;
       backup = c.in_ok-signed_in.ensures.copied.2 ∙ tells.4;
-      written = λ clean placed holds there.
-          let is = c.counted.ensures ∙ same_counted _ _ _ _ _ _ row tells.2 tells.3 in
-          subst (λ x. IsWritten (g.S.Store.view c.args.held.now.store) (g.S.Store.view c.set.new.self.store) (finite.insert placed at.place x)) is
-          (c.in_ok-set.ensures.written clean placed (row_view at.credential) holds there (ap (λ x. x.id) is) (ap (λ x. x.user) is));
+      written = λ clean. (
+        g.S.Store.view c.set.new.self.store,
+        λ placed holds there.
+            let is = c.counted.ensures ∙ same_counted _ _ _ _ _ _ row tells.2 tells.3 in
+            subst (λ x. IsWritten (g.S.Store.view c.args.held.now.store) (g.S.Store.view c.set.new.self.store) (finite.insert placed at.place x)) is
+            (c.in_ok-set.ensures.written (c.in_ok-mark_used.ensures.clean clean) placed (row_view at.credential) holds there (ap (λ x. x.id) is) (ap (λ x. x.user) is)),
+        subst (λ n. IsDetailed (g.S.Store.view c.set.new.self.store) (g.S.Store.view c.mark_used.new.self.store)
+            (λ details. finite.insert details at.place (used n (finite.get details at.place)))) (search rules) (c.in_ok-mark_used.ensures.used clean),
+      );
     }

@@ -1,27 +1,16 @@
 -- What is owed of `finish_registration`.
-use Rattle.std.proofs.Common.{◌∙◌, ap, subst}
-use Rattle.kept_site.specs.State.{KeptState}
-use Rattle.site_lines.specs.Private.{IsRefusedRegistration}
-use Rattle.site_lines.proofs.Finished.{registration_accepted, registration_left, registration_refused, registration_step}
+use Rattle.std.proofs.Common.{Some, None, ◌∙◌, ap, map, subst}
+use Rattle.std.specs.Prelude.{string_bytes}
+use Rattle.authdata.specs.Responses.{registration_response_view}
+use Rattle.credential_details.specs.Details.{detail_view, told}
+use Rattle.site_lines.specs.Details.{IsAaguid, joined, second}
+use Rattle.site_lines.proofs.Detailed.{registers_detail}
 use Rattle.site_lines.proofs.finishing.finish_registration.Goals as goal
 
-pub returns-in-Ok-clause-told : goal.returns-in-Ok-clause-told
-returns-in-Ok-clause-told g c =
-    registration_accepted g.S.Store.view c.args.finish c.args.site.now c.finish_registration_parts.new.self _ c.in-Ok.registered _ c.verifier-verifier.ensures
-    c.registration_parts-parts.ensures c.in-Ok.ensures.closed c.in-Ok.ensures.one.0 c.in-Ok.ensures.accepted
-
-pub returns-in-Err-Site-Refused-clause-told : goal.returns-in-Err-Site-Refused-clause-told
-returns-in-Err-Site-Refused-clause-told g c =
-    let refused = rw c.in-Err-Site-Refused.field-0-is at c.in-Err-Site-Refused.ensures.refused in
-    let profile = c.profile.ensures ∙ ap (λ p. p.profile) c.party.ensures ∙ ap (λ (s : KeptState _). s.rp.profile) refused.0.is in
-    registration_refused g.S.Store.view c.args.finish c.args.site.now c.finish_registration_parts.new.self c.in-Err-Site-Refused.step
-    c.refused_registration.result
-    (registration_step g.S.Store.view c.args.finish c.args.site.now c.finish_registration_parts.new.self _ c.in-Err-Site-Refused.field-0-0
-    c.in-Err-Site-Refused.step _ c.verifier-verifier.ensures c.registration_parts-parts.ensures c.in-Err-Site-Refused.field-0-0-is refused.1)
-    (subst (λ p. IsRefusedRegistration p c.in-Err-Site-Refused.step c.args.finish c.refused_registration.result) profile c.refused_registration.ensures)
-
-pub returns-in-Err-Site-Refused-clause-kept : goal.returns-in-Err-Site-Refused-clause-kept
-returns-in-Err-Site-Refused-clause-kept g c =
-    let refused = rw c.in-Err-Site-Refused.field-0-is at c.in-Err-Site-Refused.ensures.refused in
-    registration_left g.S.Store.view c.args.finish c.profile.result c.args.site.now c.finish_registration_parts.new.self c.in-Err-Site-Refused.step
-    c.refused_registration.result refused.0 c.refused_registration.ensures
+pub returns-clause-details : goal.returns-clause-details
+returns-clause-details g c =
+    let aaguid = c.in-Ok.ensures.0 in
+    registers_detail g.S.Store.view c.args.now c.args.finish (detail_view c.in-Ok.detail) aaguid c.args.site.now c.finish_with.new.site c.finish_with.result
+    (subst (λ p. IsAaguid p (registration_response_view c.args.finish.response) aaguid) (c.profile-profile.ensures ∙ ap (λ p. p.profile) c.party.ensures) c.in-Ok.ensures.1)
+    (c.in-Ok.ensures.2 ∙ ap (λ ts. told (Some (second c.args.now)) None (joined (map string_bytes ts)) aaguid) c.as_slice-transports.ensures.value)
+    c.finish_with.ensures.details

@@ -1,4 +1,5 @@
 -- What is owed of `finish_sign_in`.
+use Rattle.site_lines.proofs.Detailed.{sign_in_leaves}
 use Rattle.site_lines.proofs.Finished.{sign_in_accepted, sign_in_left, sign_in_refused, sign_in_step}
 use Rattle.site_lines.proofs.finishing.finish_sign_in.Goals as goal
 
@@ -21,3 +22,8 @@ returns-in-Err-Site-Refused-clause-kept g c =
     let refused = rw c.in-Err-Site-Refused.field-0-is at c.in-Err-Site-Refused.ensures.refused in
     sign_in_left g.S.Store.view c.args.finish c.args.site.now c.finish_parts.new.self c.refused_sign_in.new.site c.in-Err-Site-Refused.step
     c.refused_sign_in.result c.requires.live refused.0 c.refused_sign_in.ensures.told c.refused_sign_in.ensures.kept
+
+pub returns-in-Err-Site-Refused-clause-details : goal.returns-in-Err-Site-Refused-clause-details
+returns-in-Err-Site-Refused-clause-details g c =
+    sign_in_leaves g.S.Store.view c.args.finish c.args.now c.args.site.now c.finish_parts.new.self c.refused_sign_in.new.site c.in-Err-Site-Refused.step
+    c.refused_sign_in.result c.refused_sign_in.ensures.told

@@ -4,5 +4,5 @@ use Rattle.serde_json.specs.View.{view}
 use Rattle.site_lines.specs.Options.{descriptor}
 use Rattle.site_lines.proofs.options.descriptor_list.Given as goal
 
-abbrev pub invariant-loop-id : goal.invariant-loop-id
-invariant-loop-id l = map view l.list.items ≡ map (λ id. descriptor id.items) (take l.id-index l.ids)
+abbrev pub invariant-loop-known : goal.invariant-loop-known
+invariant-loop-known l = map view l.told.items ≡ map descriptor (take l.known-index l.list)

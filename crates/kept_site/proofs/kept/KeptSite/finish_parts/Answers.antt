@@ -1,20 +1,34 @@
 -- What is owed of `KeptSite::finish_parts`.
-use Rattle.std.proofs.Common.{◌≡◌, ap, sym, subst, refl, ◌∙◌}
+use Rattle.std.proofs.Common.{◌≡◌, ap, rules, sym, subst, refl, ◌∙◌}
 use Rattle.std.proofs.lemmas.Result.{err_from_is_err_and}
 use Rattle.verification.specs.Views.{assertion_parts_view}
 use Rattle.ceremony_sessions.specs.Sessions.{sign_in_at}
-use Rattle.kept_site.proofs.Finishing.{not_finished, refuses, signs_in}
+use Rattle.kept_site.proofs.Finishing.{not_finished, refuses, signs_in, tells_used}
+use Rattle.kept_site.specs.Private.{SignsInAs}
 use Rattle.kept_site.proofs.kept.KeptSite.finish_parts.Goals as goal
 
 pub returns-clause-accepted : goal.returns-clause-accepted
 returns-clause-accepted g c =
     rw (← c.self.view_is) (λ clean placed held.
     let mid = c.in_ok-signed_in.ensures.clean clean in
-    signs_in (g.V.Verifier.valid c.args.verifier.now) placed _ _ c.args.session (assertion_parts_view c.args.response.now) c.in_ok-signed_in.signed_in c.in_ok-found.found
+    signs_in (g.V.Verifier.valid c.args.verifier.now) placed _ _ c.args.session (assertion_parts_view c.args.response.now) c.args.now c.in_ok-signed_in.signed_in c.in_ok-found.found
     (g.S.Store.view c.self.inside.held.store) (g.S.Store.view c.find.new.self.store) (g.S.Store.view c.sign_in_found.new.held.store)
-    (c.in_ok-found.ensures.found mid placed held.holds.credentials) c.in_ok-signed_in.ensures.accepted
+    (c.in_ok-found.ensures.found mid placed held.holds.credentials) (subst (λ n. SignsInAs (g.V.Verifier.valid c.args.verifier.now) c.self.inside.party (sign_in_at c.args.session c.self.inside.sessions.open_sessions)
+    c.in_ok-found.found (assertion_parts_view c.args.response.now) n c.in_ok-signed_in.signed_in (g.S.Store.view c.find.new.self.store)
+    (g.S.Store.view c.sign_in_found.new.held.store)) (search rules) c.in_ok-signed_in.ensures.accepted)
     (ap (λ v. v.trees) (c.in_ok-found.ensures.same.view mid)) clean held refl
     (c.in_ok-signed_in.ensures.reserved ∙ ap (λ h. h.reserved) c.in_ok-found.ensures.kept) refl refl)
+
+pub returns-clause-used : goal.returns-clause-used
+returns-clause-used g c =
+    rw (← c.self.view_is) (λ clean placed held details d.
+    let mid = c.in_ok-signed_in.ensures.clean clean in
+    tells_used (g.V.Verifier.valid c.args.verifier.now) placed _ c.args.session (assertion_parts_view c.args.response.now) c.args.now c.in_ok-signed_in.signed_in c.in_ok-found.found
+    (g.S.Store.view c.self.inside.held.store) (g.S.Store.view c.find.new.self.store) (g.S.Store.view c.sign_in_found.new.held.store) details
+    (c.in_ok-found.ensures.found mid placed held.holds.credentials) (subst (λ n. SignsInAs (g.V.Verifier.valid c.args.verifier.now) c.self.inside.party (sign_in_at c.args.session c.self.inside.sessions.open_sessions)
+    c.in_ok-found.found (assertion_parts_view c.args.response.now) n c.in_ok-signed_in.signed_in (g.S.Store.view c.find.new.self.store)
+    (g.S.Store.view c.sign_in_found.new.held.store)) (search rules) c.in_ok-signed_in.ensures.accepted)
+    (ap (λ v. v.trees) (c.in_ok-found.ensures.same.view mid)) clean held d)
 
 pub returns-in_err-signed_in-clause-refused : goal.returns-in_err-signed_in-clause-refused
 returns-in_err-signed_in-clause-refused g c =

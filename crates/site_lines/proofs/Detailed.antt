@@ -1,0 +1,300 @@
+-- What is known of credentials, and what is told of it.
+use Rattle.std.specs.Prelude.{◌≤◌, ◌^◌, ◌+◌, IfOk, Ok, Err, Vec, option_and_then, string_bytes}
+use Rattle.std.specs.declared.result.Result.{Result}
+use Rattle.std.specs.Global.{Global}
+use Rattle.std.proofs.Common.{◌≡◌, ◌++◌, ◌∷◌, [], ℕ, Bool, List, Option, Some, None, codes, map, ap, inl, inr, refl, sym, subst, ◌∙◌, false}
+use Rattle.std.specs.FinMap as finite
+use Rattle.std.specs.List.{AllByRecursion}
+use Rattle.sqlite_trees.specs.View.{IsClean, View}
+use Rattle.sqlite_trees.proofs.ListLemmas.{map-map}
+use Rattle.serde_json.specs.Data.{Data}
+use Rattle.serde_json.specs.Find.{as_array, as_str}
+use Rattle.serde_json.specs.View.{items_view, view}
+use Rattle.serde_json.specs.declared.value.Value.{Value}
+use Rattle.authdata.specs.declared.profile.Profile.{Profile}
+use Rattle.authdata.specs.Layout.{AttestedCredential, AuthenticatorData, AuthOf}
+use Rattle.authdata.specs.Objects.{Attestation, ObjectOf}
+use Rattle.authdata.specs.Responses.{registration_response_view}
+use Rattle.authdata.specs.Responses as responses
+use Rattle.authdata.proofs.Objects.{one_object}
+use Rattle.authdata.proofs.Unique.{one_value}
+use Rattle.verification.specs.Registration.{Attests}
+use Rattle.ceremony_sessions.specs.Sessions.{IsRefused, Opening, challenge_of}
+use Rattle.ceremony_sessions.specs.declared.error.Error.TheVariants as full
+use Rattle.timed_sessions.specs.Timed.{IsTrimmed, Timed, after_begin}
+use Rattle.credential_store.specs.Held.{Placed}
+use Rattle.credential_details.specs.Details.{Detail, Details, HoldsDetails, told}
+use Rattle.kept_site.specs.State.{IsHeld, KeptState}
+use Rattle.kept_site.specs.Calls.{IsFailure, IsOneSite, IsSame}
+use Rattle.kept_site.specs.declared.failure.Failure.{Failure}
+use Rattle.kept_site.specs.declared.failure.BeginFailure.{BeginFailure}
+use Rattle.kept_site.specs.declared.failure.BeginFailure.TheVariants as begins
+use Rattle.site_lines.specs.declared.act.Act.{Act}
+use Rattle.site_lines.specs.declared.act.Act.TheVariants as acts
+use Rattle.site_lines.specs.declared.act.BeginRegistration.{BeginRegistration}
+use Rattle.site_lines.specs.declared.act.BeginSignIn.{BeginSignIn}
+use Rattle.site_lines.specs.declared.act.FinishRegistration.{FinishRegistration}
+use Rattle.site_lines.specs.declared.act.FinishSignIn.{FinishSignIn}
+use Rattle.site_lines.specs.declared.answer.Answer.{Answer}
+use Rattle.site_lines.specs.declared.answer.Answer.TheVariants as answers
+use Rattle.site_lines.specs.declared.answer.Known.{Known}
+use Rattle.verification.specs.declared.refusal.SignInRefusal.{SignInRefusal}
+use Rattle.verification.specs.declared.refusal.RegistrationRefusal.{RegistrationRefusal}
+use Rattle.site_lines.specs.Answers.{Begins, Keeps, TellsRegistrationBegun, TellsSignInBegun, opens_registration, opens_sign_in}
+use Rattle.site_lines.specs.Details.{AreKnown, IsAaguid, IsKnown, OfDetails, RegistersDetail, TellsAllowed, TellsDetails, TellsExcluded, TellsRowDetails, UsesDetail, joined, joined_on, second, with_comma}
+use Rattle.site_lines.specs.Lines.{HasTexts, member}
+use Rattle.site_lines.specs.Private.{AreItems, BeginsNone, IsAaguidOf, IsNotBegunAfter, IsRefusedRegistration, IsRefusedSignIn, IsUnknown, IsWithKnown, KeepsDetail, not_begun}
+use Rattle.site_lines.specs.declared.knowing.Unknown.{Unknown}
+use Rattle.site_lines.specs.declared.knowing.Unknown.TheVariants as unknowns
+use Rattle.credential_table.specs.declared.row.Row.{Row}
+use Rattle.site_lines.proofs.Kept.{failure_then, held_on, same_site, same_then}
+
+-- ---- texts
+
+none_of : {A B : Type 0} (f : A → B) (xs : List A) → map f xs ≡ [] → xs ≡ []
+none_of f [] is = refl
+none_of f (x ∷ xs) is = absurd cc
+
+module _ {T : Type 0} (text_of : T → List ℕ) where
+  pub texts_are : (name : List ℕ) (d : Data) (values : List Value) (list : List T) → AreItems name d values
+      → map (λ value. as_str (view value)) values ≡ map (λ text. Some (text_of text)) list
+      → HasTexts name d (map text_of list)
+  texts_are name d values list (inl is) same =
+      inl (map view values, is, map-map as_str view values ∙ same ∙ sym (map-map (λ text. Some text) text_of list))
+  texts_are name d values list (inr (none, empty)) same =
+      inr (none, ap (map text_of) (none_of _ list (sym same ∙ ap (map (λ value. as_str (view value))) empty)))
+
+more_on : (text : List ℕ) (ts : List (List ℕ)) (t : List ℕ) → joined_on text (ts ++ t ∷ []) ≡ with_comma (joined_on text ts) ++ t
+more_on text [] t = refl
+more_on text (s ∷ ts) t = more_on (with_comma text ++ s) ts t
+
+map_on : {A B : Type 0} (f : A → B) (xs : List A) (x : A) → map f (xs ++ x ∷ []) ≡ map f xs ++ f x ∷ []
+map_on f [] x = refl
+map_on f (y ∷ xs) x = ap (λ l. f y ∷ l) (map_on f xs x)
+
+pub joined_more : {T : Type 0} (text_of : T → List ℕ) (ts : List T) (t : T) → joined (map text_of (ts ++ t ∷ [])) ≡ with_comma (joined (map text_of ts)) ++ text_of t
+joined_more text_of ts t = ap joined (map_on text_of ts t) ∙ more_on [] (map text_of ts) (text_of t)
+
+-- ---- the aaguid
+
+pub aaguid_in_object : (p : Profile) (r : responses.AuthenticatorAttestationResponse) (o : Attestation) (bytes : List ℕ) (found : Option (List ℕ)) → ObjectOf o r.object
+    → bytes ≡ o.auth_data → IsAaguidOf p bytes found → IsAaguid p r found
+aaguid_in_object p r o bytes found spelled is of q a c attests =
+    let one = one_object q o r.object attests.object spelled in
+    of a c (subst (AuthOf p a) (ap (λ (x : Attestation). x.auth_data) one ∙ sym is) attests.auth_data) attests.attested
+
+pub aaguid_is : (p : Profile) (bytes : List ℕ) (a : AuthenticatorData) (c : AttestedCredential) (found : Option (List ℕ)) → AuthOf p a bytes → a.attested ≡ Some c
+    → found ≡ Some c.aaguid → IsAaguidOf p bytes found
+aaguid_is p bytes a c found read attested is b d other its =
+    let one = one_value p p a b bytes read other in
+    let same : c ≡ d = same_credential c d (sym attested ∙ ap (λ (x : AuthenticatorData). x.attested) one ∙ its) in
+    is ∙ ap (λ (x : AttestedCredential). Some x.aaguid) same
+  where
+    same_credential : (x y : AttestedCredential) → Some x ≡ Some y → x ≡ y
+    same_credential x y e = cc
+
+pub no_aaguid : (p : Profile) (bytes : List ℕ) (a : AuthenticatorData) → AuthOf p a bytes → a.attested ≡ None → IsAaguidOf p bytes None
+no_aaguid p bytes a read none b d other its =
+    let one = one_value p p a b bytes read other in
+    absurd (no_credential d (sym its ∙ sym (ap (λ (x : AuthenticatorData). x.attested) one) ∙ none))
+  where
+    no_credential : (x : AttestedCredential) → Some x ≡ None → ⊥
+    no_credential x e = absurd cc
+
+-- ---- one look after another
+
+details_on : {S : Type 0} (view : S → View) (old mid : KeptState S) (details : Details) → IsSame view old mid → IsClean (view mid.store)
+    → HoldsDetails details (view old.store).trees → HoldsDetails details (view mid.store).trees
+details_on view old mid details same clean h = ap (λ v. v.trees 5) (same.store clean) ∙ h
+
+-- what is told of a site that has not changed, behind a look
+pub of_details_on : {S : Type 0} (view : S → View) (old mid new : KeptState S) (Of : Placed → Details → Type 0) → IsSame view old mid
+    → (IsClean (view new.store) → IsClean (view mid.store)) → OfDetails view mid new Of → OfDetails view old new Of
+of_details_on view old mid new Of same back of clean placed held details d =
+    of clean placed (held_on view placed old mid same (back clean) held) details (details_on view old mid details same (back clean) d)
+
+-- what is told of it holds when it has changed
+pub of_details_then : {S : Type 0} (view : S → View) (old mid new : KeptState S) (Of : Placed → Details → Type 0)
+    → (IsClean (view new.store) → IsClean (view mid.store)) → OfDetails view old mid Of → OfDetails view old new Of
+of_details_then view old mid new Of back of clean placed held details d = of (back clean) placed held details d
+
+pub all_on : {X : Type 0} (P : X → Type 0) (xs : List X) (x : X) → AllByRecursion P xs → P x → AllByRecursion P (xs ++ x ∷ [])
+all_on P [] x all p = (p, tt)
+all_on P (y ∷ xs) x all p = (all.0, all_on P xs x all.1 p)
+
+pub known_on : {S : Type 0} (view : S → View) (old mid new : KeptState S) (ks : List Known) (k : Known) → IsSame view old mid → IsSame view mid new
+    → OfDetails view old mid (λ placed details. AllByRecursion (IsKnown placed details) ks)
+    → OfDetails view mid new (λ placed details. IsKnown placed details k)
+    → OfDetails view old new (λ placed details. AllByRecursion (IsKnown placed details) (ks ++ k ∷ []))
+known_on view old mid new ks k one two all of clean placed held details d =
+    all_on (IsKnown placed details) ks k (all (two.clean clean) placed held details d) (of_details_on view old mid new _ one two.clean of clean placed held details d)
+
+pub ids_on : {A B : Type 0} (f : A → List ℕ) (g : B → List ℕ) (xs : List A) (ys : List B) (a : A) (b : B) → map f xs ≡ map g ys → f a ≡ g b
+    → map f (xs ++ a ∷ []) ≡ map g (ys ++ b ∷ [])
+ids_on f g xs ys a b same one = map_on f xs a ∙ ap (λ l. l ++ f a ∷ []) same ∙ ap (λ x. map g ys ++ x ∷ []) one ∙ sym (map_on g ys b)
+
+-- ---- a session that begins behind a look
+
+pub begins_after : {S : Type 0} (view : S → View) (o : Opening) (words : List ℕ) (moment session : ℕ) (challenge : List ℕ) (old mid new : KeptState S)
+    → IsSame view old mid → (IsClean (view new.store) → IsClean (view mid.store)) → Begins view o words moment session challenge mid new
+    → Begins view o words moment session challenge old new
+begins_after view o words moment session challenge old mid new same back b =
+    let timed : mid.timed ≡ old.timed = ap (λ (s : KeptState _). s.timed) same.is in (
+      b.0 ∙ ap (λ (t : Timed). t.open_sessions.next) timed,
+      b.1 ∙ ap (λ (t : Timed). challenge_of t.open_sessions.next words) timed,
+      subst (λ (t : Timed). IsTrimmed (after_begin t o moment) new.timed) timed b.2,
+      record {
+        rp = b.3.rp ∙ ap (λ (s : KeptState _). s.rp) same.is;
+        policy = b.3.policy ∙ ap (λ (s : KeptState _). s.policy) same.is;
+        most = b.3.most ∙ ap (λ (s : KeptState _). s.most) same.is;
+      },
+      λ clean placed held. b.4 clean placed (held_on view placed old mid same (back clean) held),
+    )
+
+pub not_begun_after : {S : Type 0} (view : S → View) (o : Opening) (old mid new : KeptState S) (why : BeginFailure) → old.is_shut ≡ false → IsSame view old mid
+    → BeginsNone mid new o why → IsNotBegunAfter view old new o why
+not_begun_after view o old mid new (begins.Site w) live same h = (
+  same_then view old mid new same (same_site view mid new h.0.0),
+  subst (λ (s : KeptState _). IsRefused s.rp.profile s.timed.open_sessions o w) same.is h.0.1,
+  λ is. h.1 (ap begins.Site is),
+)
+not_begun_after view o old mid new begins.NoNumber live same h = (
+  same_then view old mid new same (same_site view mid new h.0.0),
+  subst (λ (s : KeptState _). 2 ^ 63 ≤ s.timed.open_sessions.next + 100001) same.is h.0.1,
+)
+not_begun_after view o old mid new (begins.Store w) live same h = failure_then view old mid new w live same h.0
+
+pub no_memory_after : {S : Type 0} (view : S → View) (o : Opening) (old new : KeptState S) → IsSame view old new
+    → IsNotBegunAfter view old new o (begins.Site full.Memory)
+no_memory_after view o old new same = (same, tt, λ is. absurd cc)
+
+pub keeps_after : {S : Type 0} (view : S → View) (o : Opening) (old new : KeptState S) (why : BeginFailure) → IsNotBegunAfter view old new o why
+    → Keeps view old new (not_begun why)
+keeps_after view o old new (begins.Site w) h = h.0
+keeps_after view o old new begins.NoNumber h = h.0
+keeps_after view o old new (begins.Store w) h = h
+
+pub sign_in_after : {S : Type 0} (view : S → View) (b : BeginSignIn) (words : List ℕ) (now : ℕ) (old new : KeptState S) (why : BeginFailure)
+    → IsNotBegunAfter view old new (opens_sign_in b words) why
+    → TellsSignInBegun view b words now old new (not_begun why) × TellsAllowed view b old new (not_begun why)
+sign_in_after view b words now old new (begins.Site w) h = ((h.2, h.1), tt)
+sign_in_after view b words now old new begins.NoNumber h = (h.1, tt)
+sign_in_after view b words now old new (begins.Store w) h = (tt, tt)
+
+pub registration_after : {S : Type 0} (view : S → View) (b : BeginRegistration) (words : List ℕ) (now : ℕ) (old new : KeptState S) (why : BeginFailure)
+    → IsNotBegunAfter view old new (opens_registration b words) why
+    → TellsRegistrationBegun view b words now old new (not_begun why) × TellsExcluded view b old new (not_begun why)
+registration_after view b words now old new (begins.Site w) h = ((h.2, h.1), tt)
+registration_after view b words now old new begins.NoNumber h = (h.1, tt)
+registration_after view b words now old new (begins.Store w) h = (tt, tt)
+
+-- ---- a ceremony that is not finished
+
+pub sign_in_leaves : {S : Type 0} (view : S → View) (f : FinishSignIn) (now : ℕ) (old mid new : KeptState S) (step : SignInRefusal) (a : Answer)
+    → IsRefusedSignIn view step f mid new a → UsesDetail view now f old new a
+sign_in_leaves view f now old mid new step (answers.RegistrationBegun started b known) h = absurd h
+sign_in_leaves view f now old mid new step (answers.SignInBegun started b known) h = absurd h
+sign_in_leaves view f now old mid new step (answers.Registered x told) h = absurd h
+sign_in_leaves view f now old mid new step (answers.SignedIn x told) h = absurd h
+sign_in_leaves view f now old mid new step (answers.Verify t) h = tt
+sign_in_leaves view f now old mid new step (answers.RegistrationRefused told id) h = absurd h
+sign_in_leaves view f now old mid new step (answers.SignInRefused told id) h = tt
+sign_in_leaves view f now old mid new step (answers.Retired was) h = absurd h
+sign_in_leaves view f now old mid new step (answers.Deleted was) h = absurd h
+sign_in_leaves view f now old mid new step (answers.Abandoned was) h = absurd h
+sign_in_leaves view f now old mid new step (answers.Expired count) h = absurd h
+sign_in_leaves view f now old mid new step (answers.Rows rows known) h = absurd h
+sign_in_leaves view f now old mid new step (answers.Status counts) h = absurd h
+sign_in_leaves view f now old mid new step (answers.Backup path) h = absurd h
+sign_in_leaves view f now old mid new step (answers.NotBackedUp why) h = absurd h
+sign_in_leaves view f now old mid new step (answers.Error why) h = tt
+sign_in_leaves view f now old mid new step (answers.Failed why) h = tt
+
+pub registration_leaves : {S : Type 0} (view : S → View) (f : FinishRegistration) (p : Profile) (d : Detail) (old new : KeptState S) (step : RegistrationRefusal) (a : Answer)
+    → IsRefusedRegistration p step f a → KeepsDetail view d old new a
+registration_leaves view f p d old new step (answers.RegistrationBegun started b known) h = absurd h
+registration_leaves view f p d old new step (answers.SignInBegun started b known) h = absurd h
+registration_leaves view f p d old new step (answers.Registered x told) h = absurd h
+registration_leaves view f p d old new step (answers.SignedIn x told) h = absurd h
+registration_leaves view f p d old new step (answers.Verify t) h = tt
+registration_leaves view f p d old new step (answers.RegistrationRefused told id) h = tt
+registration_leaves view f p d old new step (answers.SignInRefused told id) h = absurd h
+registration_leaves view f p d old new step (answers.Retired was) h = absurd h
+registration_leaves view f p d old new step (answers.Deleted was) h = absurd h
+registration_leaves view f p d old new step (answers.Abandoned was) h = absurd h
+registration_leaves view f p d old new step (answers.Expired count) h = absurd h
+registration_leaves view f p d old new step (answers.Rows rows known) h = absurd h
+registration_leaves view f p d old new step (answers.Status counts) h = absurd h
+registration_leaves view f p d old new step (answers.Backup path) h = absurd h
+registration_leaves view f p d old new step (answers.NotBackedUp why) h = absurd h
+registration_leaves view f p d old new step (answers.Error why) h = tt
+registration_leaves view f p d old new step (answers.Failed why) h = absurd h
+
+-- a failure says nothing of details
+pub fails : {S : Type 0} (view : S → View) (now : ℕ) (act : Act) (old new : KeptState S) (why : Failure) → TellsDetails view now act old new (answers.Failed why)
+fails view now (acts.BeginRegistration b) old new why = tt
+fails view now (acts.FinishRegistration f) old new why = tt
+fails view now (acts.BeginSignIn b) old new why = tt
+fails view now (acts.FinishSignIn f) old new why = tt
+fails view now (acts.Retire id) old new why = tt
+fails view now (acts.Delete id) old new why = tt
+fails view now (acts.Abandon session) old new why = tt
+fails view now (acts.Expire age) old new why = tt
+fails view now (acts.Rows user) old new why = tt
+fails view now acts.Status old new why = tt
+fails view now (acts.Backup path) old new why = tt
+
+-- the detail that is kept is the line's
+pub registers_detail : {S : Type 0} (view : S → View) (now : ℕ) (f : FinishRegistration) (d : Detail) (aaguid : Option (List ℕ)) (old new : KeptState S) (a : Answer)
+    → IsAaguid old.rp.profile (registration_response_view f.response) aaguid → d ≡ told (Some (second now)) None (joined (map string_bytes f.transports.items)) aaguid
+    → KeepsDetail view d old new a → RegistersDetail view now f old new a
+registers_detail view now f d aaguid old new (answers.RegistrationBegun started b known) its is h = tt
+registers_detail view now f d aaguid old new (answers.SignInBegun started b known) its is h = tt
+registers_detail view now f d aaguid old new (answers.Registered x response) its is h = (aaguid, its, λ clean placed held details h0. subst (λ x. HoldsDetails (finite.insert details (old.last + 1) x) (view new.store).trees) is (h clean placed held details h0))
+registers_detail view now f d aaguid old new (answers.SignedIn x response) its is h = tt
+registers_detail view now f d aaguid old new (answers.Verify t) its is h = tt
+registers_detail view now f d aaguid old new (answers.RegistrationRefused response id) its is h = tt
+registers_detail view now f d aaguid old new (answers.SignInRefused response id) its is h = tt
+registers_detail view now f d aaguid old new (answers.Retired was) its is h = tt
+registers_detail view now f d aaguid old new (answers.Deleted was) its is h = tt
+registers_detail view now f d aaguid old new (answers.Abandoned was) its is h = tt
+registers_detail view now f d aaguid old new (answers.Expired count) its is h = tt
+registers_detail view now f d aaguid old new (answers.Rows rows known) its is h = tt
+registers_detail view now f d aaguid old new (answers.Status counts) its is h = tt
+registers_detail view now f d aaguid old new (answers.Backup path) its is h = tt
+registers_detail view now f d aaguid old new (answers.NotBackedUp why) its is h = tt
+registers_detail view now f d aaguid old new (answers.Error why) its is h = tt
+registers_detail view now f d aaguid old new (answers.Failed why) its is h = tt
+
+-- rows are told with what is known of each, behind a look
+pub row_details_after : {S : Type 0} (view : S → View) (rows : Vec Row Global) (old mid new : KeptState S) (a : Answer) → IsSame view old mid
+    → IsWithKnown view rows mid new a → TellsRowDetails view old new a
+row_details_after view rows old mid new (answers.RegistrationBegun started b known) same h = absurd h
+row_details_after view rows old mid new (answers.SignInBegun started b known) same h = absurd h
+row_details_after view rows old mid new (answers.Registered x told) same h = absurd h
+row_details_after view rows old mid new (answers.SignedIn x told) same h = absurd h
+row_details_after view rows old mid new (answers.Verify t) same h = absurd h
+row_details_after view rows old mid new (answers.RegistrationRefused told id) same h = absurd h
+row_details_after view rows old mid new (answers.SignInRefused told id) same h = absurd h
+row_details_after view rows old mid new (answers.Retired was) same h = absurd h
+row_details_after view rows old mid new (answers.Deleted was) same h = absurd h
+row_details_after view rows old mid new (answers.Abandoned was) same h = absurd h
+row_details_after view rows old mid new (answers.Expired count) same h = absurd h
+row_details_after view rows old mid new (answers.Rows told known) same h = (h.1.0 ∙ ap (λ (v : Vec Row Global). map (λ r. r.id.items) v.items) (sym h.0), of_details_on view old mid new _ same h.2.clean h.1.1)
+row_details_after view rows old mid new (answers.Status counts) same h = absurd h
+row_details_after view rows old mid new (answers.Backup path) same h = absurd h
+row_details_after view rows old mid new (answers.NotBackedUp why) same h = absurd h
+row_details_after view rows old mid new (answers.Error why) same h = tt
+row_details_after view rows old mid new (answers.Failed why) same h = tt
+
+pub live_on : {S : Type 0} (view : S → View) (old mid : KeptState S) → IsSame view old mid → old.is_shut ≡ false → mid.is_shut ≡ false
+live_on view old mid same live = ap (λ (s : KeptState _). s.is_shut) same.is ∙ live
+
+pub unknown_after : {S : Type 0} (view : S → View) (old mid new : KeptState S) (why : Unknown) → old.is_shut ≡ false → IsSame view old mid → IsUnknown view mid new why
+    → IsUnknown view old new why
+unknown_after view old mid new unknowns.Memory live same h = same_then view old mid new same h
+unknown_after view old mid new (unknowns.Failed why) live same h = failure_then view old mid new why live same h
+
+pub if_ok : {A E : Type 0} (r : Result A E) (P Q : A → Type 0) → ((x : A) → P x → Q x) → IfOk r P → IfOk r Q
+if_ok (Ok x) P Q f h = f x h
+if_ok (Err e) P Q f h = tt

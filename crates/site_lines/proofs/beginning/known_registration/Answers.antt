@@ -1,0 +1,13 @@
+-- What is owed of `known_registration`.
+use Rattle.site_lines.specs.Answers.{opens_registration}
+use Rattle.site_lines.proofs.Detailed.{begins_after}
+use Rattle.site_lines.proofs.beginning.known_registration.Goals as goal
+
+pub returns-in-Err-clause-refused : goal.returns-in-Err-clause-refused
+returns-in-Err-clause-refused g c = c.in-Err.ensures.refused (opens_registration c.args.begin.now c.args.words)
+
+pub returns-in-Ok-started_registration-clause-begun : goal.returns-in-Ok-started_registration-clause-begun
+returns-in-Ok-started_registration-clause-begun g c =
+    begins_after g.S.Store.view (opens_registration c.args.begin.now c.args.words) c.args.words c.args.now c.in-Ok-started_registration.started.session
+    c.in-Ok-started_registration.started.challenge c.args.site.now c.named.new.site c.started_registration.new.site c.in-Ok.ensures.same
+    c.in-Ok-started_registration.ensures.clean c.in-Ok-started_registration.ensures.begun

@@ -1,0 +1,15 @@
+-- What the loop of `all_known` keeps.
+use Rattle.std.proofs.Common.{◌≡◌, map, take}
+use Rattle.std.specs.List.{AllByRecursion}
+use Rattle.sqlite_trees.specs.Tree.{Trees}
+use Rattle.kept_site.specs.Calls.{IsSame}
+use Rattle.site_lines.specs.Details.{IsKnown, OfDetails}
+use Rattle.site_lines.proofs.knowing.all_known.Given as goal
+
+abbrev pub invariant-loop-id : goal.invariant-loop-id
+invariant-loop-id g l = record {
+  ids : map (λ k. k.id.items) l.list.items ≡ map (λ id. id.now) (take l.id-index l.ids);
+  known : OfDetails g.S.Store.view l.initial.site l.site (λ placed details. AllByRecursion (IsKnown placed details) l.list.items);
+  same : IsSame g.S.Store.view l.initial.site l.site;
+  crash : (db : Trees) → g.S.Store.recovers l.site.store db → g.S.Store.recovers l.initial.site.store db;
+}

@@ -1,0 +1,158 @@
+//! What is known of credentials beside what verdicts ask for.
+
+ghost use Rattle.std.specs.Prelude.{◌≡◌, ◌++◌, ◌∷◌, [], ℕ, IfErr, IfOk, List, None, OnOk, Option, Some, false, map, option_map, string_bytes};
+ghost use Rattle.std.specs.List.{AllByRecursion};
+ghost use Rattle.sqlite_trees.specs.Tree.{Trees};
+ghost use Rattle.authdata.specs.Responses.{registration_response_view};
+ghost use Rattle.credential_details.specs.Details.{detail_view, told};
+ghost use Rattle.kept_site.specs.Calls.{IsSame};
+ghost use Rattle.site_lines.specs.Details.{AreTransports, IsAaguid, IsKnown, OfDetails, joined as joined_of, second as second_of};
+ghost use Rattle.site_lines.specs.Private.{IsAaguidOf, IsUnknown};
+ghost use Rattle.site_lines.specs.declared.knowing.Unknown.TheVariants as unknowns;
+
+use crate::answer::Known;
+use crate::transports::{joined, separate};
+use authdata::{AttestationObject, Profile, RegistrationResponse, read_view};
+use credential_details::Detail;
+use kept_site::{Failure, KeptSite};
+use sqlite_trees::store::Store;
+use std::alloc::{AllocError, Global};
+
+/// Why nothing is told of credentials.
+#[derive(Clone, Copy, Debug, Drop)]
+pub(crate) enum Unknown {
+    /// There was no memory. Nothing has changed.
+    Memory,
+    /// The disk or memory failed. The site is shut.
+    Failed(Failure),
+}
+
+impl From<AllocError> for Unknown {
+    ghost from_gives = { λ _ e. e ≡ unknowns.Memory };
+
+    fn from(_e: AllocError) -> Unknown {
+        Unknown::Memory
+    }
+}
+
+impl From<Failure> for Unknown {
+    ghost from_gives = { λ why e. e ≡ unknowns.Failed why };
+
+    fn from(why: Failure) -> Unknown {
+        Unknown::Failed(why)
+    }
+}
+
+/// A second of the host's clock, as a column holds it.
+pub(crate) fn second(now: u64) -> i64
+    ensures { result ≡ second_of now }
+{
+    u64::min(now, 9_223_372_036_854_775_807) as i64
+}
+
+/// The transports of a detail.
+fn transports_in(alloc: Global, detail: &Option<Detail>) -> Result<Vec<String>, AllocError>
+    ensures { IfOk result (λ list. AreTransports (map string_bytes list.items) (option_map detail_view detail.now)) }
+{
+    match detail {
+        Some(detail) => separate(alloc, detail.transports.as_slice()),
+        None => Ok(Vec::new(alloc)),
+    }
+}
+
+/// What is known of the credential of an id.
+#[tactic(auto, using(crate::proofs::Kept::same_site))]
+fn known<S: Store>(alloc: Global, site: &mut KeptSite<S>, id: &[u8]) -> Result<Known, Unknown>
+    requires live { site.old.is_shut ≡ false }
+    ensures id { IfOk result (λ k. k.id.items ≡ id.now) }
+    ensures known { IfOk result (λ k. OfDetails S.Store.view site.old site.new (λ placed details. IsKnown placed details k)) }
+    ensures same { OnOk result (IsSame S.Store.view site.old site.new) }
+    ensures unknown { IfErr result (IsUnknown S.Store.view site.old site.new) }
+    ensures crash { (db : Trees) → S.Store.recovers site.new.store db → S.Store.recovers site.old.store db }
+{
+    let copy = Vec::from_slice(alloc, id)?;
+    let detail = site.detail(id)?;
+    let transports = transports_in(alloc, &detail)?;
+    Ok(Known {
+        id: copy,
+        detail,
+        transports,
+    })
+}
+
+/// Adds what is known of a credential to a list.
+fn add(list: &mut Vec<Known>, known: Known) -> Result<(), AllocError>
+    ensures { OnOk result (list.new.items ≡ list.old.items ++ known ∷ []) }
+{
+    list.push(known)?;
+    Ok(())
+}
+
+/// What is known of the credentials of these ids.
+#[tactic(auto, using(crate::proofs::Detailed::live_on, crate::proofs::Detailed::unknown_after, crate::proofs::Kept::same_then, crate::proofs::Kept::same_site))]
+pub(crate) fn all_known<S: Store>(
+    alloc: Global,
+    site: &mut KeptSite<S>,
+    ids: &[&[u8]],
+) -> Result<Vec<Known>, Unknown>
+    requires live { site.old.is_shut ≡ false }
+    ensures ids { IfOk result (λ list. map (λ k. k.id.items) list.items ≡ map (λ id. id.now) ids.now) }
+    ensures known { IfOk result (λ list. OfDetails S.Store.view site.old site.new (λ placed details. AllByRecursion (IsKnown placed details) list.items)) }
+    ensures same { OnOk result (IsSame S.Store.view site.old site.new) }
+    ensures unknown { IfErr result (IsUnknown S.Store.view site.old site.new) }
+    ensures crash { (db : Trees) → S.Store.recovers site.new.store db → S.Store.recovers site.old.store db }
+{
+    let mut list = Vec::with_capacity(alloc, ids.len())?;
+    for id in ids {
+        let one = known(alloc, site, id)?;
+        add(&mut list, one)?;
+    }
+    Ok(list)
+}
+
+/// The aaguid in authenticator data.
+fn aaguid_of(alloc: Global, profile: Profile, bytes: &[u8]) -> Result<Option<Vec<u8>>, AllocError>
+    ensures { IfOk result (λ found. IsAaguidOf profile bytes.now (option_map (λ a. a.items) found)) }
+{
+    let Ok(data) = read_view(profile, bytes) else {
+        return Ok(None);
+    };
+    match &data.attested {
+        Some(attested) => Ok(Some(Vec::from_slice(alloc, &attested.aaguid)?)),
+        None => Ok(None),
+    }
+}
+
+/// The aaguid of the credential that a response attests; none where it attests none.
+fn aaguid_in(
+    alloc: Global,
+    profile: Profile,
+    response: &RegistrationResponse,
+) -> Result<Option<Vec<u8>>, AllocError>
+    ensures { IfOk result (λ found. IsAaguid profile (registration_response_view response.now) (option_map (λ a. a.items) found)) }
+{
+    match AttestationObject::read(alloc, response.object.as_slice()) {
+        Ok(object) => aaguid_of(alloc, profile, object.auth_data.as_slice()),
+        Err(authdata::Error::Memory) => Err(AllocError),
+        Err(_) => Ok(None),
+    }
+}
+
+/// The detail of a credential that is registered by a response.
+pub(crate) fn detail_of(
+    alloc: Global,
+    profile: Profile,
+    now: u64,
+    transports: &[String],
+    response: &RegistrationResponse,
+) -> Result<Detail, AllocError>
+    ensures { IfOk result (λ d. (aaguid : Option (List ℕ)) × IsAaguid profile (registration_response_view response.now) aaguid
+        × (detail_view d ≡ told (Some (second_of now)) None (joined_of (map string_bytes transports.now)) aaguid)) }
+{
+    Ok(Detail {
+        created_at: Some(second(now)),
+        used_at: None,
+        transports: joined(alloc, transports)?,
+        aaguid: aaguid_in(alloc, profile, response)?,
+    })
+}

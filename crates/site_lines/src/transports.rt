@@ -1,0 +1,138 @@
+//! Transports, as clients tell them (WebAuthn Level 2, section 5.8.4).
+
+ghost use Rattle.std.specs.Prelude.{◌≡◌, ◌++◌, ◌⊎◌, [], IfOk, OnOk, Some, codes, map, string_bytes};
+ghost use Rattle.serde_json.specs.Find.{as_str};
+ghost use Rattle.serde_json.specs.View.{view};
+ghost use Rattle.site_lines.specs.Lines.{HasTexts};
+ghost use Rattle.site_lines.specs.Details.{joined as joined_of, with_comma};
+
+use crate::error::LineError;
+use crate::members::items;
+use serde_json::Value;
+use std::alloc::{AllocError, Global};
+
+/// The most transports of a credential.
+const MOST: usize = 16;
+
+/// The most characters of a transport.
+const LONGEST: usize = 32;
+
+/// Whether a byte is one of a transport's: a lower-case letter, a digit or a hyphen.
+fn is_plain(byte: u8) -> bool {
+    byte.is_ascii_lowercase() || byte.is_ascii_digit() || byte == b'-'
+}
+
+/// Whether a text is a transport's: from 1 to 32 lower-case letters, digits and hyphens.
+pub(crate) fn is_transport(text: &[u8]) -> bool {
+    for byte in text {
+        if !is_plain(*byte) {
+            return false;
+        }
+    }
+    !text.is_empty() && text.len() <= LONGEST
+}
+
+/// A transport.
+fn transport(alloc: Global, value: &Value) -> Result<String, LineError>
+    ensures { IfOk result (λ text. as_str (view value.now) ≡ Some (string_bytes text)) }
+{
+    let Some(text) = value.as_str() else {
+        return Err(LineError::BadForm("transports"));
+    };
+    if !is_transport(text.as_bytes()) {
+        return Err(LineError::BadForm("transports"));
+    }
+    Ok(String::from_str(alloc, text)?)
+}
+
+/// The transports of each value.
+fn transports_of(alloc: Global, items: &[Value]) -> Result<Vec<String>, LineError>
+    ensures { IfOk result (λ list. map (λ value. as_str (view value)) items.now ≡ map (λ text. Some (string_bytes text)) list.items) }
+{
+    let mut list = Vec::with_capacity(alloc, items.len())?;
+    for item in items {
+        list.push(transport(alloc, item)?)?;
+    }
+    Ok(list)
+}
+
+/// The member `transports`: at most 16; none where it is absent.
+pub(crate) fn transports(alloc: Global, line: &Value) -> Result<Vec<String>, LineError>
+    ensures { IfOk result (λ list. HasTexts (codes "transports") (view line.now) (map string_bytes list.items)) }
+{
+    let items = items(line, "transports")?;
+    if items.len() > MOST {
+        return Err(LineError::BadForm("transports"));
+    }
+    let list = transports_of(alloc, items)?;
+    Ok(list)
+}
+
+/// One more text, behind a comma where there is one before it.
+fn join(text: &mut Vec<u8>, more: &[u8]) -> Result<(), AllocError>
+    ensures { OnOk result (text.new.items ≡ with_comma text.old.items ++ more.now) }
+{
+    if !text.as_slice().is_empty() {
+        text.push(b',')?;
+    }
+    text.extend_from_slice(more)
+}
+
+/// Transports as one text, with a comma between each and the next.
+pub(crate) fn joined(alloc: Global, transports: &[String]) -> Result<Vec<u8>, AllocError>
+    ensures { IfOk result (λ text. text.items ≡ joined_of (map string_bytes transports.now)) }
+{
+    let mut text = Vec::new(alloc);
+    for transport in transports {
+        join(&mut text, transport.as_bytes())?;
+    }
+    Ok(text)
+}
+
+/// Adds a part as a transport, and empties it: false where it is none.
+fn take_part(
+    alloc: Global,
+    list: &mut Vec<String>,
+    part: &mut Vec<u8>,
+) -> Result<bool, AllocError> {
+    if !is_transport(part.as_slice()) {
+        return Ok(false);
+    }
+    let Ok(text) = str::from_utf8(part.as_slice()) else {
+        return Ok(false);
+    };
+    list.push(String::from_str(alloc, text)?)?;
+    part.clear();
+    Ok(true)
+}
+
+/// The transports between the commas of a text; nothing where one is none.
+fn parts(alloc: Global, text: &[u8]) -> Result<Option<Vec<String>>, AllocError> {
+    let mut list = Vec::new(alloc);
+    let mut part = Vec::new(alloc);
+    for byte in text {
+        if *byte != b',' {
+            part.push(*byte)?;
+        } else if !take_part(alloc, &mut list, &mut part)? {
+            return Ok(None);
+        }
+    }
+    if !take_part(alloc, &mut list, &mut part)? {
+        return Ok(None);
+    }
+    Ok(Some(list))
+}
+
+/// The transports that a text joins; none where it joins none.
+pub(crate) fn separate(alloc: Global, text: &[u8]) -> Result<Vec<String>, AllocError>
+    ensures { IfOk result (λ list. (list.items ≡ []) ⊎ (joined_of (map string_bytes list.items) ≡ text.now)) }
+{
+    let Some(list) = parts(alloc, text)? else {
+        return Ok(Vec::new(alloc));
+    };
+    let again = joined(alloc, list.as_slice())?;
+    if again.as_slice() != text || list.as_slice().len() > MOST {
+        return Ok(Vec::new(alloc));
+    }
+    Ok(list)
+}
