@@ -72,7 +72,7 @@ fn open_creation(alloc: Global, message: &[u8]) -> Result<CreationReply, Error>
 /// The assertion of a reply to getAssertion, and by the open profile of one to getNextAssertion (CTAP 2.1, sections
 /// 6.2.2 and 6.3). Its members lie in the message, and no memory is taken.
 ///
-/// The strict profile reads as [`ctap_replies::read_assertion`]. The open one reads as [`key_replies::read_assertion`]:
+/// The strict profile reads as [`ctap_replies::read_assertion`]. The others read as [`key_replies::read_assertion`]:
 /// members that are not listed are passed over, and the credential may be left out where `listed` is the id of the one
 /// credential of the request's allow list. Refused as these are, never for want of memory.
 pub fn read_assertion<'a>(
@@ -86,13 +86,13 @@ pub fn read_assertion<'a>(
 {
     match profile {
         Profile::Strict => ctap_replies::read_assertion(message),
-        Profile::Open => open_assertion(message, listed),
+        Profile::Open | Profile::Level3 => open_assertion(message, listed),
     }
 }
 
 /// The reply to makeCredential (CTAP 2.1, section 6.1.2) that a message is, in memory of its own.
 ///
-/// The strict profile reads as [`ctap_replies::read_creation`], the open one as [`key_replies::read_creation`], and each
+/// The strict profile reads as [`ctap_replies::read_creation`], the others as [`key_replies::read_creation`], and each
 /// is refused as these are.
 pub fn read_creation(
     alloc: Global,
@@ -104,6 +104,6 @@ pub fn read_creation(
 {
     match profile {
         Profile::Strict => ctap_replies::read_creation(alloc, message),
-        Profile::Open => open_creation(alloc, message),
+        Profile::Open | Profile::Level3 => open_creation(alloc, message),
     }
 }

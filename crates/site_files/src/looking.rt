@@ -6,8 +6,9 @@ ghost use Rattle.sqlite_store.specs.FileStore.{view};
 
 use crate::error::FileError;
 use crate::look::Look;
-use crate::path::log_of;
-use crate::stores::{by_sql, files_at as locked_files, options, second_of};
+use crate::path::{Found, head_at, log_of};
+use crate::stores::{by_sql, files_at as locked_files, listed_in, options, second_of};
+use crate::tables::Listed;
 use sqlite::{FileStore, Files, Options, Unknown};
 use sqlite_disk::{Disk, Memory};
 use sqlite_trees::error::StoreError;
@@ -111,10 +112,38 @@ pub fn looked_at(rt: &HostRuntime, path: &str) -> Result<FileStore<Seen>, FileEr
     }
 }
 
+/// Whether a file without a log stands at a path, and lists the tables of version 2: an open of it writes nothing.
+pub fn is_plain(rt: &HostRuntime, path: &str) -> Result<bool, FileError> {
+    if fs::exists(rt, log_of(rt, path)?.as_str())? || head_at(rt, path)? != Found::Sqlite {
+        return Ok(false);
+    }
+    let options = options_without_checkpoint(rt)?;
+    Ok(listed_in(rt.alloc(), files_at(rt, path)?, options)? == Listed::Second)
+}
+
 /// Takes away a log that an open has made, while it has the files.
 fn remove_log(rt: &HostRuntime, path: &str) -> Result<(), FileError> {
     fs::remove_file(rt, log_of(rt, path)?.as_str())?;
     Ok(())
+}
+
+/// Takes away a log that is empty, while it has the files.
+fn remove_empty_log(rt: &HostRuntime, path: &str) -> Result<(), FileError> {
+    let log = log_of(rt, path)?;
+    if fs::exists(rt, log.as_str())? && fs::metadata(rt, log.as_str())?.len() == 0 {
+        return remove_log(rt, path);
+    }
+    Ok(())
+}
+
+/// Why files are refused that had no log, and have none then.
+pub fn without_log(rt: &HostRuntime, path: &str, e: FileError) -> FileError {
+    if let Ok(files) = locked_files(rt, path, Unknown) {
+        // Where it can't be taken away it is left: an empty log says nothing.
+        let _ = remove_empty_log(rt, path);
+        drop(files);
+    }
+    e
 }
 
 /// Whether somebody has the files at a path open. No log is left that was not there.

@@ -15,7 +15,7 @@ use crate::FileSite;
 use crate::bounds::check_bounds;
 use crate::error::FileError;
 use crate::first::{check_first, why_other};
-use crate::looking::{looked_at, unless_in_use};
+use crate::looking::{is_plain, looked_at, unless_in_use, without_log};
 use crate::path::{Found, found_at};
 use crate::stores::{list_at, second_at};
 use crate::tables::{Listed, list_of, upgraded};
@@ -152,6 +152,33 @@ fn check_open(
     }
 }
 
+/// The site of the files at a path.
+fn opened<S: Start>(
+    rt: &HostRuntime,
+    path: &str,
+    party: RelyingParty,
+    policy: Policy,
+    bounds: Bounds,
+    start: S,
+) -> Result<FileSite<S>, FileError>
+    ensures made { IfOk result (λ s. (s.rp ≡ party) × (s.policy ≡ policy) × (s.most ≡ bounds.credentials) × (s.is_shut ≡ false) × (s.is_pending ≡ false)) }
+    ensures sessions { IfOk result (λ s. (s.timed.open_sessions.expected ≡ finite.empty) × (s.timed.open_sessions.next ≡ s.reserved)) }
+    ensures party { IfOk result (λ s. IsClean (view s.store) → HasParty party.rp_id s.reserved (view s.store).trees) }
+    ensures held { IfOk result (λ s. IsClean (view s.store) → (placed : Placed) (next : ℕ)
+        → HoldsSite placed party.rp_id next (view s.store).trees → IsHeld placed s (view s.store).trees) }
+    ensures found { IfOk result (λ s. IsClean (view s.store) → (was : Trees) × IsHeldIn (image_at S.Start) was
+        × (((view s.store).trees ≡ was) ⊎ IsFirst party.rp_id was)) }
+{
+    let store = store_at(rt, path, start)?;
+    match open_over(rt.alloc(), party, policy, bounds, store) {
+        Ok(site) => Ok(site),
+        Err((e, store)) => {
+            drop(store.close());
+            Err(e)
+        }
+    }
+}
+
 /// The site of a file, of this relying party. No session is open, and the numbers go on. A program passes `Unknown` as `start`,
 /// which stands for what the files held.
 ///
@@ -182,15 +209,14 @@ pub fn open<S: Start>(
         × (((view s.store).trees ≡ was) ⊎ IsFirst party.rp_id was)) }
 {
     check_bounds(bounds)?;
+    if matches!(is_plain(rt, path), Ok(true)) {
+        return match opened(rt, path, party, policy, bounds, start) {
+            Ok(site) => Ok(site),
+            Err(e) => Err(without_log(rt, path, e)),
+        };
+    }
     if let Err(e) = check_open(rt, path, &party, policy, bounds) {
         return Err(unless_in_use(rt, path, e));
     }
-    let store = store_at(rt, path, start)?;
-    match open_over(rt.alloc(), party, policy, bounds, store) {
-        Ok(site) => Ok(site),
-        Err((e, store)) => {
-            drop(store.close());
-            Err(e)
-        }
-    }
+    opened(rt, path, party, policy, bounds, start)
 }

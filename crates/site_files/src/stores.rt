@@ -137,6 +137,21 @@ fn opened<D: Disk + Drop>(it: Unopened<D>) -> Result<FileStore<D>, FileError>
     }
 }
 
+/// What files list that were not opened yet. Nothing else of them is read.
+pub fn listed_in<D: Disk + Drop>(
+    alloc: Global,
+    files: Files<D>,
+    options: Options,
+) -> Result<Listed, FileError> {
+    if !files.log.may_be_used() || !files.db.may_be_used() {
+        return Err(FileError::Failed(StoreError::Io));
+    }
+    let mut it = unopened(alloc, files, options)?;
+    let list = list_of_files(alloc, &mut it);
+    drop(it.close());
+    list
+}
+
 /// The store of files that list the tables of version 2, and none where they don't, or where their list is not read.
 fn second_in<D: Disk + Drop>(
     mut it: Unopened<D>,
