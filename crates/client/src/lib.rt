@@ -20,4 +20,6 @@ pub use law::one_asking;
 pub use options::{CreationOptions, RequestOptions};
 pub use outgoing::{Outgoing, next_request};
 pub use reading::{read_assertion, read_creation};
-pub use responses::{assertion_response, assertion_response_of, attestation_object, creation_response};
+pub use responses::{
+    assertion_response, assertion_response_of, attestation_object, creation_response,
+};
