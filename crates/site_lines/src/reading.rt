@@ -14,8 +14,8 @@ use crate::line_id::id_of;
 use crate::members::{
     algorithms, bytes, flag, list_of_bytes, member, needed, number, optional_bytes, text, text_or,
 };
-use crate::transports::transports;
 use crate::response::{assertion_response, credential_id, registration_response};
+use crate::transports::transports;
 use crate::verified::Verified;
 use ceremony_sessions::Asks;
 use serde_json::Value;
