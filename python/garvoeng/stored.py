@@ -333,7 +333,8 @@ class StoredServer:
         return await asyncio.to_thread(self.register_begin, user, user_name, display_name, **how)
 
     def register_complete(self, session: Optional[int], response: Mapping[str, Any]) -> Registered:
-        """What a RegistrationResponseJSON registers: the credential, which is in the file, and what is known of it. Raises
+        """What a RegistrationResponseJSON registers: the credential, which is in the file, and what is known of it. Where no attestation
+        was asked for, `format` is the response's own word, which nobody looked at. Raises
         `Refused` with the first step that is not passed, `BadInput` where the response is not in the form of JSON."""
         raw_id, client_data, attestation_object = forms.registration_parts(response)
         transports = forms.transports_in(response["response"].get("transports"))
