@@ -131,7 +131,7 @@ def settings(tests):
             ("strict.db", {"profile": "strict"}, None, "G7")):
         with tests.server(name, **how) as server:
             device = Device(EDDSA)
-            options, session = server.register_begin(USER, "name")
+            options, session = server.register_begin(USER, "name", attestation="direct")
             made = device.register(options, flags=UP | UV | AT | ED, outputs=b"\xa1\x6bcredProtect\x02") if packed is None \
                 else device.register(options, packed=packed)
             tests.check(name, raised(server.register_complete, session, made), (Refused, wanted))

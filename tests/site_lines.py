@@ -451,7 +451,7 @@ def details(tests):
     tests.check("its second", began <= created <= int(time.time()))
     begun = host.ask("begin_sign_in", allow=[to_text(b"two"), to_text(b"one"), to_text(b"none")])
     tests.check("allowed", [each.get("transports") for each in begun["options"]["allowCredentials"]], [None, ["usb", "smart-card"], None])
-    tests.check("signed in", "accepted" in host.finish("finish_sign_in", begun["session"], one.sign_in(begun["options"])))
+    tests.check("signed in", "accepted" in host.finish("finish_sign_in", begun["session"], one.sign_in(begun["options"], user=USER)))
     (again, used, transports, _), second = known(host)
     tests.check("as it was used", (again, transports, second[1]), (created, ["usb", "smart-card"], None))
     tests.check("the second of its use", created <= used <= int(time.time()))
