@@ -127,10 +127,10 @@ fn remove_log(rt: &HostRuntime, path: &str) -> Result<(), FileError> {
     Ok(())
 }
 
-/// Takes away a log that is empty, while it has the files.
-fn remove_empty_log(rt: &HostRuntime, path: &str) -> Result<(), FileError> {
+/// Takes away a log that is too short for a commit, while it has the files.
+fn remove_short_log(rt: &HostRuntime, path: &str) -> Result<(), FileError> {
     let log = log_of(rt, path)?;
-    if fs::exists(rt, log.as_str())? && fs::metadata(rt, log.as_str())?.len() == 0 {
+    if fs::exists(rt, log.as_str())? && fs::metadata(rt, log.as_str())?.len() < SHORTEST as u64 {
         return remove_log(rt, path);
     }
     Ok(())
@@ -139,8 +139,8 @@ fn remove_empty_log(rt: &HostRuntime, path: &str) -> Result<(), FileError> {
 /// Why files are refused that had no log, and have none then.
 pub fn without_log(rt: &HostRuntime, path: &str, e: FileError) -> FileError {
     if let Ok(files) = locked_files(rt, path, Unknown) {
-        // Where it can't be taken away it is left: an empty log says nothing.
-        let _ = remove_empty_log(rt, path);
+        // Where it can't be taken away it is left: such a log says nothing.
+        let _ = remove_short_log(rt, path);
         drop(files);
     }
     e
