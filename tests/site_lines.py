@@ -462,16 +462,18 @@ def details(tests):
     tests.check("the end", host.end(), (0, b"", ""))
     file = sqlite3.connect(path)
     tests.check("the details that are left", file.execute("select place, transports, length(aaguid), used_at from detail").fetchall(), [(2, "", 16, None)])
+    file.close()
     for change, wanted in (("update detail set aaguid = x'%s'" % ("07" * 15), (True, None, [], None)),
                            ("update detail set transports = 'usb,,nfc'", (True, None, [], None)),
                            ("delete from detail", (False, None, [], None))):
+        file = sqlite3.connect(path)
         file.execute(change)
         file.commit()
+        file.close()
         host = Host(tests.program, path, *PARTY, "--existing")
         (created, *rest), = known(host)
         tests.check(change, (created is not None, *rest), wanted)
         host.end()
-    file.close()
 
 
 def read_by_sqlite(tests):
