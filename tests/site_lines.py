@@ -38,7 +38,7 @@ class Host:
     def __init__(self, program, file, *words, random_bytes=None):
         self.errors = tempfile.TemporaryFile()
         profile = [] if any(str(word).startswith("--profile") for word in words) else ["--profile", "open"]
-        self.process = subprocess.Popen([*in_place_of_random(random_bytes), program, str(file), *profile, *words], stdin=subprocess.PIPE,
+        self.process = subprocess.Popen([*in_place_of_random(random_bytes), program, *profile, str(file), *words], stdin=subprocess.PIPE,
                                         stdout=subprocess.PIPE, stderr=self.errors)
         self.number = 0
 
