@@ -141,7 +141,7 @@ def test_what_is_known_of_a_credential(tmp_path):
 async def visit(server, number):
     """Registers and signs in, awaited; what was accepted, and what is refused."""
     device, user = Device(credential=b"credential %d" % number), b"account %d" % number
-    options, session = await server.register_begin_async(user, "name", "Display Name", hints=["hybrid"])
+    options, session = await server.register_begin_async(user, "name", "Display Name", hints=["hybrid"], attestation="direct")
     assert options["hints"] == ["hybrid"] and options["user"]["displayName"] == "Display Name"
     made = await server.register_complete_async(session, device.register(options, packed=True, flags=UP | UV | AT | ED,
                                                                          outputs=b"\xa1\x6bcredProtect\x02"))
