@@ -21,7 +21,7 @@ beforeEach(async () => {
 });
 
 async function registered(server, device, how) {
-  const { options, session } = await server.registerBegin(user, "name");
+  const { options, session } = await server.registerBegin(user, "name", { attestation: "direct" });
   return server.registerComplete(session, device.register(options, how));
 }
 
@@ -45,7 +45,8 @@ test("the tables, and what stands in them", async () => {
   const begun = await server.registerBegin(user, "name", { userVerification: "required", algorithms: [ES256] });
   const [kept] = await run("select * from garvoeng_session");
   assert.match(begun.session, /^[0-9a-f]{32}$/);
-  assert.deepEqual([kept.id, JSON.parse(kept.data)], [begun.session, { challenge: begun.options.challenge, user: "YWNjb3VudCA3", user_verification: true, algorithms: [-7] }]);
+  assert.deepEqual([kept.id, JSON.parse(kept.data)], [begun.session, { challenge: begun.options.challenge, user: "YWNjb3VudCA3", user_verification: true, algorithms: [-7],
+                                                                      conditional: false, attestation: false }]);
   assert.ok(Number(kept.expires_at) - before >= 300 && Number(kept.expires_at) - before < 310);
   const response = device.register(begun.options);
   response.response.transports = ["usb", "a,b", "nfc"];

@@ -112,7 +112,7 @@ test("options are those of Server, and the session is of what they ask", async (
 
 test("what the server takes", async () => {
   for (const [name, how, isPacked, wanted] of [["none", { acceptSelf: false }, true, "G14"], ["self", { acceptNone: false }, false, "G14"], ["strict", { profile: "strict" }, null, "G7"]]) {
-    const server = serving(`${name}.db`, how), device = new Device(EDDSA), { options, session } = await server.registerBegin(user, "name");
+    const server = serving(`${name}.db`, how), device = new Device(EDDSA), { options, session } = await server.registerBegin(user, "name", { attestation: "direct" });
     const more = isPacked === null ? { flags: UP | UV | AT | ED, outputs: "a16b6372656450726f7465637402" } : { isPacked };
     await assert.rejects(server.registerComplete(session, device.register(options, more)), { name: wanted });
     await server.registerComplete(session, device.register(options, { isPacked: isPacked === false }));
