@@ -198,12 +198,12 @@ static void change(record *of, uint8_t rooms[MEMBERS][ROOM])
 static void judge_random(void)
 {
     static uint8_t rooms[MEMBERS][ROOM], bytes[600];
-    static const uint8_t *starts[256];
+    static const uint8_t *starts[512];
     const uint8_t *const groups[] = { chromium, firefox, rsa };
     uint32_t count = 0;
     record of;
     for (int group = 0; group < 3; group++)
-        for (const uint8_t *at = groups[group]; *at != 0; at = read_record(at, &of))
+        for (const uint8_t *at = groups[group]; *at != 0 && count < sizeof starts / sizeof *starts; at = read_record(at, &of))
             starts[count++] = at;
     memset(rooms, 0, sizeof rooms);
     for (seed = SEED; calls < CALLS;) {
