@@ -67,7 +67,7 @@ class KeptCredential(Credential):
     """When it signed in last: seconds since 1970."""
 
 
-def _parts(row: Mapping[str, Any]) -> Tuple[Any, ...]:
+def _parts(row: Mapping[str, Any]) -> Tuple[bytes, bytes, int, bytes, bytes, int, bool, bool]:
     return (forms.from_text(row["credential"], "credential"), forms.from_text(row["user"], "user"),
             row["algorithm"], forms.from_text(row["x"], "x"), forms.from_text(row["y"], "y"),
             row["sign_count"], row["eligible"], row["retired"])
