@@ -38,7 +38,7 @@ def extension():
         objects.append(str(native(f"{machine}/libpasskey.a")))
         links.append("-Wl,--exclude-libs,ALL")
     return Extension("garvoeng._passkey", sources, include_dirs=[str(native("passkey.h").parent)], extra_objects=objects, extra_link_args=links,
-                     define_macros=[("Py_LIMITED_API", "0x03090000")], py_limited_api=True)
+                     depends=[str(native("passkey.h")), *objects], define_macros=[("Py_LIMITED_API", "0x03090000")], py_limited_api=True)
 
 
 class SourceDistribution(sdist):

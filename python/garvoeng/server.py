@@ -209,10 +209,9 @@ class Server:
     def signal_all_accepted(self, user: bytes, credentials: Ids) -> Dict[str, Any]:
         """What the page hands to `signalAllAcceptedCredentials`, of a user who is signed in: all of his credentials that may sign in, or
         their ids. A passkey that is left out is hidden or deleted."""
-        listed = [one.id if isinstance(one, Credential) else bytes(one) for one in credentials
-                  if not (isinstance(one, Credential) and one.retired)]
+        accepted = [one for one in credentials if not (isinstance(one, Credential) and one.retired)]
         return {"rpId": self._rp_id, "userId": forms.to_text(limits.check_user(user)),
-                "allAcceptedCredentialIds": [forms.to_text(one) for one in listed]}
+                "allAcceptedCredentialIds": [forms.to_text(one) for one in options.ids_of(accepted, len(accepted))]}
 
     def signal_user_details(self, user: bytes, user_name: str, display_name: Optional[str] = None) -> Dict[str, str]:
         """What the page hands to `signalCurrentUserDetails` where an account's names changed."""
