@@ -115,27 +115,31 @@ def test_lists(site):
 
 def test_what_is_known_of_a_credential(tmp_path):
     """It is kept with the credential, given back in options, told by rows, and gone with the credential."""
-    began, one, two = int(time.time()), Device(credential=b"one"), Device(credential=b"two")
+    began, (one, two, three) = int(time.time()), (Device(credential=name) for name in (b"one", b"two", b"three"))
+    # The first has a statement whose signature is asked for, so what the page told is handed in twice.
+    told = {one: ["usb", "no text", 7, "nfc", "ble"], two: ["internal", "hybrid"], three: None}
+    kept = {one: ("usb", "nfc", "ble"), two: ("internal", "hybrid"), three: ()}
     with stored(tmp_path) as site:
-        for device, transports in ((one, ["usb", "no text", 7]), (two, None)):
-            options, session = site.register_begin(USER, "name", exclude=[b"one"])
-            assert options["excludeCredentials"][0].get("transports") == (None if device is one else ["usb"])
-            response = device.register(options)
+        for device, transports in told.items():
+            options, session = site.register_begin(USER, "name", exclude=[b"one"], attestation="direct")
+            assert options["excludeCredentials"][0].get("transports") == (None if device is one else list(kept[one]))
+            response = device.register(options, packed=device is one)
             if transports is not None:
                 response["response"]["transports"] = transports
             made = site.register_complete(session, response)
-            assert made.credential.transports == (("usb",) if device is one else ())
-        options, session = site.authenticate_begin(allow=[b"two", b"one"])
-        assert [row.get("transports") for row in options["allowCredentials"]] == [None, ["usb"]]
-        assert [row.used_at for row in site.rows()] == [None, None]
+            assert (made.format, made.aaguid) == ("packed" if device is one else "none", device.aaguid)
+            assert made.credential.transports == kept[device]
+        options, session = site.authenticate_begin(allow=[b"three", b"two", b"one"])
+        assert [row.get("transports") for row in options["allowCredentials"]] == [None, list(kept[two]), list(kept[one])]
+        assert [row.used_at for row in site.rows()] == [None, None, None]
         site.authenticate_complete(session, one.sign_in(options, user=USER))
     with stored(tmp_path) as site:
-        first, second = site.rows(USER)
-        assert (first.transports, first.aaguid, second.transports, second.aaguid) == (("usb",), one.aaguid, (), two.aaguid)
-        assert began <= first.created_at <= first.used_at <= time.time() and second.used_at is None
-        assert site.delete(b"one") and site.rows() == [second]
+        first, second, third = rows = site.rows(USER)
+        assert [(row.transports, row.aaguid) for row in rows] == [(kept[device], device.aaguid) for device in (one, two, three)]
+        assert began <= first.created_at <= first.used_at <= time.time() and second.used_at is third.used_at is None
+        assert site.delete(b"one") and site.rows() == [second, third]
     file = sqlite3.connect(tmp_path / "site.db")
-    assert file.execute("select place from detail").fetchall() == [(2,)]
+    assert file.execute("select place from detail").fetchall() == [(2,), (3,)]
 
 
 async def visit(server, number):
