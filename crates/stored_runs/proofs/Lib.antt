@@ -1,0 +1,5 @@
+pub mod Pieces
+pub mod Rows
+pub mod Calls
+pub mod Opened
+pub mod Histories

@@ -1,0 +1,44 @@
+-- A site over a store is within the law over all runs (WebAuthn Level 2, section 7).
+use Rattle.std.specs.Prelude.{◌≡◌, ◌≢◌, ◌==◌, ℕ, List, [], ◌∷◌, ◌++◌, if◌then◌else◌}
+use Rattle.cose.specs.Schemes.{Validity}
+use Rattle.site.specs.State as site
+use Rattle.authenticator.specs.Steps.{Keys}
+use Rattle.agreement.specs.World.{AtSite, Done, Event, EventEnd, IsRun, IsStart, Moment, Registers, Retires, SignsIn, SiteEvent, World}
+use Rattle.agreement.specs.Agreement.{Agreement}
+use Rattle.agreement.specs.Ledger.{world_after}
+use Rattle.stored_runs.specs.History.{IsHistory, IsKept, Kept, Step, Store, kept_acts, site_of}
+
+-- ---- the sign-ins by a response, registrations by a response and retirements of a site in a run
+
+abbrev pub acts_in_event : SiteEvent → List SiteEvent
+acts_in_event (SignsIn n r) = SignsIn n r ∷ []
+acts_in_event (Registers n r) = Registers n r ∷ []
+acts_in_event (Retires id) = Retires id ∷ []
+acts_in_event e = []
+
+abbrev pub acts_at : ℕ → Event → EventEnd → List SiteEvent
+acts_at i (AtSite j e) Done = if j == i then acts_in_event e else []
+acts_at i e end = []
+
+abbrev pub acts_in : ℕ → List Moment → List SiteEvent
+acts_in i [] = []
+acts_in i (m ∷ ms) = acts_at i m.event m.end ++ acts_in i ms
+
+-- ---- the law
+
+-- a run from a world in which site i alone has changed, and is this one then; and its acts are these
+pub record LeadsTo (valid : Validity) (public : Keys) (w : World) (i : ℕ) (after : site.SiteState) (acts : List SiteEvent) : Type 0 where
+  pub run : List Moment
+  pub is_run : IsRun valid public w run
+  pub now : (world_after w run).site i ≡ after
+  pub others : (j : ℕ) → j ≢ i → (world_after w run).site j ≡ w.site j
+  pub holders : (k : ℕ) → (world_after w run).holder k ≡ w.holder k
+  pub did : acts_in i run ≡ acts
+
+-- Where site i of a world is one over a store, all of which is committed, whatever it goes through leads to what is committed at
+-- the end, by the acts that were kept. From a start of a world this is a run of which the law speaks.
+abbrev pub StoredRuns : Type 0 → Validity → Keys → Type 0
+StoredRuns S valid public =
+    (w : World) (i : ℕ) (start : Kept S) (steps : List Step) (end : Store S) → IsKept start
+    → w.site i ≡ site_of start → IsHistory valid (record { now = start; committed = start }) steps end
+    → (there : LeadsTo valid public w i (site_of end.committed) (kept_acts steps)) × (IsStart w → Agreement valid there.run)
