@@ -57,9 +57,9 @@ pub data Subcommand : Type 0 where
 abbrev pub members : ℕ → ℕ → Option PublicPoint → Option (List ℕ) → Option (List ℕ) → Option (List ℕ) → Option ℕ → Option (List ℕ) → Contents pin_members
 members protocol subcommand key param new_pin pin_hash permissions rp_id =
     (protocol, (subcommand, (keys key, (param, (new_pin, (pin_hash, (permissions, (rp_id, tt)))))))) where
-  keys : Option PublicPoint → Option (Contents key_members)
-  keys None = None
-  keys (Some p) = Some (point_content p)
+      keys : Option PublicPoint → Option (Contents key_members)
+      keys None = None
+      keys (Some p) = Some (point_content p)
 
 -- the members of each, with this protocol (sections 6.5.5.2 to 6.5.5.7)
 abbrev pub pin_content : ℕ → Subcommand → Contents pin_members
