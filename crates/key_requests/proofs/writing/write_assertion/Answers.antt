@@ -1,0 +1,11 @@
+-- What is owed of `write_assertion`.
+use Rattle.std.proofs.Common.{ℕ, Vec, Global, map, subst}
+use Rattle.key_replies.specs.ReplyView.{info_view}
+use Rattle.key_requests.specs.Pieces.{Finishes}
+use Rattle.key_requests.specs.Requests.{AssertionOf}
+use Rattle.key_requests.specs.RequestView.{assertion_view, options_view}
+use Rattle.key_requests.proofs.Finishing.{beyond}
+use Rattle.key_requests.proofs.writing.write_assertion.Goals as goal
+
+pub returns-in-Err-clause-refused : goal.returns-in-Err-clause-refused
+returns-in-Err-clause-refused c = beyond (info_view c.args.info.now) (options_view c.args.request.options) (map (λ b. b.now) c.args.request.allow.now) (AssertionOf (assertion_view c.args.request)) c.in-Err.e c.in-Err.ensures.beyond

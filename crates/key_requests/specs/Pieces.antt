@@ -1,0 +1,23 @@
+-- What the private functions of these requests are proved against; no public clause cites it.
+use Rattle.std.specs.Prelude.{◌≡◌, ℕ, ◌<◌, ◌≤◌, List, length, true, false, Result, Ok, Err}
+use Rattle.ctap_requests.specs.Entities.{CreationFlags}
+use Rattle.key_replies.specs.Replies.{Info}
+use Rattle.key_requests.specs.Limits.{is_over, has_long_id, offers, max_message}
+use Rattle.key_requests.specs.declared.error.RequestError.{RequestError}
+use Rattle.key_requests.specs.declared.error.RequestError.TheVariants as errors
+
+-- an option is not offered, the list too long, or an id of it
+abbrev pub IsBeyond : Info → CreationFlags → List (List ℕ) → RequestError → Type 0
+IsBeyond info o ids errors.OptionNotOffered = offers info o ≡ false
+IsBeyond info o ids errors.ListTooLong = (offers info o ≡ true) × (is_over info.max_credential_count_in_list (length ids) ≡ true)
+IsBeyond info o ids errors.IdTooLong =
+    (offers info o ≡ true) × (is_over info.max_credential_count_in_list (length ids) ≡ false) × (has_long_id info ids ≡ true)
+IsBeyond info o ids _ = ⊥
+
+-- the request's bytes were made, no longer than the key takes; or there are none, or they are longer; or memory ran out
+abbrev pub Finishes : {V : Type 0} → (V → List ℕ) → ℕ → (List ℕ → Type 0) → Result V RequestError → Type 0
+Finishes items max of (Ok v) = of (items v) × (length (items v) ≤ max)
+Finishes items max of (Err errors.Memory) = Unit {0}
+Finishes items max of (Err errors.Unfit) = (bs : List ℕ) → of bs → ⊥
+Finishes items max of (Err errors.MessageTooLong) = (bs : List ℕ) × of bs × (max < length bs)
+Finishes items max of (Err _) = ⊥

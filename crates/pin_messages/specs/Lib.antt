@@ -1,0 +1,5 @@
+pub mod Commands
+pub mod CommandView
+pub mod Replies
+pub mod ReplyView
+pub mod Pieces

@@ -1,0 +1,16 @@
+//! The messages of authenticatorClientPIN (CTAP 2.1, section 6.5.5), a client's end: its requests written, and a key's
+//! replies read with members that are not listed passed over.
+#![tactic(auto)]
+
+mod command;
+mod maps;
+mod reading;
+mod reply;
+mod values;
+mod writing;
+
+pub use command::{PinCommand, Point};
+pub use reading::{read_done, read_pin_reply};
+pub use reply::{AgreementKey, PinReply};
+pub use values::point_value;
+pub use writing::write_pin;

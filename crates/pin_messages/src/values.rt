@@ -1,0 +1,91 @@
+//! The values of a request's members.
+
+ghost use Rattle.std.specs.Prelude.{◌≡◌, IfOk, option_map};
+ghost use Rattle.ccbor.specs.Item.{bytes, text, uint};
+ghost use Rattle.ccbor.specs.View.{view};
+ghost use Rattle.cbor_map.specs.Content.{item_of};
+ghost use Rattle.cbor_map.specs.Table.{record_of};
+ghost use Rattle.pin_messages.specs.CommandView.{point_view};
+ghost use Rattle.pin_messages.specs.Commands.{key_members, pin_members, point_content};
+ghost use Rattle.pin_messages.specs.Pieces.{content_of};
+
+use crate::command::{PinMembers, Point};
+use cbor_map::{bytes_value, push_if_there, push_member, text_value};
+use ccbor::{MapKey, Value};
+use std::alloc::{AllocError, Global};
+
+/// The COSE_Key of a point for the key agreement (CTAP 2.1, section 6.5.6).
+pub fn point_value(alloc: Global, point: &Point<'_>) -> Result<Value, AllocError>
+    ensures { IfOk result (λ v. view v ≡ item_of (record_of key_members) (point_content (point_view point.now))) }
+{
+    let x = bytes_value(alloc, point.x)?;
+    let y = bytes_value(alloc, point.y)?;
+    let mut pairs = Vec::new(alloc);
+    push_member(alloc, &mut pairs, MapKey::Uint(1), Value::Uint(2))?;
+    push_member(alloc, &mut pairs, MapKey::Uint(3), Value::Nint(24))?;
+    push_member(alloc, &mut pairs, MapKey::Nint(0), Value::Uint(1))?;
+    push_member(alloc, &mut pairs, MapKey::Nint(1), x)?;
+    push_member(alloc, &mut pairs, MapKey::Nint(2), y)?;
+    Ok(Value::Map(pairs))
+}
+
+fn point_if_there(alloc: Global, point: Option<Point<'_>>) -> Result<Option<Value>, AllocError>
+    ensures { IfOk result (λ v. option_map view v
+        ≡ option_map (item_of (record_of key_members)) (option_map point_content (option_map point_view point.entry))) }
+{
+    match point {
+        Some(point) => Ok(Some(point_value(alloc, &point)?)),
+        None => Ok(None),
+    }
+}
+
+fn bytes_if_there(alloc: Global, content: Option<&[u8]>) -> Result<Option<Value>, AllocError>
+    ensures { IfOk result (λ v. option_map view v ≡ option_map bytes (option_map (λ b. b.now) content.entry)) }
+{
+    match content {
+        Some(content) => Ok(Some(bytes_value(alloc, content)?)),
+        None => Ok(None),
+    }
+}
+
+fn text_if_there(alloc: Global, content: Option<&str>) -> Result<Option<Value>, AllocError>
+    ensures { IfOk result (λ v. option_map view v ≡ option_map text (option_map (λ b. b.now) content.entry)) }
+{
+    match content {
+        Some(content) => Ok(Some(text_value(alloc, content)?)),
+        None => Ok(None),
+    }
+}
+
+fn number_if_there(number: Option<u64>) -> Option<Value>
+    ensures { option_map view result ≡ option_map uint number }
+{
+    match number {
+        Some(number) => Some(Value::Uint(number)),
+        None => None,
+    }
+}
+
+/// The value of a request's map.
+pub(crate) fn members_value(alloc: Global, members: &PinMembers<'_>) -> Result<Value, AllocError>
+    ensures { IfOk result (λ v. view v ≡ item_of (record_of pin_members) (content_of members.now)) }
+{
+    let key = point_if_there(alloc, members.key)?;
+    let param = bytes_if_there(alloc, members.param)?;
+    let new_pin = bytes_if_there(alloc, members.new_pin)?;
+    let pin_hash = bytes_if_there(alloc, members.pin_hash)?;
+    let permissions = number_if_there(members.permissions);
+    let rp_id = text_if_there(alloc, members.rp_id)?;
+    let protocol = Value::Uint(members.protocol);
+    let subcommand = Value::Uint(members.subcommand);
+    let mut pairs = Vec::new(alloc);
+    push_member(alloc, &mut pairs, MapKey::Uint(1), protocol)?;
+    push_member(alloc, &mut pairs, MapKey::Uint(2), subcommand)?;
+    push_if_there(alloc, &mut pairs, MapKey::Uint(3), key)?;
+    push_if_there(alloc, &mut pairs, MapKey::Uint(4), param)?;
+    push_if_there(alloc, &mut pairs, MapKey::Uint(5), new_pin)?;
+    push_if_there(alloc, &mut pairs, MapKey::Uint(6), pin_hash)?;
+    push_if_there(alloc, &mut pairs, MapKey::Uint(9), permissions)?;
+    push_if_there(alloc, &mut pairs, MapKey::Uint(10), rp_id)?;
+    Ok(Value::Map(pairs))
+}
