@@ -8,6 +8,13 @@ export const MOST_LENT = 4 * 1024 * 1024;
 // A module whose memory has grown beyond this is let go after the call, so that no later one has much to overwrite.
 const MOST_KEPT = 512 * 1024;
 const FIRST_SIZE = 1280;
+// The bytes of stack that a module has at first: enough for all but client data that nest some 60 deep. Calls that need more trap,
+// and are made again with the whole stack. So there is less to overwrite.
+const USUAL_STACK = 32 * 1024;
+
+function isTrap(error) {
+  return error instanceof WebAssembly.RuntimeError || error instanceof RangeError;
+}
 
 // The bytes of an image that has ended, all 0, for the next one.
 let spare = null;
@@ -124,24 +131,40 @@ export class Module {
   #bytes = null;
   #view = null;
   #blocks = [];
+  #data = null;
+  #whole = 0;
+  #stack = 0;
   #heap = 0;
-  #front = 0;
+  #heapEnd = 0;
   #owner = null;
+  // Whether the last calls, and what is done after them, came to their end.
+  #isWhole = true;
 
   constructor(compiled) {
     this.#compiled = compiled;
     this.#start();
   }
 
+  // The stack lies lowest, then data, then the heap.
   #start() {
     this.#exports = new WebAssembly.Instance(this.#compiled, {}).exports;
     if (this.#exports.passkey_abi_version() !== ABI_VERSION) throw new Error("passkey.wasm has another version than this package");
-    this.#blocks = [];
+    this.#whole = Number(this.#exports.__stack_pointer.value);
     this.#heap = Number(this.#exports.__heap_base.value);
-    this.#front = this.bytes().findIndex((byte) => byte !== 0);
+    this.#heapEnd = Number(this.#exports.heap_end.value);
+    this.#data = this.bytes().slice(this.#whole, this.#heap);
+    this.#blocks = [];
+    this.#begin(USUAL_STACK);
+  }
+
+  // The stack grows down to address 0, beneath which there is nothing to write to: so it may begin anywhere.
+  #begin(stack) {
+    this.#stack = stack;
+    this.#exports.__stack_pointer.value = BigInt(stack);
   }
 
   #fresh() {
+    if (this.#exports === null) this.#start();
     const { buffer } = this.#exports.memory;
     if (buffer === this.#buffer) return;
     this.#buffer = buffer;
@@ -191,22 +214,40 @@ export class Module {
     return this.#exports[name](...words);
   }
 
-  /** Makes calls of an owner, if there is one. A module whose calls ended by an error is let go. */
+  /** Makes calls of an owner, if there is one. Where the stack does not suffice they are made once more, from the first, with all of it. */
   within(calls, owner = null) {
+    if (!this.#isWhole) this.#letGo();
     if (this.#owner !== owner) this.clean();
-    if (this.#exports === null) this.#start();
-    let isWhole = false;
+    this.#fresh();
+    try {
+      return this.#made(calls, owner);
+    } catch (error) {
+      if (!isTrap(error)) throw error;
+    }
+    this.#fresh();
+    this.#begin(this.#whole);
+    try {
+      return this.#made(calls, null);
+    } catch (error) {
+      throw isTrap(error) ? new NoMemory() : error;
+    } finally {
+      if (this.#exports !== null) this.#begin(USUAL_STACK);
+    }
+  }
+
+  #made(calls, owner) {
+    let isDone = false;
+    this.#isWhole = false;
     try {
       const told = calls();
-      isWhole = true;
+      isDone = true;
       return told;
-    } catch (error) {
-      if (error instanceof WebAssembly.RuntimeError || error instanceof RangeError) throw new NoMemory();
-      throw error;
     } finally {
-      if (!isWhole || this.bytes().length > MOST_KEPT) this.#letGo();
+      if (this.bytes().length > MOST_KEPT) this.#letGo();
+      else if (!isDone) this.#putBack();
       else if (owner === null) this.#overwrite();
       else this.#owner = owner;
+      this.#isWhole = true;
     }
   }
 
@@ -217,13 +258,27 @@ export class Module {
 
   #letGo() {
     this.#exports = this.#buffer = this.#bytes = this.#view = this.#owner = null;
+    this.#isWhole = true;
   }
 
-  // The stack, which lies lowest, and the heap.
+  // Calls have returned: the stack and what was used of the heap are overwritten.
   #overwrite() {
     this.#owner = null;
     for (const block of this.#blocks.splice(0)) this.#exports.free(block);
-    this.#bytes.fill(0, 0, this.#front);
-    this.#bytes.fill(0, this.#heap);
+    const bytes = this.bytes(), view = this.view();
+    bytes.fill(0, 0, this.#stack);
+    bytes.fill(0, this.#heap, view.getUint32(this.#heapEnd, true));
+    view.setUint32(this.#heapEnd, 0, true);
+  }
+
+  // Calls were cut off: all is as it was at first.
+  #putBack() {
+    this.#owner = null;
+    this.#blocks = [];
+    const bytes = this.bytes();
+    bytes.fill(0, 0, this.#whole);
+    bytes.set(this.#data, this.#whole);
+    bytes.fill(0, this.#heap);
+    this.#begin(this.#stack);
   }
 }

@@ -20,6 +20,7 @@ enum { LEAST = 5, MOST = 40, PAGE = 65536 };
 extern unsigned char __heap_base;
 static struct head *freed[MOST + 1];
 static usize end_of_used, taken;
+usize heap_end; /* beyond it the heap was not used since the host set this to 0 */
 static unsigned char no_block[16];
 
 /* Whether the memory reaches to this address, grown where it did not. What grow answers is not looked at: binaryen 108 lowers its
@@ -48,6 +49,8 @@ __attribute__((export_name("malloc"))) void *malloc(usize size)
         head = (struct head *)end_of_used, end_of_used += (usize)1 << power;
     else
         return 0;
+    if (end_of_used > heap_end)
+        heap_end = end_of_used;
     head->power = power;
     taken++;
     return head + 1;

@@ -55,12 +55,14 @@ test("visits", async () => {
   const [{ createdAt, usedAt, aaguid, transports }] = await server.rows(user), second = Date.now() / 1000;
   assert.deepEqual([aaguid, transports], [Uint8Array.from(device.aaguid), []]);
   assert.ok(second - 60 < createdAt && createdAt <= usedAt && usedAt <= second);
-  const begun = await server.registerBegin(user, "name"), told = new Device(ES256, { id: Buffer.from("told") }), answer = told.register(begun.options);
-  const { credential } = await server.registerComplete(begun.session, { ...answer, response: { ...answer.response, transports: ["usb", 7, "No"] } });
-  assert.deepEqual(credential.transports, ["usb"]);
-  const asked = await server.authenticateBegin({ allow: [told.id] });
-  assert.deepEqual(asked.options.allowCredentials.map((one) => one.transports), [["usb"]]);
-  assert.deepEqual((await server.rows()).map((row) => [row.usedAt === null, row.transports]).at(-1), [true, ["usb"]]);
+  // A statement whose signature is asked for: what the page told is handed in twice.
+  const begun = await server.registerBegin(user, "name", { attestation: "direct" }), told = new Device(ES256, { id: Buffer.from("told") });
+  const answer = told.register(begun.options, { isPacked: true }), transports3 = ["usb", "nfc", "ble"];
+  const { credential, format } = await server.registerComplete(begun.session, { ...answer, response: { ...answer.response, transports: ["usb", 7, "No", "nfc", "ble"] } });
+  assert.deepEqual([credential.transports, format], [transports3, "packed"]);
+  const asked = await server.authenticateBegin({ allow: [device.id, told.id] });
+  assert.deepEqual(asked.options.allowCredentials.map((one) => one.transports), [undefined, transports3]);
+  assert.deepEqual((await server.rows()).map((row) => [row.usedAt === null, row.transports]).at(-1), [true, transports3]);
   assert.equal(await server.delete(told.id), true);
   await assert.rejects(registered(server, device), { name: "G15", isRegistration: true });
   for (const none of [null, undefined, 0]) await assert.rejects(server.authenticateComplete(none, response), { name: "W1" });
