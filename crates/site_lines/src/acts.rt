@@ -1,7 +1,9 @@
 //! The acts, and what each takes: the one table that the help shows and the parser reads.
 
-ghost use Rattle.std.specs.Prelude.{◌≡◌, IfSome};
-ghost use Rattle.site_lines.specs.Private.{kind_name};
+ghost use Rattle.std.specs.Prelude.{◌≡◌, IfErr, MatchOption};
+ghost use Rattle.serde_json.specs.View.{view};
+ghost use Rattle.site_lines.specs.Faults.{IsLacking, kind_name};
+ghost use Rattle.site_lines.specs.declared.acts.ActKind.{ActKind as Kind};
 
 use crate::error::LineError;
 use serde_json::Value;
@@ -275,15 +277,22 @@ static MEMBERS: [Member; 25] = [
 
 /// The act of this name.
 pub(crate) fn act_named(name: &str) -> Option<ActKind>
-    ensures { IfSome result (λ kind. name.now ≡ kind_name kind) }
+    ensures { MatchOption result ((kind : Kind) → name.now ≡ kind_name kind → ⊥) (λ kind. name.now ≡ kind_name kind) }
 {
-    for form in &FORMS {
-        let kind = form.kind;
-        if kind.name() == name {
-            return Some(kind);
-        }
+    match name {
+        "begin_registration" => Some(ActKind::BeginRegistration),
+        "finish_registration" => Some(ActKind::FinishRegistration),
+        "begin_sign_in" => Some(ActKind::BeginSignIn),
+        "finish_sign_in" => Some(ActKind::FinishSignIn),
+        "retire" => Some(ActKind::Retire),
+        "delete" => Some(ActKind::Delete),
+        "abandon" => Some(ActKind::Abandon),
+        "expire" => Some(ActKind::Expire),
+        "rows" => Some(ActKind::Rows),
+        "status" => Some(ActKind::Status),
+        "backup" => Some(ActKind::Backup),
+        _ => None,
     }
-    None
 }
 
 /// Whether a line of this act may have a member of this name.
@@ -300,7 +309,9 @@ fn takes(act: ActKind, name: &str) -> bool {
 }
 
 /// That a line has no member that its act does not take.
-fn check_names(act: ActKind, line: &Value) -> Result<(), LineError> {
+fn check_names(act: ActKind, line: &Value) -> Result<(), LineError>
+    ensures { IfErr result (IsLacking (view line.now)) }
+{
     let Some(members) = line.as_object() else {
         return Err(LineError::NotAnObject);
     };
@@ -313,7 +324,9 @@ fn check_names(act: ActKind, line: &Value) -> Result<(), LineError> {
 }
 
 /// That a line has each member that its act needs, and none that it does not take.
-pub(crate) fn check_members(act: ActKind, line: &Value) -> Result<(), LineError> {
+pub(crate) fn check_members(act: ActKind, line: &Value) -> Result<(), LineError>
+    ensures { IfErr result (IsLacking (view line.now)) }
+{
     check_names(act, line)?;
     for member in &MEMBERS {
         if member.act == act && member.is_needed && line.get(member.name).is_none() {
