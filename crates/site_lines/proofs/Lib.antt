@@ -9,3 +9,4 @@ pub mod Shallow
 pub mod Accepted
 pub mod Counted
 pub mod Amiss
+pub mod Named

@@ -1,8 +1,8 @@
 -- Why a line is refused: what an error names is so of the line.
-use Rattle.std.specs.Prelude.{◌≡◌, ◌≤◌, ◌<◌, ◌⊎◌, ℕ, ⊤, Bool, List, codes, length, IsUtf8, Option, Some, None, option_and_then, false}
+use Rattle.std.specs.Prelude.{◌≡◌, ◌≤◌, ◌<◌, ◌⊎◌, ℕ, ⊤, Bool, List, [], ◌∷◌, codes, length, IsUtf8, Option, Some, None, option_and_then, false}
 use Rattle.std.specs.List.{AllByRecursion}
 use Rattle.base64.specs.GeneralPurpose.{IsBytes}
-use Rattle.serde_json.specs.Data.{Data}
+use Rattle.serde_json.specs.Data.{Data, Members, member as entry, no_members}
 use Rattle.serde_json.specs.Find.{as_array, as_bool, as_i64, as_number, as_object, as_str, as_u64, get}
 use Rattle.serde_json.specs.Read.{read}
 use Rattle.serde_json.specs.View.{items_of}
@@ -202,19 +202,49 @@ kind_name kinds.Rows = codes "rows"
 kind_name kinds.Status = codes "status"
 kind_name kinds.Backup = codes "backup"
 
--- a line has a member that its act does not take, or a member is missing
-abbrev pub IsLacking : Data → LineError → Type 0
-IsLacking d errors.UnknownMember = ⊤
-IsLacking d errors.NotAnObject = as_object d ≡ None
-IsLacking d (errors.Missing n) = get n.now d ≡ None
-IsLacking d _ = ⊥
+-- the names of the members of an act's lines, beside `id` and `act`
+abbrev pub names_for : ActKind → List (List ℕ)
+names_for kinds.BeginRegistration =
+    codes "user" ∷ codes "user_name" ∷ codes "display_name" ∷ codes "exclude" ∷ codes "user_verification" ∷ codes "resident" ∷ codes "algorithms"
+    ∷ codes "conditional" ∷ codes "attestation" ∷ []
+names_for kinds.FinishRegistration = codes "session" ∷ codes "response" ∷ codes "transports" ∷ codes "verified" ∷ []
+names_for kinds.BeginSignIn = codes "user" ∷ codes "allow" ∷ codes "user_verification" ∷ []
+names_for kinds.FinishSignIn = codes "session" ∷ codes "response" ∷ codes "verified" ∷ []
+names_for kinds.Retire = codes "credential" ∷ []
+names_for kinds.Delete = codes "credential" ∷ []
+names_for kinds.Abandon = codes "session" ∷ []
+names_for kinds.Expire = codes "older_than" ∷ []
+names_for kinds.Rows = codes "user" ∷ []
+names_for kinds.Status = []
+names_for kinds.Backup = codes "path" ∷ []
+
+-- a name is one of these
+abbrev pub IsOneOf : List (List ℕ) → List ℕ → Type 0
+IsOneOf [] name = ⊥
+IsOneOf (n ∷ ns) name = (name ≡ n) ⊎ IsOneOf ns name
+
+-- the names of an object's members
+abbrev pub names_in : Members → List (List ℕ)
+names_in no_members = []
+names_in (entry k d ms) = k ∷ names_in ms
+
+-- members of which an act does not take one
+abbrev pub HasUnknownIn : ActKind → Members → LineError → Type 0
+HasUnknownIn kind ms e =
+    (e ≡ errors.UnknownMember) × ((name : List ℕ) × IsOneOf (names_in ms) name × (IsOneOf (codes "id" ∷ codes "act" ∷ names_for kind) name → ⊥))
+
+-- a line is an object that has a member which its act does not take
+abbrev pub HasUnknown : ActKind → Data → LineError → Type 0
+HasUnknown kind d e =
+    (e ≡ errors.UnknownMember)
+    × ((ms : Members) × (name : List ℕ) × (as_object d ≡ Some ms) × IsOneOf (names_in ms) name × (IsOneOf (codes "id" ∷ codes "act" ∷ names_for kind) name → ⊥))
 
 -- its `act` is a text, and names no act
 abbrev pub IsNoAct : Data → LineError → Type 0
 IsNoAct d e = (e ≡ errors.UnknownAct) × ((name : List ℕ) × HasText (codes "act") d name × ((kind : ActKind) → name ≡ kind_name kind → ⊥))
 
 abbrev pub IsOfAct : Data → LineError → Type 0
-IsOfAct d e = (kind : ActKind) × HasText (codes "act") d (kind_name kind) × (IsLacking d e ⊎ OfAct kind d e)
+IsOfAct d e = (kind : ActKind) × HasText (codes "act") d (kind_name kind) × (HasUnknown kind d e ⊎ OfAct kind d e)
 
 -- what is refused of an object that has a number
 abbrev pub IsRefusedIn : Data → LineError → Type 0

@@ -97,10 +97,11 @@ fn begin_registration(alloc: Global, line: &Value) -> Result<BeginRegistration, 
     ensures found { IfOk result (SaysBeginRegistration (view line.now)) }
     ensures amiss { IfErr result (OfBeginRegistration (view line.now)) }
 {
+    let user = bytes(alloc, line, "user")?;
     let user_name = text(line, "user_name")?;
     let display_name = text_or(line, "display_name", user_name)?;
     Ok(BeginRegistration {
-        user: bytes(alloc, line, "user")?,
+        user,
         user_name: String::from_str(alloc, user_name)?,
         display_name: String::from_str(alloc, display_name)?,
         exclude: list_of_bytes(alloc, line, "exclude")?,
@@ -128,9 +129,10 @@ fn finish_registration(alloc: Global, line: &Value) -> Result<FinishRegistration
     ensures found { IfOk result (SaysFinishRegistration (view line.now)) }
     ensures amiss { IfErr result (OfFinishRegistration (view line.now)) }
 {
+    let session = number(line, "session")?;
     let response = needed(line, "response")?;
     Ok(FinishRegistration {
-        session: number(line, "session")?,
+        session,
         credential: credential_id(alloc, response)?,
         response: registration_response(alloc, response)?,
         transports: transports(alloc, line)?,
