@@ -66,6 +66,11 @@ def frames(tests):
                 device.said, step = said, alone if name == "alone" else framed
                 if step is not None:
                     tests.check(f"{name}: a sign-in that says {said}", step_of(signs_in(host, device)), f"W{step}")
+            # Each step that refused is counted, those of Level 3 too.
+            steps = {step for _, *found in FRAMES for step in (found[name == "framed"],) if step is not None}
+            status = host.ask("status")["status"]
+            tests.check(f"{name}: refusals by step", ([int(step[1:]) for step in sorted(status["sign_ins_refused"])],
+                                                      [int(step[1:]) for step in sorted(status["registrations_refused"])]), (sorted(steps), sorted(steps)))
         tests.check(f"{name}: the end", host.end()[0], 0)
 
 

@@ -6,7 +6,7 @@ use Rattle.cose.specs.declared.key.CoseKey.{CoseKey}
 use Rattle.serde_json.specs.Data.{Data}
 use Rattle.verified_signature.specs.Coordinates.{key_with}
 use Rattle.site_lines.specs.Lines.{HasBytes, HasKey}
-use Rattle.site_lines.specs.Private.{HasYOf, IsAlgorithmOf}
+use Rattle.site_lines.specs.Faults.{HasYOf, IsAlgorithmOf}
 
 has_key : (d : Data) (alg : Alg) (x y : List ℕ) → IsAlgorithmOf d alg → HasBytes (codes "x") d x → HasYOf alg d y → HasKey d (key_with alg x y)
 has_key d algs.Es256 x y a has_x has_y = record { algorithm = a; x = has_x; y = has_y }

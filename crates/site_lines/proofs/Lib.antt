@@ -5,3 +5,8 @@ pub mod Asked
 pub mod Finished
 pub mod Detailed
 pub mod Batched
+pub mod Shallow
+pub mod Accepted
+pub mod Counted
+pub mod Amiss
+pub mod Named

@@ -1,12 +1,12 @@
 -- Lines that are carried out together and committed together.
-use Rattle.std.specs.Prelude.{◌≡◌, ◌⊎◌, ℕ, List, [], ◌∷◌, Some, true, false}
-use Rattle.std.specs.List.{AllByRecursion}
+use Rattle.std.specs.Prelude.{◌≡◌, ◌⊎◌, ℕ, List, [], ◌∷◌, Some, map, true, false}
 use Rattle.sqlite_trees.specs.Tree.{Trees}
 use Rattle.sqlite_trees.specs.View.{View, IsClean}
 use Rattle.kept_site.specs.State.{KeptState}
 use Rattle.kept_site.specs.declared.failure.Failure.{Failure}
 use Rattle.site_lines.specs.Answers.{Keeps, Tells}
 use Rattle.site_lines.specs.Details.{TellsDetails}
+use Rattle.site_lines.specs.Faults.{IsRefused}
 use Rattle.site_lines.specs.Lines.{Reads}
 use Rattle.site_lines.specs.declared.act.Act.{Act}
 use Rattle.site_lines.specs.declared.error.LineError.{LineError}
@@ -14,12 +14,12 @@ use Rattle.site_lines.specs.declared.line.Answered.{Answered}
 use Rattle.site_lines.specs.declared.line.Arrived.{Arrived}
 use Rattle.site_lines.specs.declared.answer.Answer.TheVariants as answers
 
--- a line is answered with its number, by what its act tells, with its own random bytes; or it is refused
+-- a line is answered with its number, by what its act tells, with its own random bytes; or it is refused, for the cause that is named
 abbrev pub IsAnswered : {S : Type 0} → (S → View) → ℕ → Arrived → KeptState S → KeptState S → Answered → Type 0
 IsAnswered view now line old new a =
     ((id : ℕ) × (act : Act) × Reads line.line.items id act × (a.id ≡ Some id) × Tells view line.words now act old new a.answer
     × TellsDetails view now act old new a.answer)
-    ⊎ ((why : LineError) × (a.answer ≡ answers.Error why))
+    ⊎ ((why : LineError) × (a.answer ≡ answers.Error why) × IsRefused line.line.items a.id why)
 
 -- each line is answered, in order
 abbrev pub Runs : {S : Type 0} → (S → View) → ℕ → KeptState S → List Arrived → List Answered → KeptState S → Type 0
@@ -28,9 +28,9 @@ Runs {S} view now old (line ∷ lines) (a ∷ rest) new =
     (mid : KeptState S) × IsAnswered view now line old mid a × Keeps view old mid a.answer × Runs view now mid lines rest new
 Runs view now old _ _ new = ⊥
 
--- each answer is this failure
-abbrev pub AreFailed : Failure → List Answered → Type 0
-AreFailed why told = AllByRecursion (λ a. a.answer ≡ answers.Failed why) told
+-- a line is answered by this failure, with its number
+abbrev pub failed_as : Failure → Answered → Answered
+failed_as why a = record a { answer = answers.Failed why }
 
 -- the site is as the lines have left it, and all of it is committed: a crash from now on leaves just this
 pub record IsCommitted {S : Type 0} (view : S → View) (recovers : S → Trees → Type 0) (mid new : KeptState S) : Type 0 where
@@ -42,7 +42,7 @@ pub record IsCommitted {S : Type 0} (view : S → View) (recovers : S → Trees 
 abbrev pub Answers : {S : Type 0} → (S → View) → (S → Trees → Type 0) → ℕ → KeptState S → List Arrived → List Answered → KeptState S → Type 0
 Answers {S} view recovers now old lines told new =
     ((mid : KeptState S) × Runs view now old lines told mid × IsCommitted view recovers mid new)
-    ⊎ ((why : Failure) × AreFailed why told × (new.is_shut ≡ true))
+    ⊎ ((why : Failure) × (carried : List Answered) × (mid : KeptState S) × Runs view now old lines carried mid × (told ≡ map (failed_as why) carried) × (new.is_shut ≡ true))
 
 -- what is in the file where the commit was cut off behind its write: all that the lines have done
 abbrev pub Leaves : {S : Type 0} → (S → View) → ℕ → KeptState S → List Arrived → Trees → Type 0

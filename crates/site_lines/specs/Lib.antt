@@ -5,3 +5,5 @@ pub mod Batches
 pub mod Private
 pub mod Lines
 pub mod Options
+pub mod Written
+pub mod Faults

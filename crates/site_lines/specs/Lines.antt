@@ -1,5 +1,5 @@
 -- What a line says: the act that it names and each of the act's members, over the reading of JSON that `serde_json` states.
-use Rattle.std.specs.Prelude.{◌≡◌, ◌⊎◌, ℕ, ⊤, Bool, false, true, List, [], ◌∷◌, codes, map, Option, Some, None, option_and_then, option_map, string_bytes}
+use Rattle.std.specs.Prelude.{◌≡◌, ◌≤◌, ◌⊎◌, ℕ, ⊤, Bool, false, true, List, [], ◌∷◌, codes, length, map, IsUtf8, Option, Some, None, option_and_then, option_map, string_bytes}
 use Rattle.base64.specs.GeneralPurpose.{encode_of}
 use Rattle.base64.specs.Engines.{url_safe_no_pad}
 use Rattle.serde_json.specs.Data.{Data, array, boolean, null, number, object, string}
@@ -195,6 +195,6 @@ HasMembers d (acts.Backup path) = HasText (codes "path") d (string_bytes path)
 abbrev pub Says : Data → Act → Type 0
 Says d act = HasText (codes "act") d (name_of act) × HasMembers d act
 
--- a line is a JSON text with this number and this act
+-- a line is at most 65,536 bytes of UTF-8, and a JSON text with this number and this act
 abbrev pub Reads : List ℕ → ℕ → Act → Type 0
-Reads line id act = (d : Data) × (read line ≡ Some d) × HasNumber (codes "id") d id × Says d act
+Reads line id act = (length line ≤ 65536) × IsUtf8 line × ((d : Data) × (read line ≡ Some d) × HasNumber (codes "id") d id × Says d act)

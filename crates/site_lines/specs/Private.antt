@@ -1,7 +1,8 @@
 -- What private functions are proved against; no public clause cites it.
-use Rattle.std.specs.Prelude.{◌≡◌, ◌⊎◌, ◌≤◌, ◌+◌, ◌^◌, ℕ, ⊤, List, [], codes, Option, None, Some, Vec, map, option_and_then}
-use Rattle.serde_json.specs.Data.{Data}
-use Rattle.serde_json.specs.Find.{as_array}
+use Rattle.std.specs.Prelude.{◌≡◌, ◌⊎◌, ◌≤◌, ◌+◌, ◌^◌, ℕ, ⊤, List, [], ◌∷◌, codes, false, Option, None, Some, Vec, map, option_and_then}
+use Rattle.serde_json.specs.Data.{Data, depth, string}
+use Rattle.std.specs.Borrow.{Bor}
+use Rattle.serde_json.specs.Find.{as_array, as_bool}
 use Rattle.serde_json.specs.View.{items_view}
 use Rattle.serde_json.specs.declared.value.Value.{Value}
 use Rattle.sqlite_trees.specs.View.{View}
@@ -26,12 +27,13 @@ use Rattle.site_lines.specs.declared.answer.Answer.{Answer}
 use Rattle.site_lines.specs.declared.answer.Answer.TheVariants as answers
 use Rattle.site_lines.specs.declared.error.LineError.TheVariants as errors
 use Rattle.site_lines.specs.declared.verified.Verified.TheVariants as found
-use Rattle.site_lines.specs.Lines.{HasBytes, IsAlgorithm, member}
-use Rattle.cose.specs.declared.key.Alg.{Alg}
-use Rattle.cose.specs.declared.key.Alg.TheVariants as algs
+use Rattle.verified_signature.specs.declared.signature.VerifiedSignature.{VerifiedSignature}
+use Rattle.site_lines.specs.declared.verified.Verified.{Verified}
+use Rattle.site_lines.specs.declared.error.LineError.{LineError}
+use Rattle.site_lines.specs.Lines.{HasBytes, HasKey, member}
+use Rattle.site_lines.specs.Written.{answered, step, whole_row}
+use Rattle.site_lines.specs.declared.answer.Known.{Known}
 use Rattle.authdata.specs.declared.response.RegistrationResponse.{RegistrationResponse}
-use Rattle.site_lines.specs.declared.acts.ActKind.{ActKind}
-use Rattle.site_lines.specs.declared.acts.ActKind.TheVariants as kinds
 use Rattle.site_lines.specs.Answers.{OfHeld, RegistrationAsks, SignInAsks}
 use Rattle.site_lines.specs.Details.{AreKnown, OfDetails}
 use Rattle.credential_details.specs.Details.{Detail, HoldsDetails}
@@ -77,30 +79,6 @@ IsRefusedRegistration profile step f _ = ⊥
 abbrev pub AreItems : List ℕ → Data → List Value → Type 0
 AreItems name d items = (option_and_then as_array (member name d) ≡ Some (items_view items)) ⊎ ((member name d ≡ None) × (items ≡ []))
 
--- the algorithm of a key
-abbrev pub IsAlgorithmOf : Data → Alg → Type 0
-IsAlgorithmOf d alg = (m : Data) × (member (codes "algorithm") d ≡ Some m) × IsAlgorithm m alg
-
--- the coordinate y of a key of this algorithm
-abbrev pub HasYOf : Alg → Data → List ℕ → Type 0
-HasYOf algs.Es256 d y = HasBytes (codes "y") d y
-HasYOf algs.EdDsa d y = ⊤
-HasYOf algs.Rs256 d y = HasBytes (codes "y") d y
-
--- the name of a kind of acts
-abbrev pub kind_name : ActKind → List ℕ
-kind_name kinds.BeginRegistration = codes "begin_registration"
-kind_name kinds.FinishRegistration = codes "finish_registration"
-kind_name kinds.BeginSignIn = codes "begin_sign_in"
-kind_name kinds.FinishSignIn = codes "finish_sign_in"
-kind_name kinds.Retire = codes "retire"
-kind_name kinds.Delete = codes "delete"
-kind_name kinds.Abandon = codes "abandon"
-kind_name kinds.Expire = codes "expire"
-kind_name kinds.Rows = codes "rows"
-kind_name kinds.Status = codes "status"
-kind_name kinds.Backup = codes "backup"
-
 -- the parts of a registration's response
 abbrev pub HasParts : Data → RegistrationResponse → Type 0
 HasParts d r =
@@ -134,3 +112,57 @@ abbrev pub KeepsDetail : {S : Type 0} → (S → View) → Detail → KeptState 
 KeepsDetail view d old new (answers.Registered x response) =
     OfDetails view old new (λ placed details. HoldsDetails (finite.insert details (old.last + 1) d) (view new.store).trees)
 KeepsDetail view d old new _ = Unit {0}
+
+-- ---- lines in
+
+-- a value is refused as that of a member, since it has not a form; want of memory says nothing
+abbrev pub IsRefusedAs : Bor (List ℕ) → Type 0 → LineError → Type 0
+IsRefusedAs name Is e = (e ≡ errors.Memory) ⊎ ((e ≡ errors.BadForm name) × (Is → ⊥))
+
+-- a member is there, and no list
+abbrev pub IsNoList : Bor (List ℕ) → Data → LineError → Type 0
+IsNoList name d e = (e ≡ errors.BadForm name) × ((m : Data) × (member name.now d ≡ Some m) × (as_array m ≡ None))
+
+-- the signature that a host verified
+abbrev pub IsSignature : Data → VerifiedSignature → Type 0
+IsSignature d t = HasKey d t.key × HasBytes (codes "message") d t.message.items × HasBytes (codes "signature") d t.signature.items
+
+-- what a host says of a signature
+abbrev pub IsSaid : Data → Verified → Type 0
+IsSaid d found.Nothing = ⊥
+IsSaid d found.Invalid = as_bool d ≡ Some false
+IsSaid d (found.Valid t) = IsSignature d t
+
+-- ---- lines out
+
+-- a row with what is known of it; none where nothing is told of it
+abbrev pub row_at : Row → Option Known → List Data
+row_at row None = []
+row_at row (Some k) = whole_row row k ∷ []
+
+-- a text, whichever
+abbrev pub IsText : Data → Type 0
+IsText d = (text : List ℕ) × (d ≡ string text)
+
+abbrev pub IsStep : List ℕ → ℕ → Data → Type 0
+IsStep letter n d = (text : List ℕ) × (d ≡ step letter n text)
+
+abbrev pub SaysWhy : Option ℕ → List ℕ → Data → Type 0
+SaysWhy id name d = (text : List ℕ) × (d ≡ answered id name (string text))
+
+-- an answer to a line that is no ceremony's, or that is refused
+abbrev pub IsOther : Answer → Type 0
+IsOther (answers.RegistrationBegun started b known) = ⊥
+IsOther (answers.SignInBegun started b known) = ⊥
+IsOther (answers.Registered x r) = ⊥
+IsOther (answers.SignedIn x r) = ⊥
+IsOther (answers.Verify t) = ⊥
+IsOther (answers.RegistrationRefused step id) = ⊥
+IsOther (answers.SignInRefused step id) = ⊥
+IsOther _ = ⊤
+
+-- what is written of an acceptance nests no deeper than can be read
+abbrev pub IsShallow : Answer → Data → Type 0
+IsShallow (answers.Registered x r) d = depth d ≤ 2
+IsShallow (answers.SignedIn x r) d = depth d ≤ 2
+IsShallow _ d = ⊤

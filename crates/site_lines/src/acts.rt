@@ -1,10 +1,12 @@
-//! The acts, and what each takes: the one table that the help shows and the parser reads.
+//! The acts, what each takes, and what the help shows of it.
 
-ghost use Rattle.std.specs.Prelude.{◌≡◌, IfSome};
-ghost use Rattle.site_lines.specs.Private.{kind_name};
+ghost use Rattle.std.specs.Prelude.{◌≡◌, ◌↔◌, ◌∷◌, IfErr, IsTrue, MatchOption, codes};
+ghost use Rattle.serde_json.specs.View.{members_view, view};
+ghost use Rattle.site_lines.specs.Faults.{HasUnknown, HasUnknownIn, IsOneOf, kind_name, names_for};
+ghost use Rattle.site_lines.specs.declared.acts.ActKind.{ActKind as Kind};
 
 use crate::error::LineError;
-use serde_json::Value;
+use serde_json::{Map, Value};
 use std::alloc::{AllocError, Global};
 use std::fmt::Write;
 
@@ -275,35 +277,69 @@ static MEMBERS: [Member; 25] = [
 
 /// The act of this name.
 pub(crate) fn act_named(name: &str) -> Option<ActKind>
-    ensures { IfSome result (λ kind. name.now ≡ kind_name kind) }
+    ensures { MatchOption result ((kind : Kind) → name.now ≡ kind_name kind → ⊥) (λ kind. name.now ≡ kind_name kind) }
 {
-    for form in &FORMS {
-        let kind = form.kind;
-        if kind.name() == name {
-            return Some(kind);
-        }
+    match name {
+        "begin_registration" => Some(ActKind::BeginRegistration),
+        "finish_registration" => Some(ActKind::FinishRegistration),
+        "begin_sign_in" => Some(ActKind::BeginSignIn),
+        "finish_sign_in" => Some(ActKind::FinishSignIn),
+        "retire" => Some(ActKind::Retire),
+        "delete" => Some(ActKind::Delete),
+        "abandon" => Some(ActKind::Abandon),
+        "expire" => Some(ActKind::Expire),
+        "rows" => Some(ActKind::Rows),
+        "status" => Some(ActKind::Status),
+        "backup" => Some(ActKind::Backup),
+        _ => None,
     }
-    None
 }
 
 /// Whether a line of this act may have a member of this name.
-fn takes(act: ActKind, name: &str) -> bool {
+fn takes(act: ActKind, name: &str) -> bool
+    ensures { IsTrue result ↔ IsOneOf (codes "id" ∷ codes "act" ∷ names_for act) name.now }
+{
     if name == "id" || name == "act" {
         return true;
     }
-    for member in &MEMBERS {
-        if member.act == act && member.name == name {
-            return true;
-        }
+    match act {
+        ActKind::BeginRegistration => match name {
+            "user"
+            | "user_name"
+            | "display_name"
+            | "exclude"
+            | "user_verification"
+            | "resident"
+            | "algorithms"
+            | "conditional"
+            | "attestation" => true,
+            _ => false,
+        },
+        ActKind::FinishRegistration => match name {
+            "session" | "response" | "transports" | "verified" => true,
+            _ => false,
+        },
+        ActKind::BeginSignIn => match name {
+            "user" | "allow" | "user_verification" => true,
+            _ => false,
+        },
+        ActKind::FinishSignIn => match name {
+            "session" | "response" | "verified" => true,
+            _ => false,
+        },
+        ActKind::Retire | ActKind::Delete => name == "credential",
+        ActKind::Abandon => name == "session",
+        ActKind::Expire => name == "older_than",
+        ActKind::Rows => name == "user",
+        ActKind::Status => false,
+        ActKind::Backup => name == "path",
     }
-    false
 }
 
 /// That a line has no member that its act does not take.
-fn check_names(act: ActKind, line: &Value) -> Result<(), LineError> {
-    let Some(members) = line.as_object() else {
-        return Err(LineError::NotAnObject);
-    };
+fn check_names(act: ActKind, members: &Map<String, Value>) -> Result<(), LineError>
+    ensures { IfErr result (HasUnknownIn act (members_view members.now.entries)) }
+{
     for (name, _) in members {
         if !takes(act, name.as_str()) {
             return Err(LineError::UnknownMember);
@@ -312,15 +348,14 @@ fn check_names(act: ActKind, line: &Value) -> Result<(), LineError> {
     Ok(())
 }
 
-/// That a line has each member that its act needs, and none that it does not take.
-pub(crate) fn check_members(act: ActKind, line: &Value) -> Result<(), LineError> {
-    check_names(act, line)?;
-    for member in &MEMBERS {
-        if member.act == act && member.is_needed && line.get(member.name).is_none() {
-            return Err(LineError::Missing(member.name));
-        }
+/// That an object has no member that its act does not take.
+pub(crate) fn check_members(act: ActKind, line: &Value) -> Result<(), LineError>
+    ensures { IfErr result (HasUnknown act (view line.now)) }
+{
+    match line.as_object() {
+        Some(members) => check_names(act, members),
+        None => Ok(()),
     }
-    Ok(())
 }
 
 /// The lines of the help on one act.

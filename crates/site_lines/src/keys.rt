@@ -1,10 +1,10 @@
 //! Public keys, as they stand in a line: the algorithm's COSE number and the coordinates x and y, of an RSA key the modulus
 //! and the exponent.
 
-ghost use Rattle.std.specs.Prelude.{IfOk};
+ghost use Rattle.std.specs.Prelude.{IfErr, IfOk, codes};
 ghost use Rattle.serde_json.specs.View.{view};
 ghost use Rattle.site_lines.specs.Lines.{HasKey};
-ghost use Rattle.site_lines.specs.Private.{HasYOf, IsAlgorithmOf};
+ghost use Rattle.site_lines.specs.Faults.{AreBytes, HasYOf, IsAlgorithmOf, IsAmiss, IsKnownAlgorithm, OfKey};
 
 use crate::error::LineError;
 use crate::members::{algorithm, bytes, needed};
@@ -15,7 +15,8 @@ use verified_signature::{Coordinate, key_from};
 
 /// The algorithm of the member `algorithm`.
 fn algorithm_of(object: &Value) -> Result<Alg, LineError>
-    ensures { IfOk result (IsAlgorithmOf (view object.now)) }
+    ensures found { IfOk result (IsAlgorithmOf (view object.now)) }
+    ensures amiss { IfErr result (IsAmiss (codes "algorithm") IsKnownAlgorithm (view object.now)) }
 {
     let found = algorithm(needed(object, "algorithm")?, "algorithm")?;
     Ok(found)
@@ -23,7 +24,8 @@ fn algorithm_of(object: &Value) -> Result<Alg, LineError>
 
 /// The bytes of the member `y`; of EdDSA it is not looked at.
 fn y_of(alloc: Global, object: &Value, alg: Alg) -> Result<Vec<u8>, LineError>
-    ensures { IfOk result (λ y. HasYOf alg (view object.now) y.items) }
+    ensures found { IfOk result (λ y. HasYOf alg (view object.now) y.items) }
+    ensures amiss { IfErr result (IsAmiss (codes "y") AreBytes (view object.now)) }
 {
     match alg {
         Alg::EdDsa => Ok(Vec::new(alloc)),
@@ -33,7 +35,8 @@ fn y_of(alloc: Global, object: &Value, alg: Alg) -> Result<Vec<u8>, LineError>
 
 /// The key of the members `algorithm`, `x` and `y`; of EdDSA `y` is not looked at.
 pub(crate) fn key(alloc: Global, object: &Value) -> Result<CoseKey, LineError>
-    ensures { IfOk result (HasKey (view object.now)) }
+    ensures found { IfOk result (HasKey (view object.now)) }
+    ensures amiss { IfErr result (OfKey (view object.now)) }
 {
     let alg = algorithm_of(object)?;
     let x = bytes(alloc, object, "x")?;

@@ -20,6 +20,7 @@ mod reading;
 mod response;
 mod tally;
 mod transports;
+mod values;
 mod verified;
 mod writing;
 

@@ -1,11 +1,11 @@
 //! From lines to their answers.
 
-ghost use Rattle.std.specs.Prelude.{◌≡◌, ◌⊎◌, IfOk, OnErr, OnOk, Some, true};
+ghost use Rattle.std.specs.Prelude.{◌≡◌, ◌⊎◌, IfOk, OnErr, OnOk, Some, map, true};
 ghost use Rattle.sqlite_trees.specs.Tree.{Trees};
 ghost use Rattle.site_lines.specs.declared.answer.Answer.TheVariants as answers;
 ghost use Rattle.site_lines.specs.Answers.{Keeps, Tells};
 ghost use Rattle.site_lines.specs.Details.{TellsDetails};
-ghost use Rattle.site_lines.specs.Batches.{Answers, AreFailed, IsAnswered, IsCommitted, Leaves, Runs};
+ghost use Rattle.site_lines.specs.Batches.{Answers, IsAnswered, IsCommitted, Leaves, Runs, failed_as};
 
 use crate::act::Act;
 use crate::acting::carry_out;
@@ -82,7 +82,8 @@ fn carried_out<S: Store>(
 
 /// What a line that is refused is answered.
 fn refused(fault: LineFault) -> Answered
-    ensures { result.answer ≡ answers.Error fault.error }
+    ensures answer { result.answer ≡ answers.Error fault.error }
+    ensures number { result.id ≡ fault.id }
 {
     Answered {
         id: fault.id,
@@ -128,7 +129,7 @@ fn carry_all<S: Store>(
 
 /// The same answers, each a failure.
 fn failed(alloc: Global, answers: &[Answered], why: Failure) -> Result<Vec<Answered>, AllocError>
-    ensures { IfOk result (λ told. AreFailed why told.items) }
+    ensures { IfOk result (λ told. told.items ≡ map (failed_as why) answers.now) }
 {
     let mut told = Vec::with_capacity(alloc, answers.len())?;
     for answered in answers {

@@ -1,10 +1,11 @@
 //! Reading a line.
 
-ghost use Rattle.std.specs.Prelude.{◌≡◌, IfOk, Some};
+ghost use Rattle.std.specs.Prelude.{◌≡◌, ◌≤◌, IfErr, IfOk, IsUtf8, Some, length};
 ghost use Rattle.serde_json.specs.Read.{read};
 ghost use Rattle.serde_json.specs.View.{view};
 ghost use Rattle.site_lines.specs.Lines.{HasMembers, HasVerified, Reads, Says, SaysAsks, SaysBeginRegistration, SaysBeginSignIn, SaysFinishRegistration, SaysFinishSignIn, name_of};
-ghost use Rattle.site_lines.specs.Private.{kind_name};
+ghost use Rattle.site_lines.specs.Faults.{IsRefused, IsRefusedIn, IsUnread, OfAct, OfAsks, OfBeginRegistration, OfBeginSignIn, OfFinishRegistration, OfFinishSignIn, OfFive, OfSignature, OfVerified, kind_name};
+ghost use Rattle.site_lines.specs.Private.{IsSaid, IsSignature};
 
 use crate::act::{Act, BeginRegistration, BeginSignIn, FinishRegistration, FinishSignIn};
 use crate::acts::{ActKind, act_named, check_members};
@@ -41,29 +42,49 @@ pub struct LineFault {
     pub error: LineError,
 }
 
-/// What the host found of the signature: the five members of `verify`, where it is valid, or false where it is not.
-fn verified(alloc: Global, line: &Value) -> Result<Verified, LineError>
-    ensures { IfOk result (HasVerified (view line.now)) }
+/// The signature of the five members of `verify`.
+fn signature(alloc: Global, found: &Value) -> Result<VerifiedSignature, LineError>
+    ensures found { IfOk result (IsSignature (view found.now)) }
+    ensures amiss { IfErr result (OfFive (view found.now)) }
 {
-    let Some(found) = member(line, "verified") else {
-        return Ok(Verified::Nothing);
-    };
+    Ok(VerifiedSignature {
+        key: key(alloc, found)?,
+        message: bytes(alloc, found, "message")?,
+        signature: bytes(alloc, found, "signature")?,
+    })
+}
+
+/// What the host says of the signature.
+fn said(alloc: Global, found: &Value) -> Result<Verified, LineError>
+    ensures found { IfOk result (IsSaid (view found.now)) }
+    ensures amiss { IfErr result (OfSignature (view found.now)) }
+{
     if found.as_bool() == Some(false) {
         return Ok(Verified::Invalid);
     }
     if !found.is_object() {
         return Err(LineError::BadForm("verified"));
     }
-    Ok(Verified::Valid(VerifiedSignature {
-        key: key(alloc, found)?,
-        message: bytes(alloc, found, "message")?,
-        signature: bytes(alloc, found, "signature")?,
-    }))
+    let valid = signature(alloc, found)?;
+    Ok(Verified::Valid(valid))
+}
+
+/// What the host found of the signature: the five members of `verify`, where it is valid, or false where it is not.
+fn verified(alloc: Global, line: &Value) -> Result<Verified, LineError>
+    ensures found { IfOk result (HasVerified (view line.now)) }
+    ensures amiss { IfErr result (OfVerified (view line.now)) }
+{
+    let Some(found) = member(line, "verified") else {
+        return Ok(Verified::Nothing);
+    };
+    let found = said(alloc, found)?;
+    Ok(found)
 }
 
 /// How a registration is to begin.
 fn asks(line: &Value) -> Result<Asks, LineError>
-    ensures { IfOk result (SaysAsks (view line.now)) }
+    ensures found { IfOk result (SaysAsks (view line.now)) }
+    ensures amiss { IfErr result (OfAsks (view line.now)) }
 {
     Ok(Asks {
         conditional: flag(line, "conditional", false)?,
@@ -73,12 +94,14 @@ fn asks(line: &Value) -> Result<Asks, LineError>
 
 /// A registration that is to begin.
 fn begin_registration(alloc: Global, line: &Value) -> Result<BeginRegistration, LineError>
-    ensures { IfOk result (SaysBeginRegistration (view line.now)) }
+    ensures found { IfOk result (SaysBeginRegistration (view line.now)) }
+    ensures amiss { IfErr result (OfBeginRegistration (view line.now)) }
 {
+    let user = bytes(alloc, line, "user")?;
     let user_name = text(line, "user_name")?;
     let display_name = text_or(line, "display_name", user_name)?;
     Ok(BeginRegistration {
-        user: bytes(alloc, line, "user")?,
+        user,
         user_name: String::from_str(alloc, user_name)?,
         display_name: String::from_str(alloc, display_name)?,
         exclude: list_of_bytes(alloc, line, "exclude")?,
@@ -91,7 +114,8 @@ fn begin_registration(alloc: Global, line: &Value) -> Result<BeginRegistration, 
 
 /// A sign-in that is to begin.
 fn begin_sign_in(alloc: Global, line: &Value) -> Result<BeginSignIn, LineError>
-    ensures { IfOk result (SaysBeginSignIn (view line.now)) }
+    ensures found { IfOk result (SaysBeginSignIn (view line.now)) }
+    ensures amiss { IfErr result (OfBeginSignIn (view line.now)) }
 {
     Ok(BeginSignIn {
         user: optional_bytes(alloc, line, "user")?,
@@ -102,11 +126,13 @@ fn begin_sign_in(alloc: Global, line: &Value) -> Result<BeginSignIn, LineError>
 
 /// A registration that is to be finished.
 fn finish_registration(alloc: Global, line: &Value) -> Result<FinishRegistration, LineError>
-    ensures { IfOk result (SaysFinishRegistration (view line.now)) }
+    ensures found { IfOk result (SaysFinishRegistration (view line.now)) }
+    ensures amiss { IfErr result (OfFinishRegistration (view line.now)) }
 {
+    let session = number(line, "session")?;
     let response = needed(line, "response")?;
     Ok(FinishRegistration {
-        session: number(line, "session")?,
+        session,
         credential: credential_id(alloc, response)?,
         response: registration_response(alloc, response)?,
         transports: transports(alloc, line)?,
@@ -116,7 +142,8 @@ fn finish_registration(alloc: Global, line: &Value) -> Result<FinishRegistration
 
 /// A sign-in that is to be finished.
 fn finish_sign_in(alloc: Global, line: &Value) -> Result<FinishSignIn, LineError>
-    ensures { IfOk result (SaysFinishSignIn (view line.now)) }
+    ensures found { IfOk result (SaysFinishSignIn (view line.now)) }
+    ensures amiss { IfErr result (OfFinishSignIn (view line.now)) }
 {
     Ok(FinishSignIn {
         session: number(line, "session")?,
@@ -129,6 +156,7 @@ fn finish_sign_in(alloc: Global, line: &Value) -> Result<FinishSignIn, LineError
 fn act_of(alloc: Global, kind: ActKind, line: &Value) -> Result<Act, LineError>
     ensures members { IfOk result (HasMembers (view line.now)) }
     ensures name { IfOk result (λ act. name_of act ≡ kind_name kind) }
+    ensures amiss { IfErr result (OfAct kind (view line.now)) }
 {
     Ok(match kind {
         ActKind::BeginRegistration => Act::BeginRegistration(begin_registration(alloc, line)?),
@@ -147,7 +175,8 @@ fn act_of(alloc: Global, kind: ActKind, line: &Value) -> Result<Act, LineError>
 
 /// What a line's object asks for.
 fn act_in(alloc: Global, line: &Value) -> Result<Act, LineError>
-    ensures { IfOk result (Says (view line.now)) }
+    ensures found { IfOk result (Says (view line.now)) }
+    ensures amiss { IfErr result (IsRefusedIn (view line.now)) }
 {
     let Some(kind) = act_named(text(line, "act")?) else {
         return Err(LineError::UnknownAct);
@@ -158,7 +187,8 @@ fn act_in(alloc: Global, line: &Value) -> Result<Act, LineError>
 
 /// The object that a line is.
 fn object_of(alloc: Global, line: &[u8]) -> Result<Value, LineError>
-    ensures { IfOk result (λ d. read line.now ≡ Some (view d)) }
+    ensures found { IfOk result (λ d. (length line.now ≤ 65536) × IsUtf8 line.now × (read line.now ≡ Some (view d))) }
+    ensures unread { IfErr result (IsUnread line.now) }
 {
     if line.len() > MAX_LINE {
         return Err(LineError::TooLong);
@@ -180,7 +210,10 @@ fn object_of(alloc: Global, line: &[u8]) -> Result<Value, LineError>
 /// Of a line that is refused the number is told too, where it can be read: of one that is no such object, by what stands
 /// before the first `MAX_LINE` + 1 bytes end.
 pub fn read_line(alloc: Global, line: &[u8]) -> Result<Line, LineFault>
-    ensures { IfOk result (λ read. Reads line.now read.id read.act) }
+    // What is read is what the line says,
+    ensures found { IfOk result (λ read. Reads line.now read.id read.act) }
+    // and what is not read is refused for the cause that is named, with its number where it has one.
+    ensures refused { IfErr result (λ fault. IsRefused line.now fault.id fault.error) }
 {
     let object = match object_of(alloc, line) {
         Ok(object) => object,

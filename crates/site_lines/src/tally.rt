@@ -3,6 +3,9 @@
 use crate::answer::Answer;
 use crate::line::Answered;
 
+/// One more than the highest number of a step: 18, of a sign-in as of a registration.
+pub(crate) const STEPS: usize = 19;
+
 /// What is counted since the start.
 #[derive(Clone, Copy, Debug, PartialEq, Eq, Drop)]
 pub struct Tally {
@@ -15,13 +18,13 @@ pub struct Tally {
     /// Registrations that were accepted.
     pub registrations: u64,
     /// Sign-ins that a step refused, by the step's number; 0 is not used.
-    pub sign_in_refusals: [u64; 17],
+    pub sign_in_refusals: [u64; STEPS],
     /// Registrations that a step refused, by the step's number; 0 is not used.
-    pub registration_refusals: [u64; 17],
+    pub registration_refusals: [u64; STEPS],
 }
 
 /// One more at a step's number.
-fn note_step(counts: &mut [u64; 17], step: u8) {
+fn note_step(counts: &mut [u64; STEPS], step: u8) {
     if let Some(count) = counts.get_mut(usize::from(step)) {
         *count = count.saturating_add(1);
     }
@@ -35,8 +38,8 @@ impl Tally {
             last_commit: 0,
             sign_ins: 0,
             registrations: 0,
-            sign_in_refusals: [0; 17],
-            registration_refusals: [0; 17],
+            sign_in_refusals: [0; STEPS],
+            registration_refusals: [0; STEPS],
         }
     }
 

@@ -1,8 +1,19 @@
 -- What is owed of `transports`.
+use Rattle.std.proofs.Common.{refl, rules}
 use Rattle.std.specs.Prelude.{codes, string_bytes}
 use Rattle.serde_json.specs.View.{view}
+use Rattle.site_lines.proofs.Amiss.{many_transports, transports_amiss}
 use Rattle.site_lines.proofs.Detailed.{texts_are}
 use Rattle.site_lines.proofs.transports.transports.Goals as goal
 
-pub returns : goal.returns
-returns c = texts_are string_bytes (codes "transports") (view c.args.line.now) c.in_ok-items.items.now c.in_ok-list.list.items c.in_ok-items.ensures c.in_ok-list.ensures
+pub returns-clause-found : goal.returns-clause-found
+returns-clause-found c =
+    texts_are string_bytes (codes "transports") (view c.args.line.now) c.in_ok-items.items.now c.in_ok-list.list.items c.in_ok-items.ensures.found c.in_ok-list.ensures.found
+
+pub returns-in_err-list-clause-amiss : goal.returns-in_err-list-clause-amiss
+returns-in_err-list-clause-amiss c =
+    let amiss = transports_amiss _ (view c.args.line.now) c.in_ok-items.items.now c.in_err-list.field-0.0 c.in_ok-items.ensures.found c.in_err-list.ensures.refused in
+    search (rules, amiss)
+
+pub returns-then-items-gt-MOST-clause-amiss : goal.returns-then-items-gt-MOST-clause-amiss
+returns-then-items-gt-MOST-clause-amiss c = (refl, many_transports (codes "transports") (view c.args.line.now) c.in_ok-items.items.now c.in_ok-items.ensures.found (search rules))

@@ -1,0 +1,199 @@
+-- What the text of an answer says: a JSON object with the number of the line and what is answered, each member whole.
+use Rattle.std.specs.Prelude.{◌≡◌, ◌==◌, ◌++◌, ◌+◌, ℕ, ℤ, Bool, true, List, [], ◌∷◌, Option, Some, None, codes, decimal, if◌then◌else◌, length, map, option_and_then, option_map, string_bytes}
+use Rattle.json.specs.Lex.{tokens}
+use Rattle.json.specs.Print.{print}
+use Rattle.serde_json.specs.Data.{Data, Members, array, boolean, member, no_members, null, number, object, put, string, unsigned}
+use Rattle.serde_json.specs.Find.{of_integer}
+use Rattle.serde_json.specs.Read.{read}
+use Rattle.serde_json.specs.View.{items_of}
+use Rattle.cose.specs.declared.key.CoseKey.{CoseKey}
+use Rattle.cose.specs.declared.key.CoseKey.TheVariants as keys
+use Rattle.cose.specs.Keys.{alg_of, number_of, x_of}
+use Rattle.authdata.specs.declared.profile.Profile.{Profile}
+use Rattle.authdata.specs.declared.response.AssertionResponse.{AssertionResponse}
+use Rattle.authdata.specs.declared.response.RegistrationResponse.{RegistrationResponse}
+use Rattle.authdata.specs.Flags.{is_set, BS, UV}
+use Rattle.authdata.specs.Layout.{AuthOf, AuthenticatorData}
+use Rattle.authdata.specs.Objects.{Attestation, ObjectOf}
+use Rattle.verification.specs.Numbers.{registration_number, sign_in_number}
+use Rattle.verification.specs.Records.{Credential}
+use Rattle.verified_signature.specs.declared.signature.VerifiedSignature.{VerifiedSignature}
+use Rattle.credential_table.specs.Views.{row_view}
+use Rattle.credential_table.specs.declared.row.Row.{Row}
+use Rattle.credential_details.specs.Details.{detail_view}
+use Rattle.kept_site.specs.declared.finish.SignedIn.{SignedIn}
+use Rattle.kept_site.specs.declared.registration.Registered.{Registered}
+use Rattle.site_lines.specs.Options.{base64url, creation_options, request_options}
+use Rattle.site_lines.specs.declared.answer.Answer.{Answer}
+use Rattle.site_lines.specs.declared.answer.Answer.TheVariants as answers
+use Rattle.site_lines.specs.declared.answer.Counts.{Counts}
+use Rattle.site_lines.specs.declared.answer.Known.{Known}
+use Rattle.site_lines.specs.declared.tally.Tally.{Tally}
+use Rattle.site_lines.specs.declared.writing.Teller.{Teller}
+
+-- ---- values, null where they are not known
+
+abbrev pub flag_or_null : Option Bool → Data
+flag_or_null None = null
+flag_or_null (Some b) = boolean b
+
+abbrev pub integer_or_null : Option ℤ → Data
+integer_or_null None = null
+integer_or_null (Some n) = number (of_integer n)
+
+abbrev pub bytes_or_null : Option (List ℕ) → Data
+bytes_or_null None = null
+bytes_or_null (Some bs) = base64url bs
+
+-- an aaguid has 16 bytes (WebAuthn Level 2, section 6.5.1)
+abbrev pub aaguid_or_null : Option (List ℕ) → Data
+aaguid_or_null None = null
+aaguid_or_null (Some bs) = if length bs == 16 then base64url bs else null
+
+abbrev pub natural : ℕ → Data
+natural n = number (unsigned n)
+
+-- ---- credentials
+
+-- the coordinate y of a key, of an RSA key its exponent; of EdDSA none
+abbrev pub y_of : CoseKey → List ℕ
+y_of (keys.Es256 x y) = y
+y_of (keys.EdDsa x) = []
+y_of (keys.Rs256 k) = k.e
+
+-- a public key, with the COSE number of its algorithm
+abbrev pub key_members : CoseKey → Members → Members
+key_members key ms =
+    put (codes "y") (base64url (y_of key)) (put (codes "x") (base64url (x_of key)) (put (codes "algorithm") (number (of_integer (number_of (alg_of key)))) ms))
+
+-- a credential, as its row has it
+abbrev pub row_members : Credential → Members → Members
+row_members c ms =
+    put (codes "retired") (boolean c.retired) (put (codes "eligible") (flag_or_null c.eligible) (put (codes "sign_count") (natural c.sign_count)
+    (key_members c.key (put (codes "user") (base64url c.user) (put (codes "credential") (base64url c.id) ms)))))
+
+-- what is known of it beside that
+abbrev pub known_members : Known → Members → Members
+known_members k ms =
+    let detail = option_map detail_view k.detail in
+    put (codes "aaguid") (aaguid_or_null (option_and_then (λ d. d.aaguid) detail))
+    (put (codes "transports") (array (items_of (map (λ t. string (string_bytes t)) k.transports.items)))
+    (put (codes "used_at") (integer_or_null (option_and_then (λ d. d.used_at) detail))
+    (put (codes "created_at") (integer_or_null (option_and_then (λ d. d.created_at) detail)) ms)))
+
+abbrev pub whole_row : Row → Known → Data
+whole_row row k = object (known_members k (row_members (row_view row) no_members))
+
+-- each credential, with what is known of it
+abbrev pub whole_rows : List Row → List Known → List Data
+whole_rows [] ks = []
+whole_rows (row ∷ rows) [] = []
+whole_rows (row ∷ rows) (k ∷ ks) = whole_row row k ∷ whole_rows rows ks
+
+-- ---- acceptances
+
+-- what authenticator data say, whole (WebAuthn Level 3, section 6.1)
+abbrev pub data_members : AuthenticatorData → Members → Members
+data_members a ms =
+    put (codes "extensions") (bytes_or_null a.extensions) (put (codes "flags") (natural a.flags) (put (codes "user_verified") (boolean (is_set a.flags UV)) ms))
+
+-- and those of a registration, with the format of their object
+abbrev pub attested_members : AuthenticatorData → List ℕ → Members → Members
+attested_members a format ms =
+    data_members a (put (codes "backed_up") (boolean (is_set a.flags BS)) (put (codes "format") (string format)
+    (put (codes "aaguid") (bytes_or_null (option_map (λ c. c.aaguid) a.attested)) ms)))
+
+-- a credential that was registered: its row, and what its response says
+abbrev pub IsRegistered : Profile → Row → RegistrationResponse → Data → Type 0
+IsRegistered profile row r d =
+    (o : Attestation) (a : AuthenticatorData) → ObjectOf o r.object.items → AuthOf profile a o.auth_data
+    → d ≡ object (attested_members a o.fmt (row_members (row_view row) no_members))
+
+abbrev pub who_members : SignedIn → Members
+who_members x =
+    put (codes "backed_up") (boolean x.backed_up) (put (codes "user") (base64url x.user.items) (put (codes "credential") (base64url x.credential.items) no_members))
+
+-- who signed in, and what the response says
+abbrev pub IsSignedIn : Profile → SignedIn → AssertionResponse → Data → Type 0
+IsSignedIn profile x r d =
+    (a : AuthenticatorData) → AuthOf profile a r.auth_data.items → d ≡ object (data_members a (put (codes "sign_count") (natural a.sign_count) (who_members x)))
+
+-- ---- other answers
+
+-- a signature that is to be verified
+abbrev pub to_verify : VerifiedSignature → Data
+to_verify t = object (put (codes "signature") (base64url t.signature.items) (put (codes "message") (base64url t.message.items) (key_members t.key no_members)))
+
+-- a step: a letter and its number
+abbrev pub step_name : List ℕ → ℕ → List ℕ
+step_name letter n = letter ++ decimal n
+
+abbrev pub step : List ℕ → ℕ → List ℕ → Data
+step letter n text = object (member (codes "name") (string (step_name letter n)) (member (codes "number") (natural n) (member (codes "text") (string text) no_members)))
+
+-- a count under the name of its step, where it is above 0
+abbrev pub with_count : List ℕ → ℕ → ℕ → Members → Members
+with_count letter n count ms = if count == 0 then ms else put (step_name letter n) (natural count) ms
+
+-- counts by the number of a step
+abbrev pub counts_from : List ℕ → ℕ → List ℕ → Members → Members
+counts_from letter n [] ms = ms
+counts_from letter n (count ∷ counts) ms = counts_from letter (n + 1) counts (with_count letter n count ms)
+
+abbrev pub by_step : List ℕ → List ℕ → Data
+by_step letter counts = object (counts_from letter 0 counts no_members)
+
+-- how the site is, and what has been counted since the start
+abbrev pub status : List ℕ → Tally → Counts → Data
+status version t counts =
+    object (put (codes "registrations_refused") (by_step (codes "G") t.registration_refusals)
+    (put (codes "sign_ins_refused") (by_step (codes "W") t.sign_in_refusals)
+    (put (codes "registrations") (natural t.registrations)
+    (put (codes "sign_ins") (natural t.sign_ins)
+    (put (codes "last_commit_microseconds") (natural t.last_commit)
+    (put (codes "commits") (natural t.commits)
+    (put (codes "next_session") (natural counts.next_session)
+    (put (codes "sessions") (natural counts.sessions)
+    (put (codes "credentials") (natural counts.credentials)
+    (put (codes "version") (string version) no_members))))))))))
+
+-- ---- lines out
+
+-- the number of the line; null where it has none
+abbrev pub line_number : Option ℕ → Data
+line_number None = null
+line_number (Some id) = natural id
+
+-- an answer of one member beside the number
+abbrev pub answered : Option ℕ → List ℕ → Data → Data
+answered id name d = object (put name d (member (codes "id") (line_number id) no_members))
+
+-- a session that has begun, and the options for the page
+abbrev pub begun : Option ℕ → ℕ → Data → Data
+begun id session options =
+    object (member (codes "id") (line_number id) (member (codes "options") options (member (codes "session") (natural session) no_members)))
+
+-- what is written of an answer; of a text that says why, some text
+abbrev pub Writes : Teller → Option ℕ → Answer → Data → Type 0
+Writes t id (answers.RegistrationBegun started b known) d =
+    d ≡ begun id started.session (creation_options t.party.now.rp_id t.rp_name.now started.challenge b known.items)
+Writes t id (answers.SignInBegun started b known) d = d ≡ begun id started.session (request_options t.party.now.rp_id started.challenge b known.items)
+Writes t id (answers.Registered x r) d = (row : Data) × (d ≡ answered id (codes "accepted") row) × IsRegistered t.party.now.profile x.credential r row
+Writes t id (answers.SignedIn x r) d = (who : Data) × (d ≡ answered id (codes "accepted") who) × IsSignedIn t.party.now.profile x r who
+Writes t id (answers.Verify asked) d = d ≡ answered id (codes "verify") (to_verify asked)
+Writes t id (answers.RegistrationRefused why credential) d = (text : List ℕ) × (d ≡ answered id (codes "refused") (step (codes "G") (registration_number why) text))
+Writes t id (answers.SignInRefused why credential) d = (text : List ℕ) × (d ≡ answered id (codes "refused") (step (codes "W") (sign_in_number why) text))
+Writes t id (answers.Retired was) d = d ≡ answered id (codes "retired") (boolean was)
+Writes t id (answers.Deleted was) d = d ≡ answered id (codes "deleted") (boolean was)
+Writes t id (answers.Abandoned was) d = d ≡ answered id (codes "abandoned") (boolean was)
+Writes t id (answers.Expired count) d = d ≡ answered id (codes "expired") (natural count)
+Writes t id (answers.Rows rows known) d = d ≡ answered id (codes "rows") (array (items_of (whole_rows rows.items known.items)))
+Writes t id (answers.Status counts) d = d ≡ answered id (codes "status") (status t.version.now t.tally.now counts)
+Writes t id (answers.Backup path) d = d ≡ answered id (codes "backup") (boolean true)
+Writes t id (answers.NotBackedUp why) d = d ≡ answered id (codes "error") (string (string_bytes why))
+Writes t id (answers.Error why) d = (text : List ℕ) × (d ≡ answered id (codes "error") (string text))
+Writes t id (answers.Failed why) d = (text : List ℕ) × (d ≡ answered id (codes "failed") (string text))
+
+-- a text is this value's, with no space
+abbrev pub IsTextOf : Data → List ℕ → Type 0
+IsTextOf d text = (read text ≡ Some d) × (print (tokens text) ≡ text)

@@ -1,0 +1,401 @@
+//! What answers say of credentials and signatures, as values of JSON.
+
+ghost use Rattle.std.specs.Prelude.{◌≡◌, ◌≤◌, ◌++◌, IfOk, OnOk, codes, map, option_and_then, option_map};
+ghost use Rattle.serde_json.specs.Data.{array, depth, no_members, object, put as insert};
+ghost use Rattle.serde_json.specs.View.{items_of, members_view, view};
+ghost use Rattle.cose.specs.Keys.{lent_key_view, x_of as x_in};
+ghost use Rattle.authdata.specs.Layout.{AuthOf, AuthenticatorData, lent_auth_view};
+ghost use Rattle.authdata.specs.Objects.{object_view};
+ghost use Rattle.credential_details.specs.Details.{detail_view};
+ghost use Rattle.credential_table.specs.Views.{row_view};
+ghost use Rattle.site_lines.specs.Written.{IsRegistered, IsSignedIn, aaguid_or_null as aaguid_or_null_of, attested_members, bytes_or_null as bytes_or_null_of, data_members, flag_or_null as flag_or_null_of, integer_or_null as integer_or_null_of, key_members, known_members, natural, row_members, to_verify, who_members, whole_row as whole_row_of, whole_rows, y_of as y_in};
+ghost use Rattle.site_lines.specs.Private.{row_at};
+
+use crate::answer::Known;
+use crate::options::{base64_text, texts};
+use authdata::flags::{BS, UV, is_set};
+use authdata::{
+    AssertionResponse, AttestationObject, AuthView, Profile, RegistrationResponse, read_view,
+};
+use cose::{CoseKey, KeyView};
+use credential_table::Row;
+use kept_site::SignedIn;
+use serde_json::{Map, Value, put};
+use std::alloc::{AllocError, Global};
+use verified_signature::VerifiedSignature;
+
+/// The coordinate x of a key, of an RSA key its modulus.
+fn x_of<'a>(key: &'a KeyView<'_>) -> &'a [u8]
+    ensures { result.now ≡ x_in (lent_key_view key.now) }
+{
+    match key {
+        KeyView::Es256 { x, y: _ } => x,
+        KeyView::EdDsa { x } => x,
+        KeyView::Rs256(key) => key.n,
+    }
+}
+
+/// The coordinate y of a key, of an RSA key its exponent; of EdDSA it is empty.
+fn y_of<'a>(key: &'a KeyView<'_>) -> &'a [u8]
+    ensures { result.now ≡ y_in (lent_key_view key.now) }
+{
+    match key {
+        KeyView::Es256 { x: _, y } => y,
+        KeyView::EdDsa { x: _ } => &[],
+        KeyView::Rs256(key) => key.e,
+    }
+}
+
+/// Adds a public key.
+fn put_key(alloc: Global, key: &CoseKey, out: &mut Map<String, Value>) -> Result<(), AllocError>
+    ensures { OnOk result (members_view out.new.entries ≡ key_members key.now (members_view out.old.entries)) }
+{
+    let key = key.view();
+    put(out, alloc, "algorithm", Value::from(key.alg().number()))?;
+    put(out, alloc, "x", base64_text(alloc, x_of(&key))?)?;
+    put(out, alloc, "y", base64_text(alloc, y_of(&key))?)
+}
+
+/// A signature that is to be verified.
+pub(crate) fn verify(alloc: Global, asked: &VerifiedSignature) -> Result<Value, AllocError>
+    ensures { IfOk result (λ v. view v ≡ to_verify asked.now) }
+{
+    let mut members = Map::new(alloc);
+    put_key(alloc, &asked.key, &mut members)?;
+    put(
+        &mut members,
+        alloc,
+        "message",
+        base64_text(alloc, asked.message.as_slice())?,
+    )?;
+    put(
+        &mut members,
+        alloc,
+        "signature",
+        base64_text(alloc, asked.signature.as_slice())?,
+    )?;
+    Ok(Value::Object(members))
+}
+
+/// A flag; null where it is not known.
+fn flag_or_null(known: Option<bool>) -> Value
+    ensures { view result ≡ flag_or_null_of known }
+{
+    match known {
+        Some(flag) => Value::Bool(flag),
+        None => Value::Null,
+    }
+}
+
+/// A number; null where it is not known.
+fn number_or_null(known: Option<i64>) -> Value
+    ensures { view result ≡ integer_or_null_of known }
+{
+    match known {
+        Some(number) => Value::from(number),
+        None => Value::Null,
+    }
+}
+
+/// Bytes; null where there are none.
+fn bytes_or_null(alloc: Global, known: Option<&[u8]>) -> Result<Value, AllocError>
+    ensures { IfOk result (λ v. view v ≡ bytes_or_null_of (option_map (λ bytes. bytes.now) known.entry)) }
+{
+    match known {
+        Some(bytes) => base64_text(alloc, bytes),
+        None => Ok(Value::Null),
+    }
+}
+
+/// An aaguid; null where it is not known, or has not 16 bytes.
+fn aaguid_or_null(alloc: Global, aaguid: Option<&[u8]>) -> Result<Value, AllocError>
+    ensures { IfOk result (λ v. view v ≡ aaguid_or_null_of (option_map (λ bytes. bytes.now) aaguid.entry)) }
+{
+    match aaguid {
+        Some(bytes) if bytes.len() == 16 => base64_text(alloc, bytes),
+        _ => Ok(Value::Null),
+    }
+}
+
+/// Adds a credential, as its row has it.
+fn put_row(alloc: Global, row: &Row, out: &mut Map<String, Value>) -> Result<(), AllocError>
+    ensures { OnOk result (members_view out.new.entries ≡ row_members (row_view row.now) (members_view out.old.entries)) }
+{
+    put(
+        out,
+        alloc,
+        "credential",
+        base64_text(alloc, row.id.as_slice())?,
+    )?;
+    put(out, alloc, "user", base64_text(alloc, row.user.as_slice())?)?;
+    put_key(alloc, &row.key, out)?;
+    put(out, alloc, "sign_count", Value::from(row.sign_count))?;
+    put(out, alloc, "eligible", flag_or_null(row.eligible))?;
+    put(out, alloc, "retired", Value::Bool(row.retired))
+}
+
+/// When a credential was registered.
+fn created_at(known: &Known) -> Option<i64>
+    ensures { result ≡ option_and_then (λ d. d.created_at) (option_map detail_view known.now.detail) }
+{
+    match &known.detail {
+        Some(detail) => detail.created_at,
+        None => None,
+    }
+}
+
+/// When it was last used.
+fn used_at(known: &Known) -> Option<i64>
+    ensures { result ≡ option_and_then (λ d. d.used_at) (option_map detail_view known.now.detail) }
+{
+    match &known.detail {
+        Some(detail) => detail.used_at,
+        None => None,
+    }
+}
+
+/// The aaguid of its authenticator.
+fn aaguid(known: &Known) -> Option<&[u8]>
+    ensures { option_map (λ bytes. bytes.now) result ≡ option_and_then (λ d. d.aaguid) (option_map detail_view known.now.detail) }
+{
+    match &known.detail {
+        Some(detail) => detail.aaguid.as_deref(),
+        None => None,
+    }
+}
+
+/// Adds what is known of a credential beside what verdicts ask for.
+fn put_known(alloc: Global, known: &Known, out: &mut Map<String, Value>) -> Result<(), AllocError>
+    ensures { OnOk result (members_view out.new.entries ≡ known_members known.now (members_view out.old.entries)) }
+{
+    put(out, alloc, "created_at", number_or_null(created_at(known)))?;
+    put(out, alloc, "used_at", number_or_null(used_at(known)))?;
+    put(
+        out,
+        alloc,
+        "transports",
+        texts(alloc, known.transports.as_slice())?,
+    )?;
+    put(out, alloc, "aaguid", aaguid_or_null(alloc, aaguid(known))?)
+}
+
+/// A credential, with what is known of it.
+fn whole_row(alloc: Global, row: &Row, known: &Known) -> Result<Value, AllocError>
+    ensures { IfOk result (λ v. view v ≡ whole_row_of row.now known.now) }
+{
+    let mut members = Map::new(alloc);
+    put_row(alloc, row, &mut members)?;
+    put_known(alloc, known, &mut members)?;
+    Ok(Value::Object(members))
+}
+
+/// Adds a credential, with what is known of it, where that is told.
+fn push_row(
+    alloc: Global,
+    row: &Row,
+    known: Option<&Known>,
+    list: &mut Vec<Value>,
+) -> Result<(), AllocError>
+    ensures { OnOk result (map view list.new.items ≡ map view list.old.items ++ row_at row.now (option_map (λ k. k.now) known.entry)) }
+{
+    let Some(known) = known else {
+        return Ok(());
+    };
+    let row = whole_row(alloc, row, known)?;
+    Ok(list.push(row)?)
+}
+
+/// Credentials, each with what is known of it, as a list.
+#[tactic(auto, using(crate::proofs::Counted::rows_more))]
+fn row_list(alloc: Global, rows: &[Row], known: &[Known]) -> Result<Vec<Value>, AllocError>
+    ensures { IfOk result (λ list. map view list.items ≡ whole_rows rows.now known.now) }
+{
+    let mut list = Vec::with_capacity(alloc, rows.len())?;
+    for (at, row) in rows.iter().enumerate() {
+        push_row(alloc, row, known.get(at), &mut list)?;
+    }
+    Ok(list)
+}
+
+/// Credentials, each with what is known of it.
+pub(crate) fn rows(alloc: Global, rows: &[Row], known: &[Known]) -> Result<Value, AllocError>
+    ensures { IfOk result (λ v. view v ≡ array (items_of (whole_rows rows.now known.now))) }
+{
+    let list = row_list(alloc, rows, known)?;
+    Ok(Value::Array(list))
+}
+
+/// Adds what authenticator data say.
+fn put_data(
+    alloc: Global,
+    auth_data: &AuthView<'_>,
+    out: &mut Map<String, Value>,
+) -> Result<(), AllocError>
+    ensures { OnOk result (members_view out.new.entries ≡ data_members (lent_auth_view auth_data.now) (members_view out.old.entries)) }
+{
+    put(
+        out,
+        alloc,
+        "user_verified",
+        Value::Bool(is_set(auth_data.flags, UV)),
+    )?;
+    put(out, alloc, "flags", Value::from(auth_data.flags))?;
+    put(
+        out,
+        alloc,
+        "extensions",
+        bytes_or_null(alloc, auth_data.extensions)?,
+    )
+}
+
+/// The aaguid of the attested credential.
+fn attested_aaguid<'a>(auth_data: &'a AuthView<'_>) -> Option<&'a [u8]>
+    ensures { option_map (λ bytes. bytes.now) result ≡ option_map (λ c. c.aaguid) (lent_auth_view auth_data.now).attested }
+{
+    match &auth_data.attested {
+        Some(attested) => Some(&attested.aaguid),
+        None => None,
+    }
+}
+
+/// Adds what the authenticator data of a registration say, and the format of their object.
+fn put_attested(
+    alloc: Global,
+    auth_data: &AuthView<'_>,
+    format: &str,
+    out: &mut Map<String, Value>,
+) -> Result<(), AllocError>
+    ensures { OnOk result (members_view out.new.entries ≡ attested_members (lent_auth_view auth_data.now) format.now (members_view out.old.entries)) }
+{
+    put(
+        out,
+        alloc,
+        "aaguid",
+        bytes_or_null(alloc, attested_aaguid(auth_data))?,
+    )?;
+    put(out, alloc, "format", Value::try_from_str(alloc, format)?)?;
+    put(
+        out,
+        alloc,
+        "backed_up",
+        Value::Bool(is_set(auth_data.flags, BS)),
+    )?;
+    put_data(alloc, auth_data, out)
+}
+
+/// A credential, with what these data and this format say.
+fn row_with(
+    alloc: Global,
+    row: &Row,
+    auth_data: &AuthView<'_>,
+    format: &str,
+) -> Result<Value, AllocError>
+    ensures { IfOk result (λ v. view v ≡ object (attested_members (lent_auth_view auth_data.now) format.now (row_members (row_view row.now) no_members))) }
+{
+    let mut members = Map::new(alloc);
+    put_row(alloc, row, &mut members)?;
+    put_attested(alloc, auth_data, format, &mut members)?;
+    Ok(Value::Object(members))
+}
+
+/// A credential, as its row has it.
+fn plain_row(alloc: Global, row: &Row) -> Result<Value, AllocError>
+    ensures { IfOk result (λ v. view v ≡ object (row_members (row_view row.now) no_members)) }
+{
+    let mut members = Map::new(alloc);
+    put_row(alloc, row, &mut members)?;
+    Ok(Value::Object(members))
+}
+
+/// A credential, with what this object says.
+#[tactic(auto, using(crate::proofs::Accepted::row_is, crate::proofs::Accepted::row_shallow, crate::proofs::Accepted::plain_shallow))]
+fn attested_row(
+    alloc: Global,
+    profile: Profile,
+    row: &Row,
+    attested: &AttestationObject,
+) -> Result<Value, AllocError>
+    ensures told { IfOk result (λ v. (a : AuthenticatorData) → AuthOf profile a (object_view attested.now).auth_data
+        → view v ≡ object (attested_members a (object_view attested.now).fmt (row_members (row_view row.now) no_members))) }
+    ensures shallow { IfOk result (λ v. depth (view v) ≤ 1) }
+{
+    match read_view(profile, attested.auth_data.as_slice()) {
+        Ok(data) => row_with(alloc, row, &data, attested.fmt.as_str()),
+        Err(_) => plain_row(alloc, row),
+    }
+}
+
+/// The credential that was registered, with what its response says.
+#[tactic(auto, using(crate::proofs::Accepted::registered_is, crate::proofs::Accepted::plain_shallow))]
+pub(crate) fn registered(
+    alloc: Global,
+    profile: Profile,
+    row: &Row,
+    response: &RegistrationResponse,
+) -> Result<Value, AllocError>
+    ensures told { IfOk result (λ v. IsRegistered profile row.now response.now (view v)) }
+    ensures shallow { IfOk result (λ v. depth (view v) ≤ 1) }
+{
+    match AttestationObject::read(alloc, response.object.as_slice()) {
+        Ok(attested) => attested_row(alloc, profile, row, &attested),
+        Err(authdata::Error::Memory) => Err(AllocError),
+        Err(_) => plain_row(alloc, row),
+    }
+}
+
+/// Adds who signed in.
+fn put_who(alloc: Global, who: &SignedIn, out: &mut Map<String, Value>) -> Result<(), AllocError>
+    requires { members_view out.old.entries ≡ no_members }
+    ensures { OnOk result (members_view out.new.entries ≡ who_members who.now) }
+{
+    put(
+        out,
+        alloc,
+        "credential",
+        base64_text(alloc, who.credential.as_slice())?,
+    )?;
+    put(out, alloc, "user", base64_text(alloc, who.user.as_slice())?)?;
+    put(out, alloc, "backed_up", Value::Bool(who.backed_up))
+}
+
+/// Who signed in.
+fn plain_who(alloc: Global, who: &SignedIn) -> Result<Value, AllocError>
+    ensures { IfOk result (λ v. view v ≡ object (who_members who.now)) }
+{
+    let mut members = Map::new(alloc);
+    put_who(alloc, who, &mut members)?;
+    Ok(Value::Object(members))
+}
+
+/// Who signed in, with what these data say.
+fn who_with(alloc: Global, who: &SignedIn, auth_data: &AuthView<'_>) -> Result<Value, AllocError>
+    ensures { IfOk result (λ v. view v ≡ object (data_members (lent_auth_view auth_data.now) (insert (codes "sign_count") (natural auth_data.now.sign_count) (who_members who.now)))) }
+{
+    let mut members = Map::new(alloc);
+    put_who(alloc, who, &mut members)?;
+    put(
+        &mut members,
+        alloc,
+        "sign_count",
+        Value::from(auth_data.sign_count),
+    )?;
+    put_data(alloc, auth_data, &mut members)?;
+    Ok(Value::Object(members))
+}
+
+/// Who signed in, with what the response's authenticator data say.
+#[tactic(auto, using(crate::proofs::Accepted::who_is, crate::proofs::Accepted::who_shallow, crate::proofs::Accepted::plain_who_shallow))]
+pub(crate) fn signed_in(
+    alloc: Global,
+    profile: Profile,
+    who: &SignedIn,
+    response: &AssertionResponse,
+) -> Result<Value, AllocError>
+    ensures told { IfOk result (λ v. IsSignedIn profile who.now response.now (view v)) }
+    ensures shallow { IfOk result (λ v. depth (view v) ≤ 1) }
+{
+    match read_view(profile, response.auth_data.as_slice()) {
+        Ok(data) => who_with(alloc, who, &data),
+        Err(_) => plain_who(alloc, who),
+    }
+}
