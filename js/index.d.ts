@@ -42,6 +42,8 @@ export interface StoredServerOptions extends ServerOptions {
   maxCredentials?: number;
   /** Whether the file must be there: false. */
   isExisting?: boolean;
+  /** The number of a session that is known to have begun: an older copy of the file is refused, and none is made. */
+  atLeast?: number;
   /** What the program tells: nothing, refusals (also `true`), or acceptances and errors too. */
   log?: boolean | "refusals" | "all";
   /** Seconds after which a session ends by itself: 300. */

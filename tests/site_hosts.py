@@ -593,7 +593,7 @@ def moved(tests):
     server, device = Server(RP_ID, [ORIGIN]), Device(RS256)
     options, session = server.register_begin(USER, "name")
     credential = server.register_complete(session, device.register(options), is_registered=lambda _: False).credential
-    tests.ends("a new file", tests.file("moved.db"), 0, "", ["--new"])
+    tests.ends("a new file", tests.file("moved.db"), 0, "", ["--new", "--no-sums"])
     with sqlite3.connect(tests.file("moved.db")) as file:
         file.execute("insert into credential values (1, ?, ?, ?, ?, ?, ?, ?, ?)", (
             credential.id, credential.user, credential.algorithm, credential.x, credential.y or None, credential.sign_count,

@@ -435,7 +435,7 @@ def details(tests):
     """What is known of a credential beside what verdicts ask for: kept with it, given back in options, gone with it; and what is
     told of rows that others have written, or that are damaged."""
     path = tests.file("details.db")
-    host = Host(tests.program, path, *PARTY)
+    host = Host(tests.program, path, *PARTY, "--no-sums")
     one, two = Device(ES256, credential=b"one"), Device(EDDSA, credential=b"two")
     began = int(time.time())
     for device, transports in ((one, ["usb", "smart-card"]), (two, None)):

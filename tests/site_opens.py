@@ -1,7 +1,7 @@
 #!/usr/bin/python3
 """Opens that are refused, of the program of crates/site_program: tests/site_opens.py PROGRAM. Damaged files, each bit of the heads of
-a file and of a log among them, files of another kind, other sites' files, and files that are made again: what is refused keeps
-its bytes, the file's and the log's, and what is opened has the site that it had. Then three processes make one file at once, 150
+a file and of a log among them, every 7th byte of a file with sums, older copies, files of another kind, other sites' files, and
+files that are made again: what is refused keeps its bytes, the file's and the log's, and what is opened has the site that it had. Then three processes make one file at once, 150
 times: one gets it. The last line is 'N passed, M failed'."""
 import json
 import random
@@ -15,7 +15,7 @@ from pathlib import Path
 
 from site_lines import PARTY, Device, EDDSA, Host, Tests, to_text
 
-HEAD, MANY = 100, 600
+HEAD, MANY, BYTES = 100, 600, 7
 LINES = b'{"id":1,"act":"rows"}\n'
 OTHER = ["--rp-id", "other.example", "--origin", "https://other.example"]
 
@@ -44,17 +44,18 @@ class Opens(Tests):
         memory = Path("/dev/shm")
         self.folder = tempfile.TemporaryDirectory(dir=memory if memory.is_dir() else None)
         self.path = self.file("open.db")
-        self.killed, self.closed, self.rows = self.sites()
+        self.killed, self.closed, self.rows = self.sites("site.db")
+        _, self.plain, _ = self.sites("plain.db", "--no-sums")
 
     def register(self, host, device):
         begun = host.ask("begin_registration", user=to_text(b"user"), user_name="name")
         host.ask("finish_registration", session=begun["session"], response=device.register(begun["options"]))
 
-    def sites(self):
+    def sites(self, name, *words):
         """The files of a site that was killed, whose log has been copied once, and of one that was closed, and the rows of both:
         so many that the file is not read into memory."""
-        path = self.file("site.db")
-        host = Host(self.program, path, *PARTY)
+        path = self.file(name)
+        host = Host(self.program, path, *PARTY, *words)
         for number in range(MANY):
             self.register(host, Device(EDDSA, credential=b"earlier device %d" % number))
         self.check("the first end", host.end()[0], 0)
@@ -104,6 +105,55 @@ class Opens(Tests):
                         self.check(f"bit {bit} of the {part}, {name}", rows == self.rows or (which == 1 and 256 <= bit))
                 print(f"{len(bits)} bits of the first {HEAD} bytes of the {part}, {name}: {dict(ends)}")
 
+    def sums(self):
+        """Each byte of a small file with sums is changed: none opens, or it is the same site. What sqlite3 writes spoils the sums."""
+        path, ends = self.file("small.db"), Counter()
+        host = Host(self.program, path, *PARTY)
+        for number in range(3):
+            self.register(host, Device(EDDSA, credential=b"small %d" % number))
+        rows = host.ask("rows")["rows"]
+        self.check("the small end", host.end()[0], 0)
+        file, log = both(path)
+        rng = random.Random(8)
+        for at in range(0, len(file), BYTES):
+            changed = bytearray(file)
+            changed[at] ^= rng.randrange(1, 256)
+            pair = [bytes(changed), None if at % 2 else log]
+            found, why = self.open(pair, "--existing")
+            self.check(f"byte {at}: {why}", found is None and both(self.path) == pair)
+            ends[why.strip()] += 1
+        print(f"{len(range(0, len(file), BYTES))} bytes of a small file: {dict(ends)}")
+        self.check("as it was", self.open((file, log), "--existing")[0], rows)
+        put(self.path, (file, None))
+        written = sqlite3.connect(self.path)
+        self.check("sqlite3 reads it", written.execute("select count(*) from credential").fetchone(), (3,))
+        written.execute("update credential set sign_count = 7 where place = 2")
+        written.commit()
+        written.close()
+        self.check("sqlite3 spoils it", self.is_kept("written by sqlite3", both(self.path), "--existing"), "the file is no sound SQLite file\n")
+
+    def copies(self):
+        """A copy from before the last commit is refused where a session that was begun after it is known."""
+        path = self.file("copied.db")
+        host, copies = Host(self.program, path, *PARTY), []
+        for number in range(4):
+            self.register(host, Device(EDDSA, credential=b"copied %d" % number))
+            told = host.ask("begin_sign_in")["session"]
+            self.check(f"copy {number}", host.end()[0], 0)
+            copies.append((told, both(path)))
+            host = Host(self.program, path, *PARTY, "--at-least", str(told))
+        self.check("the last end", host.end()[0], 0)
+        for mine, (_, pair) in enumerate(copies):
+            for known, (told, _) in enumerate(copies):
+                if known <= mine:
+                    self.check(f"copy {mine} at {told}", len(self.open(pair, "--at-least", str(told))[0] or []), mine + 1)
+                else:
+                    self.check(f"copy {mine} at {told}", self.is_kept(f"copy {mine} at {told}", pair, "--at-least", str(told)),
+                               "the file is an older copy than is known\n")
+        put(self.path, (None, None))
+        self.check("none is made", self.open((None, None), "--at-least", "1"), (None, "there is no file at this path\n"))
+        self.check("an empty one neither", self.is_kept("an empty file", (b"", None), "--at-least", "1"), "the file has no site\n")
+
     def others(self):
         """Files of another kind beside the log, and others' sites."""
         rng, (file, log) = random.Random(5), self.killed
@@ -135,7 +185,7 @@ class Opens(Tests):
                           ("update credential set sign_count = -1 where place = 3", "a row is not one that a site has written\n"),
                           ("update credential set x = x'01' where place = 20", "a row is not one that a site has written\n")):
             for is_closed in (True, False):
-                put(self.path, self.closed)
+                put(self.path, self.plain)
                 file = sqlite3.connect(self.path)
                 file.execute(text)
                 file.commit()
@@ -196,6 +246,8 @@ class Opens(Tests):
 def main():
     opens = Opens(str(Path(sys.argv[1]).resolve()))
     opens.bits()
+    opens.sums()
+    opens.copies()
     opens.others()
     opens.edited()
     opens.torn()

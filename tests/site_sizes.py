@@ -139,7 +139,7 @@ def ceremonies(tests, host):
 def numbers(tests):
     """Sessions whose numbers are on both sides of each power of two; a file's next number is below 2^63."""
     path = tests.file("numbers.db")
-    Host(tests.program, path, *PARTY).end()
+    Host(tests.program, path, *PARTY, "--no-sums").end()
 
     def is_given(number):
         with sqlite3.connect(path) as file:
@@ -152,9 +152,9 @@ def numbers(tests):
         is_told = begun["session"] == number and from_text(begun["options"]["challenge"], "c")[:8] == number.to_bytes(8, "big")
         return host.end()[0] == 0 and is_told and "accepted" in made and "accepted" in answer
 
-    tests.sweep("numbers of sessions", [number for number in POWERS if 2**8 < number < 2**63 - 100_002][::2], is_given)
+    tests.sweep("numbers of sessions", [number for number in POWERS if 2**8 < number < 2**63 - 1_002][::2], is_given)
     with sqlite3.connect(path) as file:
-        file.execute("update site set next_session = ?", (2**63 - 100_001,))
+        file.execute("update site set next_session = ?", (2**63 - 1_001,))
     file.close()
     host = Host(tests.program, path, *PARTY)
     tests.check("no number is left", host.ask("begin_sign_in"), {"error": "there is no number for another session"})

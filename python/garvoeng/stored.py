@@ -216,7 +216,7 @@ class StoredServer:
     """A relying party over the file of the proved program, which one process may have at a time.
 
     `program` is the path of the program, `file` that of the SQLite file, which is made where there is none unless
-    `existing`. Calls come from any thread. Where the program has ended, the next call starts it again; one that does not
+    `existing`. With `at_least`, the number of a session that is known to have begun, an older copy of the file is refused. Calls come from any thread. Where the program has ended, the next call starts it again; one that does not
     answer in `timeout` seconds is ended. Open sessions are in the program's memory: one ends by itself `expire` seconds after
     it began, where `max_open` are open the oldest ends, and with the program all end. `max_credentials` is the most
     credentials; both are from 1 to 1,000,000. With `log` each refusal is told, and with `log="all"` each acceptance and each
@@ -229,7 +229,8 @@ class StoredServer:
     def __init__(self, program: str, file: str, rp_id: str, origins: Sequence[str], rp_name: Optional[str] = None, *,
                  accept_none: bool = True, accept_self: bool = True, profile: str = "level3", top_origins: Sequence[str] = (),
                  max_open: int = 100_000,
-                 max_credentials: int = 1_000_000, existing: bool = False, log: Union[bool, str] = False, expire: int = 300, timeout: float = 30.0,
+                 max_credentials: int = 1_000_000, existing: bool = False, at_least: int = 0, log: Union[bool, str] = False,
+                 expire: int = 300, timeout: float = 30.0,
                  shared: bool = False, verify: Optional[Verify] = None) -> None:
         origins = limits.check_party(rp_id, origins)
         limits.check_profile(profile)
@@ -244,6 +245,7 @@ class StoredServer:
                        *(f"--origin={origin}" for origin in origins),
                        *(f"--top-origin={origin}" for origin in limits.check_top_origins(top_origins)),
                        *(["--existing"] if existing else []),
+                       *([f"--at-least={at_least}"] if at_least else []),
                        *([f"--log={'refusals' if log is True else log}"] if log else []),
                        "--", file]
         self.verify = verify if verify is not None else verify_by_cryptography()

@@ -43,3 +43,6 @@ pub numbers_empty : (m : BTreeMap ℕ Session) (next : ℕ) → m.entries ≡ []
 numbers_empty m next none n e found =
     let empty : finite.get (sessions_view m.entries) n ≡ None = rw none (get-empty nat_cmp n) in
     absurd cc
+
+pub numbers_skipped : (m : finite.FinMap nat_cmp Expected) (now next : ℕ) → now ≤ next → HaveNumbers now m → HaveNumbers next m
+numbers_skipped m now next le all n e found = let is = all n e found in let lt = is.0 in (omega (arith, le, lt), is.1)

@@ -199,6 +199,14 @@ impl Sessions {
         self.next
     }
 
+    /// Goes on from a higher number: those below it that were not given are given no more.
+    pub fn skip_to(&mut self, next: u64)
+        requires { self.old.next ≤ next }
+        ensures { self.new ≡ record self.old { next = next } }
+    {
+        self.next = next;
+    }
+
     /// Whether fewer sessions are open than the most.
     pub fn has_room(&self) -> bool
         ensures { IsTrue result ↔ (finite.len self.now.expected < self.now.max_open) }

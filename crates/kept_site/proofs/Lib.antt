@@ -1,5 +1,6 @@
 mod Reserved
 mod Same
+mod Sound
 mod Signing
 mod Held
 mod Finishing

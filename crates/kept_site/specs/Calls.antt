@@ -1,5 +1,5 @@
 -- What the calls of a site over a store make of it.
-use Rattle.std.specs.Prelude.{◌≡◌, ◌+◌, ◌≤◌, ◌^◌, ◌⊎◌, ℕ, ℤ, List, Bool, Option, Some, None, true, false, not, nat_lt, ◌&&◌}
+use Rattle.std.specs.Prelude.{◌≡◌, ◌+◌, ◌≤◌, ◌^◌, ◌⊎◌, ℕ, ℤ, List, Bool, Option, Some, None, true, false, max, not, nat_lt, ◌&&◌}
 use Rattle.std.specs.FinMap as finite
 use Rattle.sqlite_trees.specs.View.{View, IsClean}
 use Rattle.cose.specs.Schemes.{Validity}
@@ -24,7 +24,8 @@ use Rattle.verification.specs.declared.refusal.SignInRefusal.{SignInRefusal}
 use Rattle.credential_store.specs.Held.{HasNone, IsAt, Placed}
 use Rattle.credential_details.specs.Details.{Detail, Details, HoldsDetails, used}
 use Rattle.sqlite_trees.specs.Tree.{Trees}
-use Rattle.kept_site.specs.State.{KeptState}
+use Rattle.timed_sessions.specs.Timed.{skipped}
+use Rattle.kept_site.specs.State.{KeptState, to_commit}
 use Rattle.kept_site.specs.declared.failure.Failure.{Failure}
 use Rattle.kept_site.specs.declared.failure.Failure.TheVariants as failures
 use Rattle.kept_site.specs.declared.failure.BeginFailure.{BeginFailure}
@@ -42,23 +43,39 @@ pub record IsSame {S : Type 0} (view : S → View) (old new : KeptState S) : Typ
   pub clean : IsClean (view new.store) → IsClean (view old.store)
   pub store : IsClean (view new.store) → view new.store ≡ record (view old.store) { cursors = (view new.store).cursors }
 
--- the relying party, the policy and the bound on credentials stay
+-- the relying party, the policy and the bound on credentials stay, and what is committed
 pub record IsOneSite {S : Type 0} (old new : KeptState S) : Type 0 where
   pub rp : new.rp ≡ old.rp
   pub policy : new.policy ≡ old.policy
   pub most : new.most ≡ old.most
+  pub durable : new.durable ≡ old.durable
 
 -- why a call failed: the site was shut, and has not changed; or the store or memory failed, and it is shut from now on
 abbrev pub IsFailure : {S : Type 0} → KeptState S → KeptState S → Failure → Type 0
 IsFailure old new failures.Shut = (old.is_shut ≡ true) × (new ≡ old)
 IsFailure old new (failures.Failed e) = (old.is_shut ≡ false) × (new.is_shut ≡ true)
 
+-- ---- a commit
+
+-- where something was written, it is committed; more numbers are reserved in the same commit, and the next number is none that an
+-- earlier commit has reserved
+pub record IsCommit {S : Type 0} (old new : KeptState S) : Type 0 where
+  pub quiet : old.is_pending ≡ false → new ≡ old
+  pub moved : old.is_pending ≡ true
+      → new ≡ record old {
+        store = new.store;
+        is_pending = false;
+        reserved = to_commit old.durable old.reserved;
+        durable = to_commit old.durable old.reserved;
+        timed = skipped (max old.timed.open_sessions.next old.durable) old.timed;
+      }
+
 -- ---- a session begins
 
 -- why none begins: what is asked is out of its limits, or no number is left, and nothing has changed; or a failure
 abbrev pub IsNotBegun : {S : Type 0} → KeptState S → KeptState S → Opening → BeginFailure → Type 0
 IsNotBegun old new o (begins.Site why) = (new ≡ old) × sessions.IsRefused old.rp.profile old.timed.open_sessions o why
-IsNotBegun old new o begins.NoNumber = (new ≡ old) × (2 ^ 63 ≤ old.timed.open_sessions.next + 100001)
+IsNotBegun old new o begins.NoNumber = (new ≡ old) × (2 ^ 63 ≤ old.timed.open_sessions.next + 1001)
 IsNotBegun old new o (begins.Store why) = IsFailure old new why
 
 -- ---- sign-in (WebAuthn Level 2, section 7.2)

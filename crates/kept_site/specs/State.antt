@@ -1,10 +1,10 @@
 -- A relying party whose credentials are rows of a store, and whose open sessions are in memory.
-use Rattle.std.specs.Prelude.{◌≡◌, ◌<◌, ◌≤◌, ◌^◌, ℕ, pos, Bool, false, List, [], ◌∷◌, IsTrue, Some, filter, refl}
+use Rattle.std.specs.Prelude.{◌≡◌, ◌<◌, ◌≤◌, ◌+◌, ◌^◌, if◌then◌else◌, ℕ, pos, Bool, false, List, [], ◌∷◌, IsTrue, Some, filter, nat_lt, refl}
 use Rattle.std.specs.Coded.{Coded, code_by, coded×, coded_bool, coded_list, coded_ℕ}
 use Rattle.std.specs.FinMap as finite
 use Rattle.sqlite_value.specs.Order.{Row}
 use Rattle.sqlite_value.specs.declared.value.Value.TheVariants.{Null, Int, Text}
-use Rattle.sqlite_trees.specs.Tree.{Trees, has_rowid}
+use Rattle.sqlite_trees.specs.Tree.{Trees, has_rowid, put_row, with_tree}
 use Rattle.sqlite_trees.specs.View.{View, IsClean}
 use Rattle.sqlite_trees.specs.declared.store.Shape.TheVariants.{Table}
 use Rattle.authdata.specs.declared.profile.Profile.{Profile}
@@ -16,14 +16,15 @@ use Rattle.ceremony_sessions.specs.Codes.{Bytes, coded_bytes}
 use Rattle.credential_store.specs.Held.{HasTrees, Holds, Placed}
 use Rattle.timed_sessions.specs.Timed.{Timed, timed_code}
 
--- the relying party; the attestations that it accepts; the open sessions; the number below which all may have been given; how
--- many credentials there are, the highest place that one ever had, and how many there may be; the store; whether a failure has shut
--- it; whether something is written that is not committed
+-- the relying party; the attestations that it accepts; the open sessions; the number below which all may have been given, and the
+-- same by what is committed; how many credentials there are, the highest place that one ever had, and how many there may be; the
+-- store; whether a failure has shut it; whether something is written that is not committed
 pub record KeptState (S : Type 0) : Type 0 where
   pub rp : RelyingParty
   pub policy : Policy
   pub timed : Timed
   pub reserved : ℕ
+  pub durable : ℕ
   pub count : ℕ
   pub last : ℕ
   pub most : ℕ
@@ -40,18 +41,19 @@ party_code =
 
 abbrev pub kept_code : {S : Type 0} → Coded S → Coded (KeptState S)
 kept_code {S} store =
-    code_by ((RelyingParty × (Policy × Timed)) × ((ℕ × (ℕ × (ℕ × ℕ))) × (S × (Bool × Bool))))
+    code_by ((RelyingParty × (Policy × Timed)) × ((ℕ × (ℕ × (ℕ × (ℕ × ℕ)))) × (S × (Bool × Bool))))
     (coded× (coded× party_code (coded× policy.the_row.coded timed_code))
-    (coded× (coded× coded_ℕ (coded× coded_ℕ (coded× coded_ℕ coded_ℕ))) (coded× store (coded× coded_bool coded_bool))))
-    (λ s. ((s.rp, (s.policy, s.timed)), ((s.reserved, (s.count, (s.last, s.most))), (s.store, (s.is_shut, s.is_pending)))))
+    (coded× (coded× coded_ℕ (coded× coded_ℕ (coded× coded_ℕ (coded× coded_ℕ coded_ℕ)))) (coded× store (coded× coded_bool coded_bool))))
+    (λ s. ((s.rp, (s.policy, s.timed)), ((s.reserved, (s.durable, (s.count, (s.last, s.most)))), (s.store, (s.is_shut, s.is_pending)))))
     (λ p. record {
       rp = p.0.0;
       policy = p.0.1.0;
       timed = p.0.1.1;
       reserved = p.1.0.0;
-      count = p.1.0.1.0;
-      last = p.1.0.1.1.0;
-      most = p.1.0.1.1.1;
+      durable = p.1.0.1.0;
+      count = p.1.0.1.1.0;
+      last = p.1.0.1.1.1.0;
+      most = p.1.0.1.1.1.1;
       store = p.1.1.0;
       is_shut = p.1.1.1.0;
       is_pending = p.1.1.1.1;
@@ -62,6 +64,18 @@ kept_code {S} store =
 -- the columns: number, version, rp_id, next_session
 abbrev pub site_row : List ℕ → ℕ → Row
 site_row rp_id next = Int (pos 1) ∷ Null ∷ Int (pos 2) ∷ Text rp_id ∷ Int (pos next) ∷ []
+
+-- the number below which all may be given once 1,000 more are reserved, as far as a column holds it
+abbrev pub moved_on : ℕ → ℕ
+moved_on reserved = if nat_lt (reserved + 1000) (2 ^ 63) then reserved + 1000 else reserved
+
+-- the number that a commit writes: each commit reserves more
+abbrev pub to_commit : ℕ → ℕ → ℕ
+to_commit durable reserved = if nat_lt durable reserved then reserved else moved_on reserved
+
+-- trees with this row of the relying party
+abbrev pub with_site : List ℕ → ℕ → Trees → Trees
+with_site rp_id next db = with_tree db 2 (put_row (site_row rp_id next) (db 2))
 
 -- trees 0, 3 and 4 hold the credentials, tree 2 the row of the relying party: no session had this number or a higher one
 pub record HoldsSite (placed : Placed) (rp_id : List ℕ) (next : ℕ) (db : Trees) : Type 0 where
@@ -86,8 +100,10 @@ pub record IsReady (v : View) (is_pending : Bool) : Type 0 where
   pub is_open : IsTrue v.is_open
   pub committed : is_pending ≡ false → v.trees ≡ v.committed
 
--- a site that is not shut is ready, each number that was given is below those that are reserved, and these a column can hold
+-- a site that is not shut is ready, each number that was given is below those that are reserved, no more are so by what is
+-- committed, and these a column can hold
 pub record IsSound {S : Type 0} (view : S → View) (s : KeptState S) : Type 0 where
   pub ready : s.is_shut ≡ false → IsClean (view s.store) → IsReady (view s.store) s.is_pending
   pub given : s.is_shut ≡ false → s.timed.open_sessions.next ≤ s.reserved
+  pub durable : s.is_shut ≡ false → s.durable ≤ s.reserved
   pub reserved : s.reserved < 2 ^ 63

@@ -19,16 +19,16 @@ use sqlite_trees::store::Store;
 
 /// Whether the number after a session's, and those that may be reserved with it, are ones that a column can hold.
 fn has_number(next: u64) -> bool
-    ensures { IsTrue result ↔ (next + 100001 < 2 ^ 63) }
+    ensures { IsTrue result ↔ (next + 1001 < 2 ^ 63) }
 {
-    next < 9_223_372_036_854_675_807
+    next < 9_223_372_036_854_774_807
 }
 
 impl<S: Store> KeptSite<S> {
     /// Begins a sign-in as `TimedSessions` does, at this second of the host's clock: where the most sessions are open the oldest
-    /// ends. It writes something once in 100,000 sessions.
+    /// ends. It writes something once in 1,000 sessions.
     ///
-    /// `NoNumber` where the number would be within 100,001 of 2^63, then `Site` where what is asked is out of its limits or there is
+    /// `NoNumber` where the number would be within 1,001 of 2^63, then `Site` where what is asked is out of its limits or there is
     /// no memory for it.
     pub fn begin_sign_in(
         &mut self,

@@ -44,7 +44,7 @@ fn retire_found<S: Store>(held: &mut SiteStore<S>, found: &Option<Found>) -> Res
     ensures told { IfOk result (RetiresFound found.now (held.new ≡ held.old) (S.Store.view held.old.store) (S.Store.view held.new.store)) }
     ensures ready { OnOk result (IsClean (S.Store.view held.new.store) → IsReady (S.Store.view held.new.store) held.new.is_pending) }
     ensures open { OnOk result (held.new.is_shut ≡ false) }
-    ensures reserved { held.new.reserved ≡ held.old.reserved }
+    ensures reserved { (held.new.reserved ≡ held.old.reserved) × (held.new.durable ≡ held.old.durable) }
     ensures clean { IsClean (S.Store.view held.new.store) → IsClean (S.Store.view held.old.store) }
     ensures failed { IfErr result (λ e. (held.new.is_shut ≡ true) × (e ≡ failures.Shut → ⊥)) }
     ensures crash { (db : Trees) → S.Store.recovers held.new.store db → S.Store.recovers held.old.store db }
@@ -66,7 +66,7 @@ fn delete_found<S: Store>(held: &mut SiteStore<S>, found: &Option<Found>) -> Res
     ensures told { IfOk result (DeletesFound found.now (held.new ≡ held.old) (S.Store.view held.old.store) (S.Store.view held.new.store)) }
     ensures ready { OnOk result (IsClean (S.Store.view held.new.store) → IsReady (S.Store.view held.new.store) held.new.is_pending) }
     ensures open { OnOk result (held.new.is_shut ≡ false) }
-    ensures reserved { held.new.reserved ≡ held.old.reserved }
+    ensures reserved { (held.new.reserved ≡ held.old.reserved) × (held.new.durable ≡ held.old.durable) }
     ensures clean { IsClean (S.Store.view held.new.store) → IsClean (S.Store.view held.old.store) }
     ensures failed { IfErr result (λ e. (held.new.is_shut ≡ true) × (e ≡ failures.Shut → ⊥)) }
     ensures crash { (db : Trees) → S.Store.recovers held.new.store db → S.Store.recovers held.old.store db }

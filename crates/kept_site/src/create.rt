@@ -98,6 +98,7 @@ impl<S: Store> KeptSite<S> {
                     alloc,
                     store,
                     reserved: 1,
+                    durable: 1,
                     is_pending: false,
                     is_shut: false,
                 },

@@ -23,7 +23,7 @@ impl<S: Store> SiteStore<S> {
             → HoldsDetails details (S.Store.view self.old.store).trees → option_map detail_view found ≡ finite.get details place) }
         ensures same { OnOk result (IsSameView (S.Store.view self.old.store) (S.Store.view self.new.store)) }
         ensures kept { OnOk result (self.new ≡ record self.old { store = self.new.store }) }
-        ensures failed { IfErr result (λ e. (self.new.is_shut ≡ true) × (self.new.reserved ≡ self.old.reserved) × (e ≡ failures.Shut → ⊥)) }
+        ensures failed { IfErr result (λ e. (self.new.is_shut ≡ true) × (self.new.reserved ≡ self.old.reserved) × (self.new.durable ≡ self.old.durable) × (e ≡ failures.Shut → ⊥)) }
         ensures crash { (db : Trees) → S.Store.recovers self.new.store db → S.Store.recovers self.old.store db }
     {
         self.is_shut = true;
@@ -39,8 +39,8 @@ impl<S: Store> SiteStore<S> {
             (λ details. finite.insert details place (detail_view detail.now))) }
         ensures ready { OnOk result (IsClean (S.Store.view self.new.store) → IsReady (S.Store.view self.new.store) true) }
         ensures clean { IsClean (S.Store.view self.new.store) → IsClean (S.Store.view self.old.store) }
-        ensures open { OnOk result ((self.new.is_shut ≡ false) × (self.new.is_pending ≡ true) × (self.new.reserved ≡ self.old.reserved)) }
-        ensures failed { IfErr result (λ e. (self.new.is_shut ≡ true) × (self.new.reserved ≡ self.old.reserved) × (e ≡ failures.Shut → ⊥)) }
+        ensures open { OnOk result ((self.new.is_shut ≡ false) × (self.new.is_pending ≡ true) × (self.new.reserved ≡ self.old.reserved) × (self.new.durable ≡ self.old.durable)) }
+        ensures failed { IfErr result (λ e. (self.new.is_shut ≡ true) × (self.new.reserved ≡ self.old.reserved) × (self.new.durable ≡ self.old.durable) × (e ≡ failures.Shut → ⊥)) }
         ensures crash { (db : Trees) → S.Store.recovers self.new.store db → S.Store.recovers self.old.store db }
     {
         self.is_shut = true;
@@ -57,8 +57,8 @@ impl<S: Store> SiteStore<S> {
             (λ details. finite.insert details place (used now (finite.get details place)))) }
         ensures ready { OnOk result (IsClean (S.Store.view self.new.store) → IsReady (S.Store.view self.new.store) true) }
         ensures clean { IsClean (S.Store.view self.new.store) → IsClean (S.Store.view self.old.store) }
-        ensures open { OnOk result ((self.new.is_shut ≡ false) × (self.new.is_pending ≡ true) × (self.new.reserved ≡ self.old.reserved)) }
-        ensures failed { IfErr result (λ e. (self.new.is_shut ≡ true) × (self.new.reserved ≡ self.old.reserved) × (e ≡ failures.Shut → ⊥)) }
+        ensures open { OnOk result ((self.new.is_shut ≡ false) × (self.new.is_pending ≡ true) × (self.new.reserved ≡ self.old.reserved) × (self.new.durable ≡ self.old.durable)) }
+        ensures failed { IfErr result (λ e. (self.new.is_shut ≡ true) × (self.new.reserved ≡ self.old.reserved) × (self.new.durable ≡ self.old.durable) × (e ≡ failures.Shut → ⊥)) }
         ensures crash { (db : Trees) → S.Store.recovers self.new.store db → S.Store.recovers self.old.store db }
     {
         self.is_shut = true;
@@ -75,8 +75,8 @@ impl<S: Store> SiteStore<S> {
             (λ details. finite.remove details place)) }
         ensures ready { OnOk result (IsClean (S.Store.view self.new.store) → IsReady (S.Store.view self.new.store) true) }
         ensures clean { IsClean (S.Store.view self.new.store) → IsClean (S.Store.view self.old.store) }
-        ensures open { OnOk result ((self.new.is_shut ≡ false) × (self.new.is_pending ≡ true) × (self.new.reserved ≡ self.old.reserved)) }
-        ensures failed { IfErr result (λ e. (self.new.is_shut ≡ true) × (self.new.reserved ≡ self.old.reserved) × (e ≡ failures.Shut → ⊥)) }
+        ensures open { OnOk result ((self.new.is_shut ≡ false) × (self.new.is_pending ≡ true) × (self.new.reserved ≡ self.old.reserved) × (self.new.durable ≡ self.old.durable)) }
+        ensures failed { IfErr result (λ e. (self.new.is_shut ≡ true) × (self.new.reserved ≡ self.old.reserved) × (self.new.durable ≡ self.old.durable) × (e ≡ failures.Shut → ⊥)) }
         ensures crash { (db : Trees) → S.Store.recovers self.new.store db → S.Store.recovers self.old.store db }
     {
         self.is_shut = true;

@@ -73,6 +73,9 @@ pub enum OpenFailure {
     /// The version is a later one.
     #[error("the tables are of a later version")]
     Newer,
+    /// A session had a number that is none of those that it says were given.
+    #[error("the tables are an older copy")]
+    Older,
     /// There are more credentials than a site has.
     #[error("there are more rows than a site has")]
     TooMany,

@@ -97,7 +97,7 @@ fn sign_in_found<S: Store, V: Verifier>(
         (judged party.now (sign_in_at session sessions.now.open_sessions) found.now (assertion_parts_view response.now)))) }
     ensures ready { OnOk result (IsClean (S.Store.view held.new.store) → IsReady (S.Store.view held.new.store) held.new.is_pending) }
     ensures open { OnOk result (held.new.is_shut ≡ false) }
-    ensures reserved { held.new.reserved ≡ held.old.reserved }
+    ensures reserved { (held.new.reserved ≡ held.old.reserved) × (held.new.durable ≡ held.old.durable) }
     ensures clean { IsClean (S.Store.view held.new.store) → IsClean (S.Store.view held.old.store) }
     ensures crash { (db : Trees) → S.Store.recovers held.new.store db → S.Store.recovers held.old.store db }
 {

@@ -4,12 +4,14 @@ ghost use Rattle.std.specs.Prelude.{◌≡◌, ◌⊎◌, ◌+◌, ◌<◌, ◌�
 ghost use Rattle.std.specs.FinMap as finite;
 ghost use Rattle.sqlite_trees.specs.Tree.{Trees};
 ghost use Rattle.sqlite_trees.specs.View.{IsClean};
+ghost use Rattle.credential_store.specs.Held.{Placed};
 ghost use Rattle.timed_sessions.specs.Timed.{after_end, since};
-ghost use Rattle.kept_site.specs.State.{IsHeld, IsSound};
-ghost use Rattle.kept_site.specs.Calls.{IsFailure, IsOneSite};
+ghost use Rattle.kept_site.specs.State.{IsHeld, IsSound, to_commit, with_site};
+ghost use Rattle.kept_site.specs.Calls.{IsCommit, IsFailure};
 ghost use Rattle.kept_site.specs.declared.failure.Failure.TheVariants as failures;
 
 use crate::failure::Failure;
+use crate::rows::to_commit;
 use crate::site_store::SiteStore;
 use sqlite_trees::store::Store;
 use std::alloc::AllocError;
@@ -45,6 +47,7 @@ impl<S: Store> Model for KeptSite<S> {
       policy = s.policy;
       timed = s.sessions;
       reserved = s.held.reserved;
+      durable = s.held.durable;
       count = s.count;
       last = s.last;
       most = s.most;
@@ -58,6 +61,7 @@ impl<S: Store> Model for KeptSite<S> {
       policy = s.policy;
       timed = s.sessions;
       reserved = s.held.reserved;
+      durable = s.held.durable;
       count = s.count;
       last = s.last;
       most = s.most;
@@ -109,14 +113,21 @@ impl<S: Store> KeptSite<S> {
     }
 
     /// Commits what was written since the last commit, if anything was. What the calls since then answered may be told now.
+    ///
+    /// More numbers are reserved in the same commit, and the next session has none that an earlier commit has reserved: so its
+    /// number tells each earlier copy of the store from this one (`open`).
     pub fn commit(&mut self) -> Result<(), Failure>
-        ensures same { OnOk result (IsClean (S.Store.view self.new.store) → (S.Store.view self.new.store).trees ≡ (S.Store.view self.old.store).trees) }
-        ensures kept { OnOk result (self.new ≡ record self.old { store = self.new.store; is_pending = false }) }
+        ensures kept { OnOk result (IsCommit self.old self.new) }
+        ensures held { OnOk result (IsClean (S.Store.view self.new.store) → (placed : Placed) → IsHeld placed self.old (S.Store.view self.old.store).trees
+            → IsHeld placed self.new (S.Store.view self.new.store).trees) }
+        ensures beside { OnOk result (IsClean (S.Store.view self.new.store) → (tree : ℕ) → (tree ≡ 2 → ⊥)
+            → (S.Store.view self.new.store).trees tree ≡ (S.Store.view self.old.store).trees tree) }
         // After it a crash leaves all of it.
         ensures durable { OnOk result (IsClean (S.Store.view self.new.store) → (db : Trees) → S.Store.recovers self.new.store db
             → db ≡ (S.Store.view self.new.store).trees) }
         // In it a crash leaves all or nothing of it.
-        ensures crash { (db : Trees) → S.Store.recovers self.new.store db → (db ≡ (S.Store.view self.old.store).trees) ⊎ S.Store.recovers self.old.store db }
+        ensures crash { (db : Trees) → S.Store.recovers self.new.store db
+            → (db ≡ with_site self.old.rp.rp_id (to_commit self.old.durable self.old.reserved) (S.Store.view self.old.store).trees) ⊎ S.Store.recovers self.old.store db }
         ensures failed { IfErr result (IsFailure self.old self.new) }
         ensures shut { self.old.is_shut ≡ true → IsErrOf result failures.Shut }
     {
@@ -126,7 +137,13 @@ impl<S: Store> KeptSite<S> {
         if !self.held.is_pending {
             return Ok(());
         }
-        self.held.commit()
+        let durable = self.held.durable;
+        let reserved = to_commit(durable, self.held.reserved);
+        self.held.reserve(self.party.rp_id(), reserved)?;
+        self.held.commit()?;
+        self.sessions
+            .skip_to(u64::max(self.sessions.next(), durable));
+        Ok(())
     }
 
     /// Closes a session: true exactly where it was open. It takes no memory, and writes nothing.

@@ -12,6 +12,7 @@ ghost use Rattle.credential_store.specs.Held.{HasTrees, IsSameView, Placed, plac
 ghost use Rattle.credential_store.specs.Rows.{credential_row};
 ghost use Rattle.kept_site.specs.State.{HasParty, HoldsSite, IsHeld, IsReady, site_row};
 ghost use Rattle.kept_site.specs.Private.{IsUpTo};
+ghost use Rattle.kept_site.specs.declared.failure.OpenFailure.TheVariants as opens;
 
 use crate::create::Bounds;
 use crate::failure::OpenFailure;
@@ -137,12 +138,29 @@ struct FoundSite {
     last: u32,
 }
 
-/// Reads the site that a store holds.
-fn read_all<S: Store>(alloc: Global, rp_id: &str, store: &mut S) -> Result<FoundSite, OpenFailure>
+/// That all numbers up to this one may have been given.
+fn check_age(next: u64, at_least: u64) -> Result<(), OpenFailure>
+    ensures newer { OnOk result (at_least < next) }
+    ensures older { IfErr result (λ e. (e ≡ opens.Older) × (next ≤ at_least)) }
+{
+    if next <= at_least {
+        return Err(OpenFailure::Older);
+    }
+    Ok(())
+}
+
+/// Reads the site that a store holds, where a session may have had this number.
+fn read_all<S: Store>(
+    alloc: Global,
+    rp_id: &str,
+    at_least: u64,
+    store: &mut S,
+) -> Result<FoundSite, OpenFailure>
     ensures found { IfOk result (λ f. IsClean (S.Store.view store.new) → (placed : Placed) (next : ℕ) → HoldsSite placed rp_id.now next (S.Store.view store.new).trees
         → (f.next ≡ next) × (finite.len placed ≡ f.count) × ((p : ℕ) (c : Credential) → finite.get placed p ≡ Some c → p ≤ f.last)) }
     ensures party { IfOk result (λ f. IsClean (S.Store.view store.new) → HasParty rp_id.now f.next (S.Store.view store.new).trees) }
     ensures limits { IfOk result (λ f. (1 ≤ f.next) × (f.next < 2 ^ 63)) }
+    ensures newer { IfOk result (λ f. at_least < f.next) }
     ensures clean { OnOk result (IsClean (S.Store.view store.new) → IsClean (S.Store.view store.old)) }
     ensures ready { OnOk result (IsClean (S.Store.view store.new) → IsReady (S.Store.view store.new) false) }
     ensures crash { (db : Trees) → S.Store.recovers store.new db → S.Store.recovers store.old db }
@@ -152,6 +170,7 @@ fn read_all<S: Store>(alloc: Global, rp_id: &str, store: &mut S) -> Result<Found
         return Err(OpenFailure::NoSite);
     }
     let next = read_site(alloc, rp_id, store)?;
+    check_age(next, at_least)?;
     let counted = count_rows(alloc, store)?;
     Ok(FoundSite {
         next,
@@ -164,13 +183,17 @@ impl<S: Store> KeptSite<S> {
     /// The site that a store holds, of this relying party. No session is open, and the numbers go on. Nothing is written; what an
     /// earlier transaction of the store has not committed is undone.
     ///
-    /// `NoSite` where the trees are not those of a site, `Newer` and `OtherSite` where their version or rp id is another, `TooMany`
-    /// and `BadRow` where a row is no credential's, `Failed` where the disk or memory failed. The store is handed back.
+    /// `at_least` is the number of a session that is known to have been begun, as the last that was told, and 0 where none is known.
+    ///
+    /// `NoSite` where the trees are not those of a site, `Newer` and `OtherSite` where their version or rp id is another, `Older`
+    /// where no session can have had that number, `TooMany` and `BadRow` where a row is no credential's, `Failed` where the disk
+    /// or memory failed. The store is handed back.
     pub fn open(
         alloc: Global,
         party: RelyingParty,
         policy: Policy,
         bounds: Bounds,
+        at_least: u64,
         mut store: S,
     ) -> Result<KeptSite<S>, (OpenFailure, S)>
         ensures made { IfOk result (λ s. (s.rp ≡ party) × (s.policy ≡ policy) × (s.most ≡ bounds.credentials) × (s.is_shut ≡ false) × (s.is_pending ≡ false)) }
@@ -180,13 +203,15 @@ impl<S: Store> KeptSite<S> {
         // where the store holds a site, this is it,
         ensures held { IfOk result (λ s. IsClean (S.Store.view s.store) → (placed : Placed) (next : ℕ)
             → HoldsSite placed party.rp_id next (S.Store.view s.store).trees → IsHeld placed s (S.Store.view s.store).trees) }
+        // no older one than is known,
+        ensures newer { IfOk result (λ s. at_least < s.reserved) }
         ensures clean { IfOk result (λ s. IsClean (S.Store.view s.store) → IsClean (S.Store.view store)) }
         // and it is what an open could find before.
         ensures found { IfOk result (λ s. IsClean (S.Store.view s.store) → S.Store.recovers store (S.Store.view s.store).trees) }
         ensures crash { IfOk result (λ s. (db : Trees) → S.Store.recovers s.store db → S.Store.recovers store db) }
         ensures failed { IfErr result (λ e. (db : Trees) → S.Store.recovers e.1 db → S.Store.recovers store db) }
     {
-        match read_all(alloc, party.rp_id(), &mut store) {
+        match read_all(alloc, party.rp_id(), at_least, &mut store) {
             Ok(found) => Ok(KeptSite {
                 party,
                 policy,
@@ -198,6 +223,7 @@ impl<S: Store> KeptSite<S> {
                     alloc,
                     store,
                     reserved: found.next,
+                    durable: found.next,
                     is_pending: false,
                     is_shut: false,
                 },

@@ -87,7 +87,7 @@ fn judge<S: Store, V: Verifier>(
     ensures refused { IfErr result (IsStopped (IsSameView (S.Store.view held.old.store) (S.Store.view held.new.store) × (held.new ≡ record held.old { store = held.new.store }))
         held.new.is_shut (IsNotAdmitted (V.valid verifier.now) party.now policy (registration_at session sessions.now.open_sessions)
         (registration_parts_view response.now) is_full (S.Store.view held.old.store) (S.Store.view held.new.store))) }
-    ensures reserved { held.new.reserved ≡ held.old.reserved }
+    ensures reserved { (held.new.reserved ≡ held.old.reserved) × (held.new.durable ≡ held.old.durable) }
     ensures crash { (db : Trees) → S.Store.recovers held.new.store db → S.Store.recovers held.old.store db }
 {
     let verified = verify_registration(

@@ -1,11 +1,11 @@
 //! The row of the relying party.
 
-ghost use Rattle.std.specs.Prelude.{◌≡◌, ◌<◌, ◌^◌, ℕ, List, IfOk, IsTrue, OnOk};
+ghost use Rattle.std.specs.Prelude.{◌≡◌, ◌<◌, ◌≤◌, ◌^◌, ℕ, List, IfOk, IsTrue, OnOk};
 ghost use Rattle.sqlite_trees.specs.Tree.{Trees, put_row, rowid};
 ghost use Rattle.sqlite_trees.specs.View.{IsClean, OnlyWrites, SetsTree, is_int};
 ghost use Rattle.sqlite_trees.specs.declared.store.Shape.TheVariants.{Table};
 ghost use Rattle.credential_store.specs.Held.{Placed};
-ghost use Rattle.kept_site.specs.State.{HoldsSite, site_row};
+ghost use Rattle.kept_site.specs.State.{HoldsSite, moved_on, site_row, to_commit};
 
 use sqlite_trees::error::StoreError;
 use sqlite_trees::store::Store;
@@ -28,6 +28,37 @@ pub(crate) fn site_row(alloc: Global, rp_id: &str, next: u64) -> Result<Row, All
     row.push(ValueRef::Text(rp_id.as_bytes()))?;
     row.push(ValueRef::Int(next as i64))?;
     Ok(row)
+}
+
+/// How many numbers are reserved at a time.
+pub(crate) const BLOCK: u64 = 1_000;
+
+/// The number below which all may be given once more are reserved, as far as a column holds it.
+pub(crate) fn moved_on(reserved: u64) -> u64
+    requires fits { reserved < 2 ^ 63 }
+    ensures moved { result ≡ moved_on reserved }
+    ensures above { reserved ≤ result }
+    ensures fits { result < 2 ^ 63 }
+{
+    if reserved < (1 << 63) - BLOCK {
+        reserved + BLOCK
+    } else {
+        reserved
+    }
+}
+
+/// The number that a commit writes, where this one is committed and that one reserved.
+pub(crate) fn to_commit(durable: u64, reserved: u64) -> u64
+    requires fits { reserved < 2 ^ 63 }
+    ensures moved { result ≡ to_commit durable reserved }
+    ensures above { reserved ≤ result }
+    ensures fits { result < 2 ^ 63 }
+{
+    if durable < reserved {
+        reserved
+    } else {
+        moved_on(reserved)
+    }
 }
 
 /// Reserves the numbers below one.

@@ -9,25 +9,23 @@ ghost use Rattle.verification.specs.Views.{credential_view};
 ghost use Rattle.credential_table.specs.Views.{row_view};
 ghost use Rattle.credential_store.specs.Held.{HasNone, Holds, IsAt, IsSameView, IsWritten, Placed};
 ghost use Rattle.kept_site.specs.Private.{IsFoundAs, TellsHad};
-ghost use Rattle.kept_site.specs.State.{HoldsSite, IsReady};
+ghost use Rattle.kept_site.specs.State.{HoldsSite, IsReady, with_site};
 ghost use Rattle.kept_site.specs.declared.failure.Failure.TheVariants as failures;
 
 use crate::failure::Failure;
-use crate::rows::reserve;
+use crate::rows::{BLOCK, reserve};
 use credential_store::Found;
 use sqlite_trees::store::Store;
 use std::alloc::Global;
 use verification::RowView;
 
-/// How many numbers are reserved at a time.
-const BLOCK: u64 = 100_000;
-
-/// The store of a site, the number below which all may have been given, whether something is written that is not committed, and whether a failure has shut it.
+/// The store of a site, the number below which all may have been given, the same by what is committed, whether something is written that is not committed, and whether a failure has shut it.
 #[derive(Drop)]
 pub(crate) struct SiteStore<S: Store> {
     pub(crate) alloc: Global,
     pub(crate) store: S,
     pub(crate) reserved: u64,
+    pub(crate) durable: u64,
     pub(crate) is_pending: bool,
     pub(crate) is_shut: bool,
 }
@@ -41,7 +39,7 @@ impl<S: Store> SiteStore<S> {
             → Holds placed (S.Store.view self.old.store).trees → IsFoundAs placed id.now found) }
         ensures same { OnOk result (IsSameView (S.Store.view self.old.store) (S.Store.view self.new.store)) }
         ensures kept { OnOk result (self.new ≡ record self.old { store = self.new.store }) }
-        ensures failed { IfErr result (λ e. (self.new.is_shut ≡ true) × (self.new.reserved ≡ self.old.reserved) × (e ≡ failures.Shut → ⊥)) }
+        ensures failed { IfErr result (λ e. (self.new.is_shut ≡ true) × (self.new.reserved ≡ self.old.reserved) × (self.new.durable ≡ self.old.durable) × (e ≡ failures.Shut → ⊥)) }
         ensures crash { (db : Trees) → S.Store.recovers self.new.store db → S.Store.recovers self.old.store db }
     {
         self.is_shut = true;
@@ -58,7 +56,7 @@ impl<S: Store> SiteStore<S> {
             → Holds placed (S.Store.view self.old.store).trees → TellsHad placed id.now had) }
         ensures same { OnOk result (IsSameView (S.Store.view self.old.store) (S.Store.view self.new.store)) }
         ensures kept { OnOk result (self.new ≡ record self.old { store = self.new.store }) }
-        ensures failed { IfErr result (λ e. (self.new.is_shut ≡ true) × (self.new.reserved ≡ self.old.reserved) × (e ≡ failures.Shut → ⊥)) }
+        ensures failed { IfErr result (λ e. (self.new.is_shut ≡ true) × (self.new.reserved ≡ self.old.reserved) × (self.new.durable ≡ self.old.durable) × (e ≡ failures.Shut → ⊥)) }
         ensures crash { (db : Trees) → S.Store.recovers self.new.store db → S.Store.recovers self.old.store db }
     {
         let found = self.find(id)?;
@@ -73,8 +71,8 @@ impl<S: Store> SiteStore<S> {
             → IsWritten (S.Store.view self.old.store) (S.Store.view self.new.store) (finite.insert placed place (credential_view credential.now))) }
         ensures ready { OnOk result (IsClean (S.Store.view self.new.store) → IsReady (S.Store.view self.new.store) true) }
         ensures clean { IsClean (S.Store.view self.new.store) → IsClean (S.Store.view self.old.store) }
-        ensures open { OnOk result ((self.new.is_shut ≡ false) × (self.new.is_pending ≡ true) × (self.new.reserved ≡ self.old.reserved)) }
-        ensures failed { IfErr result (λ e. (self.new.is_shut ≡ true) × (self.new.reserved ≡ self.old.reserved) × (e ≡ failures.Shut → ⊥)) }
+        ensures open { OnOk result ((self.new.is_shut ≡ false) × (self.new.is_pending ≡ true) × (self.new.reserved ≡ self.old.reserved) × (self.new.durable ≡ self.old.durable)) }
+        ensures failed { IfErr result (λ e. (self.new.is_shut ≡ true) × (self.new.reserved ≡ self.old.reserved) × (self.new.durable ≡ self.old.durable) × (e ≡ failures.Shut → ⊥)) }
         ensures crash { (db : Trees) → S.Store.recovers self.new.store db → S.Store.recovers self.old.store db }
     {
         self.is_shut = true;
@@ -92,8 +90,8 @@ impl<S: Store> SiteStore<S> {
             → IsWritten (S.Store.view self.old.store) (S.Store.view self.new.store) (finite.insert placed place (credential_view credential.now))) }
         ensures ready { OnOk result (IsClean (S.Store.view self.new.store) → IsReady (S.Store.view self.new.store) true) }
         ensures clean { IsClean (S.Store.view self.new.store) → IsClean (S.Store.view self.old.store) }
-        ensures open { OnOk result ((self.new.is_shut ≡ false) × (self.new.is_pending ≡ true) × (self.new.reserved ≡ self.old.reserved)) }
-        ensures failed { IfErr result (λ e. (self.new.is_shut ≡ true) × (self.new.reserved ≡ self.old.reserved) × (e ≡ failures.Shut → ⊥)) }
+        ensures open { OnOk result ((self.new.is_shut ≡ false) × (self.new.is_pending ≡ true) × (self.new.reserved ≡ self.old.reserved) × (self.new.durable ≡ self.old.durable)) }
+        ensures failed { IfErr result (λ e. (self.new.is_shut ≡ true) × (self.new.reserved ≡ self.old.reserved) × (self.new.durable ≡ self.old.durable) × (e ≡ failures.Shut → ⊥)) }
         ensures crash { (db : Trees) → S.Store.recovers self.new.store db → S.Store.recovers self.old.store db }
     {
         self.is_shut = true;
@@ -111,8 +109,8 @@ impl<S: Store> SiteStore<S> {
             → IsWritten (S.Store.view self.old.store) (S.Store.view self.new.store) (finite.remove placed place)) }
         ensures ready { OnOk result (IsClean (S.Store.view self.new.store) → IsReady (S.Store.view self.new.store) true) }
         ensures clean { IsClean (S.Store.view self.new.store) → IsClean (S.Store.view self.old.store) }
-        ensures open { OnOk result ((self.new.is_shut ≡ false) × (self.new.is_pending ≡ true) × (self.new.reserved ≡ self.old.reserved)) }
-        ensures failed { IfErr result (λ e. (self.new.is_shut ≡ true) × (self.new.reserved ≡ self.old.reserved) × (e ≡ failures.Shut → ⊥)) }
+        ensures open { OnOk result ((self.new.is_shut ≡ false) × (self.new.is_pending ≡ true) × (self.new.reserved ≡ self.old.reserved) × (self.new.durable ≡ self.old.durable)) }
+        ensures failed { IfErr result (λ e. (self.new.is_shut ≡ true) × (self.new.reserved ≡ self.old.reserved) × (self.new.durable ≡ self.old.durable) × (e ≡ failures.Shut → ⊥)) }
         ensures crash { (db : Trees) → S.Store.recovers self.new.store db → S.Store.recovers self.old.store db }
     {
         self.is_shut = true;
@@ -122,30 +120,51 @@ impl<S: Store> SiteStore<S> {
         Ok(())
     }
 
-    /// Reserves numbers where the next one is above those that are reserved. A failure shuts it.
+    /// Reserves the numbers below one. A failure shuts it.
+    pub(crate) fn reserve(&mut self, rp_id: &str, reserved: u64) -> Result<(), Failure>
+        requires fits { reserved < 2 ^ 63 }
+        requires ready { IsClean (S.Store.view self.old.store) → IsReady (S.Store.view self.old.store) self.old.is_pending }
+        ensures reserved { OnOk result (self.new.reserved ≡ reserved) }
+        ensures held { OnOk result (IsClean (S.Store.view self.new.store) → (placed : Placed) (was : ℕ) → HoldsSite placed rp_id.now was (S.Store.view self.old.store).trees
+            → HoldsSite placed rp_id.now self.new.reserved (S.Store.view self.new.store).trees) }
+        ensures trees { OnOk result (IsClean (S.Store.view self.new.store)
+            → (S.Store.view self.new.store).trees ≡ with_site rp_id.now reserved (S.Store.view self.old.store).trees) }
+        ensures ready { OnOk result (IsClean (S.Store.view self.new.store) → IsReady (S.Store.view self.new.store) true) }
+        ensures clean { IsClean (S.Store.view self.new.store) → IsClean (S.Store.view self.old.store) }
+        ensures open { OnOk result ((self.new.is_shut ≡ false) × (self.new.is_pending ≡ true) × (self.new.durable ≡ self.old.durable)) }
+        ensures failed { IfErr result (λ e. (self.new.is_shut ≡ true) × (self.new.reserved ≡ self.old.reserved) × (self.new.durable ≡ self.old.durable) × (e ≡ failures.Shut → ⊥)) }
+        ensures crash { (db : Trees) → S.Store.recovers self.new.store db → S.Store.recovers self.old.store db }
+    {
+        self.is_shut = true;
+        reserve(self.alloc, &mut self.store, rp_id, reserved)?;
+        self.reserved = reserved;
+        self.is_pending = true;
+        self.is_shut = false;
+        Ok(())
+    }
+
+    /// Reserves more numbers where the next one is above those that are reserved. A failure shuts it.
     pub(crate) fn reserve_for(&mut self, rp_id: &str, next: u64) -> Result<(), Failure>
-        requires fits { next + 100000 < 2 ^ 63 }
+        requires near { self.old.is_shut ≡ false → next ≤ self.old.reserved + 1 }
+        requires fits { next + 1000 < 2 ^ 63 }
+        requires reserved { self.old.reserved < 2 ^ 63 }
         requires open { self.old.is_shut ≡ false }
         requires ready { IsClean (S.Store.view self.old.store) → IsReady (S.Store.view self.old.store) self.old.is_pending }
         ensures reserved { OnOk result (next ≤ self.new.reserved) }
-        ensures fits { self.old.reserved < 2 ^ 63 → self.new.reserved < 2 ^ 63 }
+        ensures above { OnOk result (self.old.reserved ≤ self.new.reserved) }
+        ensures fits { self.new.reserved < 2 ^ 63 }
         ensures held { OnOk result (IsClean (S.Store.view self.new.store) → (placed : Placed) → HoldsSite placed rp_id.now self.old.reserved (S.Store.view self.old.store).trees
             → HoldsSite placed rp_id.now self.new.reserved (S.Store.view self.new.store).trees) }
         ensures ready { OnOk result (IsClean (S.Store.view self.new.store) → IsReady (S.Store.view self.new.store) self.new.is_pending) }
         ensures clean { IsClean (S.Store.view self.new.store) → IsClean (S.Store.view self.old.store) }
-        ensures open { OnOk result (self.new.is_shut ≡ false) }
-        ensures failed { IfErr result (λ e. (self.new.is_shut ≡ true) × (self.new.reserved ≡ self.old.reserved) × (e ≡ failures.Shut → ⊥)) }
+        ensures open { OnOk result ((self.new.is_shut ≡ false) × (self.new.durable ≡ self.old.durable)) }
+        ensures failed { IfErr result (λ e. (self.new.is_shut ≡ true) × (self.new.reserved ≡ self.old.reserved) × (self.new.durable ≡ self.old.durable) × (e ≡ failures.Shut → ⊥)) }
         ensures crash { (db : Trees) → S.Store.recovers self.new.store db → S.Store.recovers self.old.store db }
     {
         if next <= self.reserved {
             return Ok(());
         }
-        self.is_shut = true;
-        let reserved = next + BLOCK;
-        reserve(self.alloc, &mut self.store, rp_id, reserved)?;
-        self.reserved = reserved;
-        self.is_pending = true;
-        self.is_shut = false;
+        self.reserve(rp_id, next + BLOCK - 1)?;
         Ok(())
     }
 
@@ -155,12 +174,14 @@ impl<S: Store> SiteStore<S> {
         ensures same { OnOk result (IsClean (S.Store.view self.new.store) → (S.Store.view self.new.store).trees ≡ (S.Store.view self.old.store).trees) }
         ensures ready { OnOk result (IsClean (S.Store.view self.new.store) → IsReady (S.Store.view self.new.store) false) }
         ensures clean { IsClean (S.Store.view self.new.store) → IsClean (S.Store.view self.old.store) }
-        ensures open { OnOk result ((self.new.is_shut ≡ false) × (self.new.is_pending ≡ false) × (self.new.reserved ≡ self.old.reserved)) }
-        ensures failed { IfErr result (λ e. (self.new.is_shut ≡ true) × (self.new.reserved ≡ self.old.reserved) × (e ≡ failures.Shut → ⊥)) }
-        ensures crash { (db : Trees) → S.Store.recovers self.new.store db → (db ≡ (S.Store.view self.old.store).trees) ⊎ S.Store.recovers self.old.store db }
+        ensures open { OnOk result ((self.new.is_shut ≡ false) × (self.new.is_pending ≡ false) × (self.new.reserved ≡ self.old.reserved) × (self.new.durable ≡ self.old.reserved)) }
+        ensures failed { IfErr result (λ e. (self.new.is_shut ≡ true) × (self.new.reserved ≡ self.old.reserved) × (self.new.durable ≡ self.old.durable) × (e ≡ failures.Shut → ⊥)) }
+        ensures crash { (db : Trees) → S.Store.recovers self.new.store db
+            → (IsClean (S.Store.view self.old.store) × (db ≡ (S.Store.view self.old.store).trees)) ⊎ S.Store.recovers self.old.store db }
     {
         self.is_shut = true;
         self.store.commit()?;
+        self.durable = self.reserved;
         self.is_pending = false;
         self.is_shut = false;
         Ok(())

@@ -50,6 +50,10 @@ pub struct Options<'a> {
     pub is_new: bool,
     /// Whether the file must be there.
     pub is_existing: bool,
+    /// Whether a new file has no sums of its pages.
+    pub has_no_sums: bool,
+    /// The number of a session that is known to have been begun, and 0 where none is known.
+    pub at_least: u64,
     /// What is told on standard error, if anything.
     pub log: Option<Log>,
     /// After how many seconds an open session ends by itself.
@@ -170,19 +174,37 @@ fn log_option<'a>(alloc: Global) -> Arg<'a> {
     .value_parser(LOGS.as_slice())
 }
 
-/// The program's parser, with this text behind its help.
-fn parser<'a>(alloc: Global, help: &'a str) -> Result<Command<'a>, AllocError> {
+/// The same with the options of the file.
+fn file_options<'a>(alloc: Global, help: &'a str) -> Result<Command<'a>, AllocError> {
     let new = switch(
         alloc,
         "new",
         "The file is to be made, and must not be there",
     );
     let existing = switch(alloc, "existing", "The file must be there").conflicts_with("new")?;
-    let log = log_option(alloc);
+    let at_least = option(
+        alloc,
+        "at-least",
+        "N",
+        "The last session that is known: an older copy of the file is refused, and none is made",
+    )
+    .conflicts_with("new")?;
+    let no_sums = switch(
+        alloc,
+        "no-sums",
+        "A new file has no sums of its pages, so that sqlite3 may write it",
+    )
+    .conflicts_with("existing")?;
     bound_options(alloc, help)?
         .arg(new)?
         .arg(existing)?
-        .arg(log)
+        .arg(at_least)?
+        .arg(no_sums)
+}
+
+/// The program's parser, with this text behind its help.
+fn parser<'a>(alloc: Global, help: &'a str) -> Result<Command<'a>, AllocError> {
+    file_options(alloc, help)?.arg(log_option(alloc))
 }
 
 /// The words with the value of `--log` joined to it, as the parser takes it: the word behind it is its value only where it
@@ -273,10 +295,11 @@ pub fn options_of<'a>(
     ) else {
         return Ok(None);
     };
-    let (Some(max_open), Some(max_credentials), Some(expire)) = (
+    let (Some(max_open), Some(max_credentials), Some(expire), Some(at_least)) = (
         bound(matches.get_str("max-open"), 100_000),
         bound(matches.get_str("max-credentials"), 1_000_000),
         number(matches.get_str("expire"), 300),
+        number(matches.get_str("at-least"), 0),
     ) else {
         return Ok(None);
     };
@@ -291,7 +314,9 @@ pub fn options_of<'a>(
         max_open,
         max_credentials,
         is_new: matches.get_flag("new"),
-        is_existing: matches.get_flag("existing"),
+        is_existing: matches.get_flag("existing") || 0 < at_least,
+        has_no_sums: matches.get_flag("no-sums"),
+        at_least,
         log: log_named(matches.get_str("log")),
         expire,
     }))

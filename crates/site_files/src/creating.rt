@@ -105,9 +105,10 @@ fn written<S: Start>(
 fn new_file<S: Start>(
     rt: &HostRuntime,
     path: &str,
+    sums: bool,
     start: S,
 ) -> Result<FileStore<FileFrom<S>>, FileError> {
-    let store = match Connection::open_from(rt, path, false, start) {
+    let store = match Connection::open_from(rt, path, sums, start) {
         Ok(conn) => conn.into_store(),
         Err((e, _)) => return Err(e.into()),
     };
@@ -124,11 +125,12 @@ fn new_file<S: Start>(
 fn found_file<S: Start>(
     rt: &HostRuntime,
     path: &str,
+    sums: bool,
     start: S,
 ) -> Result<FileStore<FileFrom<S>>, FileError> {
     match list_at(rt, path) {
         Ok(Listed::Second) => written(second_at(rt, path, start)?),
-        _ => new_file(rt, path, start),
+        _ => new_file(rt, path, sums, start),
     }
 }
 
@@ -170,6 +172,9 @@ fn is_there(
 /// Makes a site's file at a path, and its log beside it (the path and `-wal`), for a relying party without credentials and
 /// sessions. A program passes `Unknown` as `start`, which stands for what the files held.
 ///
+/// With `sums` each page of the database file ends in its sum, as of SQLite's cksumvfs, which each open tests: so most changed
+/// bytes are told. A `sqlite3` without that extension reads such a file, and spoils it when it writes.
+///
 /// `BadBound` where more than 1,000,000 sessions could be open or as many credentials registered, `Exists` where a file is there
 /// that holds something, `LoneLog` where its log is there alone, `NotSqlite` and `DamagedLog` where the two are no sound SQLite file;
 /// nothing is made or changed then. `InUse`, `CannotOpen` and `Failed` where the system, the disk or memory failed.
@@ -182,6 +187,7 @@ pub fn create<S: Start>(
     party: RelyingParty,
     policy: Policy,
     bounds: Bounds,
+    sums: bool,
     start: S,
 ) -> Result<FileSite<S>, FileError>
     ensures made { IfOk result (λ s. (s.rp ≡ party) × (s.policy ≡ policy) × (s.most ≡ bounds.credentials) × (s.is_shut ≡ false) × (s.is_pending ≡ false)) }
@@ -190,8 +196,8 @@ pub fn create<S: Start>(
 {
     check_bounds(bounds)?;
     let store = match is_there(rt, path, &party, policy, bounds) {
-        Ok(true) => found_file(rt, path, start)?,
-        Ok(false) => new_file(rt, path, start)?,
+        Ok(true) => found_file(rt, path, sums, start)?,
+        Ok(false) => new_file(rt, path, sums, start)?,
         Err(e) => return Err(unless_in_use(rt, path, e)),
     };
     match site_over(rt.alloc(), party, policy, bounds, store) {

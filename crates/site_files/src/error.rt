@@ -42,6 +42,9 @@ pub enum FileError {
     /// The version is a later one.
     #[error("the file is of a later version")]
     Newer,
+    /// A session had a number that is none of those that the file says were given.
+    #[error("the file is an older copy than is known")]
+    Older,
     /// There are more credentials than a site has.
     #[error("there are more rows than a site has")]
     TooMany,
@@ -127,6 +130,7 @@ impl From<OpenFailure> for FileError {
             OpenFailure::NoSite => FileError::NoSite,
             OpenFailure::OtherSite => FileError::OtherSite,
             OpenFailure::Newer => FileError::Newer,
+            OpenFailure::Older => FileError::Older,
             OpenFailure::TooMany => FileError::TooMany,
             OpenFailure::BadRow => FileError::BadRow,
             OpenFailure::Failed(e) => FileError::Failed(e),

@@ -6,7 +6,7 @@ ghost use Rattle.sqlite_store.specs.FileStore.{view};
 
 use crate::error::FileError;
 use crate::look::Look;
-use crate::path::{Found, head_at, log_of};
+use crate::path::{Found, has_sums_at, head_at, log_of};
 use crate::stores::{by_sql, files_at as locked_files, listed_in, options, second_of};
 use crate::tables::Listed;
 use sqlite::{FileStore, Files, Options, Unknown};
@@ -106,19 +106,48 @@ pub fn looked_at(rt: &HostRuntime, path: &str) -> Result<FileStore<Seen>, FileEr
     ensures numbered { IfOk result (λ store. IsClean (view store) → IsTrue (view store).is_numbered) }
 {
     let options = options_without_checkpoint(rt)?;
-    match second_of(rt.alloc(), files_at(rt, path)?, options)? {
+    let has_sums = has_sums_at(rt, path)?;
+    match second_of(rt.alloc(), files_at(rt, path)?, options, has_sums)? {
         Some(store) => Ok(store),
         None => by_sql(rt.alloc(), files_at(rt, path)?, options),
     }
 }
 
-/// Whether a file without a log stands at a path, and lists the tables of version 2: an open of it writes nothing.
-pub fn is_plain(rt: &HostRuntime, path: &str) -> Result<bool, FileError> {
-    if fs::exists(rt, log_of(rt, path)?.as_str())? || head_at(rt, path)? != Found::Sqlite {
-        return Ok(false);
+/// The log of a file, which is not there or too short for a commit: it says nothing.
+#[derive(Drop)]
+pub enum ShortLog {
+    Absent,
+    There(Vec<u8>),
+}
+
+/// The log of a file at a path, where it is too short for a commit.
+fn short_log(rt: &HostRuntime, path: &str) -> Result<Option<ShortLog>, FileError> {
+    let log = log_of(rt, path)?;
+    if !fs::exists(rt, log.as_str())? {
+        return Ok(Some(ShortLog::Absent));
     }
+    if SHORTEST as u64 <= fs::metadata(rt, log.as_str())?.len() {
+        return Ok(None);
+    }
+    Ok(Some(ShortLog::There(fs::read(rt, log.as_str())?)))
+}
+
+/// The log of a file at a path that lists the tables of version 2, where it is too short for a commit: an open of it writes
+/// nothing but a new log.
+pub fn plain_log(rt: &HostRuntime, path: &str) -> Result<Option<ShortLog>, FileError> {
+    if head_at(rt, path)? != Found::Sqlite {
+        return Ok(None);
+    }
+    let Some(log) = short_log(rt, path)? else {
+        return Ok(None);
+    };
     let options = options_without_checkpoint(rt)?;
-    Ok(listed_in(rt.alloc(), files_at(rt, path)?, options)? == Listed::Second)
+    let has_sums = has_sums_at(rt, path)?;
+    let listed = listed_in(rt.alloc(), files_at(rt, path)?, options, has_sums)?;
+    Ok(match listed {
+        Listed::Second => Some(log),
+        _ => None,
+    })
 }
 
 /// Takes away a log that an open has made, while it has the files.
@@ -127,20 +156,25 @@ fn remove_log(rt: &HostRuntime, path: &str) -> Result<(), FileError> {
     Ok(())
 }
 
-/// Takes away a log that is too short for a commit, while it has the files.
-fn remove_short_log(rt: &HostRuntime, path: &str) -> Result<(), FileError> {
-    let log = log_of(rt, path)?;
-    if fs::exists(rt, log.as_str())? && fs::metadata(rt, log.as_str())?.len() < SHORTEST as u64 {
-        return remove_log(rt, path);
+/// Puts back the log of files that an open has refused, while it has them.
+fn put_back(rt: &HostRuntime, path: &str, log: &ShortLog) -> Result<(), FileError> {
+    if !matches!(short_log(rt, path), Ok(Some(ShortLog::There(_)))) {
+        return Ok(());
     }
-    Ok(())
+    match log {
+        ShortLog::Absent => remove_log(rt, path),
+        ShortLog::There(bytes) => {
+            fs::write(rt, log_of(rt, path)?.as_str(), bytes.as_slice())?;
+            Ok(())
+        }
+    }
 }
 
-/// Why files are refused that had no log, and have none then.
-pub fn without_log(rt: &HostRuntime, path: &str, e: FileError) -> FileError {
+/// Why files are refused that had such a log, and have it then.
+pub fn with_log(rt: &HostRuntime, path: &str, log: &ShortLog, e: FileError) -> FileError {
     if let Ok(files) = locked_files(rt, path, Unknown) {
-        // Where it can't be taken away it is left: such a log says nothing.
-        let _ = remove_short_log(rt, path);
+        // Where it can't be put back what is there is left: such a log says nothing.
+        let _ = put_back(rt, path, log);
         drop(files);
     }
     e

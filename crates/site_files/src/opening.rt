@@ -1,6 +1,6 @@
 //! Opening a site's file.
 
-ghost use Rattle.std.specs.Prelude.{◌≡◌, ◌⊎◌, ℕ, IfOk, IsTrue, false};
+ghost use Rattle.std.specs.Prelude.{◌≡◌, ◌<◌, ◌⊎◌, ℕ, IfOk, IsTrue, false};
 ghost use Rattle.std.specs.FinMap as finite;
 ghost use Rattle.sqlite_wal.specs.Files.{image_at};
 ghost use Rattle.sqlite_trees.specs.Tree.{Trees};
@@ -15,7 +15,7 @@ use crate::FileSite;
 use crate::bounds::check_bounds;
 use crate::error::FileError;
 use crate::first::{check_first, why_other};
-use crate::looking::{is_plain, looked_at, unless_in_use, without_log};
+use crate::looking::{ShortLog, looked_at, plain_log, unless_in_use, with_log};
 use crate::path::{Found, found_at};
 use crate::stores::{list_at, second_at};
 use crate::tables::{Listed, list_of, upgraded};
@@ -104,6 +104,7 @@ pub fn open_over<S: Alter + Drop>(
     party: RelyingParty,
     policy: Policy,
     bounds: Bounds,
+    at_least: u64,
     store: S,
 ) -> Result<KeptSite<S>, (FileError, S)>
     requires numbered { IsClean (S.Store.view store) → IsTrue (S.Store.view store).is_numbered }
@@ -112,6 +113,7 @@ pub fn open_over<S: Alter + Drop>(
     ensures party { IfOk result (λ s. IsClean (S.Store.view s.store) → HasParty party.rp_id s.reserved (S.Store.view s.store).trees) }
     ensures held { IfOk result (λ s. IsClean (S.Store.view s.store) → (placed : Placed) (next : ℕ)
         → HoldsSite placed party.rp_id next (S.Store.view s.store).trees → IsHeld placed s (S.Store.view s.store).trees) }
+    ensures newer { IfOk result (λ s. at_least < s.reserved) }
     // What it holds is what the store held, which was of this version or of the first.
     ensures found { IfOk result (λ s. IsClean (S.Store.view s.store) → IsClean (S.Store.view store) × IsTrue (S.Store.view store).is_open
         × (((S.Store.view s.store).trees ≡ (S.Store.view store).committed) ⊎ IsFirst party.rp_id (S.Store.view store).trees)) }
@@ -123,7 +125,7 @@ pub fn open_over<S: Alter + Drop>(
         return Err((FileError::Failed(StoreError::Broken), store));
     }
     let store = newest(alloc, party.rp_id(), store)?;
-    match KeptSite::open(alloc, party, policy, bounds, store) {
+    match KeptSite::open(alloc, party, policy, bounds, at_least, store) {
         Ok(site) => Ok(site),
         Err((e, store)) => Err((e.into(), store)),
     }
@@ -142,11 +144,12 @@ fn check_open(
     party: &RelyingParty,
     policy: Policy,
     bounds: Bounds,
+    at_least: u64,
 ) -> Result<(), FileError> {
     check_sqlite(rt, path)?;
     let alloc = rt.alloc();
     let party = same_party(alloc, party)?;
-    match open_over(alloc, party, policy, bounds, looked_at(rt, path)?) {
+    match open_over(alloc, party, policy, bounds, at_least, looked_at(rt, path)?) {
         Ok(_site) => Ok(()),
         Err((e, _store)) => Err(e),
     }
@@ -159,6 +162,7 @@ fn opened<S: Start>(
     party: RelyingParty,
     policy: Policy,
     bounds: Bounds,
+    at_least: u64,
     start: S,
 ) -> Result<FileSite<S>, FileError>
     ensures made { IfOk result (λ s. (s.rp ≡ party) × (s.policy ≡ policy) × (s.most ≡ bounds.credentials) × (s.is_shut ≡ false) × (s.is_pending ≡ false)) }
@@ -166,11 +170,12 @@ fn opened<S: Start>(
     ensures party { IfOk result (λ s. IsClean (view s.store) → HasParty party.rp_id s.reserved (view s.store).trees) }
     ensures held { IfOk result (λ s. IsClean (view s.store) → (placed : Placed) (next : ℕ)
         → HoldsSite placed party.rp_id next (view s.store).trees → IsHeld placed s (view s.store).trees) }
+    ensures newer { IfOk result (λ s. at_least < s.reserved) }
     ensures found { IfOk result (λ s. IsClean (view s.store) → (was : Trees) × IsHeldIn (image_at S.Start) was
         × (((view s.store).trees ≡ was) ⊎ IsFirst party.rp_id was)) }
 {
     let store = store_at(rt, path, start)?;
-    match open_over(rt.alloc(), party, policy, bounds, store) {
+    match open_over(rt.alloc(), party, policy, bounds, at_least, store) {
         Ok(site) => Ok(site),
         Err((e, store)) => {
             drop(store.close());
@@ -179,22 +184,54 @@ fn opened<S: Start>(
     }
 }
 
+/// The site of files whose log is not there or too short for a commit, and which are read once. Where they are refused the log is
+/// put back.
+fn opened_once<S: Start>(
+    rt: &HostRuntime,
+    path: &str,
+    party: RelyingParty,
+    policy: Policy,
+    bounds: Bounds,
+    at_least: u64,
+    log: &ShortLog,
+    start: S,
+) -> Result<FileSite<S>, FileError>
+    ensures made { IfOk result (λ s. (s.rp ≡ party) × (s.policy ≡ policy) × (s.most ≡ bounds.credentials) × (s.is_shut ≡ false) × (s.is_pending ≡ false)) }
+    ensures sessions { IfOk result (λ s. (s.timed.open_sessions.expected ≡ finite.empty) × (s.timed.open_sessions.next ≡ s.reserved)) }
+    ensures party { IfOk result (λ s. IsClean (view s.store) → HasParty party.rp_id s.reserved (view s.store).trees) }
+    ensures held { IfOk result (λ s. IsClean (view s.store) → (placed : Placed) (next : ℕ)
+        → HoldsSite placed party.rp_id next (view s.store).trees → IsHeld placed s (view s.store).trees) }
+    ensures newer { IfOk result (λ s. at_least < s.reserved) }
+    ensures found { IfOk result (λ s. IsClean (view s.store) → (was : Trees) × IsHeldIn (image_at S.Start) was
+        × (((view s.store).trees ≡ was) ⊎ IsFirst party.rp_id was)) }
+{
+    match opened(rt, path, party, policy, bounds, at_least, start) {
+        Ok(site) => Ok(site),
+        Err(e) => Err(with_log(rt, path, log, e)),
+    }
+}
+
 /// The site of a file, of this relying party. No session is open, and the numbers go on. A program passes `Unknown` as `start`,
 /// which stands for what the files held.
 ///
 /// A file of version 1 is upgraded, in one commit. Its open sessions end.
 ///
+/// `at_least` is the number of a session that is known to have been begun, as the last that was told, and 0 where none is known. A
+/// copy of the file from before the last commit that was told before it is `Older`.
+///
 /// `BadBound` where more than 1,000,000 sessions could be open or as many credentials registered, `NoFile`, `LoneLog`, `InUse`
 /// and `CannotOpen` where the file is not opened, `DamagedLog` where its log's header is damaged, `NotSqlite` where it is no sound
-/// SQLite file, `NoSite` where it is empty or has no table, `OtherTables` where it lists other tables than `create` makes, `NoSite` where they have no row of a site, `Newer`
-/// where that row has a later version, `OtherSite` where it has another rp id, `TooMany` and `BadRow` where a row is no
-/// credential's, `Failed` where the disk or memory failed.
+/// SQLite file, `NoSite` where it is empty or has no table, `OtherTables` where it lists other tables than `create` makes, `NoSite`
+/// where they have no row of a site, `Newer` where that row has a later version, `OtherSite` where it has another rp id, `Older`
+/// where no session can have had that number, `TooMany` and `BadRow` where a row is no credential's, `Failed` where the disk or
+/// memory failed.
 pub fn open<S: Start>(
     rt: &HostRuntime,
     path: &str,
     party: RelyingParty,
     policy: Policy,
     bounds: Bounds,
+    at_least: u64,
     start: S,
 ) -> Result<FileSite<S>, FileError>
     ensures made { IfOk result (λ s. (s.rp ≡ party) × (s.policy ≡ policy) × (s.most ≡ bounds.credentials) × (s.is_shut ≡ false) × (s.is_pending ≡ false)) }
@@ -204,19 +241,18 @@ pub fn open<S: Start>(
     // where its rows are a site's, this is it,
     ensures held { IfOk result (λ s. IsClean (view s.store) → (placed : Placed) (next : ℕ)
         → HoldsSite placed party.rp_id next (view s.store).trees → IsHeld placed s (view s.store).trees) }
+    // no older one than is known,
+    ensures newer { IfOk result (λ s. at_least < s.reserved) }
     // and the rows are those that the file held, unless it was of version 1.
     ensures found { IfOk result (λ s. IsClean (view s.store) → (was : Trees) × IsHeldIn (image_at S.Start) was
         × (((view s.store).trees ≡ was) ⊎ IsFirst party.rp_id was)) }
 {
     check_bounds(bounds)?;
-    if matches!(is_plain(rt, path), Ok(true)) {
-        return match opened(rt, path, party, policy, bounds, start) {
-            Ok(site) => Ok(site),
-            Err(e) => Err(without_log(rt, path, e)),
-        };
+    if let Ok(Some(log)) = plain_log(rt, path) {
+        return opened_once(rt, path, party, policy, bounds, at_least, &log, start);
     }
-    if let Err(e) = check_open(rt, path, &party, policy, bounds) {
+    if let Err(e) = check_open(rt, path, &party, policy, bounds, at_least) {
         return Err(unless_in_use(rt, path, e));
     }
-    opened(rt, path, party, policy, bounds, start)
+    opened(rt, path, party, policy, bounds, at_least, start)
 }

@@ -48,6 +48,17 @@ pub fn head_at(rt: &HostRuntime, path: &str) -> Result<Found, FileError> {
     }
 }
 
+/// Whether the header of a file says that 8 bytes of each page are reserved, for its sum. In a file with sums they are.
+pub fn has_sums_at(rt: &HostRuntime, path: &str) -> Result<bool, FileError> {
+    let mut file = File::open(rt, path)?;
+    let mut head = [0; 21];
+    match file.read_exact(&mut head) {
+        Ok(()) => Ok(head[20] == 8),
+        Err(e) if e.kind() == io::ErrorKind::UnexpectedEof => Ok(false),
+        Err(e) => Err(e.into()),
+    }
+}
+
 /// What stands at a path. `LoneLog` where no file does, but a log.
 pub fn found_at(rt: &HostRuntime, path: &str) -> Result<Found, FileError> {
     let has_log = fs::exists(rt, log_of(rt, path)?.as_str())?;

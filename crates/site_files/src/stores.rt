@@ -1,7 +1,8 @@
 //! The store of a site's files.
 
-ghost use Rattle.std.specs.Prelude.{◌≡◌, IfOk, IfSome, IsTrue, OnOk, false, true};
+ghost use Rattle.std.specs.Prelude.{◌≡◌, Bool, IfOk, IfSome, IsTrue, OnOk, false, true};
 ghost use Rattle.sqlite_wal.specs.Files.{image_at};
+ghost use Rattle.sqlite_pool.specs.Stored.{used_size};
 ghost use Rattle.sqlite_std_file.specs.File.{IsFresh, file_is_usable};
 ghost use Rattle.sqlite_trees.specs.Tree.{Trees};
 ghost use Rattle.sqlite_trees.specs.View.{IsClean};
@@ -10,7 +11,7 @@ ghost use Rattle.sqlite_store.specs.Unopened.{AreUsable, files_of, image, state_
 ghost use Rattle.site_files.specs.Files.{IsFoundIn, IsHeldIn};
 
 use crate::error::FileError;
-use crate::path::{Found, head_at};
+use crate::path::{Found, has_sums_at, head_at};
 use crate::tables::{Listed, list_in, second};
 use sqlite::{Connection, FileFrom, FileStore, Files, Options, Start, Unknown};
 use sqlite_disk::Disk;
@@ -54,20 +55,21 @@ pub fn options(rt: &HostRuntime) -> Result<Options, FileError> {
     Ok(Options::new(seed))
 }
 
-/// Files, to be opened with the tables of version 2.
+/// Files, to be opened with the tables of version 2, whose pages end in sums or not.
 fn unopened<D: Disk + Drop>(
     alloc: Global,
     files: Files<D>,
     options: Options,
+    has_sums: bool,
 ) -> Result<Unopened<D>, FileError>
     ensures files { IfOk result (λ it. files_of it ≡ (files.log, files.db)) }
-    ensures size { IfOk result (λ it. (state_of it).page_size ≡ 4096) }
+    ensures size { IfOk result (λ it. (state_of it).page_size ≡ used_size 4096 has_sums) }
 {
     let size = PageSize::new(PAGE_SIZE).unwrap();
     let Ok(pager) = Pager::new(alloc, files, size, options) else {
         return Err(FileError::Failed(StoreError::OutOfMemory));
     };
-    match Unopened::new(alloc, pager, &second()) {
+    match Unopened::with_sums(alloc, pager, &second(), has_sums) {
         Ok(it) => Ok(it),
         Err(_) => Err(FileError::Failed(StoreError::OutOfMemory)),
     }
@@ -116,9 +118,10 @@ pub fn list_at(rt: &HostRuntime, path: &str) -> Result<Listed, FileError> {
     if head_at(rt, path)? != Found::Sqlite {
         return Err(FileError::NotSqlite);
     }
+    let has_sums = has_sums_at(rt, path)?;
     let options = options(rt)?;
     let files = files_at(rt, path, Unknown)?;
-    let mut it = unopened(rt.alloc(), files, options)?;
+    let mut it = unopened(rt.alloc(), files, options, has_sums)?;
     let list = list_of_files(rt.alloc(), &mut it);
     drop(it.close());
     list
@@ -129,7 +132,8 @@ fn opened<D: Disk + Drop>(it: Unopened<D>) -> Result<FileStore<D>, FileError>
     requires { AreUsable it }
     ensures numbered { IfOk result (λ store. IsTrue (view store).is_numbered) }
     ensures rests { IfOk result (λ store. (view store).committed ≡ (view store).trees) }
-    ensures found { IfOk result (λ store. IsClean (view store) → (state_of it).page_size ≡ 4096 → IsFoundIn (image it) (view store).trees) }
+    ensures found { IfOk result (λ store. IsClean (view store) → (has_sums : Bool) → (state_of it).page_size ≡ used_size 4096 has_sums
+        → IsFoundIn (image it) (view store).trees) }
 {
     match it.open_numbered() {
         Ok(store) => Ok(store),
@@ -137,16 +141,17 @@ fn opened<D: Disk + Drop>(it: Unopened<D>) -> Result<FileStore<D>, FileError>
     }
 }
 
-/// What files list that were not opened yet. Nothing else of them is read.
+/// What files list that were not opened yet, whose pages end in sums or not. Nothing else of them is read.
 pub fn listed_in<D: Disk + Drop>(
     alloc: Global,
     files: Files<D>,
     options: Options,
+    has_sums: bool,
 ) -> Result<Listed, FileError> {
     if !files.log.may_be_used() || !files.db.may_be_used() {
         return Err(FileError::Failed(StoreError::Io));
     }
-    let mut it = unopened(alloc, files, options)?;
+    let mut it = unopened(alloc, files, options, has_sums)?;
     let list = list_of_files(alloc, &mut it);
     drop(it.close());
     list
@@ -174,13 +179,14 @@ pub fn second_of<D: Disk + Drop>(
     alloc: Global,
     files: Files<D>,
     options: Options,
+    has_sums: bool,
 ) -> Result<Option<FileStore<D>>, FileError>
     ensures numbered { IfOk result (λ found. IfSome found (λ store. IsTrue (view store).is_numbered)) }
 {
     if !files.log.may_be_used() || !files.db.may_be_used() {
         return Err(FileError::Failed(StoreError::Io));
     }
-    second_in(unopened(alloc, files, options)?, alloc)
+    second_in(unopened(alloc, files, options, has_sums)?, alloc)
 }
 
 /// The store of files that SQL opens.
@@ -201,7 +207,8 @@ pub fn by_sql<D: Disk + Drop>(
 }
 
 /// The store of a file of version 2: its list, its pages and its trees are tested, and what rows say of each other is not.
-/// `NotSqlite` where it is none, or damaged.
+/// `NotSqlite` where it is none, or damaged: where its pages end in sums
+/// each is tested.
 pub fn second_at<S: Start>(
     rt: &HostRuntime,
     path: &str,
@@ -211,9 +218,10 @@ pub fn second_at<S: Start>(
     ensures rests { IfOk result (λ store. IsClean (view store) → IsTrue (view store).is_open → (view store).committed ≡ (view store).trees) }
     ensures found { IfOk result (λ store. IsClean (view store) → IsTrue (view store).is_open → IsHeldIn (image_at S.Start) (view store).trees) }
 {
+    let has_sums = has_sums_at(rt, path)?;
     let options = options(rt)?;
     let files = files_at(rt, path, start)?;
-    let it = unopened(rt.alloc(), files, options)?;
+    let it = unopened(rt.alloc(), files, options, has_sums)?;
     match opened(it) {
         Ok(store) => Ok(store),
         Err(e) => Err(e),

@@ -147,6 +147,7 @@ begins_after view o words moment session challenge old mid new same back b =
         rp = b.3.rp ∙ ap (λ (s : KeptState _). s.rp) same.is;
         policy = b.3.policy ∙ ap (λ (s : KeptState _). s.policy) same.is;
         most = b.3.most ∙ ap (λ (s : KeptState _). s.most) same.is;
+        durable = b.3.durable ∙ ap (λ (s : KeptState _). s.durable) same.is;
       },
       λ clean placed held. b.4 clean placed (held_on view placed old mid same (back clean) held),
     )
@@ -160,7 +161,7 @@ not_begun_after view o old mid new (begins.Site w) live same h = (
 )
 not_begun_after view o old mid new begins.NoNumber live same h = (
   same_then view old mid new same (same_site view mid new h.0.0),
-  subst (λ (s : KeptState _). 2 ^ 63 ≤ s.timed.open_sessions.next + 100001) same.is h.0.1,
+  subst (λ (s : KeptState _). 2 ^ 63 ≤ s.timed.open_sessions.next + 1001) same.is h.0.1,
 )
 not_begun_after view o old mid new (begins.Store w) live same h = failure_then view old mid new w live same h.0
 

@@ -131,7 +131,7 @@ opens_registration b words = OpensRegistration b.user.items b.algorithms.items b
 -- number is left; want of memory says nothing
 abbrev pub IsNotBegun : {S : Type 0} → KeptState S → Opening → LineError → Type 0
 IsNotBegun old o (errors.NotBegun why) = (why ≡ begins.SessionsFull → ⊥) × IsRefused old.rp.profile old.timed.open_sessions o why
-IsNotBegun old o errors.NoNumber = 2 ^ 63 ≤ old.timed.open_sessions.next + 100001
+IsNotBegun old o errors.NoNumber = 2 ^ 63 ≤ old.timed.open_sessions.next + 1001
 IsNotBegun old o _ = ⊥
 
 -- a session has begun, as it was asked for, at this second; where the most were open the oldest has ended; and the credentials

@@ -2,7 +2,9 @@
 use Rattle.std.specs.Prelude.{◌≡◌, ◌⊎◌, ℕ, List, [], ◌∷◌, Some, map, true, false}
 use Rattle.sqlite_trees.specs.Tree.{Trees}
 use Rattle.sqlite_trees.specs.View.{View, IsClean}
-use Rattle.kept_site.specs.State.{KeptState}
+use Rattle.credential_store.specs.Held.{Placed}
+use Rattle.kept_site.specs.State.{IsHeld, KeptState, to_commit, with_site}
+use Rattle.kept_site.specs.Calls.{IsCommit}
 use Rattle.kept_site.specs.declared.failure.Failure.{Failure}
 use Rattle.site_lines.specs.Answers.{Keeps, Tells}
 use Rattle.site_lines.specs.Details.{TellsDetails}
@@ -32,10 +34,12 @@ Runs view now old _ _ new = ⊥
 abbrev pub failed_as : Failure → Answered → Answered
 failed_as why a = record a { answer = answers.Failed why }
 
--- the site is as the lines have left it, and all of it is committed: a crash from now on leaves just this
+-- the site is as the lines have left it, but that more numbers are reserved, and all of it is committed: a crash from now on
+-- leaves just this
 pub record IsCommitted {S : Type 0} (view : S → View) (recovers : S → Trees → Type 0) (mid new : KeptState S) : Type 0 where
-  pub is : new ≡ record mid { store = new.store; is_pending = false }
-  pub trees : IsClean (view new.store) → (view new.store).trees ≡ (view mid.store).trees
+  pub is : IsCommit mid new
+  pub held : IsClean (view new.store) → (placed : Placed) → IsHeld placed mid (view mid.store).trees → IsHeld placed new (view new.store).trees
+  pub beside : IsClean (view new.store) → (tree : ℕ) → (tree ≡ 2 → ⊥) → (view new.store).trees tree ≡ (view mid.store).trees tree
   pub durable : IsClean (view new.store) → (db : Trees) → recovers new.store db → db ≡ (view new.store).trees
 
 -- what is told: the answers of the lines, which are committed; or, of each, that the store failed
@@ -44,6 +48,8 @@ Answers {S} view recovers now old lines told new =
     ((mid : KeptState S) × Runs view now old lines told mid × IsCommitted view recovers mid new)
     ⊎ ((why : Failure) × (carried : List Answered) × (mid : KeptState S) × Runs view now old lines carried mid × (told ≡ map (failed_as why) carried) × (new.is_shut ≡ true))
 
--- what is in the file where the commit was cut off behind its write: all that the lines have done
+-- what is in the file where the commit was cut off behind its write: all that the lines have done, and more numbers reserved
 abbrev pub Leaves : {S : Type 0} → (S → View) → ℕ → KeptState S → List Arrived → Trees → Type 0
-Leaves {S} view now old lines db = (carried : List Answered) × (mid : KeptState S) × Runs view now old lines carried mid × (db ≡ (view mid.store).trees)
+Leaves {S} view now old lines db =
+    (carried : List Answered) × (mid : KeptState S) × Runs view now old lines carried mid
+    × (db ≡ with_site mid.rp.rp_id (to_commit mid.durable mid.reserved) (view mid.store).trees)

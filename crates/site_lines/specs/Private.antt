@@ -55,7 +55,7 @@ BeginsNone old new o why = IsNotBegun old new o why × (why ≡ begins.Site full
 abbrev pub IsNotBegunAfter : {S : Type 0} → (S → View) → KeptState S → KeptState S → Opening → BeginFailure → Type 0
 IsNotBegunAfter view old new o (begins.Site why) =
     IsSame view old new × IsRefused old.rp.profile old.timed.open_sessions o why × (why ≡ full.SessionsFull → ⊥)
-IsNotBegunAfter view old new o begins.NoNumber = IsSame view old new × (2 ^ 63 ≤ old.timed.open_sessions.next + 100001)
+IsNotBegunAfter view old new o begins.NoNumber = IsSame view old new × (2 ^ 63 ≤ old.timed.open_sessions.next + 1001)
 IsNotBegunAfter view old new o (begins.Store why) = IsFailure old new why
 
 -- what is answered where a step refuses a sign-in: the step, a question, or want of memory

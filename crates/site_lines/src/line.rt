@@ -2,6 +2,7 @@
 
 ghost use Rattle.std.specs.Prelude.{◌≡◌, ◌⊎◌, IfOk, OnErr, OnOk, Some, map, true};
 ghost use Rattle.sqlite_trees.specs.Tree.{Trees};
+ghost use Rattle.kept_site.specs.State.{to_commit, with_site};
 ghost use Rattle.site_lines.specs.declared.answer.Answer.TheVariants as answers;
 ghost use Rattle.site_lines.specs.Answers.{Keeps, Tells};
 ghost use Rattle.site_lines.specs.Details.{TellsDetails};
@@ -161,7 +162,8 @@ fn commit<S: Store>(
 ) -> Result<(), Failure>
     ensures committed { OnOk result (IsCommitted S.Store.view S.Store.recovers site.old site.new) }
     ensures failed { OnErr result (site.new.is_shut ≡ true) }
-    ensures crash { (db : Trees) → S.Store.recovers site.new.store db → (db ≡ (S.Store.view site.old.store).trees) ⊎ S.Store.recovers site.old.store db }
+    ensures crash { (db : Trees) → S.Store.recovers site.new.store db
+        → (db ≡ with_site site.old.rp.rp_id (to_commit site.old.durable site.old.reserved) (S.Store.view site.old.store).trees) ⊎ S.Store.recovers site.old.store db }
 {
     if !site.is_pending() {
         return site.commit();

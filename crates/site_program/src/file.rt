@@ -38,6 +38,7 @@ fn made(rt: &HostRuntime, options: &Options<'_>) -> Result<FileSite<Unknown>, Fa
         party,
         options.policy,
         bounds(options),
+        !options.has_no_sums,
         Unknown,
     )?)
 }
@@ -51,6 +52,7 @@ fn opened(rt: &HostRuntime, options: &Options<'_>) -> Result<FileSite<Unknown>, 
         party,
         options.policy,
         bounds(options),
+        options.at_least,
         Unknown,
     )?)
 }

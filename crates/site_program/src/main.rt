@@ -69,7 +69,7 @@ fn run(rt: &HostRuntime) -> io::Result<u8> {
         None => {
             writeln!(
                 rt.stderr(),
-                "the value of --max-open, --max-credentials or --expire is no number, or out of its bounds"
+                "the value of --max-open, --max-credentials, --expire or --at-least is no number, or out of its bounds"
             )?;
             Ok(2)
         }

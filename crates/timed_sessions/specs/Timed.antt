@@ -43,6 +43,10 @@ after_begin s o moment =
 abbrev pub after_end : Timed → ℕ → Timed
 after_end s n = record { open_sessions = closed n s.open_sessions; began = finite.remove s.began n }
 
+-- no number below this one is given any more
+abbrev pub skipped : ℕ → Timed → Timed
+skipped next s = record s { open_sessions = record s.open_sessions { next = next } }
+
 -- the open session of the lowest number, which began first
 pub record IsOldest (s : Timed) (n : ℕ) : Type 0 where
   pub is_open : IsSome (finite.get s.began n)

@@ -7,7 +7,7 @@ ghost use Rattle.verification.specs.Views.{registration_view, sign_in_view};
 ghost use Rattle.credential_table.specs.Table.{IsWithin};
 ghost use Rattle.ceremony_sessions.specs.Sessions.{IsInput, IsRefused, OpensRegistration, OpensSignIn, challenge_of, registration_at, sign_in_at, usual};
 ghost use Rattle.authdata.specs.declared.profile.Profile.{Profile as IdProfile};
-ghost use Rattle.timed_sessions.specs.Timed.{HaveMoments, IsTrimmed, after_begin, after_end, since};
+ghost use Rattle.timed_sessions.specs.Timed.{HaveMoments, IsTrimmed, after_begin, after_end, since, skipped};
 ghost use Rattle.timed_sessions.specs.Private.{removed};
 
 use crate::began_at::BeganAt;
@@ -93,6 +93,14 @@ impl TimedSessions {
         ensures { result ≡ self.now.open_sessions.next }
     {
         self.open_sessions.next()
+    }
+
+    /// Goes on from a higher number: those below it that were not given are given no more.
+    pub fn skip_to(&mut self, next: u64)
+        requires { self.old.open_sessions.next ≤ next }
+        ensures { self.new ≡ skipped next self.old }
+    {
+        self.open_sessions.skip_to(next);
     }
 
     /// How many sessions are open.

@@ -18,5 +18,5 @@ returns-in-Ok-clause-found g c clean is_open =
     let files = c.in_ok-files.files in
     let (log, db) = c.in_ok-files.ensures.fresh in
     let same = ap₂ image (ap₂ (seen g.S.Start.log g.S.Start.db) log.0 log.1) (ap₂ (seen g.S.Start.log g.S.Start.db) db.0 db.1) in
-    let found = c.in-Ok.ensures.found clean c.in_ok-it.ensures.size in
+    let found = c.in-Ok.ensures.found clean _ c.in_ok-it.ensures.size in
     inl (subst (λ i. IsFoundIn i (view c.in-Ok.store).trees) (image_from c.in_ok-it.it files.log files.db c.in_ok-it.ensures.files ∙ same) found)

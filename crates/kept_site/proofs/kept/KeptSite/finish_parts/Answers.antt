@@ -17,7 +17,7 @@ returns-clause-accepted g c =
     c.in_ok-found.found (assertion_parts_view c.args.response.now) n c.in_ok-signed_in.signed_in (g.S.Store.view c.find.new.self.store)
     (g.S.Store.view c.sign_in_found.new.held.store)) (search rules) c.in_ok-signed_in.ensures.accepted)
     (ap (λ v. v.trees) (c.in_ok-found.ensures.same.view mid)) clean held refl
-    (c.in_ok-signed_in.ensures.reserved ∙ ap (λ h. h.reserved) c.in_ok-found.ensures.kept) refl refl)
+    (c.in_ok-signed_in.ensures.reserved.0 ∙ ap (λ h. h.reserved) c.in_ok-found.ensures.kept) refl refl)
 
 pub returns-clause-used : goal.returns-clause-used
 returns-clause-used g c =
@@ -40,6 +40,7 @@ returns-in_err-signed_in-clause-refused g c =
         policy = c.self.inside.policy;
         timed = c.self.inside.sessions;
         reserved = h.reserved;
+        durable = h.durable;
         count = c.self.inside.count;
         last = c.self.inside.last;
         most = c.self.inside.most;

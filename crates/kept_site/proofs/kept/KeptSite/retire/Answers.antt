@@ -11,4 +11,4 @@ returns-clause-told g c =
     (g.S.Store.view c.self.inside.held.store) (g.S.Store.view c.find.new.self.store) (g.S.Store.view c.retire_found.new.held.store) c.in_ok-found.found _ c.in_ok-was.was'
     (c.in_ok-found.ensures.found mid placed held.holds.credentials) (λ same. ap (λ h. (g.S.Store.view h.store).trees) same) c.in_ok-was.ensures.told
     (ap (λ v. v.trees) (c.in_ok-found.ensures.same.view mid)) clean held refl
-    (c.in_ok-was.ensures.reserved ∙ ap (λ h. h.reserved) c.in_ok-found.ensures.kept) refl refl)
+    (c.in_ok-was.ensures.reserved.0 ∙ ap (λ h. h.reserved) c.in_ok-found.ensures.kept) refl refl)
