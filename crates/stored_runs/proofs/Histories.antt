@@ -1,16 +1,15 @@
 -- Whatever a site over a store goes through leads to what is committed at the end.
-use Rattle.std.proofs.Common.{◌≡◌, ℕ, true, false, List, [], ◌∷◌, ◌++◌, refl, sym, ap, ◌∙◌, subst, append-nil}
+use Rattle.std.proofs.Common.{◌≡◌, ℕ, Bool, true, false, List, [], ◌∷◌, ◌++◌, refl, sym, ap, ◌∙◌, subst, append-nil}
 use Rattle.cose.specs.Schemes.{Validity}
-use Rattle.credential_store.specs.Held.{rows_of}
-use Rattle.timed_sessions.specs.Timed.{Timed}
+use Rattle.site.specs.State as site
 use Rattle.kept_site.specs.Laws.{KeptLaws}
 use Rattle.authenticator.specs.Steps.{Keys}
 use Rattle.agreement.specs.World.{SiteEvent, World}
 use Rattle.agreement.specs.Agreement.{OfAllRuns}
-use Rattle.stored_runs.specs.History.{Calls, Commits, IsCommitted, IsHistory, IsKept, Kept, Opens, Step, Store, acts_from, act_of, site_of}
+use Rattle.stored_runs.specs.History.{Calls, Commits, IsHistory, IsKept, Opens, Step, Store, acts_from, act_of, kept_acts, site_of}
 use Rattle.stored_runs.specs.Stored.{LeadsTo, StoredRuns}
 use Rattle.stored_runs.proofs.Calls.{leads}
-use Rattle.stored_runs.proofs.Opened.{opens}
+use Rattle.stored_runs.proofs.Opened.{commits, opens}
 use Rattle.stored_runs.proofs.Pieces.{joined, same, stays}
 
 module _ {S : Type 0} (valid : Validity) (public : Keys) (laws : KeptLaws) (i : ℕ) where
@@ -20,14 +19,6 @@ module _ {S : Type 0} (valid : Validity) (public : Keys) (laws : KeptLaws) (i : 
 
   none_waits : (s : Store S) → s.committed ≡ s.now → Waits s []
   none_waits s whole w is = stays valid public w i (site_of s.now) (is ∙ ap site_of whole)
-
-  committed : (old new : Kept S) → IsCommitted old new → site_of old ≡ site_of new
-  committed old new h = λ k. record {
-    rp = sym h.one.rp k;
-    policy = sym h.one.policy k;
-    rows = ap rows_of (sym h.placed) k;
-    sessions = ap (λ (t : Timed). t.open_sessions) (sym h.timed) k;
-  }
 
   follows : (steps : List Step) (old end : Store S) (waiting : List SiteEvent) → IsKept old.now → IsKept old.committed → Waits old waiting
       → IsHistory valid old steps end → (w : World) → w.site i ≡ site_of old.committed → LeadsTo valid public w i (site_of end.committed) (acts_from waiting steps)
@@ -43,7 +34,9 @@ module _ {S : Type 0} (valid : Validity) (public : Keys) (laws : KeptLaws) (i : 
       let next = h.0 in
       let whole : next.committed ≡ next.now = h.1.1 in
       joined valid public w i (site_of next.now) (site_of end.committed) waiting (acts_from [] steps)
-      (same valid public w i (site_of old.now) (site_of next.now) waiting waiting (committed old.now next.now h.1.0) refl (waits w is))
+      (same valid public w i (site_of next.now) (site_of next.now) (waiting ++ []) waiting refl (append-nil waiting)
+      (joined valid public w i (site_of old.now) (site_of next.now) waiting [] (waits w is)
+      (λ v at. commits valid public old.now next.now now h.2 h.1.0 v i at)))
       (λ v at. follows steps next end [] h.2 (subst IsKept (sym whole) h.2) (none_waits next whole) h.3 v (at ∙ ap site_of (sym whole)))
   follows (Opens true ∷ steps) old end waiting now kept waits h w is =
       let next = h.0 in
@@ -63,5 +56,5 @@ module _ {S : Type 0} (valid : Validity) (public : Keys) (laws : KeptLaws) (i : 
 pub stored : (S : Type 0) (valid : Validity) (public : Keys) → KeptLaws → OfAllRuns valid public → StoredRuns S valid public
 stored S valid public laws all w i start steps end kept is h =
     let there = follows valid public laws i steps (record { now = start; committed = start }) end [] kept kept
-    (none_waits valid public laws i (record { now = start; committed = start }) refl) h w is in
+        (none_waits valid public laws i (record { now = start; committed = start }) refl) h w is in
     (there, λ begins. all w there.run begins there.is_run)

@@ -3,3 +3,4 @@ pub mod Rows
 pub mod Calls
 pub mod Opened
 pub mod Histories
+pub mod Shown

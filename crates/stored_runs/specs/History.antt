@@ -1,13 +1,13 @@
 -- What a site over a store goes through: calls, commits, crashes and opens. Each call is said in the words of its contract
 -- (`kept_site`), of where it is done; one that is refused changes nothing, and is left out.
-use Rattle.std.specs.Prelude.{◌≡◌, ◌≤◌, ◌<◌, ◌^◌, ℕ, Bool, true, List, [], ◌∷◌, ◌++◌, if◌then◌else◌}
+use Rattle.std.specs.Prelude.{◌≡◌, ◌≤◌, ◌<◌, ◌^◌, ◌⊎◌, ℕ, Bool, true, false, List, [], ◌∷◌, ◌++◌, if◌then◌else◌}
 use Rattle.std.specs.FinMap as finite
 use Rattle.sqlite_trees.specs.Tree.{Trees}
 use Rattle.base64.specs.GeneralPurpose.{IsBytes}
 use Rattle.cose.specs.Schemes.{Validity}
 use Rattle.authdata.specs.Responses.{AuthenticatorAssertionResponse, AuthenticatorAttestationResponse}
 use Rattle.credential_store.specs.Held.{Placed, rows_of}
-use Rattle.ceremony_sessions.specs.Sessions.{Opening}
+use Rattle.ceremony_sessions.specs.Sessions.{HaveNumbers, Opening}
 use Rattle.timed_sessions.specs.Timed.{IsTrimmed, after_begin, after_end, since}
 use Rattle.site.specs.State as site
 use Rattle.kept_site.specs.State.{IsHeld, KeptState}
@@ -24,10 +24,11 @@ pub record Kept (S : Type 0) : Type 0 where
   pub placed : Placed
   pub trees : Trees
 
--- it is one: its trees hold it; each number that was given is below those that are reserved in them; and no more credentials
--- are taken than a site of the law has room for
+-- it is one: its trees hold it; each open session has a number that was given, and each of these is below those that are reserved
+-- in the trees; and no more credentials are taken than a site of the law has room for
 pub record IsKept {S : Type 0} (k : Kept S) : Type 0 where
   pub held : IsHeld k.placed k.state k.trees
+  pub numbers : HaveNumbers k.state.timed.open_sessions.next k.state.timed.open_sessions.expected
   pub given : k.state.timed.open_sessions.next ≤ k.state.reserved
   pub reserved : k.state.reserved < 2 ^ 63
   pub most : k.state.most ≤ 65536
@@ -68,11 +69,9 @@ Does valid old (Registers n r) new =
 
 -- ---- commits, crashes and opens
 
--- a commit changes nothing but that all is committed
-pub record IsCommitted {S : Type 0} (old new : Kept S) : Type 0 where
-  pub one : IsOneSite old.state new.state
-  pub timed : new.state.timed ≡ old.state.timed
-  pub placed : new.placed ≡ old.placed
+-- a commit changes no credential and no session, and the numbers go on
+abbrev pub IsCommitted : {S : Type 0} → Kept S → Kept S → Type 0
+IsCommitted old new = Stays old new × calls.IsCommit old.state new.state
 
 -- an open finds a site in the trees of a kept one, of the same relying party and policy; no session is open, and the numbers go on
 -- above all that may have been given

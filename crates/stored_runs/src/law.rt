@@ -1,6 +1,7 @@
 //! Sites over stores are within the law over all runs.
 
 ghost use Rattle.authenticator.specs.Steps.{Keys};
+ghost use Rattle.stored_runs.specs.Shown.{Shown};
 ghost use Rattle.stored_runs.specs.Stored.{StoredRuns};
 
 use cose::Verifier;
@@ -8,9 +9,11 @@ use sqlite_trees::store::Store;
 
 /// What a site over a store keeps is what a run leaves at a site: whatever calls are made of it, whenever they are committed, and
 /// wherever it crashes and is opened again. The sign-ins, registrations and retirements that are kept are those of the run, in
-/// their order. So what holds of all runs holds of them. It is so for each verifier and each store.
+/// their order. So what holds of all runs holds of them. There are such histories: one has two crashes. It is so for each verifier
+/// and each store.
 pub fn stored_runs<V: Verifier, S: Store>()
-    ensures { (verifier : V) (public : Keys) → StoredRuns S (V.valid verifier) public }
+    ensures runs { (verifier : V) (public : Keys) → StoredRuns S (V.valid verifier) public }
+    ensures shown { (verifier : V) → Shown (V.valid verifier) }
 {
     kept_site::kept_laws();
     agreement::of_all_runs::<V>();
