@@ -55,14 +55,17 @@ module _ {S : Type 0} (valid : Validity) (old new : Kept S) (kept : IsKept old) 
       let row = found_row old.placed r.credential h.place h.credential are h.found in
       let change = signed_in h.data_read.sign_count (is_set h.data_read.flags BE) in
       let judged : site.judged_sign_in (site_of old) n r ≡ calls.judged_sign_in old.state n (Some h.credential) r =
-          ap (λ (c : Option Credential). record { rp = old.state.rp; session = sign_in_at n old.state.timed.open_sessions; credential = c; response = r }) row in
+      ap (λ (c : Option Credential). record { rp = old.state.rp; session = sign_in_at n old.state.timed.open_sessions; credential = c; response = r }) row in
       let rows : rows_of new.placed ≡ with_row r.credential change (rows_of old.placed) =
-          ap rows_of h.after_is ∙ changed_rows old.placed h.place h.credential change are h.found.there
-          ∙ ap (λ (id : List ℕ). with_row id change (rows_of old.placed)) h.found.has_id in
-      (
+      ap rows_of h.after_is ∙ changed_rows old.placed h.place h.credential change are h.found.there
+      ∙ ap (λ (id : List ℕ). with_row id change (rows_of old.placed)) h.found.has_id in (
         subst (λ (j : JudgedSignIn). PassesSignIn valid j) (sym judged) h.passes,
-        (h.data_read, h.read, made (with_row r.credential change (rows_of old.placed)) (closed n old.state.timed.open_sessions) rows
-        (sessions_of (after_end old.state.timed n) timed)),
+        (
+          h.data_read,
+          h.read,
+          made (with_row r.credential change (rows_of old.placed)) (closed n old.state.timed.open_sessions) rows
+              (sessions_of (after_end old.state.timed n) timed),
+        ),
       )
 
   pub registers : (n : ℕ) (r : AuthenticatorAttestationResponse) (x : Registered) → calls.Registers valid old.placed old.state n r x new.placed
@@ -74,20 +77,26 @@ module _ {S : Type 0} (valid : Validity) (old new : Kept S) (kept : IsKept old) 
       let size : length (rows_of old.placed) ≡ old.state.count = size_of old.placed ∙ kept.held.count in
       let law = roomy old.state.count old.state.most old.state.last (length (rows_of old.placed)) full size kept.most in
       let judged : site.judged_registration (site_of old) n r ≡ calls.judged_registration old.state n ids r =
-          ap (λ (b : Bool). record {
-            rp = old.state.rp;
-            policy = old.state.policy;
-            session = registration_at n old.state.timed.open_sessions;
-            response = r;
-            is_registered = ids;
-            is_full = b;
-          }) (law ∙ sym full) in
+      ap (λ (b : Bool). record {
+        rp = old.state.rp;
+        policy = old.state.policy;
+        session = registration_at n old.state.timed.open_sessions;
+        response = r;
+        is_registered = ids;
+        is_full = b;
+      }) (law ∙ sym full) in
       let c = calls.registered h.expected h.data_read h.credential in
-      let rows : rows_of new.placed ≡ rows_of old.placed ++ c ∷ [] = ap rows_of h.after_is ∙ added_rows old.placed old.state.last c kept.held.last in
-      (
+      let rows : rows_of new.placed ≡ rows_of old.placed ++ c ∷ [] = ap rows_of h.after_is ∙ added_rows old.placed old.state.last c kept.held.last in (
         subst (λ (j : JudgedRegistration). PassesRegistration valid j) (sym judged) passes,
-        (h.expected, h.object, h.data_read, h.credential, h.session, h.attests,
-        made (rows_of old.placed ++ c ∷ []) (closed n old.state.timed.open_sessions) rows (sessions_of (after_end old.state.timed n) timed)),
+        (
+          h.expected,
+          h.object,
+          h.data_read,
+          h.credential,
+          h.session,
+          h.attests,
+          made (rows_of old.placed ++ c ∷ []) (closed n old.state.timed.open_sessions) rows (sessions_of (after_end old.state.timed n) timed),
+        ),
       )
 
   pub ends : (moment : ℕ) → new.placed ≡ old.placed → new.state.timed ≡ since moment old.state.timed → SiteActs valid (site_of old) world.Expires (site_of new)
@@ -97,14 +106,18 @@ module _ {S : Type 0} (valid : Validity) (old new : Kept S) (kept : IsKept old) 
     where
       kept_at : ℕ → Bool
       kept_at = is_since moment old.state.timed.began
+
       were : finite.FinMap nat_cmp Expected
       were = old.state.timed.open_sessions.expected
+
       expected : new.state.timed.open_sessions.expected ≡ finite.retain_keys were kept_at
       expected = ap (λ (x : Timed). x.open_sessions.expected) timed
+
       at : (n : ℕ) → finite.get new.state.timed.open_sessions.expected n ≡ cond (kept_at n) (finite.get were n) None
       at n =
           ap (λ (m : finite.FinMap nat_cmp Expected). finite.get m n) expected
           ∙ get-retain_keys were kept_at n (λ x t. ap kept_at (sym (nat_cmp-IsAntisymmetric n x t)))
+
       left : (n : ℕ) → (finite.get new.state.timed.open_sessions.expected n ≡ None) ⊎ (finite.get new.state.timed.open_sessions.expected n ≡ finite.get were n)
       left n = go (kept_at n) refl
         where
@@ -112,6 +125,7 @@ module _ {S : Type 0} (valid : Validity) (old new : Kept S) (kept : IsKept old) 
               → (finite.get new.state.timed.open_sessions.expected n ≡ None) ⊎ (finite.get new.state.timed.open_sessions.expected n ≡ finite.get were n)
           go true is = inr (at n ∙ ap (λ b. cond b (finite.get were n) None) is)
           go false is = inl (at n ∙ ap (λ b. cond b (finite.get were n) None) is)
+
       anew : record (site_of old) { rows = rows_of old.placed; sessions = (since moment old.state.timed).open_sessions }
           ≡ record (site_of old) { sessions = record old.state.timed.open_sessions { expected = new.state.timed.open_sessions.expected } }
       anew = λ i. record (site_of old) { sessions = record old.state.timed.open_sessions { expected = sym expected i } }
@@ -135,12 +149,16 @@ module _ {S : Type 0} (valid : Validity) (old new : Kept S) (kept : IsKept old) 
       where
         timed_begun : Timed
         timed_begun = after_begin old.state.timed o now
+
         begun : OpenSessions
         begun = timed_begun.open_sessions
+
         there : site.SiteState
         there = record (site_of old) { sessions = begun }
+
         below : old.state.timed.open_sessions.next < 2 ^ 64 - 1
         below = let given = kept.given in let reserved = kept.reserved in omega arith
+
         begins_now : LeadsTo valid public w i there []
         begins_now = happens valid public w i (site_of old) (world.Begins o) there is (bytes, below, refl)
 
@@ -152,8 +170,8 @@ module _ {S : Type 0} (valid : Validity) (old new : Kept S) (kept : IsKept old) 
     leads (Expires moment) h = happens valid public w i (site_of old) world.Expires (site_of new) is (ends moment h.0 h.1)
     leads (Retires id true) h =
         let rows : rows_of new.placed ≡ with_row id retired (rows_of old.placed) =
-            ap rows_of h.0.4 ∙ changed_rows old.placed h.0.0 h.0.1 retired are h.0.2.there
-            ∙ ap (λ (x : List ℕ). with_row x retired (rows_of old.placed)) h.0.2.has_id in
+        ap rows_of h.0.4 ∙ changed_rows old.placed h.0.0 h.0.1 retired are h.0.2.there
+        ∙ ap (λ (x : List ℕ). with_row x retired (rows_of old.placed)) h.0.2.has_id in
         happens valid public w i (site_of old) (world.Retires id) (site_of new) is
         (made (with_row id retired (rows_of old.placed)) old.state.timed.open_sessions rows (sessions_of old.state.timed h.1))
     leads (Retires id false) h =

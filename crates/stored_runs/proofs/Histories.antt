@@ -56,5 +56,5 @@ module _ {S : Type 0} (valid : Validity) (public : Keys) (laws : KeptLaws) (i : 
 pub stored : (S : Type 0) (valid : Validity) (public : Keys) → KeptLaws → OfAllRuns valid public → StoredRuns S valid public
 stored S valid public laws all w i start steps end kept is h =
     let there = follows valid public laws i steps (record { now = start; committed = start }) end [] kept kept
-        (none_waits valid public laws i (record { now = start; committed = start }) refl) h w is in
+    (none_waits valid public laws i (record { now = start; committed = start }) refl) h w is in
     (there, λ begins. all w there.run begins there.is_run)

@@ -115,7 +115,7 @@ module _ (valid : Validity) (public : Keys) where
             let timed = ap (λ (s : KeptState S). s.timed) e in
             let next = max old.state.timed.open_sessions.next old.state.durable in
             let lt : next < 2 ^ 63 =
-                let given = are.given in let reserved = are.reserved in let now = ap (λ (t : Timed). t.open_sessions.next) timed in omega arith in
+            let given = are.given in let reserved = are.reserved in let now = ap (λ (t : Timed). t.open_sessions.next) timed in omega arith in
             skips next (grind (arith, common_steps)) lt timed (ap (λ (s : KeptState S). s.rp) e) (ap (λ (s : KeptState S). s.policy) e) w i at
 
   module _ {S : Type 0} (laws : KeptLaws) (kept new : Kept S) (was : IsKept kept) (are : IsKept new) (is : IsOpened kept new) where

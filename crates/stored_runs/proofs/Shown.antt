@@ -129,19 +129,25 @@ begun_numbers n e f = grind (arith, gets, common_steps, f)
 
 abbrev start : Kept (Unit {0})
 start = kept_of key (none_open 1) 1001 1001 false
+
 abbrev begun : Kept (Unit {0})
 begun = kept_of key (after_begin (none_open 1) opening 0) 1001 1001 false
+
 abbrev opened : Kept (Unit {0})
 opened = kept_of key (none_open 1001) 1001 1001 false
+
 abbrev written : Kept (Unit {0})
 written = kept_of (retired key) (none_open 1001) 1001 1001 true
+
 abbrev committed : Kept (Unit {0})
 committed = kept_of (retired key) (none_open 1001) 2001 2001 false
+
 abbrev reopened : Kept (Unit {0})
 reopened = kept_of (retired key) (none_open 2001) 2001 2001 false
 
 again : placed_of (retired key) ≡ finite.insert (placed_of key) 1 (retired key)
 again = same_map nat_cmp_total nat_cmp-IsAntisymmetric _ _ (λ q. grind (arith, gets, common_steps))
+
 room : finite.len (after_begin (none_open 1) opening 0).open_sessions.expected < 10
 room = grind (arith, gets, common_steps)
 
@@ -164,18 +170,21 @@ commits valid = (
 
 retires : (valid : Validity)
     → IsHistory valid (record { now = opened; committed = opened }) (Calls (Retires (1 ∷ []) true) ∷ Commits ∷ Opens false ∷ [])
-        (record { now = reopened; committed = reopened })
+    (record { now = reopened; committed = reopened })
 retires valid = (
   record { now = written; committed = opened },
-  (record { rp = refl; policy = refl; most = refl; durable = refl },
-  ((1, key, record { there = there key; has_id = refl }, refl, again), refl), refl),
+  (
+    record { rp = refl; policy = refl; most = refl; durable = refl },
+    ((1, key, record { there = there key; has_id = refl }, refl, again), refl),
+    refl,
+  ),
   is_kept (retired key) (none_open 1001) 1001 1001 true stored_retired (no_numbers 1001) (omega arith) (omega arith),
   commits valid,
 )
 
 after_crash : (valid : Validity)
     → IsHistory valid (record { now = begun; committed = start }) (Opens false ∷ Calls (Retires (1 ∷ []) true) ∷ Commits ∷ Opens false ∷ [])
-        (record { now = reopened; committed = reopened })
+    (record { now = reopened; committed = reopened })
 after_crash valid = (
   record { now = opened; committed = opened },
   (record { trees = refl; rp = refl; policy = refl; sessions = refl; next = refl }, refl),
@@ -192,8 +201,11 @@ shown valid = record {
   kept = is_kept key (none_open 1) 1001 1001 false stored (no_numbers 1) (omega arith) (omega arith);
   history = (
     record { now = begun; committed = start },
-    (record { rp = refl; policy = refl; most = refl; durable = refl },
-    ((λ k. omega arith), refl, record { roomy = λ room. refl; full = λ full. absurd (full room) }), refl),
+    (
+      record { rp = refl; policy = refl; most = refl; durable = refl },
+      ((λ k. omega arith), refl, record { roomy = λ room. refl; full = λ full. absurd (full room) }),
+      refl,
+    ),
     is_kept key (after_begin (none_open 1) opening 0) 1001 1001 false stored begun_numbers (omega arith) (omega arith),
     after_crash valid,
   );
