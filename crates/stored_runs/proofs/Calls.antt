@@ -1,8 +1,8 @@
 -- Each call of a site over a store is an event of the law.
-use Rattle.std.proofs.Common.{◌≡◌, ◌<◌, ◌≤◌, ◌+◌, ◌-◌, ◌^◌, ◌⊎◌, inl, inr, ℕ, Bool, true, false, List, [], ◌∷◌, ◌++◌, length, refl, sym, ap, ◌∙◌, subst, arith, cond}
+use Rattle.std.proofs.Common.{◌≡◌, ◌<◌, ◌-◌, ◌^◌, ◌⊎◌, inl, inr, ℕ, Bool, true, false, List, [], ◌∷◌, ◌++◌, length, refl, sym, ap, ◌∙◌, subst, arith, cond}
 use Rattle.std.proofs.lemmas.Grind.{common_steps}
-use Rattle.std.specs.Prelude.{Some, None, is_some, Option, not, nat_lt, ◌&&◌}
-use Rattle.std.specs.FinMap.{gets, get-retain_keys, nat_cmp-IsAntisymmetric}
+use Rattle.std.specs.Prelude.{Some, None, is_some, Option, nat_lt}
+use Rattle.std.specs.FinMap.{get-retain_keys, nat_cmp-IsAntisymmetric}
 use Rattle.std.specs.FinMap as finite
 use Rattle.std.specs.Ordering.{nat_cmp}
 use Rattle.base64.specs.GeneralPurpose.{IsBytes}
@@ -16,7 +16,7 @@ use Rattle.credential_table.specs.Table.{retired, row_of, signed_in, with_row}
 use Rattle.credential_store.specs.Held.{ArePlaced, rows_of}
 use Rattle.credential_store.proofs.Listed.{added_rows, changed_rows, found_row}
 use Rattle.ceremony_sessions.specs.Sessions.{Expected, Opening, OpenSessions, closed, registration_at, sign_in_at}
-use Rattle.timed_sessions.specs.Timed.{HasRoom, IsTrimmed, Timed, after_begin, after_end, is_since, since}
+use Rattle.timed_sessions.specs.Timed.{IsTrimmed, Timed, after_begin, after_end, is_since, since}
 use Rattle.site.specs.State as site
 use Rattle.kept_site.specs.Calls as calls
 use Rattle.kept_site.specs.declared.finish.SignedIn.{SignedIn}

@@ -1,12 +1,11 @@
 -- Whatever a site over a store goes through leads to what is committed at the end.
-use Rattle.std.proofs.Common.{◌≡◌, ℕ, Bool, true, false, List, [], ◌∷◌, ◌++◌, refl, sym, ap, ◌∙◌, subst, append-nil}
+use Rattle.std.proofs.Common.{◌≡◌, ℕ, true, false, List, [], ◌∷◌, ◌++◌, refl, sym, ap, ◌∙◌, subst, append-nil}
 use Rattle.cose.specs.Schemes.{Validity}
-use Rattle.site.specs.State as site
 use Rattle.kept_site.specs.Laws.{KeptLaws}
 use Rattle.authenticator.specs.Steps.{Keys}
 use Rattle.agreement.specs.World.{SiteEvent, World}
 use Rattle.agreement.specs.Agreement.{OfAllRuns}
-use Rattle.stored_runs.specs.History.{Calls, Commits, IsHistory, IsKept, Opens, Step, Store, acts_from, act_of, kept_acts, site_of}
+use Rattle.stored_runs.specs.History.{Calls, Commits, IsHistory, IsKept, Opens, Step, Store, acts_from, act_of, site_of}
 use Rattle.stored_runs.specs.Stored.{LeadsTo, StoredRuns}
 use Rattle.stored_runs.proofs.Calls.{leads}
 use Rattle.stored_runs.proofs.Opened.{commits, opens}
@@ -41,10 +40,12 @@ module _ {S : Type 0} (valid : Validity) (public : Keys) (laws : KeptLaws) (i : 
   follows (Opens true ∷ steps) old end waiting now kept waits h w is =
       let next = h.0 in
       let whole : next.committed ≡ next.now = h.1.1 in
+      let mid = h.1.0.0 in
       joined valid public w i (site_of next.now) (site_of end.committed) waiting (acts_from [] steps)
       (same valid public w i (site_of next.now) (site_of next.now) (waiting ++ []) waiting refl (append-nil waiting)
       (joined valid public w i (site_of old.now) (site_of next.now) waiting [] (waits w is)
-      (λ v at. opens valid public laws old.now next.now now h.2 h.1.0 v i at)))
+      (λ v at. joined valid public v i (site_of mid) (site_of next.now) [] [] (commits valid public old.now mid now h.1.0.2 h.1.0.1 v i at)
+      (λ u here. opens valid public laws mid next.now h.1.0.2 h.2 h.1.0.3 u i here))))
       (λ v at. follows steps next end [] h.2 (subst IsKept (sym whole) h.2) (none_waits next whole) h.3 v (at ∙ ap site_of (sym whole)))
   follows (Opens false ∷ steps) old end waiting now kept waits h w is =
       let next = h.0 in

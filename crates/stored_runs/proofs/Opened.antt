@@ -1,15 +1,15 @@
 -- Numbers that are skipped are a run: sessions begin, and end. So a commit is one, and an open, after which no session is open, and
 -- the bound is another.
-use Rattle.std.proofs.Common.{◌≡◌, ◌<◌, ◌≤◌, ◌+◌, ◌-◌, ◌^◌, ◌⊎◌, inl, inr, ℕ, zero, suc, Bool, true, false, List, [], ◌∷◌, ◌++◌, refl, sym, ap, ◌∙◌, subst, arith}
+use Rattle.std.proofs.Common.{◌≡◌, ◌<◌, ◌≤◌, ◌+◌, ◌-◌, ◌^◌, ◌⊎◌, inl, inr, ℕ, zero, suc, Bool, true, false, [], refl, sym, ap, ◌∙◌, subst, arith}
 use Rattle.std.proofs.lemmas.Grind.{common_steps}
 use Rattle.std.specs.Prelude.{None, Some, Option, max}
 use Rattle.std.specs.FinMap.{gets}
 use Rattle.std.specs.FinMap as finite
 use Rattle.sqlite_trees.specs.Tree.{Trees}
 use Rattle.cose.specs.Schemes.{Validity}
-use Rattle.credential_store.specs.Held.{Placed, rows_of}
+use Rattle.credential_store.specs.Held.{rows_of}
 use Rattle.std.specs.Ordering.{nat_cmp}
-use Rattle.ceremony_sessions.specs.Sessions.{Expected, HaveNumbers, OpenSessions, Opening, OpensSignIn}
+use Rattle.ceremony_sessions.specs.Sessions.{Expected, HaveNumbers, Opening, OpensSignIn}
 use Rattle.timed_sessions.specs.Timed.{Timed, skipped}
 use Rattle.site.specs.State as site
 use Rattle.site.specs.Laws.{after_begin}

@@ -1,10 +1,10 @@
 -- Runs at one site, joined.
-use Rattle.std.proofs.Common.{◌≡◌, ◌≢◌, ◌==◌, ℕ, List, [], ◌∷◌, ◌++◌, refl, sym, ◌∙◌, ap, subst, append_assoc, append-nil, eq-eqb}
+use Rattle.std.proofs.Common.{◌≡◌, ◌==◌, ℕ, List, [], ◌∷◌, ◌++◌, refl, sym, ◌∙◌, ap, subst, append_assoc, append-nil, eq-eqb}
 use Rattle.std.specs.Prelude.{if◌then◌else◌}
 use Rattle.cose.specs.Schemes.{Validity}
 use Rattle.site.specs.State as site
 use Rattle.authenticator.specs.Steps.{Keys}
-use Rattle.agreement.specs.World.{AtSite, Done, Happens, IsRun, Moment, SiteActs, SiteEvent, World}
+use Rattle.agreement.specs.World.{AtSite, Done, IsRun, Moment, SiteActs, SiteEvent, World}
 use Rattle.agreement.specs.Ledger.{world_after}
 use Rattle.agreement.specs.Lived.{with_site}
 use Rattle.agreement.proofs.Lived.{changes_site, site_there}

@@ -1,16 +1,15 @@
 -- Credentials by their places are the rows of a table.
-use Rattle.std.proofs.Common.{◌≡◌, ◌<◌, ◌≤◌, ◌+◌, ℕ, suc, Bool, true, false, List, [], ◌∷◌, ◌++◌, map, length, not, nat_lt, ◌&&◌, refl, sym, ap, ◌∙◌, arith, true≢false}
+use Rattle.std.proofs.Common.{◌≡◌, ◌≤◌, ℕ, suc, Bool, true, false, List, [], ◌∷◌, map, length, not, nat_lt, ◌&&◌, refl, sym, ap, ◌∙◌, arith, true≢false}
 use Rattle.std.proofs.lemmas.Grind.{common_steps}
-use Rattle.std.specs.Prelude.{Some, None, is_some, Option}
+use Rattle.std.specs.Prelude.{Some, is_some}
 use Rattle.std.specs.FinMap.{len-entries}
 use Rattle.std.specs.FinMap as finite
 use Rattle.std.specs.List.{AllByRecursion}
-use Rattle.std.specs.Ordering.{nat_cmp}
 use Rattle.std.specs.Cmp.Lexicographic.{bytes_decides}
 use Rattle.std.specs.Str.{bytes_eq}
 use Rattle.verification.specs.Records.{Credential}
 use Rattle.credential_table.specs.Table.{row_of}
-use Rattle.credential_store.specs.Held.{ArePlaced, HasNone, IsAt, Placed, rows_of}
+use Rattle.credential_store.specs.Held.{ArePlaced, IsAt, Placed, rows_of}
 use Rattle.credential_store.proofs.Listed.{found_row}
 use Rattle.credential_store.proofs.Tables.{entries_found}
 use Rattle.kept_site.specs.Calls.{TellsIds}

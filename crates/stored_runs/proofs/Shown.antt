@@ -1,11 +1,9 @@
 -- A history with two crashes.
-use Rattle.std.proofs.Common.{◌≡◌, ◌≤◌, ◌<◌, ◌+◌, ◌^◌, inl, inr, ℕ, zero, suc, List, [], ◌∷◌, ◌++◌, length, map, Bool, true, false, refl, sym, ap, ◌∙◌, subst, arith, replicate}
+use Rattle.std.proofs.Common.{◌≡◌, ◌≤◌, ◌<◌, ◌^◌, inl, ℕ, zero, suc, List, [], ◌∷◌, map, Bool, true, false, refl, sym, ap, ◌∙◌, subst, arith, replicate}
 use Rattle.std.proofs.lemmas.Grind.{common_steps}
-use Rattle.std.proofs.lemmas.Option.{same_Some}
-use Rattle.std.specs.Prelude.{None, Some, Option, pos}
-use Rattle.std.specs.FinMap.{gets, entries-from_sorted, entries-insert, get-empty, get-from_sorted, len-empty, len-insert, nat_cmp-IsAntisymmetric, same_map}
+use Rattle.std.specs.Prelude.{None, Some}
+use Rattle.std.specs.FinMap.{gets, entries-from_sorted, entries-insert, get-empty, get-from_sorted, nat_cmp-IsAntisymmetric, same_map}
 use Rattle.std.specs.FinMap as finite
-use Rattle.std.specs.List.{AllByRecursion}
 use Rattle.std.specs.Cmp.{nat_cmp_total}
 use Rattle.std.specs.Ordering.{nat_cmp}
 use Rattle.sqlite_value.specs.Order.{Row}
@@ -15,11 +13,11 @@ use Rattle.cose.specs.declared.key.CoseKey.TheVariants as keys
 use Rattle.authdata.specs.declared.profile.Profile.TheVariants.{Level3}
 use Rattle.verification.specs.Records.{Credential}
 use Rattle.credential_table.specs.Table.{retired}
-use Rattle.credential_store.specs.Held.{ArePlaced, Holds, Indexes, IsAt, Placed, entry, placed_rows}
+use Rattle.credential_store.specs.Held.{ArePlaced, Indexes, Placed, entry}
 use Rattle.credential_store.specs.Rows.{IsStored, credential_row}
 use Rattle.ceremony_sessions.specs.Sessions.{Expected, HaveNumbers, Opening, OpensSignIn}
-use Rattle.timed_sessions.specs.Timed.{Timed, after_begin, skipped}
-use Rattle.kept_site.specs.State.{HoldsSite, IsHeld, KeptState, site_row}
+use Rattle.timed_sessions.specs.Timed.{Timed, after_begin}
+use Rattle.kept_site.specs.State.{HoldsSite, KeptState, site_row}
 use Rattle.stored_runs.specs.History.{Calls, Commits, IsHistory, IsKept, Kept, Opens, Retires}
 use Rattle.stored_runs.specs.Shown.{Shown}
 

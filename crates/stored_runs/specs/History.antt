@@ -1,6 +1,6 @@
 -- What a site over a store goes through: calls, commits, crashes and opens. Each call is said in the words of its contract
 -- (`kept_site`), of where it is done; one that is refused changes nothing, and is left out.
-use Rattle.std.specs.Prelude.{◌≡◌, ◌≤◌, ◌<◌, ◌^◌, ◌⊎◌, ℕ, Bool, true, false, List, [], ◌∷◌, ◌++◌, if◌then◌else◌}
+use Rattle.std.specs.Prelude.{◌≡◌, ◌≤◌, ◌<◌, ◌^◌, ℕ, Bool, true, false, List, [], ◌∷◌, ◌++◌, if◌then◌else◌}
 use Rattle.std.specs.FinMap as finite
 use Rattle.sqlite_trees.specs.Tree.{Trees}
 use Rattle.base64.specs.GeneralPurpose.{IsBytes}
@@ -83,7 +83,7 @@ pub record IsOpened {S : Type 0} (kept new : Kept S) : Type 0 where
   pub next : new.state.timed.open_sessions.next ≡ new.state.reserved
 
 -- a call; a commit; and an open, after a crash, a failure of the store or a close, which finds what was committed last, or, where
--- it was a commit that was cut off, all that was to be committed
+-- it was a commit that was cut off, what this would have committed
 pub data Step : Type 0 where
   Calls : (call : Call) → Step
   Commits : Step
@@ -98,7 +98,9 @@ abbrev pub Takes : {S : Type 0} → Validity → Store S → Step → Store S �
 Takes valid old (Calls c) new =
     IsOneSite old.now.state new.now.state × Does valid old.now c new.now × (new.committed ≡ old.committed)
 Takes valid old Commits new = IsCommitted old.now new.now × (new.committed ≡ new.now)
-Takes valid old (Opens finds_all) new = IsOpened (if finds_all then old.now else old.committed) new.now × (new.committed ≡ new.now)
+Takes valid old (Opens false) new = IsOpened old.committed new.now × (new.committed ≡ new.now)
+Takes {S} valid old (Opens true) new =
+    ((mid : Kept S) × IsCommitted old.now mid × IsKept mid × IsOpened mid new.now) × (new.committed ≡ new.now)
 
 -- one step after another
 abbrev pub IsHistory : {S : Type 0} → Validity → Store S → List Step → Store S → Type 0
