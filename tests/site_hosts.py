@@ -406,7 +406,7 @@ def failing_disk(tests):
 
     def small():
         signal.signal(signal.SIGXFSZ, signal.SIG_IGN)
-        resource.setrlimit(resource.RLIMIT_FSIZE, (400_000, 400_000))
+        resource.setrlimit(resource.RLIMIT_FSIZE, (600_000, 600_000))
 
     path, told = tests.file("full.db"), []
     process = subprocess.Popen([tests.program, path, *PARTY], stdin=subprocess.PIPE, stdout=subprocess.PIPE, preexec_fn=small)
