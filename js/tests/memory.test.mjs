@@ -1,7 +1,9 @@
 // The module's memory: after each call it is as it was at first, it stays below 64 MB, and a module that ran out goes on.
 import assert from "node:assert/strict";
+import { execFileSync } from "node:child_process";
 import { readFileSync } from "node:fs";
 import { test } from "node:test";
+import { fileURLToPath } from "node:url";
 import { NoMemory, RegistrationSession, SignInSession, fromText } from "garvoeng";
 import { Device, changed } from "./device.mjs";
 
@@ -182,21 +184,20 @@ test("a call that the engine ends is want of memory, and the next one is served"
   assert.equal((await visited(made)).credential.signCount, 1);
 });
 
-test("memory over many sign-ins", async () => {
-  const made = serving(), times = Number(process.env.SIGN_INS ?? 2_000);
-  const server = new (serverOver(() => made.module, (size) => new Uint8Array(size), () => true))("example.com", ["https://example.com"]);
-  const device = new Device(), { credential } = await registeredBy(server), { options, session } = server.authenticateBegin({ user });
-  const response = device.signIn(options), find = { credential: () => credential };
-  const sizes = [];
-  for (let count = 0; count < times; count++) {
-    await server.authenticateComplete(session, response, find);
-    if (count % (times / 10) === times / 10 - 1) {
-      globalThis.gc?.();
-      sizes.push(process.memoryUsage().rss / 1e6);
-    }
+test("calls that are cut off leave nothing, on the whole stack too", () => {
+  for (const [last, told] of [[new WebAssembly.RuntimeError("unreachable"), NoMemory], [new Error("of the host"), /of the host/]]) {
+    const made = serving(), errors = [new WebAssembly.RuntimeError("unreachable"), last];
+    const cutOff = () => {
+      made.module.bytes().fill(1);
+      throw errors.shift();
+    };
+    assert.throws(() => made.module.within(cutOff), told);
+    assert.ok(errors.length === 0 && isAsAtFirst(made));
   }
-  assert.equal(made.module.bytes().length, made.first.length);
-  const [, second] = sizes, last = sizes.at(-1);
-  assert.ok(last < second * 1.3 + 20, `${sizes}`);
-  if (process.env.SIGN_INS) console.log(`# MB after each tenth of ${times}: ${sizes.map((size) => size.toFixed(0)).join(" ")}`);
+});
+
+test("memory over many sign-ins", () => {
+  const times = process.env.SIGN_INS ?? "2000";
+  const told = execFileSync(process.execPath, ["--expose-gc", fileURLToPath(new URL("many.mjs", import.meta.url)), times], { encoding: "utf8" });
+  console.log(`# MB after each tenth of ${times}: ${told}`);
 });
