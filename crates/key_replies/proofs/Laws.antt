@@ -18,7 +18,7 @@ use Rattle.key_replies.specs.Replies.{User, user_members, user_content, credenti
 use Rattle.key_replies.specs.Replies.{Creation, creation_members, creation_content, TellsCreation, Assertion, assertion_members, assertion_content, IsCredential}
 use Rattle.key_replies.specs.Replies.{TellsAssertion, Info, info_members, info_content, TellsInfo, ReplyOf, IsReply, Refused}
 use Rattle.key_replies.specs.Reading.{open_in, or_listed, user_of, assertion_of, told_in, assertion_in}
-use Rattle.key_replies.specs.Pieces.{HasValue, HasNoValue}
+use Rattle.key_replies.specs.Replies.{HasValue, HasNoValue}
 use Rattle.key_replies.proofs.Telling.{is_told, is_read}
 
 -- ---- where what is told is what is read

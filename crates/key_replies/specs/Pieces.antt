@@ -1,12 +1,8 @@
 -- What the private functions of reading are proved against; no public clause cites it.
-use Rattle.std.specs.Prelude.{◌≡◌, ◌≢◌, ℕ, List, [], ◌∷◌, false, map, option_map}
+use Rattle.std.specs.Prelude.{false, map, option_map}
 use Rattle.ccbor.specs.Item as of
-use Rattle.ccbor.specs.Item.{Item}
-use Rattle.ccbor.specs.Canon.{Canon}
 use Rattle.cbor_map.specs.Table.{a_text, unsigned, list_of, record_of, Members, no_more, listed}
 use Rattle.cbor_map.specs.Content.{Contents}
-use Rattle.ctap_status.specs.declared.error.Error.{Error}
-use Rattle.ctap_status.specs.declared.error.Error.TheVariants as errors
 use Rattle.key_replies.specs.declared.reply.AssertionMembers.{AssertionMembers}
 use Rattle.key_replies.specs.declared.reply.InfoFeatures.{InfoFeatures}
 use Rattle.key_replies.specs.declared.reply.InfoLimits.{InfoLimits}
@@ -63,16 +59,3 @@ limit_content r = (
     (r.max_credential_count_in_list, (r.max_credential_id_length, feature_content r.features)),
   ),
 )
-
--- status 0 and this value's canonical encoding
-pub record HasValue (bs : List ℕ) (v : Item) : Type 0 where
-  pub rest : List ℕ
-  pub status : bs ≡ 0 ∷ rest
-  pub canon : Canon v rest
-
--- why they are not status 0 and a canonical encoding
-abbrev pub HasNoValue : List ℕ → Error → Type 0
-HasNoValue bs errors.Empty = bs ≡ []
-HasNoValue bs (errors.Refused s) = (rest : List ℕ) × (bs ≡ s ∷ rest) × (s ≢ 0)
-HasNoValue bs errors.NotCanonical = (rest : List ℕ) × (bs ≡ 0 ∷ rest) × ((v : Item) → Canon v rest → ⊥)
-HasNoValue bs _ = ⊥

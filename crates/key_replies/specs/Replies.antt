@@ -202,3 +202,18 @@ Refused tells bs (errors.Refused s) = (rest : List ℕ) × (bs ≡ s ∷ rest) �
 Refused tells bs errors.NotCanonical = (rest : List ℕ) × (bs ≡ 0 ∷ rest) × ((v : Item) → Canon v rest → ⊥)
 Refused {Q} tells bs errors.Shape = (rest : List ℕ) × (bs ≡ 0 ∷ rest) × (v : Item) × Canon v rest × ((q : Q) → tells q v → ⊥)
 Refused tells bs _ = ⊥
+
+-- ---- the value alone, for other messages of section 6
+
+-- status 0 and this value's canonical encoding
+pub record HasValue (bs : List ℕ) (v : Item) : Type 0 where
+  pub rest : List ℕ
+  pub status : bs ≡ 0 ∷ rest
+  pub canon : Canon v rest
+
+-- why they are not status 0 and a canonical encoding
+abbrev pub HasNoValue : List ℕ → Error → Type 0
+HasNoValue bs errors.Empty = bs ≡ []
+HasNoValue bs (errors.Refused s) = (rest : List ℕ) × (bs ≡ s ∷ rest) × (s ≢ 0)
+HasNoValue bs errors.NotCanonical = (rest : List ℕ) × (bs ≡ 0 ∷ rest) × ((v : Item) → Canon v rest → ⊥)
+HasNoValue bs _ = ⊥

@@ -8,5 +8,6 @@ mod maps;
 mod reading;
 mod reply;
 
-pub use reading::{read_assertion, read_creation, read_info};
+pub use leaf::{bytes_if_there, number_at, sized_bytes_at, truth_if_there, unsigned_if_there};
+pub use reading::{read_assertion, read_creation, read_info, value_of};
 pub use reply::{KeyAssertion, KeyCreation, KeyInfo, ParametersView, UserView};

@@ -5,8 +5,7 @@ ghost use Rattle.ccbor.specs.Item.{Item};
 ghost use Rattle.ccbor.specs.Canon.{Canon};
 ghost use Rattle.ccbor.specs.Viewing.{shown};
 ghost use Rattle.ctap_status.specs.declared.error.Error.TheVariants as errors;
-ghost use Rattle.key_replies.specs.Pieces.{HasValue, HasNoValue};
-ghost use Rattle.key_replies.specs.Replies.{Assertion, Creation, Info, IsReply, Refused, ReplyOf, TellsAssertion, TellsCreation, TellsInfo};
+ghost use Rattle.key_replies.specs.Replies.{Assertion, Creation, HasNoValue, HasValue, Info, IsReply, Refused, ReplyOf, TellsAssertion, TellsCreation, TellsInfo};
 ghost use Rattle.key_replies.specs.ReplyView.{assertion_view, creation_view, info_view};
 
 use crate::maps::{assertion, creation, info};
@@ -42,8 +41,11 @@ fn whole(rest: &[u8]) -> Result<View<'_>, Error>
     }
 }
 
-/// What follows status 0, one whole canonical value.
-fn value_of(bytes: &[u8]) -> Result<View<'_>, Error>
+/// The value of a reply, of any command (CTAP 2.1, section 6): what follows status 0, where it lies.
+///
+/// Refused as `Empty` (17) where there is no byte; `Refused` (18) with the status byte where that is not 0;
+/// `NotCanonical` (2) where what follows is not one whole canonical CBOR value.
+pub fn value_of(bytes: &[u8]) -> Result<View<'_>, Error>
     ensures found { IfOk result (λ v. HasValue bytes.now (shown v)) }
     ensures refused { IfErr result (λ e. HasNoValue bytes.now e) }
 {

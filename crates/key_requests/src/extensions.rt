@@ -8,10 +8,9 @@ ghost use Rattle.cbor_map.specs.Table.{record_of};
 ghost use Rattle.key_requests.specs.Extensions.{assertion_inputs, assertion_inputs_content, creation_inputs, creation_inputs_content, named_protocol, secret_content, secret_members, wanted};
 ghost use Rattle.key_requests.specs.ExtensionView.{assertion_inputs_view, creation_inputs_view, secret_view};
 
-use crate::values::{bytes_if_there, number_if_there};
 use cbor_map::{bytes_value, push_if_there, push_member};
 use ccbor::{MapKey, Value};
-use pin_messages::{Point, point_value};
+use pin_messages::{Point, bytes_if_there, number_if_there, point_value};
 use std::alloc::{AllocError, Global};
 
 /// Inputs to makeCredential. Each that is absent or false is not written.

@@ -1,7 +1,7 @@
 //! The values of requests' members.
 
 ghost use Rattle.std.specs.Prelude.{◌≡◌, IfOk, map, option_map};
-ghost use Rattle.ccbor.specs.Item.{boolean, bytes, text, uint};
+ghost use Rattle.ccbor.specs.Item.{boolean};
 ghost use Rattle.ccbor.specs.View.{view};
 ghost use Rattle.cbor_map.specs.Content.{item_of, number_item};
 ghost use Rattle.cbor_map.specs.Table.{list_of, record_of};
@@ -13,39 +13,11 @@ ghost use Rattle.key_requests.specs.RequestView.{options_view, rp_view, user_vie
 use crate::request::{Options, RelyingParty, User};
 use cbor_map::{bytes_value, push_if_there, push_member, text_value};
 use ccbor::{MapKey, Value};
+use pin_messages::text_if_there;
 use std::alloc::{AllocError, Global};
 
 /// The type of a public key credential (WebAuthn section 5.8.2).
 const PUBLIC_KEY: &str = "public-key";
-
-/// The value of bytes that may be absent.
-pub fn bytes_if_there(alloc: Global, content: Option<&[u8]>) -> Result<Option<Value>, AllocError>
-    ensures { IfOk result (λ v. option_map view v ≡ option_map bytes (option_map (λ b. b.now) content.entry)) }
-{
-    match content {
-        Some(content) => Ok(Some(bytes_value(alloc, content)?)),
-        None => Ok(None),
-    }
-}
-
-/// The value of a number that may be absent.
-pub fn number_if_there(number: Option<u64>) -> Option<Value>
-    ensures { option_map view result ≡ option_map uint number }
-{
-    match number {
-        Some(number) => Some(Value::Uint(number)),
-        None => None,
-    }
-}
-
-fn text_if_there(alloc: Global, content: Option<&str>) -> Result<Option<Value>, AllocError>
-    ensures { IfOk result (λ v. option_map view v ≡ option_map text (option_map (λ b. b.now) content.entry)) }
-{
-    match content {
-        Some(content) => Ok(Some(text_value(alloc, content)?)),
-        None => Ok(None),
-    }
-}
 
 fn truth_if_there(truth: Option<bool>) -> Option<Value>
     ensures { option_map view result ≡ option_map boolean truth }

@@ -19,12 +19,12 @@ use crate::request::{
 };
 use crate::tables::{assertion_fault, creation_fault};
 use crate::values::{
-    algorithms_value, bytes_if_there, descriptors_if_there, number_if_there, options_if_there,
-    rp_value, user_value,
+    algorithms_value, descriptors_if_there, options_if_there, rp_value, user_value,
 };
 use cbor_map::{Fault, bytes_value, push_if_there, push_member, text_value};
 use ccbor::{MapKey, Value, encode};
 use key_replies::KeyInfo;
+use pin_messages::{bytes_if_there, number_if_there};
 use std::alloc::{AllocError, Global};
 
 /// The members of the proof of a token.

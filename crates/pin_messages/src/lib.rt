@@ -12,5 +12,5 @@ mod writing;
 pub use command::{PinCommand, Point};
 pub use reading::{read_done, read_pin_reply};
 pub use reply::{AgreementKey, PinReply};
-pub use values::point_value;
+pub use values::{bytes_if_there, number_if_there, point_value, text_if_there};
 pub use writing::write_pin;

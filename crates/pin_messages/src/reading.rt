@@ -1,63 +1,16 @@
 //! Reading a reply.
 
 ghost use Rattle.std.specs.Prelude.{◌≡◌, ◌≢◌, ◌∷◌, IfOk, IfErr, OnOk};
-ghost use Rattle.ccbor.specs.Item.{Item};
-ghost use Rattle.ccbor.specs.Canon.{Canon};
-ghost use Rattle.ccbor.specs.Viewing.{shown};
 ghost use Rattle.ctap_status.specs.declared.error.Error.TheVariants as errors;
-ghost use Rattle.key_replies.specs.Pieces.{HasValue, HasNoValue};
 ghost use Rattle.key_replies.specs.Replies.{IsReply, Refused, ReplyOf};
 ghost use Rattle.pin_messages.specs.Replies.{IsDone, IsNotDone, Told, TellsPin};
 ghost use Rattle.pin_messages.specs.ReplyView.{reply_view};
 
 use crate::maps::reply;
 use crate::reply::PinReply;
-use ccbor::View;
 use ctap_status::Error;
 use ctap_status::status::OK;
-
-/// What follows status 0.
-fn behind_status(bytes: &[u8]) -> Result<&[u8], Error>
-    ensures found { IfOk result (λ r. bytes.now ≡ 0 ∷ r.now) }
-    ensures refused { IfErr result (λ e. HasNoValue bytes.now e) }
-    ensures statuses { IfErr result (IsNotDone bytes.now) }
-{
-    let Some((status, rest)) = bytes.split_first() else {
-        return Err(Error::Empty);
-    };
-    if *status != OK {
-        return Err(Error::Refused(*status));
-    }
-    Ok(rest)
-}
-
-/// One whole canonical value.
-fn whole(rest: &[u8]) -> Result<View<'_>, Error>
-    ensures found { IfOk result (λ v. Canon (shown v) rest.now) }
-    ensures none { IfErr result (λ _. (v : Item) → Canon v rest.now → ⊥) }
-    ensures errors { IfErr result (λ e. e ≡ errors.NotCanonical) }
-{
-    match View::check_all(rest) {
-        Ok(value) => Ok(value),
-        Err(_) => Err(Error::NotCanonical),
-    }
-}
-
-/// What follows status 0, one whole canonical value.
-fn value_of(bytes: &[u8]) -> Result<View<'_>, Error>
-    ensures found { IfOk result (λ v. HasValue bytes.now (shown v)) }
-    ensures refused { IfErr result (λ e. HasNoValue bytes.now e) }
-{
-    // A `match` where the proof speaks of the error: `?` hides it behind its conversion.
-    let rest = match behind_status(bytes) {
-        Ok(rest) => rest,
-        Err(e) => return Err(e),
-    };
-    match whole(rest) {
-        Ok(value) => Ok(value),
-        Err(e) => Err(e),
-    }
-}
+use key_replies::value_of;
 
 /// The reply of these bytes to a subcommand that tells something (CTAP 2.1, section 6.5.5). Its members lie in the
 /// bytes: nothing is copied. Which of them are there is the caller's to look at.
@@ -72,7 +25,7 @@ pub fn read_pin_reply(bytes: &[u8]) -> Result<PinReply<'_>, Error>
     // So bytes that are refused are no such reply.
     ensures none { IfErr result (λ _. (q : Told) → ReplyOf (TellsPin q) bytes.now → ⊥) }
 {
-    // As in `value_of`.
+    // A `match` where the proof speaks of the error: `?` hides it behind its conversion.
     let value = match value_of(bytes) {
         Ok(value) => value,
         Err(e) => return Err(e),
@@ -91,8 +44,9 @@ pub fn read_done(bytes: &[u8]) -> Result<(), Error>
     ensures done { OnOk result (IsDone bytes.now) }
     ensures refused { IfErr result (IsNotDone bytes.now) }
 {
-    match behind_status(bytes) {
-        Ok(_) => Ok(()),
-        Err(e) => Err(e),
+    match bytes.first() {
+        Some(&OK) => Ok(()),
+        Some(status) => Err(Error::Refused(*status)),
+        None => Err(Error::Empty),
     }
 }

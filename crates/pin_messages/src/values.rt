@@ -39,7 +39,8 @@ fn point_if_there(alloc: Global, point: Option<Point<'_>>) -> Result<Option<Valu
     }
 }
 
-fn bytes_if_there(alloc: Global, content: Option<&[u8]>) -> Result<Option<Value>, AllocError>
+/// The value of bytes that may be absent.
+pub fn bytes_if_there(alloc: Global, content: Option<&[u8]>) -> Result<Option<Value>, AllocError>
     ensures { IfOk result (λ v. option_map view v ≡ option_map bytes (option_map (λ b. b.now) content.entry)) }
 {
     match content {
@@ -48,7 +49,8 @@ fn bytes_if_there(alloc: Global, content: Option<&[u8]>) -> Result<Option<Value>
     }
 }
 
-fn text_if_there(alloc: Global, content: Option<&str>) -> Result<Option<Value>, AllocError>
+/// The value of a text that may be absent.
+pub fn text_if_there(alloc: Global, content: Option<&str>) -> Result<Option<Value>, AllocError>
     ensures { IfOk result (λ v. option_map view v ≡ option_map text (option_map (λ b. b.now) content.entry)) }
 {
     match content {
@@ -57,7 +59,8 @@ fn text_if_there(alloc: Global, content: Option<&str>) -> Result<Option<Value>, 
     }
 }
 
-fn number_if_there(number: Option<u64>) -> Option<Value>
+/// The value of a number that may be absent.
+pub fn number_if_there(number: Option<u64>) -> Option<Value>
     ensures { option_map view result ≡ option_map uint number }
 {
     match number {
