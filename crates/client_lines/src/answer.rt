@@ -1,5 +1,7 @@
 //! What an act is answered.
 
+ghost use Rattle.std.specs.Prelude.{◌≡◌, []};
+
 use crate::refused::Refused;
 use hidframe::Packet;
 use serde_json::{Map, Value};
@@ -53,7 +55,9 @@ pub(crate) struct Told {
 
 impl Told {
     /// An answer by which nothing is sent.
-    pub(crate) fn quiet(alloc: Global, answer: Answer) -> Told {
+    pub(crate) fn quiet(alloc: Global, answer: Answer) -> Told
+        ensures { (result.send.items ≡ []) × (result.answer ≡ answer) }
+    {
         Told {
             send: Vec::new(alloc),
             answer,

@@ -1,16 +1,34 @@
 //! The channel of an act: packets in, replies out.
 
+ghost use Rattle.std.specs.Prelude.{◌≡◌, ◌++◌, [], ◌∷◌, IfOk, List};
+ghost use Rattle.hidframe.specs.declared.Packet.{Packet};
+ghost use Rattle.hidframe.specs.Frames.{TheZeroFrames};
+ghost use Rattle.hidlink.specs.Wire.{Got};
+ghost use Rattle.client_lines.specs.Packets.{IsCarried};
+
 use crate::refused::Refused;
 use hidframe::ctaphid::{CTAPHID_CANCEL, CTAPHID_CBOR, CTAPHID_KEEPALIVE, STATUS_UPNEEDED};
 use hidframe::{Head, Packet, frame};
 use hidlink::{Collector, Outcome};
 use std::alloc::{AllocError, Global};
+use std::marker::Model;
 
-/// A channel that the key assigned.
+/// A channel that the key assigned. A contract sees its number and what it has collected.
 #[derive(Drop)]
 pub(crate) struct Channel {
     cid: u32,
     collector: Collector,
+}
+
+impl Model for Channel {
+    ghost use Rattle.std.specs.Prelude.{◌≡◌};
+    ghost use Rattle.hidlink.specs.Collected.{Collected};
+
+    ghost Value = { Collected };
+
+    ghost view = { λ c. c.collector };
+
+    ghost invariant = { λ c. c.collector.cid ≡ c.cid };
 }
 
 /// What a packet gave.
@@ -27,7 +45,9 @@ pub(crate) enum Fed {
 }
 
 /// What a packet on the channel says where it is no part of a reply.
-fn keepalive(cid: u32, packet: &Packet) -> Fed {
+fn keepalive(cid: u32, packet: &Packet) -> Fed
+    ensures { (ps : List Packet) → IsCarried cid ps result }
+{
     match packet.read() {
         Head::Init {
             cid: on,
@@ -47,7 +67,10 @@ fn keepalive(cid: u32, packet: &Packet) -> Fed {
 
 impl Channel {
     /// The channel of this number.
-    pub(crate) fn new(alloc: Global, cid: u32) -> Result<Channel, AllocError> {
+    pub(crate) fn new(alloc: Global, cid: u32) -> Result<Channel, AllocError>
+        ensures channel { IfOk result (λ c. c.cid ≡ cid) }
+        ensures got { IfOk result (λ c. Got cid [] c.shown) }
+    {
         Ok(Channel {
             cid,
             collector: Collector::new(alloc, cid)?,
@@ -55,7 +78,11 @@ impl Channel {
     }
 
     /// The packets of a message; the next reply is that to it.
-    pub(crate) fn send(&mut self, alloc: Global, message: &[u8]) -> Result<Vec<Packet>, Refused> {
+    pub(crate) fn send(&mut self, alloc: Global, message: &[u8]) -> Result<Vec<Packet>, Refused>
+        ensures frames { IfOk result (λ packets. TheZeroFrames self.old.cid CTAPHID_CBOR message.now packets.items) }
+        ensures channel { self.new.cid ≡ self.old.cid }
+        ensures got { Got self.old.cid [] self.new.shown }
+    {
         self.collector.restart(self.cid);
         match frame(self.cid, CTAPHID_CBOR, message) {
             Ok(frames) => Ok(frames.collect(alloc)?),
@@ -64,7 +91,9 @@ impl Channel {
     }
 
     /// The packets that cancel what the key works on.
-    pub(crate) fn cancel(&self, alloc: Global) -> Result<Vec<Packet>, Refused> {
+    pub(crate) fn cancel(&self, alloc: Global) -> Result<Vec<Packet>, Refused>
+        ensures { IfOk result (λ packets. TheZeroFrames self.now.cid CTAPHID_CANCEL [] packets.items) }
+    {
         match frame(self.cid, CTAPHID_CANCEL, &[]) {
             Ok(frames) => Ok(frames.collect(alloc)?),
             Err(_) => Err(Refused::Unfit),
@@ -72,7 +101,12 @@ impl Channel {
     }
 
     /// Takes a packet.
-    pub(crate) fn take(&mut self, alloc: Global, packet: &Packet) -> Result<Fed, Refused> {
+    pub(crate) fn take(&mut self, alloc: Global, packet: &Packet) -> Result<Fed, Refused>
+        ensures carried { (ps : List Packet) → Got self.old.cid ps self.old.shown
+            → IfOk result (IsCarried self.old.cid (ps ++ packet.now ∷ [])) }
+        ensures channel { self.new.cid ≡ self.old.cid }
+        ensures got { (ps : List Packet) → Got self.old.cid ps self.old.shown → Got self.old.cid (ps ++ packet.now ∷ []) self.new.shown }
+    {
         match self.collector.feed(packet) {
             Ok(Outcome::More) => Ok(keepalive(self.cid, packet)),
             Ok(Outcome::Reply(message)) => Ok(Fed::Reply(Vec::from_slice(alloc, message)?)),

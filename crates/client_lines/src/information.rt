@@ -41,10 +41,7 @@ fn algorithm(parameters: &ParametersView<'_>) -> Value {
 }
 
 /// The numbers of algorithms; null where they are not told.
-fn algorithms(
-    alloc: Global,
-    told: &Option<Vec<ParametersView<'_>>>,
-) -> Result<Value, AllocError> {
+fn algorithms(alloc: Global, told: &Option<Vec<ParametersView<'_>>>) -> Result<Value, AllocError> {
     let Some(told) = told else {
         return Ok(Value::Null);
     };
@@ -100,7 +97,12 @@ fn put_abilities(
     info: &KeyInfo<'_>,
     out: &mut Map<String, Value>,
 ) -> Result<(), AllocError> {
-    put(out, alloc, "versions", texts(alloc, info.versions.as_slice())?)?;
+    put(
+        out,
+        alloc,
+        "versions",
+        texts(alloc, info.versions.as_slice())?,
+    )?;
     put(
         out,
         alloc,

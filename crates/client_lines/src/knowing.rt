@@ -1,5 +1,10 @@
 //! What an act knows, and what it wishes for.
 
+ghost use Rattle.std.specs.Prelude.{◌≡◌, IfOk, map, option_map, string_bytes};
+ghost use Rattle.key_client.specs.Facts.{facts};
+ghost use Rattle.client_lines.specs.Knowing.{Forgets, IsWishOf, knowledge_facts};
+ghost use Rattle.client_lines.specs.declared.purpose.Purpose.TheVariants as purposes;
+
 use crate::options::Extensions;
 use crate::purpose::{Purpose, Registration, SignIn};
 use key_client::{Asserting, Creating, Known, Wish};
@@ -27,7 +32,9 @@ pub(crate) struct Knowledge {
 }
 
 /// Lists of bytes, lent.
-pub(crate) fn lent<'a>(alloc: Global, list: &'a [Vec<u8>]) -> Result<Vec<&'a [u8]>, AllocError> {
+pub(crate) fn lent<'a>(alloc: Global, list: &'a [Vec<u8>]) -> Result<Vec<&'a [u8]>, AllocError>
+    ensures { IfOk result (λ lent. map (λ b. b.now) lent.items ≡ map (λ v. v.items) list.entry.now) }
+{
     let mut lent = Vec::with_capacity(alloc, list.len())?;
     for bytes in list {
         lent.push(bytes.as_slice())?;
@@ -36,7 +43,9 @@ pub(crate) fn lent<'a>(alloc: Global, list: &'a [Vec<u8>]) -> Result<Vec<&'a [u8
 }
 
 /// A text, lent where it is there.
-fn lent_text(text: &Option<String>) -> Option<&str> {
+fn lent_text(text: &Option<String>) -> Option<&str>
+    ensures { option_map (λ t. t.now) result ≡ option_map string_bytes text.now }
+{
     match text {
         Some(text) => Some(text.as_str()),
         None => None,
@@ -59,7 +68,10 @@ fn inputs(extensions: &Extensions) -> Option<CreationExtensions<'static>> {
 }
 
 /// What a registration wishes for, with its list lent.
-pub(crate) fn creating<'a>(registration: &'a Registration, exclude: &'a [&'a [u8]]) -> Wish<'a> {
+pub(crate) fn creating<'a>(registration: &'a Registration, exclude: &'a [&'a [u8]]) -> Wish<'a>
+    requires { map (λ b. b.now) exclude.now ≡ map (λ v. v.items) registration.now.exclude.items }
+    ensures { IsWishOf (purposes.Registers registration.entry.now) result }
+{
     Wish::Creates(Creating {
         client_data_hash: &registration.hash,
         rp: RelyingParty {
@@ -80,7 +92,10 @@ pub(crate) fn creating<'a>(registration: &'a Registration, exclude: &'a [&'a [u8
 }
 
 /// What a sign-in wishes for, with its list lent.
-pub(crate) fn asserting<'a>(sign_in: &'a SignIn, allow: &'a [&'a [u8]]) -> Wish<'a> {
+pub(crate) fn asserting<'a>(sign_in: &'a SignIn, allow: &'a [&'a [u8]]) -> Wish<'a>
+    requires { map (λ b. b.now) allow.now ≡ map (λ v. v.items) sign_in.now.allow.items }
+    ensures { IsWishOf (purposes.SignsIn sign_in.entry.now) result }
+{
     Wish::Asserts(Asserting {
         rp_id: sign_in.rp_id.as_str(),
         client_data_hash: &sign_in.hash,
@@ -105,7 +120,9 @@ impl Knowledge {
     }
 
     /// After a PIN that the key refused: all but getInfo's reply is forgotten.
-    pub(crate) fn forget(&mut self, alloc: Global) {
+    pub(crate) fn forget(&mut self, alloc: Global)
+        ensures { Forgets self.old self.new }
+    {
         self.replies.truncate(1);
         self.pin = None;
         self.is_wrong = true;
@@ -113,7 +130,9 @@ impl Knowledge {
     }
 
     /// What is known, lent.
-    pub(crate) fn known(&self) -> Known<'_> {
+    pub(crate) fn known(&self) -> Known<'_>
+        ensures { facts result ≡ knowledge_facts self.now }
+    {
         Known {
             replies: self.replies.as_slice(),
             pin: lent_text(&self.pin),

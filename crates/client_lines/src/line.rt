@@ -1,8 +1,8 @@
 //! From a line to its answer.
 
 use crate::answer::Told;
-use crate::client::Client;
 use crate::error::LineError;
+use crate::machine::Client;
 use crate::reading::read_line;
 use crate::writing::write_answer;
 use std::alloc::{AllocError, Global};

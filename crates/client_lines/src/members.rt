@@ -95,7 +95,11 @@ pub(crate) fn list<'a>(object: &'a Value, name: &'static str) -> Result<&'a [Val
 }
 
 /// The bytes of a member, a text in base64url without padding (RFC 4648, section 5).
-pub(crate) fn bytes(alloc: Global, object: &Value, name: &'static str) -> Result<Vec<u8>, LineError> {
+pub(crate) fn bytes(
+    alloc: Global,
+    object: &Value,
+    name: &'static str,
+) -> Result<Vec<u8>, LineError> {
     let text = text(object, name)?;
     match URL_SAFE_NO_PAD.decode(alloc, text.as_bytes()) {
         Ok(bytes) => Ok(bytes),

@@ -3,7 +3,8 @@
 
 use crate::error::LineError;
 use crate::members::{
-    bytes, list, object, optional, optional_object, optional_text, owned_text, required, text, truth,
+    bytes, list, object, optional, optional_object, optional_text, owned_text, required, text,
+    truth,
 };
 use cose::Alg;
 use key_client::Requirement;

@@ -47,7 +47,11 @@ fn act_of(alloc: Global, kind: Kind, line: &Value) -> Result<Act, LineError> {
         Kind::SignIn => begin(alloc, Aim::SignIn(request_options(alloc, line)?), line),
         Kind::Information => begin(alloc, Aim::Inform, line),
         Kind::SetPin => begin(alloc, Aim::SetPin(own_text(alloc, line, "new_pin")?), line),
-        Kind::ChangePin => begin(alloc, Aim::ChangePin(own_text(alloc, line, "new_pin")?), line),
+        Kind::ChangePin => begin(
+            alloc,
+            Aim::ChangePin(own_text(alloc, line, "new_pin")?),
+            line,
+        ),
         Kind::Packet => {
             let packet = Packet(sized_bytes(alloc, line, "packet")?);
             Ok(Act::Further(Further::Packet(packet)))

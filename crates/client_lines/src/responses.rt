@@ -114,7 +114,12 @@ fn put_key(
         Value::from(key.alg().number()),
     )?;
     match public_key(alloc, key)? {
-        Some(bytes) => put(out, alloc, "publicKey", base64_text(alloc, bytes.as_slice())?),
+        Some(bytes) => put(
+            out,
+            alloc,
+            "publicKey",
+            base64_text(alloc, bytes.as_slice())?,
+        ),
         None => Ok(()),
     }
 }
@@ -212,10 +217,12 @@ fn told_parts(
 /// The credential of authenticator data: its id and its key.
 fn attested<'a>(auth_data: &'a [u8]) -> Result<(&'a [u8], KeyView<'a>), Refused> {
     match read_view(Profile::Level3, auth_data) {
-        Ok(AuthView {
-            attested: Some(attested),
-            ..
-        }) => Ok((attested.id, attested.key)),
+        Ok(
+            AuthView {
+                attested: Some(attested),
+                ..
+            },
+        ) => Ok((attested.id, attested.key)),
         _ => Err(Refused::Client(Refusal::NotReadable)),
     }
 }
@@ -287,7 +294,12 @@ fn assertion_parts(
         base64_text(alloc, assertion.signature)?,
     )?;
     if let Some(user) = &assertion.user {
-        put(&mut parts, alloc, "userHandle", base64_text(alloc, user.id)?)?;
+        put(
+            &mut parts,
+            alloc,
+            "userHandle",
+            base64_text(alloc, user.id)?,
+        )?;
     }
     Ok(Value::Object(parts))
 }

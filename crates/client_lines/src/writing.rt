@@ -1,9 +1,9 @@
 //! Writing an answer.
 
 use crate::answer::{Answer, Told};
-use crate::client::Client;
 use crate::error::LineError;
 use crate::line::Answered;
+use crate::machine::Client;
 use crate::refused::Refused;
 use crate::values::{base64_text, number_or_null};
 use hidframe::Packet;
@@ -139,7 +139,12 @@ fn told_members(
     let state = state_name(&told.answer);
     let mut out = members(alloc, asked, told.answer)?;
     put_text(alloc, "state", state, &mut out)?;
-    put(&mut out, alloc, "send", packets(alloc, told.send.as_slice())?)?;
+    put(
+        &mut out,
+        alloc,
+        "send",
+        packets(alloc, told.send.as_slice())?,
+    )?;
     Ok(out)
 }
 
@@ -153,17 +158,27 @@ fn error_members(alloc: Global, error: LineError) -> Result<Map<String, Value>, 
     Ok(out)
 }
 
+/// The members of an answer beside its number.
+fn answer_members(
+    alloc: Global,
+    asked: Option<&Ask>,
+    told: Result<Told, LineError>,
+) -> Result<Map<String, Value>, AllocError> {
+    match told {
+        Ok(told) => told_members(alloc, asked, told),
+        Err(error) => error_members(alloc, error),
+    }
+}
+
 /// The line of an answer, with its end. Its `id` is null where the line that it answers has no number.
 pub(crate) fn write_answer(
     alloc: Global,
     client: &Client,
     answered: Answered,
 ) -> Result<String, AllocError> {
-    let mut out = match answered.told {
-        Ok(told) => told_members(alloc, client.asked(), told)?,
-        Err(error) => error_members(alloc, error)?,
-    };
-    put(&mut out, alloc, "id", number_or_null(answered.id))?;
+    let Answered { id, told } = answered;
+    let mut out = answer_members(alloc, client.asked(), told)?;
+    put(&mut out, alloc, "id", number_or_null(id))?;
     let mut text = Value::Object(out).to_string(alloc)?;
     text.push('\n')?;
     Ok(text)
