@@ -1,3 +1,5 @@
 pub mod Packets
 pub mod Knowing
 pub mod Steps
+pub mod Purposes
+pub mod Acts

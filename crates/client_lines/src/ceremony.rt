@@ -1,5 +1,13 @@
 //! An act that is under way.
 
+ghost use Rattle.std.specs.Prelude.{◌≡◌, ◌⊎◌, ◌++◌, [], ◌∷◌, IfOk, List, OnErr, OnOk};
+ghost use Rattle.hidframe.specs.declared.Packet.{Packet};
+ghost use Rattle.hidlink.specs.Wire.{Got};
+ghost use Rattle.client_lines.specs.Acts.{Begins, KeepsReplies, Receives, ReceivesBy, SendsBy, SendsOn, TakesFurther};
+ghost use Rattle.client_lines.specs.Knowing.{replies_of};
+ghost use Rattle.client_lines.specs.Purposes.{IsPurposeOf};
+ghost use Rattle.client_lines.specs.declared.act.Further.TheVariants as furthers;
+
 use crate::act::{Aim, Begin, Further};
 use crate::answer::{Answer, Told};
 use crate::channel::{Channel, Fed};
@@ -34,7 +42,9 @@ pub(crate) struct Ceremony {
 }
 
 /// What an act of this aim is for.
-fn purpose(alloc: Global, aim: Aim) -> Result<Purpose, Refused> {
+fn purpose(alloc: Global, aim: Aim) -> Result<Purpose, Refused>
+    ensures { IfOk result (IsPurposeOf aim) }
+{
     match aim {
         Aim::Register(options) => Ok(Purpose::Registers(checked_registration(alloc, options)?)),
         Aim::SignIn(options) => Ok(Purpose::SignsIn(checked_sign_in(alloc, options)?)),
@@ -59,7 +69,13 @@ fn receive(
     knowledge: &mut Knowledge,
     channel: &mut Channel,
     packet: &Packet,
-) -> Result<(Told, Awaits), Refused> {
+) -> Result<(Told, Awaits), Refused>
+    ensures received { (ps : List Packet) → Got channel.old.cid ps channel.old.shown
+        → Receives channel.old.cid (ps ++ packet.now ∷ []) knowledge.old knowledge.new }
+    ensures purpose { knowledge.new.purpose ≡ knowledge.old.purpose }
+    ensures sent { IfOk result (λ r. SendsOn channel.old.cid knowledge.new r.0) }
+    ensures channel { channel.new.cid ≡ channel.old.cid }
+{
     let answer = match channel.take(alloc, packet) {
         Ok(Fed::Reply(message)) => {
             knowledge.replies.push(message)?;
@@ -76,7 +92,9 @@ fn receive(
 
 impl Ceremony {
     /// Begins an act: what is told asks the key for a channel.
-    pub(crate) fn begin(alloc: Global, begin: Begin) -> Result<(Ceremony, Told), Refused> {
+    pub(crate) fn begin(alloc: Global, begin: Begin) -> Result<(Ceremony, Told), Refused>
+        ensures { IfOk result (λ r. Begins begin r.0 r.1) }
+    {
         let purpose = purpose(alloc, begin.aim)?;
         let opener = Opener::new(begin.nonce);
         let told = Told {
@@ -100,7 +118,11 @@ impl Ceremony {
     }
 
     /// What came of it: what is told, and what is waited for from now on.
-    fn settle(&mut self, alloc: Global, came: Result<(Told, Awaits), Refused>) -> Told {
+    fn settle(&mut self, alloc: Global, came: Result<(Told, Awaits), Refused>) -> Told
+        requires { IfOk came (λ r. SendsBy self.old.link self.old.knowledge r.0) }
+        ensures sent { SendsBy self.new.link self.new.knowledge result }
+        ensures knowledge { self.new.knowledge ≡ self.old.knowledge }
+    {
         match came {
             Ok((told, awaits)) => {
                 self.awaits = awaits;
@@ -111,7 +133,11 @@ impl Ceremony {
     }
 
     /// Goes on by what is known.
-    fn go_on(&mut self, alloc: Global) -> Told {
+    fn go_on(&mut self, alloc: Global) -> Told
+        ensures replies { KeepsReplies (replies_of self.old.knowledge) self.new.knowledge }
+        ensures purpose { self.new.knowledge.purpose ≡ self.old.knowledge.purpose }
+        ensures sent { SendsBy self.new.link self.new.knowledge result }
+    {
         let came = match &mut self.link {
             Link::Open(channel) => go_on(alloc, &mut self.knowledge, channel),
             Link::Opening(_) => Err(Refused::ChannelDead),
@@ -120,7 +146,11 @@ impl Ceremony {
     }
 
     /// Takes a packet while the channel is asked for.
-    fn open(&mut self, alloc: Global, packet: &Packet) -> Result<(Told, Awaits), Refused> {
+    fn open(&mut self, alloc: Global, packet: &Packet) -> Result<(Told, Awaits), Refused>
+        ensures received { ReceivesBy self.old.link packet.now self.old.knowledge self.new.knowledge }
+        ensures purpose { self.new.knowledge.purpose ≡ self.old.knowledge.purpose }
+        ensures sent { IfOk result (λ r. SendsBy self.new.link self.new.knowledge r.0) }
+    {
         match &mut self.link {
             Link::Opening(opener) => match opener.feed(packet) {
                 Opening::More => Ok((Told::quiet(alloc, Answer::Waits), Awaits::Packet)),
@@ -136,7 +166,10 @@ impl Ceremony {
     }
 
     /// A packet came from the key.
-    fn packet(&mut self, alloc: Global, packet: &Packet) -> Result<Told, LineError> {
+    fn packet(&mut self, alloc: Global, packet: &Packet) -> Result<Told, LineError>
+        ensures taken { IfOk result (λ told. TakesFurther self.old (furthers.Packet packet.now) told self.new) }
+        ensures unchanged { OnErr result (self.new ≡ self.old) }
+    {
         if !matches!(self.awaits, Awaits::Packet) {
             return Err(LineError::NotAwaited);
         }
@@ -145,7 +178,10 @@ impl Ceremony {
     }
 
     /// The user entered a PIN.
-    fn pin(&mut self, alloc: Global, pin: String) -> Result<Told, LineError> {
+    fn pin(&mut self, alloc: Global, pin: String) -> Result<Told, LineError>
+        ensures taken { IfOk result (λ told. TakesFurther self.old (furthers.Pin pin) told self.new) }
+        ensures unchanged { OnErr result (self.new ≡ self.old) }
+    {
         if !matches!(self.awaits, Awaits::Pin) {
             return Err(LineError::NotAwaited);
         }
@@ -155,7 +191,10 @@ impl Ceremony {
     }
 
     /// The host computed what was asked for.
-    fn computed(&mut self, alloc: Global, bytes: Vec<u8>) -> Result<Told, LineError> {
+    fn computed(&mut self, alloc: Global, bytes: Vec<u8>) -> Result<Told, LineError>
+        ensures taken { IfOk result (λ told. TakesFurther self.old (furthers.Computed bytes) told self.new) }
+        ensures unchanged { OnErr result (self.new ≡ self.old) }
+    {
         match mem::replace(&mut self.awaits, Awaits::Packet) {
             Awaits::Computed(ask) => {
                 if self.knowledge.answers.add(ask, bytes).is_err() {
@@ -172,7 +211,10 @@ impl Ceremony {
     }
 
     /// The user chose a credential.
-    fn choose(&mut self, alloc: Global, number: u64) -> Result<Told, LineError> {
+    fn choose(&mut self, alloc: Global, number: u64) -> Result<Told, LineError>
+        ensures taken { IfOk result (λ told. TakesFurther self.old (furthers.Choose number) told self.new) }
+        ensures unchanged { OnErr result (self.new ≡ self.old) }
+    {
         let Awaits::Choice(count) = self.awaits else {
             return Err(LineError::NotAwaited);
         };
@@ -186,7 +228,9 @@ impl Ceremony {
     }
 
     /// The user cancels: the key is told where it is at work, and else the act is over.
-    fn cancel(&mut self, alloc: Global) -> Told {
+    fn cancel(&self, alloc: Global) -> Told
+        ensures { TakesFurther self.now furthers.Cancel result self.now }
+    {
         let send = match &self.link {
             Link::Open(channel) if matches!(self.awaits, Awaits::Packet) => channel.cancel(alloc),
             _ => Err(Refused::Cancelled),
@@ -201,7 +245,10 @@ impl Ceremony {
     }
 
     /// Takes what takes the act further; an error changes nothing.
-    pub(crate) fn take(&mut self, alloc: Global, further: Further) -> Result<Told, LineError> {
+    pub(crate) fn take(&mut self, alloc: Global, further: Further) -> Result<Told, LineError>
+        ensures taken { IfOk result (λ told. TakesFurther self.old further told self.new) }
+        ensures unchanged { OnErr result (self.new ≡ self.old) }
+    {
         match further {
             Further::Packet(packet) => self.packet(alloc, &packet),
             Further::Pin(pin) => self.pin(alloc, pin),

@@ -1,5 +1,10 @@
 //! From a line to its answer.
 
+ghost use Rattle.std.specs.Prelude.{Result};
+ghost use Rattle.client_lines.specs.Acts.{Answers};
+ghost use Rattle.client_lines.specs.declared.answer.Told.{Told};
+ghost use Rattle.client_lines.specs.declared.error.LineError.{LineError};
+
 use crate::answer::Told;
 use crate::error::LineError;
 use crate::machine::Client;
@@ -20,7 +25,9 @@ pub(crate) struct Answered {
 }
 
 /// Carries out a line.
-fn carry_out(alloc: Global, client: &mut Client, line: &[u8]) -> Answered {
+fn carry_out(alloc: Global, client: &mut Client, line: &[u8]) -> Answered
+    ensures { Answers client.old result.told client.new }
+{
     match read_line(alloc, line) {
         Ok(line) => Answered {
             id: Some(line.id),
@@ -34,7 +41,10 @@ fn carry_out(alloc: Global, client: &mut Client, line: &[u8]) -> Answered {
 }
 
 /// Answers a line, of which its end is no part, by one line, with its end.
-pub fn answer_line(alloc: Global, client: &mut Client, line: &[u8]) -> Result<String, AllocError> {
+pub fn answer_line(alloc: Global, client: &mut Client, line: &[u8]) -> Result<String, AllocError>
+    // What is told is what is done of the act; and an error changes nothing.
+    ensures { (told : Result Told LineError) × Answers client.old told client.new }
+{
     let answered = carry_out(alloc, client, line);
     write_answer(alloc, client, answered)
 }

@@ -1,5 +1,9 @@
 //! The client: at most one act is under way.
 
+ghost use Rattle.std.specs.Prelude.{◌≡◌, None, IfOk, OnErr};
+ghost use Rattle.client_lines.specs.Acts.{CarriesOut};
+ghost use Rattle.client_lines.specs.declared.act.Act.TheVariants as acts;
+
 use crate::act::{Act, Begin, Further};
 use crate::answer::{Answer, Told};
 use crate::ceremony::Ceremony;
@@ -15,7 +19,9 @@ pub struct Client {
 
 impl Client {
     /// A client of which no act is under way.
-    pub fn new() -> Client {
+    pub fn new() -> Client
+        ensures { result.ceremony ≡ None }
+    {
         Client { ceremony: None }
     }
 
@@ -28,7 +34,9 @@ impl Client {
     }
 
     /// Begins an act; what was under way is dropped.
-    fn begin(&mut self, alloc: Global, begin: Begin) -> Told {
+    fn begin(&mut self, alloc: Global, begin: Begin) -> Told
+        ensures { CarriesOut self.old (acts.Begin begin) result self.new }
+    {
         match Ceremony::begin(alloc, begin) {
             Ok((ceremony, told)) => {
                 self.ceremony = Some(ceremony);
@@ -42,7 +50,10 @@ impl Client {
     }
 
     /// Takes the act that is under way further.
-    fn further(&mut self, alloc: Global, further: Further) -> Result<Told, LineError> {
+    fn further(&mut self, alloc: Global, further: Further) -> Result<Told, LineError>
+        ensures told { IfOk result (λ told. CarriesOut self.old (acts.Further further) told self.new) }
+        ensures unchanged { OnErr result (self.new ≡ self.old) }
+    {
         let Some(ceremony) = &mut self.ceremony else {
             return Err(LineError::NothingBegun);
         };
@@ -54,7 +65,10 @@ impl Client {
     }
 
     /// Carries out what a line asks for.
-    pub(crate) fn carry_out(&mut self, alloc: Global, act: Act) -> Result<Told, LineError> {
+    pub(crate) fn carry_out(&mut self, alloc: Global, act: Act) -> Result<Told, LineError>
+        ensures told { IfOk result (λ told. CarriesOut self.old act told self.new) }
+        ensures unchanged { OnErr result (self.new ≡ self.old) }
+    {
         match act {
             Act::Begin(begin) => Ok(self.begin(alloc, begin)),
             Act::Further(further) => self.further(alloc, further),

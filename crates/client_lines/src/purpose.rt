@@ -1,5 +1,10 @@
 //! What an act that is under way is for, in memory of its own.
 
+ghost use Rattle.std.specs.Prelude.{◌≡◌, IfOk, MatchOption, false, string_bytes};
+ghost use Rattle.client.specs.Steps.{MayAsk};
+ghost use Rattle.clientdata.specs.Serialised.{client_data_text};
+ghost use Rattle.client_lines.specs.Purposes.{IsRegistrationOf, IsSignInOf};
+
 use crate::options::{Account, CreationOptions, Extensions, RequestOptions};
 use crate::refused::Refused;
 use client::{RequestError, check_origin};
@@ -68,7 +73,10 @@ fn host_of(origin: &str) -> &str {
 }
 
 /// The rp id, which is the origin's host where none is named; the origin may ask for it.
-fn checked_rp_id(alloc: Global, origin: &str, rp_id: Option<String>) -> Result<String, Refused> {
+fn checked_rp_id(alloc: Global, origin: &str, rp_id: Option<String>) -> Result<String, Refused>
+    ensures may_ask { IfOk result (λ id. MayAsk origin.now (string_bytes id)) }
+    ensures named { IfOk result (λ id. MatchOption rp_id (Unit {0}) (λ named. id ≡ named)) }
+{
     let rp_id = match rp_id {
         Some(rp_id) => rp_id,
         None => String::from_str(alloc, host_of(origin))?,
@@ -85,7 +93,9 @@ fn client_data(
     kind: CeremonyType,
     challenge: Vec<u8>,
     origin: String,
-) -> Result<String, AllocError> {
+) -> Result<String, AllocError>
+    ensures { IfOk result (λ text. string_bytes text ≡ client_data_text kind challenge.items (string_bytes origin) false) }
+{
     serialise(
         alloc,
         &ClientData {
@@ -107,7 +117,9 @@ fn is_fit(options: &CreationOptions) -> bool {
 pub(crate) fn checked_registration(
     alloc: Global,
     options: CreationOptions,
-) -> Result<Registration, Refused> {
+) -> Result<Registration, Refused>
+    ensures { IfOk result (IsRegistrationOf options) }
+{
     if !is_fit(&options) {
         return Err(Refused::Unfit);
     }
@@ -143,7 +155,9 @@ pub(crate) fn checked_registration(
 }
 
 /// The sign-in of these options.
-pub(crate) fn checked_sign_in(alloc: Global, options: RequestOptions) -> Result<SignIn, Refused> {
+pub(crate) fn checked_sign_in(alloc: Global, options: RequestOptions) -> Result<SignIn, Refused>
+    ensures { IfOk result (IsSignInOf options) }
+{
     let RequestOptions {
         origin,
         rp_id,
