@@ -344,8 +344,9 @@ def changed_packets(tests):
     """Each byte of each packet from the key changed: the act ends by a name, or goes on as if nothing had come; or what the key is
     believed to have said is other bytes of the response."""
     host = tests.host()
-    host.registered(b"one")
     for act in ("register", "sign_in", "information"):
+        host.table.clear()
+        host.registered(b"one")
         def ceremony():
             if act == "register":
                 options, _ = host.server.register_begin(b"two", "alex", algorithms=(ES256,), resident=False)
