@@ -55,13 +55,10 @@ IsWishOf (ChangesPin new) (wishes.ChangesPin text) = text.now ≡ string_bytes n
 IsWishOf _ _ = ⊥
 
 -- After a PIN that the key refused getInfo's reply alone is kept, and neither the PIN nor what was computed.
+abbrev pub forgotten : Facts → Facts
+forgotten f = record f { replies = take 1 f.replies; pin = None; answers = [] }
+
 pub record Forgets (old new : Knowledge) : Type 0 where
   pub purpose : new.purpose ≡ old.purpose
-  pub facts : knowledge_facts new ≡ record {
-    replies = take 1 (replies_of old);
-    pin = None;
-    answers = [];
-    built_in = old.built_in;
-    chosen = old.chosen;
-  }
+  pub facts : knowledge_facts new ≡ forgotten (knowledge_facts old)
   pub wrong : new.is_wrong ≡ true

@@ -1,3 +1,5 @@
+pub mod Kinds
+pub mod Lines
 pub mod Packets
 pub mod Knowing
 pub mod Steps

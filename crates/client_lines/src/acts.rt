@@ -1,5 +1,8 @@
 //! The acts by name, the members that each takes, and what the help shows of them.
 
+ghost use Rattle.std.specs.Prelude.{◌≡◌, IfSome};
+ghost use Rattle.client_lines.specs.Kinds.{kind_name};
+
 use crate::error::LineError;
 use serde_json::Value;
 use std::alloc::{AllocError, Global};
@@ -20,7 +23,9 @@ pub(crate) enum Kind {
 }
 
 /// The kind of an act of this name.
-pub(crate) fn kind_named(name: &str) -> Option<Kind> {
+pub(crate) fn kind_named(name: &str) -> Option<Kind>
+    ensures { IfSome result (λ kind. name.now ≡ kind_name kind) }
+{
     match name {
         "register" => Some(Kind::Register),
         "sign_in" => Some(Kind::SignIn),

@@ -1,10 +1,10 @@
 //! An act that is under way.
 
-ghost use Rattle.std.specs.Prelude.{◌≡◌, ◌⊎◌, ◌++◌, [], ◌∷◌, IfOk, List, OnErr, OnOk};
+ghost use Rattle.std.specs.Prelude.{◌≡◌, ◌++◌, [], ◌∷◌, IfOk, List, OnErr};
 ghost use Rattle.hidframe.specs.declared.Packet.{Packet};
 ghost use Rattle.hidlink.specs.Wire.{Got};
-ghost use Rattle.client_lines.specs.Acts.{Begins, KeepsReplies, Receives, ReceivesBy, SendsBy, SendsOn, TakesFurther};
-ghost use Rattle.client_lines.specs.Knowing.{replies_of};
+ghost use Rattle.client_lines.specs.Acts.{Begins, Knows, Receives, ReceivesBy, SendsBy, SendsOn, TakesFurther};
+ghost use Rattle.client_lines.specs.Knowing.{knowledge_facts};
 ghost use Rattle.client_lines.specs.Purposes.{IsPurposeOf};
 ghost use Rattle.client_lines.specs.declared.act.Further.TheVariants as furthers;
 
@@ -71,7 +71,7 @@ fn receive(
     packet: &Packet,
 ) -> Result<(Told, Awaits), Refused>
     ensures received { (ps : List Packet) → Got channel.old.cid ps channel.old.shown
-        → Receives channel.old.cid (ps ++ packet.now ∷ []) knowledge.old knowledge.new }
+        → Receives channel.old.cid (ps ++ packet.now ∷ []) (knowledge_facts knowledge.old) knowledge.new }
     ensures purpose { knowledge.new.purpose ≡ knowledge.old.purpose }
     ensures sent { IfOk result (λ r. SendsOn channel.old.cid knowledge.new r.0) }
     ensures channel { channel.new.cid ≡ channel.old.cid }
@@ -134,7 +134,7 @@ impl Ceremony {
 
     /// Goes on by what is known.
     fn go_on(&mut self, alloc: Global) -> Told
-        ensures replies { KeepsReplies (replies_of self.old.knowledge) self.new.knowledge }
+        ensures facts { Knows (knowledge_facts self.old.knowledge) self.new.knowledge }
         ensures purpose { self.new.knowledge.purpose ≡ self.old.knowledge.purpose }
         ensures sent { SendsBy self.new.link self.new.knowledge result }
     {
@@ -147,7 +147,7 @@ impl Ceremony {
 
     /// Takes a packet while the channel is asked for.
     fn open(&mut self, alloc: Global, packet: &Packet) -> Result<(Told, Awaits), Refused>
-        ensures received { ReceivesBy self.old.link packet.now self.old.knowledge self.new.knowledge }
+        ensures received { ReceivesBy self.old.link packet.now (knowledge_facts self.old.knowledge) self.new.knowledge }
         ensures purpose { self.new.knowledge.purpose ≡ self.old.knowledge.purpose }
         ensures sent { IfOk result (λ r. SendsBy self.new.link self.new.knowledge r.0) }
     {

@@ -26,7 +26,7 @@ pub(crate) struct Answered {
 
 /// Carries out a line.
 fn carry_out(alloc: Global, client: &mut Client, line: &[u8]) -> Answered
-    ensures { Answers client.old result.told client.new }
+    ensures { Answers client.old line.now result.told client.new }
 {
     match read_line(alloc, line) {
         Ok(line) => Answered {
@@ -43,7 +43,7 @@ fn carry_out(alloc: Global, client: &mut Client, line: &[u8]) -> Answered
 /// Answers a line, of which its end is no part, by one line, with its end.
 pub fn answer_line(alloc: Global, client: &mut Client, line: &[u8]) -> Result<String, AllocError>
     // What is told is what is done of the act; and an error changes nothing.
-    ensures { (told : Result Told LineError) × Answers client.old told client.new }
+    ensures { (told : Result Told LineError) × Answers client.old line.now told client.new }
 {
     let answered = carry_out(alloc, client, line);
     write_answer(alloc, client, answered)

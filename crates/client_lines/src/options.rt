@@ -1,6 +1,10 @@
 //! Options as a relying party gives them: `PublicKeyCredentialCreationOptionsJSON` and
 //! `PublicKeyCredentialRequestOptionsJSON` (WebAuthn Level 3, sections 5.1.8 and 5.1.9).
 
+ghost use Rattle.std.specs.Prelude.{IfOk, codes};
+ghost use Rattle.serde_json.specs.View.{view};
+ghost use Rattle.client_lines.specs.Lines.{HasBytes, SaysCreation, SaysRequest};
+
 use crate::error::LineError;
 use crate::members::{
     bytes, list, object, optional, optional_object, optional_text, owned_text, required, text,
@@ -190,8 +194,9 @@ fn extension_inputs(options: &Value) -> Result<Extensions, LineError> {
 }
 
 /// The account of `user`.
-fn account_of(alloc: Global, options: &Value) -> Result<Account, LineError> {
-    let user = object(options, "user")?;
+fn account_of(alloc: Global, user: &Value) -> Result<Account, LineError>
+    ensures { IfOk result (λ a. HasBytes (codes "id") (view user.now) a.id.items) }
+{
     Ok(Account {
         id: bytes(alloc, user, "id")?,
         name: owned_text(alloc, user, "name")?,
@@ -208,15 +213,18 @@ fn selection(options: &Value) -> Result<(Requirement, Requirement), LineError> {
 }
 
 /// The options of a line's registration.
-pub(crate) fn creation_options(alloc: Global, line: &Value) -> Result<CreationOptions, LineError> {
+pub(crate) fn creation_options(alloc: Global, line: &Value) -> Result<CreationOptions, LineError>
+    ensures { IfOk result (SaysCreation (view line.now)) }
+{
     let options = object(line, "options")?;
     let rp = object(options, "rp")?;
+    let user = object(options, "user")?;
     let (resident, verification) = selection(options)?;
     Ok(CreationOptions {
         origin: String::from_str(alloc, text(line, "origin")?)?,
         rp_id: owned_text(alloc, rp, "id")?,
         rp_name: owned_text(alloc, rp, "name")?,
-        user: account_of(alloc, options)?,
+        user: account_of(alloc, user)?,
         challenge: bytes(alloc, options, "challenge")?,
         algorithms: algorithms(alloc, options)?,
         exclude: ids(alloc, list(options, "excludeCredentials")?)?,
@@ -239,7 +247,9 @@ fn allowed(alloc: Global, options: &Value) -> Result<Vec<Vec<u8>>, LineError> {
 }
 
 /// The options of a line's sign-in.
-pub(crate) fn request_options(alloc: Global, line: &Value) -> Result<RequestOptions, LineError> {
+pub(crate) fn request_options(alloc: Global, line: &Value) -> Result<RequestOptions, LineError>
+    ensures { IfOk result (SaysRequest (view line.now)) }
+{
     let options = object(line, "options")?;
     Ok(RequestOptions {
         origin: String::from_str(alloc, text(line, "origin")?)?,

@@ -1,5 +1,11 @@
 //! Reading a line.
 
+ghost use Rattle.std.specs.Prelude.{◌≡◌, ◌≤◌, IfOk, IsUtf8, Some, codes, length, string_bytes};
+ghost use Rattle.serde_json.specs.Read.{read};
+ghost use Rattle.serde_json.specs.View.{view};
+ghost use Rattle.client_lines.specs.Kinds.{kind_name};
+ghost use Rattle.client_lines.specs.Lines.{HasText, Reads, SaysAct, SaysAim};
+
 use crate::act::{Act, Aim, Begin, Further};
 use crate::acts::{Kind, check_members, kind_named};
 use crate::error::LineError;
@@ -27,12 +33,17 @@ pub(crate) struct LineFault {
 }
 
 /// A text of a line, in memory of its own.
-fn own_text(alloc: Global, line: &Value, name: &'static str) -> Result<String, LineError> {
+fn own_text(alloc: Global, line: &Value, name: &'static str) -> Result<String, LineError>
+    ensures { IfOk result (λ t. HasText name.now (view line.now) (string_bytes t)) }
+{
     Ok(String::from_str(alloc, text(line, name)?)?)
 }
 
 /// An act that is to begin.
-fn begin(alloc: Global, aim: Aim, line: &Value) -> Result<Act, LineError> {
+fn begin(alloc: Global, aim: Aim, line: &Value) -> Result<Act, LineError>
+    requires { SaysAim (view line.now) aim }
+    ensures { IfOk result (SaysAct (view line.now)) }
+{
     Ok(Act::Begin(Begin {
         aim,
         nonce: sized_bytes(alloc, line, "nonce")?,
@@ -41,7 +52,10 @@ fn begin(alloc: Global, aim: Aim, line: &Value) -> Result<Act, LineError> {
 }
 
 /// The act of this kind.
-fn act_of(alloc: Global, kind: Kind, line: &Value) -> Result<Act, LineError> {
+fn act_of(alloc: Global, kind: Kind, line: &Value) -> Result<Act, LineError>
+    requires { HasText (codes "act") (view line.now) (kind_name kind) }
+    ensures { IfOk result (SaysAct (view line.now)) }
+{
     match kind {
         Kind::Register => begin(alloc, Aim::Register(creation_options(alloc, line)?), line),
         Kind::SignIn => begin(alloc, Aim::SignIn(request_options(alloc, line)?), line),
@@ -64,7 +78,9 @@ fn act_of(alloc: Global, kind: Kind, line: &Value) -> Result<Act, LineError> {
 }
 
 /// What a line's object asks for.
-fn act_in(alloc: Global, line: &Value) -> Result<Act, LineError> {
+fn act_in(alloc: Global, line: &Value) -> Result<Act, LineError>
+    ensures { IfOk result (SaysAct (view line.now)) }
+{
     let Some(kind) = kind_named(text(line, "act")?) else {
         return Err(LineError::UnknownAct);
     };
@@ -73,7 +89,9 @@ fn act_in(alloc: Global, line: &Value) -> Result<Act, LineError> {
 }
 
 /// The object that a line is.
-fn object_of(alloc: Global, line: &[u8]) -> Result<Value, LineError> {
+fn object_of(alloc: Global, line: &[u8]) -> Result<Value, LineError>
+    ensures { IfOk result (λ d. (length line.now ≤ 65536) × IsUtf8 line.now × (read line.now ≡ Some (view d))) }
+{
     if line.len() > MAX_LINE {
         return Err(LineError::TooLong);
     }
@@ -89,7 +107,9 @@ fn object_of(alloc: Global, line: &[u8]) -> Result<Value, LineError> {
 
 /// Reads a line: at most `MAX_LINE` bytes of UTF-8, a JSON object with a number `id`, the name of an `act`, and the members
 /// that the act takes. Of a line that is not read the number is told too, where it is such an object.
-pub(crate) fn read_line(alloc: Global, line: &[u8]) -> Result<Line, LineFault> {
+pub(crate) fn read_line(alloc: Global, line: &[u8]) -> Result<Line, LineFault>
+    ensures { IfOk result (λ l. Reads line.now l.id l.act) }
+{
     let object = match object_of(alloc, line) {
         Ok(object) => object,
         Err(error) => return Err(LineFault { id: None, error }),

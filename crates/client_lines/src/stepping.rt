@@ -43,7 +43,7 @@ enum Next {
 
 /// What is next by this step.
 fn next_by(alloc: Global, knowledge: &Knowledge, step: Step<'_>) -> Result<Next, Refused>
-    ensures { IfOk result (λ n. IsNextBy step n) }
+    ensures { IfOk result (λ n. IsNextBy step.entry n) }
 {
     match step {
         Step::Sends(message) => Ok(Next::Sends(message)),
