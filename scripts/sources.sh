@@ -2,7 +2,7 @@
 # $top is the tree.
 
 # The programs that are handed out: the name in dist/, and the crate.
-programs=("passkey passkey_app" "passkey-site site_program" "softkey softkey")
+programs=("passkey passkey_app" "passkey-site site_program" "passkey-client client_program" "softkey softkey")
 
 # The lines of crates.txt of a crate and of those that it stands on, lowest first: crates_of NAME.
 crates_of() {

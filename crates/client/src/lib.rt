@@ -18,6 +18,7 @@ pub use asking::{assertion_request, creation_request};
 pub use error::{RequestError, ResponseError};
 pub use law::one_asking;
 pub use options::{CreationOptions, RequestOptions};
+pub use origin::check_origin;
 pub use outgoing::{Outgoing, next_request};
 pub use reading::{read_assertion, read_creation};
 pub use responses::{

@@ -14,6 +14,7 @@ pub use error::RequestError;
 pub use extensions::{
     AssertionExtensions, CreationExtensions, HmacSecret, assertion_extensions, creation_extensions,
 };
+pub use limits::option_value;
 pub use request::{
     GET_INFO, GET_NEXT_ASSERTION, GetAssertion, MakeCredential, Options, PinUvAuth, RelyingParty,
     User,

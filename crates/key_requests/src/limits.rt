@@ -1,6 +1,6 @@
 //! What a key told of itself (CTAP 2.1, section 6.4), and what is asked of it.
 
-ghost use Rattle.std.specs.Prelude.{◌≡◌, IfErr, OnOk, map, option_map, length};
+ghost use Rattle.std.specs.Prelude.{◌≡◌, IfErr, OnOk, map, option_and_then, option_map, length};
 ghost use Rattle.std.specs.Prelude as list;
 ghost use Rattle.std.specs.List.{list_any};
 ghost use Rattle.std.specs.Str.{bytes_eq};
@@ -30,14 +30,21 @@ fn value_of(options: &[(&str, bool)], name: &str) -> Option<bool>
     }
 }
 
+/// The value of an option as the key told it (CTAP 2.1, section 6.4): of `rk`, `clientPin`, `uv` and the others.
+pub fn option_value(info: &KeyInfo<'_>, name: &str) -> Option<bool>
+    ensures { result ≡ option_and_then (value_of name.now) (info_view info.now).options }
+{
+    match &info.options {
+        Some(options) => value_of(options, name),
+        None => None,
+    }
+}
+
 /// The option's value as it was told, or else its default.
 fn told_option(info: &KeyInfo<'_>, name: &str, default: bool) -> bool
     ensures { result ≡ told_option name.now default (info_view info.now) }
 {
-    let Some(options) = &info.options else {
-        return default;
-    };
-    match value_of(options, name) {
+    match option_value(info, name) {
         Some(value) => value,
         None => default,
     }

@@ -1,0 +1,56 @@
+//! Why a line has no effect.
+
+use std::alloc::{AllocError, AllocFailed};
+
+/// Why a line has no effect.
+#[derive(Clone, Copy, Debug, Drop, thiserror::Error)]
+pub enum LineError {
+    /// The line has more than `MAX_LINE` bytes.
+    #[error("the line is too long")]
+    TooLong,
+    /// The line is not UTF-8.
+    #[error("the line is not UTF-8")]
+    NotUtf8,
+    /// The line is no JSON object, or is nested too deep.
+    #[error("the line is no JSON object")]
+    NotAnObject,
+    /// The member `id` is no number from 0 to 2^64 - 1.
+    #[error("id is no number")]
+    BadId,
+    /// The member `act` names no act.
+    #[error("there is no such act")]
+    UnknownAct,
+    /// The act takes no member of a name that the line has.
+    #[error("the act has no such member")]
+    UnknownMember,
+    /// A member that is needed is missing.
+    #[error("{0} is missing")]
+    Missing(&'static str),
+    /// A member is of another kind or size, or its bytes are not in base64url without padding.
+    #[error("{0} is not in its form")]
+    BadForm(&'static str),
+    /// No act is under way.
+    #[error("no act is under way")]
+    NothingBegun,
+    /// The act that is under way waits for something else.
+    #[error("the act that is under way does not wait for this")]
+    NotAwaited,
+    /// The number is none of those that were told.
+    #[error("there is no credential of this number")]
+    NoSuchCredential,
+    /// There was no memory.
+    #[error("out of memory")]
+    Memory,
+}
+
+impl From<AllocError> for LineError {
+    fn from(_e: AllocError) -> LineError {
+        LineError::Memory
+    }
+}
+
+impl<T: Drop> From<AllocFailed<T>> for LineError {
+    fn from(_e: AllocFailed<T>) -> LineError {
+        LineError::Memory
+    }
+}

@@ -1,0 +1,77 @@
+//! The client: at most one act is under way.
+
+ghost use Rattle.std.specs.Prelude.{◌≡◌, None, IfOk, OnErr};
+ghost use Rattle.client_lines.specs.Acts.{CarriesOut};
+ghost use Rattle.client_lines.specs.declared.act.Act.TheVariants as acts;
+
+use crate::act::{Act, Begin, Further};
+use crate::answer::{Answer, Told};
+use crate::ceremony::Ceremony;
+use crate::error::LineError;
+use pin_protocols::Ask;
+use std::alloc::Global;
+
+/// A client of one security key, of which at most one act is under way.
+#[derive(Drop)]
+pub struct Client {
+    ceremony: Option<Ceremony>,
+}
+
+impl Client {
+    /// A client of which no act is under way.
+    pub fn new() -> Client
+        ensures { result.ceremony ≡ None }
+    {
+        Client { ceremony: None }
+    }
+
+    /// What the host is asked to compute.
+    pub(crate) fn asked(&self) -> Option<&Ask> {
+        match &self.ceremony {
+            Some(ceremony) => ceremony.asked(),
+            None => None,
+        }
+    }
+
+    /// Begins an act; what was under way is dropped.
+    fn begin(&mut self, alloc: Global, begin: Begin) -> Told
+        ensures { CarriesOut self.old (acts.Begin begin) result self.new }
+    {
+        match Ceremony::begin(alloc, begin) {
+            Ok((ceremony, told)) => {
+                self.ceremony = Some(ceremony);
+                told
+            }
+            Err(refused) => {
+                self.ceremony = None;
+                Told::quiet(alloc, Answer::Refused(refused))
+            }
+        }
+    }
+
+    /// Takes the act that is under way further.
+    fn further(&mut self, alloc: Global, further: Further) -> Result<Told, LineError>
+        ensures told { IfOk result (λ told. CarriesOut self.old (acts.Further further) told self.new) }
+        ensures unchanged { OnErr result (self.new ≡ self.old) }
+    {
+        let Some(ceremony) = &mut self.ceremony else {
+            return Err(LineError::NothingBegun);
+        };
+        let told = ceremony.take(alloc, further)?;
+        if told.answer.is_over() {
+            self.ceremony = None;
+        }
+        Ok(told)
+    }
+
+    /// Carries out what a line asks for.
+    pub(crate) fn carry_out(&mut self, alloc: Global, act: Act) -> Result<Told, LineError>
+        ensures told { IfOk result (λ told. CarriesOut self.old act told self.new) }
+        ensures unchanged { OnErr result (self.new ≡ self.old) }
+    {
+        match act {
+            Act::Begin(begin) => Ok(self.begin(alloc, begin)),
+            Act::Further(further) => self.further(alloc, further),
+        }
+    }
+}
