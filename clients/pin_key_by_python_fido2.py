@@ -300,7 +300,8 @@ def transport(number):
     other = packet(0xFFFFFFFF, 0x86, 0, 8, *range(8))[0]
     assert other[:15] == b"\xff\xff\xff\xff\x86\x00\x11" + bytes(range(8)) and other[15:19] != struct.pack(">I", own)
     assert said(packet(int.from_bytes(other[15:19], "big"), 0x90, 0, 1, 4)) == [(0xBF, 0x06)]
-    assert said(packet(own, 0x01)) == [(0xBF, 0x04)] and packet(own, 0x90, 0, 100) == [] and said(key.expire()) == [(0xBF, 0x05)]
+    assert said(packet(own, 0x01)) == [(0xBF, 0x04)] and packet(own, 0x00) == [] and packet(own, 0x90, 0, 100) == []
+    assert said(packet(own, 0x90, 0, 100)) == [(0xBF, 0x04)] and packet(own, 0x90, 0, 100) == [] and said(key.expire()) == [(0xBF, 0x05)]
     key.presence = None
     request = b"\x02" + cbor.encode({1: RP_ID, 2: bytes(32)})
     sends = PinKey.packets(own, 0x10, request)
