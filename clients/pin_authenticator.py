@@ -57,6 +57,7 @@ class Kind:
     max_credentials: int = 64
     pin_retries: int = 8
     uv_retries: int = 3
+    # what it sends while makeCredential and getAssertion are processed
     keepalives: tuple = ()
     firmware: Optional[int] = 5
     transports: Optional[tuple] = ("usb",)

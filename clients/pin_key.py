@@ -118,7 +118,7 @@ class PinKey(Authenticator):
             return self.error(channel, INVALID_COMMAND)
         self.heard.append(data)
         self.working = channel
-        before = [packet for status in self.kind.keepalives for packet in self.keepalive(status)]
+        before = [packet for status in self.kind.keepalives if data[:1] in (b"\x01", b"\x02") for packet in self.keepalive(status)]
         return before + self.asked(lambda: self.handled(data))
 
     # ---- requests

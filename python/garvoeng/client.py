@@ -15,7 +15,7 @@ import unicodedata
 from typing import Any, Callable, Dict, List, Mapping, Optional, Protocol, Sequence, Tuple, Union
 
 from . import client_host, forms
-from .client_program import PACKET, ClientFailed, Program, packets_of
+from .client_program import PACKET, ClientFailed, Program, no_answer, packets_of
 from .errors import BadInput
 from .hid import HidMissing, SecurityKey, security_keys
 
@@ -109,7 +109,7 @@ class Client:
         self._channel = b""
         self._is_under_way = False
         self._gives_up: Optional[str] = None
-        self._is_refused: Optional[ClientRefused] = None
+        self._failure: Optional[Exception] = None
         self._is_waiting = False
         self._is_touched = False
         self._until = 0.0
@@ -172,7 +172,9 @@ class Client:
             if not self.built_in or self._pin is None or refused.status not in _BUILT_IN_FAILED:
                 raise
             answer = self._called(act, state, seconds, built_in=False, **wanted)
-        response: Dict[str, Any] = answer["response"]
+        response = answer.get("response")
+        if not isinstance(response, dict):
+            raise no_answer()
         return response
 
     def _called(self, act: str, state: str, seconds: Optional[float] = None, **members: Any) -> Dict[str, Any]:
@@ -223,7 +225,7 @@ class Client:
             return "computed", {"bytes": self._computed(answer)}
         if state == "choose":
             return "choose", {"number": self._chosen(answer)}
-        raise ClientFailed("the program answered what is no answer")
+        raise no_answer()
 
     # ---- lines and packets
 
@@ -243,7 +245,7 @@ class Client:
         if answer["state"] == "refused":
             raise self._refusal(answer)
         if answer["state"] == "error":
-            raise BadInput(str(answer.get("text")))
+            raise BadInput(str(answer.get("text"))) if "nonce" in members else ClientFailed(f"the program: {answer.get('text')}")
         if self._gives_up is not None and packets and act != "cancel":
             self._say("cancel")
         return answer
@@ -256,8 +258,8 @@ class Client:
     def _heard(self) -> Dict[str, Any]:
         """What the program says to the key's next packet."""
         while True:
-            if self._is_refused is not None:
-                raise self._is_refused
+            if self._failure is not None:
+                raise self._failure
             left = self._until - time.monotonic()
             if left <= 0:
                 if self._gives_up is not None:
@@ -289,10 +291,8 @@ class Client:
             if self._is_waiting:
                 try:
                     self._say("cancel")
-                except ClientRefused as refused:
-                    self._is_refused = refused
-                except (KeyLost, ClientFailed):
-                    pass  # the call itself finds the same
+                except (ClientRefused, KeyLost, ClientFailed) as failure:
+                    self._failure = failure
 
     def _let_go(self) -> None:
         """After whatever ended a call: a key that works on it is told to give up, and what it says to that is read."""
@@ -324,7 +324,9 @@ class Client:
     def _chosen(self, answer: Dict[str, Any]) -> int:
         if self._choose is None:
             raise ClientRefused("choice_needed", "the key has several credentials, and there is nobody to choose")
-        listed = answer["credentials"]
+        listed = answer.get("credentials")
+        if not isinstance(listed, list):
+            raise no_answer()
         number = self._choose(listed)
         if number is None:
             raise ClientRefused("cancelled", "the user chose none")

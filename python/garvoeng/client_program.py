@@ -27,7 +27,8 @@ class ClientFailed(Exception):
     of the key is done or is not. The next call starts the program again."""
 
 
-def _no_answer() -> ClientFailed:
+def no_answer() -> ClientFailed:
+    """That an answer has not the members or the values of its kind."""
     return ClientFailed("the program answered what is no answer")
 
 
@@ -37,23 +38,22 @@ def packets_of(answer: Dict[str, Any]) -> List[bytes]:
     try:
         packets = [forms.from_text(one, "send") for one in sent]
     except (BadInput, TypeError):
-        raise _no_answer() from None
+        raise no_answer() from None
     if not isinstance(sent, list) or any(len(packet) != PACKET for packet in packets):
-        raise _no_answer()
+        raise no_answer()
     return packets
 
 
 class Program:
     """A run of the program. It is called by one thread at a time."""
 
-    def __init__(self, words: Sequence[str], timeout: float = ANSWER_SECONDS) -> None:
+    def __init__(self, words: Sequence[str]) -> None:
         try:
             self.process = subprocess.Popen(words, stdin=PIPE, stdout=PIPE, stderr=PIPE, bufsize=0, start_new_session=True)
         except OSError as error:
             raise ClientFailed(f"the program can't be started: {error}") from None
         assert self.process.stdin and self.process.stdout and self.process.stderr
         self.stdin, self.stdout, self.stderr = self.process.stdin, self.process.stdout, self.process.stderr
-        self.timeout = timeout
         self.numbers = itertools.count(1)
         self.unread = b""
         self.has_ended = False
@@ -88,26 +88,26 @@ class Program:
         try:
             answer = json.loads(self._line())
         except (ValueError, RecursionError):
-            raise _no_answer() from None
+            raise no_answer() from None
         if not isinstance(answer, dict) or answer.pop("id", None) not in (number, None) or not isinstance(answer.get("state"), str):
-            raise _no_answer()
+            raise no_answer()
         return answer
 
     def _line(self) -> bytes:
-        until = time.monotonic() + self.timeout
+        until = time.monotonic() + ANSWER_SECONDS
         while b"\n" not in self.unread:
             ready, _, _ = select.select([self.stdout], [], [], max(until - time.monotonic(), 0))
             if not ready:
-                raise ClientFailed(f"the program did not answer in {self.timeout:g} seconds")
+                raise ClientFailed(f"the program did not answer in {ANSWER_SECONDS:g} seconds")
             data = os.read(self.stdout.fileno(), 65_536)
             if not data:
                 raise self._ended()
             self.unread += data
             if len(self.unread) > MAX_ANSWER:
-                raise _no_answer()
+                raise no_answer()
         line, _, self.unread = self.unread.partition(b"\n")
         if self.unread:
-            raise _no_answer()
+            raise no_answer()
         return line
 
     def _ended(self) -> ClientFailed:
