@@ -148,7 +148,8 @@ class Authenticator:
         options = {"rk": kind.rk, "up": True}
         if kind.client_pin:
             options["clientPin"] = self.pin is not None
-        for name, value in (("uv", kind.uv), ("pinUvAuthToken", kind.token), ("alwaysUv", kind.always_uv), ("makeCredUvNotRqd", kind.uv_not_required)):
+        for name, value in (("uv", kind.uv), ("pinUvAuthToken", kind.token), ("alwaysUv", kind.always_uv),
+                            ("makeCredUvNotRqd", kind.uv_not_required)):
             if value is not None:
                 options[name] = value
         told = {1: list(kind.versions), 2: ["credProtect", "hmac-secret"], 3: self.aaguid, 4: options, 5: kind.max_message,
@@ -260,7 +261,7 @@ class Authenticator:
         self.touched((yield))
         self.used_up(by)
         made = self.new_credential(rp_id, user, alg, resident, extensions.get("credProtect", 1))
-        outputs = {name: value for name, value in (("credProtect", extensions.get("credProtect")), ("hmac-secret", extensions.get("hmac-secret"))) if value}
+        outputs = {name: extensions[name] for name in ("credProtect", "hmac-secret") if extensions.get(name)}
         data = self.auth_data(made, UP | AT | (UV if by else 0), outputs)
         statement = {"alg": alg, "sig": made.sign(data + client_data_hash)} if self.kind.packed else {}
         return {1: "packed" if self.kind.packed else "none", 2: data, 3: statement, **({99: ["unknown"]} if self.kind.unknown else {})}

@@ -80,7 +80,7 @@ class PinKey(Authenticator):
         if size != 8:
             return self.error(channel, INVALID_LENGTH)
         if channel == BROADCAST:
-            made = next(each for each in iter(lambda: int.from_bytes(os.urandom(4), "big"), None) if 0 < each < BROADCAST and each not in self.channels)
+            made = self.free_channel()
             self.channels.add(made)
         else:
             made = channel
@@ -89,6 +89,12 @@ class PinKey(Authenticator):
                 self.working = self.running = None
         capabilities = 0 if self.kind.u2f_only else 0x04 | 0x08
         return self.packets(channel, INIT, data[:8] + struct.pack(">IBBBBB", made, 2, 5, 4, 3, capabilities))
+
+    def free_channel(self):
+        made = 0
+        while made in (0, BROADCAST) or made in self.channels:
+            made = int.from_bytes(os.urandom(4), "big")
+        return made
 
     def continued(self, channel, place, data):
         if not self.coming or self.coming[0] != channel:

@@ -258,8 +258,9 @@ def protection(number):
     for level in (1, 2, 3):
         token = client.pin.get_pin_token(PIN, MC, RP_ID)
         user = {"id": bytes([level]), "name": "name"}
-        one = client.ctap.make_credential(hash, RP, user, ALG, None, {"credProtect": level, "hmac-secret": True}, {"rk": True}, client.param(token, hash), number)
-        assert one.auth_data.extensions == {"credProtect": level, "hmac-secret": True}
+        wanted = {"credProtect": level, "hmac-secret": True}
+        one = client.ctap.make_credential(hash, RP, user, ALG, None, wanted, {"rk": True}, client.param(token, hash), number)
+        assert one.auth_data.extensions == wanted
         made[level] = one.auth_data.credential_data
     assert len(client.sign_in(made[1], listed=False)) == 1
     assert len(client.sign_in(made[3], client.pin.get_pin_token(PIN, GA, RP_ID), listed=False)) == 3
@@ -274,7 +275,8 @@ def requests(number):
     ask = client.ctap.make_credential
     assert refused(ask, hash, RP, USER, ALG, listed) == 0x19 and refused(ask, hash, {"id": "other.example"}, USER, ALG, listed) is None
     assert refused(ask, hash, RP, USER, [{"type": "public-key", "alg": -257}]) == 0x26
-    assert refused(ask, hash, RP, USER, ALG, None, None, {"uv": True}) == 0x2C and refused(ask, hash, RP, USER, ALG, None, None, {"up": False}) == 0x2C
+    for options in ({"uv": True}, {"up": False}):
+        assert refused(ask, hash, RP, USER, ALG, None, None, options) == 0x2C
     assert refused(client.ctap.get_assertion, "none.example", hash) == 0x2E
     assert refused(client.ctap.get_assertion, RP_ID, hash, None, None, {"rk": True}) == 0x2B
     assert client.ctap.get_assertion(RP_ID, hash, None, None, {"up": False}).auth_data.flags == 0
@@ -329,8 +331,8 @@ def own_cbor(_):
 
 def main():
     passed = failed = 0
-    acts = (own_cbor, pins, policies, wrong_pins, counted_first, ceremonies, other_protocol, older_key, built_in, by_fido2_client, several, protection,
-            requests, transport)
+    acts = (own_cbor, pins, policies, wrong_pins, counted_first, ceremonies, other_protocol, older_key, built_in, by_fido2_client, several,
+            protection, requests, transport)
     for act in acts:
         for number in (1, 2):
             try:

@@ -76,18 +76,21 @@ def _pin_of(pin: Any) -> str:
 class Client:
     """A client for one key and the pages of one origin, as `https://example.com`.
 
-    `program` is the path of `passkey-client`, or the words that run it. `pin(retries, wrong)` asks the user for the PIN: without it
-    what wants a PIN is refused as `pin_needed`. `touch()` is called when the user is to touch the key, once for each time. `choose(credentials)`
-    asks which of several credentials is meant; without it several are refused as `choice_needed`. The three are called in the caller's
-    thread. With `built_in` false the key's own verification, as by a finger, is not used; where it fails a PIN is asked for. A call waits
-    for the key for `timeout` seconds in all, and not longer than the options' `timeout`, which is milliseconds; then the key is told to
-    give up, and it is refused as `timeout`. What the user takes for a PIN or a choice does not count.
+    `program` is the path of `passkey-client`, or the words that run it. `pin(retries, wrong)` asks the user for the PIN: `retries` is how
+    many attempts the key has left, or None, and `wrong` whether a PIN was just refused; without it what wants a PIN is refused as `pin_needed`.
+    `touch()` is called when the user is to touch the key, once for each time. `choose(credentials)` asks which of several credentials is
+    meant, by its place from 0; each has `id`, `user_id`, `user_name` and `display_name`. Without it several are refused as `choice_needed`. A
+    user who tells no PIN or no choice is None, and the call is refused as `cancelled`. The three are called in the caller's thread.
+
+    With `built_in` false the key's own verification, as by a finger, is not used; where it fails the PIN is asked for. A call waits for
+    the key for `timeout` seconds in all, and not longer than the options' `timeout`, which is milliseconds; then the key is told to give
+    up, and the call is refused as `timeout`. What the user takes for a PIN or a choice does not count.
 
     Calls of several threads come one after another. The key is lent: it is not closed. PINs are sent to the program and kept nowhere; no
     exception has one in its text.
 
-    Each call raises `ClientRefused`, `KeyLost`, `ClientFailed`, and `BadInput` of what is no value of JSON or longer than 65,536 bytes. Ctrl-C tells the key to give
-    up, and goes on as KeyboardInterrupt.
+    Each call raises `ClientRefused`, `KeyLost`, `ClientFailed`, and `BadInput` of what is no value of JSON or longer than 65,536 bytes.
+    Ctrl-C tells the key to give up, and goes on as KeyboardInterrupt.
     """
 
     def __init__(self, key: Key, origin: str, *, program: Union[str, Sequence[str]] = "passkey-client", pin: Optional[Pin] = None,
@@ -164,7 +167,7 @@ class Client:
             raise BadInput("options are an object of JSON")
         wanted: Dict[str, Any] = {"origin": self.origin, "options": dict(options)}
         limit: Any = options.get("timeout")
-        seconds = limit / 1000 if type(limit) in (int, float) else self.timeout
+        seconds = min(limit, 1_000_000_000) / 1000 if type(limit) in (int, float) else self.timeout
         state = "registered" if act == "register" else "signed_in"
         try:
             answer = self._called(act, state, seconds, built_in=self.built_in, **wanted)
@@ -197,7 +200,10 @@ class Client:
     def _begin(self, seconds: float) -> None:
         with self._speaking:
             self._forget()
-            if self._program is None or not self._program.is_running():
+            if self._program is not None and not self._program.is_running():
+                self._program.end(0)
+                self._program = None
+            if self._program is None:
                 self._program = Program(self._words)
             self._until = time.monotonic() + seconds
             self._is_under_way = True
@@ -235,13 +241,8 @@ class Client:
             assert self._program is not None
             answer = self._program.ask(act, **members)
             packets = packets_of(answer)
-            for packet in packets:
-                self._channel = packet[:4]
-                try:
-                    self.key.write(packet)
-                except OSError as error:
-                    raise KeyLost(f"the key is gone: {error}") from None
             self._is_waiting = answer["state"] in ("waits", "touch")
+            self._write(packets)
         if answer["state"] == "refused":
             raise self._refusal(answer)
         if answer["state"] == "error":
@@ -249,6 +250,14 @@ class Client:
         if self._gives_up is not None and packets and act != "cancel":
             self._say("cancel")
         return answer
+
+    def _write(self, packets: Sequence[bytes]) -> None:
+        for packet in packets:
+            self._channel = packet[:4]
+            try:
+                self.key.write(packet)
+            except OSError as error:
+                raise KeyLost(f"the key is gone: {error}") from None
 
     def _refusal(self, answer: Dict[str, Any]) -> ClientRefused:
         if answer.get("name") == "cancelled" and self._gives_up is not None:
