@@ -17,12 +17,12 @@ def test_a_client():
     ask = lambda retries, wrong: PIN
     told = []
     show = lambda: told.append("touch")
+    options, session = server.register_begin(user=b"account 7", user_name="name")
 
     with Client(key, "https://example.com", program=program, pin=ask, touch=show) as client:
-        options, session = server.register_begin(user=b"account 7", user_name="name")
-        registered = server.register_complete(session, client.create(options), is_registered=lambda id: id in table)
+        response = client.create(options)
+        registered = server.register_complete(session, response, is_registered=lambda id: id in table)
         table[registered.credential.id] = registered.credential
-
         options, session = server.authenticate_begin()
         signed_in = server.authenticate_complete(session, client.get(options), credential=table.get)
 
