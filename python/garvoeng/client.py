@@ -174,11 +174,18 @@ class Client:
         except ClientRefused as refused:
             if not self.built_in or self._pin is None or refused.status not in _BUILT_IN_FAILED:
                 raise
-            answer = self._called(act, state, seconds, built_in=False, **wanted)
+            answer = self._called_by_pin(refused, act, state, seconds, **wanted)
         response = answer.get("response")
         if not isinstance(response, dict):
             raise no_answer()
         return response
+
+    def _called_by_pin(self, refused: ClientRefused, act: str, *how: Any, **members: Any) -> Dict[str, Any]:
+        """The act once more, by the PIN. A key without one stays refused as it was."""
+        try:
+            return self._called(act, *how, built_in=False, **members)
+        except ClientRefused as again:
+            raise refused if again.name == "no_verification" else again from None
 
     def _called(self, act: str, state: str, seconds: Optional[float] = None, **members: Any) -> Dict[str, Any]:
         """The last answer of an act, which has this state."""
@@ -238,6 +245,8 @@ class Client:
     def _say(self, act: str, **members: Any) -> Dict[str, Any]:
         """A line, and the packets of its answer written to the key. Raises the refusal that it is."""
         with self._speaking:
+            if self._failure is not None:
+                raise self._failure
             assert self._program is not None
             answer = self._program.ask(act, **members)
             packets = packets_of(answer)

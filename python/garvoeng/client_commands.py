@@ -28,8 +28,13 @@ class _Wrong(Exception):
         super().__init__(text)
 
 
+def _plain(text: str) -> str:
+    """A text that a key may have told, without what moves a terminal."""
+    return "".join(one if one.isprintable() else "?" for one in text)
+
+
 def _tell(text: str) -> None:
-    print(text, file=sys.stderr, flush=True)
+    print(_plain(text), file=sys.stderr, flush=True)
 
 
 def _asked_pin(retries: Optional[int], wrong: bool) -> Optional[str]:
@@ -130,7 +135,7 @@ def _done(words: argparse.Namespace) -> Any:
         found = security_keys()
         if not found:
             raise _Wrong(3, "no security key is there")
-        return "\n".join(f"{one.path} {one.vendor:04x}:{one.product:04x} {one.name or ''}".rstrip() for one in found)
+        return "\n".join(f"{one.path} {one.vendor:04x}:{one.product:04x} {_plain(one.name or '')}".rstrip() for one in found)
     options = _options(words) if words.command in ("register", "sign-in") else {}
     with _key(words.key) as key, Client(key, getattr(words, "origin", ""), program=words.program, pin=_asked_pin, choose=_chosen,
                                         touch=lambda: _tell("Touch the key."), built_in=not words.no_built_in,

@@ -4,7 +4,6 @@ from __future__ import annotations
 import itertools
 import json
 import os
-import select
 import subprocess
 import time
 from subprocess import PIPE
@@ -13,6 +12,7 @@ from typing import Any, Dict, List, Sequence
 from . import forms
 from .broker import MAX_LINE
 from .errors import BadInput
+from .hid import is_ready
 
 PACKET = 64
 """How many bytes a packet has (CTAP 2.1, section 11.2.4)."""
@@ -96,8 +96,7 @@ class Program:
     def _line(self) -> bytes:
         until = time.monotonic() + ANSWER_SECONDS
         while b"\n" not in self.unread:
-            ready, _, _ = select.select([self.stdout], [], [], max(until - time.monotonic(), 0))
-            if not ready:
+            if not is_ready(self.stdout.fileno(), until - time.monotonic()):
                 raise ClientFailed(f"the program did not answer in {ANSWER_SECONDS:g} seconds")
             data = os.read(self.stdout.fileno(), 65_536)
             if not data:
@@ -112,8 +111,8 @@ class Program:
 
     def _ended(self) -> ClientFailed:
         """What it said last is the cause, where it said something."""
-        ready, _, _ = select.select([self.stderr], [], [], 1)
-        said = os.read(self.stderr.fileno(), 4_096).decode(errors="replace").strip().splitlines() if ready else []
+        told = os.read(self.stderr.fileno(), 4_096) if is_ready(self.stderr.fileno(), 1) else b""
+        said = told.decode(errors="replace").strip().splitlines()
         return ClientFailed(": ".join(["the program ended before it answered", *said[-1:]]))
 
     def is_running(self) -> bool:

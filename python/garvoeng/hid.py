@@ -10,6 +10,13 @@ REPORT = 64
 """How many bytes a packet has."""
 
 
+def is_ready(file: int, seconds: float) -> bool:
+    """Whether a file has something to read, or has ended, within so many seconds."""
+    waiting = select.poll()
+    waiting.register(file, select.POLLIN)
+    return bool(waiting.poll(max(seconds, 0) * 1000))
+
+
 class HidMissing(ImportError):
     """python-fido2 is not installed, by which keys are found."""
 
@@ -45,8 +52,7 @@ class SecurityKey:
     def read(self, timeout: float) -> bytes:
         """The next packet; TimeoutError where none comes in `timeout` seconds."""
         connection = self._opened()
-        ready, _, _ = select.select([connection.handle], [], [], timeout)
-        if not ready:
+        if not is_ready(connection.handle, timeout):
             raise TimeoutError("the key sent nothing")
         return bytes(connection.read_packet())
 

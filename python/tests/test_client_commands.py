@@ -37,7 +37,7 @@ for place, how in enumerate(json.loads(sys.argv[1])):
     keys.append(Plugged(PinKey(presence=presence, **how)))
     keys[-1].path = f"/dev/hidraw{{place}}"
     for number in range(users):
-        keys[-1].key.new_credential("example.com", {{"id": bytes([number]), "name": f"name {{number}}", "displayName": f"User {{number}}"}}, -7, True, 1)
+        keys[-1].key.new_credential("example.com", {{"id": bytes([number]), "name": f"name {{number}}", "displayName": f"User {{number}}\\x1b[2J"}}, -7, True, 1)
 client_commands.security_keys = lambda: keys
 status = client_commands.main(sys.argv[2:])
 if any(one.key.running for one in keys): print("the key still waits", file=sys.stderr)
@@ -112,7 +112,7 @@ def test_signs_in_at_a_terminal():
     terminal.sees("PIN of the key")
     terminal.types(PIN + "\n")
     shown = terminal.sees("Which one, 1 to 2? ")
-    assert "1: User 1" in shown and "2: User 0" in shown
+    assert "1: User 1?[2J" in shown and "2: User 0?[2J" in shown
     terminal.types("2\n")
     status, output, _ = terminal.ends()
     assert status == 0 and json.loads(output)["response"]["userHandle"] == "AA"
