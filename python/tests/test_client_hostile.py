@@ -418,6 +418,29 @@ def test_threads_of_cancel():
     assert ends <= {("accepted", ""), ("ClientRefused", "cancelled")} and len(ends) == 2
 
 
+def test_cancelled_between_a_packet_and_its_line():
+    """After each packet that the key sent, before the program is told it."""
+    key, cable, site = plugged()
+    read, place = cable.read, 0
+    with site.client as one:
+        how = None
+        while how != ("accepted", ""):
+            place += 1
+            rest = [place]
+
+            def cancelling(timeout, rest=rest):
+                packet = read(timeout)
+                rest[0] -= 1
+                if rest[0] == 0:
+                    one.cancel()
+                return packet
+
+            cable.read = cancelling
+            how = ended(site.register)
+            assert how in (("accepted", ""), ("ClientRefused", "cancelled")) and key.running is None
+        assert place > 5 and site.register().user_verified
+
+
 def test_wrong_pins_stand_nowhere(monkeypatch, caplog):
     lines = Lines(monkeypatch)
     _, _, site = plugged(how={"pin": lambda retries, wrong: WRONG + "secret"})
