@@ -52,6 +52,8 @@ class Kind:
     algorithms: tuple = (ES256, EDDSA)
     packed: bool = False
     u2f_only: bool = False
+    # what INIT tells: 0x04 CTAPHID_CBOR, 0x08 no CTAPHID_MSG
+    capabilities: int = 0x0C
     unknown: bool = False
     leaves_out_credential: bool = False
     max_credentials: int = 64

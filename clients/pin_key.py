@@ -87,8 +87,7 @@ class PinKey(Authenticator):
             self.coming = None if self.coming and self.coming[0] == channel else self.coming
             if self.working == channel:
                 self.working = self.running = None
-        capabilities = 0 if self.kind.u2f_only else 0x04 | 0x08
-        return self.packets(channel, INIT, data[:8] + struct.pack(">IBBBBB", made, 2, 5, 4, 3, capabilities))
+        return self.packets(channel, INIT, data[:8] + struct.pack(">IBBBBB", made, 2, 5, 4, 3, self.kind.capabilities))
 
     def free_channel(self):
         made = 0

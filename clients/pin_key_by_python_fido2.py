@@ -310,7 +310,7 @@ def transport(number):
     assert [said(key.packet(each)) for each in sends] == [[(0xBB, 2)]] and said(key.keepalive()) == [(0xBB, 2)]
     assert said(packet(own, 0x91, 0, 0)) == [(0x90, 0x2D)] and packet(own, 0x91, 0, 0) == []
     assert said(key.packet(sends[0])) == [(0xBB, 2)] and said(key.touch()) == [(0x90, 0x2E)] and key.touch() == []
-    u2f = PinKey(u2f_only=True)
+    u2f = PinKey(u2f_only=True, capabilities=0)
     opened = u2f.packet(b"\xff\xff\xff\xff\x86\x00\x08".ljust(64, b"\0"))[0]
     assert opened[23] == 0 and said(u2f.packet(opened[15:19] + b"\x90\x00\x01\x04".ljust(60, b"\0"))) == [(0xBF, 0x01)]
 

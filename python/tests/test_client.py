@@ -75,7 +75,7 @@ def test_wrong_pins(kind):
     key, cable, site = plugged(**kind, how={"pin": lambda retries, wrong: asked.append((retries, wrong)) or WRONG})
     with site.client:
         for left in (8, 5):
-            assert refused(site.register) == ("power_cycle", 0x34)
+            assert refused(site.register)[0] == "power_cycle"
             assert asked == [(left, False), (left - 1, True), (left - 2, True)]
             asked.clear()
             assert refused(site.register)[0] == "power_cycle"
@@ -83,7 +83,7 @@ def test_wrong_pins(kind):
             assert asked == ([] if kind["token"] else [(left - 3, False)])
             asked.clear()
             key.power_cycle()
-        assert refused(site.register) == ("pin_blocked", 0x32) and asked == [(2, False), (1, True)]
+        assert refused(site.register)[0] == "pin_blocked" and asked == [(2, False), (1, True)]
         for _ in range(2):
             assert refused(site.register)[0] == "pin_blocked" and len(asked) == 2
             key.power_cycle()
@@ -110,8 +110,8 @@ def test_sets_and_changes_pins(kind, monkeypatch):
     key, _, site = plugged(None, **kind, how={"pin": lambda retries, wrong: pins.pop(0)})
     with site.client as one:
         assert refused(one.change_pin, OTHER)[0] == "pin_not_set" and one.information()["options"]["clientPin"] is False
-        for short, long in ((WRONG[:3], "é" * 32),):
-            assert {refused(one.set_pin, short)[0], refused(one.set_pin, long)[0]} == {"pin"} and key.pin is None
+        for wrong, name in ((WRONG[:3], "pin_too_short"), ("é" * 32, "pin_too_long"), ("1234\0", "pin_ends_in_zero")):
+            assert refused(one.set_pin, wrong)[0] == name and key.pin is None
         one.set_pin(PIN)
         assert key.pin == pin_hash(PIN) and refused(one.set_pin, OTHER)[0] == "pin_already_set"
         pins[:] = [PIN, WRONG, PIN, OTHER]
@@ -129,7 +129,7 @@ def test_policies():
     key, _, site = plugged(None, min_pin_length=6)
     with site.client as one:
         assert one.information()["min_pin_length"] == 6
-        assert refused(one.set_pin, "12345")[0] == "pin"
+        assert refused(one.set_pin, "12345")[0] == "pin_too_short"
         one.set_pin("é" * 6)
         assert key.pin == pin_hash("é" * 6)
     for value in (None, 1234, b"1234", "\udc80234"):
@@ -266,11 +266,15 @@ def test_keys_that_can_not():
         _, _, site = plugged(pin, **kind, how={"pin": asked})
         with site.client:
             assert refused(site.register, user_verification=pin is not None)[0] == name, kind
+    # A key that tells by its capabilities that it has no CTAPHID_CBOR.
+    _, _, site = plugged(u2f_only=True, capabilities=0, how={"timeout": 0.3})
+    with site.client as one:
+        assert refused(one.information)[0] in ("u2f_only", "timeout")
     _, _, site = plugged(None, max_list=2, max_id=64, max_message=None)
     with site.client:
         ids = [b"x" * 64, b"y", b"z"]
-        assert refused(site.sign_in, allow=ids, user_verification=False)[0] == "request"
-        assert refused(site.sign_in, allow=[b"x" * 65], user_verification=False)[0] == "request"
+        assert refused(site.sign_in, allow=ids, user_verification=False)[0] == "list_too_long"
+        assert refused(site.sign_in, allow=[b"x" * 65], user_verification=False)[0] == "id_too_long"
         assert refused(site.sign_in, allow=ids[:2], user_verification=False)[0] == "status"
 
 
