@@ -389,18 +389,26 @@ def test_calls_of_threads_come_one_after_another():
     assert len({one.credential.id for one in done}) == 8
 
 
+def memory(process):
+    """The memory of a process in kB."""
+    told = dict(line.split(":", 1) for line in Path(f"/proc/{process.pid}/status").read_text().splitlines())
+    return int(told["VmRSS"].split()[0])
+
+
 def test_many():
-    """Ceremonies by one program: each is answered, verified, and the key and the count are right."""
+    """CEREMONIES by one program, half of them sign-ins: each is verified, and the program's memory stays as it is after the first ones."""
     key, _, site = plugged(protocols=(2, 1), max_credentials=1)
     with site.client as one:
-        first = None
+        one.information()
+        process = one._program.process
         for number in range(CEREMONIES // 2):
             made = site.register()
             assert site.sign_in(allow=[made.credential.id]).credential.sign_count == 1
-            first = first or one._program.process.pid
             del site.table[made.credential.id]
-        assert one._program.process.pid == first
-    assert len(key.heard) >= CEREMONIES * 3
+            if number == 10:
+                before = memory(process)
+        assert one._program.process is process and memory(process) < before + 1024
+    assert len(key.heard) >= CEREMONIES * 5
 
 
 class SoftkeyCable:
