@@ -10,6 +10,7 @@ import traceback
 import pytest
 from client_keys import ORIGIN, PIN, RP_ID, WRONG, Lines, Site, client_of, pin_hash, plugged
 from pin_key import Cable, PinKey
+from pin_key_parts import write
 from test_client import User, refused
 
 from garvoeng import BadInput, Refused, Server, client, client_host, client_program
@@ -58,6 +59,13 @@ class Turned:
         return self.count, max(0.05, 3 * (time.monotonic() - began))
 
 
+def fresh(key):
+    """The key after a power cycle, with all attempts at its PIN."""
+    key.power_cycle()
+    key.retries = 8
+    key.heard.clear()
+
+
 @pytest.mark.parametrize("act", ["register", "sign_in"])
 @pytest.mark.parametrize("by", [0x01, 0xFF])
 def test_each_byte_turned(act, by, soon, monkeypatch):
@@ -72,20 +80,20 @@ def test_each_byte_turned(act, by, soon, monkeypatch):
         found = {}
         for place in range(64 * count):
             turn.count, turn.place, turn.by = 0, place, by
-            key.power_cycle()
-            key.retries, key.wrong_in_a_row = 8, 0
-            key.heard.clear()
+            fresh(key)
             lines.kept.clear()
             how = ended(call)
             found.setdefault(how, []).append(place)
             lines.tell_no(PIN.encode(), pin_hash(PIN), *[protocol.token for protocol in key.protocols.values()])
             assert all(PIN.encode() not in message and pin_hash(PIN) not in message for message in key.heard)
-        turn.place = None
+        fresh(key)
+        turn.place, one.timeout = None, 10.0
         assert ended(call) == ("accepted", "")
     assert {name for name, _ in found} <= {"accepted", "ClientRefused", "Refused"}, found.keys()
     assert {name for how, name in found if how == "ClientRefused"} >= {"timeout", "channel_dead", "not_readable"}, found.keys()
     kept = {one.id: one for one in key.credentials.values()}
-    assert all(row.id in kept and row.user == kept[row.id].user["id"] for row in site.table.values())
+    for row in site.table.values():
+        assert row.user == kept[row.id].user["id"] and row.cose_key == write(kept[row.id].cose_key())
     # Which is what is not signed: padding, what getInfo tells beside what decides, and the token where another one is as good.
     assert len(found[("accepted", "")]) < 64 * count // 2
 
