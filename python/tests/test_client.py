@@ -232,6 +232,32 @@ def test_several_credentials():
         assert refused(site.sign_in)[0] == "choice_needed"
 
 
+def test_extensions():
+    """What is asked for reaches the key, and what it is told comes back."""
+    key, _, site = plugged()
+    with site.client as one:
+        for wanted, results, level in (({}, {}, 1), ({"credProps": True}, {"credProps": {"rk": True}}, 1), ({"credentialProtectionPolicy": 3}, {}, 3),
+                                       ({"credentialProtectionPolicy": "userVerificationOptionalWithCredentialIDList", "prf": {}}, {}, 2),
+                                       ({"hmacCreateSecret": True, "minPinLength": True}, {}, 1)):
+            options, session = site.server.register_begin(USER, "alex", user_verification=True, extensions=wanted)
+            response = one.create(options)
+            assert response["clientExtensionResults"] == results and response["authenticatorAttachment"] == "cross-platform"
+            made = site.server.register_complete(session, response, is_registered=lambda _: False).credential
+            assert key.credentials[made.id].protection == level
+
+
+def test_an_rp_id_that_is_left_out():
+    """It is the origin's host."""
+    key, _, site = plugged(None)
+    with site.client as one:
+        made = one.create({"challenge": "AAAA", "rp": {"name": "Example"}, "user": {"id": "AQ", "name": "alex", "displayName": "Alex"},
+                           "pubKeyCredParams": [{"type": "public-key", "alg": -7}], "authenticatorSelection": {"userVerification": "discouraged"}})
+        (credential,) = key.credentials.values()
+        assert credential.rp_id == "login.example.com" == ORIGIN[8:] and not credential.resident and made["id"] == to_text(credential.id)
+        allow = [{"type": "public-key", "id": made["id"]}]
+        assert one.get({"challenge": "AAAA", "userVerification": "discouraged", "allowCredentials": allow})["id"] == made["id"]
+
+
 def test_excluded_and_none():
     key, _, site = plugged()
     with site.client:
