@@ -2,7 +2,7 @@
 (CTAP 2.1, sections 6.1 to 6.5)."""
 import os
 import struct
-from dataclasses import dataclass, field
+from dataclasses import dataclass
 from typing import Optional
 
 from cryptography.hazmat.primitives import hashes, serialization
@@ -75,7 +75,7 @@ class Credential:
     resident: bool
     protection: int
     count: int = 0
-    order: int = field(default=0)
+    order: int = 0
 
     def cose_key(self):
         public = self.key.public_key()
