@@ -2,7 +2,7 @@
 (CTAP 2.1, sections 6.1 to 6.5)."""
 import os
 import struct
-from dataclasses import dataclass, field
+from dataclasses import dataclass
 from typing import Optional
 
 from cryptography.hazmat.primitives import hashes, serialization
@@ -52,11 +52,14 @@ class Kind:
     algorithms: tuple = (ES256, EDDSA)
     packed: bool = False
     u2f_only: bool = False
+    # what INIT tells: 0x04 CTAPHID_CBOR, 0x08 no CTAPHID_MSG
+    capabilities: int = 0x0C
     unknown: bool = False
     leaves_out_credential: bool = False
     max_credentials: int = 64
     pin_retries: int = 8
     uv_retries: int = 3
+    # what it sends while makeCredential and getAssertion are processed
     keepalives: tuple = ()
     firmware: Optional[int] = 5
     transports: Optional[tuple] = ("usb",)
@@ -72,7 +75,7 @@ class Credential:
     resident: bool
     protection: int
     count: int = 0
-    order: int = field(default=0)
+    order: int = 0
 
     def cose_key(self):
         public = self.key.public_key()
@@ -147,7 +150,8 @@ class Authenticator:
         options = {"rk": kind.rk, "up": True}
         if kind.client_pin:
             options["clientPin"] = self.pin is not None
-        for name, value in (("uv", kind.uv), ("pinUvAuthToken", kind.token), ("alwaysUv", kind.always_uv), ("makeCredUvNotRqd", kind.uv_not_required)):
+        for name, value in (("uv", kind.uv), ("pinUvAuthToken", kind.token), ("alwaysUv", kind.always_uv),
+                            ("makeCredUvNotRqd", kind.uv_not_required)):
             if value is not None:
                 options[name] = value
         told = {1: list(kind.versions), 2: ["credProtect", "hmac-secret"], 3: self.aaguid, 4: options, 5: kind.max_message,
@@ -259,7 +263,7 @@ class Authenticator:
         self.touched((yield))
         self.used_up(by)
         made = self.new_credential(rp_id, user, alg, resident, extensions.get("credProtect", 1))
-        outputs = {name: value for name, value in (("credProtect", extensions.get("credProtect")), ("hmac-secret", extensions.get("hmac-secret"))) if value}
+        outputs = {name: extensions[name] for name in ("credProtect", "hmac-secret") if extensions.get(name)}
         data = self.auth_data(made, UP | AT | (UV if by else 0), outputs)
         statement = {"alg": alg, "sig": made.sign(data + client_data_hash)} if self.kind.packed else {}
         return {1: "packed" if self.kind.packed else "none", 2: data, 3: statement, **({99: ["unknown"]} if self.kind.unknown else {})}

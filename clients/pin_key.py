@@ -10,7 +10,7 @@ from pin_key_parts import write
 
 MAX_MESSAGE, BROADCAST = 7609, 0xFFFFFFFF
 PING, MSG, INIT, CBOR, CANCEL, KEEPALIVE, ERROR = 0x01, 0x03, 0x06, 0x10, 0x11, 0x3B, 0x3F
-PROCESSING, UPNEEDED = 1, 2
+UPNEEDED = 2
 INVALID_COMMAND, INVALID_LENGTH, INVALID_SEQ, MSG_TIMEOUT, CHANNEL_BUSY, INVALID_CHANNEL = 1, 3, 4, 5, 6, 0x0B
 __all__ = ["Cable", "Kind", "PinKey"]
 
@@ -80,15 +80,20 @@ class PinKey(Authenticator):
         if size != 8:
             return self.error(channel, INVALID_LENGTH)
         if channel == BROADCAST:
-            made = next(each for each in iter(lambda: int.from_bytes(os.urandom(4), "big"), None) if 0 < each < BROADCAST and each not in self.channels)
+            made = self.free_channel()
             self.channels.add(made)
         else:
             made = channel
             self.coming = None if self.coming and self.coming[0] == channel else self.coming
             if self.working == channel:
                 self.working = self.running = None
-        capabilities = 0 if self.kind.u2f_only else 0x04 | 0x08
-        return self.packets(channel, INIT, data[:8] + struct.pack(">IBBBBB", made, 2, 5, 4, 3, capabilities))
+        return self.packets(channel, INIT, data[:8] + struct.pack(">IBBBBB", made, 2, 5, 4, 3, self.kind.capabilities))
+
+    def free_channel(self):
+        made = 0
+        while made in (0, BROADCAST) or made in self.channels:
+            made = int.from_bytes(os.urandom(4), "big")
+        return made
 
     def continued(self, channel, place, data):
         if not self.coming or self.coming[0] != channel:
@@ -118,7 +123,7 @@ class PinKey(Authenticator):
             return self.error(channel, INVALID_COMMAND)
         self.heard.append(data)
         self.working = channel
-        before = [packet for status in self.kind.keepalives for packet in self.keepalive(status)]
+        before = [packet for status in self.kind.keepalives if data[:1] in (b"\x01", b"\x02") for packet in self.keepalive(status)]
         return before + self.asked(lambda: self.handled(data))
 
     # ---- requests

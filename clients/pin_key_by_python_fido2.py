@@ -258,8 +258,9 @@ def protection(number):
     for level in (1, 2, 3):
         token = client.pin.get_pin_token(PIN, MC, RP_ID)
         user = {"id": bytes([level]), "name": "name"}
-        one = client.ctap.make_credential(hash, RP, user, ALG, None, {"credProtect": level, "hmac-secret": True}, {"rk": True}, client.param(token, hash), number)
-        assert one.auth_data.extensions == {"credProtect": level, "hmac-secret": True}
+        wanted = {"credProtect": level, "hmac-secret": True}
+        one = client.ctap.make_credential(hash, RP, user, ALG, None, wanted, {"rk": True}, client.param(token, hash), number)
+        assert one.auth_data.extensions == wanted
         made[level] = one.auth_data.credential_data
     assert len(client.sign_in(made[1], listed=False)) == 1
     assert len(client.sign_in(made[3], client.pin.get_pin_token(PIN, GA, RP_ID), listed=False)) == 3
@@ -274,7 +275,8 @@ def requests(number):
     ask = client.ctap.make_credential
     assert refused(ask, hash, RP, USER, ALG, listed) == 0x19 and refused(ask, hash, {"id": "other.example"}, USER, ALG, listed) is None
     assert refused(ask, hash, RP, USER, [{"type": "public-key", "alg": -257}]) == 0x26
-    assert refused(ask, hash, RP, USER, ALG, None, None, {"uv": True}) == 0x2C and refused(ask, hash, RP, USER, ALG, None, None, {"up": False}) == 0x2C
+    for options in ({"uv": True}, {"up": False}):
+        assert refused(ask, hash, RP, USER, ALG, None, None, options) == 0x2C
     assert refused(client.ctap.get_assertion, "none.example", hash) == 0x2E
     assert refused(client.ctap.get_assertion, RP_ID, hash, None, None, {"rk": True}) == 0x2B
     assert client.ctap.get_assertion(RP_ID, hash, None, None, {"up": False}).auth_data.flags == 0
@@ -300,14 +302,15 @@ def transport(number):
     other = packet(0xFFFFFFFF, 0x86, 0, 8, *range(8))[0]
     assert other[:15] == b"\xff\xff\xff\xff\x86\x00\x11" + bytes(range(8)) and other[15:19] != struct.pack(">I", own)
     assert said(packet(int.from_bytes(other[15:19], "big"), 0x90, 0, 1, 4)) == [(0xBF, 0x06)]
-    assert said(packet(own, 0x01)) == [(0xBF, 0x04)] and packet(own, 0x90, 0, 100) == [] and said(key.expire()) == [(0xBF, 0x05)]
+    assert said(packet(own, 0x01)) == [(0xBF, 0x04)] and packet(own, 0x00) == [] and packet(own, 0x90, 0, 100) == []
+    assert said(packet(own, 0x90, 0, 100)) == [(0xBF, 0x04)] and packet(own, 0x90, 0, 100) == [] and said(key.expire()) == [(0xBF, 0x05)]
     key.presence = None
     request = b"\x02" + cbor.encode({1: RP_ID, 2: bytes(32)})
     sends = PinKey.packets(own, 0x10, request)
     assert [said(key.packet(each)) for each in sends] == [[(0xBB, 2)]] and said(key.keepalive()) == [(0xBB, 2)]
     assert said(packet(own, 0x91, 0, 0)) == [(0x90, 0x2D)] and packet(own, 0x91, 0, 0) == []
     assert said(key.packet(sends[0])) == [(0xBB, 2)] and said(key.touch()) == [(0x90, 0x2E)] and key.touch() == []
-    u2f = PinKey(u2f_only=True)
+    u2f = PinKey(u2f_only=True, capabilities=0)
     opened = u2f.packet(b"\xff\xff\xff\xff\x86\x00\x08".ljust(64, b"\0"))[0]
     assert opened[23] == 0 and said(u2f.packet(opened[15:19] + b"\x90\x00\x01\x04".ljust(60, b"\0"))) == [(0xBF, 0x01)]
 
@@ -328,8 +331,8 @@ def own_cbor(_):
 
 def main():
     passed = failed = 0
-    acts = (own_cbor, pins, policies, wrong_pins, counted_first, ceremonies, other_protocol, older_key, built_in, by_fido2_client, several, protection,
-            requests, transport)
+    acts = (own_cbor, pins, policies, wrong_pins, counted_first, ceremonies, other_protocol, older_key, built_in, by_fido2_client, several,
+            protection, requests, transport)
     for act in acts:
         for number in (1, 2):
             try:

@@ -8,7 +8,7 @@ HEAD = "<!-- ./dev pages writes this page from the sources. -->\n"
 MODULES = {
     "garvoeng": ("server", "stored", "records", "errors", "library", "limits"),
     "garvoeng.sql": ("sql",), "garvoeng.flask": ("flask",), "garvoeng.django": ("django/__init__", "django/backends", "django/models"),
-    "garvoeng.forms": ("forms",), "garvoeng.move": ("move",), "garvoeng.signatures": ("signatures",),
+    "garvoeng.client": ("client", "client_program", "hid"), "garvoeng.forms": ("forms",), "garvoeng.move": ("move",), "garvoeng.signatures": ("signatures",),
 }
 
 
@@ -62,17 +62,22 @@ def of_module(folder, name, names):
             yield f"### `{signature(node)}`\n\n{docstring(node)}\n"
 
 
+def listed_in(file):
+    """The names that a module lists as its own, or None."""
+    return next((ast.literal_eval(node.value) for node in ast.parse(file.read_text()).body
+                 if isinstance(node, ast.Assign) and getattr(node.targets[0], "id", "") == "__all__"), None)
+
+
 def reference(top):
     """The page. What has no docstring is told on standard error, and fails."""
     folder = top / "python" / "garvoeng"
-    listed = next(ast.literal_eval(node.value) for node in ast.parse((folder / "__init__.py").read_text()).body
-                  if isinstance(node, ast.Assign) and node.targets[0].id == "__all__")
     out = [HEAD, "# The package for Python\n", "[`python/README.md`](../python/README.md) says how to begin.\n"]
     for module, files in MODULES.items():
         out.append(f"## `{module}`\n")
-        out.append(docstring(ast.parse((folder / (files[0] if module.count('.') else '__init__')).with_suffix(".py").read_text())) + "\n")
+        first = (folder / (files[0] if module.count('.') else '__init__')).with_suffix(".py")
+        out.append(docstring(ast.parse(first.read_text())) + "\n")
         for file in files:
-            out += of_module(folder, file, listed if module == "garvoeng" else None)
+            out += of_module(folder, file, listed_in(first))
     page = re.sub(r"\n{3,}", "\n\n", "\n".join(out))
     bare = re.findall(r"^### `(.*)`\n\n\n", "\n".join(out), re.M)
     if bare:
