@@ -112,6 +112,29 @@ test("options are those of Server, and the session is of what they ask", async (
   await server.close();
 });
 
+test("Level 3: the second of two pages that may frame, conditional registrations, statements, the open profile", async () => {
+  const pages = ["https://one.example", "https://two.example"], frame = { crossOrigin: true, topOrigin: pages[1] };
+  async function registers(server, device, how, made) {
+    const { options, session } = await server.registerBegin(user, "name", how);
+    return server.registerComplete(session, device.register(options, made));
+  }
+  for (const [index, [how, step]] of [[{}, "G17"], [{ topOrigins: pages.slice(0, 1) }, "G18"], [{ topOrigins: pages }, null], [{ profile: "open" }, null]].entries()) {
+    const server = serving(`frames${index}.db`, how), framed = Object.assign(new Device(EDDSA), { said: frame });
+    const call = registers(server, framed);
+    await (step === null ? call : assert.rejects(call, { name: step }));
+    const alone = new Device(EDDSA, { id: Buffer.from("alone") }), unseen = { flags: AT }, isOpen = how.profile === "open";
+    await assert.rejects(registers(server, alone, {}, unseen), { name: "G9" });
+    const waived = registers(server, alone, { conditional: true }, unseen);
+    await (isOpen ? assert.rejects(waived, { name: "G9" }) : waived);
+    const wrong = Object.assign(new Device(EDDSA, { id: Buffer.from("wrong") }), { sign: () => Buffer.alloc(64) });
+    const unlooked = registers(server, wrong, {}, { isPacked: true });
+    await (isOpen ? assert.rejects(unlooked, { name: "G13" }) : unlooked);
+    wrong.id = Buffer.from("other");
+    await assert.rejects(registers(server, wrong, { attestation: "direct" }, { isPacked: true }), { name: "G13" });
+    await server.close();
+  }
+});
+
 test("what the server takes", async () => {
   for (const [name, how, isPacked, wanted] of [["none", { acceptSelf: false }, true, "G14"], ["self", { acceptNone: false }, false, "G14"], ["strict", { profile: "strict" }, null, "G7"]]) {
     const server = serving(`${name}.db`, how), device = new Device(EDDSA), { options, session } = await server.registerBegin(user, "name", { attestation: "direct" });

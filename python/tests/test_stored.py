@@ -18,6 +18,8 @@ from garvoeng.sql import SqlServer
 
 PROGRAM = os.environ.get("PROGRAM", str(Path(__file__).parents[2] / "dist" / "passkey-site"))
 USER, ORIGIN = b"account 7", "https://example.com"
+# credProtect, as the authenticator tells it
+OUTPUTS = bytes.fromhex("a16b6372656450726f7465637402")
 
 
 def stored(path, **how):
@@ -222,3 +224,43 @@ def test_a_program_that_does_not_answer(tmp_path):
     asyncio.run(acts())
     with suppress(StoreFailed):
         server.close()
+
+
+def test_level_3_over_the_program(tmp_path):
+    """The second of two pages that may frame, presence at a conditional registration, statements, and the other profiles."""
+    def refusal(call, *words, **how):
+        with pytest.raises(Refused) as refused:
+            call(*words, **how)
+        return refused.value.name
+
+    def registers(site, device, begin=None, **made):
+        options, session = site.register_begin(USER, "name", **(begin or {}))
+        return site.register_complete(session, device.register(options, **made))
+
+    pages = ("https://one.example", "https://two.example")
+    for number, (top_origins, step) in enumerate((((), "G17"), (pages[:1], "G18"), (pages, None))):
+        (tmp_path / str(number)).mkdir()
+        with stored(tmp_path / str(number), top_origins=top_origins) as site:
+            framed = Device(credential=b"framed")
+            framed.said = {"crossOrigin": True, "topOrigin": pages[1]}
+            if step is None:
+                registers(site, framed)
+            else:
+                assert refusal(registers, site, framed) == step
+            alone = Device(credential=b"alone")
+            assert refusal(registers, site, alone, flags=AT) == "G9"
+            assert registers(site, alone, {"conditional": True}, flags=AT).flags == AT
+            wrong = Device(credential=b"wrong")
+            assert registers(site, wrong, packed=True, message=b"another").format == "packed"
+            other = Device(credential=b"other")
+            assert refusal(registers, site, other, {"attestation": "direct"}, packed=True, message=b"another") == "G13"
+    for profile, step in (("strict", "G7"), ("open", None)):
+        (tmp_path / profile).mkdir()
+        with stored(tmp_path / profile, profile=profile) as site:
+            framed = Device()
+            framed.said = {"crossOrigin": True, "topOrigin": pages[1]}
+            if step is None:
+                registers(site, framed, flags=UP | UV | AT | ED, outputs=OUTPUTS)
+            else:
+                assert refusal(registers, site, framed, flags=UP | UV | AT | ED, outputs=OUTPUTS) == step
+                registers(site, framed)
