@@ -77,6 +77,10 @@ pub record Begins (begin : Begin) (new : Ceremony) (told : Told) : Type 0 where
   pub facts : knowledge_facts new.knowledge ≡ record { replies = []; pin = None; answers = []; built_in = begin.built_in; chosen = None }
   pub sent : told.send.items ≡ frame_list CTAPHID_BROADCAST_CID CTAPHID_INIT begin.nonce
 
+-- the act that is under way is taken further
+abbrev pub Takes : Client → Further → Told → Client → Type 0
+Takes old further told new = (c : Ceremony) × (old.ceremony ≡ Some c) × (d : Ceremony) × TakesFurther c further told d × (new.ceremony ≡ Some d)
+
 -- What is done of an act. One that begins stands in place of the one that was under way, or is refused; one that is under
 -- way is taken further, and ends or goes on.
 abbrev pub CarriesOut : Client → Act → Told → Client → Type 0

@@ -3,13 +3,14 @@
 ghost use Rattle.std.specs.Prelude.{◌≡◌, ◌++◌, [], ◌∷◌, IfOk, List};
 ghost use Rattle.hidframe.specs.declared.Packet.{Packet};
 ghost use Rattle.hidframe.specs.Frames.{TheZeroFrames};
+ghost use Rattle.hidlink.specs.Feeds.{CollectorAnswers};
 ghost use Rattle.hidlink.specs.Wire.{Got};
 ghost use Rattle.client_lines.specs.Packets.{IsCarried};
 
 use crate::refused::Refused;
 use hidframe::ctaphid::{CTAPHID_CANCEL, CTAPHID_CBOR, CTAPHID_KEEPALIVE, STATUS_UPNEEDED};
 use hidframe::{Head, Packet, frame};
-use hidlink::{Collector, Outcome};
+use hidlink::{Collector, Ended, Outcome};
 use std::alloc::{AllocError, Global};
 use std::marker::Model;
 
@@ -65,6 +66,24 @@ fn keepalive(cid: u32, packet: &Packet) -> Fed
     }
 }
 
+/// What the collector's answer to a packet says.
+#[tactic(auto, using(crate::proofs::Packets::carried_reply))]
+fn said(
+    alloc: Global,
+    cid: u32,
+    packet: &Packet,
+    came: Result<Outcome<'_>, Ended>,
+) -> Result<Fed, Refused>
+    ensures { (ps : List Packet) → CollectorAnswers cid ps packet.now came.entry → IfOk result (IsCarried cid (ps ++ packet.now ∷ [])) }
+{
+    match came {
+        Ok(Outcome::More) => Ok(keepalive(cid, packet)),
+        Ok(Outcome::Reply(message)) => Ok(Fed::Reply(Vec::from_slice(alloc, message)?)),
+        Ok(Outcome::DeviceError(code)) => Err(Refused::DeviceError(code)),
+        Ok(Outcome::Dead(_)) | Err(_) => Err(Refused::ChannelDead),
+    }
+}
+
 impl Channel {
     /// The channel of this number.
     pub(crate) fn new(alloc: Global, cid: u32) -> Result<Channel, AllocError>
@@ -107,11 +126,7 @@ impl Channel {
         ensures channel { self.new.cid ≡ self.old.cid }
         ensures got { (ps : List Packet) → Got self.old.cid ps self.old.shown → Got self.old.cid (ps ++ packet.now ∷ []) self.new.shown }
     {
-        match self.collector.feed(packet) {
-            Ok(Outcome::More) => Ok(keepalive(self.cid, packet)),
-            Ok(Outcome::Reply(message)) => Ok(Fed::Reply(Vec::from_slice(alloc, message)?)),
-            Ok(Outcome::DeviceError(code)) => Err(Refused::DeviceError(code)),
-            Ok(Outcome::Dead(_)) | Err(_) => Err(Refused::ChannelDead),
-        }
+        let came = self.collector.feed(packet);
+        said(alloc, self.cid, packet, came)
     }
 }

@@ -1,6 +1,6 @@
 //! What an act knows, and what it wishes for.
 
-ghost use Rattle.std.specs.Prelude.{◌≡◌, IfOk, map, option_map, string_bytes};
+ghost use Rattle.std.specs.Prelude.{◌≡◌, [], IfOk, None, map, option_map, string_bytes};
 ghost use Rattle.key_client.specs.Facts.{facts};
 ghost use Rattle.client_lines.specs.Knowing.{Forgets, IsWishOf, knowledge_facts};
 ghost use Rattle.client_lines.specs.declared.purpose.Purpose.TheVariants as purposes;
@@ -107,7 +107,11 @@ pub(crate) fn asserting<'a>(sign_in: &'a SignIn, allow: &'a [&'a [u8]]) -> Wish<
 
 impl Knowledge {
     /// Nothing yet.
-    pub(crate) fn new(alloc: Global, purpose: Purpose, built_in: bool) -> Knowledge {
+    pub(crate) fn new(alloc: Global, purpose: Purpose, built_in: bool) -> Knowledge
+        ensures purpose { result.purpose ≡ purpose }
+        ensures facts { knowledge_facts result
+            ≡ record { replies = []; pin = None; answers = []; built_in = built_in; chosen = None } }
+    {
         Knowledge {
             purpose,
             built_in,

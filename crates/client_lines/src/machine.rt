@@ -1,7 +1,7 @@
 //! The client: at most one act is under way.
 
-ghost use Rattle.std.specs.Prelude.{◌≡◌, None, IfOk, OnErr};
-ghost use Rattle.client_lines.specs.Acts.{CarriesOut};
+ghost use Rattle.std.specs.Prelude.{◌≡◌, ◌⊎◌, None, IfOk, OnErr};
+ghost use Rattle.client_lines.specs.Acts.{CarriesOut, Takes};
 ghost use Rattle.client_lines.specs.declared.act.Act.TheVariants as acts;
 
 use crate::act::{Act, Begin, Further};
@@ -50,17 +50,32 @@ impl Client {
     }
 
     /// Takes the act that is under way further.
+    fn take(&mut self, alloc: Global, further: Further) -> Result<Told, LineError>
+        ensures told { IfOk result (λ told. Takes self.old further told self.new) }
+        ensures unchanged { OnErr result (self.new ≡ self.old) }
+    {
+        match &mut self.ceremony {
+            Some(ceremony) => ceremony.take(alloc, further),
+            None => Err(LineError::NothingBegun),
+        }
+    }
+
+    /// Ends the act that is under way, where it is over.
+    fn end(&mut self, is_over: bool)
+        ensures { (self.new.ceremony ≡ self.old.ceremony) ⊎ (self.new.ceremony ≡ None) }
+    {
+        if is_over {
+            self.ceremony = None;
+        }
+    }
+
+    /// The same, and ends it where it is over.
     fn further(&mut self, alloc: Global, further: Further) -> Result<Told, LineError>
         ensures told { IfOk result (λ told. CarriesOut self.old (acts.Further further) told self.new) }
         ensures unchanged { OnErr result (self.new ≡ self.old) }
     {
-        let Some(ceremony) = &mut self.ceremony else {
-            return Err(LineError::NothingBegun);
-        };
-        let told = ceremony.take(alloc, further)?;
-        if told.answer.is_over() {
-            self.ceremony = None;
-        }
+        let told = self.take(alloc, further)?;
+        self.end(told.answer.is_over());
         Ok(told)
     }
 
