@@ -55,7 +55,8 @@ class ClientRefused(Exception):
     has: `u2f_only`, `no_verification`, `no_protocol`, `option_not_offered`, `list_too_long`, `id_too_long`, `message_too_long`. Of what it
     sent: `status` (it refused by `status`, a byte of CTAP 2.1, section 8.2: 0x19, it has a credential of the excluded; 0x27, the user
     declined; 0x2E, it has no credential for this), `not_readable`, `bad_point`, `bad_token`, `device_error`, `channel_dead`,
-    `too_many_replies`. Of the host: `memory`, `bad_answer`. `status` is None of other names."""
+    `too_many_replies`. Of the host: `memory`, `bad_answer`. Of other names `status` is None, but of a
+    `cancelled` that the key said by itself."""
 
     def __init__(self, name: str, text: str, status: Optional[int] = None) -> None:
         self.name, self.text, self.status = name, text, status
