@@ -47,9 +47,16 @@ class Key(Protocol):
 
 
 class ClientRefused(Exception):
-    """The key or the client refuses: `name` says why in one word, `text` in a sentence. `status` is the key's status byte (CTAP 2.1,
-    section 8.2), or None. Of this package are the names `pin_needed`, `choice_needed`, `bad_point`, `timeout` and, as of the program too,
-    `cancelled`; the program's page has all others."""
+    """The key, the client or the user refuses: `name` says why in one word, `text` in a sentence.
+
+    Before anything is sent: `bad_origin`, `rp_id_not_of_origin`, `unfit` (no key can be asked for these options). Of the user: `cancelled`,
+    `timeout`, `pin_needed`, `choice_needed`. Of PINs: `pin_blocked` (the key has to be reset), `power_cycle` (it has to be plugged in anew),
+    `pin_not_set`, `pin_already_set`, `pin_not_offered`, `pin_too_short`, `pin_too_long`, `pin_ends_in_zero`, `pin_invalid`. Of what the key
+    has: `u2f_only`, `no_verification`, `no_protocol`, `option_not_offered`, `list_too_long`, `id_too_long`, `message_too_long`. Of what it
+    sent: `status` (it refused by `status`, a byte of CTAP 2.1, section 8.2: 0x19, it has a credential of the excluded; 0x27, the user
+    declined; 0x2E, it has no credential for this), `not_readable`, `bad_point`, `bad_token`, `device_error`, `channel_dead`,
+    `too_many_replies`. Of the host: `memory`, `bad_answer`. Of other names `status` is None, but of a
+    `cancelled` that the key said by itself."""
 
     def __init__(self, name: str, text: str, status: Optional[int] = None) -> None:
         self.name, self.text, self.status = name, text, status
