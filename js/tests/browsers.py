@@ -221,9 +221,17 @@ def visits(opened, site, port):
     opened.without(key)
 
 
+def name_of(pid):
+    """The name of a process, or none where it has ended."""
+    try:
+        return Path(f"/proc/{pid}/comm").read_text()
+    except (FileNotFoundError, ProcessLookupError):
+        return ""
+
+
 def workers_of(primary):
     children = Path(f"/proc/{primary.pid}/task/{primary.pid}/children").read_text().split()
-    return [int(pid) for pid in children if Path(f"/proc/{pid}/comm").read_text().startswith("node")]
+    return [int(pid) for pid in children if name_of(pid).startswith("node")]
 
 
 def kills(primary, ends, killed):
