@@ -1,0 +1,9 @@
+pub mod Facts
+pub mod Refusals
+pub mod Names
+pub mod Way
+pub mod Exchanges
+pub mod Tokens
+pub mod Commands
+pub mod Ceremonies
+pub mod Pieces

@@ -1,5 +1,8 @@
 //! Where a ceremony halts.
 
+ghost use Rattle.std.specs.Prelude.{◌≡◌};
+ghost use Rattle.key_client.specs.Refusals.{stopped};
+
 use crate::refusal::Refusal;
 use crate::step::Step;
 use key_requests::RequestError;
@@ -15,7 +18,9 @@ pub(crate) enum Halt<'a> {
 }
 
 /// The halt of a call that stops after so many messages.
-pub(crate) fn stopped<'a>(sent: usize, stop: Stop) -> Halt<'a> {
+pub(crate) fn stopped<'a>(sent: usize, stop: Stop) -> Halt<'a>
+    ensures { result ≡ stopped sent stop }
+{
     match stop {
         Stop::Memory => Halt::Refuses(Refusal::Memory),
         Stop::Asks(ask) => Halt::Steps(sent, Step::Asks(ask)),

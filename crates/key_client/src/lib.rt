@@ -11,9 +11,10 @@ mod pin_setting;
 mod refusal;
 mod replies;
 mod step;
-mod told;
 mod tokens;
+mod told;
 mod verified;
+mod verifying;
 mod way;
 mod wish;
 

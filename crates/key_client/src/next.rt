@@ -1,5 +1,10 @@
 //! The next step.
 
+ghost use Rattle.std.specs.Prelude.{IfErr, IfOk};
+ghost use Rattle.key_client.specs.Ceremonies.{HaltsAt, IsNext, IsRefusal};
+ghost use Rattle.key_client.specs.Facts.{facts};
+ghost use Rattle.key_client.specs.Pieces.{OrMemory};
+
 use crate::assertions::sign_in;
 use crate::commands::registration;
 use crate::halt::Halt;
@@ -11,7 +16,9 @@ use crate::wish::{Known, Wish};
 use std::alloc::Global;
 
 /// Where the ceremony halts.
-fn ceremony<'a>(alloc: Global, wish: &Wish<'a>, known: &Known<'a>) -> Halt<'a> {
+fn ceremony<'a>(alloc: Global, wish: &Wish<'a>, known: &Known<'a>) -> Halt<'a>
+    ensures { OrMemory (HaltsAt wish.now (facts known.now)) result }
+{
     let info = match information(alloc, known) {
         Ok(info) => info,
         Err(halt) => return halt,
@@ -30,11 +37,10 @@ fn ceremony<'a>(alloc: Global, wish: &Wish<'a>, known: &Known<'a>) -> Halt<'a> {
 ///
 /// In order: getInfo; of a registration or a sign-in the user's verification, the command and what follows it; of a
 /// new PIN the key agreement and the request that sets it. To change a PIN, getPINRetries and the old one come first.
-pub fn next_step<'a>(
-    alloc: Global,
-    wish: &Wish<'a>,
-    known: &Known<'a>,
-) -> Result<Step<'a>, Refusal> {
+pub fn next_step<'a>(alloc: Global, wish: &Wish<'a>, known: &Known<'a>) -> Result<Step<'a>, Refusal>
+    ensures step { IfOk result (IsNext wish.now (facts known.now)) }
+    ensures refused { IfErr result (IsRefusal wish.now (facts known.now)) }
+{
     match ceremony(alloc, wish, known) {
         Halt::Steps(sent, step) => {
             if sent < known.replies.len() {

@@ -1,6 +1,8 @@
 //! Why a ceremony ends without what was wanted.
 
 ghost use Rattle.std.specs.Prelude.{◌≡◌};
+ghost use Rattle.key_client.specs.Names.{pin_name, refusal_name, request_name};
+ghost use Rattle.key_client.specs.Refusals.{of_reply, of_request, of_status};
 ghost use Rattle.key_client.specs.declared.refusal.Refusal.TheVariants as refusals;
 
 use ctap_status::Error;
@@ -72,7 +74,9 @@ pub enum Refusal {
 
 impl Refusal {
     /// The refusal's name in lines. Of a PIN's fault and of a request that is not written it is that of the cause.
-    pub fn name(&self) -> &'static str {
+    pub fn name(&self) -> &'static str
+        ensures { result.now ≡ refusal_name self.now }
+    {
         match self {
             Refusal::Memory => "memory",
             Refusal::Status(_) => "status",
@@ -97,7 +101,9 @@ impl Refusal {
     }
 }
 
-fn pin_name(fault: PinFault) -> &'static str {
+fn pin_name(fault: PinFault) -> &'static str
+    ensures { result.now ≡ pin_name fault }
+{
     match fault {
         PinFault::TooShort => "pin_too_short",
         PinFault::TooLong => "pin_too_long",
@@ -105,7 +111,9 @@ fn pin_name(fault: PinFault) -> &'static str {
     }
 }
 
-fn request_name(error: RequestError) -> &'static str {
+fn request_name(error: RequestError) -> &'static str
+    ensures { result.now ≡ request_name error }
+{
     match error {
         RequestError::Memory => "memory",
         RequestError::OptionNotOffered => "option_not_offered",
@@ -117,7 +125,9 @@ fn request_name(error: RequestError) -> &'static str {
 }
 
 /// The refusal of a status that is not 0.
-fn of_status(status: u8) -> Refusal {
+fn of_status(status: u8) -> Refusal
+    ensures { result ≡ of_status status }
+{
     match status {
         0x31 => Refusal::PinInvalid,
         0x32 => Refusal::PinBlocked,
@@ -127,16 +137,22 @@ fn of_status(status: u8) -> Refusal {
 }
 
 /// The refusal of a reply that tells nothing.
-pub(crate) fn of_reply(error: Error) -> Refusal {
+pub(crate) fn of_reply(error: Error) -> Refusal
+    ensures { result ≡ of_reply error }
+{
     match error {
         Error::Memory => Refusal::Memory,
         Error::Refused(status) => of_status(status),
-        _ => Refusal::NotReadable,
+        Error::Unfit | Error::NotCanonical | Error::Shape | Error::Empty | Error::Status(_) => {
+            Refusal::NotReadable
+        }
     }
 }
 
 /// The refusal of a request that is not written.
-pub(crate) fn of_request(error: RequestError) -> Refusal {
+pub(crate) fn of_request(error: RequestError) -> Refusal
+    ensures { result ≡ of_request error }
+{
     match error {
         RequestError::Memory => Refusal::Memory,
         _ => Refusal::Request(error),

@@ -1,5 +1,19 @@
 //! Messages and their replies.
 
+ghost use Rattle.std.specs.Prelude.{◌≡◌, ◌∷◌, [], true, IfOk, IfErr, None, Some, slice_get};
+ghost use Rattle.key_replies.specs.Replies.{IsReply, TellsInfo};
+ghost use Rattle.key_replies.specs.ReplyView.{info_view};
+ghost use Rattle.pin_messages.specs.CommandView.{command_view, point_view};
+ghost use Rattle.pin_messages.specs.Replies.{TellsPin};
+ghost use Rattle.pin_messages.specs.ReplyView.{reply_view};
+ghost use Rattle.key_client.specs.Ceremonies.{GetsInfo, HasInfo, NoInfo};
+ghost use Rattle.key_client.specs.Exchanges.{Told, Unread, Untold};
+ghost use Rattle.key_client.specs.Facts.{facts};
+ghost use Rattle.key_client.specs.Pieces.{OrMemory, OrNoRoom};
+ghost use Rattle.key_client.specs.Tokens.{Asking, HasPin, HasPoint, HasRetries, IsPointOf, NoBytes, NoPin, NoPoint, NoPointOf, NoRetries, PinTold, PinUntold, is_true, none_left, retries_fault};
+ghost use Rattle.key_client.specs.declared.halt.Halt.TheVariants as halts;
+ghost use Rattle.key_client.specs.declared.step.Step.TheVariants as steps;
+
 use crate::halt::Halt;
 use crate::refusal::{Refusal, of_reply};
 use crate::step::Step;
@@ -13,7 +27,9 @@ use pin_protocols::Protocol;
 use std::alloc::{AllocError, Global};
 
 /// The message of a command byte alone.
-pub(crate) fn bare(alloc: Global, command: u8) -> Result<Vec<u8>, AllocError> {
+pub(crate) fn bare(alloc: Global, command: u8) -> Result<Vec<u8>, AllocError>
+    ensures { IfOk result (λ m. m.items ≡ command ∷ []) }
+{
     let mut message = Vec::new(alloc);
     message.push(command)?;
     Ok(message)
@@ -24,15 +40,32 @@ pub(crate) fn reply_to<'a>(
     known: &Known<'a>,
     place: usize,
     message: Vec<u8>,
-) -> Result<&'a [u8], Halt<'a>> {
+) -> Result<&'a [u8], Halt<'a>>
+    ensures replied { IfOk result (λ r. slice_get (facts known.now).replies place ≡ Some r.now) }
+    ensures sends { IfErr result (λ h. (slice_get (facts known.now).replies place ≡ None) × (h ≡ halts.Steps place (steps.Sends message))) }
+{
     match known.replies.get(place) {
         Some(reply) => Ok(reply.as_slice()),
         None => Err(Halt::Steps(place, Step::Sends(message))),
     }
 }
 
-/// What the key told of itself (CTAP 2.1, section 6.4).
-pub(crate) fn information<'a>(alloc: Global, known: &Known<'a>) -> Result<KeyInfo<'a>, Halt<'a>> {
+/// What a reply to getInfo tells.
+fn info_reply<'a>(alloc: Global, reply: &'a [u8]) -> Result<KeyInfo<'a>, Refusal>
+    ensures told { IfOk result (λ info. IsReply TellsInfo (info_view info) reply.now) }
+    ensures unread { IfErr result (Unread TellsInfo reply.now) }
+{
+    match read_info(alloc, reply) {
+        Ok(info) => Ok(info),
+        Err(e) => Err(of_reply(e)),
+    }
+}
+
+/// What the key told to getInfo.
+fn info_told<'a>(alloc: Global, known: &Known<'a>) -> Result<KeyInfo<'a>, Halt<'a>>
+    ensures told { IfOk result (λ info. Told (facts known.now) 0 GetsInfo TellsInfo (info_view info)) }
+    ensures halts { IfErr result (OrMemory (Untold (facts known.now) 0 GetsInfo TellsInfo)) }
+{
     let message = match bare(alloc, GET_INFO) {
         Ok(message) => message,
         Err(_) => return Err(Halt::Refuses(Refusal::Memory)),
@@ -41,20 +74,32 @@ pub(crate) fn information<'a>(alloc: Global, known: &Known<'a>) -> Result<KeyInf
         Ok(reply) => reply,
         Err(halt) => return Err(halt),
     };
-    match read_info(alloc, reply) {
-        Ok(info) => {
-            if is_fido2(&info) {
-                Ok(info)
-            } else {
-                Err(Halt::Refuses(Refusal::U2fOnly))
-            }
-        }
-        Err(e) => Err(Halt::Refuses(of_reply(e))),
+    match info_reply(alloc, reply) {
+        Ok(info) => Ok(info),
+        Err(refusal) => Err(Halt::Refuses(refusal)),
     }
 }
 
+/// What the key told of itself (CTAP 2.1, section 6.4), where it has a version of CTAP 2.
+pub(crate) fn information<'a>(alloc: Global, known: &Known<'a>) -> Result<KeyInfo<'a>, Halt<'a>>
+    ensures info { IfOk result (λ info. HasInfo (facts known.now) (info_view info)) }
+    ensures halts { IfErr result (OrMemory (NoInfo (facts known.now))) }
+{
+    let info = match info_told(alloc, known) {
+        Ok(info) => info,
+        Err(halt) => return Err(halt),
+    };
+    if !is_fido2(&info) {
+        return Err(Halt::Refuses(Refusal::U2fOnly));
+    }
+    Ok(info)
+}
+
 /// What a reply to clientPIN tells.
-pub(crate) fn pin_reply<'a>(reply: &'a [u8]) -> Result<PinReply<'a>, Refusal> {
+pub(crate) fn pin_reply<'a>(reply: &'a [u8]) -> Result<PinReply<'a>, Refusal>
+    ensures told { IfOk result (λ t. IsReply TellsPin (reply_view t) reply.now) }
+    ensures unread { IfErr result (Unread TellsPin reply.now) }
+{
     match read_pin_reply(reply) {
         Ok(told) => Ok(told),
         Err(e) => Err(of_reply(e)),
@@ -66,7 +111,10 @@ fn pin_message(
     alloc: Global,
     protocol: Protocol,
     command: &PinCommand<'_>,
-) -> Result<Vec<u8>, Refusal> {
+) -> Result<Vec<u8>, Refusal>
+    ensures written { IfOk result (λ m. Asking protocol (command_view command.now) m.items) }
+    ensures none { IfErr result (OrNoRoom (NoBytes protocol (command_view command.now))) }
+{
     match write_pin(alloc, protocol.number(), command) {
         Ok(message) => Ok(message),
         Err(Error::Unfit) => Err(Refusal::Request(RequestError::Unfit)),
@@ -75,13 +123,16 @@ fn pin_message(
 }
 
 /// What is told to a subcommand, before which so many messages are sent.
-fn told<'a>(
+fn pin_told<'a>(
     alloc: Global,
     known: &Known<'a>,
     place: usize,
     protocol: Protocol,
     command: &PinCommand<'_>,
-) -> Result<PinReply<'a>, Halt<'a>> {
+) -> Result<PinReply<'a>, Halt<'a>>
+    ensures told { IfOk result (λ t. PinTold (facts known.now) place protocol (command_view command.now) (reply_view t)) }
+    ensures halts { IfErr result (OrMemory (PinUntold (facts known.now) place protocol (command_view command.now))) }
+{
     let message = match pin_message(alloc, protocol, command) {
         Ok(message) => message,
         Err(refusal) => return Err(Halt::Refuses(refusal)),
@@ -96,12 +147,32 @@ fn told<'a>(
     }
 }
 
+fn none_left(retries: Option<u64>) -> bool
+    ensures { result ≡ none_left retries }
+{
+    match retries {
+        Some(left) => left == 0,
+        None => false,
+    }
+}
+
+fn is_true(told: Option<bool>) -> bool
+    ensures { result ≡ is_true told }
+{
+    match told {
+        Some(told) => told,
+        None => false,
+    }
+}
+
 /// Why no PIN is asked for.
-fn retries_fault(told: &PinReply<'_>) -> Option<Refusal> {
-    if matches!(told.pin_retries, Some(0)) {
+fn retries_fault(told: &PinReply<'_>) -> Option<Refusal>
+    ensures { result ≡ retries_fault (reply_view told.now) }
+{
+    if none_left(told.pin_retries) {
         return Some(Refusal::PinBlocked);
     }
-    if matches!(told.power_cycle, Some(true)) {
+    if is_true(told.power_cycle) {
         return Some(Refusal::PowerCycle);
     }
     None
@@ -112,8 +183,11 @@ fn retries<'a>(
     alloc: Global,
     known: &Known<'a>,
     protocol: Protocol,
-) -> Result<Option<u64>, Halt<'a>> {
-    let told = match told(alloc, known, 1, protocol, &PinCommand::PinRetries) {
+) -> Result<Option<u64>, Halt<'a>>
+    ensures left { IfOk result (HasRetries (facts known.now) protocol) }
+    ensures halts { IfErr result (OrMemory (NoRetries (facts known.now) protocol)) }
+{
+    let told = match pin_told(alloc, known, 1, protocol, &PinCommand::PinRetries) {
         Ok(told) => told,
         Err(halt) => return Err(halt),
     };
@@ -128,7 +202,10 @@ pub(crate) fn user_pin<'a>(
     alloc: Global,
     known: &Known<'a>,
     protocol: Protocol,
-) -> Result<&'a str, Halt<'a>> {
+) -> Result<&'a str, Halt<'a>>
+    ensures pin { IfOk result (λ pin. HasPin (facts known.now) protocol pin.now) }
+    ensures halts { IfErr result (OrMemory (NoPin (facts known.now) protocol)) }
+{
     let retries = match retries(alloc, known, protocol) {
         Ok(retries) => retries,
         Err(halt) => return Err(halt),
@@ -140,9 +217,13 @@ pub(crate) fn user_pin<'a>(
 }
 
 /// The key's point.
-fn point_of<'a>(told: &PinReply<'a>) -> Result<Point<'a>, Refusal> {
-    let Some(key) = told.key else {
-        return Err(Refusal::NotReadable);
+fn point_of<'a>(told: &PinReply<'a>) -> Result<Point<'a>, Refusal>
+    ensures point { IfOk result (λ p. IsPointOf (reply_view told.now) (point_view p)) }
+    ensures none { IfErr result (NoPointOf (reply_view told.now)) }
+{
+    let key = match told.key {
+        Some(key) => key,
+        None => return Err(Refusal::NotReadable),
     };
     match key.point() {
         Some(point) => Ok(point),
@@ -156,8 +237,11 @@ pub(crate) fn agreement<'a>(
     known: &Known<'a>,
     place: usize,
     protocol: Protocol,
-) -> Result<Point<'a>, Halt<'a>> {
-    let told = match told(alloc, known, place, protocol, &PinCommand::KeyAgreement) {
+) -> Result<Point<'a>, Halt<'a>>
+    ensures point { IfOk result (λ p. HasPoint (facts known.now) place protocol (point_view p)) }
+    ensures halts { IfErr result (OrMemory (NoPoint (facts known.now) place protocol)) }
+{
+    let told = match pin_told(alloc, known, place, protocol, &PinCommand::KeyAgreement) {
         Ok(told) => told,
         Err(halt) => return Err(halt),
     };

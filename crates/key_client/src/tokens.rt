@@ -1,22 +1,62 @@
 //! PIN/UV auth tokens (CTAP 2.1, section 6.5.5.7).
 
+ghost use Rattle.std.specs.Prelude.{◌≡◌, ◌<◌, IfOk, IfErr, option_map};
+ghost use Rattle.pin_messages.specs.CommandView.{point_view};
+ghost use Rattle.pin_messages.specs.ReplyView.{reply_view};
+ghost use Rattle.pin_messages.specs.Replies.{TellsPin};
+ghost use Rattle.pin_protocols.specs.FlowView.{scope_view};
+ghost use Rattle.key_client.specs.Exchanges.{Told, Untold};
+ghost use Rattle.key_client.specs.Facts.{facts};
+ghost use Rattle.key_client.specs.Pieces.{OrMemory};
+ghost use Rattle.key_client.specs.Tokens.{ByPin, ByUv, HasToken, HasTokenByPin, HasTokenByUv, NoTokenByPin, NoTokenByUv, NoTokenOf, NotAskedByPin, NotAskedByUv, TokenIn, Unopened};
+
 use crate::halt::{Halt, stopped};
 use crate::refusal::Refusal;
 use crate::replies::{agreement, pin_reply, reply_to, user_pin};
 use crate::wish::Known;
-use pin_messages::Point;
+use pin_messages::{PinReply, Point};
 use pin_protocols::{Protocol, Scope, pin_uv_auth_token, token_request, uv_token_request};
 use std::alloc::Global;
 
-/// The token of a reply, encrypted.
-fn token_of<'a>(reply: &'a [u8]) -> Result<&'a [u8], Refusal> {
-    let told = match pin_reply(reply) {
-        Ok(told) => told,
-        Err(refusal) => return Err(refusal),
+/// What the key told to this request, before which so many messages are sent.
+fn token_told<'a>(
+    known: &Known<'a>,
+    place: usize,
+    request: Vec<u8>,
+) -> Result<PinReply<'a>, Halt<'a>>
+    ensures told { IfOk result (λ t. Told (facts known.now) place (λ m. m ≡ request.items) TellsPin (reply_view t)) }
+    ensures halts { IfErr result (OrMemory (Untold (facts known.now) place (λ m. m ≡ request.items) TellsPin)) }
+{
+    let reply = match reply_to(known, place, request) {
+        Ok(reply) => reply,
+        Err(halt) => return Err(halt),
     };
-    match told.token {
-        Some(token) => Ok(token),
-        None => Err(Refusal::NotReadable),
+    match pin_reply(reply) {
+        Ok(told) => Ok(told),
+        Err(refusal) => Err(Halt::Refuses(refusal)),
+    }
+}
+
+/// The token of a reply, decrypted, after so many messages and that one.
+fn token_of<'a>(
+    alloc: Global,
+    known: &Known<'a>,
+    place: usize,
+    protocol: Protocol,
+    peer: &Point<'_>,
+    told: &PinReply<'_>,
+) -> Result<&'a [u8], Halt<'a>>
+    requires { place < 8 }
+    ensures token { IfOk result (λ b. TokenIn (facts known.now) protocol (point_view peer.now) (reply_view told.now) b.now) }
+    ensures halts { IfErr result (OrMemory (NoTokenOf (facts known.now) place protocol (point_view peer.now) (reply_view told.now))) }
+{
+    let token = match told.token {
+        Some(token) => token,
+        None => return Err(Halt::Refuses(Refusal::NotReadable)),
+    };
+    match pin_uv_auth_token(alloc, known.answers, protocol, peer, token) {
+        Ok(token) => Ok(token),
+        Err(stop) => Err(stopped(place + 1, stop)),
     }
 }
 
@@ -28,28 +68,54 @@ fn opened<'a>(
     protocol: Protocol,
     peer: &Point<'_>,
     request: Vec<u8>,
-) -> Result<&'a [u8], Halt<'a>> {
-    let reply = match reply_to(known, place, request) {
-        Ok(reply) => reply,
+) -> Result<&'a [u8], Halt<'a>>
+    requires { place < 8 }
+    ensures token { IfOk result (λ b. HasToken (facts known.now) place protocol (point_view peer.now) (λ m. m ≡ request.items) b.now) }
+    ensures halts { IfErr result (OrMemory (Unopened (facts known.now) place protocol (point_view peer.now) (λ m. m ≡ request.items))) }
+{
+    let told = match token_told(known, place, request) {
+        Ok(told) => told,
         Err(halt) => return Err(halt),
     };
-    let token = match token_of(reply) {
-        Ok(token) => token,
-        Err(refusal) => return Err(Halt::Refuses(refusal)),
-    };
-    match pin_uv_auth_token(alloc, known.answers, protocol, peer, token) {
+    match token_of(alloc, known, place, protocol, peer, &told) {
         Ok(token) => Ok(token),
-        Err(stop) => Err(stopped(place + 1, stop)),
+        Err(halt) => Err(halt),
     }
 }
 
-/// A token by PIN: after getInfo and getPINRetries.
+/// A token by this PIN and with this point, after getInfo, getPINRetries and getKeyAgreement.
+fn asked_by_pin<'a>(
+    alloc: Global,
+    known: &Known<'a>,
+    protocol: Protocol,
+    peer: &Point<'_>,
+    pin: &str,
+    scope: Option<Scope<'_>>,
+) -> Result<&'a [u8], Halt<'a>>
+    ensures token { IfOk result (λ b. HasToken (facts known.now) 3 protocol (point_view peer.now)
+        (ByPin (facts known.now) protocol (point_view peer.now) pin.now (option_map scope_view scope.entry)) b.now) }
+    ensures halts { IfErr result (OrMemory (NotAskedByPin (facts known.now) protocol (point_view peer.now) pin.now (option_map scope_view scope.entry))) }
+{
+    let request = match token_request(alloc, known.answers, protocol, peer, pin, scope) {
+        Ok(request) => request,
+        Err(stop) => return Err(stopped(3, stop)),
+    };
+    match opened(alloc, known, 3, protocol, peer, request) {
+        Ok(token) => Ok(token),
+        Err(halt) => Err(halt),
+    }
+}
+
+/// A token by PIN: after getInfo.
 pub(crate) fn token_by_pin<'a>(
     alloc: Global,
     known: &Known<'a>,
     protocol: Protocol,
     scope: Option<Scope<'_>>,
-) -> Result<&'a [u8], Halt<'a>> {
+) -> Result<&'a [u8], Halt<'a>>
+    ensures token { IfOk result (λ b. HasTokenByPin (facts known.now) protocol (option_map scope_view scope.entry) b.now) }
+    ensures halts { IfErr result (OrMemory (NoTokenByPin (facts known.now) protocol (option_map scope_view scope.entry))) }
+{
     let pin = match user_pin(alloc, known, protocol) {
         Ok(pin) => pin,
         Err(halt) => return Err(halt),
@@ -58,25 +124,50 @@ pub(crate) fn token_by_pin<'a>(
         Ok(peer) => peer,
         Err(halt) => return Err(halt),
     };
-    match token_request(alloc, known.answers, protocol, &peer, pin, scope) {
-        Ok(request) => opened(alloc, known, 3, protocol, &peer, request),
-        Err(stop) => Err(stopped(3, stop)),
+    match asked_by_pin(alloc, known, protocol, &peer, pin, scope) {
+        Ok(token) => Ok(token),
+        Err(halt) => Err(halt),
+    }
+}
+
+/// A token by the key's own verification, with this point, after getInfo and getKeyAgreement.
+fn asked_by_uv<'a>(
+    alloc: Global,
+    known: &Known<'a>,
+    protocol: Protocol,
+    peer: &Point<'_>,
+    scope: &Scope<'_>,
+) -> Result<&'a [u8], Halt<'a>>
+    ensures token { IfOk result (λ b. HasToken (facts known.now) 2 protocol (point_view peer.now)
+        (ByUv (facts known.now) protocol (point_view peer.now) (scope_view scope.now)) b.now) }
+    ensures halts { IfErr result (OrMemory (NotAskedByUv (facts known.now) protocol (point_view peer.now) (scope_view scope.now))) }
+{
+    let request = match uv_token_request(alloc, known.answers, protocol, peer, scope) {
+        Ok(request) => request,
+        Err(stop) => return Err(stopped(2, stop)),
+    };
+    match opened(alloc, known, 2, protocol, peer, request) {
+        Ok(token) => Ok(token),
+        Err(halt) => Err(halt),
     }
 }
 
 /// A token by the key's own verification: after getInfo.
-pub(crate) fn built_in_token<'a>(
+pub(crate) fn token_by_uv<'a>(
     alloc: Global,
     known: &Known<'a>,
     protocol: Protocol,
     scope: &Scope<'_>,
-) -> Result<&'a [u8], Halt<'a>> {
+) -> Result<&'a [u8], Halt<'a>>
+    ensures token { IfOk result (λ b. HasTokenByUv (facts known.now) protocol (scope_view scope.now) b.now) }
+    ensures halts { IfErr result (OrMemory (NoTokenByUv (facts known.now) protocol (scope_view scope.now))) }
+{
     let peer = match agreement(alloc, known, 1, protocol) {
         Ok(peer) => peer,
         Err(halt) => return Err(halt),
     };
-    match uv_token_request(alloc, known.answers, protocol, &peer, scope) {
-        Ok(request) => opened(alloc, known, 2, protocol, &peer, request),
-        Err(stop) => Err(stopped(2, stop)),
+    match asked_by_uv(alloc, known, protocol, &peer, scope) {
+        Ok(token) => Ok(token),
+        Err(halt) => Err(halt),
     }
 }

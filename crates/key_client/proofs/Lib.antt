@@ -1,0 +1,4 @@
+pub mod Stages
+pub mod Exchanging
+pub mod Lists
+pub mod Gathering
