@@ -62,27 +62,37 @@ fn command_line<'a>(
     parser.try_get_matches_from_mut(arguments)
 }
 
+/// Tells what clap says: help and the version on standard output, and what is wrong on standard error. The status.
+fn tell(rt: &HostRuntime, said: &Error) -> io::Result<u8> {
+    match said.kind() {
+        ErrorKind::DisplayHelp | ErrorKind::DisplayVersion => {
+            write!(rt.stdout(), "{said}")?;
+            Ok(0)
+        }
+        _ => {
+            write!(rt.stderr(), "{said}")?;
+            Ok(2)
+        }
+    }
+}
+
+/// What clap says of the arguments, where they are not taken.
+fn refused(alloc: Global, help: &str, arguments: &[String]) -> Option<Error> {
+    match command_line(alloc, help, arguments) {
+        Ok(_) => None,
+        Err(error) => Some(error),
+    }
+}
+
 /// Runs the program on its arguments.
 fn run(rt: &HostRuntime) -> io::Result<u8> {
     let words = arguments(rt)?;
     let help = acts_help(rt.alloc())?;
-    match command_line(rt.alloc(), help.as_str(), words.as_slice()) {
-        Ok(_) => {
-            serve(rt)?;
-            Ok(0)
-        }
-        Err(error)
-            if error.kind() == ErrorKind::DisplayHelp
-                || error.kind() == ErrorKind::DisplayVersion =>
-        {
-            write!(rt.stdout(), "{error}")?;
-            Ok(0)
-        }
-        Err(error) => {
-            write!(rt.stderr(), "{error}")?;
-            Ok(2)
-        }
+    if let Some(said) = refused(rt.alloc(), help.as_str(), words.as_slice()) {
+        return tell(rt, &said);
     }
+    serve(rt)?;
+    Ok(0)
 }
 
 fn main(rt: HostRuntime) -> ExitCode {
