@@ -1,5 +1,5 @@
 -- What an act is for, by the options that it was asked with (WebAuthn Level 2, sections 5.1.3 and 5.1.4).
-use Rattle.std.specs.Prelude.{◌≡◌, List, ℕ, MatchOption, Option, false, string_bytes}
+use Rattle.std.specs.Prelude.{◌≡◌, ℕ, List, MatchOption, false, string_bytes}
 use Rattle.client.specs.Steps.{MayAsk}
 use Rattle.clientdata.specs.Serialised.{client_data_text, hash_of}
 use Rattle.clientdata.specs.declared.record.CeremonyType.{CeremonyType}
