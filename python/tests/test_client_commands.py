@@ -4,6 +4,7 @@ import json
 import os
 import pty
 import select
+import signal
 import socket
 import subprocess
 import sys
@@ -45,6 +46,12 @@ sys.exit(status)
 """
 
 
+def takes_the_terminal():
+    """For a command that Ctrl-C reaches: where the tests run in the background SIGINT is ignored."""
+    fcntl.ioctl(2, termios.TIOCSCTTY, 0)
+    signal.signal(signal.SIGINT, signal.SIG_DFL)
+
+
 class Terminal:
     """A command at a terminal of its own, with standard output apart."""
 
@@ -55,7 +62,7 @@ class Terminal:
         self.own, self.seen = own, ""
         command = [sys.executable, "-B", "-c", BEHIND, json.dumps(list(keys)), "--program", program, *words]
         self.process = subprocess.Popen(command, stdin=theirs if stdin is None else subprocess.PIPE, stdout=subprocess.PIPE, stderr=theirs, start_new_session=True,
-                                        preexec_fn=lambda: fcntl.ioctl(2, termios.TIOCSCTTY, 0))
+                                        preexec_fn=takes_the_terminal)
         os.close(theirs)
         if stdin is not None:
             self.process.stdin.write(stdin.encode())

@@ -257,8 +257,11 @@ def test_ctrl_c(soon):
         assert site.register().user_verified
         one._touch = lambda: signal.raise_signal(signal.SIGINT)
         key.presence = None
+        # Where the tests run in the background SIGINT is ignored.
+        before = signal.signal(signal.SIGINT, signal.default_int_handler)
         with pytest.raises(KeyboardInterrupt):
             site.sign_in()
+        signal.signal(signal.SIGINT, before)
         assert key.running is None
         one._touch, key.presence = None, True
         assert site.sign_in().user_verified
