@@ -23,6 +23,7 @@ from fido2.ctap2 import AttestationObject, AuthenticatorData  # noqa: E402
 from fido2.server import Fido2Server  # noqa: E402
 from fido2.webauthn import PublicKeyCredentialRpEntity  # noqa: E402
 
+from asked_by_lines import Checks, Program  # noqa: E402
 from garvoeng import EDDSA, ES256, Server  # noqa: E402
 from garvoeng.forms import from_text, to_text  # noqa: E402
 from softkey_host import Softkey  # noqa: E402
@@ -35,40 +36,19 @@ REFUSALS = {"not_readable", "u2f_only", "device_error", "channel_dead", "cancell
             "pin_not_offered", "pin_not_set", "power_cycle", "pin_blocked"}
 
 
-class Client:
-    """The program: it is asked by lines, and each is answered by one."""
-
-    def __init__(self, program):
-        self.process = subprocess.Popen([program], stdin=subprocess.PIPE, stdout=subprocess.PIPE)
-        self.number = 0
-
-    def raw(self, line):
-        """The answer to a line of bytes."""
-        self.process.stdin.write(line + b"\n")
-        self.process.stdin.flush()
-        return json.loads(self.process.stdout.readline())
-
-    def ask(self, act, **members):
-        self.number += 1
-        answer = self.raw(json.dumps({"id": self.number, "act": act, **members}).encode())
-        assert answer.pop("id") == self.number, answer
-        return answer
+class Client(Program):
+    """The program."""
 
     def memory(self):
         with open(f"/proc/{self.process.pid}/status") as status:
             return int(dict(line.split(":", 1) for line in status)["VmRSS"].split()[0])
-
-    def end(self):
-        self.process.stdin.close()
-        rest = self.process.stdout.read()
-        return self.process.wait(), rest
 
 
 class Host:
     """A client, a key on its cable, and a site."""
 
     def __init__(self, program, softkey, *words):
-        self.client, self.key = Client(program), Softkey(softkey, *words)
+        self.client, self.key = Client([program]), Softkey(softkey, *words)
         self.server, self.table = Server(RP_ID, [ORIGIN], profile="level3"), {}
         self.heard, self.change = [], None
 
@@ -113,22 +93,16 @@ class Host:
 
     def close(self):
         self.key.close()
-        return self.client.end()
+        return self.client.ended()
 
 
-class Tests:
+class Tests(Checks):
     def __init__(self, program, softkey, count):
-        self.program, self.softkey, self.count, self.passed, self.failed = program, softkey, count, 0, 0
+        super().__init__(program)
+        self.softkey, self.count = softkey, count
 
     def host(self, *words):
         return Host(self.program, self.softkey, *words)
-
-    def check(self, what, found, wanted=True):
-        if found == wanted:
-            self.passed += 1
-        else:
-            self.failed += 1
-            print(f"FAILED: {what}: {found!r}, not {wanted!r}")
 
     def refused(self, what, answer, name, **more):
         found = {key: value for key, value in answer.items() if key not in ("text", "send")}

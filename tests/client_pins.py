@@ -4,7 +4,6 @@ changed, wrong and blocked, registrations and sign-ins by them and by the key's 
 permissions; and what stands in the lines: the PIN, its hash and what is computed of them in none but those that ask the host. The last
 line is 'N passed, M failed'."""
 import hashlib
-import json
 import os
 import subprocess
 import sys
@@ -14,43 +13,14 @@ from pathlib import Path
 top = Path(__file__).resolve().parent.parent
 subprocess.run([top / "python" / "prepare"], check=True)
 sys.path[:0] = [str(top / "python"), str(top / "clients")]
-from cryptography.hazmat.primitives import hashes, hmac  # noqa: E402
-from cryptography.hazmat.primitives.asymmetric import ec  # noqa: E402
-from cryptography.hazmat.primitives.ciphers import Cipher, algorithms, modes  # noqa: E402
-from cryptography.hazmat.primitives.kdf.hkdf import HKDF  # noqa: E402
-
+from asked_by_lines import Checks, Program  # noqa: E402
 from garvoeng import Server  # noqa: E402
+from garvoeng.client_host import computed  # noqa: E402
 from garvoeng.forms import from_text, to_text  # noqa: E402
 from pin_key import PinKey  # noqa: E402
 
 RP_ID, ORIGIN = "example.com", "https://login.example.com"
 PIN, OTHER, WRONG = "a PIN of mine", "séame ouvre-toi", "0000"
-
-
-def point_bytes(point):
-    return point.x.to_bytes(32, "big") + point.y.to_bytes(32, "big")
-
-
-def cipher(key, iv):
-    return Cipher(algorithms.AES(key), modes.CBC(iv))
-
-
-def computed(operation, key, iv, text):
-    """What the program asks for, as `pin_protocols` has it (CTAP 2.1, sections 6.5.6 and 6.5.7)."""
-    if operation == "agree":
-        own = ec.generate_private_key(ec.SECP256R1())
-        peer = ec.EllipticCurvePublicNumbers(int.from_bytes(text[:32], "big"), int.from_bytes(text[32:], "big"), ec.SECP256R1()).public_key()
-        return point_bytes(own.public_key().public_numbers()) + own.exchange(ec.ECDH(), peer)
-    if operation == "derive":
-        return HKDF(hashes.SHA256(), 32, bytes(32), text).derive(key)
-    if operation == "authenticate":
-        made = hmac.HMAC(key, hashes.SHA256())
-        made.update(text)
-        return made.finalize()
-    if operation == "seal":
-        iv = os.urandom(16)
-    step = cipher(key, iv).decryptor() if operation == "decrypt" else cipher(key, iv).encryptor()
-    return (iv if operation == "seal" else b"") + step.update(text) + step.finalize()
 
 
 def bytes_in(value):
@@ -68,13 +38,13 @@ def bytes_in(value):
             return
 
 
-class Host:
+class Host(Program):
     """A client, a key and a site; the user enters these PINs, one after the other."""
 
     def __init__(self, tests, key, **how):
+        super().__init__([tests.program])
         self.tests, self.key, self.how, self.pins = tests, key, how, []
-        self.process = subprocess.Popen([tests.program], stdin=subprocess.PIPE, stdout=subprocess.PIPE)
-        self.number, self.secrets, self.asked, self.needs = 0, set(), 0, []
+        self.secrets, self.asked, self.needs = set(), 0, []
         self.server, self.table = Server(RP_ID, [ORIGIN], profile="level3"), {}
 
     def hides(self, *secrets):
@@ -86,14 +56,9 @@ class Host:
         self.hides(raw, raw.ljust(64, b"\0"), hashlib.sha256(raw).digest()[:16])
 
     def ask(self, act, **members):
-        self.number += 1
-        self.process.stdin.write(json.dumps({"id": self.number, "act": act, **members}).encode() + b"\n")
-        self.process.stdin.flush()
-        line = self.process.stdout.readline()
-        answer = json.loads(line)
-        assert answer.pop("id") == self.number, answer
+        answer = super().ask(act, **members)
         if answer["state"] != "asks":
-            told = b"\0".join([line, *bytes_in(answer)])
+            told = b"\0".join([self.said, *bytes_in(answer)])
             self.tests.check("no secret is told", [secret for secret in self.secrets if secret in told], [])
         return answer
 
@@ -151,22 +116,10 @@ class Host:
         return self.act("change_pin", new_pin=new)
 
     def end(self):
-        self.process.stdin.close()
-        rest = self.process.stdout.read()
-        self.tests.check("the end", (self.process.wait(), rest), (0, b""))
+        self.tests.check("the end", self.ended(), (0, b""))
 
 
-class Tests:
-    def __init__(self, program):
-        self.program, self.passed, self.failed = program, 0, 0
-
-    def check(self, what, found, wanted=True):
-        if found == wanted:
-            self.passed += 1
-        else:
-            self.failed += 1
-            print(f"FAILED: {what}: {found!r}, not {wanted!r}")
-
+class Tests(Checks):
     def refused(self, what, answer, name):
         self.check(what, (answer["state"], answer.get("name")), ("refused", name))
 

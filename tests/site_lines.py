@@ -15,6 +15,7 @@ from pathlib import Path
 top = Path(__file__).resolve().parent.parent
 subprocess.run([top / "python" / "prepare"], check=True)
 sys.path[:0] = [str(top / "python"), str(top / "python" / "tests")]
+from asked_by_lines import Checks, Program  # noqa: E402
 from device import AT, BE, BS, ED, UP, UV, Device, changed  # noqa: E402
 from garvoeng import EDDSA, ES256, RS256  # noqa: E402
 from garvoeng.forms import from_text, to_text  # noqa: E402
@@ -32,27 +33,13 @@ def in_place_of_random(path):
     return ["unshare", *user, "--mount", "sh", "-c", 'mount --bind "$0" /dev/urandom && exec "$@"', str(path)]
 
 
-class Host:
+class Host(Program):
     """A host: it runs the program, in the open profile if not said, and speaks with it by lines."""
 
     def __init__(self, program, file, *words, random_bytes=None):
         self.errors = tempfile.TemporaryFile()
         profile = [] if any(str(word).startswith("--profile") for word in words) else ["--profile", "open"]
-        self.process = subprocess.Popen([*in_place_of_random(random_bytes), program, *profile, str(file), *words], stdin=subprocess.PIPE,
-                                        stdout=subprocess.PIPE, stderr=self.errors)
-        self.number = 0
-
-    def raw(self, line):
-        """The answer to a line of bytes."""
-        self.process.stdin.write(line + b"\n")
-        self.process.stdin.flush()
-        return json.loads(self.process.stdout.readline())
-
-    def ask(self, act, **members):
-        self.number += 1
-        answer = self.raw(json.dumps({"id": self.number, "act": act, **members}).encode())
-        assert answer.pop("id") == self.number
-        return answer
+        super().__init__([*in_place_of_random(random_bytes), program, *profile, str(file), *words], stderr=self.errors)
 
     def finish(self, act, session, response, is_right=is_valid):
         """The verdict on a response: the host verifies what it is told to, and asks again."""
@@ -67,27 +54,18 @@ class Host:
 
     def end(self):
         """The status and standard error, after the end of the input."""
-        self.process.stdin.close()
-        rest = self.process.stdout.read()
-        status = self.process.wait()
+        status, rest = self.ended()
         self.errors.seek(0)
         return status, rest, self.errors.read().decode()
 
 
-class Tests:
+class Tests(Checks):
     def __init__(self, program):
-        self.program, self.passed, self.failed = program, 0, 0
+        super().__init__(program)
         self.folder = tempfile.TemporaryDirectory()
 
     def file(self, name):
         return Path(self.folder.name) / name
-
-    def check(self, what, found, wanted=True):
-        if found == wanted:
-            self.passed += 1
-        else:
-            self.failed += 1
-            print(f"FAILED: {what}: {found!r}, not {wanted!r}")
 
 
 def refused(name, number, text):

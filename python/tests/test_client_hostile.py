@@ -1,4 +1,5 @@
 """`garvoeng.client` where the key lies, is pulled out or keeps silent, and where the program is none."""
+import itertools
 import os
 import random
 import signal
@@ -338,6 +339,18 @@ def test_a_program_that_keeps_silent(tmp_path, monkeypatch):
         one.information()
 
 
+def doing_at(read, place, act):
+    """A cable's `read` by which this is done once the packet at this place, from 1, has come."""
+    places = itertools.count(1)
+
+    def reading(timeout):
+        packet = read(timeout)
+        if next(places) == place:
+            act()
+        return packet
+    return reading
+
+
 def test_a_program_that_is_killed(soon):
     """At each line: named, the key gives up, and the next call starts it again."""
     key, cable, site = plugged(**KIND)
@@ -347,17 +360,7 @@ def test_a_program_that_is_killed(soon):
         left = 0
         while True:
             left += 1
-            rest = [left]
-
-            def killing(timeout, rest=rest):
-                packet = read(timeout)
-                rest[0] -= 1
-                if rest[0] == 0:
-                    one._program.process.kill()
-                    one._program.process.wait()
-                return packet
-
-            cable.read = killing
+            cable.read = doing_at(read, left, lambda: (one._program.process.kill(), one._program.process.wait()))
             if ended(site.register) != ("ClientFailed", ""):
                 break
             assert key.running is None
@@ -439,16 +442,7 @@ def test_cancelled_between_a_packet_and_its_line():
         how = None
         while how != ("accepted", ""):
             place += 1
-            rest = [place]
-
-            def cancelling(timeout, rest=rest):
-                packet = read(timeout)
-                rest[0] -= 1
-                if rest[0] == 0:
-                    one.cancel()
-                return packet
-
-            cable.read = cancelling
+            cable.read = doing_at(read, place, one.cancel)
             how = ended(site.register)
             assert how in (("accepted", ""), ("ClientRefused", "cancelled")) and key.running is None
         assert place > 5 and site.register().user_verified
