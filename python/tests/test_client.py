@@ -293,9 +293,9 @@ def test_keys_that_can_not():
         with site.client:
             assert refused(site.register, user_verification=pin is not None)[0] == name, kind
     # A key that tells by its capabilities that it has no CTAPHID_CBOR.
-    _, _, site = plugged(u2f_only=True, capabilities=0, how={"timeout": 0.3})
+    _, _, site = plugged(u2f_only=True, capabilities=0)
     with site.client as one:
-        assert refused(one.information)[0] in ("u2f_only", "timeout")
+        assert refused(one.information)[0] == "u2f_only"
     _, _, site = plugged(None, max_list=2, max_id=64, max_message=None)
     with site.client:
         ids = [b"x" * 64, b"y", b"z"]

@@ -16,8 +16,8 @@ use crate::knowing::Knowledge;
 use crate::purpose::{Purpose, checked_registration, checked_sign_in};
 use crate::refused::Refused;
 use crate::stepping::{Awaits, go_on};
-use hidframe::Packet;
-use hidframe::ctaphid::ERR_INVALID_CMD;
+use hidframe::ctaphid::{CAPABILITY_CBOR, CTAPHID_BROADCAST_CID, CTAPHID_INIT, ERR_INVALID_CMD};
+use hidframe::{Head, Packet};
 use hidlink::{Opener, Opening};
 use key_client::Refusal;
 use pin_protocols::Ask;
@@ -51,6 +51,19 @@ fn purpose(alloc: Global, aim: Aim) -> Result<Purpose, Refused>
         Aim::Inform => Ok(Purpose::Informs),
         Aim::SetPin(pin) => Ok(Purpose::SetsPin(pin)),
         Aim::ChangePin(pin) => Ok(Purpose::ChangesPin(pin)),
+    }
+}
+
+/// Whether this answers an INIT without a channel for messages: the key has no CTAPHID_CBOR (CTAP 2.1, section 11.2.9.1.3).
+fn speaks_u2f_alone(init: &Packet, packet: &Packet) -> bool {
+    match packet.read() {
+        Head::Init {
+            cid: CTAPHID_BROADCAST_CID,
+            cmd: CTAPHID_INIT,
+            len: 17,
+            bytes,
+        } => bytes[..8] == init.0[7..15] && bytes[16] & CAPABILITY_CBOR == 0,
+        _ => false,
     }
 }
 
@@ -153,6 +166,9 @@ impl Ceremony {
     {
         match &mut self.link {
             Link::Opening(opener) => match opener.feed(packet) {
+                Opening::More if speaks_u2f_alone(&opener.request(), packet) => {
+                    Err(Refused::Client(Refusal::U2fOnly))
+                }
                 Opening::More => Ok((Told::quiet(alloc, Answer::Waits), Awaits::Packet)),
                 Opening::Channel(cid) => {
                     let mut channel = Channel::new(alloc, cid)?;

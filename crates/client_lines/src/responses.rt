@@ -8,9 +8,8 @@ use crate::refused::Refused;
 use crate::values::{base64_text, text_or_null, texts};
 use authdata::{AttestationObject, AuthView, Profile, read_view};
 use cose::KeyView;
-use key_client::{Refusal, Requirement};
+use key_client::{Refusal, is_discoverable};
 use key_replies::{KeyAssertion, KeyCreation, KeyInfo, UserView};
-use key_requests::option_value;
 use serde_json::{Map, Value, json, put};
 use std::alloc::{AllocError, Global};
 
@@ -170,15 +169,6 @@ fn transports(alloc: Global, info: &KeyInfo<'_>) -> Result<Value, AllocError> {
     match &info.transports {
         Some(list) => texts(alloc, list.as_slice()),
         None => texts(alloc, &["usb"]),
-    }
-}
-
-/// Whether the credential was asked for as a discoverable one (WebAuthn Level 2, section 5.4.6).
-fn is_discoverable(info: &KeyInfo<'_>, resident: Requirement) -> bool {
-    match resident {
-        Requirement::Required => true,
-        Requirement::Preferred => option_value(info, "rk") == Some(true),
-        Requirement::Discouraged => false,
     }
 }
 

@@ -21,4 +21,5 @@ mod wish;
 pub use next::next_step;
 pub use refusal::Refusal;
 pub use step::Step;
+pub use way::is_discoverable;
 pub use wish::{Asserting, Creating, Known, Requirement, Wish};

@@ -41,8 +41,8 @@ fn offered(info: &KeyInfo<'_>, built_in: bool) -> Way
     Way::Nothing
 }
 
-/// Whether the credential is to be discoverable (WebAuthn Level 2, section 5.4.6).
-pub(crate) fn is_discoverable(info: &KeyInfo<'_>, resident: Requirement) -> bool
+/// Whether a registration asks this key for a discoverable credential (WebAuthn Level 2, section 5.4.6).
+pub fn is_discoverable(info: &KeyInfo<'_>, resident: Requirement) -> bool
     ensures { result ≡ is_discoverable (info_view info.now) resident }
 {
     match resident {
