@@ -91,17 +91,19 @@ static int verify_by(PyObject *verify, const passkey_signature_call *call, size_
     return 1;
 }
 
-/* A frozen dataclass of these members, whose references are taken over. Their names are some of a tuple. */
+/* A frozen dataclass of these members, whose references are taken over. Their names are some of a tuple. Where a member was not made
+ * no other is set: CPython may drop what was raised while it looks a name up. */
 static PyObject *made(PyObject *type, PyObject *names, Py_ssize_t first, PyObject **values, Py_ssize_t count)
 {
-    PyObject *none = PyTuple_New(0);
     newfunc create = PyType_Check(type) ? (newfunc)PyType_GetSlot((PyTypeObject *)type, Py_tp_new) : NULL;
-    PyObject *object = none == NULL || create == NULL ? NULL : create((PyTypeObject *)type, none, NULL);
+    int is_whole = create != NULL;
     if (create == NULL) PyErr_SetString(PyExc_TypeError, "the type can't be made");
+    for (Py_ssize_t at = 0; at < count; at++) is_whole = is_whole && values[at] != NULL;
+    PyObject *none = is_whole ? PyTuple_New(0) : NULL, *object = none == NULL ? NULL : create((PyTypeObject *)type, none, NULL);
     Py_XDECREF(none);
     for (Py_ssize_t at = 0; at < count; at++) {
         PyObject *name = object == NULL ? NULL : PyTuple_GetItem(names, first + at);
-        if (name == NULL || values[at] == NULL || PyObject_GenericSetAttr(object, name, values[at]) < 0) Py_CLEAR(object);
+        if (name == NULL || PyObject_GenericSetAttr(object, name, values[at]) < 0) Py_CLEAR(object);
         Py_XDECREF(values[at]);
     }
     return object;
@@ -176,10 +178,12 @@ static PyObject *registration(PyObject *Py_UNUSED(module), PyObject *words)
     }
     if (answer != PASSKEY_ACCEPTED || out.id_size > sizeof out.id || out.key.x_size > sizeof out.key.x || out.key.y_size > sizeof out.key.y)
         return released(&all, PyLong_FromUnsignedLong(answer));
+    PyObject *extensions = last(part[ATTESTATION_OBJECT], out.extensions_size);
+    if (extensions == NULL) return released(&all, NULL);
     return released(&all, Py_BuildValue("y#iy#y#INy#INNiN", out.id, (Py_ssize_t)out.id_size, (int)out.key.algorithm, out.key.x,
         (Py_ssize_t)out.key.x_size, out.key.y, (Py_ssize_t)out.key.y_size, (unsigned int)out.sign_count, PyBool_FromLong(out.eligible),
         out.aaguid, (Py_ssize_t)sizeof out.aaguid, (unsigned int)out.format, PyBool_FromLong(out.user_verified),
-        PyBool_FromLong(out.backed_up), (int)out.flags, last(part[ATTESTATION_OBJECT], out.extensions_size)));
+        PyBool_FromLong(out.backed_up), (int)out.flags, extensions));
 }
 
 /* Four digits as 24 bits; `wrong` gets negative where one is none. */

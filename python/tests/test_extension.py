@@ -445,8 +445,10 @@ except garvoeng.BadInput:
     assert said.stdout == "done\n", said.stderr
 
 
-def test_each_allocation_that_fails(frozen):
-    """Of each call every allocation is refused, one at a time: it raises MemoryError, or says what it says otherwise; nothing is kept."""
+@pytest.mark.parametrize("forget", [int, getattr(sys, "_clear_type_cache", int)])
+def test_each_allocation_that_fails(frozen, forget):
+    """Of each call every allocation is refused, one at a time: it raises MemoryError, or says what it says otherwise; nothing is kept. So
+    too where types are looked through anew, by which CPython drops what was raised before it."""
     memory = pytest.importorskip("_testcapi")
     one = Ceremony(verify=lambda *_: True)
     parts, registration, sign_in = one.parts(), forms.registration_parts(one.made), forms.sign_in_parts(one.response)
@@ -464,6 +466,7 @@ def test_each_allocation_that_fails(frozen):
         for _ in range(5):
             refused, before = 0, held_now()
             for number in range(200):
+                forget()
                 memory.set_nomemory(number, number + 1)
                 try:
                     said = call()
