@@ -109,21 +109,29 @@ class Order:
         if self.pair is None:
             self.pair = words
         x, y = point(private_key(words))
-        token = sha256(b"token " + words.encode())
+        token = bytes([self.steps]) * 32
         peer = point(key.own) if key else None
         request = [self.protocol if protocol == "own" else protocol, subcommand] + (list(kind) + list(peer) if peer else [None] * 5)
         request += [param, new_pin, pin_hash, permissions, rp_id]
+        if key and not order:
+            # It is refused before they are looked at.
+            request[5:10] = ["01*32", "02*32", *("00" if each is not None else None for each in request[7:10])]
         asks = self.asks(key, peer, new_pin or b"", pin_hash or b"", token) if key else {}
         asks = [asks[each] for each in order.split()]
         if callable(reply):
             reply = reply(self, token)
-        self.line("pin", ":".join(map(shown, request)), ":".join(each.hex() for each in (self.secret(words), x, y, token)), asks, reply, retries)
+        self.line("pin", ":".join(map(shown, request)), ":".join(self.shown_words(words, x, y)), asks, reply, retries)
         return token
 
     @staticmethod
     def secret(words):
         """What stands for the private key."""
-        return sha256(b"secret " + words.encode())
+        return bytes([0x80 | int(words.split()[-1])]) * 32
+
+    def shown_words(self, words, x, y):
+        """The coordinates only where the key pair is taken."""
+        secret, token = f"{0x80 | self.steps:02x}*32", f"{self.steps:02x}*32"
+        return (secret, x.hex(), y.hex(), token) if self.pair == words else (secret, "00*32", "00*32", token)
 
     def asks(self, client, peer, new_pin, pin_hash, token):
         """What the host is asked, each by a name: by the authenticator's own key pair, whatever the client computed."""

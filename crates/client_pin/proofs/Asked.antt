@@ -90,66 +90,66 @@ module _ (es : List (Asked × List ℕ)) where
   product_asks : (key : List ℕ) (peer : PublicPoint) → Asking (Plain es) (product es key peer)
   unfolding product
   product_asks key peer = asking_then (Plain es) _ _
-    (asking_more _ (Plain es) _ (plain_by es (product_ask key peer) (λ e. absurd cc)) (sized_asks es 96 0x02 (product_ask key peer) (answer_of es (product_ask key peer)) refl))
-    (λ b. asking_ok (Plain es) _)
+      (asking_more _ (Plain es) _ (plain_by es (product_ask key peer) (λ e. absurd cc)) (sized_asks es 96 0x02 (product_ask key peer) (answer_of es (product_ask key peer)) refl))
+      (λ b. asking_ok (Plain es) _)
 
   secret_asks : (protocol : Protocol) (z : List ℕ) → Asking (Plain es) (secret es protocol z)
   unfolding secret
   secret_asks protocols.One z = asking_ok (Plain es) _
   secret_asks protocols.Two z = asking_then (Plain es) _ _ (plain_answer es (derivation z hmac_info) (λ e. absurd cc))
-    (λ hmac. asking_then (Plain es) _ _ (plain_answer es (derivation z aes_info) (λ e. absurd cc)) (λ aes. asking_ok (Plain es) _))
+      (λ hmac. asking_then (Plain es) _ _ (plain_answer es (derivation z aes_info) (λ e. absurd cc)) (λ aes. asking_ok (Plain es) _))
 
   verified_asks : (protocol : Protocol) (key message param : List ℕ) → Asking (Plain es) (verified es protocol key message param)
   unfolding verified
   verified_asks protocol key message param = asking_then (Plain es) _ _ (plain_answer es (authentication key message) (λ e. absurd cc))
-    (λ tag. asking_if (Plain es) _ _ _ (asking_ok (Plain es) tt) (asking_refused (Plain es) 0x33))
+      (λ tag. asking_if (Plain es) _ _ _ (asking_ok (Plain es) tt) (asking_refused (Plain es) 0x33))
 
   shared_asks : (pair : KeyPair) (protocol : Protocol) (told : ToldKey) → Asking (Plain es) (shared es pair protocol told)
   unfolding shared
   shared_asks pair protocol told = asking_then (Plain es) _ _ (point_asks (Plain es) told)
-    (λ point. asking_then (Plain es) _ _ (product_asks pair.key point) (λ z. secret_asks protocol z))
+      (λ point. asking_then (Plain es) _ _ (product_asks pair.key point) (λ z. secret_asks protocol z))
 
   hash_asks : (protocol : Protocol) (s : SharedSecret) (sealed : List ℕ) → Asking (New es) (new_hash es protocol s sealed)
   unfolding new_hash
   hash_asks protocol s sealed = asking_if (New es) _ _ _
-    (asking_then (New es) _ _ (new_answer es (decryption protocol s.aes sealed)) (λ padded. kept_asks (New es) (unpadded padded)))
-    (asking_refused (New es) 0x02)
+      (asking_then (New es) _ _ (new_answer es (decryption protocol s.aes sealed)) (λ padded. kept_asks (New es) (unpadded padded)))
+      (asking_refused (New es) 0x02)
 
   right_asks : (t : Try) → Asking (New es) (is_right es t)
   unfolding is_right
   right_asks t = asking_if (New es) _ _ _
-    (asking_then (New es) _ _ (new_answer es (decryption t.protocol t.secret.aes t.pin_hash)) (λ hash. asking_ok (New es) _))
-    (asking_ok (New es) false)
+      (asking_then (New es) _ _ (new_answer es (decryption t.protocol t.secret.aes t.pin_hash)) (λ hash. asking_ok (New es) _))
+      (asking_ok (New es) false)
 
   -- ---- the subcommands
 
   pub set_asks : (pair : KeyPair) (q : Query) (s : PinState) → Asking (New es) (set_pin es pair q s)
   unfolding set_pin
   set_asks pair q s =
-    asking_then (New es) _ _ (needed_asks (New es) q.protocol) (λ number.
-    asking_then (New es) _ _ (needed_asks (New es) q.key) (λ told.
-    asking_then (New es) _ _ (needed_asks (New es) q.new_pin) (λ new_pin.
-    asking_then (New es) _ _ (needed_asks (New es) q.param) (λ param.
-    asking_then (New es) _ _ (known_asks (New es) (protocol_of number)) (λ protocol.
-    asking_then (New es) _ _ (unset_asks (New es) s.pin) (λ free.
-    asking_then (New es) _ _ (new_plain es _ (shared_asks pair protocol told)) (λ shared.
-    asking_then (New es) _ _ (new_plain es _ (verified_asks protocol shared.hmac new_pin param)) (λ authentic.
-    asking_then (New es) _ _ (hash_asks protocol shared new_pin) (λ hash.
-    asking_ok (New es) _)))))))))
+      asking_then (New es) _ _ (needed_asks (New es) q.protocol) (λ number.
+      asking_then (New es) _ _ (needed_asks (New es) q.key) (λ told.
+      asking_then (New es) _ _ (needed_asks (New es) q.new_pin) (λ new_pin.
+      asking_then (New es) _ _ (needed_asks (New es) q.param) (λ param.
+      asking_then (New es) _ _ (known_asks (New es) (protocol_of number)) (λ protocol.
+      asking_then (New es) _ _ (unset_asks (New es) s.pin) (λ free.
+      asking_then (New es) _ _ (new_plain es _ (shared_asks pair protocol told)) (λ shared.
+      asking_then (New es) _ _ (new_plain es _ (verified_asks protocol shared.hmac new_pin param)) (λ authentic.
+      asking_then (New es) _ _ (hash_asks protocol shared new_pin) (λ hash.
+      asking_ok (New es) _)))))))))
 
   pub change_begun_asks : (pair : KeyPair) (q : Query) (s : PinState) → Asking (Plain es) (change_begun es pair q s)
   unfolding change_begun
   change_begun_asks pair q s =
-    asking_then (Plain es) _ _ (needed_asks (Plain es) q.protocol) (λ number.
-    asking_then (Plain es) _ _ (needed_asks (Plain es) q.key) (λ told.
-    asking_then (Plain es) _ _ (needed_asks (Plain es) q.new_pin) (λ new_pin.
-    asking_then (Plain es) _ _ (needed_asks (Plain es) q.pin_hash) (λ pin_hash.
-    asking_then (Plain es) _ _ (needed_asks (Plain es) q.param) (λ param.
-    asking_then (Plain es) _ _ (known_asks (Plain es) (protocol_of number)) (λ protocol.
-    asking_then (Plain es) _ _ (tried_asks (Plain es) s) (λ pin.
-    asking_then (Plain es) _ _ (shared_asks pair protocol told) (λ shared.
-    asking_then (Plain es) _ _ (verified_asks protocol shared.hmac (new_pin ++ pin_hash) param) (λ authentic.
-    asking_ok (Plain es) _)))))))))
+      asking_then (Plain es) _ _ (needed_asks (Plain es) q.protocol) (λ number.
+      asking_then (Plain es) _ _ (needed_asks (Plain es) q.key) (λ told.
+      asking_then (Plain es) _ _ (needed_asks (Plain es) q.new_pin) (λ new_pin.
+      asking_then (Plain es) _ _ (needed_asks (Plain es) q.pin_hash) (λ pin_hash.
+      asking_then (Plain es) _ _ (needed_asks (Plain es) q.param) (λ param.
+      asking_then (Plain es) _ _ (known_asks (Plain es) (protocol_of number)) (λ protocol.
+      asking_then (Plain es) _ _ (tried_asks (Plain es) s) (λ pin.
+      asking_then (Plain es) _ _ (shared_asks pair protocol told) (λ shared.
+      asking_then (Plain es) _ _ (verified_asks protocol shared.hmac (new_pin ++ pin_hash) param) (λ authentic.
+      asking_ok (Plain es) _)))))))))
 
   replaced_asks : (r : Result (List ℕ) Ending) → Asking (New es) r → Asking (New es) (replaced r)
   replaced_asks (Ok hash) h = asking_ok (New es) _
@@ -159,36 +159,36 @@ module _ (es : List (Asked × List ℕ)) where
   pub changed_asks : (x : Try × List ℕ) → Asking (New es) (changed es x)
   unfolding changed
   changed_asks x = asking_then (New es) _ _ (right_asks x.0)
-    (λ right. asking_if (New es) right _ _ (replaced_asks _ (hash_asks x.0.protocol x.0.secret x.1)) (asking_ok (New es) _))
+      (λ right. asking_if (New es) right _ _ (replaced_asks _ (hash_asks x.0.protocol x.0.secret x.1)) (asking_ok (New es) _))
 
   try_asks : (pair : KeyPair) (protocol : Protocol) (told : ToldKey) (pin_hash : List ℕ) (s : PinState) → Asking (Plain es) (try_begun es pair protocol told pin_hash s)
   unfolding try_begun
   try_asks pair protocol told pin_hash s = asking_then (Plain es) _ _ (tried_asks (Plain es) s)
-    (λ pin. asking_then (Plain es) _ _ (shared_asks pair protocol told) (λ shared. asking_ok (Plain es) _))
+      (λ pin. asking_then (Plain es) _ _ (shared_asks pair protocol told) (λ shared. asking_ok (Plain es) _))
 
   pub pin_token_asks : (pair : KeyPair) (q : Query) (s : PinState) → Asking (Plain es) (pin_token_begun es pair q s)
   unfolding pin_token_begun
   pin_token_asks pair q s =
-    asking_then (Plain es) _ _ (needed_asks (Plain es) q.protocol) (λ number.
-    asking_then (Plain es) _ _ (needed_asks (Plain es) q.key) (λ told.
-    asking_then (Plain es) _ _ (needed_asks (Plain es) q.pin_hash) (λ pin_hash.
-    asking_then (Plain es) _ _ (scope_asks (Plain es) q.permissions q.rp_id) (λ bare.
-    asking_then (Plain es) _ _ (known_asks (Plain es) (protocol_of number)) (λ protocol.
-    asking_then (Plain es) _ _ (try_asks pair protocol told pin_hash s) (λ begun.
-    asking_ok (Plain es) _))))))
+      asking_then (Plain es) _ _ (needed_asks (Plain es) q.protocol) (λ number.
+      asking_then (Plain es) _ _ (needed_asks (Plain es) q.key) (λ told.
+      asking_then (Plain es) _ _ (needed_asks (Plain es) q.pin_hash) (λ pin_hash.
+      asking_then (Plain es) _ _ (scope_asks (Plain es) q.permissions q.rp_id) (λ bare.
+      asking_then (Plain es) _ _ (known_asks (Plain es) (protocol_of number)) (λ protocol.
+      asking_then (Plain es) _ _ (try_asks pair protocol told pin_hash s) (λ begun.
+      asking_ok (Plain es) _))))))
 
   pub token_begun_asks : (pair : KeyPair) (q : Query) (s : PinState) → Asking (Plain es) (token_begun es pair q s)
   unfolding token_begun
   token_begun_asks pair q s =
-    asking_then (Plain es) _ _ (needed_asks (Plain es) q.protocol) (λ number.
-    asking_then (Plain es) _ _ (needed_asks (Plain es) q.key) (λ told.
-    asking_then (Plain es) _ _ (needed_asks (Plain es) q.pin_hash) (λ pin_hash.
-    asking_then (Plain es) _ _ (needed_asks (Plain es) q.permissions) (λ permissions.
-    asking_then (Plain es) _ _ (known_asks (Plain es) (protocol_of number)) (λ protocol.
-    asking_then (Plain es) _ _ (allowed_asks (Plain es) permissions) (λ allowed.
-    asking_then (Plain es) _ _ (needed_asks (Plain es) q.rp_id) (λ rp_id.
-    asking_then (Plain es) _ _ (try_asks pair protocol told pin_hash s) (λ begun.
-    asking_ok (Plain es) _))))))))
+      asking_then (Plain es) _ _ (needed_asks (Plain es) q.protocol) (λ number.
+      asking_then (Plain es) _ _ (needed_asks (Plain es) q.key) (λ told.
+      asking_then (Plain es) _ _ (needed_asks (Plain es) q.pin_hash) (λ pin_hash.
+      asking_then (Plain es) _ _ (needed_asks (Plain es) q.permissions) (λ permissions.
+      asking_then (Plain es) _ _ (known_asks (Plain es) (protocol_of number)) (λ protocol.
+      asking_then (Plain es) _ _ (allowed_asks (Plain es) permissions) (λ allowed.
+      asking_then (Plain es) _ _ (needed_asks (Plain es) q.rp_id) (λ rp_id.
+      asking_then (Plain es) _ _ (try_asks pair protocol told pin_hash s) (λ begun.
+      asking_ok (Plain es) _))))))))
 
   given_asks : (protocol : Protocol) (s : SharedSecret) (bytes : List ℕ) (scope : Scope) → Asking (New es) (token_given es protocol s bytes scope)
   unfolding token_given
@@ -197,4 +197,4 @@ module _ (es : List (Asked × List ℕ)) where
   pub token_asks : (words : PinWords) (x : Try × Scope) → Asking (New es) (token es words x)
   unfolding token
   token_asks words x = asking_then (New es) _ _ (right_asks x.0)
-    (λ right. asking_if (New es) right _ _ (given_asks x.0.protocol x.0.secret words.token x.1) (asking_ok (New es) _))
+      (λ right. asking_if (New es) right _ _ (given_asks x.0.protocol x.0.secret words.token x.1) (asking_ok (New es) _))

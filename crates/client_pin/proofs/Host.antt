@@ -34,7 +34,7 @@ faulty_is : (es : List (Asked × List ℕ)) (a x : Asked) (b : List ℕ) → x �
 unfolding answer
 faulty_is es a x b e some size =
     subst (λ (y : Asked). sized_answer (answer_size y.operation (length y.text)) 0x7f y (answer_of es y) ≡ Err (refused 0x7f)) e
-      (ap (sized_answer (answer_size x.operation (length x.text)) 0x7f x) some ∙ other_size _ _ x b size)
+    (ap (sized_answer (answer_size x.operation (length x.text)) 0x7f x) some ∙ other_size _ _ x b size)
 
 -- what stops one answer ends the steps
 pub stop_is : (es : List (Asked × List ℕ)) (a : Asked) (e : Stop) → Stops es (λ x. x ≡ a) e → Fails (of_stop e) (answer es a)
@@ -51,7 +51,7 @@ pub product_is : (es : List (Asked × List ℕ)) (key : List ℕ) (peer : Public
 unfolding product
 product_is es key peer z h =
     let e : sized_answer 96 0x02 (product_ask key peer) (answer_of es (product_ask key peer)) ≡ Ok h.0 =
-      ap (sized_answer 96 0x02 (product_ask key peer)) h.1.0 ∙ sized 96 0x02 (product_ask key peer) h.0 h.1.1 in
+    ap (sized_answer 96 0x02 (product_ask key peer)) h.1.0 ∙ sized 96 0x02 (product_ask key peer) h.0 h.1.1 in
     rw (e, h.2) refl
 
 pub product_asked : (es : List (Asked × List ℕ)) (key : List ℕ) (peer : PublicPoint) (b : Asked) → b ≡ product_ask key peer → answer_of es b ≡ None
@@ -60,7 +60,7 @@ unfolding product
 product_asked es key peer b e none =
     let n : answer_of es (product_ask key peer) ≡ None = subst (λ (x : Asked). answer_of es x ≡ None) e none in
     let s : sized_answer 96 0x02 (product_ask key peer) (answer_of es (product_ask key peer)) ≡ Err (asks b) =
-      ap (sized_answer 96 0x02 (product_ask key peer)) n ∙ ap (λ (x : Asked). failed (asks x)) (sym e) in
+    ap (sized_answer 96 0x02 (product_ask key peer)) n ∙ ap (λ (x : Asked). failed (asks x)) (sym e) in
     rw s refl
 
 pub no_product : (es : List (Asked × List ℕ)) (key : List ℕ) (peer : PublicPoint) (x : Asked) (b : List ℕ) → x ≡ product_ask key peer → answer_of es x ≡ Some b
@@ -70,5 +70,5 @@ no_product es key peer x b e some size =
     let n : answer_of es (product_ask key peer) ≡ Some b = subst (λ (x : Asked). answer_of es x ≡ Some b) e some in
     let m : length b ≢ 96 = subst (λ (x : Asked). length b ≢ answer_size x.operation (length x.text)) e size in
     let s : sized_answer 96 0x02 (product_ask key peer) (answer_of es (product_ask key peer)) ≡ Err (refused 0x02) =
-      ap (sized_answer 96 0x02 (product_ask key peer)) n ∙ other_size 96 0x02 (product_ask key peer) b m in
+    ap (sized_answer 96 0x02 (product_ask key peer)) n ∙ other_size 96 0x02 (product_ask key peer) b m in
     rw s refl

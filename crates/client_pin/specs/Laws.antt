@@ -6,7 +6,7 @@ use Rattle.pin_protocols.specs.Asks.{Asked, answer_of}
 use Rattle.client_pin.specs.declared.words.PinWords.{PinWords}
 use Rattle.client_pin.specs.Grants.{Claim, granted, after_grant}
 use Rattle.client_pin.specs.Host.{asks, verified, encrypted}
-use Rattle.client_pin.specs.Outcomes.{Outcome, Verdict, pin_set, pin_refused, token_told, mismatch, after}
+use Rattle.client_pin.specs.Outcomes.{pin_set, token_told, mismatch, after, Public, Replies}
 use Rattle.client_pin.specs.Query.{Query}
 use Rattle.client_pin.specs.Saved.{FitsPin}
 use Rattle.client_pin.specs.State.{PinState, PinToken, new_pin_state, powered_up, spent, without_token, over, counted, with_pair}
@@ -102,4 +102,7 @@ pub record PinLaws : Type 0 where
       → (verdict es words q s).outcome ≡ Ok (pin_set hash) → (next (handle es words q) s).token ≡ None
   pub renewed : (es : List (Asked × List ℕ)) (words : PinWords) (q : Query) (s : PinState) (token : PinToken) (sealed : List ℕ)
       → (verdict es words q s).outcome ≡ Ok (token_told token sealed) → (next (handle es words q) s).token ≡ Some token
+  -- a reply is the same whatever the hash of the PIN and the token are: the token stands in it as the host encrypted it
+  pub hidden_hash : (a b : List ℕ) (p : Public) (bs : List ℕ) → Replies (Ok (pin_set a)) p bs → Replies (Ok (pin_set b)) p bs
+  pub hidden_token : (a b : PinToken) (sealed : List ℕ) (p : Public) (bs : List ℕ) → Replies (Ok (token_told a sealed)) p bs → Replies (Ok (token_told b sealed)) p bs
   pub gone : (s : PinState) → ((next power_up s).token ≡ None) × ((next reset s).token ≡ None) × ((next end_token s).token ≡ None)

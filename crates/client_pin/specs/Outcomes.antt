@@ -52,31 +52,40 @@ after (Err (asks a)) s = s
 
 -- ---- the reply
 
-abbrev pub nothing_told : Told
-nothing_told = record { key = None; token = None; pin_retries = None; power_cycle = None; uv_retries = None }
-
--- powerCycleState: after three wrong PINs in a row
-abbrev pub told_retries : PinState → Told
-told_retries s = record nothing_told { pin_retries = Some s.retries; power_cycle = Some (nat_le 3 s.mismatches) }
-
 -- kty 2, alg -25, crv 1
 abbrev pub told_key : KeyPair → ToldKey
 told_key pair = record { kty = pos 2; alg = negsuc 24; crv = pos 1; x = pair.x; y = pair.y }
 
--- after a wrong PIN: no retry is left; it was the third in a row; it was wrong
-abbrev pub mismatch_status : PinState → ℕ
-mismatch_status s = if s.retries == 0 then 0x32 else if nat_le 2 s.mismatches then 0x34 else 0x31
+-- what of the state a reply may show: neither the PIN's hash, nor the token, nor what stands for the private key
+pub record Public : Type 0 where
+  pub retries : ℕ
+  pub mismatches : ℕ
+  pub key : Option ToldKey
 
--- the bytes of the reply: no more of the state and the outcome stands in them than is named here
-abbrev pub Replies : Result Outcome Ending → PinState → List ℕ → Type 0
-Replies (Err (asks a)) s bs = ⊥
-Replies (Err (refused status)) s bs = bs ≡ status ∷ []
-Replies (Ok retries_told) s bs = PinReplyBytes (told_retries s) bs
-Replies (Ok key_told) s bs = PinReplyBytes (record nothing_told { key = option_map told_key s.pair }) bs
-Replies (Ok (pin_set hash)) s bs = bs ≡ 0x00 ∷ []
-Replies (Ok (pin_refused status)) s bs = bs ≡ status ∷ []
-Replies (Ok (token_told token sealed)) s bs = PinReplyBytes (record nothing_told { token = Some sealed }) bs
-Replies (Ok mismatch) s bs = bs ≡ mismatch_status s ∷ []
+abbrev pub public : PinState → Public
+public s = record { retries = s.retries; mismatches = s.mismatches; key = option_map told_key s.pair }
+
+abbrev pub nothing_told : Told
+nothing_told = record { key = None; token = None; pin_retries = None; power_cycle = None; uv_retries = None }
+
+-- powerCycleState: after three wrong PINs in a row
+abbrev pub told_retries : Public → Told
+told_retries p = record nothing_told { pin_retries = Some p.retries; power_cycle = Some (nat_le 3 p.mismatches) }
+
+-- after a wrong PIN: no retry is left; it was the third in a row; it was wrong
+abbrev pub mismatch_status : Public → ℕ
+mismatch_status p = if p.retries == 0 then 0x32 else if nat_le 2 p.mismatches then 0x34 else 0x31
+
+-- the bytes of the reply
+abbrev pub Replies : Result Outcome Ending → Public → List ℕ → Type 0
+Replies (Err (asks a)) p bs = ⊥
+Replies (Err (refused status)) p bs = bs ≡ status ∷ []
+Replies (Ok retries_told) p bs = PinReplyBytes (told_retries p) bs
+Replies (Ok key_told) p bs = PinReplyBytes (record nothing_told { key = p.key }) bs
+Replies (Ok (pin_set hash)) p bs = bs ≡ 0x00 ∷ []
+Replies (Ok (pin_refused status)) p bs = bs ≡ status ∷ []
+Replies (Ok (token_told token sealed)) p bs = PinReplyBytes (record nothing_told { token = Some sealed }) bs
+Replies (Ok mismatch) p bs = bs ≡ mismatch_status p ∷ []
 
 -- asked is nothing that was answered
 abbrev pub Unanswered : List (Asked × List ℕ) → PinStep → Type 0
@@ -86,4 +95,4 @@ Unanswered es (steps.Replies bytes) = Unit {0}
 -- what a call answers
 abbrev pub Answers : Verdict → PinStep → Type 0
 Answers v (steps.Asks a) = v.outcome ≡ Err (asks (ask_view a))
-Answers v (steps.Replies bytes) = Replies v.outcome v.state bytes.items
+Answers v (steps.Replies bytes) = Replies v.outcome (public v.state) bytes.items

@@ -3,7 +3,7 @@
 ghost use Rattle.std.specs.Prelude.{◌≡◌, ◌∷◌, [], IfOk, option_map, None};
 ghost use Rattle.pin_messages.specs.ReplyView.{key_view};
 ghost use Rattle.pin_requests.specs.Replying.{PinReplyBytes};
-ghost use Rattle.client_pin.specs.Outcomes.{Replies, done, mismatch_status, nothing_told, told_key, told_retries};
+ghost use Rattle.client_pin.specs.Outcomes.{Replies, done, mismatch_status, nothing_told, public, told_retries};
 ghost use Rattle.client_pin.specs.Pieces.{outcome_view};
 ghost use Rattle.client_pin.specs.State.{over, pin_view};
 
@@ -71,7 +71,7 @@ fn told(
 impl ClientPin {
     /// The status after a wrong PIN.
     fn mismatch_status(&self) -> u8
-        ensures { result ≡ mismatch_status (pin_view self.now) }
+        ensures { result ≡ mismatch_status (public (pin_view self.now)) }
     {
         if self.retries == 0 {
             PIN_BLOCKED
@@ -83,14 +83,14 @@ impl ClientPin {
     }
 
     fn retries_reply(&self, alloc: Global) -> Result<Vec<u8>, AllocError>
-        ensures { IfOk result (λ v. PinReplyBytes (told_retries (pin_view self.now)) v.items) }
+        ensures { IfOk result (λ v. PinReplyBytes (told_retries (public (pin_view self.now))) v.items) }
     {
         let retries = Some(u64::from(self.retries));
         told(alloc, None, None, retries, Some(self.mismatches >= 3))
     }
 
     fn key_reply(&self, alloc: Global) -> Result<Vec<u8>, AllocError>
-        ensures { IfOk result (λ v. PinReplyBytes (record nothing_told { key = option_map told_key (pin_view self.now).pair }) v.items) }
+        ensures { IfOk result (λ v. PinReplyBytes (record nothing_told { key = (public (pin_view self.now)).key }) v.items) }
     {
         let key = self.pair.as_ref().map(|pair| AgreementKey {
             kty: 2,
@@ -104,7 +104,7 @@ impl ClientPin {
 
     /// The bytes of the reply.
     pub(crate) fn reply(&self, alloc: Global, outcome: &Outcome<'_>) -> Result<Vec<u8>, AllocError>
-        ensures { IfOk result (λ v. Replies (Ok (outcome_view outcome.now)) (pin_view self.now) v.items) }
+        ensures { IfOk result (λ v. Replies (Ok (outcome_view outcome.now)) (public (pin_view self.now)) v.items) }
     {
         match outcome {
             Outcome::RetriesTold => self.retries_reply(alloc),
