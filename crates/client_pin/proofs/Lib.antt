@@ -5,3 +5,5 @@ pub mod Free
 pub mod Verdicts
 pub mod Soundness
 pub mod Laws
+pub mod Unpadding
+pub mod Same

@@ -1,6 +1,7 @@
 //! What is computed by the host's answers.
 
 ghost use Rattle.std.specs.Prelude.{◌≡◌, true, length};
+ghost use Rattle.std.specs.Str.{bytes_eq};
 ghost use Rattle.pin_messages.specs.CommandView.{point_view};
 ghost use Rattle.pin_protocols.specs.Asks.{entries};
 ghost use Rattle.pin_protocols.specs.FlowView.{secret_view};
@@ -77,6 +78,20 @@ pub(crate) fn decrypted<'a>(
     }
 }
 
+/// Whether they are the same bytes. Of as many bytes it takes as long, wherever they differ.
+pub(crate) fn is_same(left: &[u8], right: &[u8]) -> bool
+    ensures { result ≡ bytes_eq left.now right.now }
+{
+    if left.len() != right.len() {
+        return false;
+    }
+    let mut differences = 0;
+    for i in 0..left.len() {
+        differences |= left[i] ^ right[i];
+    }
+    differences == 0
+}
+
 /// Whether a param is this message authenticated by this key.
 pub(crate) fn verified(
     alloc: Global,
@@ -92,7 +107,7 @@ pub(crate) fn verified(
         Ok(tag) => tag,
         Err(stop) => return Err(End::from(stop)),
     };
-    if tag != param {
+    if !is_same(tag, param) {
         return Err(End::Refused(PIN_AUTH_INVALID));
     }
     Ok(())

@@ -10,7 +10,7 @@ ghost use Rattle.client_pin.specs.State.{pin_view};
 ghost use Rattle.client_pin.specs.Steps.{is_right, may_try, pin_of, shared, tried_pin, try_begun};
 
 use crate::checks::client_point;
-use crate::computing::{decrypted, product, secret};
+use crate::computing::{decrypted, is_same, product, secret};
 use crate::end::{End, PIN_AUTH_BLOCKED, PIN_BLOCKED, PIN_NOT_SET};
 use crate::state::{ClientPin, KeyPair};
 use pin_messages::AgreementKey;
@@ -67,7 +67,7 @@ pub(crate) fn is_right(alloc: Global, answers: &Answers, attempt: &Attempt<'_>) 
         &attempt.secret,
         attempt.pin_hash,
     )?;
-    Ok(hash == attempt.pin.as_slice())
+    Ok(is_same(hash, &attempt.pin))
 }
 
 impl ClientPin {
