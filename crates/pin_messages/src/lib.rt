@@ -10,6 +10,7 @@ mod values;
 mod writing;
 
 pub use command::{PinCommand, Point};
+pub use maps::agreement_key_if_there;
 pub use reading::{read_done, read_pin_reply};
 pub use reply::{AgreementKey, PinReply};
 pub use values::{bytes_if_there, number_if_there, point_value, text_if_there};

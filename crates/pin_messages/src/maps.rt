@@ -33,7 +33,8 @@ fn agreement_key<'a>(value: &View<'a>) -> Result<AgreementKey<'a>, Shape>
     })
 }
 
-fn agreement_key_if_there<'a>(
+/// The public key at a key that may be absent.
+pub fn agreement_key_if_there<'a>(
     value: &View<'a>,
     key: MapKey<'_>,
 ) -> Result<Option<AgreementKey<'a>>, Shape>

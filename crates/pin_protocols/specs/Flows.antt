@@ -19,7 +19,7 @@ IsSession es protocol peer own s = (z : List ℕ) × IsAgreement es peer own z �
 -- what is asked for it: first the agreement, and then what derives the secret
 abbrev pub IsSessionAsk : List (Asked × List ℕ) → Protocol → PublicPoint → Asked → Type 0
 IsSessionAsk es protocol peer a =
-    (a ≡ agreement_ask peer) ⊎ ((own : PublicPoint) × (z : List ℕ) × IsAgreement es peer own z × IsDerivation protocol z a)
+    (a ≡ agreement_ask peer) ⊎ ((own : PublicPoint) × (z : List ℕ) × IsAgreement es peer own z × IsDerivation es protocol z a)
 
 -- what is asked for with the secret
 abbrev pub AsksWith : List (Asked × List ℕ) → Protocol → PublicPoint → (SharedSecret → Asked → Type 0) → Asked → Type 0

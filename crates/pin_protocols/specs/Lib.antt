@@ -2,5 +2,4 @@ pub mod Asks
 pub mod Protocols
 pub mod Pins
 pub mod Flows
-pub mod Pieces
 pub mod FlowView

@@ -1,5 +1,5 @@
 -- PIN/UV auth protocols one (CTAP 2.1, section 6.5.6) and two (6.5.7): which bytes are computed of what.
-use Rattle.std.specs.Prelude.{◌≡◌, ℕ, ◌==◌, ◌||◌, List, [], ◌++◌, take, drop, replicate, Bool, Option, Some, None, codes, ◌⊎◌, if◌then◌else◌}
+use Rattle.std.specs.Prelude.{◌≡◌, ℕ, ◌==◌, ◌||◌, true, nat_le, List, [], ◌++◌, take, drop, replicate, Bool, Option, Some, None, codes, ◌⊎◌, if◌then◌else◌}
 use Rattle.sha2.specs.Sha256.{sha256}
 use Rattle.pin_messages.specs.Commands.{PublicPoint}
 use Rattle.pin_protocols.specs.declared.ask.Operation.TheVariants as operations
@@ -28,6 +28,13 @@ pub record HasParts (answer : List ℕ) (own : PublicPoint) (z : List ℕ) : Typ
 abbrev pub IsAgreement : List (Asked × List ℕ) → PublicPoint → PublicPoint → List ℕ → Type 0
 IsAgreement es peer own z = (answer : List ℕ) × Answered es (agreement_ask peer) answer × HasParts answer own z
 
+-- the authenticator's end (6.5.6, decapsulate): the product by its own private key, for which these bytes stand
+abbrev pub product_ask : List ℕ → PublicPoint → Asked
+product_ask key peer = asked operations.Agree key [] (peer.x ++ peer.y)
+
+abbrev pub IsProduct : List (Asked × List ℕ) → List ℕ → PublicPoint → List ℕ → Type 0
+IsProduct es key peer z = (answer : List ℕ) × Answered es (product_ask key peer) answer × (z ≡ drop 32 (drop 32 answer))
+
 -- ---- the shared secret (6.5.6, kdf; 6.5.7, kdf)
 
 pub record SharedSecret : Type 0 where
@@ -48,10 +55,11 @@ abbrev pub IsSecret : List (Asked × List ℕ) → Protocol → List ℕ → Sha
 IsSecret es protocols.One z s = (s.hmac ≡ sha256 z) × (s.aes ≡ sha256 z)
 IsSecret es protocols.Two z s = Answered es (derivation z hmac_info) s.hmac × Answered es (derivation z aes_info) s.aes
 
--- what is asked for it
-abbrev pub IsDerivation : Protocol → List ℕ → Asked → Type 0
-IsDerivation protocols.One z a = ⊥
-IsDerivation protocols.Two z a = (a ≡ derivation z hmac_info) ⊎ (a ≡ derivation z aes_info)
+-- what is asked for it: the second key when the first is there
+abbrev pub IsDerivation : List (Asked × List ℕ) → Protocol → List ℕ → Asked → Type 0
+IsDerivation es protocols.One z a = ⊥
+IsDerivation es protocols.Two z a =
+    (a ≡ derivation z hmac_info) ⊎ ((hmac : List ℕ) × Answered es (derivation z hmac_info) hmac × (a ≡ derivation z aes_info))
 
 -- ---- encrypt, decrypt and authenticate
 
@@ -63,6 +71,11 @@ encryption protocols.Two aes text = asked operations.Seal aes [] text
 abbrev pub decryption : Protocol → List ℕ → List ℕ → Asked
 decryption protocols.One aes bytes = asked operations.Decrypt aes (replicate 16 0) bytes
 decryption protocols.Two aes bytes = asked operations.Decrypt aes (take 16 bytes) (drop 16 bytes)
+
+-- by protocol two a ciphertext has an IV of 16 bytes in front
+abbrev pub has_iv : Protocol → ℕ → Bool
+has_iv protocols.One n = true
+has_iv protocols.Two n = nat_le 16 n
 
 -- HMAC-SHA-256: by protocol one its first 16 bytes, by two all 32
 abbrev pub authentication : List ℕ → List ℕ → Asked

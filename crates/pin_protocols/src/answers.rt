@@ -63,8 +63,11 @@ fn find<'a>(
     }
 }
 
-/// The answer to this; it is asked for where there is none.
-pub(crate) fn answered<'a>(
+/// The answer to this.
+///
+/// Stops as [`Stop::Asks`] where there is none, and as [`Stop::BadAnswer`] where it has another size than its operation
+/// says.
+pub fn answered<'a>(
     alloc: Global,
     answers: &'a Answers,
     operation: Operation,

@@ -8,9 +8,10 @@ use std::alloc::{AllocError, Global};
 /// What is to be computed.
 #[derive(Clone, Copy, Debug, Drop)]
 pub enum Operation {
-    /// A new key pair on P-256, and the product of its private key and the point `text`: x and y, 64 bytes. The answer
-    /// is the new public key's x and y, and the product's x: 96 bytes (CTAP 2.1, section 6.5.6, `encapsulate`). A key
-    /// pair serves one agreement.
+    /// The product of a private key on P-256 and the point `text`: x and y, 64 bytes. The answer is the x and y of that
+    /// key's public key, and the product's x: 96 bytes. Where `key` is empty, a client asks: the key pair is new, and
+    /// serves this one agreement (CTAP 2.1, section 6.5.6, `encapsulate`). Where it is not, it stands for the private key
+    /// of an authenticator's pair (`decapsulate`); where `text` is no point of the curve, the answer is empty.
     Agree,
     /// HKDF-SHA-256 (RFC 5869) of the secret `key` with a salt of 32 zeros and the info `text`: 32 bytes.
     Derive,
@@ -45,7 +46,7 @@ impl Operation {
 pub struct Ask {
     /// What is to be computed.
     pub operation: Operation,
-    /// The key or secret; of `Agree` none.
+    /// The key or secret; none where a client asks to `Agree`.
     pub key: Vec<u8>,
     /// The IV, of `Encrypt` and `Decrypt`: 16 bytes.
     pub iv: Vec<u8>,

@@ -18,12 +18,13 @@ pub enum PinFault {
     EndsInZero,
 }
 
-/// How many code points a text has: bytes of its UTF-8 that do not go on with one (RFC 3629, section 3).
-fn code_points(pin: &str) -> usize
+/// How many code points a text has: bytes of its UTF-8 that do not go on with one (RFC 3629, section 3). Whether it is
+/// UTF-8 is not looked at.
+pub fn code_points(pin: &[u8]) -> usize
     ensures { result ≡ code_points pin.now }
 {
     let mut count = 0;
-    for byte in pin.as_bytes() {
+    for byte in pin {
         if *byte < 0x80 || *byte >= 0xc0 {
             count += 1;
         }
@@ -46,7 +47,7 @@ fn ends_in_zero(pin: &str) -> bool
 pub fn pin_fault(min: u64, pin: &str) -> Option<PinFault>
     ensures { result ≡ pin_fault min pin.now }
 {
-    if (code_points(pin) as u64) < min {
+    if (code_points(pin.as_bytes()) as u64) < min {
         return Some(PinFault::TooShort);
     }
     if pin.len() > 63 {

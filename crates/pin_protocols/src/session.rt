@@ -1,12 +1,12 @@
 //! What is agreed with a key, and what is computed by the shared secret.
 
-ghost use Rattle.std.specs.Prelude.{◌≡◌, ◌≤◌, ◌++◌, IfErr, IfOk, length, replicate};
+ghost use Rattle.std.specs.Prelude.{◌≡◌, ◌≤◌, ◌++◌, true, IfErr, IfOk, length, replicate};
 ghost use Rattle.pin_messages.specs.CommandView.{point_view};
 ghost use Rattle.pin_protocols.specs.Asks.{Answered, Stops, entries};
 ghost use Rattle.pin_protocols.specs.Flows.{IsSession, IsSessionAsk};
 ghost use Rattle.pin_protocols.specs.declared.protocol.Protocol.TheVariants.{Two};
-ghost use Rattle.pin_protocols.specs.Pieces.{secret_view};
-ghost use Rattle.pin_protocols.specs.Protocols.{Authenticates, HasParts, IsAgreement, IsDerivation, IsSecret, agreement_ask, authentication, encryption, shortened};
+ghost use Rattle.pin_protocols.specs.Protocols.{Authenticates, HasParts, IsAgreement, IsDerivation, IsProduct, IsSecret, agreement_ask, authentication, decryption, encryption, has_iv, product_ask, shortened};
+ghost use Rattle.pin_protocols.specs.FlowView.{secret_view};
 
 use crate::answers::{Answers, answered};
 use crate::ask::Operation;
@@ -16,11 +16,20 @@ use pin_messages::Point;
 use sha2::{Digest, Sha256};
 use std::alloc::{AllocError, Global};
 
-/// The shared secret: its two keys, which by protocol one are the same.
+/// The shared secret of a key agreement: its two keys, which by protocol one are the same.
 #[derive(Debug, Drop)]
-pub(crate) struct Secret {
-    pub hmac: Vec<u8>,
-    pub aes: Vec<u8>,
+pub struct Secret {
+    pub(crate) hmac: Vec<u8>,
+    pub(crate) aes: Vec<u8>,
+}
+
+impl Secret {
+    /// The key that messages are authenticated by.
+    pub fn hmac(&self) -> &[u8]
+        ensures { result.now ≡ (secret_view self.now).hmac }
+    {
+        &self.hmac
+    }
 }
 
 /// The client's public key, and the shared secret.
@@ -79,6 +88,26 @@ fn agreement_answer<'a>(
     answered(alloc, answers, Operation::Agree, &[], &[], &text)
 }
 
+/// The coordinate x of the product of an authenticator's private key, for which `key` stands, and a client's point
+/// (CTAP 2.1, section 6.5.6, `decapsulate`): 32 bytes. It lies in the answers.
+///
+/// Stops as [`Stop::BadAnswer`] where the host says by an answer of another size that it is no point of the curve.
+pub fn product<'a>(
+    alloc: Global,
+    answers: &'a Answers,
+    key: &[u8],
+    peer: &Point<'_>,
+) -> Result<&'a [u8], Stop>
+    ensures product { IfOk result (λ z. IsProduct (entries answers.now) key.now (point_view peer.now) z.now) }
+    ensures stops { IfErr result (Stops (entries answers.now) (λ a. a ≡ product_ask key.now (point_view peer.now))) }
+{
+    let text = joined(alloc, peer.x, peer.y)?;
+    match answered(alloc, answers, Operation::Agree, key, &[], &text) {
+        Ok(answer) => Ok(parts(answer).z),
+        Err(e) => Err(e),
+    }
+}
+
 fn agreed<'a>(alloc: Global, answers: &'a Answers, peer: &Point<'_>) -> Result<Agreement<'a>, Stop>
     ensures agreed { IfOk result (λ g. IsAgreement (entries answers.now) (point_view peer.now) (point_view g.own) g.z.now) }
     ensures stops { IfErr result (Stops (entries answers.now) (λ a. a ≡ agreement_ask (point_view peer.now))) }
@@ -91,7 +120,7 @@ fn agreed<'a>(alloc: Global, answers: &'a Answers, peer: &Point<'_>) -> Result<A
 
 fn derived(alloc: Global, answers: &Answers, z: &[u8]) -> Result<Secret, Stop>
     ensures derived { IfOk result (λ s. IsSecret (entries answers.now) Two z.now (secret_view s)) }
-    ensures stops { IfErr result (Stops (entries answers.now) (IsDerivation Two z.now)) }
+    ensures stops { IfErr result (Stops (entries answers.now) (IsDerivation (entries answers.now) Two z.now)) }
 {
     let hmac = match answered(alloc, answers, Operation::Derive, z, &[], b"CTAP2 HMAC key") {
         Ok(key) => key,
@@ -107,14 +136,16 @@ fn derived(alloc: Global, answers: &Answers, z: &[u8]) -> Result<Secret, Stop>
     })
 }
 
-fn shared_secret(
+/// The shared secret that a product gives (CTAP 2.1, section 6.5.6, `kdf`, and 6.5.7). Stops at the two keys that are
+/// derived by protocol two.
+pub fn shared_secret(
     alloc: Global,
     answers: &Answers,
     protocol: Protocol,
     z: &[u8],
 ) -> Result<Secret, Stop>
     ensures secret { IfOk result (λ s. IsSecret (entries answers.now) protocol z.now (secret_view s)) }
-    ensures stops { IfErr result (Stops (entries answers.now) (IsDerivation protocol z.now)) }
+    ensures stops { IfErr result (Stops (entries answers.now) (IsDerivation (entries answers.now) protocol z.now)) }
 {
     match protocol {
         Protocol::One => {
@@ -151,8 +182,9 @@ pub(crate) fn begun<'a>(
     }
 }
 
-/// A text encrypted.
-pub(crate) fn sealed<'a>(
+/// A text encrypted (CTAP 2.1, section 6.5.6, `encrypt`, and 6.5.7): the ciphertext, by protocol two behind its IV. It
+/// lies in the answers. Stops at the encryption.
+pub fn sealed<'a>(
     alloc: Global,
     answers: &'a Answers,
     protocol: Protocol,
@@ -171,6 +203,38 @@ pub(crate) fn sealed<'a>(
     }
 }
 
+/// A ciphertext decrypted (CTAP 2.1, section 6.5.6, `decrypt`, and 6.5.7); by protocol two it is behind its IV. The text
+/// lies in the answers. Stops at the decryption.
+pub fn opened<'a>(
+    alloc: Global,
+    answers: &'a Answers,
+    protocol: Protocol,
+    secret: &Secret,
+    ciphertext: &[u8],
+) -> Result<&'a [u8], Stop>
+    requires { has_iv protocol (length ciphertext.now) ≡ true }
+    ensures opened { IfOk result (λ b. Answered (entries answers.now) (decryption protocol secret.now.aes.items ciphertext.now) b.now) }
+    ensures stops { IfErr result (Stops (entries answers.now) (λ a. a ≡ decryption protocol secret.now.aes.items ciphertext.now)) }
+{
+    match protocol {
+        Protocol::One => {
+            let iv = no_iv();
+            answered(
+                alloc,
+                answers,
+                Operation::Decrypt,
+                &secret.aes,
+                &iv,
+                ciphertext,
+            )
+        }
+        Protocol::Two => {
+            let (iv, rest) = ciphertext.split_at(16);
+            answered(alloc, answers, Operation::Decrypt, &secret.aes, iv, rest)
+        }
+    }
+}
+
 /// The part of a tag that a message has.
 fn shortened<'a>(protocol: Protocol, tag: &'a [u8]) -> &'a [u8]
     requires { 16 ≤ length tag.now }
@@ -182,8 +246,9 @@ fn shortened<'a>(protocol: Protocol, tag: &'a [u8]) -> &'a [u8]
     }
 }
 
-/// A message authenticated.
-pub(crate) fn authenticated<'a>(
+/// A message authenticated by a key (CTAP 2.1, section 6.5.6, `authenticate`, and 6.5.7): 16 bytes by protocol one, 32 by
+/// two. It lies in the answers. Stops at the authentication.
+pub fn authenticated<'a>(
     alloc: Global,
     answers: &'a Answers,
     protocol: Protocol,

@@ -1,15 +1,14 @@
 //! A token that a key gave, and what is made of it.
 
-ghost use Rattle.std.specs.Prelude.{◌≡◌, true, IfErr, IfOk, length};
+ghost use Rattle.std.specs.Prelude.{◌≡◌, IfErr, IfOk, length};
 ghost use Rattle.pin_messages.specs.CommandView.{point_view};
-ghost use Rattle.pin_protocols.specs.Asks.{Answered, Stops, entries};
+ghost use Rattle.pin_protocols.specs.Asks.{Stops, entries};
 ghost use Rattle.pin_protocols.specs.Flows.{IsToken, NoToken};
-ghost use Rattle.pin_protocols.specs.Protocols.{Authenticates, authentication, decryption, is_token_size};
+ghost use Rattle.pin_protocols.specs.Protocols.{Authenticates, authentication, is_token_size};
 
-use crate::answers::{Answers, answered};
-use crate::ask::Operation;
+use crate::answers::Answers;
 use crate::protocol::Protocol;
-use crate::session::{Secret, authenticated, begun, no_iv};
+use crate::session::{authenticated, begun, opened};
 use crate::stop::Stop;
 use pin_messages::Point;
 use std::alloc::Global;
@@ -20,29 +19,6 @@ fn is_token_size(protocol: Protocol, told: &[u8]) -> bool
     match protocol {
         Protocol::One => told.len() == 16 || told.len() == 32,
         Protocol::Two => told.len() == 48,
-    }
-}
-
-fn opened<'a>(
-    alloc: Global,
-    answers: &'a Answers,
-    protocol: Protocol,
-    secret: &Secret,
-    told: &[u8],
-) -> Result<&'a [u8], Stop>
-    requires { is_token_size protocol (length told.now) ≡ true }
-    ensures opened { IfOk result (λ b. Answered (entries answers.now) (decryption protocol secret.now.aes.items told.now) b.now) }
-    ensures stops { IfErr result (Stops (entries answers.now) (λ a. a ≡ decryption protocol secret.now.aes.items told.now)) }
-{
-    match protocol {
-        Protocol::One => {
-            let iv = no_iv();
-            answered(alloc, answers, Operation::Decrypt, &secret.aes, &iv, told)
-        }
-        Protocol::Two => {
-            let (iv, rest) = told.split_at(16);
-            answered(alloc, answers, Operation::Decrypt, &secret.aes, iv, rest)
-        }
     }
 }
 

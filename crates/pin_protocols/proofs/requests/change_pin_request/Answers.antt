@@ -4,7 +4,7 @@ use Rattle.pin_messages.specs.CommandView.{point_view}
 use Rattle.pin_messages.specs.Commands.{change_pin}
 use Rattle.pin_protocols.specs.Asks.{entries}
 use Rattle.pin_protocols.specs.Flows.{IsChangePin, IsChangePinAsk, IsSessionAsk}
-use Rattle.pin_protocols.specs.Pieces.{secret_view}
+use Rattle.pin_protocols.specs.FlowView.{secret_view}
 use Rattle.pin_protocols.specs.Pins.{padded, pin_fault, pin_hash}
 use Rattle.pin_protocols.specs.Protocols.{authentication, encryption}
 use Rattle.pin_protocols.proofs.Stopping.{none_made, sent_made, sent_none}

@@ -5,7 +5,7 @@ use Rattle.pin_messages.specs.CommandView.{command_view, point_view}
 use Rattle.pin_protocols.specs.Asks.{entries}
 use Rattle.pin_protocols.specs.Flows.{IsSessionAsk, IsTokenAsk, IsTokenByPin}
 use Rattle.pin_protocols.specs.FlowView.{scope_view}
-use Rattle.pin_protocols.specs.Pieces.{secret_view}
+use Rattle.pin_protocols.specs.FlowView.{secret_view}
 use Rattle.pin_protocols.specs.Pins.{pin_hash}
 use Rattle.pin_protocols.specs.Protocols.{encryption}
 use Rattle.pin_protocols.proofs.Stopping.{none_made, sent_made, sent_none}

@@ -6,7 +6,7 @@ use Rattle.pin_messages.specs.Commands.{token_by_uv}
 use Rattle.pin_protocols.specs.Asks.{entries}
 use Rattle.pin_protocols.specs.Flows.{IsSessionAsk, IsTokenByUv}
 use Rattle.pin_protocols.specs.FlowView.{scope_view}
-use Rattle.pin_protocols.specs.Pieces.{secret_view}
+use Rattle.pin_protocols.specs.FlowView.{secret_view}
 use Rattle.pin_protocols.proofs.Stopping.{none_made, sent_made, sent_none}
 use Rattle.pin_protocols.proofs.requests.uv_token_request.Goals as goal
 

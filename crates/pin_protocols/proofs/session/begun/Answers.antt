@@ -16,5 +16,5 @@ returns-in-Ok-shared_secret-clause-agreed c = (c.in-Ok.agreement.z.now, c.in-Ok.
 
 pub returns-in-Err-shared_secret-clause-stops : goal.returns-in-Err-shared_secret-clause-stops
 returns-in-Err-shared_secret-clause-stops c =
-    stops_more (entries c.args.answers.now) (IsDerivation c.args.protocol c.in-Ok.agreement.z.now) (IsSessionAsk (entries c.args.answers.now) c.args.protocol (point_view c.args.peer.now))
+    stops_more (entries c.args.answers.now) (IsDerivation (entries c.args.answers.now) c.args.protocol c.in-Ok.agreement.z.now) (IsSessionAsk (entries c.args.answers.now) c.args.protocol (point_view c.args.peer.now))
     (λ a h. inr (point_view c.in-Ok.agreement.own, c.in-Ok.agreement.z.now, c.in-Ok.ensures.agreed, h)) c.in-Err-shared_secret.e c.in-Err-shared_secret.ensures.stops

@@ -3,7 +3,7 @@ use Rattle.std.proofs.Common.{◌≡◌, true, length, inl, inr, rules}
 use Rattle.pin_messages.specs.CommandView.{point_view}
 use Rattle.pin_protocols.specs.Asks.{entries}
 use Rattle.pin_protocols.specs.Flows.{IsSessionAsk}
-use Rattle.pin_protocols.specs.Pieces.{secret_view}
+use Rattle.pin_protocols.specs.FlowView.{secret_view}
 use Rattle.pin_protocols.specs.Protocols.{decryption, is_token_size}
 use Rattle.pin_protocols.proofs.Stopping.{no_token}
 use Rattle.pin_protocols.proofs.token.pin_uv_auth_token.Goals as goal

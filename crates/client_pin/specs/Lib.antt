@@ -1,0 +1,10 @@
+pub mod State
+pub mod Query
+pub mod Host
+pub mod Pins
+pub mod Outcomes
+pub mod Steps
+pub mod Grants
+pub mod Saved
+pub mod Laws
+pub mod Pieces

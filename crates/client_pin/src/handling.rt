@@ -1,0 +1,105 @@
+//! A request of clientPIN (CTAP 2.1, section 6.5.5).
+
+ghost use Rattle.std.specs.Prelude.{◌≡◌, ◌⊎◌, IfOk, OnErr, OnOk, Result};
+ghost use Rattle.pin_protocols.specs.Asks.{entries};
+ghost use Rattle.client_pin.specs.Host.{Ending};
+ghost use Rattle.client_pin.specs.Outcomes.{Answers, Outcome, Unanswered, after};
+ghost use Rattle.client_pin.specs.Pieces.{Gives, IsOutcome, Reaches, outcome_view};
+ghost use Rattle.client_pin.specs.Query.{query_view};
+ghost use Rattle.client_pin.specs.State.{pin_view, with_pair};
+ghost use Rattle.client_pin.specs.Steps.{judged, key_agreement, verdict};
+
+use crate::checks::{known_protocol, needed_number};
+use crate::end::{End, INVALID_SUBCOMMAND};
+use crate::outcome::{Outcome, status_alone};
+use crate::state::{ClientPin, KeyPair};
+use crate::words::{PinStep, PinWords};
+use pin_protocols::Answers;
+use pin_requests::PinAsked;
+use std::alloc::{AllocError, Global};
+
+/// getKeyAgreement.
+#[tactic(auto, unfolding(crate::specs::Steps::key_agreement))]
+fn key_agreement<'a>(asked: &PinAsked<'_>) -> Result<Outcome<'a>, End>
+    ensures { Gives outcome_view result (key_agreement (query_view asked.now)) }
+{
+    let number = needed_number(asked.protocol)?;
+    known_protocol(number)?;
+    Ok(Outcome::KeyTold)
+}
+
+impl ClientPin {
+    /// What comes of a request.
+    fn judged<'a>(
+        &mut self,
+        alloc: Global,
+        answers: &'a Answers,
+        words: &PinWords,
+        pair: &KeyPair,
+        asked: &PinAsked<'_>,
+    ) -> Result<Outcome<'a>, End>
+        ensures { Reaches (judged (entries answers.now) words.now pair.now (query_view asked.now) (pin_view self.old)) (pin_view self.old) result (pin_view self.new) }
+    {
+        match asked.subcommand {
+            1 => Ok(Outcome::RetriesTold),
+            2 => key_agreement(asked),
+            3 => self.set_pin(alloc, answers, pair, asked),
+            4 => self.change_pin(alloc, answers, pair, asked),
+            5 => self.pin_token(alloc, answers, words, pair, asked),
+            9 => self.token_with_permissions(alloc, answers, words, pair, asked),
+            _ => Err(End::Refused(INVALID_SUBCOMMAND)),
+        }
+    }
+
+    /// The answer of a call.
+    fn answered(
+        &mut self,
+        alloc: Global,
+        outcome: Result<Outcome<'_>, End>,
+    ) -> Result<PinStep, AllocError>
+        ensures done { IfOk result (λ step. (r : Result Outcome Ending) × IsOutcome outcome r
+            × Answers (record { outcome = r; state = pin_view self.old }) step × (pin_view self.new ≡ after r (pin_view self.old))) }
+        ensures err { OnErr result (pin_view self.new ≡ pin_view self.old) }
+    {
+        match outcome {
+            Ok(outcome) => {
+                let reply = self.reply(alloc, &outcome)?;
+                self.carry_out(outcome);
+                Ok(PinStep::Replies(reply))
+            }
+            Err(End::Refused(status)) => {
+                let reply = status_alone(alloc, status)?;
+                self.counted = false;
+                Ok(PinStep::Replies(reply))
+            }
+            Err(End::Asks(ask)) => Ok(PinStep::Asks(ask)),
+            Err(End::Memory) => Err(AllocError),
+        }
+    }
+
+    /// A request of clientPIN. Where the host is asked, the call is made again with its answer, for the same request and with
+    /// the same words.
+    ///
+    /// Before the host is asked to decrypt pinHashEnc, one retry less is left. Where there is no memory, the key pair may have
+    /// been taken and the try counted, and no more: the call can be made again.
+    pub fn handle(
+        &mut self,
+        alloc: Global,
+        asked: &PinAsked<'_>,
+        words: &PinWords,
+        answers: &Answers,
+    ) -> Result<PinStep, AllocError>
+        ensures step { IfOk result (λ step. Answers (verdict (entries answers.now) words.now (query_view asked.now) (pin_view self.old)) step) }
+        ensures state { OnOk result (pin_view self.new ≡ after (verdict (entries answers.now) words.now (query_view asked.now) (pin_view self.old)).outcome
+            (verdict (entries answers.now) words.now (query_view asked.now) (pin_view self.old)).state) }
+        // Asked is nothing that was answered.
+        ensures asks { IfOk result (Unanswered (entries answers.now)) }
+        // Where memory is wanting, the key pair was taken, and the try may have been counted.
+        ensures want { OnErr result ((pin_view self.new ≡ with_pair words.now (pin_view self.old))
+            ⊎ (pin_view self.new ≡ (verdict (entries answers.now) words.now (query_view asked.now) (pin_view self.old)).state)) }
+    {
+        let pair = self.take_pair(words);
+        let outcome = self.judged(alloc, answers, words, &pair, asked);
+        self.answered(alloc, outcome)
+    }
+}

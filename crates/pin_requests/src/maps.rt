@@ -1,0 +1,81 @@
+//! Reading the maps of requests, where they lie.
+
+use crate::asked::{AskedMembers, OptionsAsked, ParamView};
+use cbor_map::{Shape, any_map};
+use ccbor::{MapKey, View};
+use key_replies::{bytes_if_there, truth_if_there, unsigned_if_there};
+use pin_messages::agreement_key_if_there;
+
+/// A text, where it lies.
+fn text<'a>(value: &View<'a>) -> Result<&'a str, Shape> {
+    match value.as_text() {
+        Some(content) => Ok(content),
+        None => Err(Shape),
+    }
+}
+
+/// The text at a key that may be absent.
+fn text_if_there<'a>(value: &View<'a>, key: MapKey<'_>) -> Result<Option<&'a str>, Shape> {
+    match value.get(key) {
+        Some(held) => Ok(Some(text(&held)?)),
+        None => Ok(None),
+    }
+}
+
+/// The members of a request of authenticatorClientPIN.
+pub(crate) fn asked<'a>(value: &View<'a>) -> Result<AskedMembers<'a>, Shape> {
+    any_map(value)?;
+    let protocol = unsigned_if_there(value, MapKey::Uint(1), 0)?;
+    let subcommand = unsigned_if_there(value, MapKey::Uint(2), 0)?;
+    let key = agreement_key_if_there(value, MapKey::Uint(3))?;
+    let param = bytes_if_there(value, MapKey::Uint(4))?;
+    let new_pin = bytes_if_there(value, MapKey::Uint(5))?;
+    let pin_hash = bytes_if_there(value, MapKey::Uint(6))?;
+    let permissions = unsigned_if_there(value, MapKey::Uint(9), 0)?;
+    let rp_id = text_if_there(value, MapKey::Uint(10))?;
+    Ok(AskedMembers {
+        protocol,
+        subcommand,
+        key,
+        param,
+        new_pin,
+        pin_hash,
+        permissions,
+        rp_id,
+    })
+}
+
+/// The options of a request.
+fn options(value: &View<'_>) -> Result<OptionsAsked, Shape> {
+    any_map(value)?;
+    let up = truth_if_there(value, MapKey::Text("up"))?;
+    let uv = truth_if_there(value, MapKey::Text("uv"))?;
+    Ok(OptionsAsked { up, uv })
+}
+
+/// The options at a key that may be absent.
+fn options_if_there(value: &View<'_>, key: MapKey<'_>) -> Result<OptionsAsked, Shape> {
+    match value.get(key) {
+        Some(held) => options(&held),
+        None => Ok(OptionsAsked { up: None, uv: None }),
+    }
+}
+
+/// What a request's map says of the user's verification, by the numbers of its members.
+pub(crate) fn param_view<'a>(
+    value: &View<'a>,
+    options: u64,
+    param: u64,
+    protocol: u64,
+) -> Result<ParamView<'a>, Shape> {
+    any_map(value)?;
+    let options = options_if_there(value, MapKey::Uint(options))?;
+    let param = bytes_if_there(value, MapKey::Uint(param))?;
+    let protocol = unsigned_if_there(value, MapKey::Uint(protocol), 0)?;
+    Ok(ParamView {
+        up: options.up,
+        uv: options.uv,
+        param,
+        protocol,
+    })
+}
