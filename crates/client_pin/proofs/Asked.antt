@@ -1,5 +1,5 @@
 -- What each subcommand asks the host: nothing that it answered, and before a try is counted no decryption.
-use Rattle.std.proofs.Common.{◌≡◌, ℕ, List, ◌++◌, length, drop, Bool, true, false, cond, eqb, Some, None, Result, Ok, Err, refl, sym, ap, subst, ◌∙◌, arith}
+use Rattle.std.proofs.Common.{◌≡◌, ℕ, List, ◌++◌, false, Some, None, Result, Ok, Err, refl, ap, ◌∙◌}
 use Rattle.std.specs.Prelude.{Option}
 use Rattle.pin_messages.specs.Commands.{PublicPoint}
 use Rattle.pin_messages.specs.Replies.{ToldKey}
@@ -11,12 +11,11 @@ use Rattle.pin_protocols.specs.Flows.{Scope}
 use Rattle.pin_protocols.specs.Protocols.{SharedSecret, product_ask, derivation, hmac_info, aes_info, encryption, decryption, authentication, protocol_of}
 use Rattle.client_pin.specs.declared.state.KeyPair.{KeyPair}
 use Rattle.client_pin.specs.declared.words.PinWords.{PinWords}
-use Rattle.client_pin.specs.Host.{Ending, asks, refused, ◌>>=◌, answer, sized_answer, product, secret, encrypted, decrypted, verified}
-use Rattle.client_pin.specs.Outcomes.{Outcome}
-use Rattle.client_pin.specs.Pins.{sealed_size, kept_hash, new_hash, unpadded}
+use Rattle.client_pin.specs.Host.{Ending, asks, refused, answer, product, secret, verified}
+use Rattle.client_pin.specs.Pins.{kept_hash, new_hash, unpadded}
 use Rattle.client_pin.specs.Query.{Query}
 use Rattle.client_pin.specs.State.{PinState}
-use Rattle.client_pin.specs.Steps.{Try, needed, known, known_protocol, is_agreement_key, client_point, shared, pin_of, may_try, tried_pin, is_right, key_agreement, unset, set_pin, change_begun, changed, replaced, try_begun, without_scope, pin_token_begun, allowed_permissions, token_begun, token_given, token}
+use Rattle.client_pin.specs.Steps.{Try, needed, known, is_agreement_key, client_point, shared, pin_of, may_try, tried_pin, is_right, key_agreement, unset, set_pin, change_begun, changed, replaced, try_begun, without_scope, pin_token_begun, allowed_permissions, token_begun, token_given, token}
 use Rattle.client_pin.proofs.Binds.{Asking, asking_ok, asking_refused, asking_then, asking_more, asking_if, sized_asks, answer_asks}
 
 -- there is no answer to it, and it is no decryption

@@ -5,5 +5,6 @@ pub mod Free
 pub mod Verdicts
 pub mod Soundness
 pub mod Laws
+pub mod Ending
 pub mod Unpadding
 pub mod Same

@@ -1,5 +1,5 @@
 -- What a token grants a makeCredential or getAssertion: CTAP 2.1, sections 6.1.2, step 11, and 6.2.2, step 6.
-use Rattle.std.specs.Prelude.{◌≡◌, ◌==◌, ℕ, List, Bool, true, false, ◌&&◌, not, bit_and, Option, Some, None, option_map, Result, Ok, Err, if◌then◌else◌}
+use Rattle.std.specs.Prelude.{◌≡◌, ◌==◌, ℕ, List, Bool, true, ◌&&◌, not, bit_and, Option, Some, None, option_map, Result, Ok, Err, if◌then◌else◌}
 use Rattle.std.specs.Str.{bytes_eq}
 use Rattle.pin_protocols.specs.declared.protocol.Protocol.{Protocol}
 use Rattle.pin_protocols.specs.Asks.{Asked, ask_view}

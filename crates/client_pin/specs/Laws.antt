@@ -1,5 +1,5 @@
 -- What holds of an authenticator's PIN over all that is done to it (CTAP 2.1, section 6.5).
-use Rattle.std.specs.Prelude.{◌≡◌, ◌≢◌, ◌<◌, ◌≤◌, ◌⊎◌, ℕ, List, [], ◌∷◌, Bool, true, false, bit_and, Option, Some, None, Result, Ok, Err}
+use Rattle.std.specs.Prelude.{◌≡◌, ◌≢◌, ◌<◌, ◌≤◌, ◌⊎◌, ℕ, List, [], ◌∷◌, true, false, bit_and, Option, Some, None, Ok, Err}
 use Rattle.std.specs.List.{AllByRecursion}
 use Rattle.pin_protocols.specs.declared.ask.Operation.TheVariants as operations
 use Rattle.pin_protocols.specs.Asks.{Asked, answer_of}
