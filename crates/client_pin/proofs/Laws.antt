@@ -1,5 +1,5 @@
 -- The laws.
-use Rattle.std.proofs.Common.{◌≡◌, ◌≢◌, ◌<◌, ◌≤◌, ◌⊎◌, ℕ, List, [], ◌∷◌, Bool, true, false, cond, eqb, Some, None, Result, Ok, Err, refl, sym, ap, subst, ◌∙◌, inl, inr, arith}
+use Rattle.std.proofs.Common.{length, ◌≡◌, ◌≢◌, ◌<◌, ◌≤◌, ◌⊎◌, ℕ, List, [], ◌∷◌, Bool, true, false, cond, eqb, Some, None, Result, Ok, Err, refl, sym, ap, subst, ◌∙◌, inl, inr, arith}
 use Rattle.std.specs.Prelude.{Option, bit_and, not, ◌&&◌}
 use Rattle.std.specs.List.{AllByRecursion}
 use Rattle.std.proofs.lemmas.Bool.{eqb-false}
@@ -11,11 +11,11 @@ use Rattle.pin_protocols.specs.Protocols.{number}
 use Rattle.client_pin.specs.declared.words.PinWords.{PinWords}
 use Rattle.client_pin.specs.Grants.{Claim, granted, after_grant, is_for, permits, token_of}
 use Rattle.client_pin.specs.Host.{Ending, asks, refused, verified, encrypted}
-use Rattle.client_pin.specs.Laws.{Call, handle, verify, spend, end_token, give_up, power_up, reset, next, nexts, Sound, IsRight, IsDecryption, IsNoRestart, IsNoReset, PinLaws}
+use Rattle.client_pin.specs.Laws.{Call, handle, begin, leave, verify, spend, end_token, give_up, power_up, reset, next, nexts, Sound, IsRight, IsDecryption, IsNoRestart, IsNoReset, PinLaws}
 use Rattle.client_pin.specs.Outcomes.{Outcome, retries_told, key_told, pin_set, pin_refused, token_told, mismatch, after}
 use Rattle.client_pin.specs.Query.{Query}
-use Rattle.client_pin.specs.Saved.{FitsPin}
-use Rattle.client_pin.specs.State.{PinState, PinToken, counted, with_pair, pair_of}
+use Rattle.client_pin.specs.Saved.{FitsPin, hash_bytes, saved}
+use Rattle.client_pin.specs.State.{PinState, PinToken, counted, with_pair, pair_of, powered_up}
 use Rattle.client_pin.specs.Steps.{Try, verdict, is_right, needed, known_protocol}
 use Rattle.client_pin.proofs.Binds.{bind_ok}
 use Rattle.client_pin.proofs.Free.{Giving, Begins, Comes, Free}
@@ -112,12 +112,20 @@ handle_stays es words q s u = elim (way_of es words q s) [
   | inr c ↦ absurd (u.1 c.begins.free)
 ]
 
+leave_stays : (es : List (Asked × List ℕ)) (words : PinWords) (q : Query) (s : PinState) → Unfree s → Stays s (verdict es words q s).state
+leave_stays es words q s u = elim (way_of es words q s) [
+  | inl c ↦ subst (λ (st : PinState). Stays s st) (sym c.state) (refl, refl, refl, λ same. same)
+  | inr c ↦ absurd (u.1 c.begins.free)
+]
+
 grant_stays : (r : Result (Unit {0}) Ending) (rp_id : List ℕ) (s : PinState) → Stays s (after_grant r rp_id s)
 grant_stays (Ok x) rp_id s = (refl, refl, refl, λ same. same)
 grant_stays (Err e) rp_id s = (refl, refl, refl, λ same. same)
 
 call_stays : (call : Call) (s : PinState) → IsNoRestart call → Unfree s → Stays s (next call s)
 call_stays (handle es words q) s kept u = handle_stays es words q s u
+call_stays (begin words) s kept u = (refl, refl, refl, λ same. same)
+call_stays (leave es words q) s kept u = leave_stays es words q s u
 call_stays (verify es c) s kept u = grant_stays (granted es c s.token) c.rp_id s
 call_stays spend s kept u = (refl, refl, refl, λ same. same)
 call_stays end_token s kept u = (refl, refl, refl, λ same. same)
@@ -160,6 +168,8 @@ call_used_up power_up s kept e c stays = (e, refl, refl)
 call_used_up reset s kept e c stays = absurd kept
 call_used_up (handle es words q) s kept e c stays = let k = stays tt in (k.1 ∙ e, k.2, not_counted _ (λ now. no_false s.counted c (k.3 now)))
 call_used_up (verify es x) s kept e c stays = let k = stays tt in (k.1 ∙ e, k.2, not_counted _ (λ now. no_false s.counted c (k.3 now)))
+call_used_up (begin words) s kept e c stays = let k = stays tt in (k.1 ∙ e, k.2, not_counted _ (λ now. no_false s.counted c (k.3 now)))
+call_used_up (leave es words q) s kept e c stays = let k = stays tt in (k.1 ∙ e, k.2, not_counted _ (λ now. no_false s.counted c (k.3 now)))
 call_used_up spend s kept e c stays = (e, refl, c)
 call_used_up end_token s kept e c stays = (e, refl, c)
 call_used_up give_up s kept e c stays = (e, refl, refl)
@@ -228,10 +238,29 @@ set_token s hash o e = ap (λ (r : Result Outcome Ending). (after r s).token) e
 told_token : (s : PinState) (token : PinToken) (sealed : List ℕ) (o : Result Outcome Ending) → o ≡ Ok (token_told token sealed) → (after o s).token ≡ Some token
 told_token s token sealed o e = ap (λ (r : Result Outcome Ending). (after r s).token) e
 
+-- ---- what is saved
+
+abbrev kept_of : Option (List ℕ) → ℕ → PinState
+kept_of pin retries = record { pin = pin; retries = retries; mismatches = 0; pair = None; token = None; counted = false }
+
+same_hash : (o p : Option (List ℕ)) (n : ℕ) → FitsPin o n → FitsPin p n → hash_bytes o ≡ hash_bytes p → o ≡ p
+same_hash None None n h k e = refl
+same_hash None (Some y) n h k e = absurd (let size : 0 ≡ length y = ap length e in omega (arith, k.0))
+same_hash (Some x) None n h k e = absurd (let size : length x ≡ 0 = ap length e in omega (arith, h.0))
+same_hash (Some x) (Some y) n h k e = ap (λ (z : List ℕ). Some z) e
+
+saved_once : (s t : PinState) → Sound s → Sound t → saved s ≡ saved t → powered_up s ≡ powered_up t
+saved_once s t h k e =
+    let n : s.retries ≡ t.retries = cc in
+    let b : hash_bytes s.pin ≡ hash_bytes t.pin = cc in
+    let p : s.pin ≡ t.pin = same_hash s.pin t.pin t.retries (subst (FitsPin s.pin) n h.pin) k.pin b in
+    ap (λ (o : Option (List ℕ)). kept_of o s.retries) p ∙ ap (kept_of t.pin) n
+
 pub laws : PinLaws
 laws = record {
   sound = nexts_sound;
   begins = new_sound;
+  saved_once = saved_once;
   restored = restored;
   given = given;
   asked = asked;

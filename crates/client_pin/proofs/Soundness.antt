@@ -6,7 +6,7 @@ use Rattle.pin_protocols.specs.Asks.{Asked}
 use Rattle.client_pin.specs.declared.words.PinWords.{PinWords}
 use Rattle.client_pin.specs.Grants.{granted, after_grant, bound}
 use Rattle.client_pin.specs.Host.{Ending, asks, refused}
-use Rattle.client_pin.specs.Laws.{Call, handle, verify, spend, end_token, give_up, power_up, reset, next, nexts, Sound}
+use Rattle.client_pin.specs.Laws.{Call, handle, begin, leave, verify, spend, end_token, give_up, power_up, reset, next, nexts, Sound}
 use Rattle.client_pin.specs.Outcomes.{Outcome, Verdict, retries_told, key_told, pin_set, pin_refused, token_told, mismatch, after, one_more}
 use Rattle.client_pin.specs.Query.{Query}
 use Rattle.client_pin.specs.Saved.{FitsPin}
@@ -128,6 +128,11 @@ grant_sound (Err e) rp_id s h = h
 
 pub next_sound : (call : Call) (s : PinState) → Sound s → Sound (next call s)
 next_sound (handle es words q) s h = way_sound es words q (with_pair words s) (verdict es words q s) (pair_sound words s h) (judged_way es words (pair_of words s) q (with_pair words s))
+next_sound (begin words) s h = pair_sound words s h
+next_sound (leave es words q) s h = elim (judged_way es words (pair_of words s) q (with_pair words s)) [
+  | inl u ↦ subst Sound (sym u.state) (pair_sound words s h)
+  | inr c ↦ subst Sound (sym c.state) (counted_sound (with_pair words s) c.attempt (pair_sound words s h) c.begins)
+]
 next_sound (verify es c) s h = grant_sound (granted es c s.token) c.rp_id s h
 next_sound spend s h = record {
   retries = h.retries;

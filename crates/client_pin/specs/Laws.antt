@@ -8,7 +8,7 @@ use Rattle.client_pin.specs.Grants.{Claim, granted, after_grant}
 use Rattle.client_pin.specs.Host.{asks, verified, encrypted}
 use Rattle.client_pin.specs.Outcomes.{pin_set, token_told, mismatch, after, Public, Replies}
 use Rattle.client_pin.specs.Query.{Query}
-use Rattle.client_pin.specs.Saved.{FitsPin}
+use Rattle.client_pin.specs.Saved.{FitsPin, saved}
 use Rattle.client_pin.specs.State.{PinState, PinToken, new_pin_state, powered_up, spent, without_token, over, counted, with_pair}
 use Rattle.client_pin.specs.Steps.{Try, verdict, is_right}
 
@@ -16,6 +16,9 @@ use Rattle.client_pin.specs.Steps.{Try, verdict, is_right}
 
 pub data Call : Type 0 where
   handle : List (Asked × List ℕ) → PinWords → Query → Call
+  -- a request of clientPIN for which there was no memory: its key pair was taken; or its try was counted, too
+  begin : PinWords → Call
+  leave : List (Asked × List ℕ) → PinWords → Query → Call
   verify : List (Asked × List ℕ) → Claim → Call
   spend : Call
   end_token : Call
@@ -26,6 +29,8 @@ pub data Call : Type 0 where
 
 abbrev pub next : Call → PinState → PinState
 next (handle es words q) s = after (verdict es words q s).outcome (verdict es words q s).state
+next (begin words) s = with_pair words s
+next (leave es words q) s = (verdict es words q s).state
 next (verify es c) s = after_grant (granted es c s.token) c.rp_id s
 next spend s = spent s
 next end_token s = without_token s
@@ -71,6 +76,8 @@ pub record PinLaws : Type 0 where
   -- the retries are never more than 8, and the wrong PINs in a row never more than three
   pub sound : (calls : List Call) (s : PinState) → Sound s → Sound (nexts calls s)
   pub begins : Sound new_pin_state
+  -- what is saved is of one PIN and its retries
+  pub saved_once : (s t : PinState) → Sound s → Sound t → saved s ≡ saved t → powered_up s ≡ powered_up t
   -- a request leaves more retries than there were only by the right PIN
   pub restored : (es : List (Asked × List ℕ)) (words : PinWords) (q : Query) (s : PinState) → Sound s
       → s.retries < (next (handle es words q) s).retries → (t : Try) × IsRight es s t

@@ -2,7 +2,7 @@
 
 ghost use Rattle.std.specs.Prelude.{◌≡◌, IfOk, OnErr, OnOk, option_map};
 ghost use Rattle.pin_protocols.specs.Asks.{entries};
-ghost use Rattle.client_pin.specs.Grants.{Grants, after_grant, granted, is_for, token_of};
+ghost use Rattle.client_pin.specs.Grants.{Grants, IsNew, after_grant, granted, is_for, token_of};
 ghost use Rattle.client_pin.specs.Pieces.{Gives};
 ghost use Rattle.client_pin.specs.State.{pin_view, token_view};
 
@@ -103,6 +103,8 @@ impl ClientPin {
           rp_id = rp_id.now;
           client_data_hash = client_data_hash.now;
         }) (pin_view self.old).token) rp_id.now (pin_view self.old)) }
+        // Asked is nothing that was answered.
+        ensures asks { IfOk result (IsNew (entries answers.now)) }
         // Where memory is wanting nothing has changed.
         ensures err { OnErr result (pin_view self.new ≡ pin_view self.old) }
     {
