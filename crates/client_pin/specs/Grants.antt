@@ -19,6 +19,10 @@ pub record Claim : Type 0 where
   pub rp_id : List ℕ
   pub client_data_hash : List ℕ
 
+abbrev pub claim : Option ℕ → List ℕ → ℕ → List ℕ → List ℕ → Claim
+claim protocol param permission rp_id client_data_hash =
+    record { protocol = protocol; param = param; permission = permission; rp_id = rp_id; client_data_hash = client_data_hash }
+
 -- the token in use, where it is of this protocol: 0x33
 abbrev pub token_of : Protocol → Option PinToken → Result PinToken Ending
 token_of protocol None = Err (refused 0x33)

@@ -78,6 +78,9 @@ impl ClientPin {
     /// A request of clientPIN. Where the host is asked, the call is made again with its answer, for the same request and with
     /// the same words.
     ///
+    /// The reply is a status of CTAP 2.1, section 8.2, alone, or status 0 and what is told; 0x7F where an answer of the host has
+    /// another size. The steps of each subcommand, in order, stand in `specs/Steps.antt`.
+    ///
     /// Before the host is asked to decrypt pinHashEnc, one retry less is left. Where there is no memory, the key pair may have
     /// been taken and the try counted, and no more: the call can be made again.
     pub fn handle(

@@ -1,6 +1,7 @@
 -- What is owed of `verify`.
 use Rattle.pin_protocols.specs.Asks.{entries}
 use Rattle.client_pin.specs.declared.words.Grant.TheVariants as grants
+use Rattle.client_pin.specs.Grants.{claim}
 use Rattle.client_pin.specs.State.{pin_view}
 use Rattle.client_pin.proofs.Asked.{new_grant}
 use Rattle.client_pin.proofs.state.ClientPin.verify.Goals as goal
@@ -8,5 +9,5 @@ use Rattle.client_pin.proofs.state.ClientPin.verify.Goals as goal
 pub returns-in-Err-Asks-clause-asks : goal.returns-in-Err-Asks-clause-asks
 returns-in-Err-Asks-clause-asks c =
     new_grant (entries c.args.answers.now)
-    (record { protocol = c.args.protocol; param = c.args.param.now; permission = c.args.permission; rp_id = c.args.rp_id.now; client_data_hash = c.args.client_data_hash.now })
+    (claim c.args.protocol c.args.param.now c.args.permission c.args.rp_id.now c.args.client_data_hash.now)
     (pin_view c.args.self.now).token (grants.Asks c.in-Err-Asks.ask) (rw c.in-Err-Asks.field-0-is at c.in-Err-Asks.ensures)
