@@ -1,5 +1,5 @@
 -- The laws.
-use Rattle.std.proofs.Common.{length, ◌≡◌, ◌≢◌, ◌<◌, ◌≤◌, ◌⊎◌, ℕ, List, [], ◌∷◌, Bool, true, false, cond, eqb, Some, None, Result, Ok, Err, refl, sym, ap, subst, ◌∙◌, inl, inr, arith}
+use Rattle.std.proofs.Common.{◌+◌, ◌-◌, length, ◌≡◌, ◌≢◌, ◌<◌, ◌≤◌, ◌⊎◌, ℕ, List, [], ◌∷◌, Bool, true, false, cond, eqb, Some, None, Result, Ok, Err, refl, sym, ap, subst, ◌∙◌, inl, inr, arith}
 use Rattle.std.specs.Prelude.{Option, bit_and, not, ◌&&◌}
 use Rattle.std.specs.List.{AllByRecursion}
 use Rattle.std.proofs.lemmas.Bool.{eqb-false}
@@ -86,6 +86,38 @@ counted_first es words q s a e d other = elim (way_of es words q s) [
 counted_wrong : (es : List (Asked × List ℕ)) (words : PinWords) (q : Query) (s : PinState) → (verdict es words q s).outcome ≡ Ok mismatch
     → (verdict es words q s).state ≡ counted (with_pair words s)
 counted_wrong es words q s e = elim (way_of es words q s) [ inl u ↦ absurd (u.mild.so _ e) | inr c ↦ c.state ]
+
+taken : (s : PinState) (b : Bool) → (cond b s (record s { retries = s.retries - 1; counted = true })).retries ≡ cond b s.retries (s.retries - 1)
+taken s true = refl
+taken s false = refl
+
+counted_retries : (s : PinState) (b : Bool) → s.counted ≡ b → (counted s).retries ≡ cond b s.retries (s.retries - 1)
+counted_retries s b e = ap (λ (x : Bool). (cond x s (record s { retries = s.retries - 1; counted = true })).retries) e ∙ taken s b
+
+after_wrong : (s : PinState) (o : Result Outcome Ending) → o ≡ Ok mismatch → (after o s).retries ≡ s.retries
+after_wrong s o e = ap (λ (r : Result Outcome Ending). (after r s).retries) e
+
+wrong_retries : (es : List (Asked × List ℕ)) (words : PinWords) (q : Query) (s : PinState) → (verdict es words q s).outcome ≡ Ok mismatch
+    → (next (handle es words q) s).retries ≡ (counted (with_pair words s)).retries
+wrong_retries es words q s e =
+    after_wrong (verdict es words q s).state (verdict es words q s).outcome e ∙ ap (λ (st : PinState). st.retries) (counted_wrong es words q s e)
+
+free_in : (es : List (Asked × List ℕ)) (words : PinWords) (q : Query) (s : PinState) → (verdict es words q s).outcome ≡ Ok mismatch → Free s
+free_in es words q s e = elim (way_of es words q s) [ inl u ↦ absurd (u.mild.so _ e) | inr c ↦ c.begins.free ]
+
+left_of : (s : PinState) → Free s → s.counted ≡ false → 0 < s.retries
+left_of s free c = elim free [ inl now ↦ absurd (let wrong : true ≡ false = sym now ∙ c in cc) | inr f ↦ f.0 ]
+
+one_taken : (es : List (Asked × List ℕ)) (words : PinWords) (q : Query) (s : PinState) → (verdict es words q s).outcome ≡ Ok mismatch → s.counted ≡ false
+    → (next (handle es words q) s).retries + 1 ≡ s.retries
+one_taken es words q s e c =
+    let left : 0 < s.retries = left_of s (free_in es words q s e) c in
+    let less : (next (handle es words q) s).retries ≡ s.retries - 1 = wrong_retries es words q s e ∙ counted_retries (with_pair words s) false c in
+    omega arith
+
+none_taken_twice : (es : List (Asked × List ℕ)) (words : PinWords) (q : Query) (s : PinState) → (verdict es words q s).outcome ≡ Ok mismatch → s.counted ≡ true
+    → (next (handle es words q) s).retries ≡ s.retries
+none_taken_twice es words q s e c = wrong_retries es words q s e ∙ counted_retries (with_pair words s) true c
 
 -- ---- where no PIN may be tried
 
@@ -266,6 +298,8 @@ laws = record {
   asked = asked;
   counted_first = counted_first;
   counted_wrong = counted_wrong;
+  one_taken = one_taken;
+  none_taken_twice = none_taken_twice;
   blocked = blocked;
   used_up = used_up;
   grants = grants;

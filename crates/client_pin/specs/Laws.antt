@@ -1,5 +1,5 @@
 -- What holds of an authenticator's PIN over all that is done to it (CTAP 2.1, section 6.5).
-use Rattle.std.specs.Prelude.{◌≡◌, ◌≢◌, ◌<◌, ◌≤◌, ◌⊎◌, ℕ, List, [], ◌∷◌, true, false, bit_and, Option, Some, None, Ok, Err}
+use Rattle.std.specs.Prelude.{◌+◌, ◌≡◌, ◌≢◌, ◌<◌, ◌≤◌, ◌⊎◌, ℕ, List, [], ◌∷◌, true, false, bit_and, Option, Some, None, Ok, Err}
 use Rattle.std.specs.List.{AllByRecursion}
 use Rattle.pin_protocols.specs.declared.ask.Operation.TheVariants as operations
 use Rattle.pin_protocols.specs.Asks.{Asked, answer_of}
@@ -94,6 +94,11 @@ pub record PinLaws : Type 0 where
       → (verdict es words q s).state ≡ counted (with_pair words s)
   pub counted_wrong : (es : List (Asked × List ℕ)) (words : PinWords) (q : Query) (s : PinState)
       → (verdict es words q s).outcome ≡ Ok mismatch → (verdict es words q s).state ≡ counted (with_pair words s)
+  -- a wrong PIN takes one retry, once, and no wrong PIN but where one was left
+  pub one_taken : (es : List (Asked × List ℕ)) (words : PinWords) (q : Query) (s : PinState) → (verdict es words q s).outcome ≡ Ok mismatch → s.counted ≡ false
+      → (next (handle es words q) s).retries + 1 ≡ s.retries
+  pub none_taken_twice : (es : List (Asked × List ℕ)) (words : PinWords) (q : Query) (s : PinState) → (verdict es words q s).outcome ≡ Ok mismatch → s.counted ≡ true
+      → (next (handle es words q) s).retries ≡ s.retries
   -- after three wrong PINs in a row nothing but a power cycle and a reset lets another be tried
   pub blocked : (calls : List Call) (s : PinState) → Sound s → s.mismatches ≡ 3 → AllByRecursion IsNoRestart calls
       → ((nexts calls s).mismatches ≡ 3) × ((nexts calls s).retries ≡ s.retries) × ((nexts calls s).pin ≡ s.pin)
