@@ -20,6 +20,7 @@ use Rattle.client_pin.specs.Steps.{Try, verdict, is_right, needed, known_protoco
 use Rattle.client_pin.proofs.Binds.{bind_ok}
 use Rattle.client_pin.proofs.Free.{Giving, Begins, Comes, Free}
 use Rattle.client_pin.proofs.Soundness.{new_sound, nexts_sound, next_sound, counted_less, pair_sound}
+use Rattle.client_pin.proofs.InUse.{never_again}
 use Rattle.client_pin.proofs.Verdicts.{Mild, Way, judged_way}
 
 way_of : (es : List (Asked × List ℕ)) (words : PinWords) (q : Query) (s : PinState) → Way es words q (with_pair words s) (verdict es words q s)
@@ -305,6 +306,7 @@ laws = record {
   grants = grants;
   ended = λ es words q s hash e. set_token (verdict es words q s).state hash (verdict es words q s).outcome e;
   renewed = λ es words q s token sealed e. told_token (verdict es words q s).state token sealed (verdict es words q s).outcome e;
+  never_again = never_again;
   hidden_hash = λ a b p bs h. h;
   hidden_token = λ a b sealed p bs h. h;
   gone = λ s. (refl, refl, refl);

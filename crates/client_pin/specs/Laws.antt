@@ -72,6 +72,20 @@ abbrev pub IsNoReset : Call → Type 0
 IsNoReset reset = ⊥
 IsNoReset _ = Unit {0}
 
+-- it is the token that was in use, whatever its permissions and its rp id are now
+abbrev pub IsOf : Option PinToken → PinToken → Type 0
+IsOf None t = ⊥
+IsOf (Some u) t = t.bytes ≡ u.bytes
+
+-- it is the host's, of the words of one of these calls
+abbrev pub IsHanded : Call → PinToken → Type 0
+IsHanded (handle es words q) t = t.bytes ≡ words.token
+IsHanded _ t = ⊥
+
+abbrev pub IsAmong : List Call → PinToken → Type 0
+IsAmong [] t = ⊥
+IsAmong (call ∷ calls) t = IsHanded call t ⊎ IsAmong calls t
+
 pub record PinLaws : Type 0 where
   -- the retries are never more than 8, and the wrong PINs in a row never more than three
   pub sound : (calls : List Call) (s : PinState) → Sound s → Sound (nexts calls s)
@@ -114,6 +128,8 @@ pub record PinLaws : Type 0 where
       → (verdict es words q s).outcome ≡ Ok (pin_set hash) → (next (handle es words q) s).token ≡ None
   pub renewed : (es : List (Asked × List ℕ)) (words : PinWords) (q : Query) (s : PinState) (token : PinToken) (sealed : List ℕ)
       → (verdict es words q s).outcome ≡ Ok (token_told token sealed) → (next (handle es words q) s).token ≡ Some token
+  -- and does not come back: a token in use was in use before these calls, or was handed to one of them
+  pub never_again : (calls : List Call) (s : PinState) (t : PinToken) → (nexts calls s).token ≡ Some t → IsOf s.token t ⊎ IsAmong calls t
   -- a reply is the same whatever the hash of the PIN and the token are: the token stands in it as the host encrypted it
   pub hidden_hash : (a b : List ℕ) (p : Public) (bs : List ℕ) → Replies (Ok (pin_set a)) p bs → Replies (Ok (pin_set b)) p bs
   pub hidden_token : (a b : PinToken) (sealed : List ℕ) (p : Public) (bs : List ℕ) → Replies (Ok (token_told a sealed)) p bs → Replies (Ok (token_told b sealed)) p bs
