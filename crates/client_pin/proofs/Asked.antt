@@ -1,22 +1,24 @@
 -- What each subcommand asks the host: nothing that it answered, and before a try is counted no decryption.
-use Rattle.std.proofs.Common.{◌≡◌, ℕ, List, ◌++◌, length, drop, Bool, true, false, cond, eqb, Some, None, Result, Ok, Err, refl, sym, ap, subst, ◌∙◌, arith}
+use Rattle.std.proofs.Common.{◌≡◌, ℕ, List, ◌++◌, false, Some, None, Result, Ok, Err, refl, ap, ◌∙◌}
 use Rattle.std.specs.Prelude.{Option}
 use Rattle.pin_messages.specs.Commands.{PublicPoint}
 use Rattle.pin_messages.specs.Replies.{ToldKey}
 use Rattle.pin_protocols.specs.declared.ask.Operation.TheVariants as operations
 use Rattle.pin_protocols.specs.declared.protocol.Protocol.{Protocol}
 use Rattle.pin_protocols.specs.declared.protocol.Protocol.TheVariants as protocols
-use Rattle.pin_protocols.specs.Asks.{Asked, answer_of}
+use Rattle.pin_protocols.specs.Asks.{Asked, answer_of, ask_view}
 use Rattle.pin_protocols.specs.Flows.{Scope}
 use Rattle.pin_protocols.specs.Protocols.{SharedSecret, product_ask, derivation, hmac_info, aes_info, encryption, decryption, authentication, protocol_of}
 use Rattle.client_pin.specs.declared.state.KeyPair.{KeyPair}
 use Rattle.client_pin.specs.declared.words.PinWords.{PinWords}
-use Rattle.client_pin.specs.Host.{Ending, asks, refused, ◌>>=◌, answer, sized_answer, product, secret, encrypted, decrypted, verified}
-use Rattle.client_pin.specs.Outcomes.{Outcome}
-use Rattle.client_pin.specs.Pins.{sealed_size, kept_hash, new_hash, unpadded}
+use Rattle.client_pin.specs.declared.words.Grant.{Grant}
+use Rattle.client_pin.specs.declared.words.Grant.TheVariants as grants
+use Rattle.client_pin.specs.Grants.{Claim, Grants, IsNew, granted, token_of}
+use Rattle.client_pin.specs.Host.{Ending, asks, refused, answer, product, secret, verified}
+use Rattle.client_pin.specs.Pins.{kept_hash, new_hash, unpadded}
 use Rattle.client_pin.specs.Query.{Query}
-use Rattle.client_pin.specs.State.{PinState}
-use Rattle.client_pin.specs.Steps.{Try, needed, known, known_protocol, is_agreement_key, client_point, shared, pin_of, may_try, tried_pin, is_right, key_agreement, unset, set_pin, change_begun, changed, replaced, try_begun, without_scope, pin_token_begun, allowed_permissions, token_begun, token_given, token}
+use Rattle.client_pin.specs.State.{PinState, PinToken}
+use Rattle.client_pin.specs.Steps.{Try, needed, known, is_agreement_key, client_point, shared, pin_of, may_try, tried_pin, is_right, key_agreement, unset, set_pin, change_begun, changed, replaced, try_begun, without_scope, pin_token_begun, allowed_permissions, token_begun, token_given, token}
 use Rattle.client_pin.proofs.Binds.{Asking, asking_ok, asking_refused, asking_then, asking_more, asking_if, sized_asks, answer_asks}
 
 -- there is no answer to it, and it is no decryption
@@ -198,3 +200,21 @@ module _ (es : List (Asked × List ℕ)) where
   unfolding token
   token_asks words x = asking_then (New es) _ _ (right_asks x.0)
       (λ right. asking_if (New es) right _ _ (given_asks x.0.protocol x.0.secret words.token x.1) (asking_ok (New es) _))
+
+  use_asks : (protocol : Protocol) (o : Option PinToken) → Asking (Plain es) (token_of protocol o)
+  use_asks protocol None = asking_refused (Plain es) 0x33
+  use_asks protocol (Some t) = asking_if (Plain es) _ _ _ (asking_ok (Plain es) t) (asking_refused (Plain es) 0x33)
+
+  pub granted_asks : (c : Claim) (token : Option PinToken) → Asking (Plain es) (granted es c token)
+  unfolding granted
+  granted_asks c token =
+      asking_then (Plain es) _ _ (needed_asks (Plain es) c.protocol) (λ number.
+      asking_then (Plain es) _ _ (known_asks (Plain es) (protocol_of number)) (λ protocol.
+      asking_then (Plain es) _ _ (use_asks protocol token) (λ t.
+      asking_then (Plain es) _ _ (verified_asks protocol t.bytes c.client_data_hash c.param) (λ authentic.
+      asking_if (Plain es) _ _ _ (asking_ok (Plain es) tt) (asking_refused (Plain es) 0x33)))))
+
+  pub new_grant : (c : Claim) (token : Option PinToken) (g : Grant) → Grants (granted es c token) g → IsNew es g
+  new_grant c token (grants.Asks a) h = ((granted_asks c token).so (ask_view a) h).none
+  new_grant c token grants.Granted h = tt
+  new_grant c token (grants.Refused status) h = tt

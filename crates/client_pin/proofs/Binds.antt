@@ -1,5 +1,5 @@
 -- Steps in order.
-use Rattle.std.proofs.Common.{◌≡◌, ◌≢◌, ℕ, List, length, Bool, true, false, cond, eqb, Some, None, Result, Ok, Err, refl, sym, ap, subst, ◌∙◌, arith}
+use Rattle.std.proofs.Common.{◌≡◌, ℕ, List, length, Bool, true, false, cond, eqb, Some, None, Result, Ok, Err, refl, ap, subst}
 use Rattle.std.specs.Prelude.{Option}
 use Rattle.pin_protocols.specs.Asks.{Asked, answer_of, answer_size}
 use Rattle.client_pin.specs.Host.{Ending, asks, refused, ◌>>=◌, answer, sized_answer}

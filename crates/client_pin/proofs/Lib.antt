@@ -4,6 +4,8 @@ pub mod Asked
 pub mod Free
 pub mod Verdicts
 pub mod Soundness
+pub mod InUse
 pub mod Laws
+pub mod Ending
 pub mod Unpadding
 pub mod Same

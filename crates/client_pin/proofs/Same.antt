@@ -1,8 +1,11 @@
 -- Bytes that differ, gathered.
-use Rattle.std.proofs.Common.{◌≡◌, ◌≢◌, ◌<◌, ◌+◌, ℕ, zero, suc, List, [], ◌∷◌, ◌++◌, length, take, get_or, Bool, true, false, eqb, refl, sym, ap, subst, ◌∙◌, arith, add-one}
-use Rattle.std.specs.Int.Bits.{bit_and, bit_or, bit_xor, xor_self, xor_add_and, or_zero_l, or_zero_r}
+use Rattle.std.proofs.Common.{◌≡◌, ◌<◌, ◌≤◌, ◌+◌, ℕ, suc, List, [], ◌∷◌, ◌++◌, length, take, get_or, eqb, refl, sym, ap, subst, ◌∙◌, arith, add-one}
+use Rattle.std.specs.Int.Bits.{bit_or, bit_xor, xor_self, xor_add_and, or_zero_l}
 use Rattle.std.specs.Str.{bytes_eq}
 use Rattle.std.proofs.Math.Seq.{take-suc}
+use Rattle.std.proofs.lemmas.Bool.{eqb-true, eq-eqb}
+use Rattle.std.proofs.lemmas.List.{take_all}
+use Rattle.std.proofs.lemmas.Bool.Decides.{same_from_decides}
 use Rattle.std.proofs.lemmas.Nat.{and_le_l, and_le_r, le_or_l, le_or_r}
 use Rattle.std.proofs.lemmas.Slice.Eq.{bytes_eq-Decides}
 
@@ -52,3 +55,11 @@ gathers_suc d left right n l r g =
 pub gathers_next : (d : ℕ) (left right : List ℕ) (n m : ℕ) → n < length left → n < length right → m ≡ n + 1 → Gathers d left right n
     → Gathers (bit_or d (bit_xor (get_or left n 0) (get_or right n 0))) left right m
 gathers_next d left right n m l r e g = subst (λ (k : ℕ). Gathers (bit_or d (bit_xor (get_or left n 0) (get_or right n 0))) left right k) (sym (e ∙ add-one n)) (gathers_suc d left right n l r g)
+
+pub gathers_all : (d : ℕ) (left right : List ℕ) (n : ℕ) → length left ≤ n → length right ≤ n → Gathers d left right n → eqb d 0 ≡ bytes_eq left right
+gathers_all d left right n l r g =
+    let el : take n left ≡ left = take_all n left l in
+    let er : take n right ≡ right = take_all n right r in
+    same_from_decides (eqb d 0) (bytes_eq left right)
+    ((λ e. sym el ∙ g.same (eqb-true d 0 e) ∙ er), (λ e. eq-eqb d 0 (g.none (el ∙ e ∙ sym er))))
+    (bytes_eq-Decides left right)

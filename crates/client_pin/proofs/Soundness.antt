@@ -1,19 +1,19 @@
 -- What each call keeps.
-use Rattle.std.proofs.Common.{◌≡◌, ◌<◌, ◌≤◌, ◌+◌, ◌-◌, ◌⊎◌, ℕ, List, [], ◌∷◌, length, Bool, true, false, cond, eqb, ltb, Some, None, Result, Ok, Err, refl, sym, ap, subst, ◌∙◌, inl, inr, arith}
+use Rattle.std.proofs.Common.{◌≡◌, ◌<◌, ◌≤◌, ◌+◌, ◌-◌, ℕ, List, [], ◌∷◌, length, true, false, cond, ltb, Some, None, Result, Ok, Err, refl, sym, ap, subst, ◌∙◌, inl, inr, arith}
 use Rattle.std.specs.Prelude.{Option, option_map}
-use Rattle.std.proofs.lemmas.Bool.{ltb-true, ltb-false}
+use Rattle.std.proofs.lemmas.Bool.{ltb-true}
 use Rattle.pin_protocols.specs.Asks.{Asked}
 use Rattle.client_pin.specs.declared.words.PinWords.{PinWords}
-use Rattle.client_pin.specs.Grants.{Claim, granted, after_grant, bound}
+use Rattle.client_pin.specs.Grants.{granted, after_grant, bound}
 use Rattle.client_pin.specs.Host.{Ending, asks, refused}
-use Rattle.client_pin.specs.Laws.{Call, handle, verify, spend, end_token, give_up, power_up, reset, next, nexts, Sound, IsRight}
-use Rattle.client_pin.specs.Outcomes.{Outcome, Verdict, retries_told, key_told, pin_set, pin_refused, token_told, mismatch, after, done, one_more}
+use Rattle.client_pin.specs.Laws.{Call, handle, begin, leave, verify, spend, end_token, give_up, power_up, reset, next, nexts, Sound}
+use Rattle.client_pin.specs.Outcomes.{Outcome, Verdict, retries_told, key_told, pin_set, pin_refused, token_told, mismatch, after, one_more}
 use Rattle.client_pin.specs.Query.{Query}
 use Rattle.client_pin.specs.Saved.{FitsPin}
-use Rattle.client_pin.specs.State.{PinState, PinToken, new_pin_state, counted, over, with_pair, pair_of, spent, without_permissions}
+use Rattle.client_pin.specs.State.{PinState, PinToken, new_pin_state, counted, over, with_pair, pair_of, without_permissions}
 use Rattle.client_pin.specs.Steps.{Try, verdict}
-use Rattle.client_pin.proofs.Free.{Giving, Begins, Comes, Free}
-use Rattle.client_pin.proofs.Verdicts.{Mild, Uncounted, Counted, Way, judged_way}
+use Rattle.client_pin.proofs.Free.{Giving, Begins, Comes}
+use Rattle.client_pin.proofs.Verdicts.{Mild, Way, judged_way}
 
 pub new_sound : Sound new_pin_state
 new_sound = record { retries = omega arith; mismatches = omega arith; counted = λ e. absurd cc; pin = refl; unset = λ _. (refl, refl) }
@@ -68,19 +68,19 @@ full_sound : (s : PinState) (hash : List ℕ) (token : Option PinToken) → Soun
 full_sound s hash token h e = record {
   retries = omega arith;
   mismatches = omega arith;
-  counted = λ no. absurd cc;
+  counted = λ wrong. absurd cc;
   pin = fits_less s.pin hash s.retries 8 e h.pin (omega arith);
   unset = λ none. never_none s.pin hash e none;
 }
 
 set_sound : (s : PinState) (hash : List ℕ) → length hash ≡ 16 → Sound (record s { pin = Some hash; retries = 8; mismatches = 0; token = None; counted = false })
-set_sound s hash e = record { retries = omega arith; mismatches = omega arith; counted = λ no. absurd cc; pin = (e, omega arith); unset = λ none. absurd cc }
+set_sound s hash e = record { retries = omega arith; mismatches = omega arith; counted = λ wrong. absurd cc; pin = (e, omega arith); unset = λ none. absurd cc }
 
 mismatch_sound : (s : PinState) (hash : List ℕ) → Sound s → s.pin ≡ Some hash → Sound (record s { mismatches = one_more s.mismatches; pair = None; counted = false })
 mismatch_sound s hash h e = record {
   retries = h.retries;
   mismatches = one_more_few s.mismatches;
-  counted = λ no. absurd cc;
+  counted = λ wrong. absurd cc;
   pin = h.pin;
   unset = λ none. never_none s.pin hash e none;
 }
@@ -128,6 +128,11 @@ grant_sound (Err e) rp_id s h = h
 
 pub next_sound : (call : Call) (s : PinState) → Sound s → Sound (next call s)
 next_sound (handle es words q) s h = way_sound es words q (with_pair words s) (verdict es words q s) (pair_sound words s h) (judged_way es words (pair_of words s) q (with_pair words s))
+next_sound (begin words) s h = pair_sound words s h
+next_sound (leave es words q) s h = elim (judged_way es words (pair_of words s) q (with_pair words s)) [
+  | inl u ↦ subst Sound (sym u.state) (pair_sound words s h)
+  | inr c ↦ subst Sound (sym c.state) (counted_sound (with_pair words s) c.attempt (pair_sound words s h) c.begins)
+]
 next_sound (verify es c) s h = grant_sound (granted es c s.token) c.rp_id s h
 next_sound spend s h = record {
   retries = h.retries;
@@ -138,7 +143,7 @@ next_sound spend s h = record {
 }
 next_sound end_token s h = record { retries = h.retries; mismatches = h.mismatches; counted = h.counted; pin = h.pin; unset = λ none. ((h.unset none).0, refl) }
 next_sound give_up s h = over_sound s h
-next_sound power_up s h = record { retries = h.retries; mismatches = omega arith; counted = λ no. absurd cc; pin = h.pin; unset = λ _. (refl, refl) }
+next_sound power_up s h = record { retries = h.retries; mismatches = omega arith; counted = λ wrong. absurd cc; pin = h.pin; unset = λ _. (refl, refl) }
 next_sound reset s h = new_sound
 
 pub nexts_sound : (calls : List Call) (s : PinState) → Sound s → Sound (nexts calls s)

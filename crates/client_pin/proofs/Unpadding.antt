@@ -1,5 +1,5 @@
 -- Zeros at an end.
-use Rattle.std.proofs.Common.{◌≡◌, ◌≢◌, ℕ, zero, suc, List, [], ◌∷◌, ◌++◌, refl, sym, ap, ◌∙◌}
+use Rattle.std.proofs.Common.{◌≡◌, ◌≢◌, ℕ, zero, suc, List, [], ◌∷◌, ◌++◌, refl, ap, ◌∙◌}
 use Rattle.client_pin.specs.Pins.{unpadded, without_zero}
 
 pub strip : (xs : List ℕ) → unpadded (xs ++ 0 ∷ []) ≡ unpadded xs

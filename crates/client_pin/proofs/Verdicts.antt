@@ -1,15 +1,14 @@
 -- A verdict: nothing was counted and nothing depends on a PIN, or a try was begun and counted.
-use Rattle.std.proofs.Common.{◌≡◌, ◌⊎◌, ℕ, List, length, Bool, true, false, cond, eqb, Some, None, Result, Ok, Err, refl, sym, ap, subst, ◌∙◌, inl, inr, arith}
-use Rattle.std.specs.Prelude.{Option}
+use Rattle.std.proofs.Common.{◌≡◌, ◌⊎◌, ℕ, List, length, Bool, true, false, cond, eqb, None, Result, Ok, Err, refl, ap, inl, inr}
 use Rattle.std.proofs.lemmas.Bool.{eqb-true}
 use Rattle.pin_protocols.specs.Asks.{Asked}
 use Rattle.client_pin.specs.declared.state.KeyPair.{KeyPair}
 use Rattle.client_pin.specs.declared.words.PinWords.{PinWords}
-use Rattle.client_pin.specs.Host.{Ending, asks, refused}
+use Rattle.client_pin.specs.Host.{Ending, asks}
 use Rattle.client_pin.specs.Outcomes.{Outcome, Verdict, retries_told, key_told, pin_set, pin_refused, token_told, mismatch}
 use Rattle.client_pin.specs.Query.{Query}
 use Rattle.client_pin.specs.State.{PinState, counted}
-use Rattle.client_pin.specs.Steps.{Try, counting, judged, key_agreement, set_pin}
+use Rattle.client_pin.specs.Steps.{Try, counting, judged, judged_by, key_agreement, needed, known_protocol, set_pin}
 use Rattle.client_pin.proofs.Binds.{Asking, asking_ok, asking_refused}
 use Rattle.client_pin.proofs.Asked.{New, Plain, new_plain, agreement_asks, set_asks, change_begun_asks, changed_asks, pin_token_asks, token_begun_asks, token_asks}
 use Rattle.client_pin.proofs.Free.{Giving, giving_ok, giving_err, giving_then, Begins, Sets, Comes, change_begins, pin_token_begins, token_begins, set_gives, changed_gives, token_gives}
@@ -50,7 +49,7 @@ err_asks P e h = record { so = λ a is. let same : e ≡ asks a = cc in h.so a (
 
 agreement_mild : (q : Query) (s : PinState) → Giving (Mild s) (key_agreement q)
 unfolding key_agreement
-agreement_mild q s = giving_then _ _ _ (λ number _. giving_then _ _ _ (λ protocol _. giving_ok _ _ tt))
+agreement_mild q s = giving_then _ (needed q.protocol) _ (λ number _. giving_then _ (known_protocol number) _ (λ protocol _. giving_ok (Mild s) key_told tt))
 
 set_mild : (es : List (Asked × List ℕ)) (pair : KeyPair) (q : Query) (s : PinState) → Giving (Mild s) (set_pin es pair q s)
 set_mild es pair q s = record { so = λ o is. sets_mild s o ((set_gives es pair q s).so o is) }
@@ -68,9 +67,9 @@ module _ (es : List (Asked × List ℕ)) (words : PinWords) (pair : KeyPair) (q 
   way_if false v w h k = k refl
 
   pub judged_way : Way es words q s (judged es words pair q s)
-  unfolding judged
+  unfolding judged_by
   judged_way =
-      way_if (eqb q.subcommand 1) _ _ (λ _. inl (record { state = refl; mild = giving_ok _ _ tt; asks = asking_ok _ _; plain = λ _. asking_ok _ _ })) (λ _.
+      way_if (eqb q.subcommand 1) _ _ (λ _. inl (record { state = refl; mild = giving_ok (Mild s) retries_told tt; asks = asking_ok _ _; plain = λ _. asking_ok _ _ })) (λ _.
       way_if (eqb q.subcommand 2) _ _ (λ _. inl (record { state = refl; mild = agreement_mild q s; asks = agreement_asks (New es) q; plain = λ _. agreement_asks (Plain es) q })) (λ _.
       way_if (eqb q.subcommand 3) _ _ (λ three. inl (record { state = refl; mild = set_mild es pair q s; asks = set_asks es pair q s; plain = λ other. absurd (other (eqb-true q.subcommand 3 three)) })) (λ _.
       way_if (eqb q.subcommand 4) _ _ (λ _. counting_way _ _ (λ x. x.0) (change_begins es pair q s) (change_begun_asks es pair q s) (changed_gives es words) (changed_asks es)) (λ _.

@@ -1,8 +1,8 @@
 -- What a token grants a makeCredential or getAssertion: CTAP 2.1, sections 6.1.2, step 11, and 6.2.2, step 6.
-use Rattle.std.specs.Prelude.{◌≡◌, ◌==◌, ℕ, List, Bool, true, false, ◌&&◌, not, bit_and, Option, Some, None, option_map, Result, Ok, Err, if◌then◌else◌}
+use Rattle.std.specs.Prelude.{◌≡◌, ◌==◌, ℕ, List, Bool, true, ◌&&◌, not, bit_and, Option, Some, None, option_map, Result, Ok, Err, if◌then◌else◌}
 use Rattle.std.specs.Str.{bytes_eq}
 use Rattle.pin_protocols.specs.declared.protocol.Protocol.{Protocol}
-use Rattle.pin_protocols.specs.Asks.{Asked, ask_view}
+use Rattle.pin_protocols.specs.Asks.{Asked, answer_of, ask_view}
 use Rattle.pin_protocols.specs.Protocols.{number}
 use Rattle.client_pin.specs.declared.words.Grant.{Grant}
 use Rattle.client_pin.specs.declared.words.Grant.TheVariants as grants
@@ -18,6 +18,10 @@ pub record Claim : Type 0 where
   pub permission : ℕ
   pub rp_id : List ℕ
   pub client_data_hash : List ℕ
+
+abbrev pub claim : Option ℕ → List ℕ → ℕ → List ℕ → List ℕ → Claim
+claim protocol param permission rp_id client_data_hash =
+    record { protocol = protocol; param = param; permission = permission; rp_id = rp_id; client_data_hash = client_data_hash }
 
 -- the token in use, where it is of this protocol: 0x33
 abbrev pub token_of : Protocol → Option PinToken → Result PinToken Ending
@@ -49,6 +53,12 @@ bound rp_id t = record t { rp_id = Some rp_id }
 abbrev pub after_grant : Result (Unit {0}) Ending → List ℕ → PinState → PinState
 after_grant (Ok granted) rp_id s = record s { token = option_map (bound rp_id) s.token }
 after_grant (Err e) rp_id s = s
+
+-- asked is nothing that was answered
+abbrev pub IsNew : List (Asked × List ℕ) → Grant → Type 0
+IsNew es (grants.Asks a) = answer_of es (ask_view a) ≡ None
+IsNew es grants.Granted = Unit {0}
+IsNew es (grants.Refused status) = Unit {0}
 
 -- what a call answers
 abbrev pub Grants : Result (Unit {0}) Ending → Grant → Type 0

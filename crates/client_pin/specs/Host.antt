@@ -1,5 +1,5 @@
 -- What is computed of a request by the host's answers: CTAP 2.1, sections 6.5.6 and 6.5.7.
-use Rattle.std.specs.Prelude.{ℕ, ◌==◌, List, length, drop, Bool, Option, Some, None, Result, Ok, Err, if◌then◌else◌}
+use Rattle.std.specs.Prelude.{ℕ, ◌==◌, List, length, drop, Option, Some, None, Result, Ok, Err, if◌then◌else◌}
 use Rattle.std.specs.Str.{bytes_eq}
 use Rattle.sha2.specs.Sha256.{sha256}
 use Rattle.pin_messages.specs.Commands.{PublicPoint}

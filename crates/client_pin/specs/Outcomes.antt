@@ -1,5 +1,5 @@
 -- What comes of a request of clientPIN: its reply, and the state after it (CTAP 2.1, section 6.5.5).
-use Rattle.std.specs.Prelude.{◌≡◌, ◌==◌, ◌+◌, ℕ, List, [], ◌∷◌, Bool, Option, Some, None, option_map, pos, negsuc, Result, Ok, Err, if◌then◌else◌, nat_le, nat_lt}
+use Rattle.std.specs.Prelude.{◌≡◌, ◌==◌, ◌+◌, ℕ, List, [], ◌∷◌, Option, Some, None, option_map, pos, negsuc, Result, Ok, Err, if◌then◌else◌, nat_le, nat_lt}
 use Rattle.pin_messages.specs.Replies.{Told, ToldKey}
 use Rattle.pin_requests.specs.Replying.{PinReplyBytes}
 use Rattle.pin_protocols.specs.Asks.{Asked, answer_of, ask_view}
@@ -93,6 +93,6 @@ Unanswered es (steps.Asks a) = answer_of es (ask_view a) ≡ None
 Unanswered es (steps.Replies bytes) = Unit {0}
 
 -- what a call answers
-abbrev pub Answers : Verdict → PinStep → Type 0
-Answers v (steps.Asks a) = v.outcome ≡ Err (asks (ask_view a))
-Answers v (steps.Replies bytes) = Replies v.outcome (public v.state) bytes.items
+abbrev pub IsStep : Verdict → PinStep → Type 0
+IsStep v (steps.Asks a) = v.outcome ≡ Err (asks (ask_view a))
+IsStep v (steps.Replies bytes) = Replies v.outcome (public v.state) bytes.items

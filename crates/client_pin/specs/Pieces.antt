@@ -1,7 +1,5 @@
 -- What the private functions are proved against; no public clause cites it.
-use Rattle.std.specs.Prelude.{◌≡◌, ◌⊎◌, ℕ, List, Option, option_map, Result, Ok, Err, string_bytes, ◌+◌}
-use Rattle.pin_messages.specs.Replies.{ToldKey}
-use Rattle.pin_messages.specs.ReplyView.{key_view}
+use Rattle.std.specs.Prelude.{◌≡◌, ◌⊎◌, Result, Ok, Err}
 use Rattle.pin_protocols.specs.Asks.{ask_view}
 use Rattle.pin_protocols.specs.declared.stop.Stop.{Stop}
 use Rattle.pin_protocols.specs.declared.stop.Stop.TheVariants as stops
@@ -9,18 +7,25 @@ use Rattle.pin_protocols.specs.FlowView.{secret_view}
 use Rattle.client_pin.specs.declared.tries.Attempt.{Attempt}
 use Rattle.client_pin.specs.declared.outcome.Outcome.{Outcome as Made}
 use Rattle.client_pin.specs.declared.outcome.Outcome.TheVariants as made
+use Rattle.client_pin.specs.declared.words.PinStep.{PinStep}
 use Rattle.client_pin.specs.declared.end.End.{End}
 use Rattle.client_pin.specs.declared.end.End.TheVariants as ends
 use Rattle.client_pin.specs.Host.{Ending, asks, refused}
-use Rattle.client_pin.specs.State.{PinState, PinToken, token_view}
+use Rattle.client_pin.specs.State.{PinState, token_view}
 use Rattle.client_pin.specs.Steps.{Try}
-use Rattle.client_pin.specs.Outcomes.{Outcome, retries_told, key_told, pin_set, pin_refused, token_told, mismatch, Verdict}
+use Rattle.client_pin.specs.Outcomes.{Outcome, retries_told, key_told, pin_set, pin_refused, token_told, mismatch, Verdict, IsStep, after}
 
 -- why pin_protocols stops
 abbrev pub of_stop : Stop → End
 of_stop stops.Memory = ends.Memory
 of_stop (stops.Asks a) = ends.Asks a
 of_stop _ = ends.Refused 0x7f
+
+-- why there is no product
+abbrev pub of_product_stop : Stop → End
+of_product_stop stops.Memory = ends.Memory
+of_product_stop (stops.Asks a) = ends.Asks a
+of_product_stop _ = ends.Refused 0x02
 
 -- what a function gives, seen by view, is what the steps give, unless memory was wanting
 abbrev pub Fails : {Y : Type 0} → End → Result Y Ending → Type 0
@@ -49,6 +54,10 @@ IsOutcome (Ok d) r = r ≡ Ok (outcome_view d)
 IsOutcome (Err ends.Memory) r = ⊥
 IsOutcome (Err (ends.Asks a)) r = r ≡ Err (asks (ask_view a))
 IsOutcome (Err (ends.Refused status)) r = r ≡ Err (refused status)
+
+-- a call ends with what the steps give
+abbrev pub Finishes : Result Made End → PinState → PinStep → PinState → Type 0
+Finishes made old step new = (r : Result Outcome Ending) × IsOutcome made r × IsStep (record { outcome = r; state = old }) step × (new ≡ after r old)
 
 -- a verdict is reached and the state is the one in which it was; or memory was wanting, and the try may have been counted
 abbrev pub Reaches : Verdict → PinState → Result Made End → PinState → Type 0

@@ -1,5 +1,5 @@
 -- A new PIN as it comes, and the hash that is kept of it: CTAP 2.1, sections 6.5.1, 6.5.5.5 and 6.5.5.6.
-use Rattle.std.specs.Prelude.{ℕ, ◌==◌, List, [], ◌∷◌, length, Bool, true, false, ◌&&◌, nat_le, Result, Ok, Err, if◌then◌else◌}
+use Rattle.std.specs.Prelude.{ℕ, zero, ◌==◌, ◌+◌, List, [], ◌∷◌, length, Bool, ◌&&◌, nat_le, Result, Ok, Err, if◌then◌else◌}
 use Rattle.pin_protocols.specs.declared.protocol.Protocol.{Protocol}
 use Rattle.pin_protocols.specs.declared.protocol.Protocol.TheVariants as protocols
 use Rattle.pin_protocols.specs.Asks.{Asked}

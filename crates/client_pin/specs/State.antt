@@ -1,5 +1,5 @@
 -- What an authenticator keeps for its PIN: CTAP 2.1, sections 6.5.1 and 6.5.2.
-use Rattle.std.specs.Prelude.{◌≡◌, ◌==◌, ◌+◌, ◌-◌, ℕ, List, Bool, true, false, Option, Some, None, option_map, string_bytes, if◌then◌else◌, nat_lt}
+use Rattle.std.specs.Prelude.{◌-◌, ℕ, List, Bool, true, false, Option, Some, None, option_map, string_bytes, if◌then◌else◌}
 use Rattle.pin_protocols.specs.declared.protocol.Protocol.{Protocol}
 use Rattle.client_pin.specs.declared.state.ClientPin.{ClientPin}
 use Rattle.client_pin.specs.declared.state.KeyPair.{KeyPair}
@@ -62,8 +62,12 @@ without_token s = record s { token = None }
 
 -- ---- what a request does to it before it is answered
 
+abbrev pub pair_or : PinWords → Option KeyPair → KeyPair
+pair_or words None = record { key = words.secret; x = words.x; y = words.y }
+pair_or words (Some pair) = pair
+
 abbrev pub pair_of : PinWords → PinState → KeyPair
-pair_of words s = elim s.pair [ None ↦ record { key = words.secret; x = words.x; y = words.y } | Some pair ↦ pair ]
+pair_of words s = pair_or words s.pair
 
 -- there is a key pair: the one that was there, or the host's next (6.5.6, initialize and regenerate)
 abbrev pub with_pair : PinWords → PinState → PinState

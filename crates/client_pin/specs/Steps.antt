@@ -1,5 +1,5 @@
 -- The subcommands of clientPIN, each by its steps in order: CTAP 2.1, sections 6.5.5.2 to 6.5.5.7, statuses of section 8.2.
-use Rattle.std.specs.Prelude.{◌≡◌, ◌==◌, ℕ, ℤ, pos, negsuc, List, ◌++◌, length, Bool, true, false, ◌&&◌, ◌||◌, nat_le, nat_lt, Option, Some, None, Result, Ok, Err, if◌then◌else◌}
+use Rattle.std.specs.Prelude.{◌==◌, ℕ, ℤ, pos, negsuc, List, ◌++◌, length, Bool, false, ◌&&◌, nat_le, nat_lt, Option, Some, None, Result, Ok, Err, if◌then◌else◌}
 use Rattle.std.specs.Str.{bytes_eq}
 use Rattle.pin_messages.specs.Commands.{PublicPoint}
 use Rattle.pin_messages.specs.Replies.{ToldKey}
@@ -12,7 +12,7 @@ use Rattle.client_pin.specs.declared.words.PinWords.{PinWords}
 use Rattle.client_pin.specs.Host.{Ending, asks, refused, ◌>>=◌, product, secret, encrypted, decrypted, verified}
 use Rattle.client_pin.specs.Pins.{sealed_size, new_hash}
 use Rattle.client_pin.specs.Query.{Query}
-use Rattle.client_pin.specs.State.{PinState, PinToken, pair_of, with_pair, counted}
+use Rattle.client_pin.specs.State.{PinState, pair_of, with_pair, counted}
 use Rattle.client_pin.specs.Outcomes.{Outcome, retries_told, key_told, pin_set, pin_refused, token_told, mismatch, Verdict}
 
 -- ---- what several have in common
@@ -196,17 +196,20 @@ token es words (t, scope) = do
   right ← is_right es t
   if right then token_given es t.protocol t.secret words.token scope else Ok mismatch
 
--- ---- a request in a state with a key pair; other subcommands: 0x3E
+-- ---- a request in a state with a key pair, by the number of its subcommand; others: 0x3E
 
-unfoldable pub judged : List (Asked × List ℕ) → PinWords → KeyPair → Query → PinState → Verdict
-judged es words pair q s =
-    if q.subcommand == 1 then record { outcome = Ok retries_told; state = s }
-    else if q.subcommand == 2 then record { outcome = key_agreement q; state = s }
-    else if q.subcommand == 3 then record { outcome = set_pin es pair q s; state = s }
-    else if q.subcommand == 4 then counting (change_begun es pair q s) (changed es) s
-    else if q.subcommand == 5 then counting (pin_token_begun es pair q s) (token es words) s
-    else if q.subcommand == 9 then counting (token_begun es pair q s) (token es words) s
+unfoldable pub judged_by : ℕ → List (Asked × List ℕ) → PinWords → KeyPair → Query → PinState → Verdict
+judged_by n es words pair q s =
+    if n == 1 then record { outcome = Ok retries_told; state = s }
+    else if n == 2 then record { outcome = key_agreement q; state = s }
+    else if n == 3 then record { outcome = set_pin es pair q s; state = s }
+    else if n == 4 then counting (change_begun es pair q s) (changed es) s
+    else if n == 5 then counting (pin_token_begun es pair q s) (token es words) s
+    else if n == 9 then counting (token_begun es pair q s) (token es words) s
     else record { outcome = Err (refused 0x3e); state = s }
+
+abbrev pub judged : List (Asked × List ℕ) → PinWords → KeyPair → Query → PinState → Verdict
+judged es words pair q s = judged_by q.subcommand es words pair q s
 
 -- a request, in whatever state it finds
 abbrev pub verdict : List (Asked × List ℕ) → PinWords → Query → PinState → Verdict

@@ -7,12 +7,23 @@ ghost use Rattle.pin_protocols.specs.Asks.{entries};
 ghost use Rattle.pin_protocols.specs.FlowView.{secret_view};
 ghost use Rattle.pin_protocols.specs.Protocols.{has_iv};
 ghost use Rattle.client_pin.specs.Host.{decrypted, encrypted, product, secret, verified};
-ghost use Rattle.client_pin.specs.Pieces.{Gives};
+ghost use Rattle.client_pin.specs.Pieces.{Gives, of_product_stop};
 
 use crate::end::{End, INVALID_PARAMETER, PIN_AUTH_INVALID};
 use pin_messages::Point;
 use pin_protocols::{Answers, Protocol, Secret, Stop};
 use std::alloc::Global;
+
+/// Why there is no product: an answer of another size says that the client's point is none of the curve.
+fn no_product(stop: Stop) -> End
+    ensures { result ≡ of_product_stop stop }
+{
+    match stop {
+        Stop::Memory => End::Memory,
+        Stop::Asks(ask) => End::Asks(ask),
+        _ => End::Refused(INVALID_PARAMETER),
+    }
+}
 
 /// The coordinate x of the product of the own key and the client's point.
 pub(crate) fn product<'a>(
@@ -25,8 +36,7 @@ pub(crate) fn product<'a>(
 {
     match pin_protocols::product(alloc, answers, key, peer) {
         Ok(z) => Ok(z),
-        Err(Stop::BadAnswer) => Err(End::Refused(INVALID_PARAMETER)),
-        Err(stop) => Err(End::from(stop)),
+        Err(stop) => Err(no_product(stop)),
     }
 }
 
@@ -107,8 +117,9 @@ pub(crate) fn verified(
         Ok(tag) => tag,
         Err(stop) => return Err(End::from(stop)),
     };
-    if !is_same(tag, param) {
-        return Err(End::Refused(PIN_AUTH_INVALID));
+    if is_same(tag, param) {
+        Ok(())
+    } else {
+        Err(End::Refused(PIN_AUTH_INVALID))
     }
-    Ok(())
 }

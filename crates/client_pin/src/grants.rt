@@ -2,7 +2,7 @@
 
 ghost use Rattle.std.specs.Prelude.{◌≡◌, IfOk, OnErr, OnOk, option_map};
 ghost use Rattle.pin_protocols.specs.Asks.{entries};
-ghost use Rattle.client_pin.specs.Grants.{Grants, after_grant, granted, is_for, token_of};
+ghost use Rattle.client_pin.specs.Grants.{Grants, IsNew, after_grant, claim, granted, is_for, token_of};
 ghost use Rattle.client_pin.specs.Pieces.{Gives};
 ghost use Rattle.client_pin.specs.State.{pin_view, token_view};
 
@@ -47,13 +47,7 @@ impl ClientPin {
         rp_id: &str,
         client_data_hash: &[u8],
     ) -> Result<(), End>
-        ensures { Gives (λ _. tt) result (granted (entries answers.now) (record {
-          protocol = protocol;
-          param = param.now;
-          permission = permission;
-          rp_id = rp_id.now;
-          client_data_hash = client_data_hash.now;
-        }) (pin_view self.now).token) }
+        ensures { Gives (λ _. tt) result (granted (entries answers.now) (claim protocol param.now permission rp_id.now client_data_hash.now) (pin_view self.now).token) }
     {
         let number = needed_number(protocol)?;
         let protocol = known_protocol(number)?;
@@ -78,6 +72,7 @@ impl ClientPin {
     ///
     /// Refused by the first of these that applies: 0x14 without a protocol; 0x02 of another than 1 and 2; 0x33 where no token of
     /// it is in use, the param is not the hash authenticated by it, the token has not the permission, or has another rp id.
+    /// 0x7F where an answer of the host has another size.
     /// Where it is not granted, or there is no memory, nothing changes.
     pub fn verify(
         &mut self,
@@ -89,20 +84,10 @@ impl ClientPin {
         rp_id: &str,
         client_data_hash: &[u8],
     ) -> Result<Grant, AllocError>
-        ensures grant { IfOk result (Grants (granted (entries answers.now) (record {
-          protocol = protocol;
-          param = param.now;
-          permission = permission;
-          rp_id = rp_id.now;
-          client_data_hash = client_data_hash.now;
-        }) (pin_view self.old).token)) }
-        ensures state { OnOk result (pin_view self.new ≡ after_grant (granted (entries answers.now) (record {
-          protocol = protocol;
-          param = param.now;
-          permission = permission;
-          rp_id = rp_id.now;
-          client_data_hash = client_data_hash.now;
-        }) (pin_view self.old).token) rp_id.now (pin_view self.old)) }
+        ensures grant { IfOk result (Grants (granted (entries answers.now) (claim protocol param.now permission rp_id.now client_data_hash.now) (pin_view self.old).token)) }
+        ensures state { OnOk result (pin_view self.new ≡ after_grant (granted (entries answers.now) (claim protocol param.now permission rp_id.now client_data_hash.now) (pin_view self.old).token) rp_id.now (pin_view self.old)) }
+        // Asked is nothing that was answered.
+        ensures asks { IfOk result (IsNew (entries answers.now)) }
         // Where memory is wanting nothing has changed.
         ensures err { OnErr result (pin_view self.new ≡ pin_view self.old) }
     {

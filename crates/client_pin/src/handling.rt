@@ -1,10 +1,9 @@
 //! A request of clientPIN (CTAP 2.1, section 6.5.5).
 
-ghost use Rattle.std.specs.Prelude.{◌≡◌, ◌⊎◌, IfOk, OnErr, OnOk, Result};
+ghost use Rattle.std.specs.Prelude.{◌≡◌, ◌⊎◌, IfOk, OnErr, OnOk};
 ghost use Rattle.pin_protocols.specs.Asks.{entries};
-ghost use Rattle.client_pin.specs.Host.{Ending};
-ghost use Rattle.client_pin.specs.Outcomes.{Answers, Outcome, Unanswered, after};
-ghost use Rattle.client_pin.specs.Pieces.{Gives, IsOutcome, Reaches, outcome_view};
+ghost use Rattle.client_pin.specs.Outcomes.{IsStep, Unanswered, after};
+ghost use Rattle.client_pin.specs.Pieces.{Finishes, Gives, Reaches, outcome_view};
 ghost use Rattle.client_pin.specs.Query.{query_view};
 ghost use Rattle.client_pin.specs.State.{pin_view, with_pair};
 ghost use Rattle.client_pin.specs.Steps.{judged, key_agreement, verdict};
@@ -57,8 +56,7 @@ impl ClientPin {
         alloc: Global,
         outcome: Result<Outcome<'_>, End>,
     ) -> Result<PinStep, AllocError>
-        ensures done { IfOk result (λ step. (r : Result Outcome Ending) × IsOutcome outcome r
-            × Answers (record { outcome = r; state = pin_view self.old }) step × (pin_view self.new ≡ after r (pin_view self.old))) }
+        ensures done { IfOk result (λ step. Finishes outcome.entry (pin_view self.old) step (pin_view self.new)) }
         ensures err { OnErr result (pin_view self.new ≡ pin_view self.old) }
     {
         match outcome {
@@ -80,6 +78,9 @@ impl ClientPin {
     /// A request of clientPIN. Where the host is asked, the call is made again with its answer, for the same request and with
     /// the same words.
     ///
+    /// The reply is a status of CTAP 2.1, section 8.2, alone, or status 0 and what is told; 0x7F where an answer of the host has
+    /// another size. The steps of each subcommand, in order, stand in `specs/Steps.antt`.
+    ///
     /// Before the host is asked to decrypt pinHashEnc, one retry less is left. Where there is no memory, the key pair may have
     /// been taken and the try counted, and no more: the call can be made again.
     pub fn handle(
@@ -89,7 +90,7 @@ impl ClientPin {
         words: &PinWords,
         answers: &Answers,
     ) -> Result<PinStep, AllocError>
-        ensures step { IfOk result (λ step. Answers (verdict (entries answers.now) words.now (query_view asked.now) (pin_view self.old)) step) }
+        ensures step { IfOk result (λ step. IsStep (verdict (entries answers.now) words.now (query_view asked.now) (pin_view self.old)) step) }
         ensures state { OnOk result (pin_view self.new ≡ after (verdict (entries answers.now) words.now (query_view asked.now) (pin_view self.old)).outcome
             (verdict (entries answers.now) words.now (query_view asked.now) (pin_view self.old)).state) }
         // Asked is nothing that was answered.

@@ -126,7 +126,7 @@ impl ClientPin {
 
     /// The state after it.
     pub(crate) fn carry_out(&mut self, outcome: Outcome<'_>)
-        ensures { pin_view self.new ≡ over (done (outcome_view outcome) (pin_view self.old)) }
+        ensures { pin_view self.new ≡ over (done (outcome_view outcome.entry) (pin_view self.old)) }
     {
         match outcome {
             Outcome::RetriesTold | Outcome::KeyTold => {}

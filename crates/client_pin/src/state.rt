@@ -1,7 +1,7 @@
 //! What an authenticator keeps for its PIN.
 
 ghost use Rattle.std.specs.Prelude.{◌≡◌, ◌↔◌, IsSome, IsTrue, Some};
-ghost use Rattle.client_pin.specs.State.{counted, new_pin_state, over, pair_of, pin_view, powered_up, spent, with_pair, without_token};
+ghost use Rattle.client_pin.specs.State.{counted, new_pin_state, over, pair_of, pair_or, pin_view, powered_up, spent, with_pair, without_token};
 
 use crate::words::PinWords;
 use pin_protocols::Protocol;
@@ -21,6 +21,20 @@ pub(crate) struct Token {
     pub bytes: [u8; 32],
     pub permissions: u64,
     pub rp_id: Option<String>,
+}
+
+/// The key pair, which is the words' where there is none yet.
+fn pair_or(pair: &Option<KeyPair>, words: &PinWords) -> KeyPair
+    ensures { result ≡ pair_or words.now pair.now }
+{
+    match pair {
+        Some(pair) => *pair,
+        None => KeyPair {
+            key: words.secret,
+            x: words.x,
+            y: words.y,
+        },
+    }
 }
 
 /// An authenticator's PIN (CTAP 2.1, section 6.5): its hash, the retries that are left, the key agreement's key pair, and the
@@ -98,19 +112,12 @@ impl ClientPin {
         *self = ClientPin::new();
     }
 
-    /// The key pair, which is the words' where there is none yet.
+    /// Takes the words' key pair where there is none yet.
     pub(crate) fn take_pair(&mut self, words: &PinWords) -> KeyPair
         ensures pair { result ≡ pair_of words.now (pin_view self.old) }
         ensures state { pin_view self.new ≡ with_pair words.now (pin_view self.old) }
     {
-        let pair = match self.pair {
-            Some(pair) => pair,
-            None => KeyPair {
-                key: words.secret,
-                x: words.x,
-                y: words.y,
-            },
-        };
+        let pair = pair_or(&self.pair, words);
         self.pair = Some(pair);
         pair
     }

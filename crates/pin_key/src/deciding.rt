@@ -1,9 +1,7 @@
 //! What the authenticator makes of a request once the user has decided.
 
 use crate::computing::status_alone;
-use crate::error::PinKeyError;
-use crate::looking::{GET_INFO, RESET};
-use crate::stage::Way;
+use crate::looking::{GET_INFO, Look, RESET, look_at};
 use authenticator::{Authenticator, Begun, Consent, HandedKeys, PublicKeys, Words};
 use client_pin::ClientPin;
 use ctap_status::Error;
@@ -98,13 +96,16 @@ fn bare(alloc: Global, request: &[u8]) -> Result<Option<Vec<u8>>, AllocError> {
 /// Whether the request asks for the user's presence.
 fn asks_presence(request: &[u8]) -> bool {
     match read_param(request) {
-        Ok(view) => view.up != Some(false),
+        Ok(view) => match view.options {
+            Some(options) => options.up != Some(false),
+            None => true,
+        },
         Err(_) => true,
     }
 }
 
 /// A request that a token granted: its user is verified. Where the user was asked to be present and is, the token is spent.
-fn begin_granted<K: PublicKeys>(
+pub(crate) fn begin_granted<K: PublicKeys>(
     alloc: Global,
     authenticator: &mut Authenticator,
     pin: &mut ClientPin,
@@ -136,23 +137,22 @@ fn touched(is_set: bool, present: bool) -> u8 {
     }
 }
 
-/// Begins a request that the user decided on.
+/// Begins a request that the user decided on, which no token granted; none where it waits for the host.
 pub(crate) fn begin<K: PublicKeys>(
     alloc: Global,
     authenticator: &mut Authenticator,
     pin: &mut ClientPin,
     keys: &K,
-    way: Way,
     asked: &Asked<'_>,
-) -> Result<Begun, AllocError> {
-    match way {
-        Way::AsItIs => begin_as_it_is(alloc, authenticator, pin, keys, asked),
-        Way::Granted => begin_granted(alloc, authenticator, pin, keys, asked),
-        Way::Touch => {
+) -> Result<Option<Begun>, AllocError> {
+    match look_at(asked.request, pin.is_set()) {
+        Look::Computes => Ok(None),
+        Look::AsItIs => Ok(Some(begin_as_it_is(alloc, authenticator, pin, keys, asked)?)),
+        Look::Touch => {
             let status = touched(pin.is_set(), asked.present);
-            Ok(Begun::Replied(status_alone(alloc, status)?))
+            Ok(Some(Begun::Replied(status_alone(alloc, status)?)))
         }
-        Way::Refused(status) => Ok(Begun::Replied(status_alone(alloc, status)?)),
+        Look::Refused(status) => Ok(Some(Begun::Replied(status_alone(alloc, status)?))),
     }
 }
 

@@ -1,11 +1,11 @@
 //! The security key.
 
 use crate::computing::{Step, next_step};
-use crate::deciding::{Asked, NO_KEYS, begin, forget};
+use crate::deciding::{Asked, NO_KEYS, begin, begin_granted, forget};
 use crate::error::PinKeyError;
-use crate::looking::first_stage;
+use crate::looking::{Look, look_at};
 use crate::sending::{answer, make_room};
-use crate::stage::{Computation, Stage, Told, Way};
+use crate::stage::{Computation, Stage, Told};
 use authdata::AttestationType;
 use authenticator::{Authenticator, Begun, Consent, LoadError, Pending, PublicKeys, Words};
 use client_pin::{ClientPin, PinLoadError, PinWords};
@@ -14,23 +14,6 @@ use hidlink::{Device, DeviceEvent};
 use pin_protocols::{Answers, Ask};
 use security_key::{Act, Served, begin_serving, finish_serving};
 use std::alloc::{AllocError, Global};
-
-/// What happens at the key.
-#[derive(Drop)]
-pub enum PinAct {
-    /// A packet came.
-    Packet(Packet),
-    /// The host's words, for a request that waits for them.
-    Compute(PinWords),
-    /// The host's answer to what it was asked.
-    Answer(Vec<u8>),
-    /// The user decided on the request that waits; the random words are for a credential that it may make.
-    Decide(Consent, Words),
-    /// The user is still to decide on the request that waits.
-    Wait,
-    /// The message that is coming in took too long.
-    Expire,
-}
 
 /// A device, its authenticator, its PIN, and what the request that the device works on waits for.
 #[derive(Drop)]
@@ -83,22 +66,14 @@ impl PinKey {
         }
     }
 
-    /// Does an act, and puts the packets that are sent then behind those in `out`.
-    pub fn serve<K: PublicKeys>(
-        &mut self,
-        alloc: Global,
-        keys: &K,
-        act: PinAct,
-        out: &mut Vec<Packet>,
-    ) -> Result<Told, PinKeyError> {
-        match act {
-            PinAct::Packet(packet) => self.packet(packet, out),
-            PinAct::Compute(words) => self.compute(alloc, words, out),
-            PinAct::Answer(answer) => self.answer(alloc, answer, out),
-            PinAct::Decide(consent, words) => self.decide(alloc, keys, consent, words, out),
-            PinAct::Wait => self.pass(Act::Wait, out),
-            PinAct::Expire => self.pass(Act::Expire, out),
-        }
+    /// The user is still to decide on the request that waits: a keepalive.
+    pub fn wait(&mut self, out: &mut Vec<Packet>) -> Result<Told, PinKeyError> {
+        self.pass(Act::Wait, out)
+    }
+
+    /// The message that is coming in took too long.
+    pub fn expire(&mut self, out: &mut Vec<Packet>) -> Result<Told, PinKeyError> {
+        self.pass(Act::Expire, out)
     }
 
     /// Has the device do an act that decides nothing.
@@ -113,7 +88,8 @@ impl PinKey {
         Ok(Told::Event(event_of(served)))
     }
 
-    fn packet(&mut self, packet: Packet, out: &mut Vec<Packet>) -> Result<Told, PinKeyError> {
+    /// A packet comes. A request that is complete is looked at.
+    pub fn packet(&mut self, packet: Packet, out: &mut Vec<Packet>) -> Result<Told, PinKeyError> {
         let served = begin_serving(
             &mut self.device,
             &mut self.authenticator,
@@ -123,11 +99,7 @@ impl PinKey {
         )?;
         let event = event_of(served);
         match event {
-            DeviceEvent::Request { cid } => {
-                self.pending = None;
-                self.stage = first_stage(self.device.request(), self.pin.is_set());
-                Ok(self.looked(cid, out))
-            }
+            DeviceEvent::Request { cid } => Ok(self.look(cid, out)),
             _ => {
                 if self.device.working().is_none() {
                     self.give_up();
@@ -144,12 +116,20 @@ impl PinKey {
         self.pending = None;
     }
 
-    /// Tells what a request that is complete waits for. One that is refused is answered; without memory for that it
-    /// waits for the user, and is answered then.
-    fn looked(&mut self, cid: u32, out: &mut Vec<Packet>) -> Told {
-        match self.stage {
-            Stage::Words => Told::Computes { cid },
-            Stage::User(Way::Refused(status)) if make_room(out).is_ok() => {
+    /// Looks at a request that is complete. One that is refused is answered; without memory for that it waits for the user,
+    /// and is answered then.
+    fn look(&mut self, cid: u32, out: &mut Vec<Packet>) -> Told {
+        self.pending = None;
+        self.stage = Stage::User;
+        if self.device.working().is_none() {
+            return Told::Event(DeviceEvent::Quiet);
+        }
+        match look_at(self.device.request(), self.pin.is_set()) {
+            Look::Computes => {
+                self.stage = Stage::Words;
+                Told::Computes { cid }
+            }
+            Look::Refused(status) if make_room(out).is_ok() => {
                 answer(&mut self.device, &[status], out);
                 self.stage = Stage::Nothing;
                 Told::Event(DeviceEvent::Quiet)
@@ -158,7 +138,8 @@ impl PinKey {
         }
     }
 
-    fn compute(
+    /// The host's words, for a request that waits for them.
+    pub fn compute(
         &mut self,
         alloc: Global,
         words: PinWords,
@@ -170,7 +151,8 @@ impl PinKey {
         }
     }
 
-    fn answer(
+    /// The host's answer to what it is asked.
+    pub fn answer(
         &mut self,
         alloc: Global,
         answer: Vec<u8>,
@@ -222,22 +204,21 @@ impl PinKey {
                 Ok(Told::Event(DeviceEvent::Quiet))
             }
             Step::Granted => {
-                self.stage = Stage::User(Way::Granted);
+                self.stage = Stage::Granted;
                 Ok(Told::Event(DeviceEvent::Request { cid }))
             }
         }
     }
 
-    fn decide<K: PublicKeys>(
+    /// Begins the request that waits for the user.
+    fn begin<K: PublicKeys>(
         &mut self,
         alloc: Global,
         keys: &K,
         consent: Consent,
         words: Words,
-        out: &mut Vec<Packet>,
-    ) -> Result<Told, PinKeyError> {
-        make_room(out)?;
-        let (Stage::User(way), Some(channel)) = (&self.stage, self.device.working()) else {
+    ) -> Result<Begun, PinKeyError> {
+        let Some(channel) = self.device.working() else {
             return Err(PinKeyError::NotWorking);
         };
         let asked = Asked {
@@ -246,7 +227,29 @@ impl PinKey {
             present: consent.present,
             words,
         };
-        match begin(alloc, &mut self.authenticator, &mut self.pin, keys, *way, &asked)? {
+        let (authenticator, pin) = (&mut self.authenticator, &mut self.pin);
+        match self.stage {
+            Stage::User => match begin(alloc, authenticator, pin, keys, &asked)? {
+                Some(begun) => Ok(begun),
+                None => Err(PinKeyError::NotWorking),
+            },
+            Stage::Granted => Ok(begin_granted(alloc, authenticator, pin, keys, &asked)?),
+            _ => Err(PinKeyError::NotWorking),
+        }
+    }
+
+    /// The user decides on the request that waits; the random words are for a credential that it may make. Whether the
+    /// user is verified a token says, and not the consent.
+    pub fn decide<K: PublicKeys>(
+        &mut self,
+        alloc: Global,
+        keys: &K,
+        consent: Consent,
+        words: Words,
+        out: &mut Vec<Packet>,
+    ) -> Result<Told, PinKeyError> {
+        make_room(out)?;
+        match self.begin(alloc, keys, consent, words)? {
             Begun::Replied(reply) => {
                 answer(&mut self.device, &reply, out);
                 self.stage = Stage::Nothing;
@@ -293,6 +296,17 @@ impl PinKey {
         self.pin.end_token();
     }
 
+    /// What the request that the device works on waits for, looked at anew.
+    fn stage_anew(&self) -> Stage {
+        if self.device.working().is_none() {
+            return Stage::Nothing;
+        }
+        match look_at(self.device.request(), self.pin.is_set()) {
+            Look::Computes => Stage::Words,
+            _ => Stage::User,
+        }
+    }
+
     /// Appends the authenticator's saved bytes, in which its secrets stand as they are.
     pub fn save(&self, out: &mut Vec<u8>) -> Result<(), AllocError> {
         self.authenticator.save(out)
@@ -311,14 +325,11 @@ impl PinKey {
         Ok(())
     }
 
-    /// Takes the PIN that was saved in place of its own. A request that the device works on is looked at anew.
+    /// Takes the PIN that was saved in place of its own. A request that waits is looked at anew.
     pub fn load_pin(&mut self, bytes: &[u8]) -> Result<(), PinLoadError> {
         self.pin = ClientPin::load(bytes)?;
         self.pending = None;
-        self.stage = match self.device.working() {
-            Some(_) => first_stage(self.device.request(), self.pin.is_set()),
-            None => Stage::Nothing,
-        };
+        self.stage = self.stage_anew();
         Ok(())
     }
 }

@@ -11,5 +11,6 @@ mod sending;
 mod stage;
 
 pub use error::PinKeyError;
-pub use key::{PinAct, PinKey};
+pub use key::PinKey;
+pub use looking::{Look, look_at};
 pub use stage::Told;

@@ -1,12 +1,11 @@
-//! What a request that is complete waits for.
+//! How a request that is complete is answered.
 
-use crate::stage::{Stage, Way};
 use ctap_status::Error;
 use ctap_status::status::{INVALID_OPTION, OTHER};
 use pin_requests::{ParamView, read_param};
 
 /// The command byte of authenticatorMakeCredential.
-pub(crate) const MAKE_CREDENTIAL: u8 = 0x01;
+const MAKE_CREDENTIAL: u8 = 0x01;
 
 /// The command byte of authenticatorGetAssertion.
 const GET_ASSERTION: u8 = 0x02;
@@ -23,37 +22,50 @@ pub(crate) const RESET: u8 = 0x07;
 /// A token is needed: sent by makeCredential where a PIN is set (CTAP 2.1, section 8.2).
 const PUAT_REQUIRED: u8 = 0x36;
 
+/// How a request is answered.
+#[derive(Clone, Copy, Debug, PartialEq, Eq, Drop)]
+pub enum Look {
+    /// By the PIN, or once a token grants it: the host computes.
+    Computes,
+    /// By the authenticator, as it is, once the user has decided.
+    AsItIs,
+    /// Its pinUvAuthParam is empty: the user touches the key to choose it (CTAP 2.1, section 6.1.2, step 1).
+    Touch,
+    /// By this status.
+    Refused(u8),
+}
+
 /// How a request without pinUvAuthParam is answered.
-fn without_param(view: &ParamView<'_>, needs_token: bool) -> Way {
+fn without_param(view: &ParamView<'_>, needs_token: bool) -> Look {
     if needs_token {
-        return Way::Refused(PUAT_REQUIRED);
+        return Look::Refused(PUAT_REQUIRED);
     }
-    match view.uv {
+    match view.options {
         // There is no built-in verification.
-        Some(true) => Way::Refused(INVALID_OPTION),
-        _ => Way::AsItIs,
+        Some(options) if options.uv == Some(true) => Look::Refused(INVALID_OPTION),
+        _ => Look::AsItIs,
     }
 }
 
-/// What a makeCredential or getAssertion waits for.
-fn protected_stage(request: &[u8], needs_token: bool) -> Stage {
+/// How a makeCredential or getAssertion is answered.
+fn look_at_param(request: &[u8], needs_token: bool) -> Look {
     match read_param(request) {
         Ok(view) => match view.param {
-            Some(param) if param.is_empty() => Stage::User(Way::Touch),
-            Some(_) => Stage::Words,
-            None => Stage::User(without_param(&view, needs_token)),
+            Some(param) if param.is_empty() => Look::Touch,
+            Some(_) => Look::Computes,
+            None => without_param(&view, needs_token),
         },
-        Err(Error::Status(status)) => Stage::User(Way::Refused(status)),
-        Err(_) => Stage::User(Way::Refused(OTHER)),
+        Err(Error::Status(status)) => Look::Refused(status),
+        Err(_) => Look::Refused(OTHER),
     }
 }
 
-/// What a request waits for, where a PIN is set or not. A makeCredential without pinUvAuthParam is refused where one is.
-pub(crate) fn first_stage(request: &[u8], is_set: bool) -> Stage {
+/// How a request is answered, where a PIN is set or not. A makeCredential without pinUvAuthParam is refused where one is.
+pub fn look_at(request: &[u8], is_set: bool) -> Look {
     match request.first() {
-        Some(&CLIENT_PIN) => Stage::Words,
-        Some(&MAKE_CREDENTIAL) => protected_stage(request, is_set),
-        Some(&GET_ASSERTION) => protected_stage(request, false),
-        _ => Stage::User(Way::AsItIs),
+        Some(&CLIENT_PIN) => Look::Computes,
+        Some(&MAKE_CREDENTIAL) => look_at_param(request, is_set),
+        Some(&GET_ASSERTION) => look_at_param(request, false),
+        _ => Look::AsItIs,
     }
 }

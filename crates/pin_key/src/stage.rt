@@ -5,19 +5,6 @@ use hidlink::DeviceEvent;
 use pin_protocols::{Answers, Ask};
 use std::mem;
 
-/// How a request is answered once the user has decided.
-#[derive(Clone, Copy, Debug, Drop)]
-pub(crate) enum Way {
-    /// By the authenticator, as it is.
-    AsItIs,
-    /// By the authenticator, without its members of the PIN: a token granted it.
-    Granted,
-    /// Its pinUvAuthParam is empty: the user touches the key to choose it (CTAP 2.1, section 6.1.2, step 1).
-    Touch,
-    /// By this status.
-    Refused(u8),
-}
-
 /// A computation under way: the host's words, its answers, and what it is asked.
 #[derive(Debug, Drop)]
 pub(crate) struct Computation {
@@ -36,7 +23,9 @@ pub(crate) enum Stage {
     /// The host's answer.
     Answer(Computation),
     /// The user's decision.
-    User(Way),
+    User,
+    /// The user's decision, by which it is done: a token grants it.
+    Granted,
 }
 
 impl Stage {

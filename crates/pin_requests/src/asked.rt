@@ -1,5 +1,9 @@
 //! What requests have.
 
+ghost use Rattle.std.specs.Prelude.{◌≡◌};
+ghost use Rattle.pin_requests.specs.Protected.{client_data_hash, permission, rp_id};
+ghost use Rattle.pin_requests.specs.ProtectedView.{message_of};
+
 use ctap_requests::{GetAssertion, MakeCredential};
 use pin_messages::AgreementKey;
 
@@ -41,10 +45,8 @@ pub(crate) struct AskedMembers<'a> {
 /// bytes that were read.
 #[derive(Clone, Copy, Debug, Drop)]
 pub struct ParamView<'a> {
-    /// The option `up`.
-    pub up: Option<bool>,
-    /// The option `uv`.
-    pub uv: Option<bool>,
+    /// The options.
+    pub options: Option<OptionsAsked>,
     /// The member `pinUvAuthParam`.
     pub param: Option<&'a [u8]>,
     /// The member `pinUvAuthProtocol`.
@@ -53,8 +55,10 @@ pub struct ParamView<'a> {
 
 /// The options of such a request.
 #[derive(Clone, Copy, Debug, Drop)]
-pub(crate) struct OptionsAsked {
+pub struct OptionsAsked {
+    /// The option `up`.
     pub up: Option<bool>,
+    /// The option `uv`.
     pub uv: Option<bool>,
 }
 
@@ -69,7 +73,9 @@ pub enum ProtectedRequest {
 
 impl ProtectedRequest {
     /// The permission that a token must have for it (CTAP 2.1, section 6.5.5.7): 1, mc, or 2, ga.
-    pub fn permission(&self) -> u64 {
+    pub fn permission(&self) -> u64
+        ensures { result ≡ permission (message_of self.now) }
+    {
         match self {
             ProtectedRequest::MakeCredential(_) => 1,
             ProtectedRequest::GetAssertion(_) => 2,
@@ -77,7 +83,9 @@ impl ProtectedRequest {
     }
 
     /// The relying party id.
-    pub fn rp_id(&self) -> &str {
+    pub fn rp_id(&self) -> &str
+        ensures { result.now ≡ rp_id (message_of self.now) }
+    {
         match self {
             ProtectedRequest::MakeCredential(request) => request.rp.id.as_str(),
             ProtectedRequest::GetAssertion(request) => request.rp_id.as_str(),
@@ -85,7 +93,9 @@ impl ProtectedRequest {
     }
 
     /// The hash of the client data: 32 bytes.
-    pub fn client_data_hash(&self) -> &[u8] {
+    pub fn client_data_hash(&self) -> &[u8]
+        ensures { result.now ≡ client_data_hash (message_of self.now) }
+    {
         match self {
             ProtectedRequest::MakeCredential(request) => request.client_data_hash.as_slice(),
             ProtectedRequest::GetAssertion(request) => request.client_data_hash.as_slice(),

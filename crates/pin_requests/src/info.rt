@@ -1,5 +1,14 @@
 //! The reply to getInfo of a key that takes PINs.
 
+ghost use Rattle.std.specs.Prelude.{◌≡◌, ◌⊎◌, [], ◌∷◌, IfErr, IfOk, codes, true};
+ghost use Rattle.ccbor.specs.View.{view};
+ghost use Rattle.cbor_map.specs.Content.{item_of};
+ghost use Rattle.cbor_map.specs.Table.{a_text, list_of, record_of, truths, unsigned};
+ghost use Rattle.ctap_status.specs.declared.error.Error.TheVariants as errors;
+ghost use Rattle.key_replies.specs.Replies.{Info, IsReply, Refused, TellsInfo};
+ghost use Rattle.key_replies.specs.ReplyView.{info_view};
+ghost use Rattle.pin_requests.specs.Informing.{KeyInfoBytes, key_info_content, key_info_members};
+
 use crate::writing::with_value;
 use cbor_map::{bytes_value, push_if_there, push_member, text_value};
 use ccbor::{MapKey, Value};
@@ -9,7 +18,9 @@ use pin_messages::number_if_there;
 use std::alloc::{AllocError, Global};
 
 /// The versions.
-fn versions(alloc: Global) -> Result<Value, AllocError> {
+fn versions(alloc: Global) -> Result<Value, AllocError>
+    ensures { IfOk result (λ v. view v ≡ item_of (list_of a_text) (codes "FIDO_2_0" ∷ codes "FIDO_2_1" ∷ [])) }
+{
     let mut texts = Vec::new(alloc);
     texts.push(text_value(alloc, "FIDO_2_0")?)?;
     texts.push(text_value(alloc, "FIDO_2_1")?)?;
@@ -17,7 +28,10 @@ fn versions(alloc: Global) -> Result<Value, AllocError> {
 }
 
 /// The options, and whether a PIN is set.
-fn options(alloc: Global, is_set: bool) -> Result<Value, AllocError> {
+fn options(alloc: Global, is_set: bool) -> Result<Value, AllocError>
+    ensures { IfOk result (λ v. view v ≡ item_of truths
+        ((codes "rk", true) ∷ (codes "up", true) ∷ (codes "clientPin", is_set) ∷ (codes "pinUvAuthToken", true) ∷ [])) }
+{
     let mut pairs = Vec::new(alloc);
     push_member(alloc, &mut pairs, MapKey::Text("rk"), Value::Bool(true))?;
     push_member(alloc, &mut pairs, MapKey::Text("up"), Value::Bool(true))?;
@@ -37,7 +51,9 @@ fn options(alloc: Global, is_set: bool) -> Result<Value, AllocError> {
 }
 
 /// The PIN/UV auth protocols.
-fn protocols(alloc: Global) -> Result<Value, AllocError> {
+fn protocols(alloc: Global) -> Result<Value, AllocError>
+    ensures { IfOk result (λ v. view v ≡ item_of (list_of (unsigned 0)) (2 ∷ 1 ∷ [])) }
+{
     let mut numbers = Vec::new(alloc);
     numbers.push(Value::Uint(2))?;
     numbers.push(Value::Uint(1))?;
@@ -45,7 +61,9 @@ fn protocols(alloc: Global) -> Result<Value, AllocError> {
 }
 
 /// The value of the reply's map.
-fn info_value(alloc: Global, told: &KeyInfo<'_>, is_set: bool) -> Result<Value, AllocError> {
+fn info_value(alloc: Global, told: &KeyInfo<'_>, is_set: bool) -> Result<Value, AllocError>
+    ensures { IfOk result (λ v. view v ≡ item_of (record_of key_info_members) (key_info_content (info_view told.now) is_set)) }
+{
     let mut pairs = Vec::new(alloc);
     let list = versions(alloc)?;
     push_member(alloc, &mut pairs, MapKey::Uint(1), list)?;
@@ -68,12 +86,26 @@ fn info_value(alloc: Global, told: &KeyInfo<'_>, is_set: bool) -> Result<Value, 
     Ok(Value::Map(pairs))
 }
 
+/// The bytes of the reply.
+fn told_info(alloc: Global, told: &KeyInfo<'_>, is_set: bool) -> Result<Vec<u8>, Error>
+    ensures written { IfOk result (λ v. KeyInfoBytes (info_view told.now) is_set v.items) }
+    ensures errors { IfErr result (λ e. (e ≡ errors.Unfit) ⊎ (e ≡ errors.Memory)) }
+{
+    let value = info_value(alloc, told, is_set)?;
+    with_value(alloc, &value)
+}
+
 /// The reply to getInfo (CTAP 2.1, section 6.4) of a key that takes PINs, from the authenticator's reply without one: its
 /// aaguid and its limits, and whether a PIN is set.
 ///
-/// Refused as [`read_info`] refuses the authenticator's reply; `Unfit` doesn't come.
-pub fn write_key_info(alloc: Global, told: &[u8], is_set: bool) -> Result<Vec<u8>, Error> {
-    let told = read_info(alloc, told)?;
-    let value = info_value(alloc, &told, is_set)?;
-    with_value(alloc, &value)
+/// Refused as [`read_info`] refuses the authenticator's reply; and as [`Error::Unfit`] where no bytes are the reply.
+pub fn write_key_info(alloc: Global, told: &[u8], is_set: bool) -> Result<Vec<u8>, Error>
+    ensures written { IfOk result (λ v. (q : Info) × IsReply TellsInfo q told.now × KeyInfoBytes q is_set v.items) }
+    ensures refused { IfErr result (λ e. (e ≡ errors.Unfit) ⊎ Refused TellsInfo told.now e) }
+{
+    // A `match` where the proof speaks of the error: `?` hides it behind its conversion.
+    match read_info(alloc, told) {
+        Ok(told) => told_info(alloc, &told, is_set),
+        Err(e) => Err(e),
+    }
 }

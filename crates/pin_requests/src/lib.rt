@@ -10,7 +10,7 @@ mod param;
 mod reading;
 mod writing;
 
-pub use asked::{ParamView, PinAsked, ProtectedRequest};
+pub use asked::{OptionsAsked, ParamView, PinAsked, ProtectedRequest};
 pub use bare::{bare_request, protected_request};
 pub use info::write_key_info;
 pub use param::read_param;

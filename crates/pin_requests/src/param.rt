@@ -1,8 +1,14 @@
 //! What a makeCredential or getAssertion says of the user's verification.
 
+ghost use Rattle.std.specs.Prelude.{◌≡◌, ◌⊎◌, ◌∷◌, ℕ, List, IfErr, IfOk};
+ghost use Rattle.pin_requests.specs.Asking.{IsSaid};
+ghost use Rattle.pin_requests.specs.Pieces.{UntoldBy};
+ghost use Rattle.pin_requests.specs.Protected.{IsProtection, RefusedProtection, TellsProtection, protection_members};
+ghost use Rattle.pin_requests.specs.ProtectedView.{protection_view};
+
 use crate::asked::ParamView;
-use crate::maps::param_view;
-use crate::reading::whole;
+use crate::maps::protection;
+use crate::reading::{behind, whole};
 use ctap_status::Error;
 use ctap_status::status::{CBOR_UNEXPECTED_TYPE, INVALID_COMMAND};
 
@@ -12,9 +18,17 @@ pub(crate) const MAKE_CREDENTIAL: u8 = 0x01;
 /// The command byte of authenticatorGetAssertion.
 pub(crate) const GET_ASSERTION: u8 = 0x02;
 
-fn param_in(rest: &[u8], options: u64, param: u64, protocol: u64) -> Result<ParamView<'_>, Error> {
-    let value = whole(rest)?;
-    match param_view(&value, options, param, protocol) {
+/// What the map behind a command byte says, by the numbers of its members.
+fn param_in(rest: &[u8], options: u64, param: u64, protocol: u64) -> Result<ParamView<'_>, Error>
+    ensures found { IfOk result (λ p. (command : ℕ) → IsSaid command (TellsProtection options param protocol) (protection_view p) (command ∷ rest.now)) }
+    ensures refused { IfErr result (λ e. (command : ℕ) → UntoldBy command (protection_members options param protocol) (command ∷ rest.now) e) }
+{
+    // A `match` where the proof speaks of the error: `?` hides it behind its conversion.
+    let value = match whole(rest) {
+        Ok(value) => value,
+        Err(e) => return Err(e),
+    };
+    match protection(&value, options, param, protocol) {
         Ok(view) => Ok(view),
         Err(_) => Err(Error::Status(CBOR_UNEXPECTED_TYPE)),
     }
@@ -25,10 +39,15 @@ fn param_in(rest: &[u8], options: u64, param: u64, protocol: u64) -> Result<Para
 ///
 /// Refused as [`Error::Status`] with the first of these that applies: 0x01 another command; 0x12 not one whole canonical
 /// CBOR value; 0x11 no map, or one of these members of another kind.
-pub fn read_param(request: &[u8]) -> Result<ParamView<'_>, Error> {
-    match request.split_first() {
-        Some((&MAKE_CREDENTIAL, rest)) => param_in(rest, 7, 8, 9),
-        Some((&GET_ASSERTION, rest)) => param_in(rest, 5, 6, 7),
-        _ => Err(Error::Status(INVALID_COMMAND)),
+pub fn read_param(request: &[u8]) -> Result<ParamView<'_>, Error>
+    ensures found { IfOk result (λ p. IsProtection (protection_view p) request.now) }
+    ensures refused { IfErr result (λ e. RefusedProtection request.now e) }
+{
+    if let Some(rest) = behind(request, MAKE_CREDENTIAL) {
+        return param_in(rest, 7, 8, 9);
+    }
+    match behind(request, GET_ASSERTION) {
+        Some(rest) => param_in(rest, 5, 6, 7),
+        None => Err(Error::Status(INVALID_COMMAND)),
     }
 }

@@ -1,5 +1,14 @@
 //! Reading a request.
 
+ghost use Rattle.std.specs.Prelude.{◌≡◌, ◌∷◌, ℕ, List, IfErr, IfNone, IfOk, IfSome, None, Some};
+ghost use Rattle.ccbor.specs.Canon.{Canon};
+ghost use Rattle.ccbor.specs.Item.{Item};
+ghost use Rattle.ccbor.specs.Viewing.{shown};
+ghost use Rattle.ctap_status.specs.declared.error.Error.TheVariants as errors;
+ghost use Rattle.pin_requests.specs.Asking.{IsSaid, Refused, TellsAsking, asked_content};
+ghost use Rattle.pin_requests.specs.AskingView.{asking_view};
+ghost use Rattle.pin_requests.specs.Pieces.{content_of};
+
 use crate::asked::{AskedMembers, PinAsked};
 use crate::maps::asked;
 use ccbor::View;
@@ -10,23 +19,34 @@ use ctap_status::status::{CBOR_UNEXPECTED_TYPE, INVALID_CBOR, INVALID_COMMAND, M
 const CLIENT_PIN: u8 = 0x06;
 
 /// One whole canonical value.
-pub(crate) fn whole(bytes: &[u8]) -> Result<View<'_>, Error> {
+pub(crate) fn whole(bytes: &[u8]) -> Result<View<'_>, Error>
+    ensures found { IfOk result (λ v. Canon (shown v) bytes.now) }
+    ensures none { IfErr result (λ _. (v : Item) → Canon v bytes.now → ⊥) }
+    ensures errors { IfErr result (λ e. e ≡ errors.Status 0x12) }
+{
     match View::check_all(bytes) {
         Ok(value) => Ok(value),
         Err(_) => Err(Error::Status(INVALID_CBOR)),
     }
 }
 
-/// What follows the command byte.
-fn behind_command(request: &[u8]) -> Result<&[u8], Error> {
+/// What follows this command byte, where it is there.
+pub(crate) fn behind(request: &[u8], command: u8) -> Option<&[u8]>
+    ensures found { IfSome result (λ r. request.now ≡ command ∷ r.now) }
+    ensures none { IfNone result ((rest : List ℕ) → request.now ≡ command ∷ rest → ⊥) }
+{
     match request.split_first() {
-        Some((&CLIENT_PIN, rest)) => Ok(rest),
-        _ => Err(Error::Status(INVALID_COMMAND)),
+        Some((first, rest)) if *first == command => Some(rest),
+        _ => None,
     }
 }
 
 /// The request, where it has a subcommand.
-fn with_subcommand<'a>(members: &AskedMembers<'a>) -> Result<PinAsked<'a>, Error> {
+fn with_subcommand<'a>(members: &AskedMembers<'a>) -> Result<PinAsked<'a>, Error>
+    ensures found { IfOk result (λ a. content_of members.now ≡ asked_content (Some (asking_view a).subcommand) (asking_view a)) }
+    ensures none { IfErr result (λ _. members.now.subcommand ≡ None) }
+    ensures errors { IfErr result (λ e. e ≡ errors.Status 0x14) }
+{
     let Some(subcommand) = members.subcommand else {
         return Err(Error::Status(MISSING_PARAMETER));
     };
@@ -49,9 +69,18 @@ fn with_subcommand<'a>(members: &AskedMembers<'a>) -> Result<PinAsked<'a>, Error
 /// Refused as [`Error::Status`] with the first of these that applies: 0x01 another command; 0x12 not one whole canonical
 /// CBOR value; 0x11 no map, or a listed member of another kind, or a key without one of its parts or with coordinates
 /// that haven't 32 bytes; 0x14 no subcommand.
-pub fn read_pin(request: &[u8]) -> Result<PinAsked<'_>, Error> {
-    let rest = behind_command(request)?;
-    let value = whole(rest)?;
+pub fn read_pin(request: &[u8]) -> Result<PinAsked<'_>, Error>
+    ensures found { IfOk result (λ a. IsSaid 6 TellsAsking (asking_view a) request.now) }
+    ensures refused { IfErr result (λ e. Refused request.now e) }
+{
+    let Some(rest) = behind(request, CLIENT_PIN) else {
+        return Err(Error::Status(INVALID_COMMAND));
+    };
+    // A `match` where the proof speaks of the error: `?` hides it behind its conversion.
+    let value = match whole(rest) {
+        Ok(value) => value,
+        Err(e) => return Err(e),
+    };
     match asked(&value) {
         Ok(members) => with_subcommand(&members),
         Err(_) => Err(Error::Status(CBOR_UNEXPECTED_TYPE)),

@@ -6,7 +6,7 @@ use security_key::Act;
 use std::alloc::{AllocError, Global};
 
 /// The keys that come with an act by which no credential is made.
-pub(crate) const NO_KEYS: HandedKeys = HandedKeys {
+const NO_KEYS: HandedKeys = HandedKeys {
     es256_x: [0; 32],
     es256_y: [0; 32],
     eddsa_x: [0; 32],

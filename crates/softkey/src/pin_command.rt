@@ -1,18 +1,20 @@
 //! The lines that a key with a PIN reads.
 
-use crate::command::{LineCommand, NO_KEYS, line_command, word, word_of_32, words_of};
+use crate::command::{LineCommand, line_command, word, word_of_32, words_of};
 use authenticator::HandedKeys;
 use client_pin::PinWords;
-use pin_key::PinAct;
 use security_key::Act;
 use std::alloc::Global;
 
 /// A line.
 #[derive(Drop)]
 pub(crate) enum PinLineCommand {
-    /// As of a key without a PIN, or `compute <secret> <x> <y> <token>`, or `answer <hex or ->`, with the keys of a credential that
-    /// may be made
-    Act(PinAct, HandedKeys),
+    /// `packet`, `decide`, `wait` or `expire`, as of a key without a PIN
+    Act(Act, HandedKeys),
+    /// `compute <secret> <x> <y> <token>`
+    Compute(PinWords),
+    /// `answer <hex or ->`
+    Answer(Vec<u8>),
     /// `signature <hex>`
     Signature(Vec<u8>),
     /// `save`
@@ -29,13 +31,12 @@ pub(crate) enum PinLineCommand {
 
 /// The words for a computation, behind its name.
 fn read_words(words: &[&str]) -> Option<PinLineCommand> {
-    let words = PinWords {
+    Some(PinLineCommand::Compute(PinWords {
         secret: word_of_32(word(words, 1))?,
         x: word_of_32(word(words, 2))?,
         y: word_of_32(word(words, 3))?,
         token: word_of_32(word(words, 4))?,
-    };
-    Some(PinLineCommand::Act(PinAct::Compute(words), NO_KEYS))
+    }))
 }
 
 /// Bytes in hex, or none as `-`.
@@ -50,15 +51,7 @@ fn bytes_or_none(alloc: Global, word: Option<&str>) -> Option<Vec<u8>> {
 /// A line that a key without a PIN has too.
 fn with_pin(command: LineCommand) -> PinLineCommand {
     match command {
-        LineCommand::Act(act, keys) => {
-            let act = match act {
-                Act::Packet(packet) => PinAct::Packet(packet),
-                Act::Decide(consent, words) => PinAct::Decide(consent, words),
-                Act::Wait => PinAct::Wait,
-                Act::Expire => PinAct::Expire,
-            };
-            PinLineCommand::Act(act, keys)
-        }
+        LineCommand::Act(act, keys) => PinLineCommand::Act(act, keys),
         LineCommand::Signature(signature) => PinLineCommand::Signature(signature),
         LineCommand::Save => PinLineCommand::Save,
         LineCommand::Load(bytes) => PinLineCommand::Load(bytes),
@@ -74,7 +67,7 @@ pub(crate) fn pin_line_command(alloc: Global, line: &str) -> Option<PinLineComma
         1 if name == "over" => Some(PinLineCommand::Over),
         2 if name == "answer" => {
             let answer = bytes_or_none(alloc, word(&words, 1))?;
-            Some(PinLineCommand::Act(PinAct::Answer(answer), NO_KEYS))
+            Some(PinLineCommand::Answer(answer))
         }
         2 if name == "load-pin" => {
             let bytes = hex::decode(alloc, word(&words, 1)?).ok()?;

@@ -5,11 +5,12 @@ use crate::telling::{
     LineKey, MOST_TOLD, tell_channel, tell_event, tell_hex, tell_packets, tell_pending, tell_saved,
 };
 use authdata::AttestationType;
-use authenticator::{LoadError, MAX_SIGNATURE};
+use authenticator::{HandedKeys, LoadError, MAX_SIGNATURE};
 use client_pin::PinLoadError;
 use hidframe::Packet;
 use pin_key::{PinKey, PinKeyError, Told};
 use pin_protocols::{Ask, Operation};
+use security_key::Act;
 use std::alloc::{AllocError, Global};
 
 /// Why a line has no effect.
@@ -135,6 +136,18 @@ impl PinKeyLines {
         })
     }
 
+    fn act(&mut self, alloc: Global, keys: &HandedKeys, act: Act) -> Result<PinGiven, PinFault> {
+        let told = match act {
+            Act::Packet(packet) => self.key.packet(packet, &mut self.sent)?,
+            Act::Decide(consent, words) => {
+                self.key.decide(alloc, keys, consent, words, &mut self.sent)?
+            }
+            Act::Wait => self.key.wait(&mut self.sent)?,
+            Act::Expire => self.key.expire(&mut self.sent)?,
+        };
+        Ok(PinGiven::Told(told))
+    }
+
     fn sign(&mut self, signature: &[u8]) -> Result<PinGiven, PinFault> {
         if signature.is_empty() || MAX_SIGNATURE < signature.len() {
             return Err(PinFault::BadSignature);
@@ -158,8 +171,13 @@ impl PinKeyLines {
             return Err(PinFault::BadLine);
         };
         match command {
-            PinLineCommand::Act(act, keys) => {
-                let told = self.key.serve(alloc, &keys, act, &mut self.sent)?;
+            PinLineCommand::Act(act, keys) => self.act(alloc, &keys, act),
+            PinLineCommand::Compute(words) => {
+                let told = self.key.compute(alloc, words, &mut self.sent)?;
+                Ok(PinGiven::Told(told))
+            }
+            PinLineCommand::Answer(answer) => {
+                let told = self.key.answer(alloc, answer, &mut self.sent)?;
                 Ok(PinGiven::Told(told))
             }
             PinLineCommand::Signature(signature) => self.sign(&signature),
