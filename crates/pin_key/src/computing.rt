@@ -1,6 +1,14 @@
 //! What the PIN makes of a request.
 
-use crate::looking::CLIENT_PIN;
+ghost use Rattle.std.specs.Prelude.{◌≡◌, ◌∷◌, [], IfOk, Ok, OnErr};
+ghost use Rattle.client_pin.specs.Grants.{claim, granted};
+ghost use Rattle.client_pin.specs.State.{pin_view};
+ghost use Rattle.pin_protocols.specs.Asks.{entries};
+ghost use Rattle.pin_requests.specs.Protected.{client_data_hash, permission, rp_id};
+ghost use Rattle.pin_requests.specs.ProtectedView.{message_of};
+ghost use Rattle.pin_key.specs.Granting.{GrantedBy, IsGranted};
+
+use crate::looking::{CLIENT_PIN, command_of};
 use client_pin::{ClientPin, Grant, PinStep, PinWords};
 use ctap_status::Error;
 use ctap_status::status::OTHER;
@@ -20,7 +28,9 @@ pub(crate) enum Step {
 }
 
 /// A status alone.
-pub(crate) fn status_alone(alloc: Global, status: u8) -> Result<Vec<u8>, AllocError> {
+pub(crate) fn status_alone(alloc: Global, status: u8) -> Result<Vec<u8>, AllocError>
+    ensures { IfOk result (λ v. v.items ≡ status ∷ []) }
+{
     let mut bytes = Vec::with_capacity(alloc, 1)?;
     bytes.push(status)?;
     Ok(bytes)
@@ -42,7 +52,9 @@ fn client_pin_step(
     request: &[u8],
     words: &PinWords,
     answers: &Answers,
-) -> Result<Step, AllocError> {
+) -> Result<Step, AllocError>
+    ensures none { IfOk result (λ s. IsGranted s → ⊥) }
+{
     match read_pin(request) {
         Ok(asked) => match pin.handle(alloc, &asked, words, answers)? {
             PinStep::Asks(ask) => Ok(Step::Asks(ask)),
@@ -60,7 +72,12 @@ fn verified_step(
     protocol: Option<u64>,
     param: &[u8],
     answers: &Answers,
-) -> Result<Step, AllocError> {
+) -> Result<Step, AllocError>
+    ensures granted { IfOk result (λ s. IsGranted s
+        → granted (entries answers.now) (claim protocol param.now (permission (message_of part.now)) (rp_id (message_of part.now))
+        (client_data_hash (message_of part.now))) (pin_view pin.old).token ≡ Ok tt) }
+    ensures memory { OnErr result (pin_view pin.new ≡ pin_view pin.old) }
+{
     let grant = pin.verify(
         alloc,
         answers,
@@ -83,7 +100,9 @@ fn protected_step(
     alloc: Global,
     request: &[u8],
     answers: &Answers,
-) -> Result<Step, AllocError> {
+) -> Result<Step, AllocError>
+    ensures granted { IfOk result (λ s. IsGranted s → GrantedBy (pin_view pin.old).token (entries answers.now) request.now) }
+{
     let view = match read_param(request) {
         Ok(view) => view,
         Err(error) => return Ok(Step::Replies(refusal(alloc, error)?)),
@@ -105,9 +124,11 @@ pub(crate) fn next_step(
     request: &[u8],
     words: &PinWords,
     answers: &Answers,
-) -> Result<Step, AllocError> {
-    match request.first() {
-        Some(&CLIENT_PIN) => client_pin_step(pin, alloc, request, words, answers),
+) -> Result<Step, AllocError>
+    ensures granted { IfOk result (λ s. IsGranted s → GrantedBy (pin_view pin.old).token (entries answers.now) request.now) }
+{
+    match command_of(request) {
+        Some(CLIENT_PIN) => client_pin_step(pin, alloc, request, words, answers),
         _ => protected_step(pin, alloc, request, answers),
     }
 }

@@ -1,7 +1,14 @@
 //! What the authenticator makes of a request once the user has decided.
 
+ghost use Rattle.std.specs.Prelude.{◌≡◌, false, IfOk, IfSome, OnErr, is_some};
+ghost use Rattle.authenticator.specs.Signing.{AgreesOn, Begins};
+ghost use Rattle.authenticator.specs.Steps.{Keys};
+ghost use Rattle.authenticator.specs.declared.pending.Begun.{Begun};
+ghost use Rattle.client_pin.specs.State.{pin_view};
+ghost use Rattle.pin_key.specs.Granting.{HandsGranted, HandsUngranted, IsBare};
+
 use crate::computing::status_alone;
-use crate::looking::{GET_INFO, Look, RESET, look_at};
+use crate::looking::{GET_INFO, Look, RESET, command_of, look_at};
 use authenticator::{Authenticator, Begun, Consent, HandedKeys, PublicKeys, Words};
 use client_pin::ClientPin;
 use ctap_status::Error;
@@ -49,10 +56,10 @@ fn told_of(
     request: &[u8],
     reply: Vec<u8>,
 ) -> Result<Vec<u8>, AllocError> {
-    match request.first() {
-        Some(&GET_INFO) => key_info(alloc, &reply, pin.is_set()),
-        Some(&RESET) => {
-            if reply.first() == Some(&OK) {
+    match command_of(request) {
+        Some(GET_INFO) => key_info(alloc, &reply, pin.is_set()),
+        Some(RESET) => {
+            if command_of(&reply) == Some(OK) {
                 pin.reset();
             }
             Ok(reply)
@@ -68,7 +75,11 @@ fn begin_as_it_is<K: PublicKeys>(
     pin: &mut ClientPin,
     keys: &K,
     asked: &Asked<'_>,
-) -> Result<Begun, AllocError> {
+) -> Result<Begun, AllocError>
+    ensures begun { (public : Keys) → AgreesOn asked.now.words.secret public (K.public_of keys.now)
+        → IfOk result (λ b. (raw : Begun) × Begins public authenticator.old asked.now.channel asked.now.request.now
+        (record { present = asked.now.present; verified = false }) asked.now.words raw authenticator.new) }
+{
     let consent = Consent {
         present: asked.present,
         verified: false,
@@ -80,7 +91,9 @@ fn begin_as_it_is<K: PublicKeys>(
 }
 
 /// The bytes of a request without its members of the PIN, with option `uv` true; none where it can't be read.
-fn bare(alloc: Global, request: &[u8]) -> Result<Option<Vec<u8>>, AllocError> {
+fn bare(alloc: Global, request: &[u8]) -> Result<Option<Vec<u8>>, AllocError>
+    ensures { IfOk result (λ o. IfSome o (λ v. IsBare request.now v.items)) }
+{
     let part = match protected_request(alloc, request) {
         Ok(part) => part,
         Err(Error::Memory) => return Err(AllocError),
@@ -111,7 +124,13 @@ pub(crate) fn begin_granted<K: PublicKeys>(
     pin: &mut ClientPin,
     keys: &K,
     asked: &Asked<'_>,
-) -> Result<Begun, AllocError> {
+) -> Result<Begun, AllocError>
+    ensures begun { (public : Keys) → AgreesOn asked.now.words.secret public (K.public_of keys.now)
+        → IfOk result (λ b. HandsGranted public authenticator.old asked.now.channel asked.now.request.now asked.now.present
+        asked.now.words b authenticator.new) }
+    ensures authenticator { OnErr result (authenticator.new ≡ authenticator.old) }
+    ensures pin { OnErr result (pin.new ≡ pin.old) }
+{
     let Some(bytes) = bare(alloc, asked.request)? else {
         return Ok(Begun::Replied(status_alone(alloc, OTHER)?));
     };
@@ -144,7 +163,11 @@ pub(crate) fn begin<K: PublicKeys>(
     pin: &mut ClientPin,
     keys: &K,
     asked: &Asked<'_>,
-) -> Result<Option<Begun>, AllocError> {
+) -> Result<Option<Begun>, AllocError>
+    ensures begun { (public : Keys) → AgreesOn asked.now.words.secret public (K.public_of keys.now)
+        → IfOk result (λ o. IfSome o (λ b. HandsUngranted public authenticator.old asked.now.channel asked.now.request.now
+        asked.now.present asked.now.words (is_some (pin_view pin.old).pin) b authenticator.new)) }
+{
     match look_at(asked.request, pin.is_set()) {
         Look::Computes => Ok(None),
         Look::AsItIs => Ok(Some(begin_as_it_is(alloc, authenticator, pin, keys, asked)?)),

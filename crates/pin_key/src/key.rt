@@ -1,5 +1,14 @@
 //! The security key.
 
+ghost use Rattle.std.specs.Prelude.{◌≡◌, ◌≤◌, ◌⊎◌, [], length, IfOk, OnErr, OnOk};
+ghost use Rattle.authenticator.specs.Signing.{AgreesOn};
+ghost use Rattle.authenticator.specs.Steps.{Keys};
+ghost use Rattle.authenticator.specs.declared.pending.Begun.{Begun};
+ghost use Rattle.client_pin.specs.State.{over, without_token};
+ghost use Rattle.pin_protocols.specs.Asks.{entries};
+ghost use Rattle.pin_key.specs.Key.{Decides, DecidesNothing, IsGrantedBy, IsNew, WasGranted};
+ghost use Rattle.pin_key.specs.declared.stage.Stage.TheVariants as stage;
+
 use crate::computing::{Step, next_step};
 use crate::deciding::{Asked, NO_KEYS, begin, begin_granted, forget};
 use crate::error::PinKeyError;
@@ -14,6 +23,7 @@ use hidlink::{Device, DeviceEvent};
 use pin_protocols::{Answers, Ask};
 use security_key::{Act, Served, begin_serving, finish_serving};
 use std::alloc::{AllocError, Global};
+use std::marker::Model;
 
 /// A device, its authenticator, its PIN, and what the request that the device works on waits for.
 #[derive(Drop)]
@@ -23,6 +33,17 @@ pub struct PinKey {
     pin: ClientPin,
     stage: Stage,
     pending: Option<Pending>,
+}
+
+impl Model for PinKey {
+    ghost use Rattle.client_pin.specs.State.{pin_view};
+    ghost use Rattle.pin_key.specs.Key.{IsSound, PinKeyState};
+
+    ghost Value = { PinKeyState };
+
+    ghost view = { λ k. record { device = k.device; authenticator = k.authenticator; pin = pin_view k.pin; stage = k.stage; pending = k.pending } };
+
+    ghost invariant = { λ k. IsSound (record { device = k.device; authenticator = k.authenticator; pin = pin_view k.pin; stage = k.stage; pending = k.pending }) };
 }
 
 /// What the device told of an act that signs nothing.
@@ -39,7 +60,9 @@ impl PinKey {
         alloc: Global,
         aaguid: [u8; 16],
         attest: AttestationType,
-    ) -> Result<PinKey, AllocError> {
+    ) -> Result<PinKey, AllocError>
+        ensures { IfOk result (IsNew aaguid attest) }
+    {
         let device = Device::new(alloc)?;
         Ok(PinKey {
             device,
@@ -67,17 +90,28 @@ impl PinKey {
     }
 
     /// The user is still to decide on the request that waits: a keepalive.
-    pub fn wait(&mut self, out: &mut Vec<Packet>) -> Result<Told, PinKeyError> {
+    pub fn wait(&mut self, out: &mut Vec<Packet>) -> Result<Told, PinKeyError>
+        ensures authenticator { self.new.authenticator ≡ self.old.authenticator }
+        ensures pin { self.new.pin ≡ self.old.pin }
+    {
         self.pass(Act::Wait, out)
     }
 
     /// The message that is coming in took too long.
-    pub fn expire(&mut self, out: &mut Vec<Packet>) -> Result<Told, PinKeyError> {
+    pub fn expire(&mut self, out: &mut Vec<Packet>) -> Result<Told, PinKeyError>
+        ensures authenticator { self.new.authenticator ≡ self.old.authenticator }
+        ensures pin { self.new.pin ≡ self.old.pin }
+    {
         self.pass(Act::Expire, out)
     }
 
     /// Has the device do an act that decides nothing.
-    fn pass(&mut self, act: Act, out: &mut Vec<Packet>) -> Result<Told, PinKeyError> {
+    fn pass(&mut self, act: Act, out: &mut Vec<Packet>) -> Result<Told, PinKeyError>
+        requires { DecidesNothing act }
+        ensures authenticator { self.new.authenticator ≡ self.old.authenticator }
+        ensures pin { self.new.pin ≡ self.old.pin }
+        ensures stage { self.new.stage ≡ self.old.stage }
+    {
         let served = begin_serving(
             &mut self.device,
             &mut self.authenticator,
@@ -89,7 +123,12 @@ impl PinKey {
     }
 
     /// A packet comes. A request that is complete is looked at.
-    pub fn packet(&mut self, packet: Packet, out: &mut Vec<Packet>) -> Result<Told, PinKeyError> {
+    pub fn packet(&mut self, packet: Packet, out: &mut Vec<Packet>) -> Result<Told, PinKeyError>
+        ensures authenticator { self.new.authenticator ≡ self.old.authenticator }
+        ensures pin { (self.new.pin ≡ self.old.pin) ⊎ (self.new.pin ≡ over self.old.pin) }
+        ensures granted { self.new.stage ≡ stage.Granted → self.old.stage ≡ stage.Granted }
+        ensures unchanged { OnErr result (self.new ≡ self.old) }
+    {
         let served = begin_serving(
             &mut self.device,
             &mut self.authenticator,
@@ -118,7 +157,11 @@ impl PinKey {
 
     /// Looks at a request that is complete. One that is refused is answered; without memory for that it waits for the user,
     /// and is answered then.
-    fn look(&mut self, cid: u32, out: &mut Vec<Packet>) -> Told {
+    fn look(&mut self, cid: u32, out: &mut Vec<Packet>) -> Told
+        ensures authenticator { self.new.authenticator ≡ self.old.authenticator }
+        ensures pin { self.new.pin ≡ self.old.pin }
+        ensures granted { self.new.stage ≡ stage.Granted → ⊥ }
+    {
         self.pending = None;
         self.stage = Stage::User;
         if self.device.working().is_none() {
@@ -144,7 +187,10 @@ impl PinKey {
         alloc: Global,
         words: PinWords,
         out: &mut Vec<Packet>,
-    ) -> Result<Told, PinKeyError> {
+    ) -> Result<Told, PinKeyError>
+        ensures authenticator { self.new.authenticator ≡ self.old.authenticator }
+        ensures granted { self.new.stage ≡ stage.Granted → (self.old.stage ≡ stage.Granted) ⊎ WasGranted [] self.old }
+    {
         match self.stage {
             Stage::Words => self.go_on(alloc, words, Answers::new(alloc), out),
             _ => Err(PinKeyError::NotComputing),
@@ -157,7 +203,10 @@ impl PinKey {
         alloc: Global,
         answer: Vec<u8>,
         out: &mut Vec<Packet>,
-    ) -> Result<Told, PinKeyError> {
+    ) -> Result<Told, PinKeyError>
+        ensures authenticator { self.new.authenticator ≡ self.old.authenticator }
+        ensures granted { self.new.stage ≡ stage.Granted → (self.old.stage ≡ stage.Granted) ⊎ IsGrantedBy self.old answer.items }
+    {
         match self.stage.take() {
             Stage::Answer(computation) => {
                 let Computation {
@@ -183,7 +232,10 @@ impl PinKey {
         words: PinWords,
         answers: Answers,
         out: &mut Vec<Packet>,
-    ) -> Result<Told, PinKeyError> {
+    ) -> Result<Told, PinKeyError>
+        ensures authenticator { self.new.authenticator ≡ self.old.authenticator }
+        ensures granted { self.new.stage ≡ stage.Granted → (self.old.stage ≡ stage.Granted) ⊎ WasGranted (entries answers) self.old }
+    {
         make_room(out)?;
         let Some(cid) = self.device.working() else {
             return Err(PinKeyError::NotComputing);
@@ -217,7 +269,12 @@ impl PinKey {
         keys: &K,
         consent: Consent,
         words: Words,
-    ) -> Result<Begun, PinKeyError> {
+    ) -> Result<Begun, PinKeyError>
+        ensures begun { (public : Keys) → AgreesOn words.secret public (K.public_of keys.now)
+            → IfOk result (λ b. Decides public self.old consent words b self.new) }
+        ensures device { self.new.device ≡ self.old.device }
+        ensures stage { self.new.stage ≡ self.old.stage }
+    {
         let Some(channel) = self.device.working() else {
             return Err(PinKeyError::NotWorking);
         };
@@ -247,7 +304,10 @@ impl PinKey {
         consent: Consent,
         words: Words,
         out: &mut Vec<Packet>,
-    ) -> Result<Told, PinKeyError> {
+    ) -> Result<Told, PinKeyError>
+        ensures decided { (public : Keys) → AgreesOn words.secret public (K.public_of keys.now)
+            → OnOk result ((b : Begun) × Decides public self.old consent words b self.new) }
+    {
         make_room(out)?;
         match self.begin(alloc, keys, consent, words)? {
             Begun::Replied(reply) => {
@@ -264,7 +324,10 @@ impl PinKey {
     }
 
     /// Takes the signature, of 1 to 128 bytes, that is waited for, and answers the request.
-    pub fn sign(&mut self, signature: &[u8], out: &mut Vec<Packet>) -> Result<(), PinKeyError> {
+    pub fn sign(&mut self, signature: &[u8], out: &mut Vec<Packet>) -> Result<(), PinKeyError>
+        requires low { 1 ≤ length signature.now }
+        requires high { length signature.now ≤ 128 }
+    {
         let Some(pending) = self.pending.take() else {
             return Err(PinKeyError::NotSigning);
         };
@@ -292,7 +355,9 @@ impl PinKey {
     }
 
     /// The token's time is over.
-    pub fn end_token(&mut self) {
+    pub fn end_token(&mut self)
+        ensures { self.new ≡ record self.old { pin = without_token self.old.pin } }
+    {
         self.pin.end_token();
     }
 
