@@ -6,7 +6,7 @@ ghost use Rattle.client_pin.specs.State.{pin_view};
 ghost use Rattle.pin_protocols.specs.Asks.{entries};
 ghost use Rattle.pin_requests.specs.Protected.{client_data_hash, permission, rp_id};
 ghost use Rattle.pin_requests.specs.ProtectedView.{message_of};
-ghost use Rattle.pin_key.specs.Granting.{GrantedBy, IsGranted};
+ghost use Rattle.pin_key.specs.Granting.{IsGranted};
 
 use crate::looking::{CLIENT_PIN, command_of};
 use client_pin::{ClientPin, Grant, PinStep, PinWords};
@@ -101,7 +101,6 @@ fn protected_step(
     request: &[u8],
     answers: &Answers,
 ) -> Result<Step, AllocError>
-    ensures granted { IfOk result (λ s. IsGranted s → GrantedBy (pin_view pin.old).token (entries answers.now) request.now) }
 {
     let view = match read_param(request) {
         Ok(view) => view,
@@ -125,7 +124,6 @@ pub(crate) fn next_step(
     words: &PinWords,
     answers: &Answers,
 ) -> Result<Step, AllocError>
-    ensures granted { IfOk result (λ s. IsGranted s → GrantedBy (pin_view pin.old).token (entries answers.now) request.now) }
 {
     match command_of(request) {
         Some(CLIENT_PIN) => client_pin_step(pin, alloc, request, words, answers),

