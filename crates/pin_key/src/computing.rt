@@ -100,8 +100,7 @@ fn protected_step(
     alloc: Global,
     request: &[u8],
     answers: &Answers,
-) -> Result<Step, AllocError>
-{
+) -> Result<Step, AllocError> {
     let view = match read_param(request) {
         Ok(view) => view,
         Err(error) => return Ok(Step::Replies(refusal(alloc, error)?)),
@@ -123,8 +122,7 @@ pub(crate) fn next_step(
     request: &[u8],
     words: &PinWords,
     answers: &Answers,
-) -> Result<Step, AllocError>
-{
+) -> Result<Step, AllocError> {
     match command_of(request) {
         Some(CLIENT_PIN) => client_pin_step(pin, alloc, request, words, answers),
         _ => protected_step(pin, alloc, request, answers),

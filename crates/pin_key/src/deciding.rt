@@ -73,8 +73,7 @@ fn begin_as_it_is<K: PublicKeys>(
     pin: &mut ClientPin,
     keys: &K,
     asked: &Asked<'_>,
-) -> Result<Begun, AllocError>
-{
+) -> Result<Begun, AllocError> {
     let consent = Consent {
         present: asked.present,
         verified: false,
@@ -158,8 +157,7 @@ pub(crate) fn begin<K: PublicKeys>(
     pin: &mut ClientPin,
     keys: &K,
     asked: &Asked<'_>,
-) -> Result<Option<Begun>, AllocError>
-{
+) -> Result<Option<Begun>, AllocError> {
     match look_at(asked.request, pin.is_set()) {
         Look::Computes => Ok(None),
         Look::AsItIs => Ok(Some(begin_as_it_is(alloc, authenticator, pin, keys, asked)?)),

@@ -86,20 +86,17 @@ impl PinKey {
     }
 
     /// The user is still to decide on the request that waits: a keepalive.
-    pub fn wait(&mut self, out: &mut Vec<Packet>) -> Result<Told, PinKeyError>
-    {
+    pub fn wait(&mut self, out: &mut Vec<Packet>) -> Result<Told, PinKeyError> {
         self.pass(Act::Wait, out)
     }
 
     /// The message that is coming in took too long.
-    pub fn expire(&mut self, out: &mut Vec<Packet>) -> Result<Told, PinKeyError>
-    {
+    pub fn expire(&mut self, out: &mut Vec<Packet>) -> Result<Told, PinKeyError> {
         self.pass(Act::Expire, out)
     }
 
     /// Has the device do an act that decides nothing.
-    fn pass(&mut self, act: Act, out: &mut Vec<Packet>) -> Result<Told, PinKeyError>
-    {
+    fn pass(&mut self, act: Act, out: &mut Vec<Packet>) -> Result<Told, PinKeyError> {
         let served = begin_serving(
             &mut self.device,
             &mut self.authenticator,
@@ -111,8 +108,7 @@ impl PinKey {
     }
 
     /// A packet comes. A request that is complete is looked at.
-    pub fn packet(&mut self, packet: Packet, out: &mut Vec<Packet>) -> Result<Told, PinKeyError>
-    {
+    pub fn packet(&mut self, packet: Packet, out: &mut Vec<Packet>) -> Result<Told, PinKeyError> {
         let served = begin_serving(
             &mut self.device,
             &mut self.authenticator,
@@ -141,8 +137,7 @@ impl PinKey {
 
     /// Looks at a request that is complete. One that is refused is answered; without memory for that it waits for the user,
     /// and is answered then.
-    fn look(&mut self, cid: u32, out: &mut Vec<Packet>) -> Told
-    {
+    fn look(&mut self, cid: u32, out: &mut Vec<Packet>) -> Told {
         self.pending = None;
         self.stage = Stage::User;
         let Some(_) = self.device.working() else {
@@ -168,8 +163,7 @@ impl PinKey {
         alloc: Global,
         words: PinWords,
         out: &mut Vec<Packet>,
-    ) -> Result<Told, PinKeyError>
-    {
+    ) -> Result<Told, PinKeyError> {
         match self.stage {
             Stage::Words => self.go_on(alloc, words, Answers::new(alloc), out),
             _ => Err(PinKeyError::NotComputing),
@@ -182,8 +176,7 @@ impl PinKey {
         alloc: Global,
         answer: Vec<u8>,
         out: &mut Vec<Packet>,
-    ) -> Result<Told, PinKeyError>
-    {
+    ) -> Result<Told, PinKeyError> {
         match self.stage.take() {
             Stage::Answer(computation) => {
                 let Computation {
@@ -209,8 +202,7 @@ impl PinKey {
         words: PinWords,
         answers: Answers,
         out: &mut Vec<Packet>,
-    ) -> Result<Told, PinKeyError>
-    {
+    ) -> Result<Told, PinKeyError> {
         make_room(out)?;
         let Some(cid) = self.device.working() else {
             return Err(PinKeyError::NotComputing);
@@ -276,8 +268,7 @@ impl PinKey {
         consent: Consent,
         words: Words,
         out: &mut Vec<Packet>,
-    ) -> Result<Told, PinKeyError>
-    {
+    ) -> Result<Told, PinKeyError> {
         make_room(out)?;
         let Some(channel) = self.device.working() else {
             return Err(PinKeyError::NotWorking);
