@@ -246,7 +246,6 @@ impl SoftKey {
             Given::Nothing => Ok(()),
         }
     }
-
 }
 
 impl LineKey for SoftKey {

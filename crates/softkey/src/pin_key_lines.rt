@@ -140,7 +140,8 @@ impl PinKeyLines {
         let told = match act {
             Act::Packet(packet) => self.key.packet(packet, &mut self.sent)?,
             Act::Decide(consent, words) => {
-                self.key.decide(alloc, keys, consent, words, &mut self.sent)?
+                self.key
+                    .decide(alloc, keys, consent, words, &mut self.sent)?
             }
             Act::Wait => self.key.wait(&mut self.sent)?,
             Act::Expire => self.key.expire(&mut self.sent)?,
