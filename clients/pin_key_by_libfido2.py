@@ -1,12 +1,13 @@
 #!/usr/bin/python3
-"""The key of `pin_key.py` judged by libfido2, called by ctypes: a PIN set, changed and refused, and ceremonies with it, by each protocol.
-The last line is 'N passed, M failed'; the status is 0 where nothing failed."""
+"""The key of `pin_key.py`, or `softkey pin`, judged by libfido2, called by ctypes: a PIN set, changed and refused, and ceremonies with it:
+./pin_key_by_libfido2.py [PROGRAM]. The last line is 'N passed, M failed'; the status is 0 where nothing failed."""
 import ctypes
 import os
 import sys
 
 from pin_key import Cable, PinKey
 from pin_key_parts import sha256
+from softkey_pins import SoftPinKey
 
 fido = ctypes.CDLL("libfido2.so.1")
 OPEN = ctypes.CFUNCTYPE(ctypes.c_void_p, ctypes.c_char_p)
@@ -16,6 +17,7 @@ WRITE = ctypes.CFUNCTYPE(ctypes.c_int, ctypes.c_void_p, ctypes.POINTER(ctypes.c_
 ES256, TRUE = -7, 2
 PIN, OTHER = b"1234", "séame ouvre-toi".encode()
 PIN_INVALID, PIN_BLOCKED, PIN_AUTH_INVALID, PIN_AUTH_BLOCKED, PIN_REQUIRED = 0x31, 0x32, 0x33, 0x34, 0x36
+KINDS = ({"protocols": (1,)}, {"protocols": (2,)}, {"protocols": (1,), "token": None})
 for name in "fido_dev_new fido_cred_new fido_assert_new es256_pk_new fido_cred_id_ptr fido_cred_pubkey_ptr".split():
     getattr(fido, name).restype = ctypes.c_void_p
 for name in ("fido_cred_id_len", "fido_cred_pubkey_len", "fido_assert_count"):
@@ -40,6 +42,10 @@ class Client:
         self.device = ctypes.c_void_p(fido.fido_dev_new())
         assert fido.fido_dev_set_io_functions(self.device, ctypes.byref(self.functions)) == 0
         assert fido.fido_dev_open(self.device, b"key") == 0
+
+    def set_pin(self, pin):
+        assert fido.fido_dev_set_pin(self.device, pin, None) == 0
+        self.cycle()
 
     def cycle(self):
         fido.fido_dev_close(self.device)
@@ -104,8 +110,7 @@ def pins(client):
 
 
 def ceremonies(client):
-    client.key.keep_pin(PIN)
-    client.cycle()
+    client.set_pin(PIN)
     status, made = client.register(PIN)
     assert status == 0
     for pin in (PIN, None):
@@ -115,8 +120,7 @@ def ceremonies(client):
 
 
 def wrong_pins(client):
-    client.key.keep_pin(PIN)
-    client.cycle()
+    client.set_pin(PIN)
     said = []
     for _ in range(8):
         said.append(client.register(b"0000")[0])
@@ -130,10 +134,13 @@ def wrong_pins(client):
 def main():
     fido.fido_init(0)
     passed = failed = 0
+    keys = [(kind, lambda kind=kind: PinKey(packed=True, algorithms=(ES256,), **kind)) for kind in KINDS]
+    if len(sys.argv) > 1:
+        keys = [(sys.argv[1], lambda: SoftPinKey(sys.argv[1], packed=True))]
     for act in (pins, ceremonies, wrong_pins):
-        for kind in ({"protocols": (1,)}, {"protocols": (2,)}, {"protocols": (1,), "token": None}):
+        for kind, key in keys:
             try:
-                act(Client(PinKey(packed=True, algorithms=(ES256,), **kind)))
+                act(Client(key()))
                 passed += 1
             except Exception as error:
                 failed += 1

@@ -1,6 +1,6 @@
 #!/usr/bin/python3
-"""The key of `pin_key.py` judged by python-fido2's client: PINs, tokens and pinUvAuthParam by both protocols, statuses, and
-CTAPHID. The last line is 'N passed, M failed'; the status is 0 where nothing failed."""
+"""The key of `pin_key.py`, or `softkey pin`, judged by python-fido2's client: PINs, tokens and pinUvAuthParam by both protocols, statuses,
+and CTAPHID: ./pin_key_by_python_fido2.py [PROGRAM]. The last line is 'N passed, M failed'; the status is 0 where nothing failed."""
 import hashlib
 import os
 import struct
@@ -17,6 +17,7 @@ from fido2.server import Fido2Server
 
 import pin_key_parts as parts
 from pin_key import Cable, PinKey
+from softkey_pins import SoftPinKey
 
 RP_ID, ORIGIN = "login.example", "https://login.example"
 RP, USER, ALG = {"id": RP_ID, "name": "Example"}, {"id": b"user", "name": "alex", "displayName": "Alex"}, [{"type": "public-key", "alg": -7}]
@@ -45,10 +46,15 @@ class Connection:
 class Client:
     """python-fido2's client of a key, by one protocol."""
 
+    # softkey, where it is the key
+    program = None
+
     def __init__(self, number, pin=None, **how):
-        self.key = PinKey(pin=pin, **how)
         self.number = number
+        self.key = SoftPinKey(self.program, how.get("packed", False)) if self.program else PinKey(pin=pin, **how)
         self.connect()
+        if self.program and pin is not None:
+            self.pin.set_pin(pin)
 
     def connect(self):
         self.device = CtapHidDevice(HidDescriptor("key", 0, 0, 64, 64), Connection(self.key))
@@ -180,13 +186,17 @@ def ceremonies(number):
 
 
 def other_protocol(number):
-    """A token of the one is none of the other; a key tells which it has."""
+    """A token of the one is none of the other."""
     client = Client(number, PIN)
     token = client.pin.get_pin_token(PIN, MC, RP_ID)
     hash = bytes(32)
     param = PROTOCOLS[3 - number]().authenticate(token, hash)
     assert refused(client.ctap.make_credential, hash, RP, USER, ALG, None, None, None, param, 3 - number) == PIN_AUTH_INVALID
     assert refused(client.ctap.make_credential, hash, RP, USER, ALG, None, None, None, param) == 0x14
+
+
+def one_protocol(number):
+    """A key has one of them."""
     client = Client(number, PIN, protocols=(number,))
     assert client.ctap.info.pin_uv_protocols == [number]
     assert refused(client.ctap.client_pin, 3 - number, 2) == 2
@@ -329,10 +339,15 @@ def own_cbor(_):
         raise AssertionError(wrong)
 
 
+# what each key has
+BOTH = (pins, wrong_pins, counted_first, ceremonies, other_protocol, by_fido2_client)
+ONLY_HERE = (own_cbor, policies, one_protocol, older_key, built_in, several, protection, requests, transport)
+
+
 def main():
     passed = failed = 0
-    acts = (own_cbor, pins, policies, wrong_pins, counted_first, ceremonies, other_protocol, older_key, built_in, by_fido2_client, several,
-            protection, requests, transport)
+    Client.program = sys.argv[1] if len(sys.argv) > 1 else None
+    acts = BOTH if Client.program else BOTH + ONLY_HERE
     for act in acts:
         for number in (1, 2):
             try:

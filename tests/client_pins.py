@@ -1,8 +1,8 @@
 #!/usr/bin/python3
-"""Drives the program of crates/client_program over a key with a PIN (clients/pin_key.py): tests/client_pins.py PROGRAM. PINs set,
-changed, wrong and blocked, registrations and sign-ins by them and by the key's own verification, by both protocols, with and without
-permissions; and what stands in the lines: the PIN, its hash and what is computed of them in none but those that ask the host. The last
-line is 'N passed, M failed'."""
+"""Drives the program of crates/client_program over a key with a PIN (clients/pin_key.py), and over `softkey pin` where it is named:
+tests/client_pins.py PROGRAM [SOFTKEY]. PINs set, changed, wrong and blocked, registrations and sign-ins by them and by the key's own
+verification, by both protocols, with and without permissions; and what stands in the lines: the PIN, its hash and what is computed of them
+in none but those that ask the host. The last line is 'N passed, M failed'."""
 import hashlib
 import os
 import subprocess
@@ -18,6 +18,7 @@ from garvoeng import Server  # noqa: E402
 from garvoeng.client_host import computed  # noqa: E402
 from garvoeng.forms import from_text, to_text  # noqa: E402
 from pin_key import PinKey  # noqa: E402
+from softkey_pins import SoftPinKey  # noqa: E402
 
 RP_ID, ORIGIN = "example.com", "https://login.example.com"
 PIN, OTHER, WRONG = "a PIN of mine", "séame ouvre-toi", "0000"
@@ -124,9 +125,16 @@ class Tests(Checks):
         self.check(what, (answer["state"], answer.get("name")), ("refused", name))
 
 
-def ceremonies(tests, **kind):
+class PrefersOne(SoftPinKey):
+    """`softkey pin`, whose getInfo is turned so that it prefers protocol one."""
+
+    def packet(self, packet):
+        return [sent.replace(b"\x06\x82\x02\x01", b"\x06\x82\x01\x02") for sent in super().packet(packet)]
+
+
+def ceremonies(tests, key, kind):
     """A first PIN, another one, and ceremonies by it."""
-    host = Host(tests, PinKey(**kind))
+    host = Host(tests, key)
     tests.refused(f"no PIN yet {kind}", host.register(), "no_verification")
     tests.refused(f"none to change {kind}", host.change_pin(OTHER), "pin_not_set")
     for new, name in (("123", "pin_too_short"), ("1" * 64, "pin_too_long"), ("1234\0", "pin_ends_in_zero")):
@@ -172,7 +180,9 @@ def main():
     tests = Tests(sys.argv[1])
     for protocols in ((1,), (2,), (2, 1), (3, 1)):
         for token in (True, None):
-            ceremonies(tests, protocols=protocols, token=token)
+            ceremonies(tests, PinKey(protocols=protocols, token=token), (protocols, token))
+    for key in (SoftPinKey, PrefersOne) if len(sys.argv) > 2 else ():
+        ceremonies(tests, key(sys.argv[2]), key.__name__)
     blocked(tests)
     built_in(tests)
     print(f"{tests.passed} passed, {tests.failed} failed")

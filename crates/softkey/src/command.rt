@@ -27,7 +27,7 @@ pub(crate) enum LineCommand {
 }
 
 /// 32 bytes, as 64 digits.
-fn word_of_32(word: Option<&str>) -> Option<[u8; 32]> {
+pub(crate) fn word_of_32(word: Option<&str>) -> Option<[u8; 32]> {
     let mut bytes = [0u8; 32];
     hex::decode_to_slice(word?, &mut bytes).ok()?;
     Some(bytes)
@@ -53,7 +53,7 @@ fn flag(word: Option<&str>) -> Option<bool> {
 }
 
 /// The word of a number from 0 on.
-fn word<'a>(words: &[&'a str], number: usize) -> Option<&'a str> {
+pub(crate) fn word<'a>(words: &[&'a str], number: usize) -> Option<&'a str> {
     words.get(number).copied()
 }
 
@@ -76,7 +76,7 @@ fn read_decision(words: &[&str]) -> Option<LineCommand> {
 }
 
 /// The words of a line, with a space between each two.
-fn words_of(alloc: Global, line: &str) -> Result<Vec<&str>, AllocError> {
+pub(crate) fn words_of(alloc: Global, line: &str) -> Result<Vec<&str>, AllocError> {
     let mut words = Vec::with_capacity(alloc, 8)?;
     for word in line.split(' ') {
         words.push(word)?;

@@ -9,18 +9,14 @@ ghost use Rattle.softkey.specs.declared.key.Fault.TheVariants as faults;
 ghost use Rattle.softkey.specs.declared.key.Given.TheVariants as given;
 
 use crate::command::{LineCommand, line_command};
+use crate::telling::{LineKey, MOST_TOLD, tell_event, tell_packets, tell_pending, tell_saved};
 use authdata::AttestationType;
 use authenticator::{Authenticator, HandedKeys, LoadError, MAX_SIGNATURE, Pending};
-use cose::SigningAlg;
 use hidframe::Packet;
 use hidlink::{Device, DeviceEvent};
 use security_key::{Act, ServeError, Served, begin_serving, finish_serving};
 use std::alloc::{AllocError, Global};
 use std::marker::Model;
-
-/// The most bytes of the lines that a line other than `save` is answered by: 129 packets, and less than 1,000 bytes beside
-/// them.
-const MOST_TOLD: usize = 129 * 133 + 1000;
 
 /// Why a line has no effect.
 #[derive(Clone, Copy, Drop)]
@@ -116,62 +112,6 @@ impl Model for SoftKey {
     ghost view = { λ k. record { device = k.device; authenticator = k.authenticator; pending = k.pending; sent = k.sent.items } };
 
     ghost invariant = { λ k. IsSound (record { device = k.device; authenticator = k.authenticator; pending = k.pending; sent = k.sent.items }) };
-}
-
-/// Writes bytes in hex.
-fn tell_hex(told: &mut Vec<u8>, bytes: &[u8]) -> Result<(), AllocError> {
-    for byte in bytes {
-        let mut digits = [0u8; 2];
-        let _ = hex::encode_to_slice(&[*byte], &mut digits);
-        told.extend_from_slice(&digits)?;
-    }
-    Ok(())
-}
-
-/// What is to be signed, in one line.
-fn tell_pending(told: &mut Vec<u8>, pending: &Pending) -> Result<(), AllocError> {
-    let [first, second] = pending.message();
-    told.extend_from_slice(b"sign ")?;
-    told.extend_from_slice(match pending.alg() {
-        SigningAlg::Es256 => b"-7 ",
-        SigningAlg::EdDsa => b"-8 ",
-    })?;
-    tell_hex(told, pending.secret())?;
-    told.extend_from_slice(b" ")?;
-    tell_hex(told, first)?;
-    tell_hex(told, second)?;
-    told.extend_from_slice(b"\n")
-}
-
-/// What the device told, in a line, if in any.
-fn tell_event(told: &mut Vec<u8>, event: DeviceEvent) -> Result<(), AllocError> {
-    match event {
-        DeviceEvent::Quiet => Ok(()),
-        DeviceEvent::Request { cid } => {
-            told.extend_from_slice(b"waits ")?;
-            tell_hex(told, &cid.to_be_bytes())?;
-            told.extend_from_slice(b"\n")
-        }
-        DeviceEvent::Cancelled => told.extend_from_slice(b"cancelled\n"),
-        DeviceEvent::Aborted => told.extend_from_slice(b"aborted\n"),
-    }
-}
-
-/// The packets to send, each in a line.
-fn tell_packets(told: &mut Vec<u8>, packets: &[Packet]) -> Result<(), AllocError> {
-    for packet in packets {
-        told.extend_from_slice(b"out ")?;
-        tell_hex(told, &packet.0)?;
-        told.extend_from_slice(b"\n")?;
-    }
-    Ok(())
-}
-
-/// The saved bytes, in a line.
-fn tell_saved(told: &mut Vec<u8>, bytes: &[u8]) -> Result<(), AllocError> {
-    told.extend_from_slice(b"saved ")?;
-    tell_hex(told, bytes)?;
-    told.extend_from_slice(b"\n")
 }
 
 /// What waits for its signature goes on waiting as long as the device works on a request: it is the same one then.
@@ -302,19 +242,15 @@ impl SoftKey {
                 Some(pending) => tell_pending(told, pending),
                 None => Ok(()),
             },
-            Given::Saved(bytes) => tell_saved(told, bytes.as_slice()),
+            Given::Saved(bytes) => tell_saved(told, b"saved ", bytes.as_slice()),
             Given::Nothing => Ok(()),
         }
     }
+}
 
-    /// Answers a line: what it gives, or an error; and after that a line of a dot. After an error device and authenticator are as
-    /// they were, and want of memory alone may drop what waited for its signature.
-    pub(crate) fn answer(
-        &mut self,
-        alloc: Global,
-        line: &str,
-        told: &mut Vec<u8>,
-    ) -> Result<(), AllocError> {
+impl LineKey for SoftKey {
+    /// After an error device and authenticator are as they were, and want of memory alone may drop what waited for its signature.
+    fn answer(&mut self, alloc: Global, line: &str, told: &mut Vec<u8>) -> Result<(), AllocError> {
         told.reserve(MOST_TOLD)?;
         self.sent.clear();
         match self.carry_out(alloc, line) {

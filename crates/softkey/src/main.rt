@@ -3,12 +3,17 @@
 
 mod command;
 mod key;
+mod pin_command;
+mod pin_key_lines;
+mod telling;
 
 use authdata::AttestationType;
 use key::SoftKey;
+use pin_key_lines::PinKeyLines;
 use std::io::{BufRead, BufReader, ErrorKind, Write};
 use std::process::ExitCode;
 use std::{env, io};
+use telling::LineKey;
 
 /// The aaguid of this security key.
 const AAGUID: [u8; 16] = *b"garvoeng softkey";
@@ -18,19 +23,24 @@ const AAGUID: [u8; 16] = *b"garvoeng softkey";
 struct Configuration {
     uv: bool,
     attest: AttestationType,
+    pin: bool,
 }
 
-/// What the arguments ask for: `no-uv`, not to verify its user; `self-attestation`. Nothing where one is another word.
+/// What the arguments ask for: `no-uv`, not to verify its user; `self-attestation`; `pin`, to take PINs. Nothing where one is
+/// another word.
 fn configured(rt: &HostRuntime) -> io::Result<Option<Configuration>> {
     let mut configuration = Configuration {
         uv: true,
         attest: AttestationType::None,
+        pin: false,
     };
     for word in env::args(rt)?.skip(1) {
         if word.as_str() == "no-uv" {
             configuration.uv = false;
         } else if word.as_str() == "self-attestation" {
             configuration.attest = AttestationType::SelfSigned;
+        } else if word.as_str() == "pin" {
+            configuration.pin = true;
         } else {
             return Ok(None);
         }
@@ -39,9 +49,9 @@ fn configured(rt: &HostRuntime) -> io::Result<Option<Configuration>> {
 }
 
 /// Answers each line, at once.
-fn answer_lines<R: BufRead + Drop>(
+fn answer_lines<K: LineKey, R: BufRead + Drop>(
     rt: &HostRuntime,
-    key: &mut SoftKey,
+    key: &mut K,
     reader: R,
 ) -> io::Result<()> {
     let mut out = rt.stdout();
@@ -62,14 +72,23 @@ fn answer_lines<R: BufRead + Drop>(
 }
 
 /// Answers each line of the input, at once.
-fn serve_lines(rt: &HostRuntime, configuration: Configuration) -> io::Result<()> {
-    let alloc = rt.alloc();
-    let mut key = SoftKey::new(alloc, AAGUID, configuration.uv, configuration.attest)?;
-    let mut reader = BufReader::new(alloc, rt.reader())?;
-    let served = answer_lines(rt, &mut key, &mut reader);
+fn answer_input<K: LineKey>(rt: &HostRuntime, key: &mut K) -> io::Result<()> {
+    let mut reader = BufReader::new(rt.alloc(), rt.reader())?;
+    let served = answer_lines(rt, key, &mut reader);
     // The reader is taken apart by std, since to prove that it is dropped here takes minutes.
     reader.into_inner();
     served
+}
+
+/// A key of this configuration answers each line of the input.
+fn serve_lines(rt: &HostRuntime, configuration: Configuration) -> io::Result<()> {
+    let alloc = rt.alloc();
+    if configuration.pin {
+        let mut key = PinKeyLines::new(alloc, AAGUID, configuration.attest)?;
+        return answer_input(rt, &mut key);
+    }
+    let mut key = SoftKey::new(alloc, AAGUID, configuration.uv, configuration.attest)?;
+    answer_input(rt, &mut key)
 }
 
 fn main(rt: HostRuntime) -> ExitCode {

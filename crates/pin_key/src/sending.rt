@@ -1,0 +1,62 @@
+//! Answering the request that the device works on.
+
+ghost use Rattle.std.specs.Prelude.{◌≡◌, ◌+◌, ◌≤◌, ◌++◌, [], ◌∷◌, ◌⊎◌, length, vec_capacity, vec_len, OnErr, OnOk};
+ghost use Rattle.hidframe.specs.declared.ctaphid.TheConstants.{MAX_PAYLOAD_SIZE};
+ghost use Rattle.hidlink.specs.Ranks.{IsWorking};
+ghost use Rattle.pin_key.specs.Sending.{IsAnswered};
+
+use crate::error::PinKeyError;
+use ctap_status::status::OTHER;
+use hidframe::Packet;
+use hidframe::ctaphid::MAX_PAYLOAD_SIZE;
+use hidlink::Device;
+
+/// The most packets of one message.
+const MOST_PACKETS: usize = 129;
+
+/// Puts the packets that are left to send behind the others, for which there is room.
+fn drain(device: &mut Device, out: &mut Vec<Packet>)
+    requires { vec_len out.old + 129 ≤ vec_capacity out.old }
+    ensures device { device.new ≡ record device.old { left = [] } }
+    ensures out { out.new.items ≡ out.old.items ++ device.old.left }
+{
+    for _number in 0..MOST_PACKETS {
+        let Some(packet) = device.next_out() else {
+            return;
+        };
+        let _ = out.push(packet);
+    }
+}
+
+/// The bytes, where they fit into a message; else status 0x7F.
+fn fitting<'a>(reply: &'a [u8]) -> &'a [u8]
+    ensures size { length result.now ≤ MAX_PAYLOAD_SIZE }
+    ensures same { (result.now ≡ reply.now) ⊎ (result.now ≡ 0x7F ∷ []) }
+{
+    if reply.len() <= MAX_PAYLOAD_SIZE {
+        reply
+    } else {
+        &[OTHER]
+    }
+}
+
+/// Makes room for the packets of a message.
+pub(crate) fn make_room(out: &mut Vec<Packet>) -> Result<(), PinKeyError>
+    ensures room { OnOk result (vec_len out.new + 129 ≤ vec_capacity out.new) }
+    ensures items { out.new.items ≡ out.old.items }
+{
+    out.reserve(MOST_PACKETS)?;
+    Ok(())
+}
+
+/// Answers the request that the device works on, where there is room for the packets.
+pub(crate) fn answer(device: &mut Device, reply: &[u8], out: &mut Vec<Packet>)
+    requires left { device.old.left ≡ [] }
+    requires works { IsWorking device.old.state }
+    requires room { vec_len out.old + 129 ≤ vec_capacity out.old }
+    ensures answered { IsAnswered device.old out.old.items reply.now device.new out.new.items }
+    ensures drained { device.new.left ≡ [] }
+{
+    let _ = device.answer(fitting(reply));
+    drain(device, out);
+}
