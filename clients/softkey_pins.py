@@ -1,13 +1,12 @@
 """A host of `softkey pin`: what the key asks it to compute of a PIN (CTAP 2.1, sections 6.5.6 and 6.5.7), by `cryptography`, and the key
 with the calls of `pin_key.PinKey`."""
-import hmac
 import os
 
 from cryptography.hazmat.primitives import hashes
 from cryptography.hazmat.primitives.asymmetric import ec
-from cryptography.hazmat.primitives.ciphers import Cipher, algorithms, modes
 from cryptography.hazmat.primitives.kdf.hkdf import HKDF
 
+from pin_key_parts import authenticated, cipher
 from softkey_host import Softkey, es256_key, public_words
 
 
@@ -19,12 +18,12 @@ def agree(key, iv, text):
 
 
 def encrypt(key, iv, text):
-    encryptor = Cipher(algorithms.AES(key), modes.CBC(iv)).encryptor()
+    encryptor = cipher(key, iv).encryptor()
     return encryptor.update(text) + encryptor.finalize()
 
 
 def decrypt(key, iv, text):
-    decryptor = Cipher(algorithms.AES(key), modes.CBC(iv)).decryptor()
+    decryptor = cipher(key, iv).decryptor()
     return decryptor.update(text) + decryptor.finalize()
 
 
@@ -37,7 +36,7 @@ OPERATIONS = {
     "agree": agree,
     "derive": lambda key, iv, text: HKDF(hashes.SHA256(), 32, bytes(32), text).derive(key),
     "seal": seal, "encrypt": encrypt, "decrypt": decrypt,
-    "authenticate": lambda key, iv, text: hmac.digest(key, text, "sha256")}
+    "authenticate": lambda key, iv, text: authenticated(key, text)}
 
 
 def answer(operation, *words):
