@@ -6,11 +6,11 @@ use Rattle.ccbor.specs.Item as of
 use Rattle.ccbor.specs.Item.{Item, Pairs}
 use Rattle.ccbor.specs.Access.{member}
 use Rattle.ccbor.specs.Canon.{Canon}
-use Rattle.cbor_map.specs.declared.fault.Fault.{Fault}
-use Rattle.cbor_map.specs.declared.fault.Fault.TheVariants as faults
-use Rattle.cbor_map.proofs.Tests.{clean_if_none, holds, or_none}
-use Rattle.cbor_map.specs.Table.{Members, all_keys, fails, gravest, has_fault, in_member, in_members, is_listed, listed, no_more, record_of, sized, some_bytes}
-use Rattle.cbor_map.specs.Content.{item_of, members_item}
+use Rattle.ctap_encoding.specs.declared.fault.Fault.{Fault}
+use Rattle.ctap_encoding.specs.declared.fault.Fault.TheVariants as faults
+use Rattle.ctap_encoding.proofs.Tests.{clean_if_none, holds, or_none}
+use Rattle.ctap_encoding.specs.Table.{Members, all_keys, fails, gravest, has_fault, in_member, in_members, is_listed, listed, no_more, record_of, sized, some_bytes}
+use Rattle.ctap_encoding.specs.Content.{item_of, members_item}
 use Rattle.ctap_requests.specs.Entities.{UserEntity, user_content, user_members}
 use Rattle.ctap_requests.specs.Requests.{AssertionRequest, CreationRequest, RequestMessage, assertion_content, assertion_item, assertion_members}
 use Rattle.ctap_requests.specs.Requests.{creation_content, creation_item, creation_members, get_assertion, make_credential, get_next_assertion}

@@ -3,7 +3,7 @@ use Rattle.std.proofs.Common.{◌≡◌, ℕ, List, [], ◌∷◌, Vec, Global, 
 use Rattle.std.specs.Prelude.{Result, Ok, Err, IfOk}
 use Rattle.ctap_requests.specs.Requests.{RequestMessage}
 use Rattle.ctap_requests.specs.Status.{IsRequest, Refused}
-use Rattle.ctap_status.specs.declared.error.Error.TheVariants as errors
+use Rattle.ctap_encoding.specs.declared.error.Error.TheVariants as errors
 use Rattle.authenticator.specs.State.{AuthenticatorState, forgotten}
 use Rattle.authenticator.specs.Private.{RequestBegins}
 use Rattle.authenticator.specs.Signing.{Begins}

@@ -13,7 +13,7 @@ use Rattle.cose.specs.Keys.{alg_item, signed_alg}
 use Rattle.cose.specs.declared.key.SigningAlg.{SigningAlg}
 use Rattle.cose.specs.declared.key.SigningAlg.TheVariants as algs
 use Rattle.authdata.specs.Statements.{none_statement, packed_statement}
-use Rattle.cbor_map.specs.Table.{gravest, record_of}
+use Rattle.ctap_encoding.specs.Table.{gravest, record_of}
 use Rattle.ctap_replies.specs.Replies.{Creation, Assertion, Info, ReplyMessage, ReplyOf, creation_reply, assertion_reply, info_reply}
 use Rattle.ctap_replies.specs.Replies.{creation_reply_item, creation_reply_members, assertion_reply_item, info_item}
 use Rattle.authenticator.specs.Private.{IsMessage, FitsReply, IsUser}

@@ -18,10 +18,10 @@ use crate::remembered::RememberedAssertion;
 use crate::reply::{info_bytes, status_alone, written};
 use authdata::AttestationType;
 use cose::Signer;
+use ctap_encoding::Error;
+use ctap_encoding::status::OPERATION_DENIED;
 use ctap_replies::Reply;
 use ctap_requests::{RequestView, view_request};
-use ctap_status::Error;
-use ctap_status::status::OPERATION_DENIED;
 use std::alloc::{AllocError, Global};
 use std::marker::Model;
 

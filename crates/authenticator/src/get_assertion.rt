@@ -19,8 +19,8 @@ use crate::options::{assertion_options, is_denied, is_false, is_true, is_unmet};
 use crate::pending::{Begun, Pending, PendingAssertion, PendingNext, Work};
 use crate::remembered::{AskedAssertion, Candidates, RememberedAssertion, remember};
 use crate::reply::written_assertion;
+use ctap_encoding::status::{INVALID_OPTION, NO_CREDENTIALS, NOT_ALLOWED, OPERATION_DENIED, OTHER};
 use ctap_requests::{AssertionOptions, GetAssertionView};
-use ctap_status::status::{INVALID_OPTION, NO_CREDENTIALS, NOT_ALLOWED, OPERATION_DENIED, OTHER};
 use std::alloc::{AllocError, Global};
 
 /// What a getAssertion asks.

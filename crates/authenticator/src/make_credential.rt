@@ -23,12 +23,12 @@ use crate::pending::{Begun, Pending, PendingCreation, Work};
 use crate::reply::written;
 use authdata::AttestationType;
 use cose::SigningAlg;
-use ctap_replies::{CreationReply, Reply};
-use ctap_requests::{MakeCredential, Parameters, RelyingParty, User};
-use ctap_status::status::{
+use ctap_encoding::status::{
     CREDENTIAL_EXCLUDED, INVALID_OPTION, KEY_STORE_FULL, OPERATION_DENIED, OTHER,
     UNSUPPORTED_ALGORITHM,
 };
+use ctap_replies::{CreationReply, Reply};
+use ctap_requests::{MakeCredential, Parameters, RelyingParty, User};
 use sha2::{Digest, Sha256};
 use std::alloc::AllocError;
 

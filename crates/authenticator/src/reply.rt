@@ -1,14 +1,14 @@
 //! Replies that need no key.
 
 ghost use Rattle.std.specs.Prelude.{◌≡◌, ◌∷◌, ◌≤◌, [], IfOk, IsErrOf, None, Ok, length};
-ghost use Rattle.ctap_status.specs.declared.error.Error.TheVariants as errors;
+ghost use Rattle.ctap_encoding.specs.declared.error.Error.TheVariants as errors;
 ghost use Rattle.ctap_replies.specs.Replies.{ReplyOf, assertion_reply, info_reply, next_reply};
 ghost use Rattle.ctap_replies.specs.ReplyView.{info_view, lent_assertion_view, reply_view};
 ghost use Rattle.authenticator.specs.Private.{IsMessage};
 ghost use Rattle.authenticator.specs.Steps.{info_of};
 
+use ctap_encoding::Error;
 use ctap_replies::{AssertionView, InfoReply, Reply, write_assertion, write_reply};
-use ctap_status::Error;
 use std::alloc::{AllocError, Global};
 
 /// The bytes of a reply that has some.

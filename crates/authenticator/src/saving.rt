@@ -12,8 +12,8 @@ use crate::authenticator::Authenticator;
 use crate::credential::StoredCredential;
 use crate::reading::VERSION;
 use authdata::AttestationType;
-use cbor_map::{bytes_value, push_member, text_value};
 use ccbor::{MapKey, Value, encode};
+use ctap_encoding::{bytes_value, push_member, text_value};
 use std::alloc::{AllocError, Global};
 
 /// Whether new credentials are attested by their own keys.

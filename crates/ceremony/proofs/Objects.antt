@@ -6,9 +6,9 @@ use Rattle.std.specs.Str.{IsAscii}
 use Rattle.std.specs.List.{AllByRecursion}
 use Rattle.ccbor.specs.Item.{Item, uint, bytes, text, map, Pairs, no_pairs, pair}
 use Rattle.ccbor.specs.Canon.{Fits, PairsFit, before, head, is_key, spelling}
-use Rattle.cbor_map.specs.Table.{has_fault, record_of}
-use Rattle.cbor_map.specs.declared.fault.Fault.TheVariants.{AnotherKind}
-use Rattle.cbor_map.proofs.Tests.{clean_if_none}
+use Rattle.ctap_encoding.specs.Table.{has_fault, record_of}
+use Rattle.ctap_encoding.specs.declared.fault.Fault.TheVariants.{AnotherKind}
+use Rattle.ctap_encoding.proofs.Tests.{clean_if_none}
 use Rattle.ctap_replies.specs.Replies.{Creation, ReplyOf, creation_reply, creation_reply_item, creation_reply_members}
 use Rattle.authdata.specs.Objects.{IsMap, ObjectOf, object_item}
 use Rattle.client.specs.Responses.{object_of}

@@ -13,8 +13,8 @@ use Rattle.ctap_replies.specs.Replies.{HasOtherShape, ReplyRefused}
 use Rattle.ctap_replies.specs.declared.reply.Kind.{Kind}
 use Rattle.ctap_replies.specs.declared.reply.Kind.TheVariants as kinds
 use Rattle.ctap_replies.proofs.Laws.{creation_never_both, never_both, one_assertion_reply, one_creation_reply}
-use Rattle.ctap_status.specs.declared.error.Error.{Error as ReplyError}
-use Rattle.ctap_status.specs.declared.error.Error.TheVariants as replies
+use Rattle.ctap_encoding.specs.declared.error.Error.{Error as ReplyError}
+use Rattle.ctap_encoding.specs.declared.error.Error.TheVariants as replies
 use Rattle.cose.specs.Schemes.{Validity}
 use Rattle.verification.specs.SignIn as authentication
 use Rattle.verification.specs.Registration as registration_steps

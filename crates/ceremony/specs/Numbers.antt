@@ -1,6 +1,6 @@
 -- The product's numbers of refusals.
 use Rattle.std.specs.Prelude.{ℕ, Option, Some, None}
-use Rattle.ctap_status.specs.Numbers as reply
+use Rattle.ctap_encoding.specs.Numbers as reply
 use Rattle.ceremony.specs.declared.error.Error.{Error}
 use Rattle.ceremony.specs.declared.error.Error.TheVariants as errors
 

@@ -4,7 +4,7 @@ use Rattle.std.specs.Prelude.{◌≢◌, ◌<◌, ◌≤◌, ◌+◌, ℕ, List,
 use Rattle.hidframe.specs.declared.Packet.{Packet}
 use Rattle.hidframe.specs.declared.ctaphid.TheConstants.{CTAPHID_CBOR, CTAPHID_ERROR}
 use Rattle.hidlink.specs.Wire.{Carries, Dies, HasEnded}
-use Rattle.ctap_status.specs.declared.error.Error.TheVariants as replies
+use Rattle.ctap_encoding.specs.declared.error.Error.TheVariants as replies
 use Rattle.ctap_replies.specs.declared.reply.Kind.{Kind}
 use Rattle.ctap_replies.specs.Replies.{ReplyRefused}
 use Rattle.ceremony.specs.declared.error.Error.{Error}

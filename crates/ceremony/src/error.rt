@@ -26,7 +26,7 @@ pub enum Error<W> {
     /// The message is no reply to the command: `Empty` (17), `Refused` by its status (18), `NotCanonical` (2) or of
     /// another `Shape` (13).
     #[error("{0}")]
-    Reply(ctap_status::Error),
+    Reply(ctap_encoding::Error),
     /// The site refuses the response at this step.
     #[error("refused: {0}")]
     Refused(W),

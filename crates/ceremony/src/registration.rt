@@ -69,7 +69,7 @@ fn judge<V: Verifier>(
     let reply = match read_creation(alloc, message) {
         Ok(reply) => reply,
         Err(error) => match error {
-            ctap_status::Error::Memory => return Err(Error::Memory),
+            ctap_encoding::Error::Memory => return Err(Error::Memory),
             _ => return Err(Error::Reply(error)),
         },
     };

@@ -43,7 +43,7 @@ pub fn packets_of(alloc: Global, request: &Request, cid: u32) -> Result<Vec<Pack
 {
     match write_request(alloc, request) {
         Ok(message) => framed(alloc, cid, &message),
-        Err(ctap_status::Error::Unfit) => Err(RequestError::Unfit),
+        Err(ctap_encoding::Error::Unfit) => Err(RequestError::Unfit),
         Err(_) => Err(RequestError::Memory),
     }
 }

@@ -5,13 +5,13 @@ ghost use Rattle.authdata.specs.declared.profile.Profile.TheVariants.{Open, Stri
 ghost use Rattle.ctap_replies.specs.Replies.{IsReply, ReplyRefused, assertion_reply, creation_reply};
 ghost use Rattle.ctap_replies.specs.ReplyView.{creation_reply_view, lent_assertion_view};
 ghost use Rattle.ctap_replies.specs.declared.reply.Kind.TheVariants as kinds;
-ghost use Rattle.ctap_status.specs.declared.error.Error.TheVariants as errors;
+ghost use Rattle.ctap_encoding.specs.declared.error.Error.TheVariants as errors;
 ghost use Rattle.client.specs.Replies.{IsAssertionBy, IsCreationBy, IsNoAssertionBy, IsNoCreationBy, assertion_of_key, creation_of_key};
 ghost use Rattle.key_replies.specs.ReplyView.{assertion_view, creation_view};
 
 use authdata::Profile;
+use ctap_encoding::Error;
 use ctap_replies::{AssertionView, CreationReply};
-use ctap_status::Error;
 use key_replies::{KeyAssertion, KeyCreation};
 use std::alloc::Global;
 

@@ -2,7 +2,7 @@
 
 use crate::refused::Refused;
 use crate::values::{base64_text, number_or_null, texts, texts_or_null};
-use ctap_status::Error;
+use ctap_encoding::Error;
 use key_client::Refusal;
 use key_replies::{KeyInfo, ParametersView, read_info};
 use serde_json::{Map, Value, put};

@@ -6,3 +6,4 @@ pub mod Writes
 pub mod Transactions
 pub mod Listed
 pub mod Users
+pub mod DetailTables

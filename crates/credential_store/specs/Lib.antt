@@ -2,3 +2,4 @@ pub mod Values
 pub mod Rows
 pub mod Held
 pub mod Private
+pub mod Details

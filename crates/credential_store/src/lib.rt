@@ -1,7 +1,10 @@
-//! A relying party's credentials in a store's trees: each a row of a table, found by its id and by its user.
+//! A relying party's credentials in a store's trees: each a row of a table, found by its id and by its user; and what is known
+//! of them beside what verdicts ask for, in a table of its own.
 #![tactic(auto)]
 
 mod credentials;
+mod detail;
+mod details;
 mod entries;
 mod error;
 mod finding;
@@ -10,6 +13,8 @@ mod values;
 mod writing;
 
 pub use credentials::{credential_row, read_credential};
+pub use detail::{Detail, detail_row, read_detail};
+pub use details::{delete_detail, find_detail, mark_used, put_detail};
 pub use error::RowError;
 pub use finding::{Found, find, lent};
 pub use listing::find_all;

@@ -4,10 +4,10 @@ use Rattle.std.specs.Prelude.{codes, nat_le, IfSome}
 use Rattle.std.proofs.lemmas.List.{append_assoc, append-nil}
 use Rattle.ccbor.specs.Item.{Item}
 use Rattle.ccbor.specs.Canon.{head, before, spelling, Fits}
-use Rattle.cbor_map.specs.Table.{record_of, gravest}
-use Rattle.cbor_map.specs.Content.{item_of}
-use Rattle.cbor_map.specs.declared.fault.Fault.TheVariants as faults
-use Rattle.cbor_map.proofs.Tests.{clean_if_none}
+use Rattle.ctap_encoding.specs.Table.{record_of, gravest}
+use Rattle.ctap_encoding.specs.Content.{item_of}
+use Rattle.ctap_encoding.specs.declared.fault.Fault.TheVariants as faults
+use Rattle.ctap_encoding.proofs.Tests.{clean_if_none}
 use Rattle.ctap_replies.specs.Pieces.{HasSizes, IsIdSize, member_count, number_bytes, required_bytes, user_bytes}
 use Rattle.ctap_replies.specs.Replies.{Assertion, credential_members, credential_content, reply_user_members, reply_user_content}
 use Rattle.ctap_replies.specs.Replies.{assertion_reply_members, assertion_reply_item, next_reply_members, MapReply}

@@ -5,19 +5,19 @@ use Rattle.ctap_replies.specs.Pieces.{WrittenMap}
 use Rattle.ccbor.specs.Item.{Item}
 use Rattle.ccbor.specs.Canon.{head, before, Canon}
 use Rattle.ccbor.proofs.Decoding.{same_item}
-use Rattle.cbor_map.specs.Table.{record_of, Members, has_fault, gravest}
-use Rattle.cbor_map.specs.Content.{Contents, item_of}
-use Rattle.cbor_map.specs.Reading.{Fails, read_in}
-use Rattle.cbor_map.specs.declared.error.Error.{Error as MapError}
-use Rattle.cbor_map.specs.declared.error.Error.TheVariants as refusals
-use Rattle.ctap_status.specs.Numbers.{of_map}
-use Rattle.cbor_map.specs.declared.fault.Fault.{Fault}
-use Rattle.cbor_map.specs.declared.fault.Fault.TheVariants as faults
-use Rattle.cbor_map.proofs.Ordered.{IsOrdered}
-use Rattle.cbor_map.proofs.Laws.{read_is, read_clean, clean_read, unread_faulty, one_read}
-use Rattle.cbor_map.proofs.Tests.{clean_if_none, none_if_clean}
-use Rattle.ctap_status.specs.declared.error.Error.{Error}
-use Rattle.ctap_status.specs.declared.error.Error.TheVariants as errors
+use Rattle.ctap_encoding.specs.Table.{record_of, Members, has_fault, gravest}
+use Rattle.ctap_encoding.specs.Content.{Contents, item_of}
+use Rattle.ctap_encoding.specs.Reading.{Fails, read_in}
+use Rattle.ctap_encoding.specs.declared.map_error.MapError.{MapError}
+use Rattle.ctap_encoding.specs.declared.map_error.MapError.TheVariants as refusals
+use Rattle.ctap_encoding.specs.Numbers.{of_map}
+use Rattle.ctap_encoding.specs.declared.fault.Fault.{Fault}
+use Rattle.ctap_encoding.specs.declared.fault.Fault.TheVariants as faults
+use Rattle.ctap_encoding.proofs.Ordered.{IsOrdered}
+use Rattle.ctap_encoding.proofs.Laws.{read_is, read_clean, clean_read, unread_faulty, one_read}
+use Rattle.ctap_encoding.proofs.Tests.{clean_if_none, none_if_clean}
+use Rattle.ctap_encoding.specs.declared.error.Error.{Error}
+use Rattle.ctap_encoding.specs.declared.error.Error.TheVariants as errors
 use Rattle.ctap_replies.specs.Replies.{credential_content, reply_user_members, reply_user_content, Creation, creation_reply_members}
 use Rattle.ctap_replies.specs.Replies.{creation_reply_content, creation_reply_item, Assertion, assertion_reply_members, assertion_reply_content}
 use Rattle.ctap_replies.specs.Replies.{assertion_reply_item, next_reply_members, Info, info_members, info_content, ReplyMessage, creation_reply}

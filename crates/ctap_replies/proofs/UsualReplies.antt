@@ -4,8 +4,8 @@ use Rattle.std.proofs.lemmas.Bool.{eqb-true}
 use Rattle.std.proofs.lemmas.List.{append_assoc, append-nil, nil_from_length}
 use Rattle.ccbor.specs.Item as of
 use Rattle.ccbor.specs.Canon.{head, spelling}
-use Rattle.cbor_map.specs.Content.{item_of}
-use Rattle.cbor_map.specs.Table.{record_of}
+use Rattle.ctap_encoding.specs.Content.{item_of}
+use Rattle.ctap_encoding.specs.Table.{record_of}
 use Rattle.ctap_replies.specs.Pieces.{HasFront, HasSizes, IsIdSize, member_count, number_bytes, required_bytes, user_bytes}
 use Rattle.ctap_replies.specs.Replies.{Assertion, ReplyOf, assertion_reply, assertion_reply_item, credential_content, credential_members}
 use Rattle.ctap_replies.proofs.AssertionBytes.{assertion_clean, assertion_fits, written}

@@ -3,10 +3,10 @@ use Rattle.std.specs.Prelude.{◌≡◌, ◌≤◌, ◌<◌, ◌^◌, ℕ, ◌+�
 use Rattle.ccbor.specs.Item as of
 use Rattle.ccbor.specs.Item.{Item}
 use Rattle.ccbor.specs.Canon.{Canon, spelling}
-use Rattle.cbor_map.specs.Table.{Members, record_of}
-use Rattle.cbor_map.specs.Content.{item_of}
-use Rattle.ctap_status.specs.declared.error.Error.{Error}
-use Rattle.ctap_status.specs.declared.error.Error.TheVariants as errors
+use Rattle.ctap_encoding.specs.Table.{Members, record_of}
+use Rattle.ctap_encoding.specs.Content.{item_of}
+use Rattle.ctap_encoding.specs.declared.error.Error.{Error}
+use Rattle.ctap_encoding.specs.declared.error.Error.TheVariants as errors
 use Rattle.ctap_replies.specs.Replies.{Assertion, MapReply, credential_members, credential_content, reply_user_members, reply_user_content}
 
 -- status 0 and the value's encoding were written; or it has none; or memory ran out

@@ -4,11 +4,11 @@ use Rattle.std.specs.Prelude.{◌≡◌, ◌≢◌, ℕ, List, [], ◌∷◌, Bo
 use Rattle.ccbor.specs.Item as of
 use Rattle.ccbor.specs.Item.{Item}
 use Rattle.ccbor.specs.Canon.{Canon}
-use Rattle.cbor_map.specs.Table.{some_bytes, a_text, any_map, that_text, unsigned, truths, list_of, record_of, sized, Members, no_more, listed, gravest}
-use Rattle.cbor_map.specs.Content.{Contents, item_of}
-use Rattle.cbor_map.specs.declared.fault.Fault.TheVariants as faults
-use Rattle.ctap_status.specs.declared.error.Error.{Error}
-use Rattle.ctap_status.specs.declared.error.Error.TheVariants as errors
+use Rattle.ctap_encoding.specs.Table.{some_bytes, a_text, any_map, that_text, unsigned, truths, list_of, record_of, sized, Members, no_more, listed, gravest}
+use Rattle.ctap_encoding.specs.Content.{Contents, item_of}
+use Rattle.ctap_encoding.specs.declared.fault.Fault.TheVariants as faults
+use Rattle.ctap_encoding.specs.declared.error.Error.{Error}
+use Rattle.ctap_encoding.specs.declared.error.Error.TheVariants as errors
 use Rattle.ctap_replies.specs.declared.reply.Kind.{Kind}
 use Rattle.ctap_replies.specs.declared.reply.Kind.TheVariants as kinds
 

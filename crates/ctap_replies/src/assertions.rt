@@ -2,18 +2,18 @@
 
 ghost use Rattle.std.specs.Prelude.{◌≡◌, ◌<◌, ◌≤◌, ◌^◌, ◌∷◌, ◌++◌, ℕ, List, ◌⊎◌, IfOk, IfErr, IfSome, IsErrOf, IsTrue, ◌↔◌, OnOk, option_map};
 ghost use Rattle.ccbor.specs.Canon.{spelling};
-ghost use Rattle.cbor_map.specs.Content.{item_of};
-ghost use Rattle.cbor_map.specs.Table.{record_of};
+ghost use Rattle.ctap_encoding.specs.Content.{item_of};
+ghost use Rattle.ctap_encoding.specs.Table.{record_of};
 ghost use Rattle.ctap_replies.specs.Pieces.{HasSizes, IsIdSize, member_count, number_bytes, required_bytes, user_bytes};
 ghost use Rattle.ctap_replies.specs.Replies.{credential_members, credential_content, reply_user_members, reply_user_content, assertion_reply};
 ghost use Rattle.ctap_replies.specs.Replies.{assertion_reply_item, next_reply, ReplyOf};
 ghost use Rattle.ctap_replies.specs.ReplyView.{assertion_reply_view, lent_assertion_view};
-ghost use Rattle.ctap_status.specs.declared.error.Error.TheVariants as errors;
+ghost use Rattle.ctap_encoding.specs.declared.error.Error.TheVariants as errors;
 
 use crate::reply::{AssertionReply, AssertionView};
 use ccbor::{append_bytes, append_map_head, append_text, append_unsigned};
-use ctap_status::Error;
-use ctap_status::status::OK;
+use ctap_encoding::Error;
+use ctap_encoding::status::OK;
 use std::alloc::{AllocError, Global};
 
 /// The most bytes of a reply beside its authenticator data and signature: 62 with the heads, the keys and the

@@ -2,15 +2,15 @@
 
 ghost use Rattle.std.specs.Prelude.{◌≡◌, map, string_bytes};
 ghost use Rattle.ccbor.specs.Viewing.{shown};
-ghost use Rattle.cbor_map.specs.Table.{a_text, some_bytes, truths, list_of, record_of, sized};
-ghost use Rattle.cbor_map.specs.Reading.{Gives, Yields, read_in, named_truth};
-ghost use Rattle.cbor_map.specs.declared.fault.Fault.TheVariants as faults;
+ghost use Rattle.ctap_encoding.specs.Table.{a_text, some_bytes, truths, list_of, record_of, sized};
+ghost use Rattle.ctap_encoding.specs.Reading.{Gives, Yields, read_in, named_truth};
+ghost use Rattle.ctap_encoding.specs.declared.fault.Fault.TheVariants as faults;
 ghost use Rattle.ctap_replies.specs.Replies.{credential_members, credential_content, reply_user_members, reply_user_content, creation_reply_members};
 ghost use Rattle.ctap_replies.specs.Replies.{creation_reply_content, assertion_reply_members, assertion_reply_content, info_members, info_content};
 ghost use Rattle.ctap_replies.specs.ReplyView.{creation_reply_view, lent_assertion_view, info_view};
 
 use crate::reply::{AssertionView, CreationReply, InfoReply};
-use cbor_map::{
+use ctap_encoding::{
     Error, Shape, any_map, bytes, end, items, members, optional, required, sized, text, that_text,
     truth, unsigned,
 };

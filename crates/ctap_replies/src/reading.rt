@@ -6,7 +6,7 @@ ghost use Rattle.ccbor.specs.Canon.{Canon};
 ghost use Rattle.ccbor.specs.Viewing.{shown};
 ghost use Rattle.ctap_replies.specs.Replies.{Assertion, Creation, creation_reply, assertion_reply, next_reply, info_reply, IsReply, ReplyOf, ReplyRefused};
 ghost use Rattle.ctap_replies.specs.ReplyView.{creation_reply_view, assertion_reply_view, lent_assertion_view, info_view, reply_view};
-ghost use Rattle.ctap_status.specs.declared.error.Error.TheVariants as errors;
+ghost use Rattle.ctap_encoding.specs.declared.error.Error.TheVariants as errors;
 ghost use Rattle.ctap_replies.specs.declared.reply.Kind.{Kind};
 ghost use Rattle.ctap_replies.specs.declared.reply.Kind.TheVariants as kinds;
 
@@ -14,8 +14,8 @@ use crate::maps::{assertion_reply, creation_reply, info};
 use crate::reply::{AssertionReply, AssertionView, CreationReply, InfoReply, Kind, Reply};
 use crate::usual::usual_assertion;
 use ccbor::View;
-use ctap_status::Error;
-use ctap_status::status::OK;
+use ctap_encoding::Error;
+use ctap_encoding::status::OK;
 use std::alloc::{AllocError, Global};
 
 /// The value that follows status 0.

@@ -2,10 +2,10 @@
 
 ghost use Rattle.std.specs.Prelude.{◌≡◌};
 ghost use Rattle.ccbor.specs.View.{view};
-ghost use Rattle.cbor_map.specs.Table.{gravest, record_of};
+ghost use Rattle.ctap_encoding.specs.Table.{gravest, record_of};
 ghost use Rattle.ctap_replies.specs.Replies.{creation_reply_members, info_members};
 
-use cbor_map::{Fault, Holds, gravest};
+use ctap_encoding::{Fault, Holds, gravest};
 use ccbor::{MapKey, Value};
 
 const CREATION_REPLY: Holds = Holds::Record(&[

@@ -3,8 +3,8 @@
 ghost use Rattle.std.specs.Prelude.{◌≡◌, ◌≢◌, ◌∷◌, ◌++◌, ℕ, List, IfSome, MatchOption};
 ghost use Rattle.ccbor.specs.Item as of;
 ghost use Rattle.ccbor.specs.Canon.{spelling};
-ghost use Rattle.cbor_map.specs.Content.{item_of};
-ghost use Rattle.cbor_map.specs.Table.{record_of};
+ghost use Rattle.ctap_encoding.specs.Content.{item_of};
+ghost use Rattle.ctap_encoding.specs.Table.{record_of};
 ghost use Rattle.ctap_replies.specs.Pieces.{HasFront, IsIdSize};
 ghost use Rattle.ctap_replies.specs.Replies.{ReplyOf, assertion_reply, credential_content, credential_members};
 ghost use Rattle.ctap_replies.specs.ReplyView.{lent_assertion_view};

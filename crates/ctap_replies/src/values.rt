@@ -2,13 +2,13 @@
 
 ghost use Rattle.std.specs.Prelude.{◌≡◌, IfOk, map, string_bytes};
 ghost use Rattle.ccbor.specs.View.{view};
-ghost use Rattle.cbor_map.specs.Table.{a_text, truths, list_of};
-ghost use Rattle.cbor_map.specs.Content.{item_of};
+ghost use Rattle.ctap_encoding.specs.Table.{a_text, truths, list_of};
+ghost use Rattle.ctap_encoding.specs.Content.{item_of};
 ghost use Rattle.ctap_replies.specs.Replies.{creation_reply_item, info_item};
 ghost use Rattle.ctap_replies.specs.ReplyView.{creation_reply_view, info_view};
 
 use crate::reply::{CreationReply, InfoReply};
-use cbor_map::{bytes_value, push_member, text_value};
+use ctap_encoding::{bytes_value, push_member, text_value};
 use ccbor::{MapKey, Value};
 use std::alloc::{AllocError, Global};
 

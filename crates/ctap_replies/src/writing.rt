@@ -5,15 +5,15 @@ ghost use Rattle.ccbor.specs.View.{view};
 ghost use Rattle.ctap_replies.specs.Pieces.{WrittenValue, WrittenMap};
 ghost use Rattle.ctap_replies.specs.Replies.{creation_reply_members, info_members, creation_reply_item, info_item, next_reply, ReplyOf};
 ghost use Rattle.ctap_replies.specs.ReplyView.{creation_reply_view, info_view, lent_assertion_view, reply_view};
-ghost use Rattle.ctap_status.specs.declared.error.Error.TheVariants as errors;
+ghost use Rattle.ctap_encoding.specs.declared.error.Error.TheVariants as errors;
 
 use crate::assertions::{lent, write_assertion};
 use crate::reply::{AssertionView, CreationReply, InfoReply, Reply};
 use crate::tables::{creation_reply_fault, info_fault};
 use crate::values::{creation_reply_value, info_value};
 use ccbor::{Value, encode};
-use ctap_status::Error;
-use ctap_status::status::OK;
+use ctap_encoding::Error;
+use ctap_encoding::status::OK;
 use std::alloc::{AllocError, Global};
 
 /// Status 0 and the value's encoding.

@@ -3,7 +3,7 @@ use Rattle.std.proofs.Common.{◌≡◌, ◌||◌, ℕ, true, false, List, [], �
 use Rattle.refusal_order.specs.Lines.{First}
 use Rattle.ctap_requests.specs.Pieces.{Alone}
 use Rattle.ctap_requests.specs.Status.{Rank, unknown_command, bytes_behind, status_of, ranks, has_map, has_none, Applies, Refused}
-use Rattle.ctap_status.specs.declared.error.Error.{Error}
+use Rattle.ctap_encoding.specs.declared.error.Error.{Error}
 use Rattle.ctap_requests.proofs.Ranks.{applies_first}
 use Rattle.ctap_requests.specs.declared.request.RequestView.{RequestView}
 

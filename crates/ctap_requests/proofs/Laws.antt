@@ -5,12 +5,12 @@ use Rattle.ccbor.specs.Item as of
 use Rattle.ccbor.specs.Item.{Item, Pairs}
 use Rattle.ccbor.specs.Canon.{head, before, Canon}
 use Rattle.ccbor.proofs.Decoding.{same_item}
-use Rattle.cbor_map.specs.Table.{record_of, gravest, any_map}
-use Rattle.cbor_map.specs.Content.{Contents, item_of}
-use Rattle.cbor_map.specs.Reading.{read_in}
-use Rattle.cbor_map.proofs.Ordered.{IsOrdered}
-use Rattle.cbor_map.proofs.Laws.{read_is, read_clean, unread_faulty, one_read}
-use Rattle.cbor_map.proofs.Maps.{IsMapIfThere, read_maps}
+use Rattle.ctap_encoding.specs.Table.{record_of, gravest, any_map}
+use Rattle.ctap_encoding.specs.Content.{Contents, item_of}
+use Rattle.ctap_encoding.specs.Reading.{read_in}
+use Rattle.ctap_encoding.proofs.Ordered.{IsOrdered}
+use Rattle.ctap_encoding.proofs.Laws.{read_is, read_clean, unread_faulty, one_read}
+use Rattle.ctap_encoding.proofs.Maps.{IsMapIfThere, read_maps}
 use Rattle.ctap_requests.specs.Entities.{CredentialDescriptor, descriptor_members, descriptor_content, RpEntity, rp_members, UserEntity}
 use Rattle.ctap_requests.specs.Entities.{user_members, CredentialParameters, parameters_members, parameters_content, CreationFlags}
 use Rattle.ctap_requests.specs.Entities.{creation_options_members, creation_options_content, AssertionFlags, assertion_options_members}

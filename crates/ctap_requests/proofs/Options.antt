@@ -2,8 +2,8 @@
 use Rattle.std.proofs.Common.{◌≡◌, ◌++◌, Bool, false, List, [], Option, Some, None, option_map, refl}
 use Rattle.ccbor.specs.Item.{Item, no_pairs, boolean}
 use Rattle.ccbor.specs.View.{pairs_of}
-use Rattle.cbor_map.specs.Content.{member_pair}
-use Rattle.cbor_map.specs.Building.{member_list}
+use Rattle.ctap_encoding.specs.Content.{member_pair}
+use Rattle.ctap_encoding.specs.Building.{member_list}
 
 pub three_options : (k l m : Item) (a b c : Option Bool) (s0 s1 s2 s3 : List (Item × Item)) (x y z : Option Item) → s0 ≡ [] → x ≡ option_map boolean a
     → s1 ≡ s0 ++ member_list k x

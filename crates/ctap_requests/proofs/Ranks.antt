@@ -7,15 +7,15 @@ use Rattle.refusal_order.proofs.Laws.{first_at, first_behind, one_first}
 use Rattle.ccbor.specs.Item.{Item}
 use Rattle.ccbor.specs.Canon.{Canon}
 use Rattle.ccbor.proofs.Decoding.{same_item}
-use Rattle.cbor_map.specs.Table.{gravest}
-use Rattle.cbor_map.specs.declared.fault.Fault as map_faults
-use Rattle.cbor_map.specs.declared.fault.Fault.TheVariants as faults
+use Rattle.ctap_encoding.specs.Table.{gravest}
+use Rattle.ctap_encoding.specs.declared.fault.Fault as map_faults
+use Rattle.ctap_encoding.specs.declared.fault.Fault.TheVariants as faults
 use Rattle.ctap_requests.specs.Requests.{map_of}
 use Rattle.ctap_requests.specs.Pieces.{rank_of}
 use Rattle.ctap_requests.specs.Status.{Rank, unknown_command, bytes_behind, not_canonical, another_kind, unlisted_key, missing_member, invalid_size}
 use Rattle.ctap_requests.specs.Status.{over_limit, ranks, has_map, has_none, status_of, Fault, Applies, NoStatus, Refused}
-use Rattle.ctap_status.specs.declared.error.Error.{Error}
-use Rattle.ctap_status.specs.declared.error.Error.TheVariants as errors
+use Rattle.ctap_encoding.specs.declared.error.Error.{Error}
+use Rattle.ctap_encoding.specs.declared.error.Error.TheVariants as errors
 
 -- a command has a map, or nothing, or is unknown
 with_map : (c : ℕ) → has_map c || has_none c ≡ false → has_map c ≡ true → ⊥

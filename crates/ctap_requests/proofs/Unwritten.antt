@@ -4,14 +4,14 @@ use Rattle.std.proofs.Common.{Ok, Err, IfOk, IfErr, ◌⊎◌, nat_lt, ℤ, pos,
 use Rattle.std.proofs.lemmas.Bool.Decides.{nat_tests}
 use Rattle.std.specs.Prelude.{IsErrOf}
 use Rattle.ccbor.specs.Item.{Item}
-use Rattle.ctap_status.specs.declared.error.Error.{Error}
-use Rattle.ctap_status.specs.declared.error.Error.TheVariants as errors
+use Rattle.ctap_encoding.specs.declared.error.Error.{Error}
+use Rattle.ctap_encoding.specs.declared.error.Error.TheVariants as errors
 use Rattle.ccbor.specs.Canon.{Canon, Fits, ItemsFit}
 use Rattle.ccbor.specs.View.{items_of}
-use Rattle.cbor_map.specs.Table.{gravest}
-use Rattle.cbor_map.specs.Content.{number_item, item_of}
-use Rattle.cbor_map.specs.Table.{record_of}
-use Rattle.cbor_map.specs.declared.fault.Fault as map_faults
+use Rattle.ctap_encoding.specs.Table.{gravest}
+use Rattle.ctap_encoding.specs.Content.{number_item, item_of}
+use Rattle.ctap_encoding.specs.Table.{record_of}
+use Rattle.ctap_encoding.specs.declared.fault.Fault as map_faults
 use Rattle.ctap_requests.specs.Entities.{CredentialParameters, parameters_members, parameters_content}
 use Rattle.ctap_requests.specs.Requests.{CreationRequest, AssertionRequest, creation_item, assertion_item, make_credential, get_assertion, map_of, RequestOf}
 use Rattle.ctap_requests.specs.Pieces.{is_number, all_numbers, Builds, Written}

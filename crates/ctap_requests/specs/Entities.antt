@@ -3,9 +3,9 @@
 -- them by WebAuthn's dictionaries.
 use Rattle.std.specs.Prelude.{ℕ, List, Bool, true, false, Option, ℤ, codes}
 use Rattle.ccbor.specs.Item as of
-use Rattle.cbor_map.specs.Table.{Members, no_more, listed, a_number, some_bytes, a_text, a_truth, sized}
-use Rattle.cbor_map.specs.Content.{Contents}
-use Rattle.cbor_map.specs.declared.fault.Fault.TheVariants as faults
+use Rattle.ctap_encoding.specs.Table.{Members, no_more, listed, a_number, some_bytes, a_text, a_truth, sized}
+use Rattle.ctap_encoding.specs.Content.{Contents}
+use Rattle.ctap_encoding.specs.declared.fault.Fault.TheVariants as faults
 
 -- ---- PublicKeyCredentialDescriptor (WebAuthn section 5.8.3)
 

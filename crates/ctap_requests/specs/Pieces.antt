@@ -3,11 +3,11 @@ use Rattle.std.specs.Prelude.{◌≡◌, ℕ, ◌^◌, List, [], ◌∷◌, Bool
 use Rattle.ccbor.specs.Item.{Item}
 use Rattle.ccbor.specs.View.{view}
 use Rattle.ccbor.specs.declared.value.Value.{Value}
-use Rattle.cbor_map.specs.Content.{Contents}
-use Rattle.cbor_map.specs.declared.fault.Fault.{Fault}
-use Rattle.cbor_map.specs.declared.fault.Fault.TheVariants as faults
-use Rattle.ctap_status.specs.declared.error.Error.{Error}
-use Rattle.ctap_status.specs.declared.error.Error.TheVariants as errors
+use Rattle.ctap_encoding.specs.Content.{Contents}
+use Rattle.ctap_encoding.specs.declared.fault.Fault.{Fault}
+use Rattle.ctap_encoding.specs.declared.fault.Fault.TheVariants as faults
+use Rattle.ctap_encoding.specs.declared.error.Error.{Error}
+use Rattle.ctap_encoding.specs.declared.error.Error.TheVariants as errors
 use Rattle.ctap_requests.specs.declared.request.RequestView.{RequestView}
 use Rattle.ctap_requests.specs.Entities.{CredentialParameters}
 use Rattle.ctap_requests.specs.Requests.{creation_members, assertion_members, RequestMessage, RequestOf}

@@ -3,9 +3,9 @@ use Rattle.std.specs.Prelude.{◌≡◌, ℕ, ◌==◌, List, [], ◌∷◌, tru
 use Rattle.ccbor.specs.Item as of
 use Rattle.ccbor.specs.Item.{Item, Pairs}
 use Rattle.ccbor.specs.Canon.{Canon}
-use Rattle.cbor_map.specs.Table.{Holds, some_bytes, a_text, any_map, list_of, record_of, not_empty, sized, Members, no_more, listed}
-use Rattle.cbor_map.specs.Content.{Contents, item_of}
-use Rattle.cbor_map.specs.declared.fault.Fault.TheVariants as faults
+use Rattle.ctap_encoding.specs.Table.{Holds, some_bytes, a_text, any_map, list_of, record_of, not_empty, sized, Members, no_more, listed}
+use Rattle.ctap_encoding.specs.Content.{Contents, item_of}
+use Rattle.ctap_encoding.specs.declared.fault.Fault.TheVariants as faults
 use Rattle.ctap_requests.specs.Entities.{CredentialDescriptor, descriptor_members, descriptor_content, RpEntity, rp_members, rp_content, UserEntity}
 use Rattle.ctap_requests.specs.Entities.{user_members, user_content, CredentialParameters, parameters_members, parameters_content, CreationFlags}
 use Rattle.ctap_requests.specs.Entities.{creation_options_members, creation_options_content, AssertionFlags, assertion_options_members}

@@ -4,12 +4,12 @@ use Rattle.std.specs.Prelude.{◌≡◌, ◌≢◌, ◌==◌, ℕ, List, [], ◌
 use Rattle.refusal_order.specs.Lines.{First, NoneOf}
 use Rattle.ccbor.specs.Item.{Item, Pairs}
 use Rattle.ccbor.specs.Canon.{Canon}
-use Rattle.cbor_map.specs.Table.{gravest}
-use Rattle.cbor_map.specs.declared.fault.Fault as map_faults
-use Rattle.cbor_map.specs.declared.fault.Fault.TheVariants as faults
+use Rattle.ctap_encoding.specs.Table.{gravest}
+use Rattle.ctap_encoding.specs.declared.fault.Fault as map_faults
+use Rattle.ctap_encoding.specs.declared.fault.Fault.TheVariants as faults
 use Rattle.ctap_requests.specs.Requests.{RequestMessage, RequestOf, map_of}
-use Rattle.ctap_status.specs.declared.error.Error.{Error}
-use Rattle.ctap_status.specs.declared.error.Error.TheVariants as errors
+use Rattle.ctap_encoding.specs.declared.error.Error.{Error}
+use Rattle.ctap_encoding.specs.declared.error.Error.TheVariants as errors
 
 -- the ranks of a request's faults
 pub data Rank : Type 0 where

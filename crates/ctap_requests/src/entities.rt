@@ -2,8 +2,8 @@
 
 ghost use Rattle.std.specs.Prelude.{◌≡◌, map, option_map, string_bytes};
 ghost use Rattle.ccbor.specs.Viewing.{shown};
-ghost use Rattle.cbor_map.specs.Table.{record_of, list_of};
-ghost use Rattle.cbor_map.specs.Reading.{Gives, Yields, maybe, read_in};
+ghost use Rattle.ctap_encoding.specs.Table.{record_of, list_of};
+ghost use Rattle.ctap_encoding.specs.Reading.{Gives, Yields, maybe, read_in};
 ghost use Rattle.ccbor.specs.Access.{text_in};
 ghost use Rattle.ctap_requests.specs.Entities.{descriptor_members, descriptor_content, rp_members, rp_content, user_members, user_content};
 ghost use Rattle.ctap_requests.specs.Entities.{parameters_members, parameters_content, creation_options_members, creation_options_content};
@@ -13,7 +13,7 @@ ghost use Rattle.ctap_requests.specs.RequestView.{lent_descriptor_view, rp_view,
 use crate::request::{
     AssertionOptions, CreationOptions, DescriptorView, Parameters, RelyingParty, User,
 };
-use cbor_map::{
+use ctap_encoding::{
     Error, Shape, bytes, end, items, members, number, optional, required, sized, text,
     truth_if_there,
 };

@@ -3,9 +3,9 @@
 
 ghost use Rattle.std.specs.Prelude.{◌≡◌, map, None, option_map};
 ghost use Rattle.ccbor.specs.Viewing.{shown};
-ghost use Rattle.cbor_map.specs.Table.{any_map, record_of, list_of, sized, not_empty};
-ghost use Rattle.cbor_map.specs.Reading.{Gives, Yields, maybe, read_in};
-ghost use Rattle.cbor_map.specs.declared.fault.Fault.TheVariants as faults;
+ghost use Rattle.ctap_encoding.specs.Table.{any_map, record_of, list_of, sized, not_empty};
+ghost use Rattle.ctap_encoding.specs.Reading.{Gives, Yields, maybe, read_in};
+ghost use Rattle.ctap_encoding.specs.declared.fault.Fault.TheVariants as faults;
 ghost use Rattle.ctap_requests.specs.Entities.{descriptor_members, descriptor_content, creation_options_members, creation_options_content};
 ghost use Rattle.ctap_requests.specs.Entities.{assertion_options_members, assertion_options_content};
 ghost use Rattle.ctap_requests.specs.Pieces.{forget_creation, forget_assertion};
@@ -21,12 +21,12 @@ use crate::owned::owned_descriptors;
 use crate::request::{
     AssertionOptions, CreationOptions, Descriptor, DescriptorView, GetAssertionView, MakeCredential,
 };
-use cbor_map::{Error, Shape, any_map, bytes, end, members, not_empty, optional, required, sized};
+use ctap_encoding::{MapError, Shape, any_map, bytes, end, members, not_empty, optional, required, sized};
 use ccbor::{MapKey, View};
 use std::alloc::Global;
 
 /// At most 8 descriptors, which may be absent.
-fn exclude_list(alloc: Global, held: Option<View<'_>>) -> Result<Option<Vec<Descriptor>>, Error>
+fn exclude_list(alloc: Global, held: Option<View<'_>>) -> Result<Option<Vec<Descriptor>>, MapError>
     ensures { Gives (λ o. option_map (λ v. map descriptor_content (map descriptor_view v.items)) o) result
         (maybe (read_in (sized 0 8 faults.OverLimit (list_of (record_of descriptor_members)))) (option_map shown held.entry)) }
 {
@@ -42,7 +42,7 @@ fn exclude_list(alloc: Global, held: Option<View<'_>>) -> Result<Option<Vec<Desc
 fn allow_list<'a>(
     alloc: Global,
     held: Option<View<'a>>,
-) -> Result<Option<Vec<DescriptorView<'a>>>, Error>
+) -> Result<Option<Vec<DescriptorView<'a>>>, MapError>
     ensures { Gives (λ o. option_map (λ v. map descriptor_content (map lent_descriptor_view v.items)) o) result
         (maybe (read_in (not_empty faults.InvalidSize (sized 0 8 faults.OverLimit (list_of (record_of descriptor_members))))) (option_map shown held.entry)) }
 {
@@ -86,7 +86,7 @@ fn assertion_options_if_there(held: Option<View<'_>>) -> Result<Option<Assertion
 }
 
 /// The map of a makeCredential request (CTAP 2.1, section 6.1).
-pub fn creation(alloc: Global, value: &View<'_>) -> Result<MakeCredential, Error>
+pub fn creation(alloc: Global, value: &View<'_>) -> Result<MakeCredential, MapError>
     ensures { Gives (λ q. creation_content (creation_view q) None) result
         (option_map forget_creation (read_in (record_of creation_members) (shown value.now))) }
 {
@@ -118,7 +118,7 @@ pub fn creation(alloc: Global, value: &View<'_>) -> Result<MakeCredential, Error
 }
 
 /// The map of a getAssertion request (CTAP 2.1, section 6.2).
-pub fn assertion<'a>(alloc: Global, value: &View<'a>) -> Result<GetAssertionView<'a>, Error>
+pub fn assertion<'a>(alloc: Global, value: &View<'a>) -> Result<GetAssertionView<'a>, MapError>
     ensures { Gives (λ q. assertion_content (lent_get_assertion_view q) None) result
         (option_map forget_assertion (read_in (record_of assertion_members) (shown value.now))) }
 {

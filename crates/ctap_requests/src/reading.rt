@@ -4,9 +4,9 @@ ghost use Rattle.std.specs.Prelude.{◌≡◌, ◌≢◌, ◌∷◌, ◌⊎◌, 
 ghost use Rattle.ccbor.specs.Item.{Item};
 ghost use Rattle.ccbor.specs.Canon.{Canon};
 ghost use Rattle.ccbor.specs.Viewing.{shown};
-ghost use Rattle.cbor_map.specs.Table.{gravest};
-ghost use Rattle.cbor_map.specs.declared.fault.Fault as map_faults;
-ghost use Rattle.ctap_status.specs.declared.error.Error.TheVariants as errors;
+ghost use Rattle.ctap_encoding.specs.Table.{gravest};
+ghost use Rattle.ctap_encoding.specs.declared.fault.Fault as map_faults;
+ghost use Rattle.ctap_encoding.specs.declared.error.Error.TheVariants as errors;
 ghost use Rattle.ctap_requests.specs.Pieces.{rank_of, Alone};
 ghost use Rattle.ctap_requests.specs.Requests.{map_of, make_credential, get_assertion};
 ghost use Rattle.ctap_requests.specs.RequestView.{creation_view, lent_get_assertion_view, request_view, lent_request_view};
@@ -19,10 +19,9 @@ use crate::request::{
     RESET, Request, RequestView,
 };
 use crate::tables::map_fault;
-use cbor_map::Fault;
+use ctap_encoding::{Error, Fault};
 use ccbor::View;
-use ctap_status::Error;
-use ctap_status::status::{
+use ctap_encoding::status::{
     CBOR_UNEXPECTED_TYPE, INVALID_CBOR, INVALID_COMMAND, INVALID_PARAMETER, LIMIT_EXCEEDED,
     MISSING_PARAMETER,
 };
@@ -80,8 +79,8 @@ fn creation_request(alloc: Global, rest: &[u8]) -> Result<MakeCredential, Error>
     };
     match creation(alloc, &value) {
         Ok(request) => Ok(request),
-        Err(cbor_map::Error::Memory) => Err(Error::Memory),
-        Err(cbor_map::Error::Shape) => Err(refusal(alloc, MAKE_CREDENTIAL, &value)),
+        Err(ctap_encoding::MapError::Memory) => Err(Error::Memory),
+        Err(ctap_encoding::MapError::Shape) => Err(refusal(alloc, MAKE_CREDENTIAL, &value)),
     }
 }
 
@@ -97,8 +96,8 @@ fn assertion_request<'a>(alloc: Global, rest: &'a [u8]) -> Result<GetAssertionVi
     };
     match assertion(alloc, &value) {
         Ok(request) => Ok(request),
-        Err(cbor_map::Error::Memory) => Err(Error::Memory),
-        Err(cbor_map::Error::Shape) => Err(refusal(alloc, GET_ASSERTION, &value)),
+        Err(ctap_encoding::MapError::Memory) => Err(Error::Memory),
+        Err(ctap_encoding::MapError::Shape) => Err(refusal(alloc, GET_ASSERTION, &value)),
     }
 }
 

@@ -2,11 +2,11 @@
 
 ghost use Rattle.std.specs.Prelude.{◌≡◌};
 ghost use Rattle.ccbor.specs.View.{view};
-ghost use Rattle.cbor_map.specs.Table.{gravest, record_of};
+ghost use Rattle.ctap_encoding.specs.Table.{gravest, record_of};
 ghost use Rattle.ctap_requests.specs.Requests.{creation_members, assertion_members, map_of};
 
 use crate::request::MAKE_CREDENTIAL;
-use cbor_map::{Fault, Holds, gravest};
+use ctap_encoding::{Fault, Holds, gravest};
 use ccbor::{MapKey, Value};
 
 const DESCRIPTOR: Holds = Holds::Record(&[

@@ -3,8 +3,8 @@
 ghost use Rattle.std.specs.Prelude.{◌≡◌, IfOk, map, option_map, string_bytes};
 ghost use Rattle.ccbor.specs.View.{view};
 ghost use Rattle.ccbor.specs.Item.{text, boolean};
-ghost use Rattle.cbor_map.specs.Table.{record_of, list_of};
-ghost use Rattle.cbor_map.specs.Content.{item_of, number_item};
+ghost use Rattle.ctap_encoding.specs.Table.{record_of, list_of};
+ghost use Rattle.ctap_encoding.specs.Content.{item_of, number_item};
 ghost use Rattle.ctap_requests.specs.Pieces.{is_number, all_numbers, Builds};
 ghost use Rattle.ctap_requests.specs.Entities.{descriptor_members, descriptor_content, rp_members, rp_content, user_members, user_content};
 ghost use Rattle.ctap_requests.specs.Entities.{parameters_members, parameters_content, creation_options_members, creation_options_content};
@@ -14,9 +14,8 @@ ghost use Rattle.ctap_requests.specs.RequestView.{descriptor_view, rp_view, user
 use crate::request::{
     AssertionOptions, CreationOptions, Descriptor, Parameters, RelyingParty, User,
 };
-use cbor_map::{bytes_value, push_if_there, push_member, text_value};
+use ctap_encoding::{Error, bytes_value, push_if_there, push_member, text_value};
 use ccbor::{MapKey, Value};
-use ctap_status::Error;
 use std::alloc::{AllocError, Global};
 
 fn text_if_there(alloc: Global, content: &Option<String>) -> Result<Option<Value>, AllocError>

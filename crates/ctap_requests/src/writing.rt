@@ -4,11 +4,11 @@ ghost use Rattle.std.specs.Prelude.{◌≡◌, ◌++◌, ◌∷◌, ℕ, List, [
 ghost use Rattle.ccbor.specs.Canon.{Canon};
 ghost use Rattle.ccbor.specs.View.{view};
 ghost use Rattle.ctap_requests.specs.Pieces.{all_numbers, Builds, Written};
-ghost use Rattle.cbor_map.specs.Table.{gravest};
+ghost use Rattle.ctap_encoding.specs.Table.{gravest};
 ghost use Rattle.ctap_requests.specs.Requests.{map_of, creation_item, assertion_item, make_credential, get_assertion, RequestOf};
 ghost use Rattle.ctap_requests.specs.RequestView.{parameters_view, creation_view, assertion_view, request_view};
 ghost use Rattle.ctap_requests.specs.Status.{NoStatus};
-ghost use Rattle.ctap_status.specs.declared.error.Error.TheVariants as errors;
+ghost use Rattle.ctap_encoding.specs.declared.error.Error.TheVariants as errors;
 
 use crate::request::{
     GET_ASSERTION, GET_INFO, GET_NEXT_ASSERTION, GetAssertion, MAKE_CREDENTIAL, MakeCredential,
@@ -19,9 +19,8 @@ use crate::values::{
     assertion_options_if_there, creation_options_if_there, descriptors_if_there,
     parameter_list_value, rp_value, user_value,
 };
-use cbor_map::{bytes_value, push_if_there, push_member, text_value};
+use ctap_encoding::{Error, bytes_value, push_if_there, push_member, text_value};
 use ccbor::{MapKey, Value, encode};
-use ctap_status::Error;
 use std::alloc::{AllocError, Global};
 
 /// The value of a makeCredential request's map; `Unfit` where an algorithm's number has no head.

@@ -1,2 +1,2 @@
--- The numbers of refusals; the crate `ctap_status` defines them.
-pub use Rattle.ctap_status.specs.Numbers.{refusal_number}
+-- The numbers of refusals; the crate `ctap_encoding` defines them.
+pub use Rattle.ctap_encoding.specs.Numbers.{refusal_number}

@@ -1,2 +1,2 @@
--- The status bytes; the crate `ctap_status` defines them.
-pub use Rattle.ctap_status.specs.StatusNumbers.{HasReadingStatuses, HasRefusingStatuses}
+-- The status bytes; the crate `ctap_encoding` defines them.
+pub use Rattle.ctap_encoding.specs.StatusNumbers.{HasReadingStatuses, HasRefusingStatuses}

@@ -11,4 +11,4 @@ pub use ctap_requests::{
     MakeCredential, Parameters, RelyingParty, Request, RequestView, User, one_rank, read_request,
     view_request, write_request,
 };
-pub use ctap_status::{Error, status, status_numbers};
+pub use ctap_encoding::{Error, status, status_numbers};

@@ -10,7 +10,7 @@ use Rattle.credential_table.specs.Views.{row_view}
 use Rattle.credential_store.specs.Held.{IsAt, Placed}
 use Rattle.credential_store.specs.declared.finding.Found.{Found}
 use Rattle.kept_site.specs.Calls.{IsFound, TellsDeleted, TellsForgotten, TellsRetired}
-use Rattle.credential_details.specs.Details.{Details, HoldsDetails}
+use Rattle.credential_store.specs.Details.{Details, HoldsDetails}
 use Rattle.kept_site.specs.Private.{DeletesFound, IsFoundAs, RetiresFound, credential_of}
 use Rattle.kept_site.specs.State.{IsHeld, KeptState}
 use Rattle.kept_site.proofs.Held.{details_stay, held_beside, held_removed, held_same, held_set}

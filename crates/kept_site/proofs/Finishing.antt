@@ -17,7 +17,7 @@ use Rattle.credential_store.specs.Held.{HasNone, IsAt, IsWritten, Placed}
 use Rattle.credential_store.specs.declared.finding.Found.{Found}
 use Rattle.verification.specs.Records.{Credential, ExpectedSignIn, RelyingParty}
 use Rattle.kept_site.specs.Calls.{IsFound, IsNotFinished, IsSame, SignsIn, TellsIds, TellsUsed}
-use Rattle.credential_details.specs.Details.{Details, HoldsDetails}
+use Rattle.credential_store.specs.Details.{Details, HoldsDetails}
 use Rattle.kept_site.specs.Private.{IsFoundAs, IsStopped, SignsInAs, TellsHad, judged}
 use Rattle.kept_site.specs.declared.failure.Failure.TheVariants as failures
 use Rattle.kept_site.specs.declared.failure.FinishFailure.{FinishFailure}

@@ -11,7 +11,7 @@ use Rattle.sqlite_trees.specs.View.{View}
 use Rattle.verification.specs.Records.{Credential}
 use Rattle.credential_table.specs.Views.{row_view}
 use Rattle.credential_store.specs.Held.{HasNone, Indexes, IsAt, IsWritten, Placed}
-use Rattle.credential_details.specs.Details.{Details, HoldsDetails, IsDetailed}
+use Rattle.credential_store.specs.Details.{Details, HoldsDetails, IsDetailed}
 use Rattle.credential_store.specs.declared.finding.Found.{Found}
 use Rattle.kept_site.specs.Private.{IsFoundAs}
 use Rattle.kept_site.specs.State.{HoldsSite, IsHeld, KeptState}

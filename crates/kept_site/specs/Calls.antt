@@ -22,7 +22,7 @@ use Rattle.verification.specs.declared.refusal.RegistrationRefusal.{Registration
 use Rattle.verification.specs.declared.refusal.VerificationError.{VerificationError}
 use Rattle.verification.specs.declared.refusal.SignInRefusal.{SignInRefusal}
 use Rattle.credential_store.specs.Held.{HasNone, IsAt, Placed}
-use Rattle.credential_details.specs.Details.{Detail, Details, HoldsDetails, used}
+use Rattle.credential_store.specs.Details.{Detail, Details, HoldsDetails, used}
 use Rattle.sqlite_trees.specs.Tree.{Trees}
 use Rattle.timed_sessions.specs.Timed.{skipped}
 use Rattle.kept_site.specs.State.{KeptState, to_commit}

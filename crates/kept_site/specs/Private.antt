@@ -23,7 +23,7 @@ use Rattle.credential_table.specs.Views.{row_view}
 use Rattle.credential_store.specs.Held.{HasNone, HasTrees, Holds, IsAt, IsWritten, Placed}
 use Rattle.sqlite_trees.specs.declared.store.Shape.TheVariants.{Table}
 use Rattle.credential_store.specs.declared.finding.Found.{Found}
-use Rattle.credential_details.specs.Details.{IsDetailed, used}
+use Rattle.credential_store.specs.Details.{IsDetailed, used}
 use Rattle.kept_site.specs.Calls.{TellsIds}
 use Rattle.kept_site.specs.declared.finish.SignedIn.{SignedIn}
 use Rattle.kept_site.specs.declared.failure.Failure.TheVariants as failures

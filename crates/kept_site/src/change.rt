@@ -7,7 +7,7 @@ ghost use Rattle.sqlite_trees.specs.View.{IsClean};
 ghost use Rattle.verification.specs.Views.{credential_view};
 ghost use Rattle.credential_table.specs.Table as table;
 ghost use Rattle.credential_store.specs.Held.{Placed};
-ghost use Rattle.credential_details.specs.Details.{Details, HoldsDetails};
+ghost use Rattle.credential_store.specs.Details.{Details, HoldsDetails};
 ghost use Rattle.kept_site.specs.State.{IsHeld, IsReady};
 ghost use Rattle.kept_site.specs.Calls.{IsFailure, IsOneSite, TellsDeleted, TellsForgotten, TellsRetired};
 ghost use Rattle.kept_site.specs.Private.{DeletesFound, RetiresFound};

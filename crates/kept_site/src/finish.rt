@@ -7,7 +7,7 @@ ghost use Rattle.verification.specs.SignInAnswers.{IsRefused};
 ghost use Rattle.verification.specs.Views.{assertion_parts_view, credential_view};
 ghost use Rattle.credential_table.specs.Table as table;
 ghost use Rattle.credential_store.specs.Held.{Placed};
-ghost use Rattle.credential_details.specs.Details.{Details, HoldsDetails};
+ghost use Rattle.credential_store.specs.Details.{Details, HoldsDetails};
 ghost use Rattle.ceremony_sessions.specs.Sessions.{sign_in_at};
 ghost use Rattle.timed_sessions.specs.Timed.{after_end};
 ghost use Rattle.kept_site.specs.State.{IsHeld, IsReady};

@@ -5,7 +5,7 @@ ghost use Rattle.sqlite_trees.specs.Tree.{Trees};
 ghost use Rattle.sqlite_trees.specs.View.{IsClean};
 ghost use Rattle.credential_table.specs.Views.{row_view};
 ghost use Rattle.credential_store.specs.Held.{Placed};
-ghost use Rattle.credential_details.specs.Details.{Details, HoldsDetails, detail_view};
+ghost use Rattle.credential_store.specs.Details.{Details, HoldsDetails, detail_view};
 ghost use Rattle.kept_site.specs.State.{IsHeld};
 ghost use Rattle.kept_site.specs.Calls.{IsFailure, IsFound, IsSame, TellsDetail};
 ghost use Rattle.kept_site.specs.Private.{credential_of as credential_in};
@@ -13,8 +13,7 @@ ghost use Rattle.kept_site.specs.declared.failure.Failure.TheVariants as failure
 
 use crate::failure::Failure;
 use crate::kept::KeptSite;
-use credential_details::Detail;
-use credential_store::Found;
+use credential_store::{Detail, Found};
 use credential_table::Row;
 use sqlite_trees::store::Store;
 

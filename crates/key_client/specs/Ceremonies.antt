@@ -1,6 +1,6 @@
 -- What is next in a ceremony, and why it ends.
 use Rattle.std.specs.Prelude.{◌≡◌, ℕ, ◌+◌, ◌<◌, ◌≤◌, List, [], ◌∷◌, length, Bool, true, false, Option, Some, None, unwrap_or, codes, ◌⊎◌}
-use Rattle.ctap_status.specs.declared.error.Error.{Error}
+use Rattle.ctap_encoding.specs.declared.error.Error.{Error}
 use Rattle.key_replies.specs.Replies.{Info, TellsInfo}
 use Rattle.pin_messages.specs.Commands.{PublicPoint}
 use Rattle.pin_messages.specs.Replies.{IsDone, IsNotDone}

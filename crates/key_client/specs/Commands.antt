@@ -1,8 +1,8 @@
 -- The commands of a registration and of a sign-in (CTAP 2.1, sections 6.1 and 6.2), and what the replies tell.
 use Rattle.std.specs.Prelude.{◌≡◌, ℕ, ◌+◌, ◌-◌, ◌<◌, ◌≤◌, ◌==◌, List, [], ◌∷◌, ◌++◌, map, length, take, drop, slice_get, Option, Some, None, option_map, unwrap_or, ◌⊎◌, Vec, if◌then◌else◌}
 use Rattle.std.specs.Global.{Global}
-use Rattle.cbor_map.specs.Content.{item_of}
-use Rattle.cbor_map.specs.Table.{record_of}
+use Rattle.ctap_encoding.specs.Content.{item_of}
+use Rattle.ctap_encoding.specs.Table.{record_of}
 use Rattle.key_replies.specs.ReplyView.{assertion_view, creation_view}
 use Rattle.key_replies.specs.Replies.{IsReply, Info, TellsAssertion, TellsCreation}
 use Rattle.key_replies.specs.Replies.{Assertion as Signed}

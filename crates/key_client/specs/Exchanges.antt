@@ -2,7 +2,7 @@
 use Rattle.std.specs.Prelude.{◌≡◌, ℕ, List, slice_get, Some, None, ◌⊎◌, Vec}
 use Rattle.std.specs.Global.{Global}
 use Rattle.ccbor.specs.Item.{Item}
-use Rattle.ctap_status.specs.declared.error.Error.{Error}
+use Rattle.ctap_encoding.specs.declared.error.Error.{Error}
 use Rattle.key_replies.specs.Replies.{IsReply, Refused}
 use Rattle.pin_protocols.specs.declared.stop.Stop.{Stop}
 use Rattle.key_client.specs.Facts.{Facts}

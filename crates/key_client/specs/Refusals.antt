@@ -1,7 +1,7 @@
 -- By which name a ceremony ends.
 use Rattle.std.specs.Prelude.{ℕ, ◌==◌, if◌then◌else◌}
-use Rattle.ctap_status.specs.declared.error.Error.{Error}
-use Rattle.ctap_status.specs.declared.error.Error.TheVariants as errors
+use Rattle.ctap_encoding.specs.declared.error.Error.{Error}
+use Rattle.ctap_encoding.specs.declared.error.Error.TheVariants as errors
 use Rattle.key_requests.specs.declared.error.RequestError.{RequestError}
 use Rattle.key_requests.specs.declared.error.RequestError.TheVariants as requests
 use Rattle.pin_protocols.specs.declared.stop.Stop.{Stop}

@@ -5,7 +5,7 @@ ghost use Rattle.key_client.specs.Names.{pin_name, refusal_name, request_name};
 ghost use Rattle.key_client.specs.Refusals.{of_reply, of_request, of_status};
 ghost use Rattle.key_client.specs.declared.refusal.Refusal.TheVariants as refusals;
 
-use ctap_status::Error;
+use ctap_encoding::Error;
 use key_requests::RequestError;
 use pin_protocols::PinFault;
 use std::alloc::AllocError;

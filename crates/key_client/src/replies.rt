@@ -19,7 +19,7 @@ use crate::refusal::{Refusal, of_reply};
 use crate::step::Step;
 use crate::told::is_fido2;
 use crate::wish::Known;
-use ctap_status::Error;
+use ctap_encoding::Error;
 use key_replies::{KeyInfo, read_info};
 use key_requests::{GET_INFO, RequestError};
 use pin_messages::{PinCommand, PinReply, Point, read_pin_reply, write_pin};

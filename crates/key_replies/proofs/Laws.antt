@@ -5,14 +5,14 @@ use Rattle.ccbor.specs.Item.{Item}
 use Rattle.ccbor.specs.Canon.{Canon}
 use Rattle.ccbor.proofs.Decoding.{same_item}
 use Rattle.ccbor.proofs.Numbers.{bind_some}
-use Rattle.cbor_map.specs.Table.{record_of}
-use Rattle.cbor_map.specs.Content.{Contents}
-use Rattle.cbor_map.specs.Reading.{Fails}
-use Rattle.cbor_map.specs.declared.error.Error.{Error as MapError}
-use Rattle.cbor_map.specs.declared.error.Error.TheVariants as refusals
-use Rattle.ctap_status.specs.Numbers.{of_map}
-use Rattle.ctap_status.specs.declared.error.Error.{Error}
-use Rattle.ctap_status.specs.declared.error.Error.TheVariants as errors
+use Rattle.ctap_encoding.specs.Table.{record_of}
+use Rattle.ctap_encoding.specs.Content.{Contents}
+use Rattle.ctap_encoding.specs.Reading.{Fails}
+use Rattle.ctap_encoding.specs.declared.map_error.MapError.{MapError}
+use Rattle.ctap_encoding.specs.declared.map_error.MapError.TheVariants as refusals
+use Rattle.ctap_encoding.specs.Numbers.{of_map}
+use Rattle.ctap_encoding.specs.declared.error.Error.{Error}
+use Rattle.ctap_encoding.specs.declared.error.Error.TheVariants as errors
 use Rattle.key_replies.specs.Telling.{Tells}
 use Rattle.key_replies.specs.Replies.{User, user_members, user_content, credential_members, Parameters, parameters_members, parameters_content}
 use Rattle.key_replies.specs.Replies.{Creation, creation_members, creation_content, TellsCreation, Assertion, assertion_members, assertion_content, IsCredential}

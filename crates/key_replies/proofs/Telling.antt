@@ -9,10 +9,10 @@ use Rattle.ccbor.specs.View.{pairs_of}
 use Rattle.ccbor.specs.Access.{member, is_same_key}
 use Rattle.ccbor.proofs.Numbers.{bind_some}
 use Rattle.ccbor.proofs.AccessLemmas.{same_key}
-use Rattle.cbor_map.specs.Table.{Holds, a_number, some_bytes, a_text, a_truth, any_map, that_text, unsigned, truths, list_of, record_of, not_empty}
-use Rattle.cbor_map.specs.Table.{sized, Members, no_more, listed, size_of}
-use Rattle.cbor_map.specs.Content.{Content, Contents, number_item, truth_pair}
-use Rattle.cbor_map.specs.Reading.{checked, is_within, each_truth, each_in, maybe}
+use Rattle.ctap_encoding.specs.Table.{Holds, a_number, some_bytes, a_text, a_truth, any_map, that_text, unsigned, truths, list_of, record_of, not_empty}
+use Rattle.ctap_encoding.specs.Table.{sized, Members, no_more, listed, size_of}
+use Rattle.ctap_encoding.specs.Content.{Content, Contents, number_item, truth_pair}
+use Rattle.ctap_encoding.specs.Reading.{checked, is_within, each_truth, each_in, maybe}
 use Rattle.key_replies.specs.Telling.{EachTells, Has, TellsMember, Tells, TellsMembers}
 use Rattle.key_replies.specs.Reading.{held_in, open_in, open_members}
 

@@ -1,8 +1,8 @@
 -- What the private functions of reading are proved against; no public clause cites it.
 use Rattle.std.specs.Prelude.{false, map, option_map}
 use Rattle.ccbor.specs.Item as of
-use Rattle.cbor_map.specs.Table.{a_text, unsigned, list_of, record_of, Members, no_more, listed}
-use Rattle.cbor_map.specs.Content.{Contents}
+use Rattle.ctap_encoding.specs.Table.{a_text, unsigned, list_of, record_of, Members, no_more, listed}
+use Rattle.ctap_encoding.specs.Content.{Contents}
 use Rattle.key_replies.specs.declared.reply.AssertionMembers.{AssertionMembers}
 use Rattle.key_replies.specs.declared.reply.InfoFeatures.{InfoFeatures}
 use Rattle.key_replies.specs.declared.reply.InfoLimits.{InfoLimits}

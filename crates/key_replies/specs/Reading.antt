@@ -4,10 +4,10 @@ use Rattle.std.specs.Prelude.{ℕ, List, Bool, true, false, nat_lt, Option, Some
 use Rattle.ccbor.specs.Item.{Item}
 use Rattle.ccbor.specs.Reading.{◌>>=◌}
 use Rattle.ccbor.specs.Access.{member, items_in, pairs_in}
-use Rattle.cbor_map.specs.Table.{Holds, list_of, record_of, not_empty, sized, Members, no_more, listed, size_of}
-use Rattle.cbor_map.specs.Content.{Content, Contents, Member}
+use Rattle.ctap_encoding.specs.Table.{Holds, list_of, record_of, not_empty, sized, Members, no_more, listed, size_of}
+use Rattle.ctap_encoding.specs.Content.{Content, Contents, Member}
 use Rattle.key_replies.specs.Replies.{User, user_members, Assertion, assertion_members}
-use Rattle.cbor_map.specs.Reading.{checked, is_within, each_in, maybe, read_in}
+use Rattle.ctap_encoding.specs.Reading.{checked, is_within, each_in, maybe, read_in}
 
 -- what is read of a value that must be there
 abbrev pub held_in : {A : Type 0} → (Item → Option A) → Option Item → Option A

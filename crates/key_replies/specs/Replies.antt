@@ -4,12 +4,12 @@ use Rattle.std.specs.Prelude.{◌≡◌, ◌≢◌, ℕ, List, [], ◌∷◌, ma
 use Rattle.ccbor.specs.Item as of
 use Rattle.ccbor.specs.Item.{Item}
 use Rattle.ccbor.specs.Canon.{Canon}
-use Rattle.cbor_map.specs.Table.{a_number, some_bytes, a_text, a_truth, any_map, that_text, unsigned, truths, list_of, record_of, sized, Members}
-use Rattle.cbor_map.specs.Table.{no_more, listed}
-use Rattle.cbor_map.specs.Content.{Contents}
-use Rattle.cbor_map.specs.declared.fault.Fault.TheVariants as faults
-use Rattle.ctap_status.specs.declared.error.Error.{Error}
-use Rattle.ctap_status.specs.declared.error.Error.TheVariants as errors
+use Rattle.ctap_encoding.specs.Table.{a_number, some_bytes, a_text, a_truth, any_map, that_text, unsigned, truths, list_of, record_of, sized, Members}
+use Rattle.ctap_encoding.specs.Table.{no_more, listed}
+use Rattle.ctap_encoding.specs.Content.{Contents}
+use Rattle.ctap_encoding.specs.declared.fault.Fault.TheVariants as faults
+use Rattle.ctap_encoding.specs.declared.error.Error.{Error}
+use Rattle.ctap_encoding.specs.declared.error.Error.TheVariants as errors
 use Rattle.key_replies.specs.Telling.{Tells}
 
 -- ---- parts

@@ -5,9 +5,9 @@ use Rattle.ccbor.specs.Item as of
 use Rattle.ccbor.specs.Item.{Item, Items, no_items, item, Pairs}
 use Rattle.ccbor.specs.View.{pairs_of}
 use Rattle.ccbor.specs.Access.{member}
-use Rattle.cbor_map.specs.Table.{Holds, a_number, some_bytes, a_text, a_truth, any_map, that_text, unsigned, truths, list_of, record_of, not_empty}
-use Rattle.cbor_map.specs.Table.{sized, Members, no_more, listed, size_of}
-use Rattle.cbor_map.specs.Content.{Content, Contents, Member, number_item, truth_pair}
+use Rattle.ctap_encoding.specs.Table.{Holds, a_number, some_bytes, a_text, a_truth, any_map, that_text, unsigned, truths, list_of, record_of, not_empty}
+use Rattle.ctap_encoding.specs.Table.{sized, Members, no_more, listed, size_of}
+use Rattle.ctap_encoding.specs.Content.{Content, Contents, Member, number_item, truth_pair}
 
 -- each item tells the content at its place, and there are as many of both
 abbrev pub EachTells : {A : Type 0} → (A → Item → Type 0) → List A → Items → Type 0

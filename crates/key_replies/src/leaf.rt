@@ -3,12 +3,12 @@
 ghost use Rattle.std.specs.Prelude.{◌≡◌, option_map};
 ghost use Rattle.ccbor.specs.Access.{bool_in, bytes_in, key_item, member, text_in};
 ghost use Rattle.ccbor.specs.Viewing.{shown};
-ghost use Rattle.cbor_map.specs.Reading.{Yields, maybe, number_in, read_in};
-ghost use Rattle.cbor_map.specs.Table.{any_map, sized, some_bytes, that_text, unsigned};
-ghost use Rattle.cbor_map.specs.declared.fault.Fault.TheVariants as faults;
+ghost use Rattle.ctap_encoding.specs.Reading.{Yields, maybe, number_in, read_in};
+ghost use Rattle.ctap_encoding.specs.Table.{any_map, sized, some_bytes, that_text, unsigned};
+ghost use Rattle.ctap_encoding.specs.declared.fault.Fault.TheVariants as faults;
 ghost use Rattle.key_replies.specs.Reading.{held_in, open_in};
 
-use cbor_map::{Shape, any_map, bytes, number, sized, that_text, truth, unsigned};
+use ctap_encoding::{Shape, any_map, bytes, number, sized, that_text, truth, unsigned};
 use ccbor::{MapKey, View};
 
 /// The value at a key, which must be there.

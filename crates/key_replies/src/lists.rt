@@ -3,19 +3,19 @@
 ghost use Rattle.std.specs.Prelude.{◌≡◌, map, option_map};
 ghost use Rattle.ccbor.specs.Access.{key_item, member};
 ghost use Rattle.ccbor.specs.Viewing.{shown};
-ghost use Rattle.cbor_map.specs.Table.{a_text, list_of, record_of, truths, unsigned};
-ghost use Rattle.cbor_map.specs.Reading.{Gives, Yields, maybe, named_truth};
+ghost use Rattle.ctap_encoding.specs.Table.{a_text, list_of, record_of, truths, unsigned};
+ghost use Rattle.ctap_encoding.specs.Reading.{Gives, Yields, maybe, named_truth};
 ghost use Rattle.key_replies.specs.Reading.{held_in, open_in};
 ghost use Rattle.key_replies.specs.Replies.{parameters_content, parameters_members};
 ghost use Rattle.key_replies.specs.ReplyView.{parameters_view};
 
 use crate::leaf::{number_at, text, text_at, value_at};
 use crate::reply::ParametersView;
-use cbor_map::{Error, Shape, any_map, items, members, truth, unsigned};
+use ctap_encoding::{MapError, Shape, any_map, items, members, truth, unsigned};
 use ccbor::{MapKey, View};
 use std::alloc::Global;
 
-fn texts<'a>(alloc: Global, value: &View<'a>) -> Result<Vec<&'a str>, Error>
+fn texts<'a>(alloc: Global, value: &View<'a>) -> Result<Vec<&'a str>, MapError>
     ensures { Gives (λ v. map (λ s. s.now) v.items) result (open_in (list_of a_text) (shown value.now)) }
 {
     let mut rest = items(value)?;
@@ -28,7 +28,7 @@ fn texts<'a>(alloc: Global, value: &View<'a>) -> Result<Vec<&'a str>, Error>
 }
 
 /// The texts at a key.
-pub fn texts_at<'a>(alloc: Global, value: &View<'a>, key: MapKey<'_>) -> Result<Vec<&'a str>, Error>
+pub fn texts_at<'a>(alloc: Global, value: &View<'a>, key: MapKey<'_>) -> Result<Vec<&'a str>, MapError>
     ensures { Gives (λ v. map (λ s. s.now) v.items) result
         (held_in (open_in (list_of a_text)) (member (key_item key.entry) (shown value.now))) }
 {
@@ -41,7 +41,7 @@ pub fn texts_if_there<'a>(
     alloc: Global,
     value: &View<'a>,
     key: MapKey<'_>,
-) -> Result<Option<Vec<&'a str>>, Error>
+) -> Result<Option<Vec<&'a str>>, MapError>
     ensures { Gives (λ o. option_map (λ v. map (λ s. s.now) v.items) o) result
         (maybe (open_in (list_of a_text)) (member (key_item key.entry) (shown value.now))) }
 {
@@ -51,7 +51,7 @@ pub fn texts_if_there<'a>(
     }
 }
 
-fn numbers(alloc: Global, value: &View<'_>) -> Result<Vec<u64>, Error>
+fn numbers(alloc: Global, value: &View<'_>) -> Result<Vec<u64>, MapError>
     ensures { Gives (λ v. v.items) result (open_in (list_of (unsigned 0)) (shown value.now)) }
 {
     let mut rest = items(value)?;
@@ -68,7 +68,7 @@ pub fn numbers_if_there(
     alloc: Global,
     value: &View<'_>,
     key: MapKey<'_>,
-) -> Result<Option<Vec<u64>>, Error>
+) -> Result<Option<Vec<u64>>, MapError>
     ensures { Gives (λ o. option_map (λ v. v.items) o) result
         (maybe (open_in (list_of (unsigned 0))) (member (key_item key.entry) (shown value.now))) }
 {
@@ -86,7 +86,7 @@ fn named_truth<'a>(name: &View<'a>, value: &View<'a>) -> Result<(&'a str, bool),
     Ok((name, truth))
 }
 
-fn truths<'a>(alloc: Global, value: &View<'a>) -> Result<Vec<(&'a str, bool)>, Error>
+fn truths<'a>(alloc: Global, value: &View<'a>) -> Result<Vec<(&'a str, bool)>, MapError>
     ensures { Gives (λ v. map (λ o. (o.0.now, o.1)) v.items) result (open_in truths (shown value.now)) }
 {
     let mut rest = members(value)?;
@@ -103,7 +103,7 @@ pub fn truths_if_there<'a>(
     alloc: Global,
     value: &View<'a>,
     key: MapKey<'_>,
-) -> Result<Option<Vec<(&'a str, bool)>>, Error>
+) -> Result<Option<Vec<(&'a str, bool)>>, MapError>
     ensures { Gives (λ o. option_map (λ v. map (λ p. (p.0.now, p.1)) v.items) o) result
         (maybe (open_in truths) (member (key_item key.entry) (shown value.now))) }
 {
@@ -123,7 +123,7 @@ fn parameters<'a>(value: &View<'a>) -> Result<ParametersView<'a>, Shape>
     Ok(ParametersView { alg, kind })
 }
 
-fn parameter_list<'a>(alloc: Global, value: &View<'a>) -> Result<Vec<ParametersView<'a>>, Error>
+fn parameter_list<'a>(alloc: Global, value: &View<'a>) -> Result<Vec<ParametersView<'a>>, MapError>
     ensures { Gives (λ v. map parameters_content (map parameters_view v.items)) result
         (open_in (list_of (record_of parameters_members)) (shown value.now)) }
 {
@@ -141,7 +141,7 @@ pub fn parameters_if_there<'a>(
     alloc: Global,
     value: &View<'a>,
     key: MapKey<'_>,
-) -> Result<Option<Vec<ParametersView<'a>>>, Error>
+) -> Result<Option<Vec<ParametersView<'a>>>, MapError>
     ensures { Gives (λ o. option_map (λ v. map parameters_content (map parameters_view v.items)) o) result
         (maybe (open_in (list_of (record_of parameters_members))) (member (key_item key.entry) (shown value.now))) }
 {

@@ -3,8 +3,8 @@
 ghost use Rattle.std.specs.Prelude.{◌≡◌, IfOk, option_map};
 ghost use Rattle.ccbor.specs.Access.{key_item, member};
 ghost use Rattle.ccbor.specs.Viewing.{shown};
-ghost use Rattle.cbor_map.specs.Table.{record_of};
-ghost use Rattle.cbor_map.specs.Reading.{Gives, Yields, maybe};
+ghost use Rattle.ctap_encoding.specs.Table.{record_of};
+ghost use Rattle.ctap_encoding.specs.Reading.{Gives, Yields, maybe};
 ghost use Rattle.key_replies.specs.Reading.{assertion_in, open_in, open_members, or_listed};
 ghost use Rattle.key_replies.specs.Replies.{assertion_members, creation_content, creation_members, credential_content, credential_members};
 ghost use Rattle.key_replies.specs.Replies.{info_content, info_members, user_content, user_members};
@@ -21,7 +21,7 @@ use crate::lists::{
 use crate::reply::{
     AssertionMembers, InfoFeatures, InfoLimits, KeyAssertion, KeyCreation, KeyInfo, UserView,
 };
-use cbor_map::{Error, Shape, any_map};
+use ctap_encoding::{MapError, Shape, any_map};
 use ccbor::{MapKey, View};
 use std::alloc::{AllocError, Global};
 
@@ -100,7 +100,7 @@ fn credential_of<'a>(told: Option<&'a [u8]>, listed: Option<&'a [u8]>) -> Result
 }
 
 /// A reply to makeCredential (section 6.1.2), copied out.
-pub fn creation(alloc: Global, value: &View<'_>) -> Result<KeyCreation, Error>
+pub fn creation(alloc: Global, value: &View<'_>) -> Result<KeyCreation, MapError>
     ensures { Gives (λ r. creation_content (creation_view r)) result
         (open_in (record_of creation_members) (shown value.now)) }
 {
@@ -160,7 +160,7 @@ pub fn assertion<'a>(value: &View<'a>, listed: Option<&'a [u8]>) -> Result<KeyAs
 }
 
 /// The last members of a reply to getInfo: those from transports on.
-fn info_features<'a>(alloc: Global, value: &View<'a>) -> Result<InfoFeatures<'a>, Error>
+fn info_features<'a>(alloc: Global, value: &View<'a>) -> Result<InfoFeatures<'a>, MapError>
     ensures { Gives (λ r. feature_content r) result (open_members feature_members (shown value.now)) }
 {
     let transports = texts_if_there(alloc, value, MapKey::Uint(9))?;
@@ -178,7 +178,7 @@ fn info_features<'a>(alloc: Global, value: &View<'a>) -> Result<InfoFeatures<'a>
 }
 
 /// The members of a reply to getInfo behind its options.
-fn info_limits<'a>(alloc: Global, value: &View<'a>) -> Result<InfoLimits<'a>, Error>
+fn info_limits<'a>(alloc: Global, value: &View<'a>) -> Result<InfoLimits<'a>, MapError>
     ensures { Gives (λ r. limit_content r) result (open_members limit_members (shown value.now)) }
 {
     let max_msg_size = unsigned_if_there(value, MapKey::Uint(5), 0)?;
@@ -196,7 +196,7 @@ fn info_limits<'a>(alloc: Global, value: &View<'a>) -> Result<InfoLimits<'a>, Er
 }
 
 /// A reply to getInfo (section 6.4).
-pub fn info<'a>(alloc: Global, value: &View<'a>) -> Result<KeyInfo<'a>, Error>
+pub fn info<'a>(alloc: Global, value: &View<'a>) -> Result<KeyInfo<'a>, MapError>
     ensures { Gives (λ r. info_content (info_view r)) result
         (open_in (record_of info_members) (shown value.now)) }
 {

@@ -4,15 +4,15 @@ ghost use Rattle.std.specs.Prelude.{◌≡◌, ◌≢◌, ◌∷◌, IfOk, IfErr
 ghost use Rattle.ccbor.specs.Item.{Item};
 ghost use Rattle.ccbor.specs.Canon.{Canon};
 ghost use Rattle.ccbor.specs.Viewing.{shown};
-ghost use Rattle.ctap_status.specs.declared.error.Error.TheVariants as errors;
+ghost use Rattle.ctap_encoding.specs.declared.error.Error.TheVariants as errors;
 ghost use Rattle.key_replies.specs.Replies.{Assertion, Creation, HasNoValue, HasValue, Info, IsReply, Refused, ReplyOf, TellsAssertion, TellsCreation, TellsInfo};
 ghost use Rattle.key_replies.specs.ReplyView.{assertion_view, creation_view, info_view};
 
 use crate::maps::{assertion, creation, info};
 use crate::reply::{KeyAssertion, KeyCreation, KeyInfo};
 use ccbor::View;
-use ctap_status::Error;
-use ctap_status::status::OK;
+use ctap_encoding::Error;
+use ctap_encoding::status::OK;
 use std::alloc::Global;
 
 /// What follows status 0.

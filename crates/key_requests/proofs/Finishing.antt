@@ -3,9 +3,9 @@ use Rattle.std.proofs.Common.{◌≡◌, ◌<◌, ◌≤◌, ℕ, List, ◌∷�
 use Rattle.std.specs.Prelude.{IsErrOf}
 use Rattle.ccbor.specs.Item.{Item}
 use Rattle.ccbor.specs.Canon.{Canon}
-use Rattle.cbor_map.specs.Table.{Members, gravest, record_of}
-use Rattle.cbor_map.specs.Content.{Contents, item_of}
-use Rattle.cbor_map.specs.declared.fault.Fault.{Fault}
+use Rattle.ctap_encoding.specs.Table.{Members, gravest, record_of}
+use Rattle.ctap_encoding.specs.Content.{Contents, item_of}
+use Rattle.ctap_encoding.specs.declared.fault.Fault.{Fault}
 use Rattle.ctap_requests.specs.Entities.{CreationFlags}
 use Rattle.key_replies.specs.Replies.{Info}
 use Rattle.pin_messages.specs.Commands.{MessageOf}

@@ -2,8 +2,8 @@
 -- (minPinLength) and 12.5 (hmac-secret).
 use Rattle.std.specs.Prelude.{ℕ, ◌==◌, List, Bool, true, false, Option, Some, None, option_map, codes, if◌then◌else◌}
 use Rattle.ccbor.specs.Item as of
-use Rattle.cbor_map.specs.Table.{Members, no_more, listed, some_bytes, a_truth, unsigned, record_of}
-use Rattle.cbor_map.specs.Content.{Contents}
+use Rattle.ctap_encoding.specs.Table.{Members, no_more, listed, some_bytes, a_truth, unsigned, record_of}
+use Rattle.ctap_encoding.specs.Content.{Contents}
 use Rattle.pin_messages.specs.Commands.{PublicPoint, key_members, point_content}
 
 -- what is asked for is written as true

@@ -2,9 +2,9 @@
 use Rattle.std.specs.Prelude.{ℕ, List, [], ◌∷◌, map, true, false, Bool, Option, Some, None, option_map, ℤ, codes}
 use Rattle.ccbor.specs.Item as of
 use Rattle.ccbor.specs.Item.{Item}
-use Rattle.cbor_map.specs.Table.{Members, no_more, listed, some_bytes, a_text, any_map, unsigned, list_of, record_of, sized}
-use Rattle.cbor_map.specs.Content.{Contents}
-use Rattle.cbor_map.specs.declared.fault.Fault.TheVariants as faults
+use Rattle.ctap_encoding.specs.Table.{Members, no_more, listed, some_bytes, a_text, any_map, unsigned, list_of, record_of, sized}
+use Rattle.ctap_encoding.specs.Content.{Contents}
+use Rattle.ctap_encoding.specs.declared.fault.Fault.TheVariants as faults
 use Rattle.ctap_requests.specs.Entities.{RpEntity, rp_members, rp_content, UserEntity, user_members, user_content, parameters_members, parameters_content}
 use Rattle.ctap_requests.specs.Entities.{CreationFlags, creation_options_members, creation_options_content}
 use Rattle.key_replies.specs.Replies.{credential_members, credential_content}

@@ -3,12 +3,12 @@
 ghost use Rattle.std.specs.Prelude.{◌≡◌, IfOk, option_map};
 ghost use Rattle.ccbor.specs.Item.{boolean, uint};
 ghost use Rattle.ccbor.specs.View.{view};
-ghost use Rattle.cbor_map.specs.Content.{item_of};
-ghost use Rattle.cbor_map.specs.Table.{record_of};
+ghost use Rattle.ctap_encoding.specs.Content.{item_of};
+ghost use Rattle.ctap_encoding.specs.Table.{record_of};
 ghost use Rattle.key_requests.specs.Extensions.{assertion_inputs, assertion_inputs_content, creation_inputs, creation_inputs_content, named_protocol, secret_content, secret_members, wanted};
 ghost use Rattle.key_requests.specs.ExtensionView.{assertion_inputs_view, creation_inputs_view, secret_view};
 
-use cbor_map::{bytes_value, push_if_there, push_member};
+use ctap_encoding::{bytes_value, push_if_there, push_member};
 use ccbor::{MapKey, Value};
 use pin_messages::{Point, bytes_if_there, number_if_there, point_value};
 use std::alloc::{AllocError, Global};

@@ -2,10 +2,10 @@
 
 ghost use Rattle.std.specs.Prelude.{◌≡◌};
 ghost use Rattle.ccbor.specs.View.{view};
-ghost use Rattle.cbor_map.specs.Table.{gravest, record_of};
+ghost use Rattle.ctap_encoding.specs.Table.{gravest, record_of};
 ghost use Rattle.key_requests.specs.Requests.{assertion_members, creation_members};
 
-use cbor_map::{Fault, Holds, gravest};
+use ctap_encoding::{Fault, Holds, gravest};
 use ccbor::{MapKey, Value};
 
 const HASH: Holds = Holds::Sized(32, 32, Fault::InvalidSize, &Holds::Bytes);

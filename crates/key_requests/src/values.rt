@@ -3,15 +3,15 @@
 ghost use Rattle.std.specs.Prelude.{◌≡◌, IfOk, map, option_map};
 ghost use Rattle.ccbor.specs.Item.{boolean};
 ghost use Rattle.ccbor.specs.View.{view};
-ghost use Rattle.cbor_map.specs.Content.{item_of, number_item};
-ghost use Rattle.cbor_map.specs.Table.{list_of, record_of};
+ghost use Rattle.ctap_encoding.specs.Content.{item_of, number_item};
+ghost use Rattle.ctap_encoding.specs.Table.{list_of, record_of};
 ghost use Rattle.ctap_requests.specs.Entities.{creation_options_content, creation_options_members, parameters_members, rp_content, rp_members, user_content, user_members};
 ghost use Rattle.key_replies.specs.Replies.{credential_content, credential_members};
 ghost use Rattle.key_requests.specs.Requests.{algorithm_content, descriptors, options_content};
 ghost use Rattle.key_requests.specs.RequestView.{options_view, rp_view, user_view};
 
 use crate::request::{Options, RelyingParty, User};
-use cbor_map::{bytes_value, push_if_there, push_member, text_value};
+use ctap_encoding::{bytes_value, push_if_there, push_member, text_value};
 use ccbor::{MapKey, Value};
 use pin_messages::text_if_there;
 use std::alloc::{AllocError, Global};

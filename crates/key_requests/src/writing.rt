@@ -3,8 +3,8 @@
 ghost use Rattle.std.specs.Prelude.{◌≡◌, ◌⊎◌, ◌∷◌, ◌<◌, ◌≤◌, ℕ, List, IfOk, IfErr, IsErrOf, None, length, map, option_map};
 ghost use Rattle.ccbor.specs.Canon.{Canon};
 ghost use Rattle.ccbor.specs.View.{view};
-ghost use Rattle.cbor_map.specs.Content.{item_of};
-ghost use Rattle.cbor_map.specs.Table.{record_of};
+ghost use Rattle.ctap_encoding.specs.Content.{item_of};
+ghost use Rattle.ctap_encoding.specs.Table.{record_of};
 ghost use Rattle.key_replies.specs.ReplyView.{info_view};
 ghost use Rattle.key_requests.specs.Limits.{IsRefused, IsWritten, max_message};
 ghost use Rattle.key_requests.specs.Pieces.{Finishes};
@@ -21,7 +21,7 @@ use crate::tables::{assertion_fault, creation_fault};
 use crate::values::{
     algorithms_value, descriptors_if_there, options_if_there, rp_value, user_value,
 };
-use cbor_map::{Fault, bytes_value, push_if_there, push_member, text_value};
+use ctap_encoding::{Fault, bytes_value, push_if_there, push_member, text_value};
 use ccbor::{MapKey, Value, encode};
 use key_replies::KeyInfo;
 use pin_messages::{bytes_if_there, number_if_there};

@@ -78,7 +78,7 @@ fn write_refusal(error: &Error<SignInRefusal>, out: &mut String) -> Result<(), A
         Error::Incomplete => writeln!(out, "refused Incomplete"),
         Error::Dead { index, kind } => writeln!(out, "refused Dead {index} {kind:?}"),
         Error::DeviceError(code) => writeln!(out, "refused DeviceError {code:02x}"),
-        Error::Reply(ctap_status::Error::Refused(code)) => writeln!(
+        Error::Reply(ctap_encoding::Error::Refused(code)) => writeln!(
             out,
             "refused Status {code:02x}"
         ),

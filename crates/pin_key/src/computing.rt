@@ -10,8 +10,8 @@ ghost use Rattle.pin_key.specs.Granting.{IsGranted};
 
 use crate::looking::{CLIENT_PIN, command_of};
 use client_pin::{ClientPin, Grant, PinStep, PinWords};
-use ctap_status::Error;
-use ctap_status::status::OTHER;
+use ctap_encoding::Error;
+use ctap_encoding::status::OTHER;
 use pin_protocols::{Answers, Ask};
 use pin_requests::{ProtectedRequest, protected_request, read_param, read_pin};
 use std::alloc::{AllocError, Global};

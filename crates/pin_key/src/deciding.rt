@@ -9,8 +9,8 @@ use crate::computing::status_alone;
 use crate::looking::{GET_INFO, Look, RESET, command_of, look_at};
 use authenticator::{Authenticator, Begun, Consent, HandedKeys, PublicKeys, Words};
 use client_pin::ClientPin;
-use ctap_status::Error;
-use ctap_status::status::{OK, OPERATION_DENIED, OTHER};
+use ctap_encoding::Error;
+use ctap_encoding::status::{OK, OPERATION_DENIED, OTHER};
 use pin_requests::{bare_request, protected_request, read_param, write_key_info};
 use std::alloc::{AllocError, Global};
 

@@ -4,8 +4,8 @@ ghost use Rattle.std.specs.Prelude.{◌≡◌, option_map};
 ghost use Rattle.pin_requests.specs.ProtectedView.{flags_view, protection_view};
 ghost use Rattle.pin_key.specs.Looking.{IsLook, LooksAtParam, asks_verification, command_of, look_of};
 
-use ctap_status::Error;
-use ctap_status::status::{INVALID_OPTION, OTHER};
+use ctap_encoding::Error;
+use ctap_encoding::status::{INVALID_OPTION, OTHER};
 use pin_requests::{OptionsAsked, ParamView, read_param};
 
 /// The command byte of authenticatorMakeCredential.

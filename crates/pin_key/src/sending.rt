@@ -6,7 +6,7 @@ ghost use Rattle.hidlink.specs.Ranks.{IsWorking};
 ghost use Rattle.pin_key.specs.Sending.{IsAnswered};
 
 use crate::error::PinKeyError;
-use ctap_status::status::OTHER;
+use ctap_encoding::status::OTHER;
 use hidframe::Packet;
 use hidframe::ctaphid::MAX_PAYLOAD_SIZE;
 use hidlink::Device;

@@ -3,8 +3,8 @@ use Rattle.std.proofs.Common.{◌≡◌, ◌++◌, ℕ, false, List, [], ◌∷�
 use Rattle.ccbor.specs.Item.{Item, Pairs, no_pairs, pair, uint}
 use Rattle.ccbor.specs.View.{pairs_of, view}
 use Rattle.ccbor.specs.declared.value.Value.{Uint, the_lemmas}
-use Rattle.cbor_map.specs.Building.{member_list}
-use Rattle.cbor_map.specs.Content.{member_pair}
+use Rattle.ctap_encoding.specs.Building.{member_list}
+use Rattle.ctap_encoding.specs.Content.{member_pair}
 
 -- these pairs in front of others
 abbrev pub onto : List (Item × Item) → Pairs → Pairs

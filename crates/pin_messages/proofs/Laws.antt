@@ -1,7 +1,7 @@
 -- What is read of bytes is the one reply that they are.
 use Rattle.std.proofs.Common.{◌≡◌, Option, Some, None, option_map, refl, sym, ap, ◌∙◌}
-use Rattle.cbor_map.specs.Table.{record_of}
-use Rattle.cbor_map.specs.Content.{Contents}
+use Rattle.ctap_encoding.specs.Table.{record_of}
+use Rattle.ctap_encoding.specs.Content.{Contents}
 use Rattle.key_replies.specs.Reading.{open_in}
 use Rattle.key_replies.proofs.Laws.{IsExact}
 use Rattle.key_replies.proofs.Telling.{is_read}

@@ -2,9 +2,9 @@
 use Rattle.std.specs.Prelude.{◌≡◌, ℕ, List, ◌∷◌, true, false, Option, Some, None, ℤ, pos, negsuc, codes}
 use Rattle.ccbor.specs.Item as of
 use Rattle.ccbor.specs.Canon.{Canon}
-use Rattle.cbor_map.specs.Table.{Members, no_more, listed, a_number, a_text, some_bytes, unsigned, record_of, sized, gravest}
-use Rattle.cbor_map.specs.Content.{Contents, item_of}
-use Rattle.cbor_map.specs.declared.fault.Fault.TheVariants as faults
+use Rattle.ctap_encoding.specs.Table.{Members, no_more, listed, a_number, a_text, some_bytes, unsigned, record_of, sized, gravest}
+use Rattle.ctap_encoding.specs.Content.{Contents, item_of}
+use Rattle.ctap_encoding.specs.declared.fault.Fault.TheVariants as faults
 
 -- ---- the public key of a key agreement (section 6.5.6, getPublicKey): a COSE_Key (RFC 9052, section 7) of kty 2
 -- (EC2), alg -25 (ECDH-ES + HKDF-256), crv 1 (P-256), x and y (RFC 9053, section 7.1.1)

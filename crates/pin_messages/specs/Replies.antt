@@ -2,10 +2,10 @@
 use Rattle.std.specs.Prelude.{◌≡◌, ◌≢◌, ℕ, List, [], ◌∷◌, Bool, false, Option, option_map, ℤ, pos, negsuc}
 use Rattle.ccbor.specs.Item as of
 use Rattle.ccbor.specs.Item.{Item}
-use Rattle.cbor_map.specs.Table.{Members, no_more, listed, a_truth, some_bytes, unsigned, record_of}
-use Rattle.cbor_map.specs.Content.{Contents}
-use Rattle.ctap_status.specs.declared.error.Error.{Error}
-use Rattle.ctap_status.specs.declared.error.Error.TheVariants as errors
+use Rattle.ctap_encoding.specs.Table.{Members, no_more, listed, a_truth, some_bytes, unsigned, record_of}
+use Rattle.ctap_encoding.specs.Content.{Contents}
+use Rattle.ctap_encoding.specs.declared.error.Error.{Error}
+use Rattle.ctap_encoding.specs.declared.error.Error.TheVariants as errors
 use Rattle.key_replies.specs.Telling.{Tells}
 use Rattle.pin_messages.specs.Commands.{key_members, PublicPoint}
 

@@ -3,15 +3,15 @@
 ghost use Rattle.std.specs.Prelude.{◌≡◌, option_map};
 ghost use Rattle.ccbor.specs.Access.{key_item, member};
 ghost use Rattle.ccbor.specs.Viewing.{shown};
-ghost use Rattle.cbor_map.specs.Table.{record_of};
-ghost use Rattle.cbor_map.specs.Reading.{Yields, maybe};
+ghost use Rattle.ctap_encoding.specs.Table.{record_of};
+ghost use Rattle.ctap_encoding.specs.Reading.{Yields, maybe};
 ghost use Rattle.key_replies.specs.Reading.{open_in};
 ghost use Rattle.pin_messages.specs.Commands.{key_members};
 ghost use Rattle.pin_messages.specs.Replies.{key_content, reply_content, reply_members};
 ghost use Rattle.pin_messages.specs.ReplyView.{key_view, reply_view};
 
 use crate::reply::{AgreementKey, PinReply};
-use cbor_map::{Shape, any_map};
+use ctap_encoding::{Shape, any_map};
 use ccbor::{MapKey, View};
 use key_replies::{bytes_if_there, number_at, sized_bytes_at, truth_if_there, unsigned_if_there};
 

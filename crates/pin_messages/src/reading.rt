@@ -1,15 +1,15 @@
 //! Reading a reply.
 
 ghost use Rattle.std.specs.Prelude.{◌≡◌, ◌≢◌, ◌∷◌, IfOk, IfErr, OnOk};
-ghost use Rattle.ctap_status.specs.declared.error.Error.TheVariants as errors;
+ghost use Rattle.ctap_encoding.specs.declared.error.Error.TheVariants as errors;
 ghost use Rattle.key_replies.specs.Replies.{IsReply, Refused, ReplyOf};
 ghost use Rattle.pin_messages.specs.Replies.{IsDone, IsNotDone, Told, TellsPin};
 ghost use Rattle.pin_messages.specs.ReplyView.{reply_view};
 
 use crate::maps::reply;
 use crate::reply::PinReply;
-use ctap_status::Error;
-use ctap_status::status::OK;
+use ctap_encoding::Error;
+use ctap_encoding::status::OK;
 use key_replies::value_of;
 
 /// The reply of these bytes to a subcommand that tells something (CTAP 2.1, section 6.5.5). Its members lie in the

@@ -3,14 +3,14 @@
 ghost use Rattle.std.specs.Prelude.{◌≡◌, IfOk, option_map};
 ghost use Rattle.ccbor.specs.Item.{bytes, text, uint};
 ghost use Rattle.ccbor.specs.View.{view};
-ghost use Rattle.cbor_map.specs.Content.{item_of};
-ghost use Rattle.cbor_map.specs.Table.{record_of};
+ghost use Rattle.ctap_encoding.specs.Content.{item_of};
+ghost use Rattle.ctap_encoding.specs.Table.{record_of};
 ghost use Rattle.pin_messages.specs.CommandView.{point_view};
 ghost use Rattle.pin_messages.specs.Commands.{key_members, pin_members, point_content};
 ghost use Rattle.pin_messages.specs.Pieces.{content_of};
 
 use crate::command::{PinMembers, Point};
-use cbor_map::{bytes_value, push_if_there, push_member, text_value};
+use ctap_encoding::{bytes_value, push_if_there, push_member, text_value};
 use ccbor::{MapKey, Value};
 use std::alloc::{AllocError, Global};
 

@@ -3,17 +3,16 @@
 ghost use Rattle.std.specs.Prelude.{◌≡◌, ◌⊎◌, ℕ, List, IfOk, IfErr, IsErrOf, None, ◌∷◌};
 ghost use Rattle.ccbor.specs.Canon.{Canon};
 ghost use Rattle.ccbor.specs.View.{view};
-ghost use Rattle.cbor_map.specs.Table.{gravest, record_of};
-ghost use Rattle.ctap_status.specs.declared.error.Error.TheVariants as errors;
+ghost use Rattle.ctap_encoding.specs.Table.{gravest, record_of};
+ghost use Rattle.ctap_encoding.specs.declared.error.Error.TheVariants as errors;
 ghost use Rattle.pin_messages.specs.CommandView.{command_view};
 ghost use Rattle.pin_messages.specs.Commands.{PinRequest, pin_content, pin_members};
 ghost use Rattle.pin_messages.specs.Pieces.{content_of};
 
 use crate::command::{CLIENT_PIN, PinCommand, PinMembers};
 use crate::values::members_value;
-use cbor_map::{Fault, Holds, gravest};
+use ctap_encoding::{Error, Fault, Holds, gravest};
 use ccbor::{MapKey, Value, encode};
-use ctap_status::Error;
 use std::alloc::{AllocError, Global};
 
 const KEY: Holds = Holds::Record(&[

@@ -36,7 +36,7 @@ fn sent(alloc: Global, protocol: Protocol, command: &PinCommand<'_>) -> Result<V
 {
     match write_pin(alloc, protocol.number(), command) {
         Ok(bytes) => Ok(bytes),
-        Err(ctap_status::Error::Unfit) => Err(Stop::Unfit),
+        Err(ctap_encoding::Error::Unfit) => Err(Stop::Unfit),
         Err(_) => Err(Stop::Memory),
     }
 }

@@ -1,8 +1,8 @@
 -- The pairs of a map but those of two keys.
 use Rattle.std.proofs.Common.{◌≡◌, ◌++◌, ℕ, Bool, true, false, ◌||◌, List, [], ◌∷◌, refl, sym, ap, ◌∙◌, cond}
 use Rattle.std.proofs.Common.{Some, None, inl, inr}
-use Rattle.ctap_status.specs.declared.error.Error.{Error}
-use Rattle.ctap_status.specs.declared.error.Error.TheVariants as errors
+use Rattle.ctap_encoding.specs.declared.error.Error.{Error}
+use Rattle.ctap_encoding.specs.declared.error.Error.TheVariants as errors
 use Rattle.std.proofs.lemmas.Option.{same_Some}
 use Rattle.ccbor.specs.Access.{is_same_key, pairs_first}
 use Rattle.ccbor.specs.Item.{Item, Pairs, no_pairs, pair, uint}

@@ -6,15 +6,15 @@ use Rattle.std.proofs.lemmas.Option.{same_Some}
 use Rattle.ccbor.specs.Item.{Item}
 use Rattle.ccbor.specs.Canon.{Canon}
 use Rattle.ccbor.proofs.Decoding.{same_item}
-use Rattle.cbor_map.specs.Table.{Members, record_of}
-use Rattle.cbor_map.specs.Content.{Contents}
+use Rattle.ctap_encoding.specs.Table.{Members, record_of}
+use Rattle.ctap_encoding.specs.Content.{Contents}
 use Rattle.key_replies.specs.Reading.{open_in}
 use Rattle.key_replies.proofs.Laws.{IsExact}
 use Rattle.key_replies.proofs.Telling.{is_read, is_told}
 use Rattle.pin_messages.specs.Commands.{key_members}
 use Rattle.pin_messages.specs.Replies.{ToldKey, key_content}
-use Rattle.ctap_status.specs.declared.error.Error.{Error}
-use Rattle.ctap_status.specs.declared.error.Error.TheVariants as errors
+use Rattle.ctap_encoding.specs.declared.error.Error.{Error}
+use Rattle.ctap_encoding.specs.declared.error.Error.TheVariants as errors
 use Rattle.pin_requests.specs.Asking.{Asking, IsSaid, Refused, Says, TellsAsking, Untold, asked_content, asked_members}
 use Rattle.pin_requests.specs.Pieces.{UntoldBy, content_of, asking_of as read_as}
 use Rattle.pin_requests.specs.declared.asked.AskedMembers.{AskedMembers}

@@ -3,10 +3,10 @@ use Rattle.std.specs.Prelude.{◌≡◌, ◌⊎◌, ℕ, List, ◌∷◌, false,
 use Rattle.ccbor.specs.Item as of
 use Rattle.ccbor.specs.Item.{Item}
 use Rattle.ccbor.specs.Canon.{Canon}
-use Rattle.cbor_map.specs.Table.{Members, no_more, listed, a_text, some_bytes, unsigned, record_of}
-use Rattle.cbor_map.specs.Content.{Contents}
-use Rattle.ctap_status.specs.declared.error.Error.{Error}
-use Rattle.ctap_status.specs.declared.error.Error.TheVariants as errors
+use Rattle.ctap_encoding.specs.Table.{Members, no_more, listed, a_text, some_bytes, unsigned, record_of}
+use Rattle.ctap_encoding.specs.Content.{Contents}
+use Rattle.ctap_encoding.specs.declared.error.Error.{Error}
+use Rattle.ctap_encoding.specs.declared.error.Error.TheVariants as errors
 use Rattle.key_replies.specs.Telling.{Tells}
 use Rattle.pin_messages.specs.Commands.{key_members}
 use Rattle.pin_messages.specs.Replies.{ToldKey, key_content}

@@ -2,8 +2,8 @@
 use Rattle.std.specs.Prelude.{◌≡◌, ℕ, List, [], ◌∷◌, Bool, true, false, codes}
 use Rattle.ccbor.specs.Item as of
 use Rattle.ccbor.specs.Canon.{Canon}
-use Rattle.cbor_map.specs.Table.{Members, no_more, listed, a_text, some_bytes, truths, unsigned, list_of, record_of}
-use Rattle.cbor_map.specs.Content.{Contents, item_of}
+use Rattle.ctap_encoding.specs.Table.{Members, no_more, listed, a_text, some_bytes, truths, unsigned, list_of, record_of}
+use Rattle.ctap_encoding.specs.Content.{Contents, item_of}
 use Rattle.key_replies.specs.Replies.{Info}
 
 abbrev pub key_info_members : Members

@@ -3,10 +3,10 @@ use Rattle.std.specs.Prelude.{◌≡◌, ◌⊎◌, ℕ, List, [], ◌∷◌, �
 use Rattle.ccbor.specs.Item as of
 use Rattle.ccbor.specs.Access.{is_same_key}
 use Rattle.ccbor.specs.Item.{Item}
-use Rattle.cbor_map.specs.Content.{Contents}
-use Rattle.cbor_map.specs.Table.{Members}
-use Rattle.ctap_status.specs.declared.error.Error.{Error}
-use Rattle.ctap_status.specs.declared.error.Error.TheVariants as errors
+use Rattle.ctap_encoding.specs.Content.{Contents}
+use Rattle.ctap_encoding.specs.Table.{Members}
+use Rattle.ctap_encoding.specs.declared.error.Error.{Error}
+use Rattle.ctap_encoding.specs.declared.error.Error.TheVariants as errors
 use Rattle.ctap_requests.specs.Status as requests
 use Rattle.pin_messages.specs.ReplyView.{key_view}
 use Rattle.pin_requests.specs.declared.asked.AskedMembers.{AskedMembers}

@@ -5,13 +5,13 @@ use Rattle.ccbor.specs.Item as of
 use Rattle.ccbor.specs.Item.{Item, Pairs, no_pairs, pair}
 use Rattle.ccbor.specs.Access.{is_same_key}
 use Rattle.ccbor.specs.Canon.{Canon}
-use Rattle.cbor_map.specs.Table.{Members, no_more, listed, a_truth, some_bytes, unsigned, record_of}
-use Rattle.cbor_map.specs.Content.{Contents}
+use Rattle.ctap_encoding.specs.Table.{Members, no_more, listed, a_truth, some_bytes, unsigned, record_of}
+use Rattle.ctap_encoding.specs.Content.{Contents}
 use Rattle.ctap_requests.specs.Entities.{CreationFlags, AssertionFlags}
 use Rattle.ctap_requests.specs.Requests.{RequestMessage, make_credential, get_assertion, get_next_assertion, get_info, reset}
 use Rattle.ctap_requests.specs.Status as requests
-use Rattle.ctap_status.specs.declared.error.Error.{Error}
-use Rattle.ctap_status.specs.declared.error.Error.TheVariants as errors
+use Rattle.ctap_encoding.specs.declared.error.Error.{Error}
+use Rattle.ctap_encoding.specs.declared.error.Error.TheVariants as errors
 use Rattle.key_replies.specs.Telling.{Tells}
 use Rattle.pin_requests.specs.Asking.{Says, Untold}
 

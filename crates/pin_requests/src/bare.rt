@@ -4,7 +4,7 @@ ghost use Rattle.std.specs.Prelude.{◌≡◌, ◌∷◌, ◌++◌, List, ℕ, I
 ghost use Rattle.ccbor.specs.Canon.{Canon};
 ghost use Rattle.ccbor.specs.View.{pairs_of, view};
 ghost use Rattle.ccbor.specs.Viewing.{shown, shown_pairs};
-ghost use Rattle.cbor_map.specs.Building.{pair_list_view};
+ghost use Rattle.ctap_encoding.specs.Building.{pair_list_view};
 ghost use Rattle.ctap_requests.specs.Requests.{RequestOf};
 ghost use Rattle.ctap_requests.specs.Status.{IsRequest, NoStatus};
 ghost use Rattle.ctap_requests.specs.RequestView.{assertion_options_view, creation_options_view, request_view};
@@ -20,8 +20,8 @@ use ctap_requests::{
     AssertionOptions, CreationOptions, GetAssertion, MakeCredential, Request, read_request,
     write_request,
 };
-use ctap_status::Error;
-use ctap_status::status::{CBOR_UNEXPECTED_TYPE, INVALID_COMMAND};
+use ctap_encoding::Error;
+use ctap_encoding::status::{CBOR_UNEXPECTED_TYPE, INVALID_COMMAND};
 use std::alloc::{AllocError, Global};
 
 /// Appends a pair, where its key is none of two.

@@ -2,17 +2,16 @@
 
 ghost use Rattle.std.specs.Prelude.{◌≡◌, ◌⊎◌, [], ◌∷◌, IfErr, IfOk, codes, true};
 ghost use Rattle.ccbor.specs.View.{view};
-ghost use Rattle.cbor_map.specs.Content.{item_of};
-ghost use Rattle.cbor_map.specs.Table.{a_text, list_of, record_of, truths, unsigned};
-ghost use Rattle.ctap_status.specs.declared.error.Error.TheVariants as errors;
+ghost use Rattle.ctap_encoding.specs.Content.{item_of};
+ghost use Rattle.ctap_encoding.specs.Table.{a_text, list_of, record_of, truths, unsigned};
+ghost use Rattle.ctap_encoding.specs.declared.error.Error.TheVariants as errors;
 ghost use Rattle.key_replies.specs.Replies.{Info, IsReply, Refused, TellsInfo};
 ghost use Rattle.key_replies.specs.ReplyView.{info_view};
 ghost use Rattle.pin_requests.specs.Informing.{KeyInfoBytes, key_info_content, key_info_members};
 
 use crate::writing::with_value;
-use cbor_map::{bytes_value, push_if_there, push_member, text_value};
+use ctap_encoding::{Error, bytes_value, push_if_there, push_member, text_value};
 use ccbor::{MapKey, Value};
-use ctap_status::Error;
 use key_replies::{KeyInfo, read_info};
 use pin_messages::number_if_there;
 use std::alloc::{AllocError, Global};

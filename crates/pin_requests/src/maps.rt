@@ -3,8 +3,8 @@
 ghost use Rattle.std.specs.Prelude.{◌≡◌, option_map};
 ghost use Rattle.ccbor.specs.Access.{key_item, member, text_in};
 ghost use Rattle.ccbor.specs.Viewing.{shown};
-ghost use Rattle.cbor_map.specs.Table.{record_of};
-ghost use Rattle.cbor_map.specs.Reading.{Yields, maybe};
+ghost use Rattle.ctap_encoding.specs.Table.{record_of};
+ghost use Rattle.ctap_encoding.specs.Reading.{Yields, maybe};
 ghost use Rattle.key_replies.specs.Reading.{open_in};
 ghost use Rattle.pin_requests.specs.Asking.{asked_members};
 ghost use Rattle.pin_requests.specs.Pieces.{content_of};
@@ -12,7 +12,7 @@ ghost use Rattle.pin_requests.specs.Protected.{flag_content, flag_members, prote
 ghost use Rattle.pin_requests.specs.ProtectedView.{flags_view, protection_view};
 
 use crate::asked::{AskedMembers, OptionsAsked, ParamView};
-use cbor_map::{Shape, any_map};
+use ctap_encoding::{Shape, any_map};
 use ccbor::{MapKey, View};
 use key_replies::{bytes_if_there, truth_if_there, unsigned_if_there};
 use pin_messages::agreement_key_if_there;

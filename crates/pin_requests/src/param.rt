@@ -9,8 +9,8 @@ ghost use Rattle.pin_requests.specs.ProtectedView.{protection_view};
 use crate::asked::ParamView;
 use crate::maps::protection;
 use crate::reading::{behind, whole};
-use ctap_status::Error;
-use ctap_status::status::{CBOR_UNEXPECTED_TYPE, INVALID_COMMAND};
+use ctap_encoding::Error;
+use ctap_encoding::status::{CBOR_UNEXPECTED_TYPE, INVALID_COMMAND};
 
 /// The command byte of authenticatorMakeCredential.
 pub(crate) const MAKE_CREDENTIAL: u8 = 0x01;

@@ -4,7 +4,7 @@ ghost use Rattle.std.specs.Prelude.{◌≡◌, ◌∷◌, ℕ, List, IfErr, IfNo
 ghost use Rattle.ccbor.specs.Canon.{Canon};
 ghost use Rattle.ccbor.specs.Item.{Item};
 ghost use Rattle.ccbor.specs.Viewing.{shown};
-ghost use Rattle.ctap_status.specs.declared.error.Error.TheVariants as errors;
+ghost use Rattle.ctap_encoding.specs.declared.error.Error.TheVariants as errors;
 ghost use Rattle.pin_requests.specs.Asking.{IsSaid, Refused, TellsAsking, asked_content};
 ghost use Rattle.pin_requests.specs.AskingView.{asking_view};
 ghost use Rattle.pin_requests.specs.Pieces.{content_of};
@@ -12,8 +12,8 @@ ghost use Rattle.pin_requests.specs.Pieces.{content_of};
 use crate::asked::{AskedMembers, PinAsked};
 use crate::maps::asked;
 use ccbor::View;
-use ctap_status::Error;
-use ctap_status::status::{CBOR_UNEXPECTED_TYPE, INVALID_CBOR, INVALID_COMMAND, MISSING_PARAMETER};
+use ctap_encoding::Error;
+use ctap_encoding::status::{CBOR_UNEXPECTED_TYPE, INVALID_CBOR, INVALID_COMMAND, MISSING_PARAMETER};
 
 /// The command byte of authenticatorClientPIN.
 const CLIENT_PIN: u8 = 0x06;

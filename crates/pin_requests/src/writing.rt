@@ -4,18 +4,17 @@ ghost use Rattle.std.specs.Prelude.{◌≡◌, ◌⊎◌, ◌∷◌, ℕ, List, 
 ghost use Rattle.ccbor.specs.Canon.{Canon};
 ghost use Rattle.ccbor.specs.Item.{boolean};
 ghost use Rattle.ccbor.specs.View.{view};
-ghost use Rattle.cbor_map.specs.Content.{item_of};
-ghost use Rattle.cbor_map.specs.Table.{record_of};
-ghost use Rattle.ctap_status.specs.declared.error.Error.TheVariants as errors;
+ghost use Rattle.ctap_encoding.specs.Content.{item_of};
+ghost use Rattle.ctap_encoding.specs.Table.{record_of};
+ghost use Rattle.ctap_encoding.specs.declared.error.Error.TheVariants as errors;
 ghost use Rattle.pin_messages.specs.Commands.{key_members};
 ghost use Rattle.pin_messages.specs.Replies.{IsPoint, key_content, reply_content, reply_members};
 ghost use Rattle.pin_messages.specs.ReplyView.{key_view, reply_view};
 ghost use Rattle.pin_requests.specs.Replying.{PinReplyBytes};
 
-use cbor_map::push_if_there;
+use ctap_encoding::{Error, push_if_there};
 use ccbor::{MapKey, Value, encode};
-use ctap_status::Error;
-use ctap_status::status::OK;
+use ctap_encoding::status::OK;
 use pin_messages::{AgreementKey, PinReply, bytes_if_there, number_if_there, point_value};
 use std::alloc::{AllocError, Global};
 

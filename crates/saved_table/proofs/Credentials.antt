@@ -4,12 +4,12 @@ use Rattle.std.proofs.lemmas.Option.{same_Some}
 use Rattle.std.proofs.lemmas.Bool.Decides.{nat_tests}
 use Rattle.ccbor.specs.Item.{Item, uint, bytes, map, boolean, no_pairs, pair}
 use Rattle.ccbor.specs.Canon.{head, before}
-use Rattle.cbor_map.specs.Table.{record_of}
-use Rattle.cbor_map.specs.Content.{Contents, optional}
-use Rattle.cbor_map.specs.Content.{item_of as value_of}
-use Rattle.cbor_map.specs.Reading.{read_in}
-use Rattle.cbor_map.proofs.Ordered.{IsOrdered}
-use Rattle.cbor_map.proofs.Laws.{read_is}
+use Rattle.ctap_encoding.specs.Table.{record_of}
+use Rattle.ctap_encoding.specs.Content.{Contents, optional}
+use Rattle.ctap_encoding.specs.Content.{item_of as value_of}
+use Rattle.ctap_encoding.specs.Reading.{read_in}
+use Rattle.ctap_encoding.proofs.Ordered.{IsOrdered}
+use Rattle.ctap_encoding.proofs.Laws.{read_is}
 use Rattle.cose.specs.declared.key.CoseKey.{CoseKey}
 use Rattle.cose.specs.declared.key.CoseKey.TheVariants as keys
 use Rattle.cose.specs.Keys.{IsKey, KeyOf, item_of as key_item}

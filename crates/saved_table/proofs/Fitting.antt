@@ -5,7 +5,7 @@ use Rattle.refusal_order.specs.Lines.{Each}
 use Rattle.ccbor.specs.Item.{Item, Pairs, uint, bytes, map, boolean, no_pairs, pair}
 use Rattle.ccbor.specs.Canon.{head, before, count_of_items, count_of_pairs, spelling, Fits, ItemsFit, PairsFit}
 use Rattle.ccbor.specs.View.{items_of}
-use Rattle.cbor_map.specs.Content.{optional}
+use Rattle.ctap_encoding.specs.Content.{optional}
 use Rattle.cose.specs.Keys.{item_of as key_item}
 use Rattle.cose.proofs.KeyLemmas.{key_fits}
 use Rattle.authdata.specs.declared.profile.Profile.TheVariants.{Open}

@@ -3,7 +3,7 @@ use Rattle.std.specs.Prelude.{◌≡◌, ◌≢◌, ◌<◌, ◌≤◌, ℕ, Lis
 use Rattle.ccbor.specs.Item.{Item, uint, Items}
 use Rattle.ccbor.specs.Access.{split_key, is_end, uint_in, text_in, items_in, pairs_in}
 use Rattle.ccbor.specs.Reading.{◌>>=◌}
-use Rattle.cbor_map.specs.Table.{Members, no_more, listed, some_bytes, a_truth, any_map, unsigned}
+use Rattle.ctap_encoding.specs.Table.{Members, no_more, listed, some_bytes, a_truth, any_map, unsigned}
 
 -- the members of a credential's map: the key, whether it is required, and what it holds
 abbrev pub credential_members : Members

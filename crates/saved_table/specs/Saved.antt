@@ -6,7 +6,7 @@ use Rattle.refusal_order.specs.Lines.{Each}
 use Rattle.ccbor.specs.Item.{Item, uint, bytes, text, array, map, boolean, no_pairs, pair}
 use Rattle.ccbor.specs.Canon.{Canon}
 use Rattle.ccbor.specs.View.{items_of}
-use Rattle.cbor_map.specs.Content.{optional}
+use Rattle.ctap_encoding.specs.Content.{optional}
 use Rattle.cose.specs.Keys.{IsKey, item_of as key_item}
 use Rattle.cose.specs.declared.key.CoseKey.{CoseKey}
 use Rattle.cose.specs.declared.key.CoseKey.TheVariants as keys

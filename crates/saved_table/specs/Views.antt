@@ -2,7 +2,7 @@
 use Rattle.std.specs.Prelude.{ℕ, List}
 use Rattle.ccbor.specs.Item.{Items}
 use Rattle.ccbor.specs.Viewing.{shown, shown_items}
-use Rattle.cbor_map.specs.Content.{Contents}
+use Rattle.ctap_encoding.specs.Content.{Contents}
 use Rattle.saved_table.specs.Private.{credential_members}
 use Rattle.saved_table.specs.declared.reading.CredentialMembers.{CredentialMembers}
 use Rattle.saved_table.specs.declared.reading.TableMembers.{TableMembers}

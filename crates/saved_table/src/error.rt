@@ -3,7 +3,7 @@
 ghost use Rattle.std.specs.Prelude.{◌≡◌};
 ghost use Rattle.saved_table.specs.declared.error.Error.TheVariants as errors;
 
-use cbor_map::Shape;
+use ctap_encoding::Shape;
 use std::alloc::AllocError;
 
 /// Why bytes are not loaded.

@@ -2,8 +2,8 @@
 
 ghost use Rattle.std.specs.Prelude.{◌≡◌, ◌<◌, ◌↔◌, IfOk, IsErrOf, IsTrue, false, option_map};
 ghost use Rattle.ccbor.specs.Viewing.{shown};
-ghost use Rattle.cbor_map.specs.Reading.{Yields, read_in};
-ghost use Rattle.cbor_map.specs.Table.{record_of};
+ghost use Rattle.ctap_encoding.specs.Reading.{Yields, read_in};
+ghost use Rattle.ctap_encoding.specs.Table.{record_of};
 ghost use Rattle.cose.specs.Keys.{lent_key_view};
 ghost use Rattle.verification.specs.Records.{Credential};
 ghost use Rattle.credential_table.specs.Views.{row_view};
@@ -13,7 +13,7 @@ ghost use Rattle.saved_table.specs.Views.{members_content, table_members_view};
 ghost use Rattle.saved_table.specs.declared.error.Error.TheVariants as errors;
 
 use crate::error::Error;
-use cbor_map::{Shape, any_map, bytes, end, members, optional, required, truth_if_there, unsigned};
+use ctap_encoding::{Shape, any_map, bytes, end, members, optional, required, truth_if_there, unsigned};
 use ccbor::{ArrayView, MapKey, View};
 use cose::KeyView;
 use credential_table::Row;

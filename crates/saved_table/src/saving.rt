@@ -10,7 +10,7 @@ ghost use Rattle.authdata.specs.declared.profile.Profile.TheVariants.{Open};
 ghost use Rattle.saved_table.specs.Saved.{AppendsTable, FitsVersion, credential_item, table_item, true_if, version_of};
 
 use crate::reading::needs_version_4;
-use cbor_map::{bytes_value, push_if_there, push_member, text_value};
+use ctap_encoding::{bytes_value, push_if_there, push_member, text_value};
 use ccbor::{MapKey, Value, encode};
 use credential_table::Table;
 use std::alloc::{AllocError, Global};

@@ -7,7 +7,7 @@ use Rattle.hidlink.specs.History.{DeviceCall, Answered, Leaves, Took}
 use Rattle.hidlink.specs.Ranks.{Message, DeviceState, on_working, packets_of, response}
 use Rattle.hidlink.specs.Told.{work}
 use Rattle.hidlink.specs.declared.transaction.DeviceEvent.TheVariants as step
-use Rattle.ctap_status.specs.declared.status.TheConstants.{KEEPALIVE_CANCEL}
+use Rattle.ctap_encoding.specs.declared.status.TheConstants.{KEEPALIVE_CANCEL}
 use Rattle.cose.specs.Schemes.{Validity}
 use Rattle.authenticator.specs.State.{AuthenticatorState}
 use Rattle.authenticator.specs.Signing.{no_signature}

@@ -9,7 +9,7 @@ use Rattle.hidlink.specs.Ranks as device
 use Rattle.hidlink.specs.Told.{work}
 use Rattle.hidlink.specs.declared.transaction.DeviceEvent.{DeviceEvent}
 use Rattle.hidlink.specs.declared.transaction.DeviceEvent.TheVariants as step
-use Rattle.ctap_status.specs.declared.status.TheConstants.{KEEPALIVE_CANCEL}
+use Rattle.ctap_encoding.specs.declared.status.TheConstants.{KEEPALIVE_CANCEL}
 use Rattle.authenticator.specs.State.{AuthenticatorState}
 use Rattle.cose.specs.Schemes.{Validity}
 use Rattle.authenticator.specs.Signing.{AgreesOn, Begins, Finishes, message_of, no_signature}

@@ -15,7 +15,7 @@ ghost use Rattle.security_key.specs.declared.serving.ServeError.TheVariants as e
 
 use authenticator::{Authenticator, Begun, Consent, Pending, PublicKeys, SchemeKeys, Words};
 use cose::Signer;
-use ctap_status::status::KEEPALIVE_CANCEL;
+use ctap_encoding::status::KEEPALIVE_CANCEL;
 use hidframe::Packet;
 use hidframe::ctaphid::STATUS_UPNEEDED;
 use hidlink::{Device, DeviceEvent};

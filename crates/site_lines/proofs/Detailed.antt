@@ -23,7 +23,7 @@ use Rattle.ceremony_sessions.specs.Sessions.{IsRefused, Opening, challenge_of}
 use Rattle.ceremony_sessions.specs.declared.error.Error.TheVariants as full
 use Rattle.timed_sessions.specs.Timed.{IsTrimmed, Timed, after_begin}
 use Rattle.credential_store.specs.Held.{Placed}
-use Rattle.credential_details.specs.Details.{Detail, Details, HoldsDetails, told}
+use Rattle.credential_store.specs.Details.{Detail, Details, HoldsDetails, told}
 use Rattle.kept_site.specs.State.{IsHeld, KeptState}
 use Rattle.kept_site.specs.Calls.{IsFailure, IsOneSite, IsSame}
 use Rattle.kept_site.specs.declared.failure.Failure.{Failure}

@@ -11,7 +11,7 @@ use Rattle.authdata.specs.Layout.{AttestedCredential, AuthenticatorData}
 use Rattle.verification.specs.Records.{Credential}
 use Rattle.kept_site.specs.declared.finish.SignedIn.{SignedIn}
 use Rattle.credential_table.specs.declared.row.Row.{Row}
-use Rattle.credential_details.specs.Details.{Detail, detail_view}
+use Rattle.credential_store.specs.Details.{Detail, detail_view}
 use Rattle.site_lines.specs.Options.{base64url, creation_options, descriptor, parameter, request_options}
 use Rattle.site_lines.specs.Private.{IsShallow}
 use Rattle.site_lines.specs.Written.{Writes, aaguid_or_null, answered, attested_members, begun, by_step, bytes_or_null, counts_from, data_members, flag_or_null, integer_or_null, line_number, natural, row_members, status, step_name, who_members, whole_row, whole_rows, with_count}

@@ -10,7 +10,7 @@ use Rattle.authdata.specs.Responses.{registration_response_view}
 use Rattle.authdata.specs.Responses as responses
 use Rattle.verification.specs.Registration.{Attests}
 use Rattle.credential_store.specs.Held.{Placed}
-use Rattle.credential_details.specs.Details.{Detail, Details, HoldsDetails, detail_view, told}
+use Rattle.credential_store.specs.Details.{Detail, Details, HoldsDetails, detail_view, told}
 use Rattle.kept_site.specs.State.{IsHeld, KeptState}
 use Rattle.kept_site.specs.Calls.{TellsDetail, TellsForgotten, TellsUsed}
 use Rattle.site_lines.specs.declared.act.Act.{Act}

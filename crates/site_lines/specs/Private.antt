@@ -36,7 +36,7 @@ use Rattle.site_lines.specs.declared.answer.Known.{Known}
 use Rattle.authdata.specs.declared.response.RegistrationResponse.{RegistrationResponse}
 use Rattle.site_lines.specs.Answers.{OfHeld, RegistrationAsks, SignInAsks}
 use Rattle.site_lines.specs.Details.{AreKnown, OfDetails}
-use Rattle.credential_details.specs.Details.{Detail, HoldsDetails}
+use Rattle.credential_store.specs.Details.{Detail, HoldsDetails}
 use Rattle.std.specs.FinMap as finite
 use Rattle.std.specs.Global.{Global}
 use Rattle.credential_table.specs.declared.row.Row.{Row}

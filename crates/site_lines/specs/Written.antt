@@ -20,7 +20,7 @@ use Rattle.verification.specs.Records.{Credential}
 use Rattle.verified_signature.specs.declared.signature.VerifiedSignature.{VerifiedSignature}
 use Rattle.credential_table.specs.Views.{row_view}
 use Rattle.credential_table.specs.declared.row.Row.{Row}
-use Rattle.credential_details.specs.Details.{detail_view}
+use Rattle.credential_store.specs.Details.{detail_view}
 use Rattle.kept_site.specs.declared.finish.SignedIn.{SignedIn}
 use Rattle.kept_site.specs.declared.registration.Registered.{Registered}
 use Rattle.site_lines.specs.Options.{base64url, creation_options, request_options}

@@ -4,7 +4,7 @@ use crate::act::{BeginRegistration, BeginSignIn};
 use crate::error::LineError;
 use authdata::{AssertionResponse, RegistrationResponse};
 use ceremony_sessions::Started;
-use credential_details::Detail;
+use credential_store::Detail;
 use credential_table::Row;
 use kept_site::{Failure, Registered, SignedIn};
 use verification::{RegistrationRefusal, SignInRefusal};

@@ -5,7 +5,7 @@ ghost use Rattle.sqlite_trees.specs.Tree.{Trees};
 ghost use Rattle.authdata.specs.Responses.{assertion_response_view, registration_response_view};
 ghost use Rattle.verification.specs.Views.{assertion_parts_view, registration_parts_view};
 ghost use Rattle.site_lines.specs.Answers.{Keeps, TellsRegistration, TellsSignIn};
-ghost use Rattle.credential_details.specs.Details.{detail_view};
+ghost use Rattle.credential_store.specs.Details.{detail_view};
 ghost use Rattle.site_lines.specs.Details.{RegistersDetail, UsesDetail};
 ghost use Rattle.site_lines.specs.Private.{KeepsDetail, IsRefusedRegistration, IsRefusedSignIn};
 
@@ -15,7 +15,7 @@ use crate::asking::{registration_asks, sign_in_asks};
 use crate::error::LineError;
 use crate::knowing::{detail_of, second};
 use authdata::{AssertionResponse, Profile, RegistrationResponse};
-use credential_details::Detail;
+use credential_store::Detail;
 use kept_site::{FinishFailure, KeptSite};
 use sqlite_trees::store::Store;
 use std::alloc::Global;

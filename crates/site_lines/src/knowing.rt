@@ -4,7 +4,7 @@ ghost use Rattle.std.specs.Prelude.{◌≡◌, ◌++◌, ◌∷◌, [], ℕ, IfE
 ghost use Rattle.std.specs.List.{AllByRecursion};
 ghost use Rattle.sqlite_trees.specs.Tree.{Trees};
 ghost use Rattle.authdata.specs.Responses.{registration_response_view};
-ghost use Rattle.credential_details.specs.Details.{detail_view, told};
+ghost use Rattle.credential_store.specs.Details.{detail_view, told};
 ghost use Rattle.kept_site.specs.Calls.{IsSame};
 ghost use Rattle.site_lines.specs.Details.{AreTransports, IsAaguid, IsKnown, OfDetails, joined as joined_of, second as second_of};
 ghost use Rattle.site_lines.specs.Private.{IsAaguidOf, IsUnknown};
@@ -13,7 +13,7 @@ ghost use Rattle.site_lines.specs.declared.knowing.Unknown.TheVariants as unknow
 use crate::answer::Known;
 use crate::transports::{joined, separate};
 use authdata::{AttestationObject, Profile, RegistrationResponse, read_view};
-use credential_details::Detail;
+use credential_store::Detail;
 use kept_site::{Failure, KeptSite};
 use sqlite_trees::store::Store;
 use std::alloc::{AllocError, Global};

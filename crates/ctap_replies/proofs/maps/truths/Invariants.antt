@@ -2,9 +2,9 @@
 use Rattle.std.proofs.Common.{◌≡◌, map}
 use Rattle.std.specs.Prelude.{string_bytes}
 use Rattle.ccbor.specs.Viewing.{shown, shown_pairs}
-use Rattle.cbor_map.specs.Table.{truths}
-use Rattle.cbor_map.specs.Reading.{each_truth, read_in}
-use Rattle.cbor_map.proofs.Fronts.{with_front}
+use Rattle.ctap_encoding.specs.Table.{truths}
+use Rattle.ctap_encoding.specs.Reading.{each_truth, read_in}
+use Rattle.ctap_encoding.proofs.Fronts.{with_front}
 use Rattle.ctap_replies.proofs.maps.truths.Given as goal
 
 abbrev pub invariant-loop-name : goal.invariant-loop-name

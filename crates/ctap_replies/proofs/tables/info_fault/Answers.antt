@@ -1,5 +1,5 @@
 -- What is owed of `info_fault`.
-use Rattle.cbor_map.proofs.Tables.{tables}
+use Rattle.ctap_encoding.proofs.Tables.{tables}
 use Rattle.ctap_replies.proofs.tables.info_fault.Goals as goal
 
 pub returns : goal.returns

@@ -1,8 +1,8 @@
 -- What the loop of `truths_value` keeps.
 use Rattle.std.proofs.Common.{◌≡◌, take, map}
 use Rattle.std.specs.Prelude.{string_bytes}
-use Rattle.cbor_map.specs.Building.{pair_list_view}
-use Rattle.cbor_map.specs.Content.{truth_pair}
+use Rattle.ctap_encoding.specs.Building.{pair_list_view}
+use Rattle.ctap_encoding.specs.Content.{truth_pair}
 use Rattle.ctap_replies.proofs.values.truths_value.Given as goal
 
 abbrev pub invariant-loop-name : goal.invariant-loop-name

@@ -1,7 +1,7 @@
 -- What is owed of `write_reply`.
 use Rattle.std.proofs.Common.{List, ℕ, subst}
 use Rattle.std.specs.Prelude.{IsErrOf}
-use Rattle.ctap_status.specs.declared.error.Error.TheVariants as errors
+use Rattle.ctap_encoding.specs.declared.error.Error.TheVariants as errors
 use Rattle.ctap_replies.specs.Replies.{Assertion, ReplyOf, assertion_reply, next_reply, creation_reply_members, info_members, creation_reply_item, info_item}
 use Rattle.ctap_replies.specs.ReplyView.{creation_reply_view, info_view}
 use Rattle.ctap_replies.proofs.Laws.{unfit_map}

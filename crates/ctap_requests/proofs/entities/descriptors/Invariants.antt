@@ -1,9 +1,9 @@
 -- What the loop of `descriptors` keeps.
 use Rattle.std.proofs.Common.{◌≡◌, map}
 use Rattle.ccbor.specs.Viewing.{shown, shown_items}
-use Rattle.cbor_map.specs.Table.{record_of, list_of}
-use Rattle.cbor_map.specs.Reading.{each_in, read_in}
-use Rattle.cbor_map.proofs.Fronts.{with_front}
+use Rattle.ctap_encoding.specs.Table.{record_of, list_of}
+use Rattle.ctap_encoding.specs.Reading.{each_in, read_in}
+use Rattle.ctap_encoding.proofs.Fronts.{with_front}
 use Rattle.ctap_requests.specs.Entities.{descriptor_members, descriptor_content}
 use Rattle.ctap_requests.specs.RequestView.{lent_descriptor_view}
 use Rattle.ctap_requests.proofs.entities.descriptors.Given as goal

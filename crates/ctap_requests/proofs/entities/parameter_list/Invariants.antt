@@ -1,9 +1,9 @@
 -- What the loop of `parameter_list` keeps.
 use Rattle.std.proofs.Common.{◌≡◌, map}
 use Rattle.ccbor.specs.Viewing.{shown, shown_items}
-use Rattle.cbor_map.specs.Table.{record_of, list_of}
-use Rattle.cbor_map.specs.Reading.{each_in, read_in}
-use Rattle.cbor_map.proofs.Fronts.{with_front}
+use Rattle.ctap_encoding.specs.Table.{record_of, list_of}
+use Rattle.ctap_encoding.specs.Reading.{each_in, read_in}
+use Rattle.ctap_encoding.proofs.Fronts.{with_front}
 use Rattle.ctap_requests.specs.Entities.{parameters_members, parameters_content}
 use Rattle.ctap_requests.specs.RequestView.{parameters_view}
 use Rattle.ctap_requests.proofs.entities.parameter_list.Given as goal

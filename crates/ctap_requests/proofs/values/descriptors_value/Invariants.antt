@@ -2,8 +2,8 @@
 use Rattle.std.proofs.Common.{◌≡◌, take, map}
 use Rattle.ccbor.specs.View.{view}
 use Rattle.ctap_requests.specs.Entities.{descriptor_members, descriptor_content}
-use Rattle.cbor_map.specs.Table.{record_of}
-use Rattle.cbor_map.specs.Content.{item_of}
+use Rattle.ctap_encoding.specs.Table.{record_of}
+use Rattle.ctap_encoding.specs.Content.{item_of}
 use Rattle.ctap_requests.specs.RequestView.{descriptor_view}
 use Rattle.ctap_requests.proofs.values.descriptors_value.Given as goal
 

@@ -2,7 +2,7 @@
 use Rattle.std.proofs.Common.{◌∙◌, ap, codes}
 use Rattle.ccbor.specs.Item.{map, text}
 use Rattle.ccbor.proofs.Views.{view-Map}
-use Rattle.cbor_map.specs.Building.{pair_list_view}
+use Rattle.ctap_encoding.specs.Building.{pair_list_view}
 use Rattle.ctap_requests.proofs.Options.{three_options}
 use Rattle.ctap_requests.proofs.values.options_value.Goals as goal
 

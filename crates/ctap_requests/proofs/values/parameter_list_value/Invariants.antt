@@ -3,8 +3,8 @@ use Rattle.std.proofs.Common.{◌≡◌, take, drop, map, false}
 use Rattle.ccbor.specs.View.{view}
 use Rattle.ctap_requests.specs.Pieces.{all_numbers}
 use Rattle.ctap_requests.specs.Entities.{parameters_members, parameters_content}
-use Rattle.cbor_map.specs.Table.{record_of}
-use Rattle.cbor_map.specs.Content.{item_of}
+use Rattle.ctap_encoding.specs.Table.{record_of}
+use Rattle.ctap_encoding.specs.Content.{item_of}
 use Rattle.ctap_requests.specs.RequestView.{parameters_view}
 use Rattle.ctap_requests.proofs.values.parameter_list_value.Given as goal
 

@@ -6,7 +6,7 @@ use Rattle.verification.specs.SignIn.{PassesSignIn}
 use Rattle.verification.specs.Views.{assertion_parts_view}
 use Rattle.credential_table.specs.Views.{row_view}
 use Rattle.credential_store.specs.Held.{IsWritten}
-use Rattle.credential_details.specs.Details.{IsDetailed, used}
+use Rattle.credential_store.specs.Details.{IsDetailed, used}
 use Rattle.kept_site.proofs.Signing.{same_attempt, same_counted}
 use Rattle.kept_site.proofs.finish.sign_in_found.Goals as goal
 

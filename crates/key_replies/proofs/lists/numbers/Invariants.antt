@@ -1,9 +1,9 @@
 -- What the loop of `numbers` keeps.
 use Rattle.std.proofs.Common.{◌≡◌}
 use Rattle.ccbor.specs.Viewing.{shown, shown_items}
-use Rattle.cbor_map.specs.Table.{list_of, unsigned}
-use Rattle.cbor_map.specs.Reading.{each_in, read_in}
-use Rattle.cbor_map.proofs.Fronts.{with_front}
+use Rattle.ctap_encoding.specs.Table.{list_of, unsigned}
+use Rattle.ctap_encoding.specs.Reading.{each_in, read_in}
+use Rattle.ctap_encoding.proofs.Fronts.{with_front}
 use Rattle.key_replies.specs.Reading.{open_in}
 use Rattle.key_replies.proofs.lists.numbers.Given as goal
 

@@ -1,9 +1,9 @@
 -- What the loop of `parameter_list` keeps.
 use Rattle.std.proofs.Common.{◌≡◌, map}
 use Rattle.ccbor.specs.Viewing.{shown, shown_items}
-use Rattle.cbor_map.specs.Table.{list_of, record_of}
-use Rattle.cbor_map.specs.Reading.{each_in}
-use Rattle.cbor_map.proofs.Fronts.{with_front}
+use Rattle.ctap_encoding.specs.Table.{list_of, record_of}
+use Rattle.ctap_encoding.specs.Reading.{each_in}
+use Rattle.ctap_encoding.proofs.Fronts.{with_front}
 use Rattle.key_replies.specs.Reading.{open_in}
 use Rattle.key_replies.specs.Replies.{parameters_content, parameters_members}
 use Rattle.key_replies.specs.ReplyView.{parameters_view}

@@ -2,9 +2,9 @@
 use Rattle.std.proofs.Common.{◌≡◌, map}
 use Rattle.ccbor.specs.Access.{text_in}
 use Rattle.ccbor.specs.Viewing.{shown, shown_items}
-use Rattle.cbor_map.specs.Table.{a_text, list_of}
-use Rattle.cbor_map.specs.Reading.{each_in}
-use Rattle.cbor_map.proofs.Fronts.{with_front}
+use Rattle.ctap_encoding.specs.Table.{a_text, list_of}
+use Rattle.ctap_encoding.specs.Reading.{each_in}
+use Rattle.ctap_encoding.proofs.Fronts.{with_front}
 use Rattle.key_replies.specs.Reading.{open_in}
 use Rattle.key_replies.proofs.lists.texts.Given as goal
 

@@ -1,9 +1,9 @@
 -- What the loop of `truths` keeps.
 use Rattle.std.proofs.Common.{◌≡◌, map}
 use Rattle.ccbor.specs.Viewing.{shown, shown_pairs}
-use Rattle.cbor_map.specs.Table.{truths}
-use Rattle.cbor_map.specs.Reading.{each_truth}
-use Rattle.cbor_map.proofs.Fronts.{with_front}
+use Rattle.ctap_encoding.specs.Table.{truths}
+use Rattle.ctap_encoding.specs.Reading.{each_truth}
+use Rattle.ctap_encoding.proofs.Fronts.{with_front}
 use Rattle.key_replies.specs.Reading.{open_in}
 use Rattle.key_replies.proofs.lists.truths.Given as goal
 

@@ -1,7 +1,7 @@
 -- What is owed of `read_assertion`.
 use Rattle.std.proofs.Common.{option_map}
 use Rattle.ccbor.specs.Viewing.{shown}
-use Rattle.ctap_status.specs.declared.error.Error.TheVariants as errors
+use Rattle.ctap_encoding.specs.declared.error.Error.TheVariants as errors
 use Rattle.key_replies.specs.Reading.{assertion_in}
 use Rattle.key_replies.specs.Replies.{TellsAssertion}
 use Rattle.key_replies.specs.ReplyView.{assertion_view}

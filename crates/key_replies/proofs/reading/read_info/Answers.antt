@@ -1,7 +1,7 @@
 -- What is owed of `read_info`.
 use Rattle.ccbor.specs.Viewing.{shown}
-use Rattle.cbor_map.specs.Table.{record_of}
-use Rattle.ctap_status.specs.Numbers.{of_map}
+use Rattle.ctap_encoding.specs.Table.{record_of}
+use Rattle.ctap_encoding.specs.Numbers.{of_map}
 use Rattle.key_replies.specs.Reading.{open_in}
 use Rattle.key_replies.specs.Replies.{TellsInfo, info_content, info_members}
 use Rattle.key_replies.specs.ReplyView.{info_view}

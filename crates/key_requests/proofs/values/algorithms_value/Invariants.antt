@@ -1,8 +1,8 @@
 -- What the loop of `algorithms_value` keeps.
 use Rattle.std.proofs.Common.{◌≡◌, take, map}
 use Rattle.ccbor.specs.View.{view}
-use Rattle.cbor_map.specs.Table.{record_of}
-use Rattle.cbor_map.specs.Content.{item_of}
+use Rattle.ctap_encoding.specs.Table.{record_of}
+use Rattle.ctap_encoding.specs.Content.{item_of}
 use Rattle.ctap_requests.specs.Entities.{parameters_members}
 use Rattle.key_requests.specs.Requests.{algorithm_content}
 use Rattle.key_requests.proofs.values.algorithms_value.Given as goal

@@ -1,8 +1,8 @@
 -- What the loop of `descriptors_value` keeps.
 use Rattle.std.proofs.Common.{◌≡◌, take, map}
 use Rattle.ccbor.specs.View.{view}
-use Rattle.cbor_map.specs.Table.{record_of}
-use Rattle.cbor_map.specs.Content.{item_of}
+use Rattle.ctap_encoding.specs.Table.{record_of}
+use Rattle.ctap_encoding.specs.Content.{item_of}
 use Rattle.key_replies.specs.Replies.{credential_content, credential_members}
 use Rattle.key_requests.proofs.values.descriptors_value.Given as goal
 

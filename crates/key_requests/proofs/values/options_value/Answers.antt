@@ -2,7 +2,7 @@
 use Rattle.std.proofs.Common.{◌∙◌, ap}
 use Rattle.ccbor.specs.Item.{map, boolean}
 use Rattle.ccbor.proofs.Views.{view-Map}
-use Rattle.cbor_map.specs.Building.{pair_list_view}
+use Rattle.ctap_encoding.specs.Building.{pair_list_view}
 use Rattle.pin_messages.proofs.Building.{all_pairs, none_pushed, pushed_if_there}
 use Rattle.key_requests.proofs.values.options_value.Goals as goal
 

@@ -3,9 +3,9 @@ use Rattle.std.proofs.Common.{◌∙◌, ap, option_map}
 use Rattle.ccbor.specs.Item.{map, bytes, uint}
 use Rattle.ccbor.specs.View.{view}
 use Rattle.ccbor.proofs.Views.{view-Map}
-use Rattle.cbor_map.specs.Table.{list_of, record_of}
-use Rattle.cbor_map.specs.Content.{item_of}
-use Rattle.cbor_map.specs.Building.{pair_list_view}
+use Rattle.ctap_encoding.specs.Table.{list_of, record_of}
+use Rattle.ctap_encoding.specs.Content.{item_of}
+use Rattle.ctap_encoding.specs.Building.{pair_list_view}
 use Rattle.ctap_requests.specs.Entities.{creation_options_members}
 use Rattle.key_replies.specs.Replies.{credential_members}
 use Rattle.pin_messages.proofs.Building.{all_pairs, none_pushed, pushed, pushed_if_there}

@@ -1,7 +1,7 @@
 -- What is owed of `read_pin_reply`.
 use Rattle.ccbor.specs.Viewing.{shown}
-use Rattle.cbor_map.specs.Table.{record_of}
-use Rattle.ctap_status.specs.declared.error.Error.TheVariants as errors
+use Rattle.ctap_encoding.specs.Table.{record_of}
+use Rattle.ctap_encoding.specs.declared.error.Error.TheVariants as errors
 use Rattle.key_replies.specs.Reading.{open_in}
 use Rattle.key_replies.proofs.Laws.{is_reply, is_shape, never_both, no_value}
 use Rattle.key_replies.proofs.Telling.{is_told}

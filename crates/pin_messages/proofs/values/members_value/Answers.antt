@@ -2,9 +2,9 @@
 use Rattle.std.proofs.Common.{◌∙◌, ap, sym, refl, option_map}
 use Rattle.ccbor.specs.Item.{map, bytes, text, uint}
 use Rattle.ccbor.proofs.Views.{view-Map}
-use Rattle.cbor_map.specs.Table.{record_of}
-use Rattle.cbor_map.specs.Content.{item_of}
-use Rattle.cbor_map.specs.Building.{pair_list_view}
+use Rattle.ctap_encoding.specs.Table.{record_of}
+use Rattle.ctap_encoding.specs.Content.{item_of}
+use Rattle.ctap_encoding.specs.Building.{pair_list_view}
 use Rattle.pin_messages.specs.Commands.{key_members}
 use Rattle.pin_messages.proofs.Building.{all_pairs, none_pushed, pushed, pushed_if_there, view-Uint}
 use Rattle.pin_messages.proofs.values.members_value.Goals as goal

@@ -1,5 +1,5 @@
 -- What is owed of `map_fault`.
-use Rattle.cbor_map.proofs.Tables.{tables}
+use Rattle.ctap_encoding.proofs.Tables.{tables}
 use Rattle.pin_messages.proofs.writing.map_fault.Goals as goal
 
 pub returns : goal.returns

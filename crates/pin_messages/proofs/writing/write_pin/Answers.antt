@@ -3,8 +3,8 @@ use Rattle.std.proofs.Common.{◌≡◌, ◌∙◌, ap, sym, subst}
 use Rattle.ccbor.specs.Item.{Item}
 use Rattle.ccbor.specs.Canon.{Canon}
 use Rattle.ccbor.specs.View.{view}
-use Rattle.cbor_map.specs.Table.{record_of}
-use Rattle.cbor_map.specs.Content.{item_of}
+use Rattle.ctap_encoding.specs.Table.{record_of}
+use Rattle.ctap_encoding.specs.Content.{item_of}
 use Rattle.pin_messages.specs.CommandView.{command_view}
 use Rattle.pin_messages.specs.Commands.{pin_content, pin_members}
 use Rattle.pin_messages.proofs.writing.write_pin.Goals as goal

@@ -1,7 +1,7 @@
 -- What is owed of `pairs_without`.
 use Rattle.std.proofs.Common.{◌∙◌, ap, sym}
 use Rattle.ccbor.specs.Viewing.{shown, shown_pairs}
-use Rattle.cbor_map.specs.Building.{pair_list_view}
+use Rattle.ctap_encoding.specs.Building.{pair_list_view}
 use Rattle.pin_messages.proofs.Building.{all_pairs, onto}
 use Rattle.pin_requests.specs.Protected.{without}
 use Rattle.pin_requests.proofs.Pairs.{first_is, none_is, taken}

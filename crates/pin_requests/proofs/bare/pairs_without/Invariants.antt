@@ -1,7 +1,7 @@
 -- What the loop of `pairs_without` keeps.
 use Rattle.std.proofs.Common.{◌≡◌}
 use Rattle.ccbor.specs.Viewing.{shown_pairs}
-use Rattle.cbor_map.specs.Building.{pair_list_view}
+use Rattle.ctap_encoding.specs.Building.{pair_list_view}
 use Rattle.pin_messages.proofs.Building.{onto}
 use Rattle.pin_requests.specs.Protected.{without}
 use Rattle.pin_requests.proofs.bare.pairs_without.Given as goal

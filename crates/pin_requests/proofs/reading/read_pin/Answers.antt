@@ -1,7 +1,7 @@
 -- What is owed of `read_pin`.
 use Rattle.std.proofs.Common.{◌∙◌, Some, ap, inl, inr}
 use Rattle.ccbor.specs.Viewing.{shown}
-use Rattle.cbor_map.specs.Table.{record_of}
+use Rattle.ctap_encoding.specs.Table.{record_of}
 use Rattle.key_replies.specs.Reading.{open_in}
 use Rattle.key_replies.proofs.Telling.{is_told}
 use Rattle.pin_requests.specs.Asking.{TellsAsking, asked_members}

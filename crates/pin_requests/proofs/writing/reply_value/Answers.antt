@@ -2,9 +2,9 @@
 use Rattle.std.proofs.Common.{◌∙◌, ap}
 use Rattle.ccbor.specs.Item.{boolean, bytes, map, uint}
 use Rattle.ccbor.proofs.Views.{view-Map}
-use Rattle.cbor_map.specs.Table.{record_of}
-use Rattle.cbor_map.specs.Content.{item_of}
-use Rattle.cbor_map.specs.Building.{pair_list_view}
+use Rattle.ctap_encoding.specs.Table.{record_of}
+use Rattle.ctap_encoding.specs.Content.{item_of}
+use Rattle.ctap_encoding.specs.Building.{pair_list_view}
 use Rattle.pin_messages.specs.Commands.{key_members}
 use Rattle.pin_messages.proofs.Building.{all_pairs, none_pushed, pushed_if_there}
 use Rattle.pin_requests.proofs.writing.reply_value.Goals as goal

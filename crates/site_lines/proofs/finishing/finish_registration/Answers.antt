@@ -2,7 +2,7 @@
 use Rattle.std.proofs.Common.{Some, None, ◌∙◌, ap, map, subst}
 use Rattle.std.specs.Prelude.{string_bytes}
 use Rattle.authdata.specs.Responses.{registration_response_view}
-use Rattle.credential_details.specs.Details.{detail_view, told}
+use Rattle.credential_store.specs.Details.{detail_view, told}
 use Rattle.site_lines.specs.Details.{IsAaguid, joined, second}
 use Rattle.site_lines.proofs.Detailed.{registers_detail}
 use Rattle.site_lines.proofs.finishing.finish_registration.Goals as goal

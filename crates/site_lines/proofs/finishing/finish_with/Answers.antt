@@ -2,7 +2,7 @@
 use Rattle.std.proofs.Common.{◌∙◌, ap, subst}
 use Rattle.kept_site.specs.State.{KeptState}
 use Rattle.site_lines.specs.Private.{IsRefusedRegistration}
-use Rattle.credential_details.specs.Details.{detail_view}
+use Rattle.credential_store.specs.Details.{detail_view}
 use Rattle.site_lines.proofs.Detailed.{registration_leaves}
 use Rattle.site_lines.proofs.Finished.{registration_accepted, registration_left, registration_refused, registration_step}
 use Rattle.site_lines.proofs.finishing.finish_with.Goals as goal

@@ -1,5 +1,0 @@
-pub mod Table
-pub mod TableView
-pub mod Content
-pub mod Reading
-pub mod Building
