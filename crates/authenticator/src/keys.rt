@@ -50,6 +50,13 @@ pub struct HandedKeys {
     pub eddsa_x: [u8; 32],
 }
 
+/// The keys that come with an act by which no credential is made.
+pub const NO_KEYS: HandedKeys = HandedKeys {
+    es256_x: [0; 32],
+    es256_y: [0; 32],
+    eddsa_x: [0; 32],
+};
+
 impl PublicKeys for HandedKeys {
     ghost use Rattle.authenticator.specs.Handed.{handed_key, handed_keeps_alg};
 

@@ -25,7 +25,7 @@ mod signing;
 pub use authenticator::Authenticator;
 pub use consent::{Consent, Words};
 pub use error::LoadError;
-pub use keys::{HandedKeys, PublicKeys, SchemeKeys};
+pub use keys::{HandedKeys, NO_KEYS, PublicKeys, SchemeKeys};
 pub use law::{saving_laws, signing_laws, step_laws};
 pub use make_credential::MAX_CREDENTIALS;
 pub use pending::{Begun, Pending};

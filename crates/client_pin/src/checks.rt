@@ -6,8 +6,9 @@ ghost use Rattle.pin_messages.specs.ReplyView.{key_view};
 ghost use Rattle.client_pin.specs.Pieces.{Gives};
 ghost use Rattle.client_pin.specs.Steps.{allowed_permissions, client_point, is_agreement_key, known_protocol, needed, unset, without_scope};
 
-use crate::end::{
-    End, INVALID_PARAMETER, MISSING_PARAMETER, PIN_AUTH_INVALID, UNAUTHORIZED_PERMISSION,
+use crate::end::End;
+use ctap_encoding::status::{
+    INVALID_PARAMETER, MISSING_PARAMETER, PIN_AUTH_INVALID, UNAUTHORIZED_PERMISSION,
 };
 use pin_messages::{AgreementKey, Point};
 use pin_protocols::Protocol;

@@ -9,7 +9,8 @@ ghost use Rattle.pin_protocols.specs.Protocols.{has_iv};
 ghost use Rattle.client_pin.specs.Host.{decrypted, encrypted, product, secret, verified};
 ghost use Rattle.client_pin.specs.Pieces.{Gives, of_product_stop};
 
-use crate::end::{End, INVALID_PARAMETER, PIN_AUTH_INVALID};
+use crate::end::End;
+use ctap_encoding::status::{INVALID_PARAMETER, PIN_AUTH_INVALID};
 use pin_messages::Point;
 use pin_protocols::{Answers, Protocol, Secret, Stop};
 use std::alloc::Global;

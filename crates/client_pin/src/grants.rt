@@ -8,9 +8,10 @@ ghost use Rattle.client_pin.specs.State.{pin_view, token_view};
 
 use crate::checks::{known_protocol, needed_number};
 use crate::computing::verified;
-use crate::end::{End, PIN_AUTH_INVALID};
+use crate::end::End;
 use crate::state::{ClientPin, Token};
 use crate::words::Grant;
+use ctap_encoding::status::PIN_AUTH_INVALID;
 use pin_protocols::{Answers, Protocol};
 use std::alloc::{AllocError, Global};
 

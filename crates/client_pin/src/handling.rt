@@ -9,10 +9,11 @@ ghost use Rattle.client_pin.specs.State.{pin_view, with_pair};
 ghost use Rattle.client_pin.specs.Steps.{judged, key_agreement, verdict};
 
 use crate::checks::{known_protocol, needed_number};
-use crate::end::{End, INVALID_SUBCOMMAND};
+use crate::end::End;
 use crate::outcome::{Outcome, status_alone};
 use crate::state::{ClientPin, KeyPair};
 use crate::words::{PinStep, PinWords};
+use ctap_encoding::status::INVALID_SUBCOMMAND;
 use pin_protocols::Answers;
 use pin_requests::PinAsked;
 use std::alloc::{AllocError, Global};

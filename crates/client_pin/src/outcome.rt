@@ -7,8 +7,8 @@ ghost use Rattle.client_pin.specs.Outcomes.{Replies, done, mismatch_status, noth
 ghost use Rattle.client_pin.specs.Pieces.{outcome_view};
 ghost use Rattle.client_pin.specs.State.{over, pin_view};
 
-use crate::end::{PIN_AUTH_BLOCKED, PIN_BLOCKED, PIN_INVALID};
 use crate::state::{ClientPin, Token};
+use ctap_encoding::status::{PIN_AUTH_BLOCKED, PIN_BLOCKED, PIN_INVALID};
 use pin_messages::{AgreementKey, PinReply};
 use pin_requests::write_pin_reply;
 use std::alloc::{AllocError, Global};

@@ -8,7 +8,8 @@ ghost use Rattle.client_pin.specs.Pieces.{Gives};
 ghost use Rattle.client_pin.specs.Pins.{is_allowed, kept_hash, new_hash, sealed_size, unpadded};
 
 use crate::computing::decrypted;
-use crate::end::{End, INVALID_PARAMETER, PIN_POLICY_VIOLATION};
+use crate::end::End;
+use ctap_encoding::status::{INVALID_PARAMETER, PIN_POLICY_VIOLATION};
 use pin_protocols::{Answers, Protocol, Secret, code_points};
 use sha2::{Digest, Sha256};
 use std::alloc::Global;

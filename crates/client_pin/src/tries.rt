@@ -11,8 +11,9 @@ ghost use Rattle.client_pin.specs.Steps.{is_right, may_try, pin_of, shared, trie
 
 use crate::checks::client_point;
 use crate::computing::{decrypted, is_same, product, secret};
-use crate::end::{End, PIN_AUTH_BLOCKED, PIN_BLOCKED, PIN_NOT_SET};
+use crate::end::End;
 use crate::state::{ClientPin, KeyPair};
+use ctap_encoding::status::{PIN_AUTH_BLOCKED, PIN_BLOCKED, PIN_NOT_SET};
 use pin_messages::AgreementKey;
 use pin_protocols::{Answers, Protocol, Secret};
 use std::alloc::Global;

@@ -49,5 +49,33 @@ pub const NO_CREDENTIALS: u8 = 0x2e;
 /// No assertion is remembered: sent by getNextAssertion.
 pub const NOT_ALLOWED: u8 = 0x30;
 
-/// Another fault, as a counter at its end: sent by makeCredential, getAssertion and getNextAssertion.
+/// The PIN is wrong: sent by clientPIN; and for an empty pinUvAuthParam where a PIN is set.
+pub const PIN_INVALID: u8 = 0x31;
+
+/// No retry is left: sent by clientPIN.
+pub const PIN_BLOCKED: u8 = 0x32;
+
+/// A pinUvAuthParam or a token is not that of the request: sent by clientPIN, makeCredential and getAssertion.
+pub const PIN_AUTH_INVALID: u8 = 0x33;
+
+/// Three wrong PINs in a row, and no try before the next power cycle: sent by clientPIN.
+pub const PIN_AUTH_BLOCKED: u8 = 0x34;
+
+/// No PIN is set: sent by clientPIN; and for an empty pinUvAuthParam.
+pub const PIN_NOT_SET: u8 = 0x35;
+
+/// A token is needed: sent by makeCredential where a PIN is set.
+pub const PUAT_REQUIRED: u8 = 0x36;
+
+/// The new PIN is too short or too long: sent by clientPIN.
+pub const PIN_POLICY_VIOLATION: u8 = 0x37;
+
+/// The subcommand is none of these: sent by clientPIN.
+pub const INVALID_SUBCOMMAND: u8 = 0x3e;
+
+/// A permission is asked for that is not given here: sent by clientPIN.
+pub const UNAUTHORIZED_PERMISSION: u8 = 0x40;
+
+/// Another fault, as a counter at its end, or an answer of the host of another size: sent by makeCredential, getAssertion,
+/// getNextAssertion and clientPIN.
 pub const OTHER: u8 = 0x7f;

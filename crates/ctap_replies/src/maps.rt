@@ -11,7 +11,7 @@ ghost use Rattle.ctap_replies.specs.ReplyView.{creation_reply_view, lent_asserti
 
 use crate::reply::{AssertionView, CreationReply, InfoReply};
 use ctap_encoding::{
-    Error, Shape, any_map, bytes, end, items, members, optional, required, sized, text, that_text,
+    MapError, Shape, any_map, bytes, end, items, members, optional, required, sized, text, that_text,
     truth, unsigned,
 };
 use ccbor::{MapKey, View};
@@ -86,7 +86,7 @@ pub fn assertion_reply<'a>(value: &View<'a>) -> Result<AssertionView<'a>, Shape>
 }
 
 /// A reply to makeCredential (CTAP 2.1, section 6.1.2), copied out.
-pub fn creation_reply(alloc: Global, value: &View<'_>) -> Result<CreationReply, Error>
+pub fn creation_reply(alloc: Global, value: &View<'_>) -> Result<CreationReply, MapError>
     ensures { Gives (λ r. creation_reply_content (creation_reply_view r)) result
         (read_in (record_of creation_reply_members) (shown value.now)) }
 {
@@ -105,7 +105,7 @@ pub fn creation_reply(alloc: Global, value: &View<'_>) -> Result<CreationReply, 
     })
 }
 
-fn texts(alloc: Global, value: &View<'_>) -> Result<Vec<String>, Error>
+fn texts(alloc: Global, value: &View<'_>) -> Result<Vec<String>, MapError>
     ensures { Gives (λ v. map string_bytes v.items) result (read_in (list_of a_text) (shown value.now)) }
 {
     let mut rest = items(value)?;
@@ -117,7 +117,7 @@ fn texts(alloc: Global, value: &View<'_>) -> Result<Vec<String>, Error>
     Ok(all)
 }
 
-fn named_truth(alloc: Global, name: &View<'_>, value: &View<'_>) -> Result<(String, bool), Error>
+fn named_truth(alloc: Global, name: &View<'_>, value: &View<'_>) -> Result<(String, bool), MapError>
     ensures { Gives (λ o. (string_bytes o.0, o.1)) result
         (named_truth (shown name.now) (shown value.now)) }
 {
@@ -126,7 +126,7 @@ fn named_truth(alloc: Global, name: &View<'_>, value: &View<'_>) -> Result<(Stri
     Ok((name, truth))
 }
 
-fn truths(alloc: Global, value: &View<'_>) -> Result<Vec<(String, bool)>, Error>
+fn truths(alloc: Global, value: &View<'_>) -> Result<Vec<(String, bool)>, MapError>
     ensures { Gives (λ v. map (λ o. (string_bytes o.0, o.1)) v.items) result
         (read_in truths (shown value.now)) }
 {
@@ -140,7 +140,7 @@ fn truths(alloc: Global, value: &View<'_>) -> Result<Vec<(String, bool)>, Error>
 }
 
 /// A reply to getInfo (CTAP 2.1, section 6.4), copied out.
-pub fn info(alloc: Global, value: &View<'_>) -> Result<InfoReply, Error>
+pub fn info(alloc: Global, value: &View<'_>) -> Result<InfoReply, MapError>
     ensures { Gives (λ r. info_content (info_view r)) result
         (read_in (record_of info_members) (shown value.now)) }
 {

@@ -14,7 +14,7 @@ use crate::request::{
     AssertionOptions, CreationOptions, DescriptorView, Parameters, RelyingParty, User,
 };
 use ctap_encoding::{
-    Error, Shape, bytes, end, items, members, number, optional, required, sized, text,
+    MapError, Shape, bytes, end, items, members, number, optional, required, sized, text,
     truth_if_there,
 };
 use ccbor::{MapKey, View};
@@ -45,7 +45,7 @@ fn descriptor<'a>(value: &View<'a>) -> Result<DescriptorView<'a>, Shape>
 }
 
 /// The descriptors of a list, where they lie.
-pub fn descriptors<'a>(alloc: Global, value: &View<'a>) -> Result<Vec<DescriptorView<'a>>, Error>
+pub fn descriptors<'a>(alloc: Global, value: &View<'a>) -> Result<Vec<DescriptorView<'a>>, MapError>
     ensures { Gives (λ v. map descriptor_content (map lent_descriptor_view v.items)) result
         (read_in (list_of (record_of descriptor_members)) (shown value.now)) }
 {
@@ -59,7 +59,7 @@ pub fn descriptors<'a>(alloc: Global, value: &View<'a>) -> Result<Vec<Descriptor
 }
 
 /// A text that may be absent.
-fn text_if_there(alloc: Global, held: Option<View<'_>>) -> Result<Option<String>, Error>
+fn text_if_there(alloc: Global, held: Option<View<'_>>) -> Result<Option<String>, MapError>
     ensures { Gives (λ o. option_map (λ s. string_bytes s) o) result
         (maybe text_in (option_map shown held.entry)) }
 {
@@ -70,7 +70,7 @@ fn text_if_there(alloc: Global, held: Option<View<'_>>) -> Result<Option<String>
 }
 
 /// A relying party.
-pub fn relying_party(alloc: Global, value: &View<'_>) -> Result<RelyingParty, Error>
+pub fn relying_party(alloc: Global, value: &View<'_>) -> Result<RelyingParty, MapError>
     ensures { Gives (λ r. rp_content (rp_view r)) result
         (read_in (record_of rp_members) (shown value.now)) }
 {
@@ -85,7 +85,7 @@ pub fn relying_party(alloc: Global, value: &View<'_>) -> Result<RelyingParty, Er
 }
 
 /// A user account.
-pub fn user(alloc: Global, value: &View<'_>) -> Result<User, Error>
+pub fn user(alloc: Global, value: &View<'_>) -> Result<User, MapError>
     ensures { Gives (λ u. user_content (user_view u)) result
         (read_in (record_of user_members) (shown value.now)) }
 {
@@ -105,7 +105,7 @@ pub fn user(alloc: Global, value: &View<'_>) -> Result<User, Error>
     })
 }
 
-fn parameters(alloc: Global, value: &View<'_>) -> Result<Parameters, Error>
+fn parameters(alloc: Global, value: &View<'_>) -> Result<Parameters, MapError>
     ensures { Gives (λ p. parameters_content (parameters_view p)) result
         (read_in (record_of parameters_members) (shown value.now)) }
 {
@@ -119,7 +119,7 @@ fn parameters(alloc: Global, value: &View<'_>) -> Result<Parameters, Error>
 }
 
 /// The types and algorithms of a list.
-pub fn parameter_list(alloc: Global, value: &View<'_>) -> Result<Vec<Parameters>, Error>
+pub fn parameter_list(alloc: Global, value: &View<'_>) -> Result<Vec<Parameters>, MapError>
     ensures { Gives (λ v. map parameters_content (map parameters_view v.items)) result
         (read_in (list_of (record_of parameters_members)) (shown value.now)) }
 {

@@ -141,13 +141,17 @@ pub enum RequestView<'a> {
     Reset,
 }
 
-/// The command bytes.
+/// The command byte of authenticatorMakeCredential (CTAP 2.1, section 6).
 pub const MAKE_CREDENTIAL: u8 = 0x01;
 
+/// The command byte of authenticatorGetAssertion.
 pub const GET_ASSERTION: u8 = 0x02;
 
+/// The command byte of authenticatorGetInfo.
 pub const GET_INFO: u8 = 0x04;
 
+/// The command byte of authenticatorReset.
 pub const RESET: u8 = 0x07;
 
+/// The command byte of authenticatorGetNextAssertion.
 pub const GET_NEXT_ASSERTION: u8 = 0x08;

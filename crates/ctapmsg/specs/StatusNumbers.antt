@@ -1,2 +1,2 @@
 -- The status bytes; the crate `ctap_encoding` defines them.
-pub use Rattle.ctap_encoding.specs.StatusNumbers.{HasReadingStatuses, HasRefusingStatuses}
+pub use Rattle.ctap_encoding.specs.StatusNumbers.{HasPinStatuses, HasReadingStatuses, HasRefusingStatuses}

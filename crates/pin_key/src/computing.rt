@@ -8,10 +8,11 @@ ghost use Rattle.pin_requests.specs.Protected.{client_data_hash, permission, rp_
 ghost use Rattle.pin_requests.specs.ProtectedView.{message_of};
 ghost use Rattle.pin_key.specs.Granting.{IsGranted};
 
-use crate::looking::{CLIENT_PIN, command_of};
+use crate::looking::command_of;
 use client_pin::{ClientPin, Grant, PinStep, PinWords};
 use ctap_encoding::Error;
 use ctap_encoding::status::OTHER;
+use pin_messages::CLIENT_PIN;
 use pin_protocols::{Answers, Ask};
 use pin_requests::{ProtectedRequest, protected_request, read_param, read_pin};
 use std::alloc::{AllocError, Global};

@@ -6,26 +6,14 @@ ghost use Rattle.authenticator.specs.Steps.{Keys};
 ghost use Rattle.pin_key.specs.Granting.{HandsGranted, IsBare};
 
 use crate::computing::status_alone;
-use crate::looking::{GET_INFO, Look, RESET, command_of, look_at};
-use authenticator::{Authenticator, Begun, Consent, HandedKeys, PublicKeys, Words};
+use crate::looking::{Look, command_of, look_at};
+use authenticator::{Authenticator, Begun, Consent, NO_KEYS, PublicKeys, Words};
 use client_pin::ClientPin;
 use ctap_encoding::Error;
-use ctap_encoding::status::{OK, OPERATION_DENIED, OTHER};
+use ctap_encoding::status::{OK, OPERATION_DENIED, OTHER, PIN_INVALID, PIN_NOT_SET};
+use ctap_requests::{GET_INFO, RESET};
 use pin_requests::{bare_request, protected_request, read_param, write_key_info};
 use std::alloc::{AllocError, Global};
-
-/// The PIN is not the right one: sent for an empty pinUvAuthParam where a PIN is set (CTAP 2.1, section 8.2).
-const PIN_INVALID: u8 = 0x31;
-
-/// No PIN is set: sent for an empty pinUvAuthParam.
-const PIN_NOT_SET: u8 = 0x35;
-
-/// The keys that come with an act by which no credential is made.
-pub(crate) const NO_KEYS: HandedKeys = HandedKeys {
-    es256_x: [0; 32],
-    es256_y: [0; 32],
-    eddsa_x: [0; 32],
-};
 
 /// A request that the user decided on.
 #[derive(Clone, Copy, Drop)]

@@ -6,13 +6,15 @@ ghost use Rattle.hidlink.specs.Ranks.{IsWorking};
 ghost use Rattle.pin_key.specs.Key.{IsNew};
 
 use crate::computing::{Step, next_step};
-use crate::deciding::{Asked, NO_KEYS, begin, begin_granted, forget};
+use crate::deciding::{Asked, begin, begin_granted, forget};
 use crate::error::PinKeyError;
 use crate::looking::{Look, look_at};
 use crate::sending::{answer, make_room};
 use crate::stage::{Computation, Stage, Told};
 use authdata::AttestationType;
-use authenticator::{Authenticator, Begun, Consent, LoadError, Pending, PublicKeys, Words};
+use authenticator::{
+    Authenticator, Begun, Consent, LoadError, NO_KEYS, Pending, PublicKeys, Words,
+};
 use client_pin::{ClientPin, PinLoadError, PinWords};
 use hidframe::Packet;
 use hidlink::{Device, DeviceEvent};

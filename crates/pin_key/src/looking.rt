@@ -5,26 +5,10 @@ ghost use Rattle.pin_requests.specs.ProtectedView.{flags_view, protection_view};
 ghost use Rattle.pin_key.specs.Looking.{IsLook, LooksAtParam, asks_verification, command_of, look_of};
 
 use ctap_encoding::Error;
-use ctap_encoding::status::{INVALID_OPTION, OTHER};
+use ctap_encoding::status::{INVALID_OPTION, OTHER, PUAT_REQUIRED};
+use ctap_requests::{GET_ASSERTION, MAKE_CREDENTIAL};
+use pin_messages::CLIENT_PIN;
 use pin_requests::{OptionsAsked, ParamView, read_param};
-
-/// The command byte of authenticatorMakeCredential.
-const MAKE_CREDENTIAL: u8 = 0x01;
-
-/// The command byte of authenticatorGetAssertion.
-const GET_ASSERTION: u8 = 0x02;
-
-/// The command byte of authenticatorGetInfo.
-pub(crate) const GET_INFO: u8 = 0x04;
-
-/// The command byte of authenticatorClientPIN.
-pub(crate) const CLIENT_PIN: u8 = 0x06;
-
-/// The command byte of authenticatorReset.
-pub(crate) const RESET: u8 = 0x07;
-
-/// A token is needed: sent by makeCredential where a PIN is set (CTAP 2.1, section 8.2).
-const PUAT_REQUIRED: u8 = 0x36;
 
 /// How a request is answered.
 #[derive(Clone, Copy, Debug, PartialEq, Eq, Drop)]

@@ -10,23 +10,7 @@ use ctap_encoding::status::OTHER;
 use hidframe::Packet;
 use hidframe::ctaphid::MAX_PAYLOAD_SIZE;
 use hidlink::Device;
-
-/// The most packets of one message.
-const MOST_PACKETS: usize = 129;
-
-/// Puts the packets that are left to send behind the others, for which there is room.
-fn drain(device: &mut Device, out: &mut Vec<Packet>)
-    requires { vec_len out.old + 129 ≤ vec_capacity out.old }
-    ensures device { device.new ≡ record device.old { left = [] } }
-    ensures out { out.new.items ≡ out.old.items ++ device.old.left }
-{
-    for _number in 0..MOST_PACKETS {
-        let Some(packet) = device.next_out() else {
-            return;
-        };
-        let _ = out.push(packet);
-    }
-}
+use security_key::{MOST_PACKETS, drain};
 
 /// The bytes, where they fit into a message; else status 0x7F.
 fn fitting<'a>(reply: &'a [u8]) -> &'a [u8]

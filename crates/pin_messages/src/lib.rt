@@ -9,7 +9,7 @@ mod reply;
 mod values;
 mod writing;
 
-pub use command::{PinCommand, Point};
+pub use command::{CLIENT_PIN, PinCommand, Point};
 pub use maps::agreement_key_if_there;
 pub use reading::{read_done, read_pin_reply};
 pub use reply::{AgreementKey, PinReply};

@@ -13,15 +13,14 @@ ghost use Rattle.pin_requests.specs.Protected.{IsUnprotected, IsWithout, Refused
 ghost use Rattle.pin_requests.specs.ProtectedView.{message_of};
 
 use crate::asked::ProtectedRequest;
-use crate::param::{GET_ASSERTION, MAKE_CREDENTIAL};
 use crate::reading::{behind, whole};
 use ccbor::{MapKey, MapView, Value, View, encode};
-use ctap_requests::{
-    AssertionOptions, CreationOptions, GetAssertion, MakeCredential, Request, read_request,
-    write_request,
-};
 use ctap_encoding::Error;
 use ctap_encoding::status::{CBOR_UNEXPECTED_TYPE, INVALID_COMMAND};
+use ctap_requests::{
+    AssertionOptions, CreationOptions, GET_ASSERTION, GetAssertion, MAKE_CREDENTIAL,
+    MakeCredential, Request, read_request, write_request,
+};
 use std::alloc::{AllocError, Global};
 
 /// Appends a pair, where its key is none of two.

@@ -11,12 +11,7 @@ use crate::maps::protection;
 use crate::reading::{behind, whole};
 use ctap_encoding::Error;
 use ctap_encoding::status::{CBOR_UNEXPECTED_TYPE, INVALID_COMMAND};
-
-/// The command byte of authenticatorMakeCredential.
-pub(crate) const MAKE_CREDENTIAL: u8 = 0x01;
-
-/// The command byte of authenticatorGetAssertion.
-pub(crate) const GET_ASSERTION: u8 = 0x02;
+use ctap_requests::{GET_ASSERTION, MAKE_CREDENTIAL};
 
 /// What the map behind a command byte says, by the numbers of its members.
 fn param_in(rest: &[u8], options: u64, param: u64, protocol: u64) -> Result<ParamView<'_>, Error>

@@ -14,9 +14,7 @@ use crate::maps::asked;
 use ccbor::View;
 use ctap_encoding::Error;
 use ctap_encoding::status::{CBOR_UNEXPECTED_TYPE, INVALID_CBOR, INVALID_COMMAND, MISSING_PARAMETER};
-
-/// The command byte of authenticatorClientPIN.
-const CLIENT_PIN: u8 = 0x06;
+use pin_messages::CLIENT_PIN;
 
 /// One whole canonical value.
 pub(crate) fn whole(bytes: &[u8]) -> Result<View<'_>, Error>

@@ -5,4 +5,4 @@ mod law;
 mod serving;
 
 pub use law::serving_laws;
-pub use serving::{Act, ServeError, Served, begin_serving, finish_serving, serve};
+pub use serving::{Act, MOST_PACKETS, ServeError, Served, begin_serving, drain, finish_serving, serve};

@@ -23,7 +23,7 @@ use std::alloc::AllocError;
 use thiserror::Error as ErrorType;
 
 /// The most packets of one message.
-const MOST_PACKETS: usize = 129;
+pub const MOST_PACKETS: usize = 129;
 
 /// What happens at the authenticator's end.
 #[derive(Clone, Copy, Drop)]
@@ -81,7 +81,7 @@ impl From<AllocError> for ServeError {
 }
 
 /// Puts the packets that are left to send behind the others, for which there is room.
-fn drain(device: &mut Device, out: &mut Vec<Packet>)
+pub fn drain(device: &mut Device, out: &mut Vec<Packet>)
     requires { vec_len out.old + 129 ≤ vec_capacity out.old }
     ensures device { device.new ≡ record device.old { left = [] } }
     ensures out { out.new.items ≡ out.old.items ++ device.old.left }

@@ -1,16 +1,9 @@
 //! The lines that are read.
 
-use authenticator::{Consent, HandedKeys, Words};
+use authenticator::{Consent, HandedKeys, NO_KEYS, Words};
 use hidframe::Packet;
 use security_key::Act;
 use std::alloc::{AllocError, Global};
-
-/// The keys that come with an act by which no credential is made.
-const NO_KEYS: HandedKeys = HandedKeys {
-    es256_x: [0; 32],
-    es256_y: [0; 32],
-    eddsa_x: [0; 32],
-};
 
 /// A line.
 #[derive(Drop)]

@@ -1,6 +1,6 @@
 //! The key: its device and its authenticator.
 
-use authenticator::{Authenticator, Begun, Consent, HandedKeys, Pending, Words};
+use authenticator::{Authenticator, Begun, Consent, HandedKeys, NO_KEYS, Pending, Words};
 use cose::SigningAlg;
 use hidframe::Packet;
 use hidlink::{Device, DeviceEvent};
@@ -12,13 +12,6 @@ use uses_lines::{tell_bytes, told, unexpected};
 const AGREES: Consent = Consent {
     present: true,
     verified: true,
-};
-
-/// The public keys before the host has told them.
-const NO_KEYS: HandedKeys = HandedKeys {
-    es256_x: [0; 32],
-    es256_y: [0; 32],
-    eddsa_x: [0; 32],
 };
 
 /// A device and its authenticator.
