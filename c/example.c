@@ -89,14 +89,14 @@ static EVP_PKEY *public_key(const passkey_key *key)
     return key_of("EC", OSSL_PARAM_dup(params));
 }
 
-static bool is_valid(const passkey_verified *triple)
+static bool is_valid(const passkey_verified *verified)
 {
-    EVP_PKEY *key = public_key(&triple->key);
+    EVP_PKEY *key = public_key(&verified->key);
     EVP_MD_CTX *context = EVP_MD_CTX_new();
-    const EVP_MD *hash = triple->key.algorithm == PASSKEY_EDDSA ? NULL : EVP_sha256();
+    const EVP_MD *hash = verified->key.algorithm == PASSKEY_EDDSA ? NULL : EVP_sha256();
     bool valid = key != NULL && context != NULL && EVP_DigestVerifyInit(context, NULL, hash, NULL, key) == 1 &&
-                 EVP_DigestVerify(context, triple->signature.data, triple->signature.size, triple->message.data,
-                                  triple->message.size) == 1;
+                 EVP_DigestVerify(context, verified->signature.data, verified->signature.size, verified->message.data,
+                                  verified->message.size) == 1;
     EVP_MD_CTX_free(context);
     EVP_PKEY_free(key);
     return valid;

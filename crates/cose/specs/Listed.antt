@@ -4,5 +4,5 @@ use Rattle.cose.specs.declared.key.CoseKey.{CoseKey}
 use Rattle.cose.specs.declared.list.Entry.{Entry}
 
 -- the key, the message and the signature of an entry
-abbrev pub entry_triple : Entry → CoseKey × List ℕ × List ℕ
-entry_triple e = (e.key, e.message.items, e.sig.items)
+abbrev pub entry_view : Entry → CoseKey × List ℕ × List ℕ
+entry_view e = (e.key, e.message.items, e.sig.items)

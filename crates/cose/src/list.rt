@@ -2,7 +2,7 @@
 
 ghost use Rattle.std.specs.Prelude.{◌≡◌, ◌↔◌, ◌++◌, ◌∷◌, [], Contains, IsTrue, OnOk, OnErr};
 ghost use Rattle.cose.specs.Keys.{lent_key_view};
-ghost use Rattle.cose.specs.Listed.{entry_triple};
+ghost use Rattle.cose.specs.Listed.{entry_view};
 
 use crate::key::{CoseKey, KeyView};
 use crate::scheme::Verifier;
@@ -18,7 +18,7 @@ struct Entry {
 }
 
 /// A verifier to which exactly the signatures are valid that were listed: a contract sees it as
-/// the list of triples of key, message and signature in the order in which they were added.
+/// the list of keys, messages and signatures in the order in which they were added.
 #[derive(Drop)]
 pub struct ListScheme {
     entries: Vec<Entry>,
@@ -27,11 +27,11 @@ pub struct ListScheme {
 impl Model for ListScheme {
     ghost use Rattle.std.specs.Prelude.{List, ℕ, map};
     ghost use Rattle.cose.specs.declared.key.CoseKey.{CoseKey};
-    ghost use Rattle.cose.specs.Listed.{entry_triple};
+    ghost use Rattle.cose.specs.Listed.{entry_view};
 
     ghost Value = { List (CoseKey × List ℕ × List ℕ) };
 
-    ghost view = { λ s. map entry_triple s.entries.items };
+    ghost view = { λ s. map entry_view s.entries.items };
 }
 
 impl ListScheme {
@@ -71,7 +71,7 @@ pub fn is_joined(text: &[u8], first: &[u8], second: &[u8]) -> bool
 /// Whether the entry is of this key, message and signature.
 fn is_entry(entry: &Entry, key: &KeyView<'_>, first: &[u8], second: &[u8], sig: &[u8]) -> bool
     ensures { IsTrue result
-        ↔ (entry_triple entry.now ≡ (lent_key_view key.now, first.now ++ second.now, sig.now)) }
+        ↔ (entry_view entry.now ≡ (lent_key_view key.now, first.now ++ second.now, sig.now)) }
 {
     entry.key.view().is_same(key)
         && is_joined(entry.message.as_slice(), first, second)

@@ -58,7 +58,7 @@ Asks false call = λ key message signature.
 abbrev pub Tells : SignatureCall → SignatureOut → List ℕ → List ℕ → Bool → Type 0
 Tells call out message signature true =
     (key : CoseKey) × (m : List ℕ) × (s : List ℕ) × Asks (flag_of call.is_registration) call key m s
-    × TellsKey out.key key × Fills out.message_length message m × Fills out.signature_length signature s
+    × TellsKey out.key key × Fills out.message_size message m × Fills out.signature_size signature s
 Tells call out message signature false =
     (flag_of call.is_registration ≡ true) × AsksNothing (profile_of call.profile) (flag_of call.attestation) (response_of call.registration)
 
@@ -93,8 +93,8 @@ IsUntold call m s errors.Memory = Unit {0}
 
 abbrev pub TellsAs : SignatureOut → List ℕ → List ℕ → AskedSignature → Type 0
 TellsAs out message signature asked =
-    (out.is_asked ≡ true) × TellsKey out.key (lent_key_view asked.key) × Fills out.message_length message (asked.auth_data.now ++ asked.hash)
-    × Fills out.signature_length signature asked.signature.now
+    (out.is_asked ≡ true) × TellsKey out.key (lent_key_view asked.key) × Fills out.message_size message (asked.auth_data.now ++ asked.hash)
+    × Fills out.signature_size signature asked.signature.now
 
 abbrev pub IsSmall : ℕ → ℕ → AskedSignature → Limit → Type 0
 IsSmall m s asked limits.MessageRoom = m < length (asked.auth_data.now ++ asked.hash)

@@ -76,7 +76,7 @@ Fills size room bytes = (size ≡ length bytes) × (take size room ≡ bytes)
 
 -- the host is told this key: its algorithm's number, and as many bytes of x and y as it has
 abbrev pub TellsKey : KeyOut → CoseKey → Type 0
-TellsKey out key = (out.algorithm ≡ number_of (alg_of key)) × Fills out.x_length out.x (x_of key) × Fills out.y_length out.y (y_of key)
+TellsKey out key = (out.algorithm ≡ number_of (alg_of key)) × Fills out.x_size out.x (x_of key) × Fills out.y_size out.y (y_of key)
 
 -- the profile of its number: 0 is the strict one, 1 the open one, 2 that of Level 3, and no other number is a profile's
 abbrev pub IsProfile : ℕ → Type 0

@@ -55,10 +55,10 @@ IsFormat format o key = ((format ≡ 0) × IsNone o) ⊎ ((format ≡ 1) × ((si
 -- counts, say
 abbrev pub TellsAttested : RegistrationOut → Attestation → AuthenticatorData → AttestedCredential → List ℕ → Type 0
 TellsAttested out o a c object =
-    Fills out.id_length out.id c.id × TellsKey out.key c.key × (out.aaguid ≡ c.aaguid)
+    Fills out.id_size out.id c.id × TellsKey out.key c.key × (out.aaguid ≡ c.aaguid)
     × (out.sign_count ≡ a.sign_count) × (out.flags ≡ a.flags)
     × (out.eligible ≡ is_set a.flags BE) × (out.backed_up ≡ is_set a.flags BS) × (out.user_verified ≡ is_set a.flags UV)
-    × IsFormat out.format o c.key × IsEnd out.extensions_length object (extension_bytes a.extensions)
+    × IsFormat out.format o c.key × IsEnd out.extensions_size object (extension_bytes a.extensions)
 
 -- the object as it counts for the session
 abbrev pub counted_in : RegistrationCall → Attestation → Attestation

@@ -24,15 +24,15 @@ abbrev pub TellsView : AssertionOut → AuthView → Type 0
 TellsView out a =
     (out.sign_count ≡ a.sign_count) × (out.flags ≡ a.flags)
     × (out.eligible ≡ is_set a.flags BE) × (out.backed_up ≡ is_set a.flags BS) × (out.user_verified ≡ is_set a.flags UV)
-    × (out.extensions_length ≡ length (extension_bytes (lent_auth_view a).extensions))
+    × (out.extensions_size ≡ length (extension_bytes (lent_auth_view a).extensions))
 
 -- what a registration attests is told
 abbrev pub TellsSeen : RegistrationOut → SeenRegistration → Type 0
 TellsSeen out s =
-    Fills out.id_length out.id s.credential.id.now × TellsKey out.key (lent_attested_view s.credential).key × (out.aaguid ≡ s.credential.aaguid)
+    Fills out.id_size out.id s.credential.id.now × TellsKey out.key (lent_attested_view s.credential).key × (out.aaguid ≡ s.credential.aaguid)
     × (out.sign_count ≡ s.data.sign_count) × (out.flags ≡ s.data.flags)
     × (out.eligible ≡ is_set s.data.flags BE) × (out.backed_up ≡ is_set s.data.flags BS) × (out.user_verified ≡ is_set s.data.flags UV)
-    × (out.format ≡ (if s.is_none then 0 else 1)) × (out.extensions_length ≡ length (extension_bytes (lent_auth_view s.data).extensions))
+    × (out.format ≡ (if s.is_none then 0 else 1)) × (out.extensions_size ≡ length (extension_bytes (lent_auth_view s.data).extensions))
 
 -- this is what an accepted registration attests
 abbrev pub IsAccepted : RegistrationCall → SeenRegistration → Type 0

@@ -53,7 +53,7 @@ abbrev pub TellsData : AssertionOut → AuthenticatorData → List ℕ → Type 
 TellsData out a bytes =
     (out.sign_count ≡ a.sign_count) × (out.flags ≡ a.flags)
     × (out.eligible ≡ is_set a.flags BE) × (out.backed_up ≡ is_set a.flags BS) × (out.user_verified ≡ is_set a.flags UV)
-    × IsEnd out.extensions_length bytes (extension_bytes a.extensions)
+    × IsEnd out.extensions_size bytes (extension_bytes a.extensions)
 
 abbrev pub TellsSignIn : AssertionCall → AssertionOut → Type 0
 TellsSignIn call out =

@@ -82,8 +82,8 @@ fn tell(
     if signature.len() < asked.signature.len() {
         return Err(Limit::SignatureRoom);
     }
-    out.message_length = write_joined(message, asked.auth_data, &asked.hash);
-    out.signature_length = write_front(asked.signature, signature);
+    out.message_size = write_joined(message, asked.auth_data, &asked.hash);
+    out.signature_size = write_front(asked.signature, signature);
     write_key(&asked.key, &mut out.key);
     out.is_asked = true;
     Ok(())

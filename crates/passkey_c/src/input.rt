@@ -64,18 +64,18 @@ pub(crate) fn write_key(key: &KeyView<'_>, out: &mut KeyOut)
     match key {
         KeyView::Es256 { x, y } => {
             out.algorithm = -7;
-            out.x_length = write_front(x, &mut out.x);
-            out.y_length = write_front(y, &mut out.y);
+            out.x_size = write_front(x, &mut out.x);
+            out.y_size = write_front(y, &mut out.y);
         }
         KeyView::EdDsa { x } => {
             out.algorithm = -8;
-            out.x_length = write_front(x, &mut out.x);
-            out.y_length = 0;
+            out.x_size = write_front(x, &mut out.x);
+            out.y_size = 0;
         }
         KeyView::Rs256(key) => {
             out.algorithm = -257;
-            out.x_length = write_front(key.n, &mut out.x);
-            out.y_length = write_front(key.e, &mut out.y);
+            out.x_size = write_front(key.n, &mut out.x);
+            out.y_size = write_front(key.e, &mut out.y);
         }
     }
 }

@@ -140,7 +140,7 @@ pub struct AssertionOut {
     /// The flags of the authenticator data, by their bits (WebAuthn Level 2, section 6.1).
     pub flags: u8,
     /// How many bytes the map of extensions has, the last ones of the authenticator data: 0 where there is none.
-    pub extensions_length: usize,
+    pub extensions_size: usize,
 }
 
 /// What a registration that has begun expects.
@@ -210,11 +210,11 @@ pub struct KeyOut {
     /// The key's algorithm: -7, ES256, -8, EdDSA, or -257, RS256.
     pub algorithm: i32,
     /// How many bytes the key's x has.
-    pub x_length: usize,
+    pub x_size: usize,
     /// The key's x, of RSA the modulus, and after it what was there.
     pub x: [u8; 512],
     /// How many bytes the key's y has: none of EdDSA.
-    pub y_length: usize,
+    pub y_size: usize,
     /// The key's y, of RSA the public exponent, and after it what was there.
     pub y: [u8; 32],
 }
@@ -224,7 +224,7 @@ pub struct KeyOut {
 #[derive(Drop)]
 pub struct RegistrationOut {
     /// How many bytes the credential id has.
-    pub id_length: usize,
+    pub id_size: usize,
     /// The credential id, and after it what was there.
     pub id: [u8; 1023],
     /// The public key.
@@ -244,7 +244,7 @@ pub struct RegistrationOut {
     /// How the credential is attested: 0, not at all, or 1, by a packed statement with a signature of its own key.
     pub format: u32,
     /// How many bytes the map of extensions has, the last ones of the attestation object: 0 where there is none.
-    pub extensions_length: usize,
+    pub extensions_size: usize,
 }
 
 /// A response whose signature is to be verified.
@@ -274,7 +274,7 @@ pub struct SignatureOut {
     /// The public key.
     pub key: KeyOut,
     /// How many bytes of the room are the message.
-    pub message_length: usize,
+    pub message_size: usize,
     /// How many bytes of the room are the signature.
-    pub signature_length: usize,
+    pub signature_size: usize,
 }

@@ -83,7 +83,7 @@ pub(crate) fn seen_in(profile: Profile, asked: bool, object: &[u8]) -> Option<Se
 }
 
 /// How many bytes the extensions have.
-fn extensions_length(view: &AuthView<'_>) -> usize
+fn extensions_size(view: &AuthView<'_>) -> usize
     ensures { result ≡ length (extension_bytes (lent_auth_view view.now).extensions) }
 {
     match view.extensions {
@@ -101,7 +101,7 @@ pub(crate) fn tell_data(view: &AuthView<'_>, out: &mut AssertionOut)
     out.backed_up = flags::is_set(view.flags, flags::BS);
     out.user_verified = flags::is_set(view.flags, flags::UV);
     out.flags = view.flags;
-    out.extensions_length = extensions_length(view);
+    out.extensions_size = extensions_size(view);
 }
 
 /// Tells what a registration attests.
@@ -109,7 +109,7 @@ pub(crate) fn tell_registration(seen: &SeenRegistration<'_>, out: &mut Registrat
     requires { length seen.now.credential.id.now ≤ 1023 }
     ensures { TellsSeen out.new seen.now }
 {
-    out.id_length = write_front(seen.credential.id, &mut out.id);
+    out.id_size = write_front(seen.credential.id, &mut out.id);
     write_key(&seen.credential.key, &mut out.key);
     out.sign_count = seen.data.sign_count;
     out.eligible = flags::is_set(seen.data.flags, flags::BE);
@@ -118,5 +118,5 @@ pub(crate) fn tell_registration(seen: &SeenRegistration<'_>, out: &mut Registrat
     out.flags = seen.data.flags;
     out.aaguid = seen.credential.aaguid;
     out.format = if seen.is_none { 0 } else { 1 };
-    out.extensions_length = extensions_length(&seen.data);
+    out.extensions_size = extensions_size(&seen.data);
 }

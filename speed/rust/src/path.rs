@@ -100,7 +100,7 @@ pub struct Row { pub user: Vec<u8>, pub key: Vec<u8>, pub count: u32 }
 pub struct Session { pub open: bool, pub user: Option<Vec<u8>>, pub allow: Vec<Vec<u8>>, pub uv: bool, pub challenge: String }
 pub struct Site { pub rp_hash: [u8; 32], pub origins: Vec<String>, pub rows: HashMap<Vec<u8>, Row>, pub sessions: HashMap<u64, Session> }
 
-/// The stub: true of one listed triple.
+/// The stub: true of one listed signature.
 pub struct Listed { pub key: Vec<u8>, pub message: Vec<u8>, pub sig: Vec<u8> }
 impl Listed {
     pub fn verify(&self, key: &[u8], parts: [&[u8]; 2], sig: &[u8]) -> bool {
