@@ -45,8 +45,8 @@ pub enum Error {
     /// The attestation statement's format is neither `none` nor `packed`.
     #[error("the attestation statement's format is unknown")]
     UnknownFormat,
-    /// The attestation statement does not hold.
-    #[error("the attestation statement does not hold")]
+    /// The attestation statement is not valid.
+    #[error("the attestation statement is not valid")]
     BadStatement,
 }
 
