@@ -10,11 +10,11 @@ ghost use Rattle.ctap_replies.specs.Replies.{creation_reply_content, assertion_r
 ghost use Rattle.ctap_replies.specs.ReplyView.{creation_reply_view, lent_assertion_view, info_view};
 
 use crate::reply::{AssertionView, CreationReply, InfoReply};
-use ctap_encoding::{
-    MapError, Shape, any_map, bytes, end, items, members, optional, required, sized, text, that_text,
-    truth, unsigned,
-};
 use ccbor::{MapKey, View};
+use ctap_encoding::{
+    MapError, Shape, any_map, bytes, end, items, members, optional, required, sized, text,
+    that_text, truth, unsigned,
+};
 use std::alloc::Global;
 
 /// A credential id or a user handle: 1 to 64 bytes.

@@ -5,8 +5,8 @@ ghost use Rattle.ccbor.specs.View.{view};
 ghost use Rattle.ctap_encoding.specs.Table.{gravest, record_of};
 ghost use Rattle.ctap_replies.specs.Replies.{creation_reply_members, info_members};
 
-use ctap_encoding::{Fault, Holds, gravest};
 use ccbor::{MapKey, Value};
+use ctap_encoding::{Fault, Holds, gravest};
 
 const CREATION_REPLY: Holds = Holds::Record(&[
     (MapKey::Uint(1), true, Holds::Text),

@@ -8,8 +8,8 @@ ghost use Rattle.ctap_replies.specs.Replies.{creation_reply_item, info_item};
 ghost use Rattle.ctap_replies.specs.ReplyView.{creation_reply_view, info_view};
 
 use crate::reply::{CreationReply, InfoReply};
-use ctap_encoding::{bytes_value, push_member, text_value};
 use ccbor::{MapKey, Value};
+use ctap_encoding::{bytes_value, push_member, text_value};
 use std::alloc::{AllocError, Global};
 
 /// The value of a reply to makeCredential.

@@ -13,11 +13,11 @@ ghost use Rattle.ctap_requests.specs.RequestView.{lent_descriptor_view, rp_view,
 use crate::request::{
     AssertionOptions, CreationOptions, DescriptorView, Parameters, RelyingParty, User,
 };
+use ccbor::{MapKey, View};
 use ctap_encoding::{
     MapError, Shape, bytes, end, items, members, number, optional, required, sized, text,
     truth_if_there,
 };
-use ccbor::{MapKey, View};
 use std::alloc::Global;
 
 /// The text, where it lies.

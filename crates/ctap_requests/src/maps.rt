@@ -21,8 +21,10 @@ use crate::owned::owned_descriptors;
 use crate::request::{
     AssertionOptions, CreationOptions, Descriptor, DescriptorView, GetAssertionView, MakeCredential,
 };
-use ctap_encoding::{MapError, Shape, any_map, bytes, end, members, not_empty, optional, required, sized};
 use ccbor::{MapKey, View};
+use ctap_encoding::{
+    MapError, Shape, any_map, bytes, end, members, not_empty, optional, required, sized,
+};
 use std::alloc::Global;
 
 /// At most 8 descriptors, which may be absent.

@@ -19,12 +19,12 @@ use crate::request::{
     RESET, Request, RequestView,
 };
 use crate::tables::map_fault;
-use ctap_encoding::{Error, Fault};
 use ccbor::View;
 use ctap_encoding::status::{
     CBOR_UNEXPECTED_TYPE, INVALID_CBOR, INVALID_COMMAND, INVALID_PARAMETER, LIMIT_EXCEEDED,
     MISSING_PARAMETER,
 };
+use ctap_encoding::{Error, Fault};
 use std::alloc::Global;
 
 /// What a map's gravest fault is answered by.

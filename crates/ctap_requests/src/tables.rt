@@ -6,8 +6,8 @@ ghost use Rattle.ctap_encoding.specs.Table.{gravest, record_of};
 ghost use Rattle.ctap_requests.specs.Requests.{creation_members, assertion_members, map_of};
 
 use crate::request::MAKE_CREDENTIAL;
-use ctap_encoding::{Fault, Holds, gravest};
 use ccbor::{MapKey, Value};
+use ctap_encoding::{Fault, Holds, gravest};
 
 const DESCRIPTOR: Holds = Holds::Record(&[
     (

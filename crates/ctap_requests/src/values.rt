@@ -14,8 +14,8 @@ ghost use Rattle.ctap_requests.specs.RequestView.{descriptor_view, rp_view, user
 use crate::request::{
     AssertionOptions, CreationOptions, Descriptor, Parameters, RelyingParty, User,
 };
-use ctap_encoding::{Error, bytes_value, push_if_there, push_member, text_value};
 use ccbor::{MapKey, Value};
+use ctap_encoding::{Error, bytes_value, push_if_there, push_member, text_value};
 use std::alloc::{AllocError, Global};
 
 fn text_if_there(alloc: Global, content: &Option<String>) -> Result<Option<Value>, AllocError>

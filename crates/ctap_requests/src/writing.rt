@@ -19,8 +19,8 @@ use crate::values::{
     assertion_options_if_there, creation_options_if_there, descriptors_if_there,
     parameter_list_value, rp_value, user_value,
 };
-use ctap_encoding::{Error, bytes_value, push_if_there, push_member, text_value};
 use ccbor::{MapKey, Value, encode};
+use ctap_encoding::{Error, bytes_value, push_if_there, push_member, text_value};
 use std::alloc::{AllocError, Global};
 
 /// The value of a makeCredential request's map; `Unfit` where an algorithm's number has no head.

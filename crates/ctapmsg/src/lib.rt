@@ -2,6 +2,7 @@
 //! replies, of the crate `ctap_replies`, in the message encoding of section 8.
 #![tactic(auto)]
 
+pub use ctap_encoding::{Error, status, status_numbers};
 pub use ctap_replies::{
     AssertionReply, AssertionView, CreationReply, InfoReply, Kind, Reply, read_assertion,
     read_creation, read_reply, write_assertion, write_reply,
@@ -11,4 +12,3 @@ pub use ctap_requests::{
     MakeCredential, Parameters, RelyingParty, Request, RequestView, User, one_rank, read_request,
     view_request, write_request,
 };
-pub use ctap_encoding::{Error, status, status_numbers};

@@ -8,8 +8,8 @@ ghost use Rattle.ctap_encoding.specs.Table.{any_map, sized, some_bytes, that_tex
 ghost use Rattle.ctap_encoding.specs.declared.fault.Fault.TheVariants as faults;
 ghost use Rattle.key_replies.specs.Reading.{held_in, open_in};
 
-use ctap_encoding::{Shape, any_map, bytes, number, sized, that_text, truth, unsigned};
 use ccbor::{MapKey, View};
+use ctap_encoding::{Shape, any_map, bytes, number, sized, that_text, truth, unsigned};
 
 /// The value at a key, which must be there.
 pub fn value_at<'a>(value: &View<'a>, key: MapKey<'_>) -> Result<View<'a>, Shape>

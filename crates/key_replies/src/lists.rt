@@ -11,8 +11,8 @@ ghost use Rattle.key_replies.specs.ReplyView.{parameters_view};
 
 use crate::leaf::{number_at, text, text_at, value_at};
 use crate::reply::ParametersView;
-use ctap_encoding::{MapError, Shape, any_map, items, members, truth, unsigned};
 use ccbor::{MapKey, View};
+use ctap_encoding::{MapError, Shape, any_map, items, members, truth, unsigned};
 use std::alloc::Global;
 
 fn texts<'a>(alloc: Global, value: &View<'a>) -> Result<Vec<&'a str>, MapError>
@@ -28,7 +28,11 @@ fn texts<'a>(alloc: Global, value: &View<'a>) -> Result<Vec<&'a str>, MapError>
 }
 
 /// The texts at a key.
-pub fn texts_at<'a>(alloc: Global, value: &View<'a>, key: MapKey<'_>) -> Result<Vec<&'a str>, MapError>
+pub fn texts_at<'a>(
+    alloc: Global,
+    value: &View<'a>,
+    key: MapKey<'_>,
+) -> Result<Vec<&'a str>, MapError>
     ensures { Gives (λ v. map (λ s. s.now) v.items) result
         (held_in (open_in (list_of a_text)) (member (key_item key.entry) (shown value.now))) }
 {

@@ -21,8 +21,8 @@ use crate::lists::{
 use crate::reply::{
     AssertionMembers, InfoFeatures, InfoLimits, KeyAssertion, KeyCreation, KeyInfo, UserView,
 };
-use ctap_encoding::{MapError, Shape, any_map};
 use ccbor::{MapKey, View};
+use ctap_encoding::{MapError, Shape, any_map};
 use std::alloc::{AllocError, Global};
 
 /// The id of a descriptor of type `public-key`.

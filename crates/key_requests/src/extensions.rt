@@ -8,8 +8,8 @@ ghost use Rattle.ctap_encoding.specs.Table.{record_of};
 ghost use Rattle.key_requests.specs.Extensions.{assertion_inputs, assertion_inputs_content, creation_inputs, creation_inputs_content, named_protocol, secret_content, secret_members, wanted};
 ghost use Rattle.key_requests.specs.ExtensionView.{assertion_inputs_view, creation_inputs_view, secret_view};
 
-use ctap_encoding::{bytes_value, push_if_there, push_member};
 use ccbor::{MapKey, Value};
+use ctap_encoding::{bytes_value, push_if_there, push_member};
 use pin_messages::{Point, bytes_if_there, number_if_there, point_value};
 use std::alloc::{AllocError, Global};
 

@@ -5,8 +5,8 @@ ghost use Rattle.ccbor.specs.View.{view};
 ghost use Rattle.ctap_encoding.specs.Table.{gravest, record_of};
 ghost use Rattle.key_requests.specs.Requests.{assertion_members, creation_members};
 
-use ctap_encoding::{Fault, Holds, gravest};
 use ccbor::{MapKey, Value};
+use ctap_encoding::{Fault, Holds, gravest};
 
 const HASH: Holds = Holds::Sized(32, 32, Fault::InvalidSize, &Holds::Bytes);
 

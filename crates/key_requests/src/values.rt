@@ -11,8 +11,8 @@ ghost use Rattle.key_requests.specs.Requests.{algorithm_content, descriptors, op
 ghost use Rattle.key_requests.specs.RequestView.{options_view, rp_view, user_view};
 
 use crate::request::{Options, RelyingParty, User};
-use ctap_encoding::{bytes_value, push_if_there, push_member, text_value};
 use ccbor::{MapKey, Value};
+use ctap_encoding::{bytes_value, push_if_there, push_member, text_value};
 use pin_messages::text_if_there;
 use std::alloc::{AllocError, Global};
 

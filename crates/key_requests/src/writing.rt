@@ -21,8 +21,8 @@ use crate::tables::{assertion_fault, creation_fault};
 use crate::values::{
     algorithms_value, descriptors_if_there, options_if_there, rp_value, user_value,
 };
-use ctap_encoding::{Fault, bytes_value, push_if_there, push_member, text_value};
 use ccbor::{MapKey, Value, encode};
+use ctap_encoding::{Fault, bytes_value, push_if_there, push_member, text_value};
 use key_replies::KeyInfo;
 use pin_messages::{bytes_if_there, number_if_there};
 use std::alloc::{AllocError, Global};

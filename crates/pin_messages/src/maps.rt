@@ -11,8 +11,8 @@ ghost use Rattle.pin_messages.specs.Replies.{key_content, reply_content, reply_m
 ghost use Rattle.pin_messages.specs.ReplyView.{key_view, reply_view};
 
 use crate::reply::{AgreementKey, PinReply};
-use ctap_encoding::{Shape, any_map};
 use ccbor::{MapKey, View};
+use ctap_encoding::{Shape, any_map};
 use key_replies::{bytes_if_there, number_at, sized_bytes_at, truth_if_there, unsigned_if_there};
 
 fn agreement_key<'a>(value: &View<'a>) -> Result<AgreementKey<'a>, Shape>

@@ -10,8 +10,8 @@ ghost use Rattle.pin_messages.specs.Commands.{key_members, pin_members, point_co
 ghost use Rattle.pin_messages.specs.Pieces.{content_of};
 
 use crate::command::{PinMembers, Point};
-use ctap_encoding::{bytes_value, push_if_there, push_member, text_value};
 use ccbor::{MapKey, Value};
+use ctap_encoding::{bytes_value, push_if_there, push_member, text_value};
 use std::alloc::{AllocError, Global};
 
 /// The COSE_Key of a point for the key agreement (CTAP 2.1, section 6.5.6).

@@ -11,8 +11,8 @@ ghost use Rattle.pin_messages.specs.Pieces.{content_of};
 
 use crate::command::{CLIENT_PIN, PinCommand, PinMembers};
 use crate::values::members_value;
-use ctap_encoding::{Error, Fault, Holds, gravest};
 use ccbor::{MapKey, Value, encode};
+use ctap_encoding::{Error, Fault, Holds, gravest};
 use std::alloc::{AllocError, Global};
 
 const KEY: Holds = Holds::Record(&[

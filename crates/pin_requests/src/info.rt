@@ -10,8 +10,8 @@ ghost use Rattle.key_replies.specs.ReplyView.{info_view};
 ghost use Rattle.pin_requests.specs.Informing.{KeyInfoBytes, key_info_content, key_info_members};
 
 use crate::writing::with_value;
-use ctap_encoding::{Error, bytes_value, push_if_there, push_member, text_value};
 use ccbor::{MapKey, Value};
+use ctap_encoding::{Error, bytes_value, push_if_there, push_member, text_value};
 use key_replies::{KeyInfo, read_info};
 use pin_messages::number_if_there;
 use std::alloc::{AllocError, Global};

@@ -12,8 +12,8 @@ ghost use Rattle.pin_requests.specs.Protected.{flag_content, flag_members, prote
 ghost use Rattle.pin_requests.specs.ProtectedView.{flags_view, protection_view};
 
 use crate::asked::{AskedMembers, OptionsAsked, ParamView};
-use ctap_encoding::{Shape, any_map};
 use ccbor::{MapKey, View};
+use ctap_encoding::{Shape, any_map};
 use key_replies::{bytes_if_there, truth_if_there, unsigned_if_there};
 use pin_messages::agreement_key_if_there;
 

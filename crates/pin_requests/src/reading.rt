@@ -13,7 +13,9 @@ use crate::asked::{AskedMembers, PinAsked};
 use crate::maps::asked;
 use ccbor::View;
 use ctap_encoding::Error;
-use ctap_encoding::status::{CBOR_UNEXPECTED_TYPE, INVALID_CBOR, INVALID_COMMAND, MISSING_PARAMETER};
+use ctap_encoding::status::{
+    CBOR_UNEXPECTED_TYPE, INVALID_CBOR, INVALID_COMMAND, MISSING_PARAMETER,
+};
 use pin_messages::CLIENT_PIN;
 
 /// One whole canonical value.

@@ -12,9 +12,9 @@ ghost use Rattle.pin_messages.specs.Replies.{IsPoint, key_content, reply_content
 ghost use Rattle.pin_messages.specs.ReplyView.{key_view, reply_view};
 ghost use Rattle.pin_requests.specs.Replying.{PinReplyBytes};
 
-use ctap_encoding::{Error, push_if_there};
 use ccbor::{MapKey, Value, encode};
 use ctap_encoding::status::OK;
+use ctap_encoding::{Error, push_if_there};
 use pin_messages::{AgreementKey, PinReply, bytes_if_there, number_if_there, point_value};
 use std::alloc::{AllocError, Global};
 

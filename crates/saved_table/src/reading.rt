@@ -13,10 +13,12 @@ ghost use Rattle.saved_table.specs.Views.{members_content, table_members_view};
 ghost use Rattle.saved_table.specs.declared.error.Error.TheVariants as errors;
 
 use crate::error::Error;
-use ctap_encoding::{Shape, any_map, bytes, end, members, optional, required, truth_if_there, unsigned};
 use ccbor::{ArrayView, MapKey, View};
 use cose::KeyView;
 use credential_table::Row;
+use ctap_encoding::{
+    Shape, any_map, bytes, end, members, optional, required, truth_if_there, unsigned,
+};
 use std::alloc::Global;
 
 /// The members of a table's map.

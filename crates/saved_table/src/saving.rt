@@ -10,9 +10,9 @@ ghost use Rattle.authdata.specs.declared.profile.Profile.TheVariants.{Open};
 ghost use Rattle.saved_table.specs.Saved.{AppendsTable, FitsVersion, credential_item, table_item, true_if, version_of};
 
 use crate::reading::needs_version_4;
-use ctap_encoding::{bytes_value, push_if_there, push_member, text_value};
 use ccbor::{MapKey, Value, encode};
 use credential_table::Table;
+use ctap_encoding::{bytes_value, push_if_there, push_member, text_value};
 use std::alloc::{AllocError, Global};
 use verification::RowView;
 

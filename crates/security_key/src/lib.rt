@@ -5,4 +5,6 @@ mod law;
 mod serving;
 
 pub use law::serving_laws;
-pub use serving::{Act, MOST_PACKETS, ServeError, Served, begin_serving, drain, finish_serving, serve};
+pub use serving::{
+    Act, MOST_PACKETS, ServeError, Served, begin_serving, drain, finish_serving, serve,
+};
