@@ -44,6 +44,8 @@ export interface StoredServerOptions extends ServerOptions {
   isExisting?: boolean;
   /** The number of a session that is known to have begun: an older copy of the file is refused, and none is made. */
   atLeast?: number;
+  /** Whether each commit flushes twice, for disks that may leave any bytes of a write that is cut off: false. */
+  wary?: boolean;
   /** What the program tells: nothing, refusals (also `true`), or acceptances and errors too. */
   log?: boolean | "refusals" | "all";
   /** Seconds after which a session ends by itself: 300. */

@@ -25,7 +25,7 @@ function textOf(value, what) {
 }
 
 function wordsOf(program, file, rpId, origins, how) {
-  const { rpName, acceptNone, acceptSelf, profile, topOrigins, maxOpen, maxCredentials, isExisting, atLeast, log, expire } = how;
+  const { rpName, acceptNone, acceptSelf, profile, topOrigins, maxOpen, maxCredentials, isExisting, atLeast, wary, log, expire } = how;
   if (!acceptNone && !acceptSelf) throw new BadInput("no attestation is accepted");
   checkOneOf(log, "log", LOGS);
   return [
@@ -33,7 +33,7 @@ function wordsOf(program, file, rpId, origins, how) {
     ...checkTopOrigins(topOrigins).map((origin) => `--top-origin=${origin}`), `--profile=${checkOneOf(profile, "profile", PROFILES)}`, `--attestation=${acceptNone && acceptSelf ? "any" : acceptNone ? "none" : "self"}`,
     ...(maxOpen === undefined ? [] : [`--max-open=${numberIn(maxOpen, "maxOpen", 1)}`]),
     ...(maxCredentials === undefined ? [] : [`--max-credentials=${numberIn(maxCredentials, "maxCredentials", 1)}`]), ...(isExisting ? ["--existing"] : []),
-    ...(atLeast === undefined ? [] : [`--at-least=${numberIn(atLeast, "atLeast", 0)}`]),
+    ...(atLeast === undefined ? [] : [`--at-least=${numberIn(atLeast, "atLeast", 0)}`]), ...(wary ? ["--wary"] : []),
     ...(log === false ? [] : [`--log=${log === true ? "refusals" : log}`]),
     ...(expire === undefined ? [] : [`--expire=${numberIn(expire, "expire", 1)}`]), "--", textOf(file, "the file's path"),
   ];
@@ -70,7 +70,7 @@ export class StoredServer {
   #program;
 
   constructor(program, file, rpId, origins, {
-    rpName = rpId, acceptNone = true, acceptSelf = true, profile = "level3", topOrigins = [], maxOpen, maxCredentials, isExisting = false, atLeast, log = false, expire,
+    rpName = rpId, acceptNone = true, acceptSelf = true, profile = "level3", topOrigins = [], maxOpen, maxCredentials, isExisting = false, atLeast, wary = false, log = false, expire,
     timeout = 30_000, logger = console.error, verify = isValid,
   } = {}) {
     this.origins = checkParty(rpId, origins);
@@ -78,7 +78,7 @@ export class StoredServer {
     this.rpName = rpName;
     this.verify = verify;
     const words = wordsOf(program, file, rpId, this.origins, {
-      rpName, acceptNone, acceptSelf, profile, topOrigins, maxOpen, maxCredentials, isExisting, atLeast, log, expire,
+      rpName, acceptNone, acceptSelf, profile, topOrigins, maxOpen, maxCredentials, isExisting, atLeast, wary, log, expire,
     });
     const key = JSON.stringify(words);
     numberIn(timeout, "timeout", 1);

@@ -185,6 +185,18 @@ class Record:
                 if any(file.calls or not file.is_named for file in files)]
 
 
+def flushes_of(calls, path):
+    """How often a file was flushed for each answer that something was accepted, since the answer before it."""
+    found, count = [], 0
+    for call in calls:
+        if call.kind == "flush" and call.path == path:
+            count += 1
+        elif call.kind == "tell":
+            found += [count] if b'"accepted"' in call.data else []
+            count = 0
+    return found
+
+
 def is_named_when_whole(calls, part, name):
     """Whether a file that is made under one name and renamed was flushed before that, and its folder behind it, before the next
     answer."""

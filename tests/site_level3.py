@@ -7,7 +7,7 @@ from pathlib import Path
 
 sys.path.insert(0, str(Path(__file__).resolve().parent))
 from site_lines import ORIGIN, PARTY, USER, Host, Tests  # noqa: E402
-from device import AT, UP, UV, Device  # noqa: E402
+from device import AT, UP, UV, Device, changed  # noqa: E402
 from garvoeng import StoredServer  # noqa: E402
 from garvoeng.forms import to_text  # noqa: E402
 
@@ -88,11 +88,21 @@ def asked(tests):
         for attestation in (None, False, True):
             more = {} if attestation is None else {"attestation": attestation}
             begun = host.ask("begin_registration", user=to_text(USER), user_name="name", **more)
-            device = Device(credential=b"d" + str(attestation).encode())
-            answer = host.ask("finish_registration", session=begun["session"], response=device.register(begun["options"], packed=True))
+            made = Device(credential=b"d" + str(attestation).encode()).register(begun["options"], packed=True)
+            answer = host.ask("finish_registration", session=begun["session"], response=made)
             is_looked_at = attestation is True or not is_new
             tests.check(f"{profile}: attestation {attestation}", sorted(answer)[0], "verify" if is_looked_at else "accepted")
+            found = host.finish("finish_registration", begun["session"], made) if is_looked_at else answer
+            tests.check(f"{profile}: its format, attestation {attestation}", found["accepted"]["format"], "packed" if is_looked_at else "none")
         tests.check(f"{profile}: with its signature", step_of(registers(host, Device(credential=b"e"), packed=True, attestation=True)), "accepted")
+        begun = host.ask("begin_registration", user=to_text(USER), user_name="name", attestation=True)
+        found = host.finish("finish_registration", begun["session"], Device(credential=b"f").register(begun["options"]))
+        tests.check(f"{profile}: the format of none, asked for", found["accepted"]["format"], "none")
+        begun = host.ask("begin_registration", user=to_text(USER), user_name="name")
+        other = changed(Device(credential=b"g").register(begun["options"], packed=True), "attestationObject",
+                        lambda data: data.replace(b"\x66packed", b"\x68fido-u2f"))
+        found = host.finish("finish_registration", begun["session"], other)
+        tests.check(f"{profile}: a format that is not known", found["accepted"]["format"] if is_new else step_of(found), "none" if is_new else "G12")
         for name in ("conditional", "attestation"):
             for bad in (1, "true", [], {}):
                 answer = host.ask("begin_registration", user=to_text(USER), user_name="name", **{name: bad})

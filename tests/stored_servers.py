@@ -169,6 +169,9 @@ def causes(tests):
     with StoredServer(tests.program, "-dash.db", RP_ID, [ORIGIN], "-a name") as server:
         tests.check("a file and a name that begin with a dash", server.rows(), [])
         tests.check("the name", server.register_begin(USER, "name")[0]["rp"]["name"], "-a name")
+    for wary in (False, True):
+        with tests.server("wary.db", wary=wary) as server:
+            tests.check(f"wary={wary}", (server.rows(), "--wary" in server._process.process.args), ([], wary))
     heard, handler = [], logging.Handler()
     handler.emit = lambda record: heard.append(record.getMessage())
     logging.getLogger("garvoeng").addHandler(handler)

@@ -41,7 +41,7 @@ test("visits", async () => {
     device = new Device(algorithm, { id: Buffer.from(`${index}`) });
     const { id, x, y, aaguid } = device, made = await registered(server, device, { isPacked: index === 1 });
     assert.deepEqual(made.credential, new Credential({ id, user, algorithm, x, y, signCount: 0, eligible: false }));
-    assert.deepEqual({ ...made, credential: null }, { credential: null, aaguid: Uint8Array.from(aaguid), format: index === 1 ? "packed" : "none", userVerified: true,
+    assert.deepEqual({ ...made, credential: null }, { credential: null, aaguid: Uint8Array.from(aaguid), format: "none", userVerified: true,
                                                       backedUp: false, flags: UP | UV | AT, extensions: new Uint8Array(0) });
     const { options, session } = await server.authenticateBegin({ user, allow: [made.credential] });
     response = device.signIn(options, { user });
@@ -129,6 +129,8 @@ test("Level 3: the second of two pages that may frame, conditional registrations
     const wrong = Object.assign(new Device(EDDSA, { id: Buffer.from("wrong") }), { sign: () => Buffer.alloc(64) });
     const unlooked = registers(server, wrong, {}, { isPacked: true });
     await (isOpen ? assert.rejects(unlooked, { name: "G13" }) : unlooked);
+    const packed = await registers(server, new Device(EDDSA, { id: Buffer.from("packed") }), {}, { isPacked: true });
+    assert.equal(packed.format, isOpen ? "packed" : "none");
     wrong.id = Buffer.from("other");
     await assert.rejects(registers(server, wrong, { attestation: "direct" }, { isPacked: true }), { name: "G13" });
     await server.close();
@@ -312,6 +314,12 @@ test("what could not be started says why", async () => {
   assert.deepEqual(await dash.rows(), []);
   await dash.close();
   process.chdir(cwd);
+  for (const wary of [false, true]) {
+    const server = serving("wary.db", { wary });
+    assert.deepEqual(await server.rows(), []);
+    assert.equal(readFileSync(`/proc/${children()[0]}/cmdline`, "utf8").split("\0").includes("--wary"), wary);
+    await server.close();
+  }
   for (const [log, wanted] of [[false, 0], [true, 1], ["all", 1]]) {
     const said = [], server = serving(`log${log}.db`, { log, logger: (line) => said.push(line) });
     await assert.rejects(server.authenticateComplete(5, new Device().signIn({ challenge: "AA" })), { name: "W1" });

@@ -216,21 +216,23 @@ class StoredServer:
     """A relying party over the file of the proved program, which one process may have at a time.
 
     `program` is the path of the program, `file` that of the SQLite file, which is made where there is none unless
-    `existing`. With `at_least`, the number of a session that is known to have begun, an older copy of the file is refused. Calls come from any thread. Where the program has ended, the next call starts it again; one that does not
-    answer in `timeout` seconds is ended. Open sessions are in the program's memory: one ends by itself `expire` seconds after
-    it began, where `max_open` are open the oldest ends, and with the program all end. `max_credentials` is the most
-    credentials; both are from 1 to 1,000,000. With `log` each refusal is told, and with `log="all"` each acceptance and each
-    error too; all that the program tells goes to the logger `garvoeng` of `logging`. With `shared`, which is for Linux, all
-    processes of this user that name the same file and the same parameters share one program, by a Unix socket that nobody else
-    can open; it ends two seconds after the last of them. `verify(algorithm, x, y, message, signature)` tells whether a signature
-    is valid; by default `cryptography` does.
+    `existing`. With `at_least`, the number of a session that is known to have begun, an older copy of the file is refused.
+    With `wary` each commit flushes twice, for disks that may leave any bytes of a write that is cut off. Calls come from any
+    thread. Where the program has ended, the next call starts it again; one that does not answer in `timeout` seconds is
+    ended. Open sessions are in the program's memory: one ends by itself `expire` seconds after it began, where `max_open`
+    are open the oldest ends, and with the program all end. `max_credentials` is the most credentials; both are from 1 to
+    1,000,000. With `log` each refusal is told, and with `log="all"` each acceptance and each error too; all that the program
+    tells goes to the logger `garvoeng` of `logging`. With `shared`, which is for Linux, all processes of this user that name
+    the same file and the same parameters share one program, by a Unix socket that nobody else can open; it ends two seconds
+    after the last of them. `verify(algorithm, x, y, message, signature)` tells whether a signature is valid; by default
+    `cryptography` does.
     """
 
     def __init__(self, program: str, file: str, rp_id: str, origins: Sequence[str], rp_name: Optional[str] = None, *,
                  accept_none: bool = True, accept_self: bool = True, profile: str = "level3", top_origins: Sequence[str] = (),
                  max_open: int = 100_000,
-                 max_credentials: int = 1_000_000, existing: bool = False, at_least: int = 0, log: Union[bool, str] = False,
-                 expire: int = 300, timeout: float = 30.0,
+                 max_credentials: int = 1_000_000, existing: bool = False, at_least: int = 0, wary: bool = False,
+                 log: Union[bool, str] = False, expire: int = 300, timeout: float = 30.0,
                  shared: bool = False, verify: Optional[Verify] = None) -> None:
         origins = limits.check_party(rp_id, origins)
         limits.check_profile(profile)
@@ -246,6 +248,7 @@ class StoredServer:
                        *(f"--top-origin={origin}" for origin in limits.check_top_origins(top_origins)),
                        *(["--existing"] if existing else []),
                        *([f"--at-least={at_least}"] if at_least else []),
+                       *(["--wary"] if wary else []),
                        *([f"--log={'refusals' if log is True else log}"] if log else []),
                        "--", file]
         self.verify = verify if verify is not None else verify_by_cryptography()
@@ -335,9 +338,9 @@ class StoredServer:
         return await asyncio.to_thread(self.register_begin, user, user_name, display_name, **how)
 
     def register_complete(self, session: Optional[int], response: Mapping[str, Any]) -> Registered:
-        """What a RegistrationResponseJSON registers: the credential, which is in the file, and what is known of it. Where no attestation
-        was asked for, `format` is the response's own word, which nobody looked at. Raises
-        `Refused` with the first step that is not passed, `BadInput` where the response is not in the form of JSON."""
+        """What a RegistrationResponseJSON registers: the credential, which is in the file, and what is known of it. In the profile
+        `level3`, `format` is `none` where no attestation was asked for. Raises `Refused` with the first step that is not passed,
+        `BadInput` where the response is not in the form of JSON."""
         raw_id, client_data, attestation_object = forms.registration_parts(response)
         transports = forms.transports_in(response["response"].get("transports"))
         made = self._finish("finish_registration", session, _handed_on(

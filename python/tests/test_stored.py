@@ -115,6 +115,14 @@ def test_lists(site):
     assert len(site.authenticate_begin(allow=[b"x"] * 8)[0]["allowCredentials"]) == 8
 
 
+@pytest.mark.parametrize("profile, attestation, wanted", [("level3", "none", "none"), ("level3", "direct", "packed"), ("open", "none", "packed"),
+                                                          ("strict", "none", "packed")])
+def test_the_format_is_that_of_what_counts(tmp_path, profile, attestation, wanted):
+    with stored(tmp_path, profile=profile) as site:
+        options, session = site.register_begin(USER, "name", attestation=attestation)
+        assert site.register_complete(session, Device().register(options, packed=True)).format == wanted
+
+
 def test_what_is_known_of_a_credential(tmp_path):
     """It is kept with the credential, given back in options, told by rows, and gone with the credential."""
     began, (one, two, three) = int(time.time()), (Device(credential=name) for name in (b"one", b"two", b"three"))
@@ -251,7 +259,7 @@ def test_level_3_over_the_program(tmp_path):
             assert refusal(registers, site, alone, flags=AT) == "G9"
             assert registers(site, alone, {"conditional": True}, flags=AT).flags == AT
             wrong = Device(credential=b"wrong")
-            assert registers(site, wrong, packed=True, message=b"another").format == "packed"
+            assert registers(site, wrong, packed=True, message=b"another").format == "none"
             other = Device(credential=b"other")
             assert refusal(registers, site, other, {"attestation": "direct"}, packed=True, message=b"another") == "G13"
     for profile, step in (("strict", "G7"), ("open", None)):

@@ -1,12 +1,12 @@
 -- An act that is taken further, and the line that asks for it.
 use Rattle.std.proofs.Common.{◌≡◌, ℕ, List, IfOk, OnErr, Result, Ok, Err, Some, refl}
 use Rattle.client_lines.specs.Acts.{Answers, CarriesOut, Takes, TakesFurther}
-use Rattle.client_lines.specs.Lines.{Reads}
-use Rattle.client_lines.specs.declared.act.Act.{Act}
-use Rattle.client_lines.specs.declared.act.Further.{Further}
+use Rattle.client_acts.specs.Lines.{Reads}
+use Rattle.client_acts.specs.declared.act.Act.{Act}
+use Rattle.client_acts.specs.declared.act.Further.{Further}
 use Rattle.client_lines.specs.declared.answer.Told.{Told}
 use Rattle.client_lines.specs.declared.ceremony.Ceremony.{Ceremony}
-use Rattle.client_lines.specs.declared.error.LineError.{LineError}
+use Rattle.client_acts.specs.declared.error.LineError.{LineError}
 use Rattle.client_lines.specs.declared.machine.Client.{Client}
 
 -- what is told of the act is told of the client

@@ -8,19 +8,19 @@ use Rattle.hidlink.specs.Wire.{Carries, Got}
 use Rattle.key_client.specs.Facts.{Facts}
 use Rattle.pin_protocols.specs.Asks.{ask_view}
 use Rattle.client_lines.specs.Knowing.{forgotten, knowledge_facts}
-use Rattle.client_lines.specs.Lines.{Reads}
+use Rattle.client_acts.specs.Lines.{Reads}
 use Rattle.client_lines.specs.Purposes.{IsPurposeOf}
 use Rattle.client_lines.specs.Steps.{IsDone, IsNextOf}
-use Rattle.client_lines.specs.declared.act.Act.{Act}
-use Rattle.client_lines.specs.declared.act.Act.TheVariants as acts
-use Rattle.client_lines.specs.declared.act.Begin.{Begin}
-use Rattle.client_lines.specs.declared.act.Further.{Further}
-use Rattle.client_lines.specs.declared.act.Further.TheVariants as furthers
+use Rattle.client_acts.specs.declared.act.Act.{Act}
+use Rattle.client_acts.specs.declared.act.Act.TheVariants as acts
+use Rattle.client_acts.specs.declared.act.Begin.{Begin}
+use Rattle.client_acts.specs.declared.act.Further.{Further}
+use Rattle.client_acts.specs.declared.act.Further.TheVariants as furthers
 use Rattle.client_lines.specs.declared.answer.Told.{Told}
 use Rattle.client_lines.specs.declared.ceremony.Ceremony.{Ceremony}
 use Rattle.client_lines.specs.declared.ceremony.Link.{Link}
 use Rattle.client_lines.specs.declared.ceremony.Link.TheVariants.{Opening, Open}
-use Rattle.client_lines.specs.declared.error.LineError.{LineError}
+use Rattle.client_acts.specs.declared.error.LineError.{LineError}
 use Rattle.client_lines.specs.declared.knowing.Knowledge.{Knowledge}
 use Rattle.client_lines.specs.declared.machine.Client.{Client}
 use Rattle.client_lines.specs.declared.stepping.Awaits.{Awaits}

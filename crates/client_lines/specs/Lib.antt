@@ -1,5 +1,3 @@
-pub mod Kinds
-pub mod Lines
 pub mod Packets
 pub mod Knowing
 pub mod Steps

@@ -4,10 +4,10 @@ use Rattle.client.specs.Steps.{MayAsk}
 use Rattle.clientdata.specs.Serialised.{client_data_text, hash_of}
 use Rattle.clientdata.specs.declared.record.CeremonyType.{CeremonyType}
 use Rattle.clientdata.specs.declared.record.CeremonyType.TheVariants.{Create, Get}
-use Rattle.client_lines.specs.declared.act.Aim.{Aim}
-use Rattle.client_lines.specs.declared.act.Aim.TheVariants as aims
-use Rattle.client_lines.specs.declared.options.CreationOptions.{CreationOptions}
-use Rattle.client_lines.specs.declared.options.RequestOptions.{RequestOptions}
+use Rattle.client_acts.specs.declared.act.Aim.{Aim}
+use Rattle.client_acts.specs.declared.act.Aim.TheVariants as aims
+use Rattle.client_acts.specs.declared.options.CreationOptions.{CreationOptions}
+use Rattle.client_acts.specs.declared.options.RequestOptions.{RequestOptions}
 use Rattle.client_lines.specs.declared.purpose.Purpose.{Purpose}
 use Rattle.client_lines.specs.declared.purpose.Purpose.TheVariants.{Registers, SignsIn, Informs, SetsPin, ChangesPin}
 use Rattle.client_lines.specs.declared.purpose.Registration.{Registration}

@@ -6,16 +6,15 @@ ghost use Rattle.hidlink.specs.Wire.{Got};
 ghost use Rattle.client_lines.specs.Acts.{Begins, Knows, Receives, ReceivesBy, SendsBy, SendsOn, TakesFurther};
 ghost use Rattle.client_lines.specs.Knowing.{knowledge_facts};
 ghost use Rattle.client_lines.specs.Purposes.{IsPurposeOf};
-ghost use Rattle.client_lines.specs.declared.act.Further.TheVariants as furthers;
+ghost use Rattle.client_acts.specs.declared.act.Further.TheVariants as furthers;
 
-use crate::act::{Aim, Begin, Further};
 use crate::answer::{Answer, Told};
 use crate::channel::{Channel, Fed};
-use crate::error::LineError;
 use crate::knowing::Knowledge;
 use crate::purpose::{Purpose, checked_registration, checked_sign_in};
 use crate::refused::Refused;
 use crate::stepping::{Awaits, go_on};
+use client_acts::{Aim, Begin, Further, LineError};
 use hidframe::ctaphid::{CAPABILITY_CBOR, CTAPHID_BROADCAST_CID, CTAPHID_INIT, ERR_INVALID_CMD};
 use hidframe::{Head, Packet};
 use hidlink::{Opener, Opening};

@@ -5,8 +5,8 @@ ghost use Rattle.key_client.specs.Facts.{facts};
 ghost use Rattle.client_lines.specs.Knowing.{Forgets, IsWishOf, knowledge_facts};
 ghost use Rattle.client_lines.specs.declared.purpose.Purpose.TheVariants as purposes;
 
-use crate::options::Extensions;
 use crate::purpose::{Purpose, Registration, SignIn};
+use client_acts::Extensions;
 use key_client::{Asserting, Creating, Known, Wish};
 use key_requests::{CreationExtensions, RelyingParty, User};
 use pin_protocols::Answers;

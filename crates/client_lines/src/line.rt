@@ -3,17 +3,13 @@
 ghost use Rattle.std.specs.Prelude.{Result};
 ghost use Rattle.client_lines.specs.Acts.{Answers};
 ghost use Rattle.client_lines.specs.declared.answer.Told.{Told};
-ghost use Rattle.client_lines.specs.declared.error.LineError.{LineError};
+ghost use Rattle.client_acts.specs.declared.error.LineError.{LineError};
 
 use crate::answer::Told;
-use crate::error::LineError;
 use crate::machine::Client;
-use crate::reading::read_line;
 use crate::writing::write_answer;
+use client_acts::{LineError, read_line};
 use std::alloc::{AllocError, Global};
-
-/// The most bytes of a line.
-pub const MAX_LINE: usize = 65_536;
 
 /// What a line is answered.
 #[derive(Debug, Drop)]

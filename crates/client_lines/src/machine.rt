@@ -2,12 +2,11 @@
 
 ghost use Rattle.std.specs.Prelude.{◌≡◌, ◌⊎◌, None, IfOk, OnErr};
 ghost use Rattle.client_lines.specs.Acts.{CarriesOut, Takes};
-ghost use Rattle.client_lines.specs.declared.act.Act.TheVariants as acts;
+ghost use Rattle.client_acts.specs.declared.act.Act.TheVariants as acts;
 
-use crate::act::{Act, Begin, Further};
 use crate::answer::{Answer, Told};
 use crate::ceremony::Ceremony;
-use crate::error::LineError;
+use client_acts::{Act, Begin, Further, LineError};
 use pin_protocols::Ask;
 use std::alloc::Global;
 

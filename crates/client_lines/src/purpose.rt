@@ -5,9 +5,9 @@ ghost use Rattle.client.specs.Steps.{MayAsk};
 ghost use Rattle.clientdata.specs.Serialised.{client_data_text};
 ghost use Rattle.client_lines.specs.Purposes.{IsRegistrationOf, IsSignInOf};
 
-use crate::options::{Account, CreationOptions, Extensions, RequestOptions};
 use crate::refused::Refused;
 use client::{RequestError, check_origin};
+use client_acts::{Account, CreationOptions, Extensions, RequestOptions};
 use clientdata::{CeremonyType, ClientData, hash, serialise};
 use key_client::{Refusal, Requirement};
 use std::alloc::{AllocError, Global};

@@ -1,11 +1,11 @@
 //! Writing an answer.
 
 use crate::answer::{Answer, Told};
-use crate::error::LineError;
 use crate::line::Answered;
 use crate::machine::Client;
 use crate::refused::Refused;
 use crate::values::{base64_text, number_or_null};
+use client_acts::LineError;
 use hidframe::Packet;
 use pin_protocols::{Ask, Operation};
 use serde_json::{Map, Value, put};

@@ -1,6 +1,6 @@
 //! Lines of the input, in bounded memory.
 
-use client_lines::MAX_LINE;
+use client_acts::MAX_LINE;
 use std::io::{self, BufRead, Read};
 
 /// How many bytes are read at a time.

@@ -5,7 +5,8 @@ mod input;
 
 use clap::error::ErrorKind;
 use clap::{ArgMatches, Command, Error};
-use client_lines::{Client, acts_help, answer_line};
+use client_acts::acts_help;
+use client_lines::{Client, answer_line};
 use input::{READ_AT_ONCE, next_line};
 use std::alloc::Global;
 use std::io::{BufRead, BufReader, Write};

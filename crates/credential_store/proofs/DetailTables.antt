@@ -1,17 +1,14 @@
 -- What a write makes of the details that a store holds.
-use Rattle.std.proofs.Common.{◌≡◌, ℕ, pos, Bool, true, false, cond, List, [], ◌∷◌, map, filter, refl, sym, ap, ◌∙◌, arith, is_eq}
+use Rattle.std.proofs.Common.{◌≡◌, ℕ, pos, Bool, true, false, List, [], map, filter, refl, sym, ap, ◌∙◌, arith}
 use Rattle.std.proofs.lemmas.Grind.{common_steps}
-use Rattle.std.specs.Prelude.{◌≢◌, ◌==◌, Option, Some, None, ℤ, if◌then◌else◌}
+use Rattle.std.specs.Prelude.{◌≢◌, ◌==◌, Some, None, ℤ}
 use Rattle.std.specs.FinMap as finite
-use Rattle.std.specs.FinMap.{find, get-entries}
-use Rattle.std.specs.Ordering.{nat_cmp, eq_by_cmp}
-use Rattle.std.specs.Cmp.{nat_cmp_total, eq_by_cmp_equiv}
 use Rattle.sqlite_value.specs.declared.value.Value.TheVariants.{Int}
 use Rattle.sqlite_value.specs.Order.{Row}
 use Rattle.sqlite_trees.specs.Tree.{Trees, has_rowid, put_row, rowid, with_tree, without_rowid}
 use Rattle.sqlite_trees.specs.View.{Finds, SetsTree, View}
-use Rattle.credential_store.proofs.Tables.{by_number, put_in, row_in, without_in}
-use Rattle.credential_store.specs.Details.{Detail, Details, HoldsDetails, IsDetailed, detail_row}
+use Rattle.credential_store.proofs.Tables.{no_row, put_in, row_in, without_in}
+use Rattle.credential_store.specs.Details.{Detail, Details, IsDetailed, detail_row}
 
 numbered : (n : ℕ) (d : Detail) → rowid (detail_row n d) ≡ Int (pos n)
 numbered n d = refl
@@ -55,26 +52,11 @@ deleted old new place id at s = record {
 abbrev rows_in : List (ℕ × Detail) → List Row
 rows_in es = map (λ e. detail_row e.0 e.1) es
 
-has_number : (n k : ℕ) (d : Detail) → has_rowid (pos n) (detail_row k d) ≡ eq_by_cmp nat_cmp n k
-has_number n k d = rw (numbered k d) (ap is_eq (by_number k n) ∙ (eq_by_cmp_equiv nat_cmp_total).symm k n)
-
-none_in : (n : ℕ) (es : List (ℕ × Detail)) → filter (has_rowid (pos n)) (rows_in es) ≡ [] → find nat_cmp n es ≡ None
-none_in n [] is = refl
-none_in n (e ∷ es) is = go (eq_by_cmp nat_cmp n e.0) refl (none_in n es)
-  where
-    go : (b : Bool) → eq_by_cmp nat_cmp n e.0 ≡ b → (filter (has_rowid (pos n)) (rows_in es) ≡ [] → find nat_cmp n es ≡ None) → find nat_cmp n (e ∷ es) ≡ None
-    go true t more =
-        let here : detail_row e.0 e.1 ∷ filter (has_rowid (pos n)) (rows_in es) ≡ [] = sym (rw (has_number n e.0 e.1, t) refl) ∙ is in
-        absurd cc
-    go false t more =
-        ap (λ b. cond b (Some e.1) (find nat_cmp n es)) t ∙ more (sym (rw (has_number n e.0 e.1, t) refl) ∙ is)
-
 pub not_found : (details : Details) (place : ℕ) (row : Row) (rows : List Row) (id : ℤ) (found : Bool) → found ≡ false → id ≡ pos place → Finds rows id row found
     → rows ≡ rows_in (finite.entries details) → finite.get details place ≡ None
 not_found details place row rows id true t at finds are = absurd cc
 not_found details place row rows id false t at finds are =
-    get-entries details place
-    ∙ none_in place (finite.entries details) (ap (filter (has_rowid (pos place))) (sym are) ∙ ap (λ n. filter (has_rowid n) rows) (sym at) ∙ finds)
+    no_row detail_row numbered details place (ap (filter (has_rowid (pos place))) (sym are) ∙ ap (λ n. filter (has_rowid n) rows) (sym at) ∙ finds)
 
 pub there : (details : Details) (place : ℕ) (row : Row) (rows : List Row) (id : ℤ) (found : Bool) → found ≡ true → id ≡ pos place → Finds rows id row found
     → rows ≡ rows_in (finite.entries details) → (d : Detail) × (finite.get details place ≡ Some d) × (row ≡ detail_row place d)

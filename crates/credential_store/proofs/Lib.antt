@@ -1,5 +1,6 @@
 pub mod One
 pub mod Seeks
+pub mod Causes
 pub mod Tables
 pub mod Standing
 pub mod Writes

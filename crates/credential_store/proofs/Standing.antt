@@ -14,7 +14,7 @@ use Rattle.credential_store.specs.Held.{ArePlaced, HasNone, Indexes, IsAt, Place
 use Rattle.credential_store.specs.Private.{AreEntries}
 use Rattle.credential_store.proofs.One.{blob_once, number_once, one_credential}
 use Rattle.credential_store.proofs.Seeks.{all_stand}
-use Rattle.credential_store.proofs.Tables.{row_in}
+use Rattle.credential_store.proofs.Tables.{no_row, row_in}
 
 pub numbered : (n : ℕ) (c : Credential) → rowid (credential_row n c) ≡ Int (pos n)
 numbered n c = refl
@@ -28,6 +28,23 @@ credential_there placed place c row rows id true t at finds are is =
     (ap (filter (has_rowid (pos place))) (sym are) ∙ ap (λ n. filter (has_rowid n) rows) (sym at) ∙ finds) in
     let same = (one_credential place place x.0 c (sym x.2 ∙ is)).1 in
     x.1 ∙ ap Some same
+
+-- where no row is found at a place, no credential stands there
+pub not_there : (placed : Placed) (place : ℕ) (c : Credential) (row : Row) (rows : List Row) (id : ℤ) (found : Bool) → found ≡ false → id ≡ pos place
+    → Finds rows id row found → rows ≡ placed_rows placed → finite.get placed place ≡ Some c → ⊥
+not_there placed place c row rows id true t at finds are there = true≢false t
+not_there placed place c row rows id false t at finds are there =
+    let none = no_row credential_row numbered placed place
+    (ap (filter (has_rowid (pos place))) (sym are) ∙ ap (λ n. filter (has_rowid n) rows) (sym at) ∙ finds) in
+    cc
+
+-- a row that is found at a place is some credential's
+pub row_there : (placed : Placed) (place : ℕ) (row : Row) (rows : List Row) (id : ℤ) (found : Bool) → found ≡ true → id ≡ pos place → Finds rows id row found
+    → rows ≡ placed_rows placed → (c : Credential) × (finite.get placed place ≡ Some c) × (row ≡ credential_row place c)
+row_there placed place row rows id false t at finds are = absurd (true≢false (sym t))
+row_there placed place row rows id true t at finds are =
+    row_in credential_row numbered placed place row []
+    (ap (filter (has_rowid (pos place))) (sym are) ∙ ap (λ n. filter (has_rowid n) rows) (sym at) ∙ finds)
 
 -- an index of credentials is one of entries
 pub entries_of : (column : Credential → List ℕ) (placed : Placed) (es : List Row) → ArePlaced placed → Indexes column placed es → AreEntries es
@@ -47,6 +64,13 @@ at_entry placed id place c es i stands there =
     let same = entry_place id x.1.id place x.0 x.3 in
     let mine : x.1 ≡ c = same_Some x.1 c (sym x.2 ∙ ap (finite.get placed) (sym same) ∙ there) in
     record { there = there; has_id = ap (λ (d : Credential). d.id) (sym mine) ∙ sym (entry_key id x.1.id place x.0 x.3) }
+
+-- a credential stands at the place of each entry
+pub indexed_there : (column : Credential → List ℕ) (placed : Placed) (key : List ℕ) (place : ℕ) (es : List Row) → Indexes column placed es → Stands (entry key place) es
+    → (c : Credential) × (finite.get placed place ≡ Some c)
+indexed_there column placed key place es i stands =
+    let x = all_stand _ (entry key place) es i.only stands in
+    (x.1, ap (finite.get placed) (entry_place key (column x.1) place x.0 x.3) ∙ x.2)
 
 pub none_at : (placed : Placed) (id : List ℕ) (es : List Row) → Indexes (λ d. d.id) placed es → ((p : ℕ) → Stands (entry id p) es → ⊥) → HasNone placed id
 none_at placed id es i none place c there mine = none place (subst (λ k. Stands (entry k place) es) mine (i.each place c there))

@@ -146,3 +146,18 @@ module _ {X : Type 0} (row : ℕ → X → Row) (numbered : (n : ℕ) (x : X) �
   pub row_in : (m : finite.FinMap nat_cmp X) (n : ℕ) (r : Row) (more : List Row) → filter (has_rowid (pos n)) (rows (finite.entries m)) ≡ r ∷ more
       → (x : X) × (finite.get m n ≡ Some x) × (r ≡ row n x)
   row_in m n r more is = row_of_entry m n r more (finite.entries m) (entries_found m) is
+
+  none_in : (n : ℕ) (es : List (ℕ × X)) → filter (has_rowid (pos n)) (rows es) ≡ [] → find nat_cmp n es ≡ None
+  none_in n [] is = refl
+  none_in n (e ∷ es) is = go (eq_by_cmp nat_cmp n e.0) refl (none_in n es)
+    where
+      go : (b : Bool) → eq_by_cmp nat_cmp n e.0 ≡ b → (filter (has_rowid (pos n)) (rows es) ≡ [] → find nat_cmp n es ≡ None) → find nat_cmp n (e ∷ es) ≡ None
+      go true t more =
+          let here : row e.0 e.1 ∷ filter (has_rowid (pos n)) (rows es) ≡ [] = sym (rw (has_number n e.0 e.1, t) refl) ∙ is in
+          absurd cc
+      go false t more =
+          ap (λ b. cond b (Some e.1) (find nat_cmp n es)) t ∙ more (sym (rw (has_number n e.0 e.1, t) refl) ∙ is)
+
+  -- where no row has a number, the map has none
+  pub no_row : (m : finite.FinMap nat_cmp X) (n : ℕ) → filter (has_rowid (pos n)) (rows (finite.entries m)) ≡ [] → finite.get m n ≡ None
+  no_row m n is = get-entries m n ∙ none_in n (finite.entries m) is

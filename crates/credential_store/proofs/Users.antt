@@ -1,6 +1,7 @@
 -- The credentials of a user, by the index of its column.
-use Rattle.std.proofs.Common.{◌≡◌, ◌<◌, ℕ, Bool, true, false, List, [], ◌∷◌, ◌++◌, map, filter, refl, sym, ap, ap₂, ◌∙◌, subst, arith, inl, inr, T, Ordering, Less, Equal, Greater, is_gt, is_lt, true≢false}
+use Rattle.std.proofs.Common.{◌≡◌, ◌<◌, ℕ, suc, ◌≤◌, length, Bool, true, false, List, [], ◌∷◌, ◌++◌, map, filter, refl, sym, ap, ap₂, ◌∙◌, subst, arith, inl, inr, T, Ordering, Less, Equal, Greater, is_gt, is_lt, true≢false}
 use Rattle.std.proofs.lemmas.Grind.{common_steps}
+use Rattle.std.proofs.lemmas.List.{length-map}
 use Rattle.std.proofs.lemmas.Option.{same_Some}
 use Rattle.std.specs.Prelude.{◌⊎◌, ⊤, Some}
 use Rattle.std.specs.FinMap as finite
@@ -25,7 +26,7 @@ use Rattle.credential_table.specs.declared.row.Row.{Row as StoredRow}
 use Rattle.credential_store.specs.Held.{Holds, Placed, Stands, entry, placed_rows, rows_of}
 use Rattle.credential_store.specs.Private.{AreEntries, IsPast}
 use Rattle.credential_store.proofs.Seeks.{all_stand, first_is, of_key}
-use Rattle.credential_store.proofs.Standing.{entries_of, entry_key, entry_place}
+use Rattle.credential_store.proofs.Standing.{entries_of, entry_key, entry_place, indexed_there}
 use Rattle.credential_store.proofs.Tables.{all_above, by_number, entries_found, first_of, second_of}
 
 -- ---- numbers that rise
@@ -284,6 +285,17 @@ same_read placed user (e ∷ es) (p ∷ ps) (c ∷ cs) are same reads =
     let mine : c ≡ e.1 = same_Some c e.1 (sym reads.0 ∙ ap (finite.get placed) (sym place) ∙ are.0.0) in
     ap₂ ◌∷◌ mine (same_read placed user es ps cs are.1 rest reads.1)
 
+-- each place that was read is of the user
+of_user : (user : List ℕ) (db : Trees) (read : List Credential) (left : List Row) (placed : Placed) → Holds placed db → (to : IsReadTo user (db 4) (db 0) read left)
+    → (p : ℕ) → Among p to.places → Among p (places_in (filter (is_of user) (finite.entries placed)))
+of_user user db read left placed holds to p among =
+    let rest = Blob user ∷ [] in
+    let here = from_stands rest (entry user p) (db 4) (subst (Stands (entry user p)) (sym to.is) (among_stands user p to.places left among)) in
+    let x = all_stand _ (entry user p) (db 4) holds.by_user.only here in
+    let place : p ≡ x.0 = entry_place user x.1.user p x.0 x.3 in
+    let owner : x.1.user ≡ user = sym (entry_key user x.1.user p x.0 x.3) in
+    among_of p x.1 user (finite.entries placed) owner (sym (get-entries placed p) ∙ ap (finite.get placed) place ∙ x.2)
+
 -- the credentials that were read are those of the user
 pub read_all : (user : List ℕ) (db : Trees) (read : List StoredRow) (left : List Row) (placed : Placed) → IsIndex plain (db 4) → Holds placed db
     → IsReadTo user (db 4) (db 0) (rows_view read) left → IsPast user left
@@ -322,16 +334,60 @@ read_all user db read left placed up holds to past =
         stands_among user p to.places left (none_left p)
         (subst (Stands (entry user p)) to.is (stands_from rest (entry user p) (db 4) (ap is_lt (of_key user p)) (stands p among)))
 
-    of_user : (p : ℕ) → Among p to.places → Among p (places_in mine)
-    of_user p among =
-        let here = from_stands rest (entry user p) (db 4) (subst (Stands (entry user p)) (sym to.is) (among_stands user p to.places left among)) in
-        let x = all_stand _ (entry user p) (db 4) holds.by_user.only here in
-        let place : p ≡ x.0 = entry_place user x.1.user p x.0 x.3 in
-        let owner : x.1.user ≡ user = sym (entry_key user x.1.user p x.0 x.3) in
-        among_of p x.1 user (finite.entries placed) owner (sym (get-entries placed p) ∙ ap (finite.get placed) place ∙ x.2)
-
     same_places : places_in mine ≡ to.places
     same_places =
         same_rising (places_in mine) to.places
         (ascending-map _ (λ e. e.0) mine (ascending-filter _ (is_of user) (finite.entries placed) (rising_entries (finite.entries placed) (entries_sorted placed))))
-        (places_rise user to.places left sought_up) to_read of_user
+        (places_rise user to.places left sought_up) to_read (of_user user db (rows_view read) left placed holds to)
+
+-- ---- how many were read, and the next one
+
+stands_behind : (row : Row) (key : List ℕ) (ps : List ℕ) (left : List Row) → Stands row left → Stands row (entries_at key ps ++ left)
+stands_behind row key [] left stands = stands
+stands_behind row key (p ∷ ps) left stands = inr (stands_behind row key ps left stands)
+
+-- a credential stands at the place of the next entry
+pub next_there : (user : List ℕ) (db : Trees) (read : List Credential) (left more : List Row) (place : ℕ) (placed : Placed) → Holds placed db
+    → IsReadTo user (db 4) (db 0) read left → left ≡ entry user place ∷ more → (c : Credential) × (finite.get placed place ≡ Some c)
+next_there user db read left more place placed holds to is =
+    let here : Stands (entry user place) left = subst (Stands (entry user place)) (sym is) (inl refl) in
+    indexed_there (λ c. c.user) placed user place (db 4) holds.by_user
+    (from_stands (Blob user ∷ []) (entry user place) (db 4)
+    (subst (Stands (entry user place)) (sym to.is) (stands_behind (entry user place) user to.places left here)))
+
+not_first : (x y p : ℕ) (xs ys : List ℕ) → Rises (x ∷ xs) → Rises (y ∷ ys) → Among x (y ∷ ys) → Among p xs → Among p (y ∷ ys) → Among p ys
+not_first x y p xs ys rx ry at among (inr more) = more
+not_first x y p xs ys rx ry (inl first) among (inl is) =
+    let over : x < p = all_among (λ q. x < q) p xs rx.0 among in
+    absurd (omega (arith, over, first, is))
+not_first x y p xs ys rx ry (inr later) among (inl is) =
+    let over : x < p = all_among (λ q. x < q) p xs rx.0 among in
+    let under : y < x = all_among (λ q. y < q) x ys ry.0 later in
+    absurd (omega (arith, over, under, is))
+
+no_longer : (xs ys : List ℕ) → Rises xs → Rises ys → ((p : ℕ) → Among p xs → Among p ys) → length xs ≤ length ys
+no_longer [] ys rx ry to = omega arith
+no_longer (x ∷ xs) [] rx ry to = absurd (to x (inl refl))
+no_longer (x ∷ xs) (y ∷ ys) rx ry to =
+    let rest = no_longer xs ys rx.1 ry.1 (λ p a. not_first x y p xs ys rx ry (to x (inl refl)) a (to p (inr a))) in
+    omega (arith, rest)
+
+reads_each : (placed : Placed) (ps : List ℕ) (cs : List StoredRow) → Reads placed ps (rows_view cs) → length cs ≡ length ps
+reads_each placed [] [] reads = refl
+reads_each placed [] (c ∷ cs) reads = absurd reads
+reads_each placed (p ∷ ps) [] reads = absurd reads
+reads_each placed (p ∷ ps) (c ∷ cs) reads = ap suc (reads_each placed ps cs reads.1)
+
+-- no more were read than the user has
+pub read_few : (user : List ℕ) (db : Trees) (read : List StoredRow) (left : List Row) (placed : Placed) → IsIndex plain (db 4) → Holds placed db
+    → IsReadTo user (db 4) (db 0) (rows_view read) left → length read ≤ length (filter (λ c. bytes_eq c.user user) (rows_of placed))
+read_few user db read left placed up holds to =
+    let mine = filter (is_of user) (finite.entries placed) in
+    let few = no_longer to.places (places_in mine) (places_rise user to.places left (subst (IsIndex plain) to.is (rising_from (Blob user ∷ []) (db 4) up)))
+    (ascending-map _ (λ e. e.0) mine (ascending-filter _ (is_of user) (finite.entries placed) (rising_entries (finite.entries placed) (entries_sorted placed))))
+    (of_user user db (rows_view read) left placed holds to) in
+    let many : length (filter (λ c. bytes_eq c.user user) (rows_of placed)) ≡ length mine =
+    ap length (filter-map (λ c. bytes_eq c.user user) (λ e. e.1) (finite.entries placed)) ∙ length-map mine (λ e. e.1) in
+    let places : length (places_in mine) ≡ length mine = length-map mine (λ e. e.0) in
+    let each = reads_each placed to.places read (to.reads placed holds.table) in
+    omega (arith, few, many, places, each)

@@ -7,7 +7,7 @@ use Rattle.sqlite_value.specs.Order.{Row}
 use Rattle.sqlite_value.specs.declared.value.Value.{Value}
 use Rattle.sqlite_value.specs.declared.value.Value.TheVariants.{Null, Int, Text, Blob}
 use Rattle.sqlite_trees.specs.Tree.{Trees}
-use Rattle.sqlite_trees.specs.View.{View, IsClean}
+use Rattle.sqlite_trees.specs.View.{View}
 use Rattle.credential_store.specs.declared.detail.Detail as declared
 
 -- when it was registered and when it was last used, in seconds of the host's clock; the transports that its client told, joined by

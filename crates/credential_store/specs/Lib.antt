@@ -3,3 +3,4 @@ pub mod Rows
 pub mod Held
 pub mod Private
 pub mod Details
+pub mod Causes

@@ -1,12 +1,13 @@
 //! Finding details, and writing them within the transaction that is begun.
 
-ghost use Rattle.std.specs.Prelude.{◌≡◌, IfOk, OnOk, Some, option_map};
+ghost use Rattle.std.specs.Prelude.{◌≡◌, ◌≤◌, IfErr, IfOk, OnOk, Some, option_map};
 ghost use Rattle.std.specs.FinMap as finite;
+ghost use Rattle.sqlite_disk.specs.Disk.{MoreFaults};
 ghost use Rattle.sqlite_trees.specs.Tree.{Trees};
-ghost use Rattle.sqlite_trees.specs.View.{IsClean, KeepsSchema};
+ghost use Rattle.sqlite_trees.specs.View.{HasCause, IsClean, IsStorableRow, KeepsSchema};
 ghost use Rattle.sqlite_trees.specs.declared.store.Shape.TheVariants.{Table};
 ghost use Rattle.credential_store.specs.Held.{IsSameView};
-ghost use Rattle.credential_store.specs.Details.{Details, HoldsDetails, IsDetailed, detail_view, used};
+ghost use Rattle.credential_store.specs.Details.{Details, HoldsDetails, IsDetailed, detail_row as row_of, detail_view, used};
 
 use crate::detail::{Detail, detail_row, read_detail};
 use sqlite_trees::error::StoreError;
@@ -26,6 +27,8 @@ pub fn find_detail<S: Store>(
     ensures same { OnOk result (IsSameView (S.Store.view store.old) (S.Store.view store.new)) }
     ensures schema { KeepsSchema (S.Store.view store.old) (S.Store.view store.new) }
     ensures clean { IsClean (S.Store.view store.new) → IsClean (S.Store.view store.old) }
+    ensures cause { IsClean (S.Store.view store.new) → IfErr result (HasCause (S.Store.view store.old) (MoreFaults (S.Store.faults store.old) (S.Store.faults store.new)) ⊥) }
+    ensures counts { S.Store.faults store.old ≤ S.Store.faults store.new }
     ensures crash { (db : Trees) → S.Store.recovers store.new db → S.Store.recovers store.old db }
 {
     let mut row = Row::new(alloc);
@@ -50,6 +53,8 @@ pub fn put_detail<S: Store>(
         → IsDetailed (S.Store.view store.old) (S.Store.view store.new) (λ details. finite.insert details place (detail_view detail.now))) }
     ensures schema { KeepsSchema (S.Store.view store.old) (S.Store.view store.new) }
     ensures clean { IsClean (S.Store.view store.new) → IsClean (S.Store.view store.old) }
+    ensures cause { IsClean (S.Store.view store.new) → IfErr result (HasCause (S.Store.view store.old) (MoreFaults (S.Store.faults store.old) (S.Store.faults store.new)) (¬ IsStorableRow ((S.Store.view store.old).reals 5) (row_of place (detail_view detail.now)))) }
+    ensures counts { S.Store.faults store.old ≤ S.Store.faults store.new }
     ensures crash { (db : Trees) → S.Store.recovers store.new db → S.Store.recovers store.old db }
 {
     let row = detail_row(alloc, place, detail)?;
@@ -65,6 +70,8 @@ pub fn delete_detail<S: Store>(store: &mut S, place: u32) -> Result<(), StoreErr
         → IsDetailed (S.Store.view store.old) (S.Store.view store.new) (λ details. finite.remove details place)) }
     ensures schema { KeepsSchema (S.Store.view store.old) (S.Store.view store.new) }
     ensures clean { IsClean (S.Store.view store.new) → IsClean (S.Store.view store.old) }
+    ensures cause { IsClean (S.Store.view store.new) → IfErr result (HasCause (S.Store.view store.old) (MoreFaults (S.Store.faults store.old) (S.Store.faults store.new)) ⊥) }
+    ensures counts { S.Store.faults store.old ≤ S.Store.faults store.new }
     ensures crash { (db : Trees) → S.Store.recovers store.new db → S.Store.recovers store.old db }
 {
     store.delete(5, i64::from(place))
@@ -102,6 +109,8 @@ pub fn mark_used<S: Store>(
         (λ details. finite.insert details place (used now (finite.get details place)))) }
     ensures schema { KeepsSchema (S.Store.view store.old) (S.Store.view store.new) }
     ensures clean { IsClean (S.Store.view store.new) → IsClean (S.Store.view store.old) }
+    ensures cause { IsClean (S.Store.view store.new) → IfErr result (HasCause (S.Store.view store.old) (MoreFaults (S.Store.faults store.old) (S.Store.faults store.new)) ((details : Details) → HoldsDetails details (S.Store.view store.old).trees → ¬ IsStorableRow ((S.Store.view store.old).reals 5) (row_of place (used now (finite.get details place))))) }
+    ensures counts { S.Store.faults store.old ≤ S.Store.faults store.new }
     ensures crash { (db : Trees) → S.Store.recovers store.new db → S.Store.recovers store.old db }
 {
     let known = find_detail(alloc, store, place)?;

@@ -1,12 +1,15 @@
 //! Finding a credential.
 
-ghost use Rattle.std.specs.Prelude.{◌≡◌, ℕ, IfOk, IfSome, OnOk, None, Some};
+ghost use Rattle.std.specs.Prelude.{◌≡◌, ◌≤◌, ℕ, IfErr, IfOk, IfSome, OnOk, None, Some};
 ghost use Rattle.std.specs.FinMap as finite;
+ghost use Rattle.sqlite_disk.specs.Disk.{MoreFaults};
 ghost use Rattle.sqlite_trees.specs.Tree.{Trees};
 ghost use Rattle.sqlite_trees.specs.View.{IsClean, KeepsSchema, StayLive};
 ghost use Rattle.sqlite_trees.specs.declared.store.Shape.TheVariants.{Table};
 ghost use Rattle.verification.specs.Views.{credential_view};
 ghost use Rattle.credential_table.specs.Views.{row_view};
+ghost use Rattle.verification.specs.Records.{Credential};
+ghost use Rattle.credential_store.specs.Causes.{HasReadCause};
 ghost use Rattle.credential_store.specs.Held.{HasNone, HasTrees, Holds, IsAt, IsSameView, Placed, placed_rows};
 
 use crate::credentials::read_credential;
@@ -56,6 +59,8 @@ pub(crate) fn credential_at<S: Store>(
     ensures same { OnOk result (IsSameView (S.Store.view store.old) (S.Store.view store.new)) }
     ensures schema { KeepsSchema (S.Store.view store.old) (S.Store.view store.new) }
     ensures clean { IsClean (S.Store.view store.new) → IsClean (S.Store.view store.old) }
+    ensures cause { IsClean (S.Store.view store.new) → IfErr result (HasReadCause (S.Store.view store.old) (MoreFaults (S.Store.faults store.old) (S.Store.faults store.new)) (λ placed. (c : Credential) → finite.get placed place ≡ Some c → ⊥)) }
+    ensures counts { S.Store.faults store.old ≤ S.Store.faults store.new }
     ensures crash { (db : Trees) → S.Store.recovers store.new db → S.Store.recovers store.old db }
 {
     let mut row = Row::new(alloc);
@@ -81,6 +86,8 @@ pub fn find<S: Store>(alloc: Global, store: &mut S, id: &[u8]) -> Result<Option<
     ensures same { OnOk result (IsSameView (S.Store.view store.old) (S.Store.view store.new)) }
     ensures schema { KeepsSchema (S.Store.view store.old) (S.Store.view store.new) }
     ensures clean { IsClean (S.Store.view store.new) → IsClean (S.Store.view store.old) }
+    ensures cause { IsClean (S.Store.view store.new) → IfErr result (HasReadCause (S.Store.view store.old) (MoreFaults (S.Store.faults store.old) (S.Store.faults store.new)) (λ _. ⊥)) }
+    ensures counts { S.Store.faults store.old ≤ S.Store.faults store.new }
     ensures crash { (db : Trees) → S.Store.recovers store.new db → S.Store.recovers store.old db }
 {
     let Some(place) = first_place(alloc, store, 3, id)? else {

@@ -1,13 +1,16 @@
 //! The credentials of a user.
 
-ghost use Rattle.std.specs.Prelude.{◌≡◌, ◌∷◌, ℕ, IfOk, IfSome, IsSome, List, OnOk, None, Some, filter};
+ghost use Rattle.std.specs.Prelude.{◌≡◌, ◌≤◌, ◌^◌, ◌-◌, ◌∷◌, ℕ, IfErr, IfOk, IfSome, IsSome, List, OnOk, None, Some, filter, length};
 ghost use Rattle.std.specs.FinMap as finite;
 ghost use Rattle.std.specs.Str.{bytes_eq};
 ghost use Rattle.sqlite_value.specs.Order.{Row as Columns};
+ghost use Rattle.sqlite_disk.specs.Disk.{MoreFaults};
 ghost use Rattle.sqlite_trees.specs.Tree.{Trees};
 ghost use Rattle.sqlite_trees.specs.View.{IsClean, KeepsSchema};
 ghost use Rattle.sqlite_trees.specs.declared.store.Shape.TheVariants.{Table};
+ghost use Rattle.verification.specs.Records.{Credential};
 ghost use Rattle.credential_table.specs.Views.{row_view, rows_view};
+ghost use Rattle.credential_store.specs.Causes.{HasReadCause};
 ghost use Rattle.credential_store.specs.Held.{HasTrees, Holds, IsSameView, Placed, entry as entry_of, placed_rows, rows_of};
 ghost use Rattle.credential_store.specs.Private.{AreEntries, IsPast};
 
@@ -37,6 +40,10 @@ fn next_credential<S: Store>(
     ensures same { OnOk result (IsSameView (S.Store.view store.old) (S.Store.view store.new)) }
     ensures schema { KeepsSchema (S.Store.view store.old) (S.Store.view store.new) }
     ensures clean { IsClean (S.Store.view store.new) → IsClean (S.Store.view store.old) }
+    ensures cause { IsClean (S.Store.view store.new) → IfErr result (HasReadCause (S.Store.view store.old) (MoreFaults (S.Store.faults store.old) (S.Store.faults store.new))
+        (λ placed. (left : List Columns) → (S.Store.view store.old).cursors 0 ≡ Some left → AreEntries left → (place : ℕ) × (more : List Columns)
+        × (left ≡ entry_of user.now place ∷ more) × ((c : Credential) → finite.get placed place ≡ Some c → ⊥))) }
+    ensures counts { S.Store.faults store.old ≤ S.Store.faults store.new }
     ensures crash { (db : Trees) → S.Store.recovers store.new db → S.Store.recovers store.old db }
 {
     let Some(place) = next_place(store, user, entry)? else {
@@ -60,12 +67,15 @@ pub fn find_all<S: Store>(
     ensures same { OnOk result (IsSameView (S.Store.view store.old) (S.Store.view store.new)) }
     ensures schema { KeepsSchema (S.Store.view store.old) (S.Store.view store.new) }
     ensures clean { IsClean (S.Store.view store.new) → IsClean (S.Store.view store.old) }
+    ensures cause { IsClean (S.Store.view store.new) → IfErr result (HasReadCause (S.Store.view store.old) (MoreFaults (S.Store.faults store.old) (S.Store.faults store.new))
+        (λ placed. 2 ^ 32 - 1 ≤ length (filter (λ c. bytes_eq c.user user.now) (rows_of placed)))) }
+    ensures counts { S.Store.faults store.old ≤ S.Store.faults store.new }
     ensures crash { (db : Trees) → S.Store.recovers store.new db → S.Store.recovers store.old db }
 {
     seek_key(alloc, store, 4, user)?;
     let mut entry = Row::new(alloc);
     let mut rows = Vec::new(alloc);
-    for _ in 0..u32::MAX {
+    for _read in 0..u32::MAX {
         let Some(credential) = next_credential(alloc, store, user, &mut entry)? else {
             return Ok(rows);
         };

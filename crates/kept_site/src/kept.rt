@@ -1,9 +1,11 @@
 //! A relying party over a store.
 
-ghost use Rattle.std.specs.Prelude.{◌≡◌, ◌⊎◌, ◌+◌, ◌<◌, ◌≤◌, ◌^◌, ℕ, IfErr, IfOk, OnErr, OnOk, IsErrOf, is_some, false, true};
+ghost use Rattle.std.specs.Prelude.{◌≡◌, ◌⊎◌, ◌+◌, ◌<◌, ◌≤◌, ◌^◌, ℕ, IfErr, IfOk, OnErr, OnOk, IsErrOf, is_some, option_map, false, true};
 ghost use Rattle.std.specs.FinMap as finite;
 ghost use Rattle.sqlite_trees.specs.Tree.{Trees};
 ghost use Rattle.sqlite_trees.specs.View.{IsClean};
+ghost use Rattle.verification.specs.Views.{registration_view};
+ghost use Rattle.ceremony_sessions.specs.Sessions.{registration_at};
 ghost use Rattle.credential_store.specs.Held.{Placed};
 ghost use Rattle.timed_sessions.specs.Timed.{after_end, since};
 ghost use Rattle.kept_site.specs.State.{IsHeld, IsSound, to_commit, with_site};
@@ -17,7 +19,7 @@ use sqlite_trees::store::Store;
 use std::alloc::AllocError;
 use std::marker::Model;
 use timed_sessions::TimedSessions;
-use verification::{Policy, RelyingParty};
+use verification::{Policy, RegistrationSession, RelyingParty};
 
 /// A relying party whose credentials are rows of a store, and whose open sessions are in memory.
 ///
@@ -110,6 +112,13 @@ impl<S: Store> KeptSite<S> {
         ensures { result ≡ self.now.timed.open_sessions.next }
     {
         self.sessions.next()
+    }
+
+    /// What the session of a number expects, where it is open for registration.
+    pub fn registration(&self, session: u64) -> Option<&RegistrationSession>
+        ensures { option_map (λ s. registration_view s.now) result ≡ registration_at session self.now.timed.open_sessions }
+    {
+        self.sessions.registration(session)
     }
 
     /// Commits what was written since the last commit, if anything was. What the calls since then answered may be told now.

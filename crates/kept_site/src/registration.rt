@@ -147,6 +147,7 @@ impl<S: Store> KeptSite<S> {
         ensures detailed { OnOk result (IsClean (S.Store.view self.new.store) → (placed : Placed) → IsHeld placed self.old (S.Store.view self.old.store).trees
             → (details : Details) → HoldsDetails details (S.Store.view self.old.store).trees
             → HoldsDetails (finite.insert details (self.old.last + 1) (detail_view detail.now)) (S.Store.view self.new.store).trees) }
+        ensures open { OnOk result (IsSome (registration_at session self.old.timed.open_sessions)) }
         ensures closed { OnOk result (self.new.timed ≡ after_end self.old.timed session) }
         ensures one { OnOk result (IsOneSite self.old self.new × (self.new.is_shut ≡ false)) }
         ensures refused { IfErr result (IsNotFinished S.Store.view self.old self.new (λ why. IsClean (S.Store.view self.new.store) → (placed : Placed)

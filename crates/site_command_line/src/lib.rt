@@ -4,5 +4,5 @@
 mod options;
 mod party;
 
-pub use options::{Log, Options, command_line, joined, options_of};
+pub use options::{Log, Options, Told, asked_for, joined};
 pub use party::{PartyFault, check_party};

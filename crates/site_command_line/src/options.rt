@@ -3,6 +3,7 @@
 ghost use Rattle.std.specs.Prelude.{◌≡◌, ◌≤◌, IfOk, IfSome};
 
 use authdata::Profile;
+use clap::error::ErrorKind;
 use clap::{Arg, ArgAction, ArgMatches, Command, Error};
 use std::alloc::{AllocError, Global};
 use verification::Policy;
@@ -12,6 +13,10 @@ static PROFILES: [&str; 3] = ["level3", "open", "strict"];
 
 /// The attestations that are accepted.
 static ATTESTATIONS: [&str; 3] = ["any", "none", "self"];
+
+/// What is told where a value is no number that it may be.
+const BAD_NUMBER: &str =
+    "the value of --max-open, --max-credentials, --expire or --at-least is no number, or out of its bounds\n";
 
 /// What is logged.
 static LOGS: [&str; 2] = ["refusals", "all"];
@@ -52,6 +57,8 @@ pub struct Options<'a> {
     pub is_existing: bool,
     /// Whether a new file has no sums of its pages.
     pub has_no_sums: bool,
+    /// Whether nothing is supposed of a write that is cut off.
+    pub is_wary: bool,
     /// The number of a session that is known to have been begun, and 0 where none is known.
     pub at_least: u64,
     /// What is told on standard error, if anything.
@@ -78,86 +85,80 @@ fn switch<'a>(alloc: Global, name: &'a str, help: &'a str) -> Arg<'a> {
 
 /// The program's parser with the relying party's options.
 fn party_options<'a>(alloc: Global, help: &'a str) -> Result<Command<'a>, AllocError> {
-    let file = Arg::new(alloc, "FILE")
-        .required(true)
-        .help("The site's SQLite file");
-    let rp_id = option(alloc, "rp-id", "ID", "The rp id").required(true);
-    let origin = option(
-        alloc,
-        "origin",
-        "ORIGIN",
-        "An origin of its pages; may come again",
-    )
-    .required(true)
-    .action(ArgAction::Append);
     Command::new(alloc, "site")
         .about("A relying party over lines: one JSON object in, one out")
         .after_help(help)
-        .arg(file)?
-        .arg(rp_id)?
-        .arg(origin)
+        .arg(
+            Arg::new(alloc, "FILE")
+                .required(true)
+                .help("The site's SQLite file"),
+        )?
+        .arg(option(alloc, "rp-id", "ID", "The rp id").required(true))?
+        .arg(
+            option(
+                alloc,
+                "origin",
+                "ORIGIN",
+                "An origin of its pages; may come again",
+            )
+            .required(true)
+            .action(ArgAction::Append),
+        )
 }
 
 /// The same with the options of what it accepts.
 fn policy_options<'a>(alloc: Global, help: &'a str) -> Result<Command<'a>, AllocError> {
-    let name = option(
-        alloc,
-        "rp-name",
-        "NAME",
-        "The name that the page shows; as the rp id",
-    );
-    let profile = option(
-        alloc,
-        "profile",
-        "PROFILE",
-        "Which responses it takes; level3",
-    )
-    .value_parser(PROFILES.as_slice());
-    let attestation = option(
-        alloc,
-        "attestation",
-        "WHICH",
-        "Which attestations it accepts; any",
-    )
-    .value_parser(ATTESTATIONS.as_slice());
-    let top_origin = option(
-        alloc,
-        "top-origin",
-        "ORIGIN",
-        "An origin of a page that may have its pages in a frame; may come again",
-    )
-    .action(ArgAction::Append);
     party_options(alloc, help)?
-        .arg(top_origin)?
-        .arg(name)?
-        .arg(profile)?
-        .arg(attestation)
+        .arg(option(
+            alloc,
+            "top-origin",
+            "ORIGIN",
+            "An origin of a page that may have its pages in a frame; may come again",
+        )
+        .action(ArgAction::Append))?
+        .arg(option(
+            alloc,
+            "rp-name",
+            "NAME",
+            "The name that the page shows; as the rp id",
+        ))?
+        .arg(option(
+            alloc,
+            "profile",
+            "PROFILE",
+            "Which responses it takes; level3",
+        )
+        .value_parser(PROFILES.as_slice()))?
+        .arg(option(
+            alloc,
+            "attestation",
+            "WHICH",
+            "Which attestations it accepts; any",
+        )
+        .value_parser(ATTESTATIONS.as_slice()))
 }
 
 /// The same with the options of how much there may be.
 fn bound_options<'a>(alloc: Global, help: &'a str) -> Result<Command<'a>, AllocError> {
-    let max_open = option(
-        alloc,
-        "max-open",
-        "N",
-        "The most open sessions, up to 1000000: where more begin the oldest ends; 100000",
-    );
-    let max_credentials = option(
-        alloc,
-        "max-credentials",
-        "N",
-        "The most credentials, up to 1000000; 1000000",
-    );
-    let expire = option(
-        alloc,
-        "expire",
-        "SECONDS",
-        "After how long a session ends by itself; 300",
-    );
     policy_options(alloc, help)?
-        .arg(max_open)?
-        .arg(max_credentials)?
-        .arg(expire)
+        .arg(option(
+            alloc,
+            "max-open",
+            "N",
+            "The most open sessions, up to 1000000: where more begin the oldest ends; 100000",
+        ))?
+        .arg(option(
+            alloc,
+            "max-credentials",
+            "N",
+            "The most credentials, up to 1000000; 1000000",
+        ))?
+        .arg(option(
+            alloc,
+            "expire",
+            "SECONDS",
+            "After how long a session ends by itself; 300",
+        ))
 }
 
 /// The option of the log, which may come without a value.
@@ -176,30 +177,31 @@ fn log_option<'a>(alloc: Global) -> Arg<'a> {
 
 /// The same with the options of the file.
 fn file_options<'a>(alloc: Global, help: &'a str) -> Result<Command<'a>, AllocError> {
-    let new = switch(
-        alloc,
-        "new",
-        "The file is to be made, and must not be there",
-    );
-    let existing = switch(alloc, "existing", "The file must be there").conflicts_with("new")?;
-    let at_least = option(
-        alloc,
-        "at-least",
-        "N",
-        "The last session that is known: an older copy of the file is refused, and none is made",
-    )
-    .conflicts_with("new")?;
-    let no_sums = switch(
-        alloc,
-        "no-sums",
-        "A new file has no sums of its pages, so that sqlite3 may write it",
-    )
-    .conflicts_with("existing")?;
     bound_options(alloc, help)?
-        .arg(new)?
-        .arg(existing)?
-        .arg(at_least)?
-        .arg(no_sums)
+        .arg(switch(
+            alloc,
+            "new",
+            "The file is to be made, and must not be there",
+        ))?
+        .arg(switch(alloc, "existing", "The file must be there").conflicts_with("new")?)?
+        .arg(option(
+            alloc,
+            "at-least",
+            "N",
+            "The last session that is known: an older copy of the file is refused, and none is made",
+        )
+        .conflicts_with("new")?)?
+        .arg(switch(
+            alloc,
+            "no-sums",
+            "A new file has no sums of its pages, so that sqlite3 may write it",
+        )
+        .conflicts_with("existing")?)?
+        .arg(switch(
+            alloc,
+            "wary",
+            "Each commit flushes twice: a write that is cut off may leave any bytes",
+        ))
 }
 
 /// The program's parser, with this text behind its help.
@@ -225,8 +227,8 @@ pub fn joined<'a>(alloc: Global, owned: &'a [String]) -> Result<Vec<&'a str>, Al
     Ok(words)
 }
 
-/// What clap reads of the arguments, the program's name first, with this text behind the help.
-pub fn command_line<'a>(
+/// What clap reads of the arguments.
+fn command_line<'a>(
     alloc: Global,
     help: &'a str,
     arguments: &'a [&'a str],
@@ -281,7 +283,7 @@ fn bound(word: Option<&str>, absent: u64) -> Option<u32>
 }
 
 /// The options that were read; nothing where a value is missing, no number, or out of its bounds.
-pub fn options_of<'a>(
+fn options_of<'a>(
     alloc: Global,
     matches: &ArgMatches<'a>,
 ) -> Result<Option<Options<'a>>, AllocError>
@@ -316,8 +318,58 @@ pub fn options_of<'a>(
         is_new: matches.get_flag("new"),
         is_existing: matches.get_flag("existing") || 0 < at_least,
         has_no_sums: matches.get_flag("no-sums"),
+        is_wary: matches.get_flag("wary"),
         at_least,
         log: log_named(matches.get_str("log")),
         expire,
     }))
+}
+
+/// What is told in place of serving.
+#[derive(Drop)]
+pub struct Told {
+    /// The text, with the end of its last line.
+    pub text: String,
+    /// Whether it is the help, which was asked for, and no refusal.
+    pub is_help: bool,
+}
+
+/// What clap tells.
+fn told_by(alloc: Global, error: &Error) -> Result<Told, AllocError> {
+    Ok(Told {
+        text: format!(in alloc; "{error}")?,
+        is_help: error.kind() == ErrorKind::DisplayHelp,
+    })
+}
+
+/// The options that were read, or that a number is none.
+fn options_or_told<'a>(
+    alloc: Global,
+    matches: &ArgMatches<'a>,
+) -> Result<Result<Options<'a>, Told>, AllocError>
+    ensures within { IfOk result (λ found. IfOk found (λ o.
+        ((1 ≤ o.max_open) × (o.max_open ≤ 1000000)) × ((1 ≤ o.max_credentials) × (o.max_credentials ≤ 1000000)))) }
+{
+    match options_of(alloc, matches)? {
+        Some(options) => Ok(Ok(options)),
+        None => Ok(Err(Told {
+            text: String::from_str(alloc, BAD_NUMBER)?,
+            is_help: false,
+        })),
+    }
+}
+
+/// The options of the arguments, the program's name first, with this text behind the help; or what is told in place of serving.
+pub fn asked_for<'a>(
+    alloc: Global,
+    help: &'a str,
+    arguments: &'a [&'a str],
+) -> Result<Result<Options<'a>, Told>, AllocError>
+    ensures within { IfOk result (λ found. IfOk found (λ o.
+        ((1 ≤ o.max_open) × (o.max_open ≤ 1000000)) × ((1 ≤ o.max_credentials) × (o.max_credentials ≤ 1000000)))) }
+{
+    match command_line(alloc, help, arguments) {
+        Ok(matches) => options_or_told(alloc, &matches),
+        Err(error) => Ok(Err(told_by(alloc, &error)?)),
+    }
 }

@@ -71,7 +71,7 @@ fn settle(rt: &HostRuntime, part: &str) -> Result<(), FileError> {
     if list_at(rt, part)? != Listed::Second {
         return Err(FileError::OtherTables);
     }
-    let mut store = second_at(rt, part, Unknown)?;
+    let mut store = second_at(rt, part, true, Unknown)?;
     let copied = store.checkpoint();
     drop(store.close());
     copied?;

@@ -13,10 +13,11 @@ use crate::first::check_empty;
 use crate::looking::{looked_at, unless_in_use};
 use crate::opening::same_party;
 use crate::path::{Found, found_at};
-use crate::stores::{list_at, second_at};
+use crate::site_disk::SiteFile;
+use crate::stores::{connected, list_at, second_at};
 use crate::tables::{Listed, list_of, made, upgraded};
 use kept_site::{Bounds, KeptSite};
-use sqlite::{Alter, Connection, FileFrom, FileStore, Start};
+use sqlite::{Alter, FileStore, Start};
 use std::alloc::Global;
 use verification::{Policy, RelyingParty};
 
@@ -90,8 +91,8 @@ pub fn create_over<S: Alter + Drop>(
 
 /// The same store, whose file begins from now on as a SQLite file does, which `open` asks.
 fn written<S: Start>(
-    mut store: FileStore<FileFrom<S>>,
-) -> Result<FileStore<FileFrom<S>>, FileError> {
+    mut store: FileStore<SiteFile<S>>,
+) -> Result<FileStore<SiteFile<S>>, FileError> {
     match store.checkpoint() {
         Ok(()) => Ok(store),
         Err(e) => {
@@ -106,12 +107,10 @@ fn new_file<S: Start>(
     rt: &HostRuntime,
     path: &str,
     sums: bool,
+    wary: bool,
     start: S,
-) -> Result<FileStore<FileFrom<S>>, FileError> {
-    let store = match Connection::open_from(rt, path, sums, start) {
-        Ok(conn) => conn.into_store(),
-        Err((e, _)) => return Err(e.into()),
-    };
+) -> Result<FileStore<SiteFile<S>>, FileError> {
+    let store = connected(rt, path, sums, wary, start)?;
     match with_tables(rt.alloc(), store) {
         Ok(store) => written(store),
         Err((e, store)) => {
@@ -126,11 +125,12 @@ fn found_file<S: Start>(
     rt: &HostRuntime,
     path: &str,
     sums: bool,
+    wary: bool,
     start: S,
-) -> Result<FileStore<FileFrom<S>>, FileError> {
+) -> Result<FileStore<SiteFile<S>>, FileError> {
     match list_at(rt, path) {
-        Ok(Listed::Second) => written(second_at(rt, path, start)?),
-        _ => new_file(rt, path, sums, start),
+        Ok(Listed::Second) => written(second_at(rt, path, wary, start)?),
+        _ => new_file(rt, path, sums, wary, start),
     }
 }
 
@@ -173,7 +173,7 @@ fn is_there(
 /// sessions. A program passes `Unknown` as `start`, which stands for what the files held.
 ///
 /// With `sums` each page of the database file ends in its sum, as of SQLite's cksumvfs, which each open tests: so most changed
-/// bytes are told. A `sqlite3` without that extension reads such a file, and spoils it when it writes.
+/// bytes are told. A `sqlite3` without that extension reads such a file, and spoils it when it writes. `wary` as at `open`.
 ///
 /// `BadBound` where more than 1,000,000 sessions could be open or as many credentials registered, `Exists` where a file is there
 /// that holds something, `LoneLog` where its log is there alone, `NotSqlite` and `DamagedLog` where the two are no sound SQLite file;
@@ -188,6 +188,7 @@ pub fn create<S: Start>(
     policy: Policy,
     bounds: Bounds,
     sums: bool,
+    wary: bool,
     start: S,
 ) -> Result<FileSite<S>, FileError>
     ensures made { IfOk result (λ s. (s.rp ≡ party) × (s.policy ≡ policy) × (s.most ≡ bounds.credentials) × (s.is_shut ≡ false) × (s.is_pending ≡ false)) }
@@ -196,8 +197,8 @@ pub fn create<S: Start>(
 {
     check_bounds(bounds)?;
     let store = match is_there(rt, path, &party, policy, bounds) {
-        Ok(true) => found_file(rt, path, sums, start)?,
-        Ok(false) => new_file(rt, path, sums, start)?,
+        Ok(true) => found_file(rt, path, sums, wary, start)?,
+        Ok(false) => new_file(rt, path, sums, wary, start)?,
         Err(e) => return Err(unless_in_use(rt, path, e)),
     };
     match site_over(rt.alloc(), party, policy, bounds, store) {

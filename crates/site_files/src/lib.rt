@@ -11,6 +11,7 @@ mod look;
 mod looking;
 mod opening;
 mod path;
+mod site_disk;
 mod stores;
 mod tables;
 
@@ -20,7 +21,8 @@ pub use creating::{create, create_over};
 pub use error::FileError;
 use kept_site::KeptSite;
 pub use opening::{open, open_over};
-pub use sqlite::{File, FileFrom, FileStore, Start, Unknown};
+pub use site_disk::{SiteDisk, SiteFile, WaryStart};
+pub use sqlite::{FileFrom, FileStore, Start, Unknown};
 
 /// A site over a file and its log.
-pub type FileSite<S> = KeptSite<FileStore<FileFrom<S>>>;
+pub type FileSite<S> = KeptSite<FileStore<SiteFile<S>>>;

@@ -7,7 +7,8 @@ ghost use Rattle.sqlite_store.specs.FileStore.{view};
 use crate::error::FileError;
 use crate::look::Look;
 use crate::path::{Found, has_sums_at, head_at, log_of};
-use crate::stores::{by_sql, files_at as locked_files, listed_in, options, second_of};
+use crate::site_disk::files_at as locked_files;
+use crate::stores::{by_sql, listed_in, options, second_of};
 use crate::tables::Listed;
 use sqlite::{FileStore, Files, Options, Unknown};
 use sqlite_disk::{Disk, Memory};
@@ -109,7 +110,7 @@ pub fn looked_at(rt: &HostRuntime, path: &str) -> Result<FileStore<Seen>, FileEr
     let has_sums = has_sums_at(rt, path)?;
     match second_of(rt.alloc(), files_at(rt, path)?, options, has_sums)? {
         Some(store) => Ok(store),
-        None => by_sql(rt.alloc(), files_at(rt, path)?, options),
+        None => by_sql(rt.alloc(), files_at(rt, path)?, options, false),
     }
 }
 
@@ -172,7 +173,7 @@ fn put_back(rt: &HostRuntime, path: &str, log: &ShortLog) -> Result<(), FileErro
 
 /// Why files are refused that had such a log, and have it then.
 pub fn with_log(rt: &HostRuntime, path: &str, log: &ShortLog, e: FileError) -> FileError {
-    if let Ok(files) = locked_files(rt, path, Unknown) {
+    if let Ok(files) = locked_files(rt, path, true, Unknown) {
         // Where it can't be put back what is there is left: such a log says nothing.
         let _ = put_back(rt, path, log);
         drop(files);
@@ -183,7 +184,7 @@ pub fn with_log(rt: &HostRuntime, path: &str, log: &ShortLog, e: FileError) -> F
 /// Whether somebody has the files at a path open. No log is left that was not there.
 fn is_in_use(rt: &HostRuntime, path: &str) -> Result<bool, FileError> {
     let had_log = fs::exists(rt, log_of(rt, path)?.as_str())?;
-    match locked_files(rt, path, Unknown) {
+    match locked_files(rt, path, true, Unknown) {
         Ok(files) => {
             let left = if had_log {
                 Ok(())

@@ -17,10 +17,11 @@ use crate::error::FileError;
 use crate::first::{check_first, why_other};
 use crate::looking::{ShortLog, looked_at, plain_log, unless_in_use, with_log};
 use crate::path::{Found, found_at};
-use crate::stores::{list_at, second_at};
+use crate::site_disk::SiteFile;
+use crate::stores::{connected, list_at, second_at};
 use crate::tables::{Listed, list_of, upgraded};
 use kept_site::{Bounds, KeptSite};
-use sqlite::{Alter, Connection, FileFrom, FileStore, Start};
+use sqlite::{Alter, FileStore, Start};
 use sqlite_trees::error::StoreError;
 use std::alloc::Global;
 use verification::{Policy, RelyingParty};
@@ -35,36 +36,21 @@ fn check_sqlite(rt: &HostRuntime, path: &str) -> Result<(), FileError> {
     }
 }
 
-/// The store of a SQLite file, each of whose rows is read and tested with its entries in the indices.
-fn connected<S: Start>(
-    rt: &HostRuntime,
-    path: &str,
-    start: S,
-) -> Result<FileStore<FileFrom<S>>, FileError>
-    ensures numbered { IfOk result (λ store. IsClean (view store) → IsTrue (view store).is_numbered) }
-    ensures rests { IfOk result (λ store. IsClean (view store) → IsTrue (view store).is_open → (view store).committed ≡ (view store).trees) }
-    ensures found { IfOk result (λ store. IsClean (view store) → IsTrue (view store).is_open → IsHeldIn (image_at S.Start) (view store).trees) }
-{
-    match Connection::open_from(rt, path, false, start) {
-        Ok(conn) => Ok(conn.into_store()),
-        Err((e, _)) => Err(e.into()),
-    }
-}
-
 /// The store of a SQLite file. Where it lists the tables of version 2 its rows are not read, so that an open takes little time and
 /// memory; else SQL opens it, which names what is refused.
 fn store_at<S: Start>(
     rt: &HostRuntime,
     path: &str,
+    wary: bool,
     start: S,
-) -> Result<FileStore<FileFrom<S>>, FileError>
+) -> Result<FileStore<SiteFile<S>>, FileError>
     ensures numbered { IfOk result (λ store. IsClean (view store) → IsTrue (view store).is_numbered) }
     ensures rests { IfOk result (λ store. IsClean (view store) → IsTrue (view store).is_open → (view store).committed ≡ (view store).trees) }
     ensures found { IfOk result (λ store. IsClean (view store) → IsTrue (view store).is_open → IsHeldIn (image_at S.Start) (view store).trees) }
 {
     match list_at(rt, path) {
-        Ok(Listed::Second) => second_at(rt, path, start),
-        _ => connected(rt, path, start),
+        Ok(Listed::Second) => second_at(rt, path, wary, start),
+        _ => connected(rt, path, false, wary, start),
     }
 }
 
@@ -163,6 +149,7 @@ fn opened<S: Start>(
     policy: Policy,
     bounds: Bounds,
     at_least: u64,
+    wary: bool,
     start: S,
 ) -> Result<FileSite<S>, FileError>
     ensures made { IfOk result (λ s. (s.rp ≡ party) × (s.policy ≡ policy) × (s.most ≡ bounds.credentials) × (s.is_shut ≡ false) × (s.is_pending ≡ false)) }
@@ -174,7 +161,7 @@ fn opened<S: Start>(
     ensures found { IfOk result (λ s. IsClean (view s.store) → (was : Trees) × IsHeldIn (image_at S.Start) was
         × (((view s.store).trees ≡ was) ⊎ IsFirst party.rp_id was)) }
 {
-    let store = store_at(rt, path, start)?;
+    let store = store_at(rt, path, wary, start)?;
     match open_over(rt.alloc(), party, policy, bounds, at_least, store) {
         Ok(site) => Ok(site),
         Err((e, store)) => {
@@ -194,6 +181,7 @@ fn opened_once<S: Start>(
     bounds: Bounds,
     at_least: u64,
     log: &ShortLog,
+    wary: bool,
     start: S,
 ) -> Result<FileSite<S>, FileError>
     ensures made { IfOk result (λ s. (s.rp ≡ party) × (s.policy ≡ policy) × (s.most ≡ bounds.credentials) × (s.is_shut ≡ false) × (s.is_pending ≡ false)) }
@@ -205,7 +193,7 @@ fn opened_once<S: Start>(
     ensures found { IfOk result (λ s. IsClean (view s.store) → (was : Trees) × IsHeldIn (image_at S.Start) was
         × (((view s.store).trees ≡ was) ⊎ IsFirst party.rp_id was)) }
 {
-    match opened(rt, path, party, policy, bounds, at_least, start) {
+    match opened(rt, path, party, policy, bounds, at_least, wary, start) {
         Ok(site) => Ok(site),
         Err(e) => Err(with_log(rt, path, log, e)),
     }
@@ -218,6 +206,9 @@ fn opened_once<S: Start>(
 ///
 /// `at_least` is the number of a session that is known to have been begun, as the last that was told, and 0 where none is known. A
 /// copy of the file from before the last commit that was told before it is `Older`.
+///
+/// With `wary` each commit flushes twice, and nothing is supposed of a write that is cut off. Without it each byte of
+/// such a write is old or new, below the flushed end of the log.
 ///
 /// `BadBound` where more than 1,000,000 sessions could be open or as many credentials registered, `NoFile`, `LoneLog`, `InUse`
 /// and `CannotOpen` where the file is not opened, `DamagedLog` where its log's header is damaged, `NotSqlite` where it is no sound
@@ -232,6 +223,7 @@ pub fn open<S: Start>(
     policy: Policy,
     bounds: Bounds,
     at_least: u64,
+    wary: bool,
     start: S,
 ) -> Result<FileSite<S>, FileError>
     ensures made { IfOk result (λ s. (s.rp ≡ party) × (s.policy ≡ policy) × (s.most ≡ bounds.credentials) × (s.is_shut ≡ false) × (s.is_pending ≡ false)) }
@@ -249,10 +241,10 @@ pub fn open<S: Start>(
 {
     check_bounds(bounds)?;
     if let Ok(Some(log)) = plain_log(rt, path) {
-        return opened_once(rt, path, party, policy, bounds, at_least, &log, start);
+        return opened_once(rt, path, party, policy, bounds, at_least, &log, wary, start);
     }
     if let Err(e) = check_open(rt, path, &party, policy, bounds, at_least) {
         return Err(unless_in_use(rt, path, e));
     }
-    opened(rt, path, party, policy, bounds, at_least, start)
+    opened(rt, path, party, policy, bounds, at_least, wary, start)
 }

@@ -1,53 +1,31 @@
 //! The store of a site's files.
 
-ghost use Rattle.std.specs.Prelude.{◌≡◌, Bool, IfOk, IfSome, IsTrue, OnOk, false, true};
+ghost use Rattle.std.specs.Prelude.{◌≡◌, Bool, IfOk, IfSome, IsTrue, OnOk};
 ghost use Rattle.sqlite_wal.specs.Files.{image_at};
 ghost use Rattle.sqlite_pool.specs.Stored.{used_size};
-ghost use Rattle.sqlite_std_file.specs.File.{IsFresh, file_is_usable};
 ghost use Rattle.sqlite_trees.specs.Tree.{Trees};
 ghost use Rattle.sqlite_trees.specs.View.{IsClean};
 ghost use Rattle.sqlite_store.specs.FileStore.{view};
+ghost use Rattle.sqlite.specs.Files.{HoldsDatabase, image_of};
 ghost use Rattle.sqlite_store.specs.Unopened.{AreUsable, files_of, image, state_of};
 ghost use Rattle.site_files.specs.Files.{IsFoundIn, IsHeldIn};
 
 use crate::error::FileError;
 use crate::path::{Found, has_sums_at, head_at};
+use crate::site_disk::{SiteFile, files_at};
 use crate::tables::{Listed, list_in, second};
-use sqlite::{Connection, FileFrom, FileStore, Files, Options, Start, Unknown};
+use sqlite::{Connection, FileStore, Files, Options, Start, Unknown};
 use sqlite_disk::Disk;
 use sqlite_pager::Pager;
-use sqlite_std_file::OpenError as PathError;
 use sqlite_store::{OpenError, Unopened};
 use sqlite_trees::error::StoreError;
 use sqlite_value::row::Row;
 use sqlite_wal::PageSize;
 use std::alloc::{AllocError, Global};
 use std::hash::{BuildHasher, RandomState};
-use std::io::ErrorKind;
 
 /// The size of a page in a site's file.
 const PAGE_SIZE: usize = 4096;
-
-/// The files at a path, which nobody else has.
-pub fn files_at<S: Start>(
-    rt: &HostRuntime,
-    path: &str,
-    start: S,
-) -> Result<Files<FileFrom<S>>, FileError>
-    ensures log { IfOk result (λ files. IsTrue (file_is_usable S.Start files.log)) }
-    ensures db { IfOk result (λ files. IsTrue (file_is_usable S.Start files.db)) }
-    ensures fresh { IfOk result (λ files. IsFresh true files.log × IsFresh false files.db) }
-{
-    match sqlite_std_file::open(rt, path, start) {
-        Ok(files) => Ok(files),
-        Err(PathError::OutOfMemory) => Err(FileError::Failed(StoreError::OutOfMemory)),
-        Err(PathError::Busy) => Err(FileError::InUse),
-        Err(PathError::Io(error)) if error.kind() == ErrorKind::OutOfMemory => {
-            Err(FileError::Failed(StoreError::OutOfMemory))
-        }
-        Err(_) => Err(FileError::CannotOpen),
-    }
-}
 
 /// A number that others don't know, for the sums of the log.
 pub fn options(rt: &HostRuntime) -> Result<Options, FileError> {
@@ -120,7 +98,7 @@ pub fn list_at(rt: &HostRuntime, path: &str) -> Result<Listed, FileError> {
     }
     let has_sums = has_sums_at(rt, path)?;
     let options = options(rt)?;
-    let files = files_at(rt, path, Unknown)?;
+    let files = files_at(rt, path, true, Unknown)?;
     let mut it = unopened(rt.alloc(), files, options, has_sums)?;
     let list = list_of_files(rt.alloc(), &mut it);
     drop(it.close());
@@ -189,20 +167,48 @@ pub fn second_of<D: Disk + Drop>(
     second_in(unopened(alloc, files, options, has_sums)?, alloc)
 }
 
-/// The store of files that SQL opens.
+/// The store of files that SQL opens. A new file has sums of its pages, or not.
 pub fn by_sql<D: Disk + Drop>(
     alloc: Global,
     files: Files<D>,
     options: Options,
+    has_sums: bool,
 ) -> Result<FileStore<D>, FileError>
     ensures numbered { IfOk result (λ store. IsClean (view store) → IsTrue (view store).is_numbered) }
+    ensures rests { IfOk result (λ store. IsClean (view store) → IsTrue (view store).is_open → (view store).committed ≡ (view store).trees) }
+    ensures found { IfOk result (λ store. IsClean (view store) → IsTrue (view store).is_open → (db : Trees)
+        → HoldsDatabase (image_of D.Disk files) db → (view store).trees ≡ db) }
 {
     if !files.may_be_used() {
         return Err(FileError::Failed(StoreError::Io));
     }
-    match Connection::open_files(alloc, files, options) {
+    match Connection::open_files_with(alloc, files, options, has_sums) {
         Ok(conn) => Ok(conn.into_store()),
         Err((e, _)) => Err(e.into()),
+    }
+}
+
+/// The same of the files at a path, each of whose rows is read and tested with its entries in the indices. `CannotOpen` where
+/// SQLite takes the path for no file's name.
+pub fn connected<S: Start>(
+    rt: &HostRuntime,
+    path: &str,
+    has_sums: bool,
+    wary: bool,
+    start: S,
+) -> Result<FileStore<SiteFile<S>>, FileError>
+    ensures numbered { IfOk result (λ store. IsClean (view store) → IsTrue (view store).is_numbered) }
+    ensures rests { IfOk result (λ store. IsClean (view store) → IsTrue (view store).is_open → (view store).committed ≡ (view store).trees) }
+    ensures found { IfOk result (λ store. IsClean (view store) → IsTrue (view store).is_open → IsHeldIn (image_at S.Start) (view store).trees) }
+{
+    if path == ":memory:" || path.starts_with("file:") {
+        return Err(FileError::CannotOpen);
+    }
+    let options = options(rt)?;
+    let files = files_at(rt, path, wary, start)?;
+    match by_sql(rt.alloc(), files, options, has_sums) {
+        Ok(store) => Ok(store),
+        Err(e) => Err(e),
     }
 }
 
@@ -212,15 +218,16 @@ pub fn by_sql<D: Disk + Drop>(
 pub fn second_at<S: Start>(
     rt: &HostRuntime,
     path: &str,
+    wary: bool,
     start: S,
-) -> Result<FileStore<FileFrom<S>>, FileError>
+) -> Result<FileStore<SiteFile<S>>, FileError>
     ensures numbered { IfOk result (λ store. IsClean (view store) → IsTrue (view store).is_numbered) }
     ensures rests { IfOk result (λ store. IsClean (view store) → IsTrue (view store).is_open → (view store).committed ≡ (view store).trees) }
     ensures found { IfOk result (λ store. IsClean (view store) → IsTrue (view store).is_open → IsHeldIn (image_at S.Start) (view store).trees) }
 {
     let has_sums = has_sums_at(rt, path)?;
     let options = options(rt)?;
-    let files = files_at(rt, path, start)?;
+    let files = files_at(rt, path, wary, start)?;
     let it = unopened(rt.alloc(), files, options, has_sums)?;
     match opened(it) {
         Ok(store) => Ok(store),

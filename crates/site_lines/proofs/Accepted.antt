@@ -1,5 +1,5 @@
 -- What is written of acceptances.
-use Rattle.std.proofs.Common.{◌≡◌, ◌≤◌, ℕ, List, codes, sym, subst, ap, ◌∙◌}
+use Rattle.std.proofs.Common.{◌≡◌, ◌≤◌, ℕ, Bool, List, codes, sym, subst, ap, ◌∙◌}
 use Rattle.serde_json.specs.Data.{Data, depth, no_members, object, put}
 use Rattle.authdata.specs.declared.profile.Profile.{Profile}
 use Rattle.authdata.specs.declared.response.AssertionResponse.{AssertionResponse}
@@ -9,6 +9,8 @@ use Rattle.authdata.specs.Objects.{Attestation, ObjectOf}
 use Rattle.authdata.proofs.Objects.{one_object}
 use Rattle.authdata.proofs.Unique.{one_value}
 use Rattle.verification.specs.Records.{Credential}
+use Rattle.verification.specs.Registration.{CountsAsNone, counted}
+use Rattle.verification.proofs.Registrations.{counted_none, counted_whole}
 use Rattle.credential_table.specs.Views.{row_view}
 use Rattle.credential_table.specs.declared.row.Row.{Row}
 use Rattle.kept_site.specs.declared.finish.SignedIn.{SignedIn}
@@ -28,13 +30,21 @@ row_shallow a format c d is = subst (λ x. depth x ≤ 1) (sym is) (attested_fla
 pub plain_shallow : (c : Credential) (d : Data) → d ≡ object (row_members c no_members) → depth d ≤ 1
 plain_shallow c d is = subst (λ x. depth x ≤ 1) (sym is) (row_flat c)
 
-pub registered_is : (p : Profile) (row : Row) (r : RegistrationResponse) (read : Attestation) (d : Data) → ObjectOf read r.object.items
-    → ((a : AuthenticatorData) → AuthOf p a read.auth_data → d ≡ object (attested_members a read.fmt (row_members (row_view row) no_members)))
-    → IsRegistered p row r d
-registered_is p row r read d is told o a other of =
+-- the format of what counts as an object
+pub format_none : (p : Profile) (asked : Bool) (o : Attestation) → CountsAsNone p asked → codes "none" ≡ (counted p asked o).fmt
+format_none p asked o unasked = sym (counted_none p asked o unasked).0
+
+pub format_whole : (p : Profile) (asked : Bool) (o : Attestation) → (CountsAsNone p asked → ⊥) → o.fmt ≡ (counted p asked o).fmt
+format_whole p asked o whole = sym (ap (λ (x : Attestation). x.fmt) (counted_whole p asked o whole))
+
+pub registered_is : (p : Profile) (asked : Bool) (row : Row) (r : RegistrationResponse) (read : Attestation) (d : Data) → ObjectOf read r.object.items
+    → ((a : AuthenticatorData) → AuthOf p a read.auth_data
+    → d ≡ object (attested_members a (counted p asked read).fmt (row_members (row_view row) no_members)))
+    → IsRegistered p asked row r d
+registered_is p asked row r read d is told o a other of =
     let one = one_object read o r.object.items is other in
     told a (subst (λ (x : Attestation). AuthOf p a x.auth_data) (sym one) of)
-    ∙ ap (λ (x : Attestation). object (attested_members a x.fmt (row_members (row_view row) no_members))) one
+    ∙ ap (λ (x : Attestation). object (attested_members a (counted p asked x).fmt (row_members (row_view row) no_members))) one
 
 pub who_is : (p : Profile) (x : SignedIn) (r : AssertionResponse) (read : AuthenticatorData) (d : Data) → AuthOf p read r.auth_data.items
     → d ≡ object (data_members read (put (codes "sign_count") (natural read.sign_count) (who_members x))) → IsSignedIn p x r d

@@ -1,16 +1,11 @@
 -- What is known of credentials, and what is told of it.
-use Rattle.std.specs.Prelude.{◌≤◌, ◌^◌, ◌+◌, IfOk, Ok, Err, Vec, option_and_then, string_bytes}
+use Rattle.std.specs.Prelude.{◌≤◌, ◌^◌, ◌+◌, IfOk, Ok, Err, Vec, string_bytes}
 use Rattle.std.specs.declared.result.Result.{Result}
 use Rattle.std.specs.Global.{Global}
-use Rattle.std.proofs.Common.{◌≡◌, ◌++◌, ◌∷◌, [], ℕ, Bool, List, Option, Some, None, codes, map, ap, inl, inr, refl, sym, subst, ◌∙◌, false}
+use Rattle.std.proofs.Common.{◌≡◌, ◌++◌, ◌∷◌, [], ℕ, List, Option, Some, None, map, ap, refl, sym, subst, ◌∙◌, false}
 use Rattle.std.specs.FinMap as finite
 use Rattle.std.specs.List.{AllByRecursion}
 use Rattle.sqlite_trees.specs.View.{IsClean, View}
-use Rattle.sqlite_trees.proofs.ListLemmas.{map-map}
-use Rattle.serde_json.specs.Data.{Data}
-use Rattle.serde_json.specs.Find.{as_array, as_str}
-use Rattle.serde_json.specs.View.{items_view, view}
-use Rattle.serde_json.specs.declared.value.Value.{Value}
 use Rattle.authdata.specs.declared.profile.Profile.{Profile}
 use Rattle.authdata.specs.Layout.{AttestedCredential, AuthenticatorData, AuthOf}
 use Rattle.authdata.specs.Objects.{Attestation, ObjectOf}
@@ -29,12 +24,12 @@ use Rattle.kept_site.specs.Calls.{IsFailure, IsOneSite, IsSame}
 use Rattle.kept_site.specs.declared.failure.Failure.{Failure}
 use Rattle.kept_site.specs.declared.failure.BeginFailure.{BeginFailure}
 use Rattle.kept_site.specs.declared.failure.BeginFailure.TheVariants as begins
-use Rattle.site_lines.specs.declared.act.Act.{Act}
-use Rattle.site_lines.specs.declared.act.Act.TheVariants as acts
-use Rattle.site_lines.specs.declared.act.BeginRegistration.{BeginRegistration}
-use Rattle.site_lines.specs.declared.act.BeginSignIn.{BeginSignIn}
-use Rattle.site_lines.specs.declared.act.FinishRegistration.{FinishRegistration}
-use Rattle.site_lines.specs.declared.act.FinishSignIn.{FinishSignIn}
+use Rattle.site_acts.specs.declared.act.Act.{Act}
+use Rattle.site_acts.specs.declared.act.Act.TheVariants as acts
+use Rattle.site_acts.specs.declared.act.BeginRegistration.{BeginRegistration}
+use Rattle.site_acts.specs.declared.act.BeginSignIn.{BeginSignIn}
+use Rattle.site_acts.specs.declared.act.FinishRegistration.{FinishRegistration}
+use Rattle.site_acts.specs.declared.act.FinishSignIn.{FinishSignIn}
 use Rattle.site_lines.specs.declared.answer.Answer.{Answer}
 use Rattle.site_lines.specs.declared.answer.Answer.TheVariants as answers
 use Rattle.site_lines.specs.declared.answer.Known.{Known}
@@ -42,27 +37,13 @@ use Rattle.verification.specs.declared.refusal.SignInRefusal.{SignInRefusal}
 use Rattle.verification.specs.declared.refusal.RegistrationRefusal.{RegistrationRefusal}
 use Rattle.site_lines.specs.Answers.{Begins, Keeps, TellsRegistrationBegun, TellsSignInBegun, opens_registration, opens_sign_in}
 use Rattle.site_lines.specs.Details.{AreKnown, IsAaguid, IsKnown, OfDetails, RegistersDetail, TellsAllowed, TellsDetails, TellsExcluded, TellsRowDetails, UsesDetail, joined, joined_on, second, with_comma}
-use Rattle.site_lines.specs.Lines.{HasTexts, member}
-use Rattle.site_lines.specs.Private.{AreItems, BeginsNone, IsAaguidOf, IsNotBegunAfter, IsRefusedRegistration, IsRefusedSignIn, IsUnknown, IsWithKnown, KeepsDetail, not_begun}
+use Rattle.site_lines.specs.Private.{BeginsNone, IsAaguidOf, IsNotBegunAfter, IsRefusedRegistration, IsRefusedSignIn, IsUnknown, IsWithKnown, KeepsDetail, not_begun}
 use Rattle.site_lines.specs.declared.knowing.Unknown.{Unknown}
 use Rattle.site_lines.specs.declared.knowing.Unknown.TheVariants as unknowns
 use Rattle.credential_table.specs.declared.row.Row.{Row}
 use Rattle.site_lines.proofs.Kept.{failure_then, held_on, same_site, same_then}
 
 -- ---- texts
-
-none_of : {A B : Type 0} (f : A → B) (xs : List A) → map f xs ≡ [] → xs ≡ []
-none_of f [] is = refl
-none_of f (x ∷ xs) is = absurd cc
-
-module _ {T : Type 0} (text_of : T → List ℕ) where
-  pub texts_are : (name : List ℕ) (d : Data) (values : List Value) (list : List T) → AreItems name d values
-      → map (λ value. as_str (view value)) values ≡ map (λ text. Some (text_of text)) list
-      → HasTexts name d (map text_of list)
-  texts_are name d values list (inl is) same =
-      inl (map view values, is, map-map as_str view values ∙ same ∙ sym (map-map (λ text. Some text) text_of list))
-  texts_are name d values list (inr (none, empty)) same =
-      inr (none, ap (map text_of) (none_of _ list (sym same ∙ ap (map (λ value. as_str (view value))) empty)))
 
 more_on : (text : List ℕ) (ts : List (List ℕ)) (t : List ℕ) → joined_on text (ts ++ t ∷ []) ≡ with_comma (joined_on text ts) ++ t
 more_on text [] t = refl
@@ -195,7 +176,7 @@ pub sign_in_leaves : {S : Type 0} (view : S → View) (f : FinishSignIn) (now : 
     → IsRefusedSignIn view step f mid new a → UsesDetail view now f old new a
 sign_in_leaves view f now old mid new step (answers.RegistrationBegun started b known) h = absurd h
 sign_in_leaves view f now old mid new step (answers.SignInBegun started b known) h = absurd h
-sign_in_leaves view f now old mid new step (answers.Registered x told) h = absurd h
+sign_in_leaves view f now old mid new step (answers.Registered x told asked) h = absurd h
 sign_in_leaves view f now old mid new step (answers.SignedIn x told) h = absurd h
 sign_in_leaves view f now old mid new step (answers.Verify t) h = tt
 sign_in_leaves view f now old mid new step (answers.RegistrationRefused told id) h = absurd h
@@ -215,7 +196,7 @@ pub registration_leaves : {S : Type 0} (view : S → View) (f : FinishRegistrati
     → IsRefusedRegistration p step f a → KeepsDetail view d old new a
 registration_leaves view f p d old new step (answers.RegistrationBegun started b known) h = absurd h
 registration_leaves view f p d old new step (answers.SignInBegun started b known) h = absurd h
-registration_leaves view f p d old new step (answers.Registered x told) h = absurd h
+registration_leaves view f p d old new step (answers.Registered x told asked) h = absurd h
 registration_leaves view f p d old new step (answers.SignedIn x told) h = absurd h
 registration_leaves view f p d old new step (answers.Verify t) h = tt
 registration_leaves view f p d old new step (answers.RegistrationRefused told id) h = tt
@@ -251,7 +232,7 @@ pub registers_detail : {S : Type 0} (view : S → View) (now : ℕ) (f : FinishR
     → KeepsDetail view d old new a → RegistersDetail view now f old new a
 registers_detail view now f d aaguid old new (answers.RegistrationBegun started b known) its is h = tt
 registers_detail view now f d aaguid old new (answers.SignInBegun started b known) its is h = tt
-registers_detail view now f d aaguid old new (answers.Registered x response) its is h = (aaguid, its, λ clean placed held details h0. subst (λ x. HoldsDetails (finite.insert details (old.last + 1) x) (view new.store).trees) is (h clean placed held details h0))
+registers_detail view now f d aaguid old new (answers.Registered x response asked) its is h = (aaguid, its, λ clean placed held details h0. subst (λ x. HoldsDetails (finite.insert details (old.last + 1) x) (view new.store).trees) is (h clean placed held details h0))
 registers_detail view now f d aaguid old new (answers.SignedIn x response) its is h = tt
 registers_detail view now f d aaguid old new (answers.Verify t) its is h = tt
 registers_detail view now f d aaguid old new (answers.RegistrationRefused response id) its is h = tt
@@ -272,7 +253,7 @@ pub row_details_after : {S : Type 0} (view : S → View) (rows : Vec Row Global)
     → IsWithKnown view rows mid new a → TellsRowDetails view old new a
 row_details_after view rows old mid new (answers.RegistrationBegun started b known) same h = absurd h
 row_details_after view rows old mid new (answers.SignInBegun started b known) same h = absurd h
-row_details_after view rows old mid new (answers.Registered x told) same h = absurd h
+row_details_after view rows old mid new (answers.Registered x told asked) same h = absurd h
 row_details_after view rows old mid new (answers.SignedIn x told) same h = absurd h
 row_details_after view rows old mid new (answers.Verify t) same h = absurd h
 row_details_after view rows old mid new (answers.RegistrationRefused told id) same h = absurd h

@@ -1,25 +1,28 @@
 -- What is told of a ceremony that is finished, by what the site's call says.
-use Rattle.std.proofs.Common.{◌≡◌, Option, false, refl, subst, sym}
+use Rattle.std.proofs.Common.{◌≡◌, Bool, None, Option, Some, false, refl, subst, sym}
+use Rattle.std.specs.Prelude.{IsSome}
+use Rattle.std.specs.Option.{ForSome}
 use Rattle.sqlite_trees.specs.View.{View}
 use Rattle.authdata.specs.Responses.{AuthenticatorAssertionResponse, assertion_response_view, registration_response_view}
 use Rattle.authdata.specs.Responses as responses
 use Rattle.authdata.specs.declared.profile.Profile.{Profile}
-use Rattle.verification.specs.Records.{Credential}
+use Rattle.verification.specs.Records.{Credential, ExpectedRegistration}
 use Rattle.verification.specs.SignIn.{IsFirstFailing}
 use Rattle.verification.specs.declared.refusal.SignInRefusal.{SignInRefusal}
 use Rattle.verification.specs.declared.refusal.SignInRefusal.TheVariants as sign_in
 use Rattle.verification.specs.declared.refusal.VerificationError.{VerificationError}
 use Rattle.verification.specs.declared.refusal.VerificationError.TheVariants as errors
 use Rattle.verification.specs.declared.refusal.RegistrationRefusal.{RegistrationRefusal}
+use Rattle.ceremony_sessions.specs.Sessions.{registration_at}
 use Rattle.timed_sessions.specs.Timed.{after_end}
 use Rattle.kept_site.specs.State.{KeptState}
 use Rattle.kept_site.specs.Calls.{IsFound, IsOneSite, IsSame, RefusesRegistration, RefusesSignIn, Registers, SignsIn, judged_sign_in}
 use Rattle.kept_site.specs.declared.finish.SignedIn.{SignedIn}
 use Rattle.kept_site.specs.declared.registration.Registered.{Registered}
 use Rattle.verified_signature.specs.Signed.{Signed, only_verified}
-use Rattle.site_lines.specs.VerifiedSignatures.{is_valid, verified_in}
-use Rattle.site_lines.specs.declared.act.FinishRegistration.{FinishRegistration}
-use Rattle.site_lines.specs.declared.act.FinishSignIn.{FinishSignIn}
+use Rattle.site_acts.specs.VerifiedSignatures.{is_valid, verified_in}
+use Rattle.site_acts.specs.declared.act.FinishRegistration.{FinishRegistration}
+use Rattle.site_acts.specs.declared.act.FinishSignIn.{FinishSignIn}
 use Rattle.site_lines.specs.declared.answer.Answer.{Answer}
 use Rattle.site_lines.specs.declared.answer.Answer.TheVariants as answers
 use Rattle.site_lines.specs.Answers.{Becomes, Keeps, OfHeld, StopsRegistration, TellsRegistration, TellsSignIn}
@@ -60,7 +63,7 @@ pub sign_in_refused : {S : Type 0} (view : S → View) (f : FinishSignIn) (old m
     → IsSame view old mid → Stops view f old mid step → IsRefusedSignIn view step f mid new a → Keeps view mid new a → TellsSignIn view f old new a
 sign_in_refused view f old mid new step (answers.RegistrationBegun started b known) same stops h k = absurd h
 sign_in_refused view f old mid new step (answers.SignInBegun started b known) same stops h k = absurd h
-sign_in_refused view f old mid new step (answers.Registered x told) same stops h k = absurd h
+sign_in_refused view f old mid new step (answers.Registered x told asked) same stops h k = absurd h
 sign_in_refused view f old mid new step (answers.SignedIn x told) same stops h k = absurd h
 sign_in_refused view f old mid new step (answers.Verify t) same stops h k = (
   h.1,
@@ -101,7 +104,7 @@ pub sign_in_left : {S : Type 0} (view : S → View) (f : FinishSignIn) (old mid 
     → old.is_shut ≡ false → IsSame view old mid → IsRefusedSignIn view step f mid new a → Keeps view mid new a → Keeps view old new a
 sign_in_left view f old mid new step (answers.RegistrationBegun started b known) live same h k = absurd h
 sign_in_left view f old mid new step (answers.SignInBegun started b known) live same h k = absurd h
-sign_in_left view f old mid new step (answers.Registered x told) live same h k = absurd h
+sign_in_left view f old mid new step (answers.Registered x told asked) live same h k = absurd h
 sign_in_left view f old mid new step (answers.SignedIn x told) live same h k = absurd h
 sign_in_left view f old mid new step (answers.Verify t) live same h k = same_then view old mid new same k
 sign_in_left view f old mid new step (answers.RegistrationRefused told id) live same h k = absurd h
@@ -119,17 +122,26 @@ sign_in_left view f old mid new step (answers.Failed why) live same h k = failur
 
 -- ---- registration
 
+-- what is said of a session that is open
+of_open : (asked : Bool) (session : Option ExpectedRegistration) → IsSome session → ForSome session (λ e. asked ≡ e.attestation)
+    → (e : ExpectedRegistration) × (session ≡ Some e) × (asked ≡ e.attestation)
+of_open asked None there says = absurd cc
+of_open asked (Some e) there says = (e, refl, says e refl)
+
 -- an acceptance, of the parts that were judged
 pub registration_accepted : {S : Type 0} (view : S → View) (f : FinishRegistration) (old new : KeptState S)
     (r : responses.AuthenticatorAttestationResponse) (x : Registered)
-    (v : Option Signed) → v ≡ verified_in f.verified → r ≡ registration_response_view f.response
+    (asked : Bool) (v : Option Signed) → v ≡ verified_in f.verified → r ≡ registration_response_view f.response
+    → IsSome (registration_at f.session old.timed.open_sessions)
+    → ForSome (registration_at f.session old.timed.open_sessions) (λ e. asked ≡ e.attestation)
     → new.timed ≡ after_end old.timed f.session → IsOneSite old new
     → Becomes view old new (λ placed after. Registers (only_verified v) placed old f.session r x after)
-    → TellsRegistration view f old new (answers.Registered x f.response)
-registration_accepted view f old new r x v verified same closed one becomes =
+    → TellsRegistration view f old new (answers.Registered x f.response asked)
+registration_accepted view f old new r x asked v verified same there asks closed one becomes =
     let of : Becomes view old new (λ placed after. Registers (is_valid f.verified) placed old f.session r x after) =
     subst (λ (w : Option Signed). Becomes view old new (λ placed after. Registers (only_verified w) placed old f.session r x after)) verified becomes in (
       refl,
+      of_open asked (registration_at f.session old.timed.open_sessions) there asks,
       closed,
       one,
       subst (λ (q : responses.AuthenticatorAttestationResponse). Becomes view old new
@@ -153,7 +165,7 @@ pub registration_refused : {S : Type 0} (view : S → View) (f : FinishRegistrat
     → StopsRegistration view f old new step → IsRefusedRegistration old.rp.profile step f a → TellsRegistration view f old new a
 registration_refused view f old new step (answers.RegistrationBegun started b known) stops h = absurd h
 registration_refused view f old new step (answers.SignInBegun started b known) stops h = absurd h
-registration_refused view f old new step (answers.Registered x told) stops h = absurd h
+registration_refused view f old new step (answers.Registered x told asked) stops h = absurd h
 registration_refused view f old new step (answers.SignedIn x told) stops h = absurd h
 registration_refused view f old new step (answers.Verify t) stops h = (h.1, h.2, subst (StopsRegistration view f old new) h.0 stops)
 registration_refused view f old new step (answers.RegistrationRefused told id) stops h = (h.1, subst (StopsRegistration view f old new) (sym h.0) stops)
@@ -174,7 +186,7 @@ pub registration_left : {S : Type 0} (view : S → View) (f : FinishRegistration
     → IsSame view old new → IsRefusedRegistration profile step f a → Keeps view old new a
 registration_left view f p old new step (answers.RegistrationBegun started b known) same h = absurd h
 registration_left view f p old new step (answers.SignInBegun started b known) same h = absurd h
-registration_left view f p old new step (answers.Registered x told) same h = absurd h
+registration_left view f p old new step (answers.Registered x told asked) same h = absurd h
 registration_left view f p old new step (answers.SignedIn x told) same h = absurd h
 registration_left view f p old new step (answers.Verify t) same h = same
 registration_left view f p old new step (answers.RegistrationRefused told id) same h = same

@@ -15,8 +15,8 @@ use Rattle.kept_site.specs.declared.failure.Failure.{Failure}
 use Rattle.kept_site.specs.declared.failure.Failure.TheVariants as failures
 use Rattle.kept_site.specs.declared.failure.BeginFailure.{BeginFailure}
 use Rattle.kept_site.specs.declared.failure.BeginFailure.TheVariants as begins
-use Rattle.site_lines.specs.declared.act.BeginRegistration.{BeginRegistration}
-use Rattle.site_lines.specs.declared.act.BeginSignIn.{BeginSignIn}
+use Rattle.site_acts.specs.declared.act.BeginRegistration.{BeginRegistration}
+use Rattle.site_acts.specs.declared.act.BeginSignIn.{BeginSignIn}
 use Rattle.site_lines.specs.Answers.{Begins, Keeps, TellsRegistrationBegun, TellsSignInBegun, opens_registration, opens_sign_in}
 use Rattle.site_lines.specs.Private.{BeginsNone, not_begun}
 

@@ -1,5 +1,3 @@
-pub mod Keyed
-pub mod Lists
 pub mod Kept
 pub mod Asked
 pub mod Finished
@@ -8,5 +6,3 @@ pub mod Batched
 pub mod Shallow
 pub mod Accepted
 pub mod Counted
-pub mod Amiss
-pub mod Named

@@ -15,8 +15,8 @@ use Rattle.credential_store.specs.Details.{Detail, detail_view}
 use Rattle.site_lines.specs.Options.{base64url, creation_options, descriptor, parameter, request_options}
 use Rattle.site_lines.specs.Private.{IsShallow}
 use Rattle.site_lines.specs.Written.{Writes, aaguid_or_null, answered, attested_members, begun, by_step, bytes_or_null, counts_from, data_members, flag_or_null, integer_or_null, line_number, natural, row_members, status, step_name, who_members, whole_row, whole_rows, with_count}
-use Rattle.site_lines.specs.declared.act.BeginRegistration.{BeginRegistration}
-use Rattle.site_lines.specs.declared.act.BeginSignIn.{BeginSignIn}
+use Rattle.site_acts.specs.declared.act.BeginRegistration.{BeginRegistration}
+use Rattle.site_acts.specs.declared.act.BeginSignIn.{BeginSignIn}
 use Rattle.site_lines.specs.declared.answer.Answer.{Answer}
 use Rattle.site_lines.specs.declared.answer.Answer.TheVariants as answers
 use Rattle.site_lines.specs.declared.answer.Counts.{Counts}
@@ -152,7 +152,7 @@ one d e n is h below = subst (λ x. depth x ≤ max_depth) (sym is) (omega (arit
 pub shallow : (t : Teller) (id : Option ℕ) (a : Answer) (d : Data) → Writes t id a d → IsShallow a d → depth d ≤ max_depth
 shallow t id (answers.RegistrationBegun started b known) d w h = one d _ 5 w (begun_within id started.session (creation_options t.party.now.rp_id t.rp_name.now started.challenge b known.items) (creation_within t.party.now.rp_id t.rp_name.now started.challenge b known.items)) (omega arith)
 shallow t id (answers.SignInBegun started b known) d w h = one d _ 5 w (begun_within id started.session (request_options t.party.now.rp_id started.challenge b known.items) (request_within t.party.now.rp_id started.challenge b known.items)) (omega arith)
-shallow t id (answers.Registered x r) d w h = omega (arith, h)
+shallow t id (answers.Registered x r asked) d w h = omega (arith, h)
 shallow t id (answers.SignedIn x r) d w h = omega (arith, h)
 shallow t id (answers.Verify asked) d w h = one d _ 2 w (omega (arith, number_flat id)) (omega arith)
 shallow t id (answers.RegistrationRefused why credential) d w h = one d _ 2 w.1 (omega (arith, number_flat id)) (omega arith)

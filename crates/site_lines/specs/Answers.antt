@@ -11,9 +11,9 @@ use Rattle.authdata.specs.Objects.{Attestation}
 use Rattle.authdata.specs.Responses.{AuthenticatorAssertionResponse, assertion_response_view, registration_response_view}
 use Rattle.authdata.specs.Responses as responses
 use Rattle.authdata.specs.Statements.{IsSelfSignedBy}
-use Rattle.ceremony_sessions.specs.Sessions.{IsRefused, Opening, OpensRegistration, OpensSignIn, challenge_of}
+use Rattle.ceremony_sessions.specs.Sessions.{IsRefused, Opening, OpensRegistration, OpensSignIn, challenge_of, registration_at}
 use Rattle.ceremony_sessions.specs.declared.error.Error.TheVariants as begins
-use Rattle.verification.specs.Records.{Credential}
+use Rattle.verification.specs.Records.{Credential, ExpectedRegistration}
 use Rattle.verification.specs.Registration.{Attests, hash_in}
 use Rattle.verification.specs.Registration as registration
 use Rattle.verification.specs.SignIn.{IsFirstFailing}
@@ -27,17 +27,17 @@ use Rattle.kept_site.specs.State.{IsHeld, KeptState}
 use Rattle.kept_site.specs.Calls.{IsFailure, IsFound, IsOneSite, IsSame, Registers, SignsIn, TellsIds, judged_registration, judged_sign_in}
 use Rattle.kept_site.specs.Calls as calls
 use Rattle.verified_signature.specs.declared.signature.VerifiedSignature.{VerifiedSignature}
-use Rattle.site_lines.specs.VerifiedSignatures.{is_valid}
-use Rattle.site_lines.specs.declared.verified.Verified.TheVariants as found
-use Rattle.site_lines.specs.declared.act.Act.{Act}
-use Rattle.site_lines.specs.declared.act.Act.TheVariants as acts
-use Rattle.site_lines.specs.declared.act.BeginRegistration.{BeginRegistration}
-use Rattle.site_lines.specs.declared.act.BeginSignIn.{BeginSignIn}
-use Rattle.site_lines.specs.declared.act.FinishRegistration.{FinishRegistration}
-use Rattle.site_lines.specs.declared.act.FinishSignIn.{FinishSignIn}
+use Rattle.site_acts.specs.VerifiedSignatures.{is_valid}
+use Rattle.site_acts.specs.declared.verified.Verified.TheVariants as found
+use Rattle.site_acts.specs.declared.act.Act.{Act}
+use Rattle.site_acts.specs.declared.act.Act.TheVariants as acts
+use Rattle.site_acts.specs.declared.act.BeginRegistration.{BeginRegistration}
+use Rattle.site_acts.specs.declared.act.BeginSignIn.{BeginSignIn}
+use Rattle.site_acts.specs.declared.act.FinishRegistration.{FinishRegistration}
+use Rattle.site_acts.specs.declared.act.FinishSignIn.{FinishSignIn}
 use Rattle.site_lines.specs.declared.answer.Answer.{Answer}
-use Rattle.site_lines.specs.declared.error.LineError.{LineError}
-use Rattle.site_lines.specs.declared.error.LineError.TheVariants as errors
+use Rattle.site_acts.specs.declared.error.LineError.{LineError}
+use Rattle.site_acts.specs.declared.error.LineError.TheVariants as errors
 use Rattle.site_lines.specs.declared.answer.Answer.TheVariants as answers
 
 -- a line that is refused, a refusal, a question and a look leave the site as it was; a failure is one
@@ -106,11 +106,13 @@ StopsRegistration view f old new step =
     OfHeld view old new (λ placed. (is_registered : List ℕ → Bool) → TellsIds placed is_registered
     → registration.IsFirstFailing (is_valid f.verified) (judged_registration old f.session is_registered (registration_response_view f.response)) step)
 
--- the same of the answer to a registration's response, whose step is that of the attestation statement
+-- the same of the answer to a registration's response, whose step is that of the attestation statement; an acceptance tells
+-- whether the session, which was open, asked for an attestation
 abbrev pub TellsRegistration : {S : Type 0} → (S → View) → FinishRegistration → KeptState S → KeptState S → Answer → Type 0
-TellsRegistration view f old new (answers.Registered x told) =
+TellsRegistration view f old new (answers.Registered x told asked) =
     let r = registration_response_view f.response in
-    (told ≡ f.response) × (new.timed ≡ after_end old.timed f.session) × IsOneSite old new
+    (told ≡ f.response) × ((e : ExpectedRegistration) × (registration_at f.session old.timed.open_sessions ≡ Some e) × (asked ≡ e.attestation))
+    × (new.timed ≡ after_end old.timed f.session) × IsOneSite old new
     × Becomes view old new (λ placed after. Registers (is_valid f.verified) placed old f.session r x after)
 TellsRegistration view f old new (answers.RegistrationRefused step id) = (id.items ≡ f.credential.items) × StopsRegistration view f old new step
 TellsRegistration view f old new (answers.Verify t) =

@@ -8,10 +8,10 @@ use Rattle.kept_site.specs.Calls.{IsCommit}
 use Rattle.kept_site.specs.declared.failure.Failure.{Failure}
 use Rattle.site_lines.specs.Answers.{Keeps, Tells}
 use Rattle.site_lines.specs.Details.{TellsDetails}
-use Rattle.site_lines.specs.Faults.{IsRefused}
-use Rattle.site_lines.specs.Lines.{Reads}
-use Rattle.site_lines.specs.declared.act.Act.{Act}
-use Rattle.site_lines.specs.declared.error.LineError.{LineError}
+use Rattle.site_acts.specs.Faults.{IsRefused}
+use Rattle.site_acts.specs.Lines.{Reads}
+use Rattle.site_acts.specs.declared.act.Act.{Act}
+use Rattle.site_acts.specs.declared.error.LineError.{LineError}
 use Rattle.site_lines.specs.declared.line.Answered.{Answered}
 use Rattle.site_lines.specs.declared.line.Arrived.{Arrived}
 use Rattle.site_lines.specs.declared.answer.Answer.TheVariants as answers

@@ -13,12 +13,12 @@ use Rattle.credential_store.specs.Held.{Placed}
 use Rattle.credential_store.specs.Details.{Detail, Details, HoldsDetails, detail_view, told}
 use Rattle.kept_site.specs.State.{IsHeld, KeptState}
 use Rattle.kept_site.specs.Calls.{TellsDetail, TellsForgotten, TellsUsed}
-use Rattle.site_lines.specs.declared.act.Act.{Act}
-use Rattle.site_lines.specs.declared.act.Act.TheVariants as acts
-use Rattle.site_lines.specs.declared.act.BeginRegistration.{BeginRegistration}
-use Rattle.site_lines.specs.declared.act.BeginSignIn.{BeginSignIn}
-use Rattle.site_lines.specs.declared.act.FinishRegistration.{FinishRegistration}
-use Rattle.site_lines.specs.declared.act.FinishSignIn.{FinishSignIn}
+use Rattle.site_acts.specs.declared.act.Act.{Act}
+use Rattle.site_acts.specs.declared.act.Act.TheVariants as acts
+use Rattle.site_acts.specs.declared.act.BeginRegistration.{BeginRegistration}
+use Rattle.site_acts.specs.declared.act.BeginSignIn.{BeginSignIn}
+use Rattle.site_acts.specs.declared.act.FinishRegistration.{FinishRegistration}
+use Rattle.site_acts.specs.declared.act.FinishSignIn.{FinishSignIn}
 use Rattle.site_lines.specs.declared.answer.Answer.{Answer}
 use Rattle.site_lines.specs.declared.answer.Answer.TheVariants as answers
 use Rattle.site_lines.specs.declared.answer.Known.{Known}
@@ -65,7 +65,7 @@ AreKnown view old new ids known = (map (λ k. k.id.items) known ≡ ids) × OfDe
 -- a credential that is registered has the detail of its line: this second, the transports that the line tells, and the aaguid of its
 -- response
 abbrev pub RegistersDetail : {S : Type 0} → (S → View) → ℕ → FinishRegistration → KeptState S → KeptState S → Answer → Type 0
-RegistersDetail view now f old new (answers.Registered x response) =
+RegistersDetail view now f old new (answers.Registered x response asked) =
     (aaguid : Option (List ℕ)) × IsAaguid old.rp.profile (registration_response_view f.response) aaguid
     × OfDetails view old new (λ placed details.
     HoldsDetails (finite.insert details (old.last + 1) (told (Some (second now)) None (joined (map string_bytes f.transports.items)) aaguid)) (view new.store).trees)

@@ -7,8 +7,8 @@ use Rattle.serde_json.specs.Find.{of_integer}
 use Rattle.serde_json.specs.View.{items_of}
 use Rattle.cose.specs.declared.key.Alg.{Alg}
 use Rattle.cose.specs.Keys.{number_of}
-use Rattle.site_lines.specs.declared.act.BeginRegistration.{BeginRegistration}
-use Rattle.site_lines.specs.declared.act.BeginSignIn.{BeginSignIn}
+use Rattle.site_acts.specs.declared.act.BeginRegistration.{BeginRegistration}
+use Rattle.site_acts.specs.declared.act.BeginSignIn.{BeginSignIn}
 use Rattle.site_lines.specs.declared.answer.Known.{Known}
 
 -- bytes, as a text in base64url without padding (RFC 4648, section 5)

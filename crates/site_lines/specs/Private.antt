@@ -1,10 +1,6 @@
 -- What private functions are proved against; no public clause cites it.
-use Rattle.std.specs.Prelude.{◌≡◌, ◌⊎◌, ◌≤◌, ◌+◌, ◌^◌, ℕ, ⊤, List, [], ◌∷◌, codes, false, Option, None, Some, Vec, map, option_and_then}
+use Rattle.std.specs.Prelude.{◌≡◌, ◌≤◌, ◌+◌, ◌^◌, ℕ, ⊤, List, [], ◌∷◌, Option, None, Some, Vec, map}
 use Rattle.serde_json.specs.Data.{Data, depth, string}
-use Rattle.std.specs.Borrow.{Bor}
-use Rattle.serde_json.specs.Find.{as_array, as_bool}
-use Rattle.serde_json.specs.View.{items_view}
-use Rattle.serde_json.specs.declared.value.Value.{Value}
 use Rattle.sqlite_trees.specs.View.{View}
 use Rattle.authdata.specs.declared.profile.Profile.{Profile}
 use Rattle.authdata.specs.Responses.{assertion_response_view, registration_response_view}
@@ -21,19 +17,14 @@ use Rattle.site_lines.specs.declared.knowing.Unknown.{Unknown}
 use Rattle.site_lines.specs.declared.knowing.Unknown.TheVariants as unknowns
 use Rattle.kept_site.specs.declared.failure.BeginFailure.{BeginFailure}
 use Rattle.kept_site.specs.declared.failure.BeginFailure.TheVariants as begins
-use Rattle.site_lines.specs.declared.act.FinishRegistration.{FinishRegistration}
-use Rattle.site_lines.specs.declared.act.FinishSignIn.{FinishSignIn}
+use Rattle.site_acts.specs.declared.act.FinishRegistration.{FinishRegistration}
+use Rattle.site_acts.specs.declared.act.FinishSignIn.{FinishSignIn}
 use Rattle.site_lines.specs.declared.answer.Answer.{Answer}
 use Rattle.site_lines.specs.declared.answer.Answer.TheVariants as answers
-use Rattle.site_lines.specs.declared.error.LineError.TheVariants as errors
-use Rattle.site_lines.specs.declared.verified.Verified.TheVariants as found
-use Rattle.verified_signature.specs.declared.signature.VerifiedSignature.{VerifiedSignature}
-use Rattle.site_lines.specs.declared.verified.Verified.{Verified}
-use Rattle.site_lines.specs.declared.error.LineError.{LineError}
-use Rattle.site_lines.specs.Lines.{HasBytes, HasKey, member}
+use Rattle.site_acts.specs.declared.error.LineError.TheVariants as errors
+use Rattle.site_acts.specs.declared.verified.Verified.TheVariants as found
 use Rattle.site_lines.specs.Written.{answered, step, whole_row}
 use Rattle.site_lines.specs.declared.answer.Known.{Known}
-use Rattle.authdata.specs.declared.response.RegistrationResponse.{RegistrationResponse}
 use Rattle.site_lines.specs.Answers.{OfHeld, RegistrationAsks, SignInAsks}
 use Rattle.site_lines.specs.Details.{AreKnown, OfDetails}
 use Rattle.credential_store.specs.Details.{Detail, HoldsDetails}
@@ -75,16 +66,6 @@ IsRefusedRegistration profile step f (answers.Verify t) =
 IsRefusedRegistration profile step f (answers.Error why) = why ≡ errors.Memory
 IsRefusedRegistration profile step f _ = ⊥
 
--- the values of a member that is a list; none where it is absent
-abbrev pub AreItems : List ℕ → Data → List Value → Type 0
-AreItems name d items = (option_and_then as_array (member name d) ≡ Some (items_view items)) ⊎ ((member name d ≡ None) × (items ≡ []))
-
--- the parts of a registration's response
-abbrev pub HasParts : Data → RegistrationResponse → Type 0
-HasParts d r =
-    (parts : Data) × (member (codes "response") d ≡ Some parts) × HasBytes (codes "attestationObject") parts r.object.items
-    × HasBytes (codes "clientDataJSON") parts r.client_data.items
-
 -- why nothing is told of credentials: want of memory, and nothing has changed; or a failure
 abbrev pub IsUnknown : {S : Type 0} → (S → View) → KeptState S → KeptState S → Unknown → Type 0
 IsUnknown view old new unknowns.Memory = IsSame view old new
@@ -109,29 +90,9 @@ IsWithKnown view rows old new _ = ⊥
 
 -- a credential that is registered has this detail
 abbrev pub KeepsDetail : {S : Type 0} → (S → View) → Detail → KeptState S → KeptState S → Answer → Type 0
-KeepsDetail view d old new (answers.Registered x response) =
+KeepsDetail view d old new (answers.Registered x response asked) =
     OfDetails view old new (λ placed details. HoldsDetails (finite.insert details (old.last + 1) d) (view new.store).trees)
 KeepsDetail view d old new _ = Unit {0}
-
--- ---- lines in
-
--- a value is refused as that of a member, since it has not a form; want of memory says nothing
-abbrev pub IsRefusedAs : Bor (List ℕ) → Type 0 → LineError → Type 0
-IsRefusedAs name Is e = (e ≡ errors.Memory) ⊎ ((e ≡ errors.BadForm name) × (Is → ⊥))
-
--- a member is there, and no list
-abbrev pub IsNoList : Bor (List ℕ) → Data → LineError → Type 0
-IsNoList name d e = (e ≡ errors.BadForm name) × ((m : Data) × (member name.now d ≡ Some m) × (as_array m ≡ None))
-
--- the signature that a host verified
-abbrev pub IsSignature : Data → VerifiedSignature → Type 0
-IsSignature d t = HasKey d t.key × HasBytes (codes "message") d t.message.items × HasBytes (codes "signature") d t.signature.items
-
--- what a host says of a signature
-abbrev pub IsSaid : Data → Verified → Type 0
-IsSaid d found.Nothing = ⊥
-IsSaid d found.Invalid = as_bool d ≡ Some false
-IsSaid d (found.Valid t) = IsSignature d t
 
 -- ---- lines out
 
@@ -154,7 +115,7 @@ SaysWhy id name d = (text : List ℕ) × (d ≡ answered id name (string text))
 abbrev pub IsOther : Answer → Type 0
 IsOther (answers.RegistrationBegun started b known) = ⊥
 IsOther (answers.SignInBegun started b known) = ⊥
-IsOther (answers.Registered x r) = ⊥
+IsOther (answers.Registered x r asked) = ⊥
 IsOther (answers.SignedIn x r) = ⊥
 IsOther (answers.Verify t) = ⊥
 IsOther (answers.RegistrationRefused step id) = ⊥
@@ -163,6 +124,6 @@ IsOther _ = ⊤
 
 -- what is written of an acceptance nests no deeper than can be read
 abbrev pub IsShallow : Answer → Data → Type 0
-IsShallow (answers.Registered x r) d = depth d ≤ 2
+IsShallow (answers.Registered x r asked) d = depth d ≤ 2
 IsShallow (answers.SignedIn x r) d = depth d ≤ 2
 IsShallow _ d = ⊤

@@ -17,6 +17,7 @@ use Rattle.authdata.specs.Layout.{AuthOf, AuthenticatorData}
 use Rattle.authdata.specs.Objects.{Attestation, ObjectOf}
 use Rattle.verification.specs.Numbers.{registration_number, sign_in_number}
 use Rattle.verification.specs.Records.{Credential}
+use Rattle.verification.specs.Registration.{counted}
 use Rattle.verified_signature.specs.declared.signature.VerifiedSignature.{VerifiedSignature}
 use Rattle.credential_table.specs.Views.{row_view}
 use Rattle.credential_table.specs.declared.row.Row.{Row}
@@ -97,17 +98,18 @@ abbrev pub data_members : AuthenticatorData → Members → Members
 data_members a ms =
     put (codes "extensions") (bytes_or_null a.extensions) (put (codes "flags") (natural a.flags) (put (codes "user_verified") (boolean (is_set a.flags UV)) ms))
 
--- and those of a registration, with the format of their object
+-- and those of a registration, with the format of what counts as their object
 abbrev pub attested_members : AuthenticatorData → List ℕ → Members → Members
 attested_members a format ms =
     data_members a (put (codes "backed_up") (boolean (is_set a.flags BS)) (put (codes "format") (string format)
     (put (codes "aaguid") (bytes_or_null (option_map (λ c. c.aaguid) a.attested)) ms)))
 
--- a credential that was registered: its row, and what its response says
-abbrev pub IsRegistered : Profile → Row → RegistrationResponse → Data → Type 0
-IsRegistered profile row r d =
+-- a credential that was registered: its row, and what its response says; the format is that of what counts as the attestation
+-- object, by whether an attestation was asked for
+abbrev pub IsRegistered : Profile → Bool → Row → RegistrationResponse → Data → Type 0
+IsRegistered profile asked row r d =
     (o : Attestation) (a : AuthenticatorData) → ObjectOf o r.object.items → AuthOf profile a o.auth_data
-    → d ≡ object (attested_members a o.fmt (row_members (row_view row) no_members))
+    → d ≡ object (attested_members a (counted profile asked o).fmt (row_members (row_view row) no_members))
 
 abbrev pub who_members : SignedIn → Members
 who_members x =
@@ -178,7 +180,7 @@ abbrev pub Writes : Teller → Option ℕ → Answer → Data → Type 0
 Writes t id (answers.RegistrationBegun started b known) d =
     d ≡ begun id started.session (creation_options t.party.now.rp_id t.rp_name.now started.challenge b known.items)
 Writes t id (answers.SignInBegun started b known) d = d ≡ begun id started.session (request_options t.party.now.rp_id started.challenge b known.items)
-Writes t id (answers.Registered x r) d = (row : Data) × (d ≡ answered id (codes "accepted") row) × IsRegistered t.party.now.profile x.credential r row
+Writes t id (answers.Registered x r asked) d = (row : Data) × (d ≡ answered id (codes "accepted") row) × IsRegistered t.party.now.profile asked x.credential r row
 Writes t id (answers.SignedIn x r) d = (who : Data) × (d ≡ answered id (codes "accepted") who) × IsSignedIn t.party.now.profile x r who
 Writes t id (answers.Verify asked) d = d ≡ answered id (codes "verify") (to_verify asked)
 Writes t id (answers.RegistrationRefused why credential) d = (text : List ℕ) × (d ≡ answered id (codes "refused") (step (codes "G") (registration_number why) text))

@@ -7,14 +7,13 @@ ghost use Rattle.site_lines.specs.Details.{AreKnown, ForgetsDetail, TellsDetails
 ghost use Rattle.site_lines.specs.Private.{IsUnknown, IsWithKnown, unknown as unknown_of};
 ghost use Rattle.kept_site.specs.Calls.{IsSame};
 
-use crate::act::Act;
 use crate::answer::{Answer, Counts, Known};
 use crate::beginning::{begin_registration, begin_sign_in};
-use crate::error::LineError;
 use crate::finishing::{finish_registration, finish_sign_in};
 use crate::knowing::{Unknown, all_known};
 use credential_table::Row;
 use kept_site::{Failure, KeptSite};
+use site_acts::{Act, LineError};
 use sqlite_trees::store::Store;
 use std::alloc::{AllocError, Global};
 

@@ -1,12 +1,11 @@
 //! What a line is answered.
 
-use crate::act::{BeginRegistration, BeginSignIn};
-use crate::error::LineError;
 use authdata::{AssertionResponse, RegistrationResponse};
 use ceremony_sessions::Started;
 use credential_store::Detail;
 use credential_table::Row;
 use kept_site::{Failure, Registered, SignedIn};
+use site_acts::{BeginRegistration, BeginSignIn, LineError};
 use verification::{RegistrationRefusal, SignInRefusal};
 use verified_signature::VerifiedSignature;
 
@@ -39,8 +38,8 @@ pub enum Answer {
     RegistrationBegun(Started, BeginRegistration, Vec<Known>),
     /// A sign-in has begun, what it was asked for, and what is known of the credentials that may answer.
     SignInBegun(Started, BeginSignIn, Vec<Known>),
-    /// A credential is registered, by this response.
-    Registered(Registered, RegistrationResponse),
+    /// A credential is registered, by this response, and whether its session asked for an attestation.
+    Registered(Registered, RegistrationResponse, bool),
     /// A user signed in, by this response.
     SignedIn(SignedIn, AssertionResponse),
     /// The host is to verify a signature, and to ask again. Nothing has changed.

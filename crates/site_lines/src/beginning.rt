@@ -9,12 +9,11 @@ ghost use Rattle.site_lines.specs.Answers.{Begins, Keeps, TellsRegistrationBegun
 ghost use Rattle.site_lines.specs.Details.{AreKnown, TellsAllowed, TellsExcluded};
 ghost use Rattle.site_lines.specs.Private.{BeginsNone, IsNotBegunAfter, not_begun as not_begun_of};
 
-use crate::act::{BeginRegistration, BeginSignIn};
 use crate::answer::{Answer, Known};
-use crate::error::LineError;
 use crate::knowing::{Unknown, all_known};
 use ceremony_sessions::{Error as BeginError, Started};
 use kept_site::{BeginFailure, KeptSite};
+use site_acts::{BeginRegistration, BeginSignIn, LineError};
 use sqlite_trees::store::Store;
 use std::alloc::{AllocError, Global};
 

@@ -1,22 +1,23 @@
 //! Finishing a ceremony.
 
 ghost use Rattle.std.specs.Prelude.{◌≡◌, false};
+ghost use Rattle.std.specs.Option.{ForSome};
 ghost use Rattle.sqlite_trees.specs.Tree.{Trees};
 ghost use Rattle.authdata.specs.Responses.{assertion_response_view, registration_response_view};
 ghost use Rattle.verification.specs.Views.{assertion_parts_view, registration_parts_view};
+ghost use Rattle.ceremony_sessions.specs.Sessions.{registration_at};
 ghost use Rattle.site_lines.specs.Answers.{Keeps, TellsRegistration, TellsSignIn};
 ghost use Rattle.credential_store.specs.Details.{detail_view};
 ghost use Rattle.site_lines.specs.Details.{RegistersDetail, UsesDetail};
 ghost use Rattle.site_lines.specs.Private.{KeepsDetail, IsRefusedRegistration, IsRefusedSignIn};
 
-use crate::act::{FinishRegistration, FinishSignIn};
 use crate::answer::Answer;
 use crate::asking::{registration_asks, sign_in_asks};
-use crate::error::LineError;
 use crate::knowing::{detail_of, second};
 use authdata::{AssertionResponse, Profile, RegistrationResponse};
 use credential_store::Detail;
 use kept_site::{FinishFailure, KeptSite};
+use site_acts::{FinishRegistration, FinishSignIn, LineError};
 use sqlite_trees::store::Store;
 use std::alloc::Global;
 use verification::{
@@ -116,6 +117,16 @@ pub(crate) fn finish_sign_in<S: Store>(
     }
 }
 
+/// Whether the session of a number asks for an attestation; false where it is not open for registration.
+fn asks_attestation<S: Store>(site: &KeptSite<S>, session: u64) -> bool
+    ensures { ForSome (registration_at session site.now.timed.open_sessions) (λ e. result ≡ e.attestation) }
+{
+    match site.registration(session) {
+        Some(expected) => expected.attestation,
+        None => false,
+    }
+}
+
 /// Finishes a registration of a credential with this detail, or asks for its signature.
 fn finish_with<S: Store>(
     alloc: Global,
@@ -129,10 +140,12 @@ fn finish_with<S: Store>(
     ensures kept { Keeps S.Store.view site.old site.new result }
     ensures crash { (db : Trees) → S.Store.recovers site.new.store db → S.Store.recovers site.old.store db }
 {
+    // An acceptance closes the session.
+    let asked = asks_attestation(site, finish.session);
     let parts = registration_parts(&finish.response);
     let verifier = finish.verified.verifier();
     match site.finish_registration_parts(&verifier, finish.session, &parts, detail) {
-        Ok(registered) => Answer::Registered(registered, finish.response),
+        Ok(registered) => Answer::Registered(registered, finish.response, asked),
         Err(FinishFailure::Site(VerificationError::Refused(step))) => {
             refused_registration(alloc, site.party().profile(), step, finish)
         }

@@ -8,12 +8,11 @@ ghost use Rattle.site_lines.specs.Answers.{Keeps, Tells};
 ghost use Rattle.site_lines.specs.Details.{TellsDetails};
 ghost use Rattle.site_lines.specs.Batches.{Answers, IsAnswered, IsCommitted, Leaves, Runs, failed_as};
 
-use crate::act::Act;
 use crate::acting::carry_out;
 use crate::answer::Answer;
-use crate::reading::{Line, LineFault, read_line};
 use crate::tally::Tally;
 use kept_site::{Failure, KeptSite};
+use site_acts::{Act, Line, LineFault, read_line};
 use sqlite_trees::store::Store;
 use std::alloc::{AllocError, Global};
 use std::io;

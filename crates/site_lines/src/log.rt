@@ -1,9 +1,9 @@
 //! What is logged of an answer.
 
 use crate::answer::Answer;
-use crate::error::LineError;
 use crate::line::Answered;
 use base64::engine::general_purpose::URL_SAFE_NO_PAD;
+use site_acts::LineError;
 use std::alloc::{AllocError, Global};
 use std::fmt::Write;
 
@@ -57,7 +57,7 @@ fn verdict(alloc: Global, answer: &Answer, out: &mut String) -> Result<(), Alloc
             credential(alloc, who.credential.as_slice(), out)?;
             writeln!(out)
         }
-        Answer::Registered(registered, _) => {
+        Answer::Registered(registered, ..) => {
             write!(out, " registration accepted")?;
             credential(alloc, registered.credential.id.as_slice(), out)?;
             writeln!(out)

@@ -6,12 +6,12 @@ ghost use Rattle.serde_json.specs.Data.{array, string};
 ghost use Rattle.serde_json.specs.View.{items_of, view};
 ghost use Rattle.site_lines.specs.Options.{account, base64url, conveyance as conveyance_of, creation_options as creation_options_of, descriptor as descriptor_of, parameter as parameter_of, request_options as request_options_of, resident_key as resident_key_of, selection as selection_of, verification as verification_of};
 
-use crate::act::{BeginRegistration, BeginSignIn};
 use crate::answer::Known;
 use base64::engine::general_purpose::URL_SAFE_NO_PAD;
 use ceremony_sessions::Started;
 use cose::Alg;
 use serde_json::{Value, json};
+use site_acts::{BeginRegistration, BeginSignIn};
 use std::alloc::{AllocError, Global};
 
 /// Bytes as a text.

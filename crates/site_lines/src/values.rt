@@ -6,6 +6,7 @@ ghost use Rattle.serde_json.specs.View.{items_of, members_view, view};
 ghost use Rattle.cose.specs.Keys.{lent_key_view, x_of as x_in};
 ghost use Rattle.authdata.specs.Layout.{AuthOf, AuthenticatorData, lent_auth_view};
 ghost use Rattle.authdata.specs.Objects.{object_view};
+ghost use Rattle.verification.specs.Registration.{counted};
 ghost use Rattle.credential_store.specs.Details.{detail_view};
 ghost use Rattle.credential_table.specs.Views.{row_view};
 ghost use Rattle.site_lines.specs.Written.{IsRegistered, IsSignedIn, aaguid_or_null as aaguid_or_null_of, attested_members, bytes_or_null as bytes_or_null_of, data_members, flag_or_null as flag_or_null_of, integer_or_null as integer_or_null_of, key_members, known_members, natural, row_members, to_verify, who_members, whole_row as whole_row_of, whole_rows, y_of as y_in};
@@ -22,6 +23,7 @@ use credential_table::Row;
 use kept_site::SignedIn;
 use serde_json::{Map, Value, put};
 use std::alloc::{AllocError, Global};
+use verification::counts_as_none;
 use verified_signature::VerifiedSignature;
 
 /// The coordinate x of a key, of an RSA key its modulus.
@@ -307,20 +309,33 @@ fn plain_row(alloc: Global, row: &Row) -> Result<Value, AllocError>
     Ok(Value::Object(members))
 }
 
+/// The format of what counts as this object: none in Level 3 where no attestation was asked for, else its own.
+#[tactic(auto, using(crate::proofs::Accepted::format_none, crate::proofs::Accepted::format_whole))]
+fn counted_format<'a>(profile: Profile, asked: bool, attested: &'a AttestationObject) -> &'a str
+    ensures { result.now ≡ (counted profile asked (object_view attested.now)).fmt }
+{
+    if counts_as_none(profile, asked) {
+        "none"
+    } else {
+        attested.fmt.as_str()
+    }
+}
+
 /// A credential, with what this object says.
 #[tactic(auto, using(crate::proofs::Accepted::row_is, crate::proofs::Accepted::row_shallow, crate::proofs::Accepted::plain_shallow))]
 fn attested_row(
     alloc: Global,
     profile: Profile,
+    asked: bool,
     row: &Row,
     attested: &AttestationObject,
 ) -> Result<Value, AllocError>
     ensures told { IfOk result (λ v. (a : AuthenticatorData) → AuthOf profile a (object_view attested.now).auth_data
-        → view v ≡ object (attested_members a (object_view attested.now).fmt (row_members (row_view row.now) no_members))) }
+        → view v ≡ object (attested_members a (counted profile asked (object_view attested.now)).fmt (row_members (row_view row.now) no_members))) }
     ensures shallow { IfOk result (λ v. depth (view v) ≤ 1) }
 {
     match read_view(profile, attested.auth_data.as_slice()) {
-        Ok(data) => row_with(alloc, row, &data, attested.fmt.as_str()),
+        Ok(data) => row_with(alloc, row, &data, counted_format(profile, asked, attested)),
         Err(_) => plain_row(alloc, row),
     }
 }
@@ -330,14 +345,15 @@ fn attested_row(
 pub(crate) fn registered(
     alloc: Global,
     profile: Profile,
+    asked: bool,
     row: &Row,
     response: &RegistrationResponse,
 ) -> Result<Value, AllocError>
-    ensures told { IfOk result (λ v. IsRegistered profile row.now response.now (view v)) }
+    ensures told { IfOk result (λ v. IsRegistered profile asked row.now response.now (view v)) }
     ensures shallow { IfOk result (λ v. depth (view v) ≤ 1) }
 {
     match AttestationObject::read(alloc, response.object.as_slice()) {
-        Ok(attested) => attested_row(alloc, profile, row, &attested),
+        Ok(attested) => attested_row(alloc, profile, asked, row, &attested),
         Err(authdata::Error::Memory) => Err(AllocError),
         Err(_) => plain_row(alloc, row),
     }

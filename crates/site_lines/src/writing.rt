@@ -245,8 +245,8 @@ fn ceremony_value(
             let options = request_options(alloc, party.rp_id(), started, begin, known)?;
             begun_value(alloc, id, started.session, options)
         }
-        Answer::Registered(found, response) => {
-            let row = registered(alloc, party.profile(), &found.credential, response)?;
+        Answer::Registered(found, response, asked) => {
+            let row = registered(alloc, party.profile(), *asked, &found.credential, response)?;
             answered(alloc, id, "accepted", row)
         }
         Answer::SignedIn(who, response) => {

@@ -39,6 +39,7 @@ fn made(rt: &HostRuntime, options: &Options<'_>) -> Result<FileSite<Unknown>, Fa
         options.policy,
         bounds(options),
         !options.has_no_sums,
+        options.is_wary,
         Unknown,
     )?)
 }
@@ -53,6 +54,7 @@ fn opened(rt: &HostRuntime, options: &Options<'_>) -> Result<FileSite<Unknown>, 
         options.policy,
         bounds(options),
         options.at_least,
+        options.is_wary,
         Unknown,
     )?)
 }

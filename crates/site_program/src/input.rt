@@ -1,7 +1,7 @@
 //! Lines of the input, in bounded memory.
 
 use crate::fault::Fault;
-use site_lines::MAX_LINE;
+use site_acts::MAX_LINE;
 use std::io::{self, BufRead, BufReader, Read};
 
 /// The most lines that are carried out together.

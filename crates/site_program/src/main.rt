@@ -7,14 +7,13 @@ mod file;
 mod input;
 mod serving;
 
-use clap::error::ErrorKind;
 use fault::Fault;
 use file::site_of;
 use input::check_input;
 use serving::serve;
-use site_command_line::{Options, command_line, joined, options_of};
+use site_acts::acts_help;
+use site_command_line::{Options, Told, asked_for, joined};
 use site_files::close;
-use site_lines::acts_help;
 use std::io::Write;
 use std::process::ExitCode;
 use std::{env, io};
@@ -48,31 +47,24 @@ fn run_options(rt: &HostRuntime, options: &Options<'_>) -> u8 {
     }
 }
 
+/// Tells this in place of serving: help on standard output, and a refusal on standard error. The status.
+fn tell(rt: &HostRuntime, told: &Told) -> io::Result<u8> {
+    if told.is_help {
+        rt.stdout().write_all(told.text.as_bytes())?;
+        return Ok(0);
+    }
+    rt.stderr().write_all(told.text.as_bytes())?;
+    Ok(2)
+}
+
 /// Runs the program on its arguments.
 fn run(rt: &HostRuntime) -> io::Result<u8> {
     let owned = arguments(rt)?;
     let words = joined(rt.alloc(), owned.as_slice())?;
     let help = acts_help(rt.alloc())?;
-    let matches = match command_line(rt.alloc(), help.as_str(), words.as_slice()) {
-        Ok(matches) => matches,
-        Err(error) if error.kind() == ErrorKind::DisplayHelp => {
-            write!(rt.stdout(), "{error}")?;
-            return Ok(0);
-        }
-        Err(error) => {
-            write!(rt.stderr(), "{error}")?;
-            return Ok(2);
-        }
-    };
-    match options_of(rt.alloc(), &matches)? {
-        Some(options) => Ok(run_options(rt, &options)),
-        None => {
-            writeln!(
-                rt.stderr(),
-                "the value of --max-open, --max-credentials, --expire or --at-least is no number, or out of its bounds"
-            )?;
-            Ok(2)
-        }
+    match asked_for(rt.alloc(), help.as_str(), words.as_slice())? {
+        Ok(options) => Ok(run_options(rt, &options)),
+        Err(told) => tell(rt, &told),
     }
 }
 

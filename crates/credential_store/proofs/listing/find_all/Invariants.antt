@@ -1,5 +1,5 @@
 -- What the loop of `find_all` keeps.
-use Rattle.std.proofs.Common.{◌≡◌, IsSome, List, Some}
+use Rattle.std.proofs.Common.{◌≡◌, ◌≤◌, length, IsSome, List, Some}
 use Rattle.sqlite_value.specs.Keys.{plain}
 use Rattle.sqlite_value.specs.Order.{Row as Columns}
 use Rattle.sqlite_trees.specs.Tree.{IsIndex, Trees}
@@ -10,8 +10,8 @@ use Rattle.credential_store.specs.Private.{AreEntries}
 use Rattle.credential_store.proofs.Users.{IsReadTo}
 use Rattle.credential_store.proofs.listing.find_all.Given as goal
 
-abbrev pub invariant-loop : goal.invariant-loop
-invariant-loop g l =
+abbrev pub invariant-loop-read : goal.invariant-loop-read
+invariant-loop-read g l =
     IsSome ((g.S.Store.view l.store).cursors 0)
     × IsSameView (g.S.Store.view l.fn.store) (g.S.Store.view l.store)
     × KeepsSchema (g.S.Store.view l.fn.store) (g.S.Store.view l.store)
@@ -20,3 +20,5 @@ invariant-loop g l =
     × (IsClean (g.S.Store.view l.store) → AreEntries ((g.S.Store.view l.fn.store).trees 4) → (left : List Columns)
     × ((g.S.Store.view l.store).cursors 0 ≡ Some left) × AreEntries left
     × IsReadTo l.fn.user ((g.S.Store.view l.fn.store).trees 4) ((g.S.Store.view l.fn.store).trees 0) (rows_view l.rows.items) left)
+    × (g.S.Store.faults l.fn.store ≤ g.S.Store.faults l.store)
+    × (length l.rows.items ≡ l._read)

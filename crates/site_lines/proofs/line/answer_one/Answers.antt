@@ -1,6 +1,6 @@
 -- What is owed of `answer_one`.
 use Rattle.std.proofs.Common.{inr, subst, sym}
-use Rattle.site_lines.specs.Faults.{IsRefused}
+use Rattle.site_acts.specs.Faults.{IsRefused}
 use Rattle.site_lines.proofs.line.answer_one.Goals as goal
 
 pub returns-in-Err-clause-told : goal.returns-in-Err-clause-told

@@ -11,9 +11,10 @@ returns-in_ok-row-in-Registered-clause-told c =
     let row = view c.in_ok-row-in-Registered.row in
     let x = c.in-Registered.found in
     let r = c.in-Registered.response in
-    let says = subst (λ p. IsRegistered p x.credential r row) c.profile.ensures c.in_ok-row-in-Registered.ensures.told in
+    let asked = c.in-Registered.asked in
+    let says = subst (λ p. IsRegistered p asked x.credential r row) c.profile.ensures c.in_ok-row-in-Registered.ensures.told in
     subst (λ a. IfOk c.answered.result (λ v. Writes c.args.teller.now c.args.id a (view v))) (sym c.in-Registered.is)
-    (if_ok c.answered.result _ (λ v. Writes c.args.teller.now c.args.id (answers.Registered x r) (view v)) (λ v told. (row, told, says)) c.answered.ensures)
+    (if_ok c.answered.result _ (λ v. Writes c.args.teller.now c.args.id (answers.Registered x r asked) (view v)) (λ v told. (row, told, says)) c.answered.ensures)
 
 pub returns-in_ok-who-in-SignedIn-clause-told : goal.returns-in_ok-who-in-SignedIn-clause-told
 returns-in_ok-who-in-SignedIn-clause-told c =

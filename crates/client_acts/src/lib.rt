@@ -1,0 +1,15 @@
+//! What a line of a client asks for, read from its bytes. It does no input and no output.
+#![tactic(auto)]
+
+mod act;
+mod acts;
+mod error;
+mod members;
+mod options;
+mod reading;
+
+pub use act::{Act, Aim, Begin, Further};
+pub use acts::acts_help;
+pub use error::LineError;
+pub use options::{Account, CreationOptions, Extensions, RequestOptions};
+pub use reading::{Line, LineFault, MAX_LINE, read_line};

@@ -1,0 +1,4 @@
+pub mod Keyed
+pub mod Lists
+pub mod Amiss
+pub mod Named

@@ -1,0 +1,393 @@
+//! The acts, what each takes, and what the help shows of it.
+
+ghost use Rattle.std.specs.Prelude.{◌≡◌, ◌↔◌, ◌∷◌, IfErr, IsTrue, MatchOption, codes};
+ghost use Rattle.serde_json.specs.View.{members_view, view};
+ghost use Rattle.site_acts.specs.Faults.{HasUnknown, HasUnknownIn, IsOneOf, kind_name, names_for};
+ghost use Rattle.site_acts.specs.declared.acts.ActKind.{ActKind as Kind};
+
+use crate::error::LineError;
+use serde_json::{Map, Value};
+use std::alloc::{AllocError, Global};
+use std::fmt::Write;
+
+/// The kind of an act.
+#[derive(Clone, Copy, Debug, PartialEq, Eq, Drop)]
+pub(crate) enum ActKind {
+    BeginRegistration,
+    FinishRegistration,
+    BeginSignIn,
+    FinishSignIn,
+    Retire,
+    Delete,
+    Abandon,
+    Expire,
+    Rows,
+    Status,
+    Backup,
+}
+
+impl ActKind {
+    /// Its name in a line.
+    fn name(self) -> &'static str
+        ensures { result.now ≡ kind_name self }
+    {
+        match self {
+            ActKind::BeginRegistration => "begin_registration",
+            ActKind::FinishRegistration => "finish_registration",
+            ActKind::BeginSignIn => "begin_sign_in",
+            ActKind::FinishSignIn => "finish_sign_in",
+            ActKind::Retire => "retire",
+            ActKind::Delete => "delete",
+            ActKind::Abandon => "abandon",
+            ActKind::Expire => "expire",
+            ActKind::Rows => "rows",
+            ActKind::Status => "status",
+            ActKind::Backup => "backup",
+        }
+    }
+}
+
+/// A member that lines of an act have.
+struct Member {
+    act: ActKind,
+    name: &'static str,
+    is_needed: bool,
+    meaning: &'static str,
+}
+
+/// An act.
+struct Form {
+    kind: ActKind,
+    meaning: &'static str,
+    answer: &'static str,
+}
+
+/// Each act.
+static FORMS: [Form; 11] = [
+    Form {
+        kind: ActKind::BeginRegistration,
+        meaning: "a registration begins",
+        answer: "session, options",
+    },
+    Form {
+        kind: ActKind::FinishRegistration,
+        meaning: "its response is judged",
+        answer: "verify, accepted or refused",
+    },
+    Form {
+        kind: ActKind::BeginSignIn,
+        meaning: "a sign-in begins",
+        answer: "session, options",
+    },
+    Form {
+        kind: ActKind::FinishSignIn,
+        meaning: "its response is judged",
+        answer: "verify, accepted or refused",
+    },
+    Form {
+        kind: ActKind::Retire,
+        meaning: "a credential signs in no more",
+        answer: "retired: whether it did until now",
+    },
+    Form {
+        kind: ActKind::Delete,
+        meaning: "a credential is forgotten",
+        answer: "deleted: whether it was there",
+    },
+    Form {
+        kind: ActKind::Abandon,
+        meaning: "a session ends",
+        answer: "abandoned: whether it was open",
+    },
+    Form {
+        kind: ActKind::Expire,
+        meaning: "sessions end by their age",
+        answer: "expired: how many",
+    },
+    Form {
+        kind: ActKind::Rows,
+        meaning: "the credentials of a user, or all",
+        answer: "rows",
+    },
+    Form {
+        kind: ActKind::Status,
+        meaning: "how the site is",
+        answer: "status",
+    },
+    Form {
+        kind: ActKind::Backup,
+        meaning: "the file is copied",
+        answer: "backup: whether the copy is whole on the disk",
+    },
+];
+
+/// Each act's members, beside `id` and `act`.
+static MEMBERS: [Member; 25] = [
+    Member {
+        act: ActKind::BeginRegistration,
+        name: "user",
+        is_needed: true,
+        meaning: "the account's user handle",
+    },
+    Member {
+        act: ActKind::BeginRegistration,
+        name: "user_name",
+        is_needed: true,
+        meaning: "the account's name",
+    },
+    Member {
+        act: ActKind::BeginRegistration,
+        name: "display_name",
+        is_needed: false,
+        meaning: "the user's name; as user_name",
+    },
+    Member {
+        act: ActKind::BeginRegistration,
+        name: "exclude",
+        is_needed: false,
+        meaning: "the ids of the account's credentials",
+    },
+    Member {
+        act: ActKind::BeginRegistration,
+        name: "user_verification",
+        is_needed: false,
+        meaning: "true: the user is to be verified",
+    },
+    Member {
+        act: ActKind::BeginRegistration,
+        name: "resident",
+        is_needed: false,
+        meaning: "false: it need not be found without an id",
+    },
+    Member {
+        act: ActKind::BeginRegistration,
+        name: "algorithms",
+        is_needed: false,
+        meaning: "some of -7, -8, -257; all",
+    },
+    Member {
+        act: ActKind::BeginRegistration,
+        name: "conditional",
+        is_needed: false,
+        meaning: "true: a conditional create",
+    },
+    Member {
+        act: ActKind::BeginRegistration,
+        name: "attestation",
+        is_needed: false,
+        meaning: "true: an attestation is asked for",
+    },
+    Member {
+        act: ActKind::FinishRegistration,
+        name: "session",
+        is_needed: true,
+        meaning: "the session's number",
+    },
+    Member {
+        act: ActKind::FinishRegistration,
+        name: "response",
+        is_needed: true,
+        meaning: "the browser's credential.toJSON()",
+    },
+    Member {
+        act: ActKind::FinishRegistration,
+        name: "transports",
+        is_needed: false,
+        meaning: "the texts of the browser's getTransports()",
+    },
+    Member {
+        act: ActKind::FinishRegistration,
+        name: "verified",
+        is_needed: false,
+        meaning: "what verify had, where the signature is valid; false where not",
+    },
+    Member {
+        act: ActKind::BeginSignIn,
+        name: "user",
+        is_needed: false,
+        meaning: "the account's user handle",
+    },
+    Member {
+        act: ActKind::BeginSignIn,
+        name: "allow",
+        is_needed: false,
+        meaning: "the ids that may answer; any",
+    },
+    Member {
+        act: ActKind::BeginSignIn,
+        name: "user_verification",
+        is_needed: false,
+        meaning: "true: the user is to be verified",
+    },
+    Member {
+        act: ActKind::FinishSignIn,
+        name: "session",
+        is_needed: true,
+        meaning: "the session's number",
+    },
+    Member {
+        act: ActKind::FinishSignIn,
+        name: "response",
+        is_needed: true,
+        meaning: "the browser's credential.toJSON()",
+    },
+    Member {
+        act: ActKind::FinishSignIn,
+        name: "verified",
+        is_needed: false,
+        meaning: "what verify had, where the signature is valid; false where not",
+    },
+    Member {
+        act: ActKind::Retire,
+        name: "credential",
+        is_needed: true,
+        meaning: "the credential's id",
+    },
+    Member {
+        act: ActKind::Delete,
+        name: "credential",
+        is_needed: true,
+        meaning: "the credential's id",
+    },
+    Member {
+        act: ActKind::Abandon,
+        name: "session",
+        is_needed: true,
+        meaning: "the session's number",
+    },
+    Member {
+        act: ActKind::Expire,
+        name: "older_than",
+        is_needed: true,
+        meaning: "seconds; those that began earlier end",
+    },
+    Member {
+        act: ActKind::Rows,
+        name: "user",
+        is_needed: false,
+        meaning: "the account's user handle",
+    },
+    Member {
+        act: ActKind::Backup,
+        name: "path",
+        is_needed: true,
+        meaning: "where nothing stands yet",
+    },
+];
+
+/// The act of this name.
+pub(crate) fn act_named(name: &str) -> Option<ActKind>
+    ensures { MatchOption result ((kind : Kind) → name.now ≡ kind_name kind → ⊥) (λ kind. name.now ≡ kind_name kind) }
+{
+    match name {
+        "begin_registration" => Some(ActKind::BeginRegistration),
+        "finish_registration" => Some(ActKind::FinishRegistration),
+        "begin_sign_in" => Some(ActKind::BeginSignIn),
+        "finish_sign_in" => Some(ActKind::FinishSignIn),
+        "retire" => Some(ActKind::Retire),
+        "delete" => Some(ActKind::Delete),
+        "abandon" => Some(ActKind::Abandon),
+        "expire" => Some(ActKind::Expire),
+        "rows" => Some(ActKind::Rows),
+        "status" => Some(ActKind::Status),
+        "backup" => Some(ActKind::Backup),
+        _ => None,
+    }
+}
+
+/// Whether a line of this act may have a member of this name.
+fn takes(act: ActKind, name: &str) -> bool
+    ensures { IsTrue result ↔ IsOneOf (codes "id" ∷ codes "act" ∷ names_for act) name.now }
+{
+    if name == "id" || name == "act" {
+        return true;
+    }
+    match act {
+        ActKind::BeginRegistration => match name {
+            "user"
+            | "user_name"
+            | "display_name"
+            | "exclude"
+            | "user_verification"
+            | "resident"
+            | "algorithms"
+            | "conditional"
+            | "attestation" => true,
+            _ => false,
+        },
+        ActKind::FinishRegistration => match name {
+            "session" | "response" | "transports" | "verified" => true,
+            _ => false,
+        },
+        ActKind::BeginSignIn => match name {
+            "user" | "allow" | "user_verification" => true,
+            _ => false,
+        },
+        ActKind::FinishSignIn => match name {
+            "session" | "response" | "verified" => true,
+            _ => false,
+        },
+        ActKind::Retire | ActKind::Delete => name == "credential",
+        ActKind::Abandon => name == "session",
+        ActKind::Expire => name == "older_than",
+        ActKind::Rows => name == "user",
+        ActKind::Status => false,
+        ActKind::Backup => name == "path",
+    }
+}
+
+/// That a line has no member that its act does not take.
+fn check_names(act: ActKind, members: &Map<String, Value>) -> Result<(), LineError>
+    ensures { IfErr result (HasUnknownIn act (members_view members.now.entries)) }
+{
+    for (name, _) in members {
+        if !takes(act, name.as_str()) {
+            return Err(LineError::UnknownMember);
+        }
+    }
+    Ok(())
+}
+
+/// That an object has no member that its act does not take.
+pub(crate) fn check_members(act: ActKind, line: &Value) -> Result<(), LineError>
+    ensures { IfErr result (HasUnknown act (view line.now)) }
+{
+    match line.as_object() {
+        Some(members) => check_names(act, members),
+        None => Ok(()),
+    }
+}
+
+/// The lines of the help on one act.
+fn act_help(help: &mut String, form: &Form) -> Result<(), AllocError> {
+    let (name, meaning, answer) = (form.kind.name(), form.meaning, form.answer);
+    writeln!(help, "\n  {name:<20} {meaning}")?;
+    for member in &MEMBERS {
+        if member.act == form.kind {
+            let (name, meaning) = (member.name, member.meaning);
+            let left_out = if member.is_needed {
+                ""
+            } else {
+                " (may be left out)"
+            };
+            writeln!(help, "    {name:<18} {meaning}{left_out}")?;
+        }
+    }
+    writeln!(help, "    answers            {answer}")
+}
+
+/// Each act with its members and its answer, as the help shows them.
+pub fn acts_help(alloc: Global) -> Result<String, AllocError> {
+    let mut help = String::from_str(
+        alloc,
+        "A line in is {\"id\": NUMBER, \"act\": NAME, ..}, and its answer has the same id. Bytes are in base64url without
+padding. Any answer may be an error, which changes nothing, or failed: the site is shut.
+
+Acts:
+",
+    )?;
+    for form in &FORMS {
+        act_help(&mut help, form)?;
+    }
+    Ok(help)
+}

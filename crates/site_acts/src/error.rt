@@ -1,0 +1,61 @@
+//! Why a line is refused.
+
+ghost use Rattle.std.specs.Prelude.{◌≡◌};
+ghost use Rattle.site_acts.specs.declared.error.LineError.TheVariants as errors;
+
+use ceremony_sessions::Error as BeginError;
+use std::alloc::{AllocError, AllocFailed};
+
+/// Why a line is refused. Nothing has changed.
+#[derive(Clone, Copy, Debug, Drop, thiserror::Error)]
+pub enum LineError {
+    /// The line has more than `MAX_LINE` bytes.
+    #[error("the line is too long")]
+    TooLong,
+    /// The line is not UTF-8.
+    #[error("the line is not UTF-8")]
+    NotUtf8,
+    /// The line is no JSON object, or is nested too deep.
+    #[error("the line is no JSON object")]
+    NotAnObject,
+    /// The member `id` is no number from 0 to 2^64 - 1.
+    #[error("id is no number")]
+    BadId,
+    /// The member `act` names no act.
+    #[error("there is no such act")]
+    UnknownAct,
+    /// The act takes no member of a name that the line has.
+    #[error("the act has no such member")]
+    UnknownMember,
+    /// A member that the act needs is missing.
+    #[error("{0} is missing")]
+    Missing(&'static str),
+    /// A member is of another kind, or its bytes are not in base64url without padding.
+    #[error("{0} is not in its form")]
+    BadForm(&'static str),
+    /// The site begins no such session.
+    #[error("{0}")]
+    NotBegun(BeginError),
+    /// The next session's number fits no column.
+    #[error("there is no number for another session")]
+    NoNumber,
+    /// There was no memory.
+    #[error("out of memory")]
+    Memory,
+}
+
+impl From<AllocError> for LineError {
+    ghost from_gives = { λ _ e. e ≡ errors.Memory };
+
+    fn from(_e: AllocError) -> LineError {
+        LineError::Memory
+    }
+}
+
+impl<T: Drop> From<AllocFailed<T>> for LineError {
+    ghost from_gives = { λ _ e. e ≡ errors.Memory };
+
+    fn from(_e: AllocFailed<T>) -> LineError {
+        LineError::Memory
+    }
+}

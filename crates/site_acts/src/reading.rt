@@ -1,0 +1,240 @@
+//! Reading a line.
+
+ghost use Rattle.std.specs.Prelude.{◌≡◌, ◌≤◌, IfErr, IfOk, IsUtf8, Some, length};
+ghost use Rattle.serde_json.specs.Read.{read};
+ghost use Rattle.serde_json.specs.View.{view};
+ghost use Rattle.site_acts.specs.Lines.{HasMembers, HasVerified, Reads, Says, SaysAsks, SaysBeginRegistration, SaysBeginSignIn, SaysFinishRegistration, SaysFinishSignIn, name_of};
+ghost use Rattle.site_acts.specs.Faults.{IsRefused, IsRefusedIn, IsUnread, OfAct, OfAsks, OfBeginRegistration, OfBeginSignIn, OfFinishRegistration, OfFinishSignIn, OfFive, OfSignature, OfVerified, kind_name};
+ghost use Rattle.site_acts.specs.Private.{IsSaid, IsSignature};
+
+use crate::act::{Act, BeginRegistration, BeginSignIn, FinishRegistration, FinishSignIn};
+use crate::acts::{ActKind, act_named, check_members};
+use crate::error::LineError;
+use crate::keys::key;
+use crate::line_id::id_of;
+use crate::members::{
+    algorithms, bytes, flag, list_of_bytes, member, needed, number, optional_bytes, text, text_or,
+};
+use crate::response::{assertion_response, credential_id, registration_response};
+use crate::transports::transports;
+use crate::verified::Verified;
+use ceremony_sessions::Asks;
+use serde_json::Value;
+use std::alloc::Global;
+use verified_signature::VerifiedSignature;
+
+/// The most bytes of a line.
+pub const MAX_LINE: usize = 65_536;
+
+/// What a line says.
+#[derive(Debug, Drop)]
+pub struct Line {
+    /// The number that the answer repeats.
+    pub id: u64,
+    /// What it asks for.
+    pub act: Act,
+}
+
+/// Why a line is refused, and its number, where it has one.
+#[derive(Clone, Copy, Debug, Drop)]
+pub struct LineFault {
+    pub id: Option<u64>,
+    pub error: LineError,
+}
+
+/// The signature of the five members of `verify`.
+fn signature(alloc: Global, found: &Value) -> Result<VerifiedSignature, LineError>
+    ensures found { IfOk result (IsSignature (view found.now)) }
+    ensures amiss { IfErr result (OfFive (view found.now)) }
+{
+    Ok(VerifiedSignature {
+        key: key(alloc, found)?,
+        message: bytes(alloc, found, "message")?,
+        signature: bytes(alloc, found, "signature")?,
+    })
+}
+
+/// What the host says of the signature.
+fn said(alloc: Global, found: &Value) -> Result<Verified, LineError>
+    ensures found { IfOk result (IsSaid (view found.now)) }
+    ensures amiss { IfErr result (OfSignature (view found.now)) }
+{
+    if found.as_bool() == Some(false) {
+        return Ok(Verified::Invalid);
+    }
+    if !found.is_object() {
+        return Err(LineError::BadForm("verified"));
+    }
+    let valid = signature(alloc, found)?;
+    Ok(Verified::Valid(valid))
+}
+
+/// What the host found of the signature: the five members of `verify`, where it is valid, or false where it is not.
+fn verified(alloc: Global, line: &Value) -> Result<Verified, LineError>
+    ensures found { IfOk result (HasVerified (view line.now)) }
+    ensures amiss { IfErr result (OfVerified (view line.now)) }
+{
+    let Some(found) = member(line, "verified") else {
+        return Ok(Verified::Nothing);
+    };
+    let found = said(alloc, found)?;
+    Ok(found)
+}
+
+/// How a registration is to begin.
+fn asks(line: &Value) -> Result<Asks, LineError>
+    ensures found { IfOk result (SaysAsks (view line.now)) }
+    ensures amiss { IfErr result (OfAsks (view line.now)) }
+{
+    Ok(Asks {
+        conditional: flag(line, "conditional", false)?,
+        attestation: flag(line, "attestation", false)?,
+    })
+}
+
+/// A registration that is to begin.
+fn begin_registration(alloc: Global, line: &Value) -> Result<BeginRegistration, LineError>
+    ensures found { IfOk result (SaysBeginRegistration (view line.now)) }
+    ensures amiss { IfErr result (OfBeginRegistration (view line.now)) }
+{
+    let user = bytes(alloc, line, "user")?;
+    let user_name = text(line, "user_name")?;
+    let display_name = text_or(line, "display_name", user_name)?;
+    Ok(BeginRegistration {
+        user,
+        user_name: String::from_str(alloc, user_name)?,
+        display_name: String::from_str(alloc, display_name)?,
+        exclude: list_of_bytes(alloc, line, "exclude")?,
+        user_verification: flag(line, "user_verification", false)?,
+        resident: flag(line, "resident", true)?,
+        algorithms: algorithms(alloc, line)?,
+        asks: asks(line)?,
+    })
+}
+
+/// A sign-in that is to begin.
+fn begin_sign_in(alloc: Global, line: &Value) -> Result<BeginSignIn, LineError>
+    ensures found { IfOk result (SaysBeginSignIn (view line.now)) }
+    ensures amiss { IfErr result (OfBeginSignIn (view line.now)) }
+{
+    Ok(BeginSignIn {
+        user: optional_bytes(alloc, line, "user")?,
+        allow: list_of_bytes(alloc, line, "allow")?,
+        user_verification: flag(line, "user_verification", false)?,
+    })
+}
+
+/// A registration that is to be finished.
+fn finish_registration(alloc: Global, line: &Value) -> Result<FinishRegistration, LineError>
+    ensures found { IfOk result (SaysFinishRegistration (view line.now)) }
+    ensures amiss { IfErr result (OfFinishRegistration (view line.now)) }
+{
+    let session = number(line, "session")?;
+    let response = needed(line, "response")?;
+    Ok(FinishRegistration {
+        session,
+        credential: credential_id(alloc, response)?,
+        response: registration_response(alloc, response)?,
+        transports: transports(alloc, line)?,
+        verified: verified(alloc, line)?,
+    })
+}
+
+/// A sign-in that is to be finished.
+fn finish_sign_in(alloc: Global, line: &Value) -> Result<FinishSignIn, LineError>
+    ensures found { IfOk result (SaysFinishSignIn (view line.now)) }
+    ensures amiss { IfErr result (OfFinishSignIn (view line.now)) }
+{
+    Ok(FinishSignIn {
+        session: number(line, "session")?,
+        response: assertion_response(alloc, needed(line, "response")?)?,
+        verified: verified(alloc, line)?,
+    })
+}
+
+/// The act of this kind.
+fn act_of(alloc: Global, kind: ActKind, line: &Value) -> Result<Act, LineError>
+    ensures members { IfOk result (HasMembers (view line.now)) }
+    ensures name { IfOk result (λ act. name_of act ≡ kind_name kind) }
+    ensures amiss { IfErr result (OfAct kind (view line.now)) }
+{
+    Ok(match kind {
+        ActKind::BeginRegistration => Act::BeginRegistration(begin_registration(alloc, line)?),
+        ActKind::FinishRegistration => Act::FinishRegistration(finish_registration(alloc, line)?),
+        ActKind::BeginSignIn => Act::BeginSignIn(begin_sign_in(alloc, line)?),
+        ActKind::FinishSignIn => Act::FinishSignIn(finish_sign_in(alloc, line)?),
+        ActKind::Retire => Act::Retire(bytes(alloc, line, "credential")?),
+        ActKind::Delete => Act::Delete(bytes(alloc, line, "credential")?),
+        ActKind::Abandon => Act::Abandon(number(line, "session")?),
+        ActKind::Expire => Act::Expire(number(line, "older_than")?),
+        ActKind::Rows => Act::Rows(optional_bytes(alloc, line, "user")?),
+        ActKind::Status => Act::Status,
+        ActKind::Backup => Act::Backup(String::from_str(alloc, text(line, "path")?)?),
+    })
+}
+
+/// What a line's object asks for.
+fn act_in(alloc: Global, line: &Value) -> Result<Act, LineError>
+    ensures found { IfOk result (Says (view line.now)) }
+    ensures amiss { IfErr result (IsRefusedIn (view line.now)) }
+{
+    let Some(kind) = act_named(text(line, "act")?) else {
+        return Err(LineError::UnknownAct);
+    };
+    check_members(kind, line)?;
+    act_of(alloc, kind, line)
+}
+
+/// The object that a line is.
+fn object_of(alloc: Global, line: &[u8]) -> Result<Value, LineError>
+    ensures found { IfOk result (λ d. (length line.now ≤ 65536) × IsUtf8 line.now × (read line.now ≡ Some (view d))) }
+    ensures unread { IfErr result (IsUnread line.now) }
+{
+    if line.len() > MAX_LINE {
+        return Err(LineError::TooLong);
+    }
+    let Ok(text) = str::from_utf8(line) else {
+        return Err(LineError::NotUtf8);
+    };
+    match Value::from_str(alloc, text) {
+        Ok(value) if value.is_object() => Ok(value),
+        Err(error) if error.is_memory() => Err(LineError::Memory),
+        _ => Err(LineError::NotAnObject),
+    }
+}
+
+/// Reads a line: at most `MAX_LINE` bytes of UTF-8, a JSON object that nests at most 127 deep, with a number `id`, the name
+/// of an `act`, and the members that the act takes. A member that it does not take is refused: so a misspelled one is not
+/// passed over. Of members with one name the last stands.
+///
+/// Of a line that is refused the number is told too, where it can be read: of one that is no such object, by what stands
+/// before the first `MAX_LINE` + 1 bytes end.
+pub fn read_line(alloc: Global, line: &[u8]) -> Result<Line, LineFault>
+    // What is read is what the line says,
+    ensures found { IfOk result (λ read. Reads line.now read.id read.act) }
+    // and what is not read is refused for the cause that is named, with its number where it has one.
+    ensures refused { IfErr result (λ fault. IsRefused line.now fault.id fault.error) }
+{
+    let object = match object_of(alloc, line) {
+        Ok(object) => object,
+        Err(error) => {
+            return Err(LineFault {
+                id: id_of(line),
+                error,
+            });
+        }
+    };
+    let Ok(id) = number(&object, "id") else {
+        return Err(LineFault {
+            id: None,
+            error: LineError::BadId,
+        });
+    };
+    match act_in(alloc, &object) {
+        Ok(act) => Ok(Line { id, act }),
+        Err(error) => Err(LineFault {
+            id: Some(id),
+            error,
+        }),
+    }
+}
