@@ -77,7 +77,7 @@ class Firefox:
             stderr=subprocess.DEVNULL, env={**os.environ, "HOME": self.folder})
         for _ in range(600):
             try:
-                self.socket = socket.create_connection(("127.0.0.1", port), timeout=120)
+                self.socket = socket.create_connection(("127.0.0.1", port), timeout=60)
                 break
             except OSError:
                 time.sleep(0.1)
@@ -128,3 +128,18 @@ class Firefox:
         self.driver.kill()
         self.driver.wait()
         shutil.rmtree(self.folder, ignore_errors=True)
+
+
+def attended(kind, port, act):
+    """What an act does with a headless browser of its own. Firefox at times never answers an order of its driver: the act is then
+    tried once more, with another browser."""
+    for is_last in (False, True):
+        browser = kind(port)
+        try:
+            return act(browser)
+        except TimeoutError:
+            if is_last:
+                raise
+            print(f"{browser.version} did not answer: once more")
+        finally:
+            browser.close()

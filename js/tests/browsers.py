@@ -200,7 +200,8 @@ def visits(opened, site, port):
     ended = run("await (async () => { const controller = new AbortController(); const first = visit('sign-in', (made) => made);"
                 " controller.abort(new Error('enough'));"
                 " const options = { challenge: 'AAAA', rpId: 'localhost', allowCredentials: [] };"
-                " return signIn(options, { signal: controller.signal }).then(() => 'done', (error) => error.message); })()")
+                " const told = await signIn(options, { signal: controller.signal }).then(() => 'done', (error) => error.message);"
+                " await first.catch(() => {}); return told; })()")
     check(f"{site}: a signal that has ended it", ended, "enough")
     opened.without(key)
     waiting = run("await (async () => { const options = { challenge: 'AAAA', rpId: 'localhost', allowCredentials: [] }, controller = new AbortController();"
@@ -265,21 +266,23 @@ def visits_while_killed(opened, site, port, primary):
     opened.without(key)
 
 
-opened = getattr(browser, kind)(free_port())
-try:
-    in_page(opened)
-    for site in ("http", "express"):
-        for storage, environment in (("program", {"FILE": str(folder / f"{kind}-{site}.db")}), ("PostgreSQL", {"DATABASE_URL": "postgresql://"})):
-            run, port = started(site, **environment)
-            try:
-                visits(opened, f"{site} over {storage}", port)
-                hostile_requests(f"{site} over {storage}", port)
-                visits_while_killed(opened, f"{site} over {storage}", port, run)
-            finally:
-                run.send_signal(signal.SIGTERM)
-                run.wait(30)
-    print(opened.version)
-finally:
-    opened.close()
+def at_site(opened, site, storage):
+    """All that is done at a site, which begins with nothing."""
+    environment = {"FILE": str(folder / f"{kind}-{site}-{time.monotonic_ns()}.db")} if storage == "program" else {"DATABASE_URL": "postgresql://"}
+    run, port = started(site, **environment)
+    try:
+        visits(opened, f"{site} over {storage}", port)
+        hostile_requests(f"{site} over {storage}", port)
+        visits_while_killed(opened, f"{site} over {storage}", port, run)
+    finally:
+        run.send_signal(signal.SIGTERM)
+        run.wait(30)
+
+
+attended = functools.partial(browser.attended, getattr(browser, kind))
+attended(free_port(), in_page)
+for site in ("http", "express"):
+    for storage in ("program", "PostgreSQL"):
+        attended(free_port(), functools.partial(at_site, site=site, storage=storage))
 print(f"{passed} passed, {failed} failed")
 sys.exit(failed != 0)
