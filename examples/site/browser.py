@@ -131,8 +131,8 @@ class Firefox:
 
 
 def attended(kind, port, act):
-    """What an act does with a headless browser of its own. Firefox at times never answers an order of its driver: the act is then
-    tried once more, with another browser."""
+    """What an act does with a headless browser of its own. Where that never answers an order of its driver, the act is tried once
+    more, with another browser, and that is told."""
     for is_last in (False, True):
         browser = kind(port)
         try:
