@@ -2,6 +2,7 @@
 
 use kept_site::{CreateFailure, OpenFailure};
 use sqlite::{Error, ErrorCode};
+use sqlite_std_file::OpenError;
 use sqlite_trees::error::StoreError;
 use std::alloc::{AllocError, AllocFailed};
 use std::io;
@@ -100,6 +101,19 @@ impl From<Error> for FileError {
             ErrorCode::DiskFull => FileError::Failed(StoreError::Full),
             ErrorCode::Closed => FileError::Failed(StoreError::Broken),
             ErrorCode::ConstraintViolation(_) => FileError::BadRow,
+            _ => FileError::CannotOpen,
+        }
+    }
+}
+
+impl From<OpenError> for FileError {
+    fn from(e: OpenError) -> FileError {
+        match e {
+            OpenError::OutOfMemory => FileError::Failed(StoreError::OutOfMemory),
+            OpenError::Busy => FileError::InUse,
+            OpenError::Io(error) if error.kind() == io::ErrorKind::OutOfMemory => {
+                FileError::Failed(StoreError::OutOfMemory)
+            }
             _ => FileError::CannotOpen,
         }
     }

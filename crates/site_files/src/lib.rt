@@ -7,11 +7,9 @@ mod closing;
 mod creating;
 mod error;
 mod first;
-mod look;
 mod looking;
 mod opening;
 mod path;
-mod site_disk;
 mod stores;
 mod tables;
 

@@ -5,17 +5,19 @@ ghost use Rattle.sqlite_trees.specs.View.{IsClean};
 ghost use Rattle.sqlite_store.specs.FileStore.{view};
 
 use crate::error::FileError;
-use crate::look::Look;
 use crate::path::{Found, has_sums_at, head_at, log_of};
-use crate::site_disk::files_at as locked_files;
 use crate::stores::{by_sql, listed_in, options, second_of};
 use crate::tables::Listed;
+use site_disk::{Look, files_at as locked_files};
 use sqlite::{FileStore, Files, Options, Unknown};
 use sqlite_disk::{Disk, Memory};
+use sqlite_std_file::OpenError;
 use sqlite_trees::error::StoreError;
 use sqlite_wal::checksum_of;
 use std::alloc::Global;
-use std::fs::{self, File};
+use std::fs::{self, File, OpenOptions};
+use std::io::{self, Read};
+use std::os::unix::fs::FileExt;
 
 /// A file that is looked at, as far as it is in memory.
 pub type Seen = Look<Memory>;
@@ -26,6 +28,10 @@ const SMALL: u64 = 65_536;
 /// The bytes of a log's header and of a frame's: SQLite passes over a log that is shorter.
 const SHORTEST: usize = 56;
 
+/// What the header of a log begins with (fileformat2.html, 4.1). It is written alone, as a log ends and as one begins, so that a crash may
+/// leave any byte there.
+const FIRST: u8 = 0x37;
+
 /// The number at this place of a log's header.
 fn number_at(log: &[u8], at: usize) -> u32 {
     match log.get(at..at.saturating_add(4)) {
@@ -34,23 +40,34 @@ fn number_at(log: &[u8], at: usize) -> u32 {
     }
 }
 
-/// Whether the header of a log is whole (fileformat2.html, 4.1).
+/// Whether the header of a log is whole (fileformat2.html, 4.1), whatever its first byte is.
 fn is_whole(log: &[u8]) -> bool {
-    let is_big = match number_at(log, 0) {
+    let mut signed = [0; 24];
+    let Some(found) = log.get(..24) else {
+        return false;
+    };
+    signed.copy_from_slice(found);
+    signed[0] = FIRST;
+    let is_big = match number_at(&signed, 0) {
         0x377f_0682 => false,
         0x377f_0683 => true,
         _ => return false,
     };
-    let Some(signed) = log.get(..24) else {
-        return false;
-    };
-    checksum_of(is_big, (0, 0), signed) == (number_at(log, 24), number_at(log, 28))
+    checksum_of(is_big, (0, 0), &signed) == (number_at(log, 24), number_at(log, 28))
 }
 
-/// That no open passes over a log that may hold commits. The first byte of a header is 0 while it is written.
-fn check_log(log: &[u8]) -> Result<(), FileError> {
-    if log.len() < SHORTEST || log.first() == Some(&0) || is_whole(log) {
-        return Ok(());
+/// A log as it is to be read, whose first byte is put in where the rest of its header is whole: as it ended, all of it is in the file,
+/// and as it begins, it has no frame. No log is passed over that may hold commits. While a header is written its first byte is 0.
+fn read_as(mut log: Vec<u8>) -> Result<Vec<u8>, FileError> {
+    if log.len() < SHORTEST {
+        return Ok(log);
+    }
+    if is_whole(log.as_slice()) {
+        log.as_mut_slice()[0] = FIRST;
+        return Ok(log);
+    }
+    if log.first() == Some(&0) {
+        return Ok(log);
     }
     Err(FileError::DamagedLog)
 }
@@ -83,8 +100,7 @@ fn database_at(rt: &HostRuntime, path: &str) -> Result<Seen, FileError> {
 
 /// The files at a path. `NotSqlite` where the file is empty, and its log may hold commits: an open would begin anew.
 fn files_at(rt: &HostRuntime, path: &str) -> Result<Files<Seen>, FileError> {
-    let log = bytes_of(rt, log_of(rt, path)?.as_str())?;
-    check_log(log.as_slice())?;
+    let log = read_as(bytes_of(rt, log_of(rt, path)?.as_str())?)?;
     if SHORTEST <= log.len() && fs::metadata(rt, path)?.len() == 0 {
         return Err(FileError::NotSqlite);
     }
@@ -151,6 +167,46 @@ pub fn plain_log(rt: &HostRuntime, path: &str) -> Result<Option<ShortLog>, FileE
     })
 }
 
+/// Whether the header of the log at a path is whole but for its first byte.
+fn lacks_first(rt: &HostRuntime, log: &str) -> Result<bool, FileError> {
+    if !fs::exists(rt, log)? {
+        return Ok(false);
+    }
+    let mut file = File::open(rt, log)?;
+    let mut head = [0; 32];
+    match file.read_exact(&mut head) {
+        Ok(()) => Ok(head[0] != FIRST && is_whole(&head)),
+        Err(e) if e.kind() == io::ErrorKind::UnexpectedEof => Ok(false),
+        Err(e) => Err(e.into()),
+    }
+}
+
+/// Writes the first byte of the log at a path.
+fn write_first(rt: &HostRuntime, log: &str) -> Result<(), FileError> {
+    let file = OpenOptions::new().write(true).open(rt, log)?;
+    file.write_all_at(&[FIRST], 0)?;
+    file.sync_all()?;
+    Ok(())
+}
+
+/// Writes the first byte of the log of a file at a path, where the rest of its header is whole: an open would pass over it. It is to
+/// be looked at before.
+pub fn mend_log(rt: &HostRuntime, path: &str) -> Result<(), FileError> {
+    let log = log_of(rt, path)?;
+    if !lacks_first(rt, log.as_str())? {
+        return Ok(());
+    }
+    // Another process may be about to write that byte.
+    let files = locked_files(rt, path, true, Unknown)?;
+    let mended = if lacks_first(rt, log.as_str())? {
+        write_first(rt, log.as_str())
+    } else {
+        Ok(())
+    };
+    drop(files);
+    mended
+}
+
 /// Takes away a log that an open has made, while it has the files.
 fn remove_log(rt: &HostRuntime, path: &str) -> Result<(), FileError> {
     fs::remove_file(rt, log_of(rt, path)?.as_str())?;
@@ -195,8 +251,8 @@ fn is_in_use(rt: &HostRuntime, path: &str) -> Result<bool, FileError> {
             left?;
             Ok(false)
         }
-        Err(FileError::InUse) => Ok(true),
-        Err(e) => Err(e),
+        Err(OpenError::Busy) => Ok(true),
+        Err(e) => Err(e.into()),
     }
 }
 

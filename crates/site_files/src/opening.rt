@@ -15,12 +15,12 @@ use crate::FileSite;
 use crate::bounds::check_bounds;
 use crate::error::FileError;
 use crate::first::{check_first, why_other};
-use crate::looking::{ShortLog, looked_at, plain_log, unless_in_use, with_log};
+use crate::looking::{ShortLog, looked_at, mend_log, plain_log, unless_in_use, with_log};
 use crate::path::{Found, found_at};
-use crate::site_disk::SiteFile;
 use crate::stores::{connected, list_at, second_at};
 use crate::tables::{Listed, list_of, upgraded};
 use kept_site::{Bounds, KeptSite};
+use site_disk::SiteFile;
 use sqlite::{Alter, FileStore, Start};
 use sqlite_trees::error::StoreError;
 use std::alloc::Global;
@@ -246,5 +246,6 @@ pub fn open<S: Start>(
     if let Err(e) = check_open(rt, path, &party, policy, bounds, at_least) {
         return Err(unless_in_use(rt, path, e));
     }
+    mend_log(rt, path)?;
     opened(rt, path, party, policy, bounds, at_least, wary, start)
 }

@@ -12,8 +12,8 @@ ghost use Rattle.site_files.specs.Files.{IsFoundIn, IsHeldIn};
 
 use crate::error::FileError;
 use crate::path::{Found, has_sums_at, head_at};
-use crate::site_disk::{SiteFile, files_at};
 use crate::tables::{Listed, list_in, second};
+use site_disk::{SiteFile, files_at};
 use sqlite::{Connection, FileStore, Files, Options, Start, Unknown};
 use sqlite_disk::Disk;
 use sqlite_pager::Pager;

@@ -1,9 +1,9 @@
 -- What is owed of `read_at`.
-use Rattle.site_files.proofs.site_disk.SiteDiskDisk.read_at.Goals as goal
+use Rattle.site_disk.proofs.site_disk.SiteDiskDisk.read_at.Goals as goal
 use Rattle.std.proofs.Common.{sym, subst}
 use Rattle.std.specs.Prelude.{OnOk, IsTrue, ◌<◌, length}
 use Rattle.sqlite_disk.specs.Disk.{Holds}
-use Rattle.site_files.specs.Kind.{by_kind}
+use Rattle.site_disk.specs.Kind.{by_kind}
 
 pub returns-in-Usual-clause-read : goal.returns-in-Usual-clause-read
 returns-in-Usual-clause-read g c =

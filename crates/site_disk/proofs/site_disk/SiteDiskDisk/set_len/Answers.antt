@@ -1,6 +1,6 @@
 -- What is owed of `set_len`.
-use Rattle.site_files.proofs.Staying.{usual_stays, wary_stays}
-use Rattle.site_files.proofs.site_disk.SiteDiskDisk.set_len.Goals as goal
+use Rattle.site_disk.proofs.Staying.{usual_stays, wary_stays}
+use Rattle.site_disk.proofs.site_disk.SiteDiskDisk.set_len.Goals as goal
 
 pub returns-in-Usual-clause-frozen : goal.returns-in-Usual-clause-frozen
 returns-in-Usual-clause-frozen g c =

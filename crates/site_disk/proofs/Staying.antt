@@ -3,9 +3,9 @@ use Rattle.std.specs.Prelude.{◌≡◌, Bool, IsTrue, IsErr, Result}
 use Rattle.std.proofs.Common.{sym, subst}
 use Rattle.sqlite_disk.specs.declared.Disk.{Ghosts}
 use Rattle.sqlite_disk.specs.Disk.{StaysFrozen}
-use Rattle.site_files.specs.declared.site_disk.SiteDisk.{SiteDisk}
-use Rattle.site_files.specs.declared.site_disk.SiteDisk.TheVariants.{Usual, Wary}
-use Rattle.site_files.specs.Kind.{by_kind, holds_by_kind}
+use Rattle.site_disk.specs.declared.site_disk.SiteDisk.{SiteDisk}
+use Rattle.site_disk.specs.declared.site_disk.SiteDisk.TheVariants.{Usual, Wary}
+use Rattle.site_disk.specs.Kind.{by_kind, holds_by_kind}
 
 module _ {A B : Type 0} (g : Ghosts A) (h : Ghosts B) where
   abbrev pub is_frozen : SiteDisk A B → Bool

@@ -1,14 +1,12 @@
 //! A site's disk, of which it is decided as it is opened whether a torn write may leave any bytes.
 
 ghost use Rattle.std.specs.Prelude.{◌≡◌, IfOk, IsTrue, false};
-ghost use Rattle.site_files.specs.Kind.{held_by, is_wary, may_be_used};
+ghost use Rattle.site_disk.specs.Kind.{held_by, is_wary, may_be_used};
 
-use crate::error::FileError;
 use sqlite::{FileFrom, Files, Start};
 use sqlite_disk::{Disk, Tally};
 use sqlite_std_file::OpenError;
-use sqlite_trees::error::StoreError;
-use std::io::{self, ErrorKind};
+use std::io;
 
 /// Files that held what `S` says. Nothing is supposed of a torn write.
 #[derive(Drop)]
@@ -41,7 +39,7 @@ pub enum SiteDisk<A: Disk, B: Disk> {
 pub type SiteFile<S> = SiteDisk<FileFrom<S>, FileFrom<WaryStart<S>>>;
 
 impl<A: Disk, B: Disk> Disk for SiteDisk<A, B> {
-    ghost use Rattle.site_files.specs.Kind.{by_kind, holds_by_kind, law_by_kind};
+    ghost use Rattle.site_disk.specs.Kind.{by_kind, holds_by_kind, law_by_kind};
 
     ghost seen = { by_kind A.Disk.seen B.Disk.seen };
 
@@ -160,25 +158,13 @@ fn wary_files<A: Disk, B: Disk>(files: Files<B>) -> Files<SiteDisk<A, B>>
     }
 }
 
-/// Why the files at a path are not opened.
-fn path_failure(e: OpenError) -> FileError {
-    match e {
-        OpenError::OutOfMemory => FileError::Failed(StoreError::OutOfMemory),
-        OpenError::Busy => FileError::InUse,
-        OpenError::Io(error) if error.kind() == ErrorKind::OutOfMemory => {
-            FileError::Failed(StoreError::OutOfMemory)
-        }
-        _ => FileError::CannotOpen,
-    }
-}
-
 /// The files at a path, which nobody else has; with `wary` nothing is supposed of torn writes.
 pub fn files_at<S: Start>(
     rt: &HostRuntime,
     path: &str,
     wary: bool,
     start: S,
-) -> Result<Files<SiteFile<S>>, FileError>
+) -> Result<Files<SiteFile<S>>, OpenError>
     ensures log { IfOk result (λ files. IsTrue (may_be_used files.log)) }
     ensures db { IfOk result (λ files. IsTrue (may_be_used files.db)) }
     ensures held { IfOk result (λ files. (held_by files.log ≡ S.Start.log) × (held_by files.db ≡ S.Start.db)) }
@@ -188,11 +174,11 @@ pub fn files_at<S: Start>(
         let start = WaryStart { start };
         return match sqlite_std_file::open(rt, path, start) {
             Ok(files) => Ok(wary_files(files)),
-            Err(e) => Err(path_failure(e)),
+            Err(e) => Err(e),
         };
     }
     match sqlite_std_file::open(rt, path, start) {
         Ok(files) => Ok(usual_files(files)),
-        Err(e) => Err(path_failure(e)),
+        Err(e) => Err(e),
     }
 }

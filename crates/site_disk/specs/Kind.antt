@@ -7,8 +7,8 @@ use Rattle.sqlite_disk.specs.Events.{replay}
 use Rattle.sqlite_disk.specs.Modelled.{start_of}
 use Rattle.sqlite_std_file.specs.declared.host.Host.{Host}
 use Rattle.sqlite_std_file.specs.File.{file_is_usable}
-use Rattle.site_files.specs.declared.site_disk.SiteDisk.{SiteDisk}
-use Rattle.site_files.specs.declared.site_disk.SiteDisk.TheVariants.{Usual, Wary}
+use Rattle.site_disk.specs.declared.site_disk.SiteDisk.{SiteDisk}
+use Rattle.site_disk.specs.declared.site_disk.SiteDisk.TheVariants.{Usual, Wary}
 
 module _ {A B : Type 0} where
   -- what the one says of a disk of the first kind, and the other of one of the second

@@ -1,6 +1,6 @@
 -- What is owed of `write_at`.
-use Rattle.site_files.proofs.Staying.{usual_stays, wary_stays}
-use Rattle.site_files.proofs.site_disk.SiteDiskDisk.write_at.Goals as goal
+use Rattle.site_disk.proofs.Staying.{usual_stays, wary_stays}
+use Rattle.site_disk.proofs.site_disk.SiteDiskDisk.write_at.Goals as goal
 
 pub returns-in-Usual-clause-frozen : goal.returns-in-Usual-clause-frozen
 returns-in-Usual-clause-frozen g c =
