@@ -3,15 +3,17 @@ use Rattle.std.proofs.Common.{◌≡◌, ◌-◌, ℕ, List, Bool, true, false, 
 use Rattle.std.specs.FinMap as finite
 use Rattle.std.specs.Prelude.{Option, Some, None, if◌then◌else◌}
 use Rattle.std.specs.Option.{ForSome}
-use Rattle.sqlite_trees.specs.View.{IsClean, View}
+use Rattle.sqlite_trees.specs.View.{IsClean, IsStorableRow, View}
 use Rattle.verification.specs.Records.{Credential}
 use Rattle.credential_table.specs.Table.{retired}
 use Rattle.credential_table.specs.Views.{row_view}
-use Rattle.credential_store.specs.Held.{IsAt, Placed}
+use Rattle.credential_store.specs.Held.{Holds, IsAt, Placed}
+use Rattle.credential_store.specs.Rows.{credential_row}
 use Rattle.credential_store.specs.declared.finding.Found.{Found}
 use Rattle.kept_site.specs.Calls.{IsFound, TellsDeleted, TellsForgotten, TellsRetired}
 use Rattle.credential_store.specs.Details.{Details, HoldsDetails}
-use Rattle.kept_site.specs.Private.{DeletesFound, IsFoundAs, RetiresFound, credential_of}
+use Rattle.kept_site.specs.Causes.{RefusesChange}
+use Rattle.kept_site.specs.Private.{DeletesFound, IsFoundAs, RefusesRetired, RetiresFound, credential_of}
 use Rattle.kept_site.specs.State.{IsHeld, KeptState}
 use Rattle.kept_site.proofs.Held.{details_stay, held_beside, held_removed, held_same, held_set}
 
@@ -68,3 +70,15 @@ tells_forgotten placed id s first old new found Same true details is kept i same
     )
 tells_forgotten placed id s first old new found Same false details is kept i same clean h d =
     subst (HoldsDetails details) (sym (kept i.0 ∙ same)) d
+
+-- the row that no store takes is that of the credential of the id
+pub refuses_retired : (old mid : View) (id : List ℕ) (found : Option Found) → mid.reals ≡ old.reals
+    → ((placed : Placed) → Holds placed old.trees → IsFoundAs placed id found) → RefusesRetired mid found → RefusesChange old id retired
+refuses_retired old mid id found reals is refused =
+    let f = refused.0 in
+    record {
+      place = f.place;
+      credential = row_view f.credential;
+      found = λ placed h. subst (IsFoundAs placed id) refused.1 (is placed h);
+      row = subst (λ (k : ℕ → ℕ). ¬ IsStorableRow (k 0) (credential_row f.place (retired (row_view f.credential)))) reals refused.2;
+    }

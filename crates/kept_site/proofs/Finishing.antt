@@ -1,11 +1,12 @@
 -- A ceremony that is finished.
-use Rattle.std.proofs.Common.{◌≡◌, ℕ, List, Bool, refl, sym, subst, true, false}
+use Rattle.std.proofs.Common.{◌≡◌, ℕ, List, Bool, inl, inr, refl, sym, subst, true, false}
 use Rattle.std.specs.FinMap as finite
 use Rattle.std.specs.Prelude.{Option, Some, None, ℤ}
-use Rattle.sqlite_trees.specs.View.{IsClean, View}
+use Rattle.sqlite_trees.specs.View.{IsClean, IsStorableRow, View}
 use Rattle.cose.specs.Schemes.{Validity}
 use Rattle.authdata.specs.Flags.{is_set, BE}
 use Rattle.authdata.specs.Responses.{AuthenticatorAssertionResponse}
+use Rattle.authdata.specs.declared.profile.Profile.{Profile}
 use Rattle.verification.specs.SignIn.{PassesSignIn}
 use Rattle.verification.specs.SignInAnswers.{IsRefused}
 use Rattle.verification.specs.declared.refusal.VerificationError.{VerificationError}
@@ -13,12 +14,14 @@ use Rattle.verification.specs.declared.refusal.SignInRefusal.{SignInRefusal}
 use Rattle.credential_table.specs.Table.{signed_in}
 use Rattle.credential_table.specs.Views.{row_view}
 use Rattle.ceremony_sessions.specs.Sessions.{sign_in_at}
-use Rattle.credential_store.specs.Held.{HasNone, IsAt, IsWritten, Placed}
+use Rattle.credential_store.specs.Held.{HasNone, Holds, IsAt, IsWritten, Placed}
+use Rattle.credential_store.specs.Rows.{credential_row}
 use Rattle.credential_store.specs.declared.finding.Found.{Found}
 use Rattle.verification.specs.Records.{Credential, ExpectedSignIn, RelyingParty}
 use Rattle.kept_site.specs.Calls.{IsFound, IsNotFinished, IsSame, SignsIn, TellsIds, TellsUsed}
-use Rattle.credential_store.specs.Details.{Details, HoldsDetails}
-use Rattle.kept_site.specs.Private.{IsFoundAs, IsStopped, SignsInAs, TellsHad, judged}
+use Rattle.credential_store.specs.Details.{Details, HoldsDetails, detail_row, used}
+use Rattle.kept_site.specs.Causes.{RefusesSignedIn}
+use Rattle.kept_site.specs.Private.{IsFoundAs, IsStopped, RefusesFound, SignsInAs, TellsHad, judged}
 use Rattle.kept_site.specs.declared.failure.Failure.TheVariants as failures
 use Rattle.kept_site.specs.declared.failure.FinishFailure.{FinishFailure}
 use Rattle.kept_site.specs.declared.failure.FinishFailure.TheVariants as finishes
@@ -98,3 +101,28 @@ told_same placed f id had tells is = go (f id) refl had is
     go true t false is = absurd (both (tells.there id t) is)
     go false t true is = absurd (both is (tells.none id t))
     go false t false is = t
+
+-- the row that no store takes is that of the credential of the response's id, or of its detail
+pub refuses_signed_in : (old mid : View) (profile : Profile) (found : Option Found) (r : AuthenticatorAssertionResponse) (now : ℤ) → mid.trees ≡ old.trees
+    → mid.reals ≡ old.reals → ((placed : Placed) → Holds placed old.trees → IsFoundAs placed r.credential found) → RefusesFound mid profile found r now
+    → RefusesSignedIn old profile r now
+refuses_signed_in old mid profile found r now trees reals is (f, same, inl row) =
+    inl (
+      row.0,
+      row.1,
+      record {
+        place = f.place;
+        credential = row_view f.credential;
+        found = λ placed h. subst (IsFoundAs placed r.credential) same (is placed h);
+        row = subst (λ (k : ℕ → ℕ). ¬ IsStorableRow (k 0) (credential_row f.place (signed_in row.0.sign_count (is_set row.0.flags BE) (row_view f.credential)))) reals row.2;
+      },
+    )
+refuses_signed_in old mid profile found r now trees reals is (f, same, inr row) =
+    inr (λ placed h details d.
+    let at : IsAt placed r.credential f.place (row_view f.credential) = subst (IsFoundAs placed r.credential) same (is placed h) in (
+      f.place,
+      row_view f.credential,
+      at,
+      subst (λ (k : ℕ → ℕ). ¬ IsStorableRow (k 5) (detail_row f.place (used now (finite.get details f.place)))) reals
+          (row placed (subst (Holds placed) (sym trees) h) at.there details (subst (HoldsDetails details) (sym trees) d)),
+    ))

@@ -1,6 +1,7 @@
 mod Reserved
 mod Same
 mod Sound
+mod Causes
 mod Signing
 mod Held
 mod Finishing
@@ -11,3 +12,4 @@ mod New
 mod Opening
 mod Laws
 mod ReadTo
+mod Reading

@@ -13,7 +13,9 @@ use Rattle.credential_table.specs.Views.{row_view}
 use Rattle.credential_table.specs.declared.row.Row.{Row as StoredRow}
 use Rattle.ceremony_sessions.specs.Sessions.{registration_at}
 use Rattle.credential_store.specs.Held.{HasNone, Holds, IsWritten, Placed}
+use Rattle.credential_store.specs.Causes.{IsRefused}
 use Rattle.kept_site.specs.Calls.{Registers, is_full, registered}
+use Rattle.kept_site.specs.Causes.{RefusesNew}
 use Rattle.kept_site.specs.Private.{Admits, admitted_as}
 use Rattle.kept_site.specs.State.{IsHeld, KeptState}
 use Rattle.kept_site.specs.declared.registration.Registered.{Registered}
@@ -81,3 +83,23 @@ registers valid placed s t n r x c first mid new i tells written same clean_mid 
       },
       held_added placed s t mid new (row_view x.credential) held w rp reserved count last,
     )
+
+-- the row that no store takes is that of the credential that the response attests
+pub refuses_new : {S : Type 0} (valid : Validity) (s : KeptState S) (n : ℕ) (r : responses.AuthenticatorAttestationResponse) (x : StoredRow) (c : NewCredential)
+    (first mid : View)
+    → Admits valid s.rp s.policy (registration_at n s.timed.open_sessions) r (is_full s) c first mid
+    → ((e : ExpectedRegistration) → registration_at n s.timed.open_sessions ≡ Some e → row_view x ≡ admitted_as e.user c)
+    → mid.reals ≡ first.reals → IsRefused mid.reals (s.last + 1) (row_view x) → RefusesNew first s n r
+refuses_new valid s n r x c first mid i tells reals refused =
+    let session = the_some (registration_at n s.timed.open_sessions) i.open_session in
+    let a = i.attests in
+    let row = tells session.0 session.1 ∙ same_row session.0 a.1 a.2 c a.4 a.5 a.6 a.7 in
+    record {
+      expected = session.0;
+      object = a.0;
+      data_read = a.1;
+      credential = a.2;
+      session = session.1;
+      attests = a.3;
+      row = subst (λ (k : ℕ → ℕ). IsRefused k (s.last + 1) (registered session.0 a.1 a.2)) reals (subst (IsRefused mid.reals (s.last + 1)) row refused);
+    }

@@ -1,4 +1,5 @@
 pub mod State
 pub mod Calls
+pub mod Causes
 pub mod Private
 pub mod Laws

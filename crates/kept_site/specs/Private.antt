@@ -1,14 +1,16 @@
 -- What private functions are proved against; no public clause cites it.
-use Rattle.std.specs.Prelude.{◌≡◌, ◌≤◌, ℕ, ℤ, List, [], Bool, Option, Some, None, true, false, option_map, IsSome, IsTrue}
+use Rattle.std.specs.Prelude.{◌≡◌, ◌<◌, ◌≤◌, ◌^◌, ◌⊎◌, ℕ, ℤ, List, [], Bool, Option, Some, None, true, false, option_map, IsSome, IsTrue}
 use Rattle.std.specs.FinMap as finite
+use Rattle.std.specs.List.{AllByRecursion}
 use Rattle.sqlite_value.specs.Order.{Row}
-use Rattle.credential_store.specs.Rows.{credential_row}
-use Rattle.sqlite_trees.specs.View.{View, IsClean}
+use Rattle.credential_store.specs.Rows.{IsStored, credential_row}
+use Rattle.sqlite_trees.specs.View.{View, IsClean, IsStorableRow}
 use Rattle.cose.specs.Schemes.{Validity}
 use Rattle.authdata.specs.Flags.{is_set, BE, BS}
 use Rattle.authdata.specs.Layout.{AuthenticatorData, AuthOf}
 use Rattle.authdata.specs.Responses.{AuthenticatorAssertionResponse}
 use Rattle.authdata.specs.Responses as responses
+use Rattle.authdata.specs.declared.profile.Profile.{Profile}
 use Rattle.verification.specs.Records.{Credential, ExpectedRegistration, ExpectedSignIn, NewCredential, RelyingParty}
 use Rattle.verification.specs.RegistrationAnswers.{IsVerifiedRegistration}
 use Rattle.verification.specs.RegistrationAnswers as registrations
@@ -23,7 +25,7 @@ use Rattle.credential_table.specs.Views.{row_view}
 use Rattle.credential_store.specs.Held.{HasNone, HasTrees, Holds, IsAt, IsWritten, Placed}
 use Rattle.sqlite_trees.specs.declared.store.Shape.TheVariants.{Table}
 use Rattle.credential_store.specs.declared.finding.Found.{Found}
-use Rattle.credential_store.specs.Details.{IsDetailed, used}
+use Rattle.credential_store.specs.Details.{Details, HoldsDetails, IsDetailed, detail_row, used}
 use Rattle.kept_site.specs.Calls.{TellsIds}
 use Rattle.kept_site.specs.declared.finish.SignedIn.{SignedIn}
 use Rattle.kept_site.specs.declared.failure.Failure.TheVariants as failures
@@ -62,6 +64,15 @@ pub record SignsInAs (valid : Validity) (rp : RelyingParty) (session : Option Ex
       → IsWritten old mid (finite.insert placed at.place (signed_in data_read.sign_count (is_set data_read.flags BE) (row_view at.credential))))
       × IsDetailed mid new (λ details. finite.insert details at.place (used now (finite.get details at.place)))
 
+-- no store takes the row of what was found with the counter and the mark that came, or that of its detail, used at this second
+abbrev pub RefusesFound : View → Profile → Option Found → AuthenticatorAssertionResponse → ℤ → Type 0
+RefusesFound old profile found r now =
+    (f : Found) × (found ≡ Some f)
+    × (((a : AuthenticatorData) × AuthOf profile a r.auth_data
+    × (¬ IsStorableRow (old.reals 0) (credential_row f.place (signed_in a.sign_count (is_set a.flags BE) (row_view f.credential)))))
+    ⊎ ((placed : Placed) → Holds placed old.trees → finite.get placed f.place ≡ Some (row_view f.credential)
+    → (details : Details) → HoldsDetails details old.trees → ¬ IsStorableRow (old.reals 5) (detail_row f.place (used now (finite.get details f.place)))))
+
 -- what was found is retired, where it was not before
 abbrev pub RetiresFound : Option Found → Type 0 → View → View → Bool → Type 0
 RetiresFound found same old new true =
@@ -69,6 +80,11 @@ RetiresFound found same old new true =
     × (IsClean new → (placed : Placed) → Holds placed old.trees → finite.get placed f.place ≡ Some (row_view f.credential)
     → IsWritten old new (finite.insert placed f.place (retired (row_view f.credential))))
 RetiresFound found same old new false = same × ForSome (credential_of found) (λ c. c.retired ≡ true)
+
+-- no store takes the row of what was found, retired
+abbrev pub RefusesRetired : View → Option Found → Type 0
+RefusesRetired old found =
+    (f : Found) × (found ≡ Some f) × (¬ IsStorableRow (old.reals 0) (credential_row f.place (retired (row_view f.credential))))
 
 -- what was found is deleted, with its detail
 abbrev pub DeletesFound : Option Found → Type 0 → View → View → Bool → Type 0
@@ -129,3 +145,10 @@ pub record IsNew (v : View) : Type 0 where
 -- where a row is a credential's, its place is not above this one
 abbrev pub IsUpTo : ℕ → Row → Type 0
 IsUpTo last row = (place : ℕ) (c : Credential) → row ≡ credential_row place c → place ≤ last
+
+-- a row is a credential's, at a place of 32 bits
+abbrev pub IsCredentialRow : Row → Type 0
+IsCredentialRow row = (place : ℕ) × (c : Credential) × (row ≡ credential_row place c) × IsStored c × (place < 2 ^ 32)
+
+abbrev pub AreCredentials : List Row → Type 0
+AreCredentials rows = AllByRecursion IsCredentialRow rows

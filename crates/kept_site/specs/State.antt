@@ -92,12 +92,13 @@ pub record IsHeld {S : Type 0} (placed : Placed) (s : KeptState S) (db : Trees) 
   pub count : finite.len placed ≡ s.count
   pub last : (place : ℕ) (c : Credential) → finite.get placed place ≡ Some c → place ≤ s.last
 
--- the store is open, its trees have the shapes of a site's, and where nothing waits to be committed all is
+-- the store is open and not broken, its trees have the shapes of a site's, and where nothing waits to be committed all is
 pub record IsReady (v : View) (is_pending : Bool) : Type 0 where
   pub trees : HasTrees v
   pub site : v.shape 2 ≡ Table
   pub details : v.shape 5 ≡ Table
   pub is_open : IsTrue v.is_open
+  pub sound : v.is_broken ≡ false
   pub committed : is_pending ≡ false → v.trees ≡ v.committed
 
 -- a site that is not shut is ready, each number that was given is below those that are reserved, no more are so by what is

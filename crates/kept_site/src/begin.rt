@@ -8,6 +8,7 @@ ghost use Rattle.ceremony_sessions.specs.Sessions.{OpensRegistration, OpensSignI
 ghost use Rattle.timed_sessions.specs.Timed.{IsTrimmed, after_begin};
 ghost use Rattle.kept_site.specs.State.{IsHeld};
 ghost use Rattle.kept_site.specs.Calls.{IsNotBegun, IsOneSite};
+ghost use Rattle.kept_site.specs.Causes.{IfBeginStore, IsCaused, RefusesNumber};
 ghost use Rattle.kept_site.specs.declared.failure.Failure.TheVariants as failures;
 ghost use Rattle.kept_site.specs.declared.failure.BeginFailure.TheVariants as begins;
 
@@ -50,6 +51,9 @@ impl<S: Store> KeptSite<S> {
         ensures room { IfErr result (λ e. e ≡ begins.Site BeginError.SessionsFull → ⊥) }
         ensures clean { OnOk result (IsClean (S.Store.view self.new.store) → IsClean (S.Store.view self.old.store)) }
         ensures shut { self.old.is_shut ≡ true → IsErrOf result (begins.Store failures.Shut) }
+        ensures cause { IsClean (S.Store.view self.new.store) → IfErr result (IfBeginStore (IsCaused (S.Store.view self.old.store) (S.Store.faults self.old.store) (S.Store.faults self.new.store)
+            (RefusesNumber (S.Store.view self.old.store) self.old.rp.rp_id (self.old.timed.open_sessions.next + 1000)) ⊥)) }
+        ensures counts { S.Store.faults self.old.store ≤ S.Store.faults self.new.store }
         ensures crash { (db : Trees) → S.Store.recovers self.new.store db → S.Store.recovers self.old.store db }
     {
         if self.held.is_shut {
@@ -87,6 +91,9 @@ impl<S: Store> KeptSite<S> {
         ensures room { IfErr result (λ e. e ≡ begins.Site BeginError.SessionsFull → ⊥) }
         ensures clean { OnOk result (IsClean (S.Store.view self.new.store) → IsClean (S.Store.view self.old.store)) }
         ensures shut { self.old.is_shut ≡ true → IsErrOf result (begins.Store failures.Shut) }
+        ensures cause { IsClean (S.Store.view self.new.store) → IfErr result (IfBeginStore (IsCaused (S.Store.view self.old.store) (S.Store.faults self.old.store) (S.Store.faults self.new.store)
+            (RefusesNumber (S.Store.view self.old.store) self.old.rp.rp_id (self.old.timed.open_sessions.next + 1000)) ⊥)) }
+        ensures counts { S.Store.faults self.old.store ≤ S.Store.faults self.new.store }
         ensures crash { (db : Trees) → S.Store.recovers self.new.store db → S.Store.recovers self.old.store db }
     {
         self.begin_registration_for(user, algorithms, uv, Asks::usual(), words, now)
@@ -113,6 +120,9 @@ impl<S: Store> KeptSite<S> {
         ensures room { IfErr result (λ e. e ≡ begins.Site BeginError.SessionsFull → ⊥) }
         ensures clean { OnOk result (IsClean (S.Store.view self.new.store) → IsClean (S.Store.view self.old.store)) }
         ensures shut { self.old.is_shut ≡ true → IsErrOf result (begins.Store failures.Shut) }
+        ensures cause { IsClean (S.Store.view self.new.store) → IfErr result (IfBeginStore (IsCaused (S.Store.view self.old.store) (S.Store.faults self.old.store) (S.Store.faults self.new.store)
+            (RefusesNumber (S.Store.view self.old.store) self.old.rp.rp_id (self.old.timed.open_sessions.next + 1000)) ⊥)) }
+        ensures counts { S.Store.faults self.old.store ≤ S.Store.faults self.new.store }
         ensures crash { (db : Trees) → S.Store.recovers self.new.store db → S.Store.recovers self.old.store db }
     {
         if self.held.is_shut {

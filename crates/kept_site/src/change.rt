@@ -1,6 +1,6 @@
 //! Retiring and deleting credentials.
 
-ghost use Rattle.std.specs.Prelude.{◌≡◌, ◌-◌, if◌then◌else◌, IfErr, IfOk, IsErrOf, OnOk, false, true};
+ghost use Rattle.std.specs.Prelude.{◌≡◌, ◌≤◌, ◌-◌, if◌then◌else◌, IfErr, IfOk, IsErrOf, OnOk, false, true};
 ghost use Rattle.std.specs.FinMap as finite;
 ghost use Rattle.sqlite_trees.specs.Tree.{Trees};
 ghost use Rattle.sqlite_trees.specs.View.{IsClean};
@@ -10,7 +10,8 @@ ghost use Rattle.credential_store.specs.Held.{Placed};
 ghost use Rattle.credential_store.specs.Details.{Details, HoldsDetails};
 ghost use Rattle.kept_site.specs.State.{IsHeld, IsReady};
 ghost use Rattle.kept_site.specs.Calls.{IsFailure, IsOneSite, TellsDeleted, TellsForgotten, TellsRetired};
-ghost use Rattle.kept_site.specs.Private.{DeletesFound, RetiresFound};
+ghost use Rattle.kept_site.specs.Causes.{IsCaused, IsDamaged, RefusesChange};
+ghost use Rattle.kept_site.specs.Private.{DeletesFound, RefusesRetired, RetiresFound};
 ghost use Rattle.kept_site.specs.declared.failure.Failure.TheVariants as failures;
 
 use crate::failure::Failure;
@@ -47,6 +48,9 @@ fn retire_found<S: Store>(held: &mut SiteStore<S>, found: &Option<Found>) -> Res
     ensures reserved { (held.new.reserved ≡ held.old.reserved) × (held.new.durable ≡ held.old.durable) }
     ensures clean { IsClean (S.Store.view held.new.store) → IsClean (S.Store.view held.old.store) }
     ensures failed { IfErr result (λ e. (held.new.is_shut ≡ true) × (e ≡ failures.Shut → ⊥)) }
+    ensures cause { IsClean (S.Store.view held.new.store) → IfErr result (IsCaused (S.Store.view held.old.store) (S.Store.faults held.old.store) (S.Store.faults held.new.store)
+        (RefusesRetired (S.Store.view held.old.store) found.now) ⊥) }
+    ensures counts { S.Store.faults held.old.store ≤ S.Store.faults held.new.store }
     ensures crash { (db : Trees) → S.Store.recovers held.new.store db → S.Store.recovers held.old.store db }
 {
     let Some(found) = found else {
@@ -69,6 +73,8 @@ fn delete_found<S: Store>(held: &mut SiteStore<S>, found: &Option<Found>) -> Res
     ensures reserved { (held.new.reserved ≡ held.old.reserved) × (held.new.durable ≡ held.old.durable) }
     ensures clean { IsClean (S.Store.view held.new.store) → IsClean (S.Store.view held.old.store) }
     ensures failed { IfErr result (λ e. (held.new.is_shut ≡ true) × (e ≡ failures.Shut → ⊥)) }
+    ensures cause { IsClean (S.Store.view held.new.store) → IfErr result (IsCaused (S.Store.view held.old.store) (S.Store.faults held.old.store) (S.Store.faults held.new.store) ⊥ ⊥) }
+    ensures counts { S.Store.faults held.old.store ≤ S.Store.faults held.new.store }
     ensures crash { (db : Trees) → S.Store.recovers held.new.store db → S.Store.recovers held.old.store db }
 {
     let Some(found) = found else {
@@ -88,6 +94,9 @@ impl<S: Store> KeptSite<S> {
         ensures one { OnOk result (IsOneSite self.old self.new × (self.new.is_shut ≡ false) × (self.new.timed ≡ self.old.timed)) }
         ensures failed { IfErr result (IsFailure self.old self.new) }
         ensures shut { self.old.is_shut ≡ true → IsErrOf result failures.Shut }
+        ensures cause { IsClean (S.Store.view self.new.store) → IfErr result (IsCaused (S.Store.view self.old.store) (S.Store.faults self.old.store) (S.Store.faults self.new.store)
+            (RefusesChange (S.Store.view self.old.store) id.now table.retired) (IsDamaged (S.Store.view self.old.store).trees)) }
+        ensures counts { S.Store.faults self.old.store ≤ S.Store.faults self.new.store }
         ensures crash { (db : Trees) → S.Store.recovers self.new.store db → S.Store.recovers self.old.store db }
     {
         if self.held.is_shut {
@@ -109,6 +118,9 @@ impl<S: Store> KeptSite<S> {
         ensures one { OnOk result (IsOneSite self.old self.new × (self.new.is_shut ≡ false) × (self.new.timed ≡ self.old.timed)) }
         ensures failed { IfErr result (IsFailure self.old self.new) }
         ensures shut { self.old.is_shut ≡ true → IsErrOf result failures.Shut }
+        ensures cause { IsClean (S.Store.view self.new.store) → IfErr result (IsCaused (S.Store.view self.old.store) (S.Store.faults self.old.store) (S.Store.faults self.new.store)
+            ⊥ (IsDamaged (S.Store.view self.old.store).trees)) }
+        ensures counts { S.Store.faults self.old.store ≤ S.Store.faults self.new.store }
         ensures crash { (db : Trees) → S.Store.recovers self.new.store db → S.Store.recovers self.old.store db }
     {
         if self.held.is_shut {

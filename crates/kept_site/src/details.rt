@@ -1,11 +1,12 @@
 //! The details of a site's credentials.
 
-ghost use Rattle.std.specs.Prelude.{◌≡◌, IfErr, IfOk, OnOk, false, option_map, true};
+ghost use Rattle.std.specs.Prelude.{◌≡◌, ◌≤◌, IfErr, IfOk, OnOk, false, option_map, true};
 ghost use Rattle.std.specs.FinMap as finite;
 ghost use Rattle.sqlite_trees.specs.Tree.{Trees};
-ghost use Rattle.sqlite_trees.specs.View.{IsClean};
+ghost use Rattle.sqlite_trees.specs.View.{IsClean, IsStorableRow};
 ghost use Rattle.credential_store.specs.Held.{IsSameView};
-ghost use Rattle.credential_store.specs.Details.{Details, HoldsDetails, IsDetailed, detail_view, used};
+ghost use Rattle.credential_store.specs.Details.{Details, HoldsDetails, IsDetailed, detail_row, detail_view, used};
+ghost use Rattle.kept_site.specs.Causes.{IsCaused};
 ghost use Rattle.kept_site.specs.State.{IsReady};
 ghost use Rattle.kept_site.specs.declared.failure.Failure.TheVariants as failures;
 
@@ -24,6 +25,8 @@ impl<S: Store> SiteStore<S> {
         ensures same { OnOk result (IsSameView (S.Store.view self.old.store) (S.Store.view self.new.store)) }
         ensures kept { OnOk result (self.new ≡ record self.old { store = self.new.store }) }
         ensures failed { IfErr result (λ e. (self.new.is_shut ≡ true) × (self.new.reserved ≡ self.old.reserved) × (self.new.durable ≡ self.old.durable) × (e ≡ failures.Shut → ⊥)) }
+        ensures cause { IsClean (S.Store.view self.new.store) → IfErr result (IsCaused (S.Store.view self.old.store) (S.Store.faults self.old.store) (S.Store.faults self.new.store) ⊥ ⊥) }
+        ensures counts { S.Store.faults self.old.store ≤ S.Store.faults self.new.store }
         ensures crash { (db : Trees) → S.Store.recovers self.new.store db → S.Store.recovers self.old.store db }
     {
         self.is_shut = true;
@@ -41,6 +44,9 @@ impl<S: Store> SiteStore<S> {
         ensures clean { IsClean (S.Store.view self.new.store) → IsClean (S.Store.view self.old.store) }
         ensures open { OnOk result ((self.new.is_shut ≡ false) × (self.new.is_pending ≡ true) × (self.new.reserved ≡ self.old.reserved) × (self.new.durable ≡ self.old.durable)) }
         ensures failed { IfErr result (λ e. (self.new.is_shut ≡ true) × (self.new.reserved ≡ self.old.reserved) × (self.new.durable ≡ self.old.durable) × (e ≡ failures.Shut → ⊥)) }
+        ensures cause { IsClean (S.Store.view self.new.store) → IfErr result (IsCaused (S.Store.view self.old.store) (S.Store.faults self.old.store) (S.Store.faults self.new.store)
+            (¬ IsStorableRow ((S.Store.view self.old.store).reals 5) (detail_row place (detail_view detail.now))) ⊥) }
+        ensures counts { S.Store.faults self.old.store ≤ S.Store.faults self.new.store }
         ensures crash { (db : Trees) → S.Store.recovers self.new.store db → S.Store.recovers self.old.store db }
     {
         self.is_shut = true;
@@ -59,6 +65,9 @@ impl<S: Store> SiteStore<S> {
         ensures clean { IsClean (S.Store.view self.new.store) → IsClean (S.Store.view self.old.store) }
         ensures open { OnOk result ((self.new.is_shut ≡ false) × (self.new.is_pending ≡ true) × (self.new.reserved ≡ self.old.reserved) × (self.new.durable ≡ self.old.durable)) }
         ensures failed { IfErr result (λ e. (self.new.is_shut ≡ true) × (self.new.reserved ≡ self.old.reserved) × (self.new.durable ≡ self.old.durable) × (e ≡ failures.Shut → ⊥)) }
+        ensures cause { IsClean (S.Store.view self.new.store) → IfErr result (IsCaused (S.Store.view self.old.store) (S.Store.faults self.old.store) (S.Store.faults self.new.store)
+            ((details : Details) → HoldsDetails details (S.Store.view self.old.store).trees → ¬ IsStorableRow ((S.Store.view self.old.store).reals 5) (detail_row place (used now (finite.get details place)))) ⊥) }
+        ensures counts { S.Store.faults self.old.store ≤ S.Store.faults self.new.store }
         ensures crash { (db : Trees) → S.Store.recovers self.new.store db → S.Store.recovers self.old.store db }
     {
         self.is_shut = true;
@@ -77,6 +86,8 @@ impl<S: Store> SiteStore<S> {
         ensures clean { IsClean (S.Store.view self.new.store) → IsClean (S.Store.view self.old.store) }
         ensures open { OnOk result ((self.new.is_shut ≡ false) × (self.new.is_pending ≡ true) × (self.new.reserved ≡ self.old.reserved) × (self.new.durable ≡ self.old.durable)) }
         ensures failed { IfErr result (λ e. (self.new.is_shut ≡ true) × (self.new.reserved ≡ self.old.reserved) × (self.new.durable ≡ self.old.durable) × (e ≡ failures.Shut → ⊥)) }
+        ensures cause { IsClean (S.Store.view self.new.store) → IfErr result (IsCaused (S.Store.view self.old.store) (S.Store.faults self.old.store) (S.Store.faults self.new.store) ⊥ ⊥) }
+        ensures counts { S.Store.faults self.old.store ≤ S.Store.faults self.new.store }
         ensures crash { (db : Trees) → S.Store.recovers self.new.store db → S.Store.recovers self.old.store db }
     {
         self.is_shut = true;

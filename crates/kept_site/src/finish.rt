@@ -1,6 +1,6 @@
 //! Finishing a sign-in (WebAuthn Level 2, section 7.2).
 
-ghost use Rattle.std.specs.Prelude.{◌≡◌, IfErr, IfOk, IsErrOf, OnOk, false, option_map, true};
+ghost use Rattle.std.specs.Prelude.{◌≡◌, ◌≤◌, IfErr, IfOk, IsErrOf, OnOk, false, option_map, true};
 ghost use Rattle.sqlite_trees.specs.Tree.{Trees};
 ghost use Rattle.sqlite_trees.specs.View.{IsClean};
 ghost use Rattle.verification.specs.SignInAnswers.{IsRefused};
@@ -12,7 +12,8 @@ ghost use Rattle.ceremony_sessions.specs.Sessions.{sign_in_at};
 ghost use Rattle.timed_sessions.specs.Timed.{after_end};
 ghost use Rattle.kept_site.specs.State.{IsHeld, IsReady};
 ghost use Rattle.kept_site.specs.Calls.{IsNotFinished, IsOneSite, RefusesSignIn, SignsIn, TellsUsed};
-ghost use Rattle.kept_site.specs.Private.{IsStopped, SignsInAs, credential_of, judged};
+ghost use Rattle.kept_site.specs.Causes.{IfFinishStore, IsCaused, IsDamaged, RefusesSignedIn};
+ghost use Rattle.kept_site.specs.Private.{IsStopped, RefusesFound, SignsInAs, credential_of, judged};
 ghost use Rattle.kept_site.specs.declared.failure.Failure.TheVariants as failures;
 ghost use Rattle.kept_site.specs.declared.failure.FinishFailure.TheVariants as finishes;
 
@@ -99,6 +100,9 @@ fn sign_in_found<S: Store, V: Verifier>(
     ensures open { OnOk result (held.new.is_shut ≡ false) }
     ensures reserved { (held.new.reserved ≡ held.old.reserved) × (held.new.durable ≡ held.old.durable) }
     ensures clean { IsClean (S.Store.view held.new.store) → IsClean (S.Store.view held.old.store) }
+    ensures cause { IsClean (S.Store.view held.new.store) → IfErr result (IfFinishStore (IsCaused (S.Store.view held.old.store) (S.Store.faults held.old.store) (S.Store.faults held.new.store)
+        (RefusesFound (S.Store.view held.old.store) party.now.profile found.now (assertion_parts_view response.now) now) ⊥)) }
+    ensures counts { S.Store.faults held.old.store ≤ S.Store.faults held.new.store }
     ensures crash { (db : Trees) → S.Store.recovers held.new.store db → S.Store.recovers held.old.store db }
 {
     let alloc = held.alloc;
@@ -150,6 +154,9 @@ impl<S: Store> KeptSite<S> {
             → IsHeld placed self.old (S.Store.view self.old.store).trees
             → RefusesSignIn (V.valid verifier.now) placed self.old session (assertion_parts_view response.now) why)) }
         ensures shut { self.old.is_shut ≡ true → IsErrOf result (finishes.Store failures.Shut) }
+        ensures cause { IsClean (S.Store.view self.new.store) → IfErr result (IfFinishStore (IsCaused (S.Store.view self.old.store) (S.Store.faults self.old.store) (S.Store.faults self.new.store)
+            (RefusesSignedIn (S.Store.view self.old.store) self.old.rp.profile (assertion_parts_view response.now) now) (IsDamaged (S.Store.view self.old.store).trees))) }
+        ensures counts { S.Store.faults self.old.store ≤ S.Store.faults self.new.store }
         ensures crash { (db : Trees) → S.Store.recovers self.new.store db → S.Store.recovers self.old.store db }
     {
         if self.held.is_shut {

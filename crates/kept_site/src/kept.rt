@@ -10,6 +10,7 @@ ghost use Rattle.credential_store.specs.Held.{Placed};
 ghost use Rattle.timed_sessions.specs.Timed.{after_end, since};
 ghost use Rattle.kept_site.specs.State.{IsHeld, IsSound, to_commit, with_site};
 ghost use Rattle.kept_site.specs.Calls.{IsCommit, IsFailure};
+ghost use Rattle.kept_site.specs.Causes.{IsCaused, RefusesNumber};
 ghost use Rattle.kept_site.specs.declared.failure.Failure.TheVariants as failures;
 
 use crate::failure::Failure;
@@ -137,6 +138,9 @@ impl<S: Store> KeptSite<S> {
         // In it a crash leaves all or nothing of it.
         ensures crash { (db : Trees) → S.Store.recovers self.new.store db
             → (db ≡ with_site self.old.rp.rp_id (to_commit self.old.durable self.old.reserved) (S.Store.view self.old.store).trees) ⊎ S.Store.recovers self.old.store db }
+        ensures cause { IsClean (S.Store.view self.new.store) → IfErr result (IsCaused (S.Store.view self.old.store) (S.Store.faults self.old.store) (S.Store.faults self.new.store)
+            (RefusesNumber (S.Store.view self.old.store) self.old.rp.rp_id (to_commit self.old.durable self.old.reserved)) ⊥) }
+        ensures counts { S.Store.faults self.old.store ≤ S.Store.faults self.new.store }
         ensures failed { IfErr result (IsFailure self.old self.new) }
         ensures shut { self.old.is_shut ≡ true → IsErrOf result failures.Shut }
     {

@@ -1,15 +1,19 @@
 //! The credentials as a list.
 
-ghost use Rattle.std.specs.Prelude.{◌≡◌, [], ◌∷◌, IfErr, IfOk, IfSome, IsErrOf, IsSome, List, ℕ, OnOk, None, Some, filter, true};
+ghost use Rattle.std.specs.Prelude.{◌≡◌, ◌≤◌, ◌^◌, ◌-◌, ◌⊎◌, [], ◌∷◌, IfErr, IfOk, IfSome, IsErrOf, IsSome, List, ℕ, OnOk, None, Some, filter, length, true};
 ghost use Rattle.std.specs.Str.{bytes_eq};
 ghost use Rattle.sqlite_value.specs.Order.{Row as Columns};
+ghost use Rattle.sqlite_disk.specs.Disk.{MoreFaults};
 ghost use Rattle.sqlite_trees.specs.Tree.{Trees};
-ghost use Rattle.sqlite_trees.specs.View.{IsClean};
+ghost use Rattle.sqlite_trees.specs.View.{HasCause, IsClean};
 ghost use Rattle.credential_table.specs.Views.{row_view, rows_view};
-ghost use Rattle.credential_store.specs.Held.{IsSameView, Placed, placed_rows, rows_of};
+ghost use Rattle.credential_store.specs.Causes.{HasReadCause};
+ghost use Rattle.credential_store.specs.Held.{Holds, IsSameView, Placed, placed_rows, rows_of};
 ghost use Rattle.credential_store.specs.Rows.{credential_row};
 ghost use Rattle.kept_site.specs.State.{IsHeld};
 ghost use Rattle.kept_site.specs.Calls.{IsFailure, IsSame};
+ghost use Rattle.kept_site.specs.Causes.{IsCaused};
+ghost use Rattle.kept_site.specs.Private.{AreCredentials, IsCredentialRow};
 ghost use Rattle.kept_site.specs.declared.failure.Failure.TheVariants as failures;
 
 use crate::failure::Failure;
@@ -24,7 +28,8 @@ use std::alloc::Global;
 
 /// The credential of a row.
 fn credential_of(alloc: Global, row: &Columns) -> Result<Row, StoreError>
-    ensures { IfOk result (λ c. (place : ℕ) × (row.now ≡ credential_row place (row_view c))) }
+    ensures read { IfOk result (λ c. (place : ℕ) × (row.now ≡ credential_row place (row_view c))) }
+    ensures cause { IfErr result (λ e. (e ≡ StoreError.OutOfMemory) ⊎ ((e ≡ StoreError.Corrupt) × (IsCredentialRow row.now → ⊥))) }
 {
     let Some(place) = int_at(row, 0) else {
         return Err(StoreError::Corrupt);
@@ -52,6 +57,10 @@ fn next_credential<S: Store>(
     ensures ended { IfOk result (λ found. found ≡ None → IsClean (S.Store.view store.new) → (left : List Columns)
         → (S.Store.view store.old).cursors 0 ≡ Some left → left ≡ []) }
     ensures same { OnOk result (IsSameView (S.Store.view store.old) (S.Store.view store.new)) }
+    ensures clean { IsClean (S.Store.view store.new) → IsClean (S.Store.view store.old) }
+    ensures cause { IsClean (S.Store.view store.new) → IfErr result (λ e. HasCause (S.Store.view store.old) (MoreFaults (S.Store.faults store.old) (S.Store.faults store.new)) ⊥ e
+        ⊎ ((e ≡ StoreError.Corrupt) × ((left : List Columns) → (S.Store.view store.old).cursors 0 ≡ Some left → AreCredentials left → ⊥))) }
+    ensures counts { S.Store.faults store.old ≤ S.Store.faults store.new }
     ensures crash { (db : Trees) → S.Store.recovers store.new db → S.Store.recovers store.old db }
 {
     if !store.next(0, row)? {
@@ -66,12 +75,16 @@ fn read_all<S: Store>(alloc: Global, store: &mut S) -> Result<Vec<Row>, StoreErr
     ensures rows { IfOk result (λ rows. IsClean (S.Store.view store.new) → (placed : Placed) → (S.Store.view store.old).trees 0 ≡ placed_rows placed
         → rows_view rows.items ≡ rows_of placed) }
     ensures same { OnOk result (IsSameView (S.Store.view store.old) (S.Store.view store.new)) }
+    ensures clean { IsClean (S.Store.view store.new) → IsClean (S.Store.view store.old) }
+    ensures cause { IsClean (S.Store.view store.new) → IfErr result (HasReadCause (S.Store.view store.old) (MoreFaults (S.Store.faults store.old) (S.Store.faults store.new))
+        (λ placed. 2 ^ 32 - 1 ≤ length (rows_of placed))) }
+    ensures counts { S.Store.faults store.old ≤ S.Store.faults store.new }
     ensures crash { (db : Trees) → S.Store.recovers store.new db → S.Store.recovers store.old db }
 {
     begin_scan(alloc, store, 0)?;
     let mut row = Columns::new(alloc);
     let mut rows = Vec::new(alloc);
-    for _ in 0..u32::MAX {
+    for _read in 0..u32::MAX {
         let Some(credential) = next_credential(alloc, store, &mut row)? else {
             return Ok(rows);
         };
@@ -88,6 +101,9 @@ impl<S: Store> KeptSite<S> {
         ensures same { OnOk result (IsSame S.Store.view self.old self.new) }
         ensures failed { IfErr result (IsFailure self.old self.new) }
         ensures shut { self.old.is_shut ≡ true → IsErrOf result failures.Shut }
+        ensures cause { IsClean (S.Store.view self.new.store) → IfErr result (IsCaused (S.Store.view self.old.store) (S.Store.faults self.old.store) (S.Store.faults self.new.store)
+            ⊥ ((placed : Placed) → Holds placed (S.Store.view self.old.store).trees → 2 ^ 32 - 1 ≤ length (rows_of placed))) }
+        ensures counts { S.Store.faults self.old.store ≤ S.Store.faults self.new.store }
         ensures crash { (db : Trees) → S.Store.recovers self.new.store db → S.Store.recovers self.old.store db }
     {
         if self.held.is_shut {
@@ -106,6 +122,9 @@ impl<S: Store> KeptSite<S> {
         ensures same { OnOk result (IsSame S.Store.view self.old self.new) }
         ensures failed { IfErr result (IsFailure self.old self.new) }
         ensures shut { self.old.is_shut ≡ true → IsErrOf result failures.Shut }
+        ensures cause { IsClean (S.Store.view self.new.store) → IfErr result (IsCaused (S.Store.view self.old.store) (S.Store.faults self.old.store) (S.Store.faults self.new.store)
+            ⊥ ((placed : Placed) → Holds placed (S.Store.view self.old.store).trees → 2 ^ 32 - 1 ≤ length (filter (λ c. bytes_eq c.user user.now) (rows_of placed)))) }
+        ensures counts { S.Store.faults self.old.store ≤ S.Store.faults self.new.store }
         ensures crash { (db : Trees) → S.Store.recovers self.new.store db → S.Store.recovers self.old.store db }
     {
         if self.held.is_shut {

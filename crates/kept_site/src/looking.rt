@@ -1,6 +1,6 @@
 //! A credential by its id, and its detail.
 
-ghost use Rattle.std.specs.Prelude.{◌≡◌, IfErr, IfOk, IsErrOf, OnOk, option_map, true};
+ghost use Rattle.std.specs.Prelude.{◌≡◌, ◌≤◌, IfErr, IfOk, IsErrOf, OnOk, option_map, true};
 ghost use Rattle.sqlite_trees.specs.Tree.{Trees};
 ghost use Rattle.sqlite_trees.specs.View.{IsClean};
 ghost use Rattle.credential_table.specs.Views.{row_view};
@@ -8,6 +8,7 @@ ghost use Rattle.credential_store.specs.Held.{Placed};
 ghost use Rattle.credential_store.specs.Details.{Details, HoldsDetails, detail_view};
 ghost use Rattle.kept_site.specs.State.{IsHeld};
 ghost use Rattle.kept_site.specs.Calls.{IsFailure, IsFound, IsSame, TellsDetail};
+ghost use Rattle.kept_site.specs.Causes.{IsCaused, IsDamaged};
 ghost use Rattle.kept_site.specs.Private.{credential_of as credential_in};
 ghost use Rattle.kept_site.specs.declared.failure.Failure.TheVariants as failures;
 
@@ -35,6 +36,9 @@ impl<S: Store> KeptSite<S> {
         ensures same { OnOk result (IsSame S.Store.view self.old self.new) }
         ensures failed { IfErr result (IsFailure self.old self.new) }
         ensures shut { self.old.is_shut ≡ true → IsErrOf result failures.Shut }
+        ensures cause { IsClean (S.Store.view self.new.store) → IfErr result (IsCaused (S.Store.view self.old.store) (S.Store.faults self.old.store) (S.Store.faults self.new.store)
+            ⊥ (IsDamaged (S.Store.view self.old.store).trees)) }
+        ensures counts { S.Store.faults self.old.store ≤ S.Store.faults self.new.store }
         ensures crash { (db : Trees) → S.Store.recovers self.new.store db → S.Store.recovers self.old.store db }
     {
         if self.held.is_shut {
@@ -51,6 +55,9 @@ impl<S: Store> KeptSite<S> {
         ensures same { OnOk result (IsSame S.Store.view self.old self.new) }
         ensures failed { IfErr result (IsFailure self.old self.new) }
         ensures shut { self.old.is_shut ≡ true → IsErrOf result failures.Shut }
+        ensures cause { IsClean (S.Store.view self.new.store) → IfErr result (IsCaused (S.Store.view self.old.store) (S.Store.faults self.old.store) (S.Store.faults self.new.store)
+            ⊥ (IsDamaged (S.Store.view self.old.store).trees)) }
+        ensures counts { S.Store.faults self.old.store ≤ S.Store.faults self.new.store }
         ensures crash { (db : Trees) → S.Store.recovers self.new.store db → S.Store.recovers self.old.store db }
     {
         if self.held.is_shut {

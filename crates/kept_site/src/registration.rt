@@ -1,6 +1,6 @@
 //! Finishing a registration (WebAuthn Level 2, section 7.1).
 
-ghost use Rattle.std.specs.Prelude.{◌≡◌, ◌+◌, ◌&&◌, IfErr, IfOk, IsErrOf, IsSome, OnOk, None, Some, false, true, nat_lt, not};
+ghost use Rattle.std.specs.Prelude.{◌≡◌, ◌+◌, ◌≤◌, ◌&&◌, IfErr, IfOk, IsErrOf, IsSome, OnOk, None, Some, false, true, nat_lt, not};
 ghost use Rattle.std.specs.FinMap as finite;
 ghost use Rattle.sqlite_trees.specs.Tree.{Trees};
 ghost use Rattle.sqlite_trees.specs.View.{IsClean};
@@ -17,6 +17,7 @@ ghost use Rattle.ceremony_sessions.specs.Sessions.{registration_at};
 ghost use Rattle.timed_sessions.specs.Timed.{after_end};
 ghost use Rattle.kept_site.specs.State.{IsHeld, IsReady};
 ghost use Rattle.kept_site.specs.Calls.{IsNotFinished, IsOneSite, RefusesRegistration, Registers};
+ghost use Rattle.kept_site.specs.Causes.{IfFinishStore, IsCaused, IsDamaged, RefusesRegistered};
 ghost use Rattle.kept_site.specs.Private.{Admits, IsNotAdmitted, IsStopped, admitted_as};
 ghost use Rattle.kept_site.specs.declared.failure.Failure.TheVariants as failures;
 ghost use Rattle.kept_site.specs.declared.failure.FinishFailure.TheVariants as finishes;
@@ -87,6 +88,9 @@ fn judge<S: Store, V: Verifier>(
         held.new.is_shut (IsNotAdmitted (V.valid verifier.now) party.now policy (registration_at session sessions.now.open_sessions)
         (registration_parts_view response.now) is_full (S.Store.view held.old.store) (S.Store.view held.new.store))) }
     ensures reserved { (held.new.reserved ≡ held.old.reserved) × (held.new.durable ≡ held.old.durable) }
+    ensures cause { IsClean (S.Store.view held.new.store) → IfErr result (IfFinishStore (IsCaused (S.Store.view held.old.store) (S.Store.faults held.old.store) (S.Store.faults held.new.store)
+        ⊥ (IsDamaged (S.Store.view held.old.store).trees))) }
+    ensures counts { S.Store.faults held.old.store ≤ S.Store.faults held.new.store }
     ensures crash { (db : Trees) → S.Store.recovers held.new.store db → S.Store.recovers held.old.store db }
 {
     let verified = verify_registration(
@@ -154,6 +158,9 @@ impl<S: Store> KeptSite<S> {
             → IsHeld placed self.old (S.Store.view self.old.store).trees
             → RefusesRegistration (V.valid verifier.now) placed self.old session (registration_parts_view response.now) why)) }
         ensures shut { self.old.is_shut ≡ true → IsErrOf result (finishes.Store failures.Shut) }
+        ensures cause { IsClean (S.Store.view self.new.store) → IfErr result (IfFinishStore (IsCaused (S.Store.view self.old.store) (S.Store.faults self.old.store) (S.Store.faults self.new.store)
+            (RefusesRegistered (S.Store.view self.old.store) self.old session (registration_parts_view response.now) (detail_view detail.now)) (IsDamaged (S.Store.view self.old.store).trees))) }
+        ensures counts { S.Store.faults self.old.store ≤ S.Store.faults self.new.store }
         ensures crash { (db : Trees) → S.Store.recovers self.new.store db → S.Store.recovers self.old.store db }
     {
         if self.held.is_shut {

@@ -1,10 +1,12 @@
 //! The row of the relying party.
 
-ghost use Rattle.std.specs.Prelude.{◌≡◌, ◌<◌, ◌≤◌, ◌^◌, ℕ, List, IfOk, IsTrue, OnOk};
+ghost use Rattle.std.specs.Prelude.{◌≡◌, ◌<◌, ◌≤◌, ◌^◌, ℕ, List, IfErr, IfOk, IsTrue, OnOk};
+ghost use Rattle.sqlite_disk.specs.Disk.{MoreFaults};
 ghost use Rattle.sqlite_trees.specs.Tree.{Trees, put_row, rowid};
-ghost use Rattle.sqlite_trees.specs.View.{IsClean, OnlyWrites, SetsTree, is_int};
+ghost use Rattle.sqlite_trees.specs.View.{HasCause, IsClean, OnlyWrites, SetsTree, is_int};
 ghost use Rattle.sqlite_trees.specs.declared.store.Shape.TheVariants.{Table};
 ghost use Rattle.credential_store.specs.Held.{Placed};
+ghost use Rattle.kept_site.specs.Causes.{RefusesNumber};
 ghost use Rattle.kept_site.specs.State.{HoldsSite, moved_on, site_row, to_commit};
 
 use sqlite_trees::error::StoreError;
@@ -75,6 +77,9 @@ pub(crate) fn reserve<S: Store>(
     ensures set { OnOk result (IsClean (S.Store.view store.new) → SetsTree (S.Store.view store.old) (S.Store.view store.new) 2 (put_row (site_row rp_id.now next))) }
     ensures writes { OnOk result (IsClean (S.Store.view store.new) → OnlyWrites (S.Store.view store.old) (S.Store.view store.new)) }
     ensures clean { IsClean (S.Store.view store.new) → IsClean (S.Store.view store.old) }
+    ensures cause { IsClean (S.Store.view store.new) → IfErr result (HasCause (S.Store.view store.old) (MoreFaults (S.Store.faults store.old) (S.Store.faults store.new))
+        (RefusesNumber (S.Store.view store.old) rp_id.now next)) }
+    ensures counts { S.Store.faults store.old ≤ S.Store.faults store.new }
     ensures crash { (db : Trees) → S.Store.recovers store.new db → S.Store.recovers store.old db }
 {
     let row = site_row(alloc, rp_id, next)?;

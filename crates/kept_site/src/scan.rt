@@ -1,8 +1,9 @@
 //! Reading the rows of a tree.
 
-ghost use Rattle.std.specs.Prelude.{◌≡◌, [], IfOk, IsSome, IsTrue, OnOk, Some, false};
+ghost use Rattle.std.specs.Prelude.{◌≡◌, ◌≤◌, [], IfErr, IfOk, IsSome, IsTrue, OnOk, Some, false};
+ghost use Rattle.sqlite_disk.specs.Disk.{MoreFaults};
 ghost use Rattle.sqlite_trees.specs.Tree.{Trees};
-ghost use Rattle.sqlite_trees.specs.View.{IsClean};
+ghost use Rattle.sqlite_trees.specs.View.{HasCause, IsClean};
 ghost use Rattle.sqlite_trees.specs.declared.store.Shape.TheVariants.{Table};
 ghost use Rattle.credential_store.specs.Held.{HasTrees, IsSameView};
 ghost use Rattle.kept_site.specs.Private.{IsAtRest};
@@ -22,6 +23,9 @@ pub(crate) fn begin_scan<S: Store>(
     ensures first { OnOk result (IsClean (S.Store.view store.new) → (S.Store.view store.new).cursors 0 ≡ Some ((S.Store.view store.old).trees tree)) }
     ensures live { OnOk result (IsSome ((S.Store.view store.new).cursors 0)) }
     ensures same { OnOk result (IsSameView (S.Store.view store.old) (S.Store.view store.new)) }
+    ensures clean { IsClean (S.Store.view store.new) → IsClean (S.Store.view store.old) }
+    ensures cause { IsClean (S.Store.view store.new) → IfErr result (HasCause (S.Store.view store.old) (MoreFaults (S.Store.faults store.old) (S.Store.faults store.new)) ⊥) }
+    ensures counts { S.Store.faults store.old ≤ S.Store.faults store.new }
     ensures crash { (db : Trees) → S.Store.recovers store.new db → S.Store.recovers store.old db }
 {
     let key = Row::new(alloc);

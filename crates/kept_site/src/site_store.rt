@@ -3,11 +3,14 @@
 ghost use Rattle.std.specs.Prelude.{◌≡◌, ◌⊎◌, ◌+◌, ◌<◌, ◌≤◌, ◌^◌, ℕ, IfErr, IfOk, IfSome, IsTrue, OnErr, OnOk, None, Some, true, false};
 ghost use Rattle.std.specs.FinMap as finite;
 ghost use Rattle.sqlite_trees.specs.Tree.{Trees};
-ghost use Rattle.sqlite_trees.specs.View.{IsClean, OnlyWrites};
+ghost use Rattle.sqlite_trees.specs.View.{IsClean, IsStorableRow, OnlyWrites};
 ghost use Rattle.verification.specs.Records.{Credential};
 ghost use Rattle.verification.specs.Views.{credential_view};
 ghost use Rattle.credential_table.specs.Views.{row_view};
+ghost use Rattle.credential_store.specs.Causes.{IsRefused};
+ghost use Rattle.credential_store.specs.Rows.{credential_row};
 ghost use Rattle.credential_store.specs.Held.{HasNone, Holds, IsAt, IsSameView, IsWritten, Placed};
+ghost use Rattle.kept_site.specs.Causes.{IsCaused, IsDamaged, RefusesNumber};
 ghost use Rattle.kept_site.specs.Private.{IsFoundAs, TellsHad};
 ghost use Rattle.kept_site.specs.State.{HoldsSite, IsReady, with_site};
 ghost use Rattle.kept_site.specs.declared.failure.Failure.TheVariants as failures;
@@ -40,6 +43,9 @@ impl<S: Store> SiteStore<S> {
         ensures same { OnOk result (IsSameView (S.Store.view self.old.store) (S.Store.view self.new.store)) }
         ensures kept { OnOk result (self.new ≡ record self.old { store = self.new.store }) }
         ensures failed { IfErr result (λ e. (self.new.is_shut ≡ true) × (self.new.reserved ≡ self.old.reserved) × (self.new.durable ≡ self.old.durable) × (e ≡ failures.Shut → ⊥)) }
+        ensures cause { IsClean (S.Store.view self.new.store) → IfErr result (IsCaused (S.Store.view self.old.store) (S.Store.faults self.old.store) (S.Store.faults self.new.store)
+            ⊥ (IsDamaged (S.Store.view self.old.store).trees)) }
+        ensures counts { S.Store.faults self.old.store ≤ S.Store.faults self.new.store }
         ensures crash { (db : Trees) → S.Store.recovers self.new.store db → S.Store.recovers self.old.store db }
     {
         self.is_shut = true;
@@ -57,6 +63,9 @@ impl<S: Store> SiteStore<S> {
         ensures same { OnOk result (IsSameView (S.Store.view self.old.store) (S.Store.view self.new.store)) }
         ensures kept { OnOk result (self.new ≡ record self.old { store = self.new.store }) }
         ensures failed { IfErr result (λ e. (self.new.is_shut ≡ true) × (self.new.reserved ≡ self.old.reserved) × (self.new.durable ≡ self.old.durable) × (e ≡ failures.Shut → ⊥)) }
+        ensures cause { IsClean (S.Store.view self.new.store) → IfErr result (IsCaused (S.Store.view self.old.store) (S.Store.faults self.old.store) (S.Store.faults self.new.store)
+            ⊥ (IsDamaged (S.Store.view self.old.store).trees)) }
+        ensures counts { S.Store.faults self.old.store ≤ S.Store.faults self.new.store }
         ensures crash { (db : Trees) → S.Store.recovers self.new.store db → S.Store.recovers self.old.store db }
     {
         let found = self.find(id)?;
@@ -70,9 +79,13 @@ impl<S: Store> SiteStore<S> {
             → finite.get placed place ≡ Some was → (credential_view credential.now).id ≡ was.id → (credential_view credential.now).user ≡ was.user
             → IsWritten (S.Store.view self.old.store) (S.Store.view self.new.store) (finite.insert placed place (credential_view credential.now))) }
         ensures ready { OnOk result (IsClean (S.Store.view self.new.store) → IsReady (S.Store.view self.new.store) true) }
+        ensures reals { (S.Store.view self.new.store).reals ≡ (S.Store.view self.old.store).reals }
         ensures clean { IsClean (S.Store.view self.new.store) → IsClean (S.Store.view self.old.store) }
         ensures open { OnOk result ((self.new.is_shut ≡ false) × (self.new.is_pending ≡ true) × (self.new.reserved ≡ self.old.reserved) × (self.new.durable ≡ self.old.durable)) }
         ensures failed { IfErr result (λ e. (self.new.is_shut ≡ true) × (self.new.reserved ≡ self.old.reserved) × (self.new.durable ≡ self.old.durable) × (e ≡ failures.Shut → ⊥)) }
+        ensures cause { IsClean (S.Store.view self.new.store) → IfErr result (IsCaused (S.Store.view self.old.store) (S.Store.faults self.old.store) (S.Store.faults self.new.store)
+            (¬ IsStorableRow ((S.Store.view self.old.store).reals 0) (credential_row place (credential_view credential.now))) ⊥) }
+        ensures counts { S.Store.faults self.old.store ≤ S.Store.faults self.new.store }
         ensures crash { (db : Trees) → S.Store.recovers self.new.store db → S.Store.recovers self.old.store db }
     {
         self.is_shut = true;
@@ -89,9 +102,13 @@ impl<S: Store> SiteStore<S> {
             → finite.get placed place ≡ None → HasNone placed (credential_view credential.now).id
             → IsWritten (S.Store.view self.old.store) (S.Store.view self.new.store) (finite.insert placed place (credential_view credential.now))) }
         ensures ready { OnOk result (IsClean (S.Store.view self.new.store) → IsReady (S.Store.view self.new.store) true) }
+        ensures reals { (S.Store.view self.new.store).reals ≡ (S.Store.view self.old.store).reals }
         ensures clean { IsClean (S.Store.view self.new.store) → IsClean (S.Store.view self.old.store) }
         ensures open { OnOk result ((self.new.is_shut ≡ false) × (self.new.is_pending ≡ true) × (self.new.reserved ≡ self.old.reserved) × (self.new.durable ≡ self.old.durable)) }
         ensures failed { IfErr result (λ e. (self.new.is_shut ≡ true) × (self.new.reserved ≡ self.old.reserved) × (self.new.durable ≡ self.old.durable) × (e ≡ failures.Shut → ⊥)) }
+        ensures cause { IsClean (S.Store.view self.new.store) → IfErr result (IsCaused (S.Store.view self.old.store) (S.Store.faults self.old.store) (S.Store.faults self.new.store)
+            (IsRefused (S.Store.view self.old.store).reals place (credential_view credential.now)) ⊥) }
+        ensures counts { S.Store.faults self.old.store ≤ S.Store.faults self.new.store }
         ensures crash { (db : Trees) → S.Store.recovers self.new.store db → S.Store.recovers self.old.store db }
     {
         self.is_shut = true;
@@ -111,6 +128,8 @@ impl<S: Store> SiteStore<S> {
         ensures clean { IsClean (S.Store.view self.new.store) → IsClean (S.Store.view self.old.store) }
         ensures open { OnOk result ((self.new.is_shut ≡ false) × (self.new.is_pending ≡ true) × (self.new.reserved ≡ self.old.reserved) × (self.new.durable ≡ self.old.durable)) }
         ensures failed { IfErr result (λ e. (self.new.is_shut ≡ true) × (self.new.reserved ≡ self.old.reserved) × (self.new.durable ≡ self.old.durable) × (e ≡ failures.Shut → ⊥)) }
+        ensures cause { IsClean (S.Store.view self.new.store) → IfErr result (IsCaused (S.Store.view self.old.store) (S.Store.faults self.old.store) (S.Store.faults self.new.store) ⊥ ⊥) }
+        ensures counts { S.Store.faults self.old.store ≤ S.Store.faults self.new.store }
         ensures crash { (db : Trees) → S.Store.recovers self.new.store db → S.Store.recovers self.old.store db }
     {
         self.is_shut = true;
@@ -133,6 +152,9 @@ impl<S: Store> SiteStore<S> {
         ensures clean { IsClean (S.Store.view self.new.store) → IsClean (S.Store.view self.old.store) }
         ensures open { OnOk result ((self.new.is_shut ≡ false) × (self.new.is_pending ≡ true) × (self.new.durable ≡ self.old.durable)) }
         ensures failed { IfErr result (λ e. (self.new.is_shut ≡ true) × (self.new.reserved ≡ self.old.reserved) × (self.new.durable ≡ self.old.durable) × (e ≡ failures.Shut → ⊥)) }
+        ensures cause { IsClean (S.Store.view self.new.store) → IfErr result (IsCaused (S.Store.view self.old.store) (S.Store.faults self.old.store) (S.Store.faults self.new.store)
+            (RefusesNumber (S.Store.view self.old.store) rp_id.now reserved) ⊥) }
+        ensures counts { S.Store.faults self.old.store ≤ S.Store.faults self.new.store }
         ensures crash { (db : Trees) → S.Store.recovers self.new.store db → S.Store.recovers self.old.store db }
     {
         self.is_shut = true;
@@ -159,6 +181,9 @@ impl<S: Store> SiteStore<S> {
         ensures clean { IsClean (S.Store.view self.new.store) → IsClean (S.Store.view self.old.store) }
         ensures open { OnOk result ((self.new.is_shut ≡ false) × (self.new.durable ≡ self.old.durable)) }
         ensures failed { IfErr result (λ e. (self.new.is_shut ≡ true) × (self.new.reserved ≡ self.old.reserved) × (self.new.durable ≡ self.old.durable) × (e ≡ failures.Shut → ⊥)) }
+        ensures cause { IsClean (S.Store.view self.new.store) → IfErr result (IsCaused (S.Store.view self.old.store) (S.Store.faults self.old.store) (S.Store.faults self.new.store)
+            (RefusesNumber (S.Store.view self.old.store) rp_id.now (next + 999)) ⊥) }
+        ensures counts { S.Store.faults self.old.store ≤ S.Store.faults self.new.store }
         ensures crash { (db : Trees) → S.Store.recovers self.new.store db → S.Store.recovers self.old.store db }
     {
         if next <= self.reserved {
@@ -176,6 +201,8 @@ impl<S: Store> SiteStore<S> {
         ensures clean { IsClean (S.Store.view self.new.store) → IsClean (S.Store.view self.old.store) }
         ensures open { OnOk result ((self.new.is_shut ≡ false) × (self.new.is_pending ≡ false) × (self.new.reserved ≡ self.old.reserved) × (self.new.durable ≡ self.old.reserved)) }
         ensures failed { IfErr result (λ e. (self.new.is_shut ≡ true) × (self.new.reserved ≡ self.old.reserved) × (self.new.durable ≡ self.old.durable) × (e ≡ failures.Shut → ⊥)) }
+        ensures cause { IsClean (S.Store.view self.new.store) → IfErr result (IsCaused (S.Store.view self.old.store) (S.Store.faults self.old.store) (S.Store.faults self.new.store) ⊥ ⊥) }
+        ensures counts { S.Store.faults self.old.store ≤ S.Store.faults self.new.store }
         ensures crash { (db : Trees) → S.Store.recovers self.new.store db
             → (IsClean (S.Store.view self.old.store) × (db ≡ (S.Store.view self.old.store).trees)) ⊎ S.Store.recovers self.old.store db }
     {

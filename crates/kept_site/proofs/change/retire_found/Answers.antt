@@ -4,6 +4,10 @@ use Rattle.std.specs.FinMap as finite
 use Rattle.credential_table.specs.Table.{retired}
 use Rattle.credential_table.specs.Views.{row_view}
 use Rattle.credential_store.specs.Held.{IsWritten}
+use Rattle.credential_store.proofs.Causes.{passed_up}
+use Rattle.sqlite_trees.specs.View.{IsStorableRow}
+use Rattle.credential_store.specs.Rows.{credential_row}
+use Rattle.kept_site.proofs.Causes.{caused_as}
 use Rattle.kept_site.proofs.change.retire_found.Goals as goal
 
 pub returns-clause-told : goal.returns-clause-told
@@ -16,3 +20,13 @@ returns-clause-told g c = (
       subst (λ x. IsWritten (g.S.Store.view c.args.held.now.store) (g.S.Store.view c.set.new.self.store) (finite.insert placed c.in-Some.found.place x)) is
       (c.in_ok-set.ensures.written clean placed (row_view c.in-Some.found.credential) holds there (ap (λ x. x.id) is) (ap (λ x. x.user) is)),
 )
+
+pub returns-in_err-set-clause-cause : goal.returns-in_err-set-clause-cause
+returns-in_err-set-clause-cause g c = λ clean.
+    passed_up c.from_residual.result c.in_err-set.field-0.0 _ c.from_residual.ensures.1
+    (caused_as (g.S.Store.view c.args.held.now.store) _ _ _ _ _ _ _
+    (λ no. (
+      c.in-Some.found,
+      c.in-Some.is,
+      subst (λ x. ¬ IsStorableRow ((g.S.Store.view c.args.held.now.store).reals 0) (credential_row c.in-Some.found.place x)) (c.retired.ensures ∙ ap retired c.lent.ensures) no,
+    )) (λ no. no) (c.in_err-set.ensures.cause clean))

@@ -1,13 +1,19 @@
 -- What is owed of `sign_in_found`.
-use Rattle.std.proofs.Common.{◌∙◌, ap, rules, sym, subst}
+use Rattle.std.proofs.Common.{◌∙◌, ℕ, ap, inl, inr, rules, sym, subst}
 use Rattle.std.specs.FinMap as finite
 use Rattle.std.specs.Option.{option_copied}
 use Rattle.verification.specs.SignIn.{PassesSignIn}
 use Rattle.verification.specs.Views.{assertion_parts_view}
 use Rattle.credential_table.specs.Views.{row_view}
 use Rattle.credential_store.specs.Held.{IsWritten}
-use Rattle.credential_store.specs.Details.{IsDetailed, used}
+use Rattle.credential_store.specs.Details.{IsDetailed, detail_row, used}
 use Rattle.kept_site.proofs.Signing.{same_attempt, same_counted}
+use Rattle.credential_store.proofs.Causes.{passed_up}
+use Rattle.sqlite_trees.specs.View.{IsStorableRow}
+use Rattle.credential_store.specs.Rows.{credential_row}
+use Rattle.kept_site.specs.declared.failure.FinishFailure.TheVariants as finishes
+use Rattle.kept_site.proofs.Causes.{caused_as, caused_since}
+use Rattle.kept_site.proofs.Held.{details_stay}
 use Rattle.kept_site.proofs.finish.sign_in_found.Goals as goal
 
 pub returns-clause-accepted : goal.returns-clause-accepted
@@ -35,3 +41,36 @@ returns-clause-accepted g c =
             (λ details. finite.insert details at.place (used n (finite.get details at.place)))) (search rules) (c.in_ok-mark_used.ensures.used clean),
       );
     }
+
+pub returns-in_err-set-clause-cause : goal.returns-in_err-set-clause-cause
+returns-in_err-set-clause-cause g c = λ clean.
+    let old = g.S.Store.view c.args.held.now.store in
+    let tells = c.in_ok-verified.ensures.accepted.1 in
+    let at = c.unwrap-found.result.now in
+    let is = c.counted.ensures ∙ same_counted _ _ _ _ _ _ c.lent-credential.ensures tells.2 tells.3 in
+    passed_up c.from_residual-in_err-set.result (finishes.Store c.in_err-set.field-0.0) _ c.from_residual-in_err-set.ensures.1
+    (caused_as old _ _ _ _ _ _ _
+    (λ no. (
+      at,
+      sym c.as_ref.ensures.value ∙ ap option_copied c.unwrap-found.ensures,
+      inl (tells.0, tells.1, subst (λ x. ¬ IsStorableRow (old.reals 0) (credential_row at.place x)) is no),
+    )) (λ no. no) (c.in_err-set.ensures.cause clean))
+
+pub returns-in_err-mark_used-clause-cause : goal.returns-in_err-mark_used-clause-cause
+returns-in_err-mark_used-clause-cause g c = λ clean.
+    let old = g.S.Store.view c.args.held.now.store in
+    let mid = g.S.Store.view c.set.new.self.store in
+    let tells = c.in_ok-verified.ensures.accepted.1 in
+    let at = c.unwrap-found.result.now in
+    let is = c.counted.ensures ∙ same_counted _ _ _ _ _ _ c.lent-credential.ensures tells.2 tells.3 in
+    passed_up c.from_residual-in_err-mark_used.result (finishes.Store c.in_err-mark_used.field-0.0) _ c.from_residual-in_err-mark_used.ensures.1
+    (caused_since old mid _ _ _ _ _ _ _ _ c.in_ok-set.ensures.counts
+    (λ no. (
+      at,
+      sym c.as_ref.ensures.value ∙ ap option_copied c.unwrap-found.ensures,
+      inr (λ placed holds there details d.
+          let w = c.in_ok-set.ensures.written (c.in_err-mark_used.ensures.clean clean) placed (row_view at.credential) holds there (ap (λ x. x.id) is) (ap (λ x. x.user) is) in
+          subst (λ (k : ℕ → ℕ). ¬ IsStorableRow (k 5) (detail_row at.place (used c.args.now (finite.get details at.place)))) c.in_ok-set.ensures.reals
+          (subst (λ n. ¬ IsStorableRow (mid.reals 5) (detail_row at.place (used n (finite.get details at.place)))) (search rules)
+          (no details (details_stay old mid _ details w d)))),
+    )) (λ no. no) (c.in_err-mark_used.ensures.cause clean))

@@ -1,17 +1,21 @@
 -- What the loop of `read_all` keeps.
-use Rattle.std.proofs.Common.{◌≡◌, IsSome, List, Some}
+use Rattle.std.proofs.Common.{◌≡◌, ◌≤◌, IsSome, List, Some, length}
 use Rattle.sqlite_value.specs.Order.{Row as Columns}
 use Rattle.sqlite_trees.specs.Tree.{Trees}
 use Rattle.sqlite_trees.specs.View.{IsClean}
 use Rattle.credential_table.specs.Views.{rows_view}
 use Rattle.credential_store.specs.Held.{IsSameView}
+use Rattle.kept_site.specs.Private.{AreCredentials}
 use Rattle.kept_site.proofs.ReadTo.{IsReadTo}
 use Rattle.kept_site.proofs.listing.read_all.Given as goal
 
-abbrev pub invariant-loop : goal.invariant-loop
-invariant-loop g l =
+abbrev pub invariant-loop-read : goal.invariant-loop-read
+invariant-loop-read g l =
     IsSome ((g.S.Store.view l.store).cursors 0)
     × IsSameView (g.S.Store.view l.fn.store) (g.S.Store.view l.store)
     × ((db : Trees) → g.S.Store.recovers l.store db → g.S.Store.recovers l.fn.store db)
     × (IsClean (g.S.Store.view l.store) → (left : List Columns) × ((g.S.Store.view l.store).cursors 0 ≡ Some left)
-    × IsReadTo ((g.S.Store.view l.fn.store).trees 0) (rows_view l.rows.items) left)
+    × IsReadTo ((g.S.Store.view l.fn.store).trees 0) (rows_view l.rows.items) left
+    × (AreCredentials ((g.S.Store.view l.fn.store).trees 0) → AreCredentials left))
+    × (g.S.Store.faults l.fn.store ≤ g.S.Store.faults l.store)
+    × (length l.rows.items ≡ l._read)

@@ -3,8 +3,12 @@ use Rattle.std.proofs.Common.{◌≡◌, ap, rules, sym, subst, refl, ◌∙◌}
 use Rattle.std.proofs.lemmas.Result.{err_from_is_err_and}
 use Rattle.verification.specs.Views.{assertion_parts_view}
 use Rattle.ceremony_sessions.specs.Sessions.{sign_in_at}
-use Rattle.kept_site.proofs.Finishing.{not_finished, refuses, signs_in, tells_used}
+use Rattle.kept_site.proofs.Finishing.{not_finished, refuses, refuses_signed_in, signs_in, tells_used}
+use Rattle.kept_site.specs.Causes.{RefusesSignedIn}
 use Rattle.kept_site.specs.Private.{SignsInAs}
+use Rattle.credential_store.proofs.Causes.{passed_up}
+use Rattle.kept_site.specs.declared.failure.FinishFailure.TheVariants as finishes
+use Rattle.kept_site.proofs.Causes.{caused_as, caused_since, if_finish_store}
 use Rattle.kept_site.proofs.kept.KeptSite.finish_parts.Goals as goal
 
 pub returns-clause-accepted : goal.returns-clause-accepted
@@ -55,3 +59,24 @@ returns-in_err-signed_in-clause-refused g c =
     (λ e refused clean placed held. refuses (g.V.Verifier.valid c.args.verifier.now) placed c.self.inside.party
     (sign_in_at c.args.session c.self.inside.sessions.open_sessions) (assertion_parts_view c.args.response.now) c.in_ok-found.found e (c.in_ok-found.ensures.found (c.in_err-signed_in.ensures.clean clean) placed held.holds.credentials) refused)
     c.in_err-signed_in.ensures.refused)
+
+pub returns-in_err-found-clause-cause : goal.returns-in_err-found-clause-cause
+returns-in_err-found-clause-cause g c =
+    rw (← c.self.view_is) (λ clean.
+    passed_up c.from_residual.result (finishes.Store c.in_err-found.field-0.0) _ c.from_residual.ensures.1
+    (caused_as (g.S.Store.view c.self.inside.held.store) _ _ _ _ _ _ _ (λ no. absurd no) (λ damage. damage) (c.in_err-found.ensures.cause clean)))
+
+pub returns-in_err-signed_in-clause-cause : goal.returns-in_err-signed_in-clause-cause
+returns-in_err-signed_in-clause-cause g c =
+    rw (← c.self.view_is) (λ clean.
+    let old = (g.S.Store.view c.self.inside.held.store) in
+    let mid = g.S.Store.view c.find.new.self.store in
+    let before = c.in_err-signed_in.ensures.clean clean in
+    let same = c.in_ok-found.ensures.same.view before in
+    passed_up c.from_residual-in_err-signed_in.result c.in_err-signed_in.field-0.0 _ c.from_residual-in_err-signed_in.ensures.1
+    (if_finish_store _ _ c.in_err-signed_in.field-0.0
+    (λ why. caused_since old mid _ _ _ _ _ _ _ why c.in_ok-found.ensures.counts
+    (λ no. subst (λ n. RefusesSignedIn old c.self.inside.party.profile (assertion_parts_view c.args.response.now) n) (search rules)
+    (refuses_signed_in old mid c.self.inside.party.profile c.in_ok-found.found (assertion_parts_view c.args.response.now) _
+    (ap (λ v. v.trees) same) (ap (λ v. v.reals) same) (c.in_ok-found.ensures.found before) no)) (λ no. absurd no))
+    (c.in_err-signed_in.ensures.cause clean)))
