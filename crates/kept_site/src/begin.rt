@@ -49,7 +49,7 @@ impl<S: Store> KeptSite<S> {
         ensures refused { IfErr result (IsNotBegun self.old self.new (OpensSignIn (option_map (λ u. u.now) user.entry) (map (λ id. id.now) allow.now) uv words)) }
         // However many sessions are open.
         ensures room { IfErr result (λ e. e ≡ begins.Site BeginError.SessionsFull → ⊥) }
-        ensures clean { OnOk result (IsClean (S.Store.view self.new.store) → IsClean (S.Store.view self.old.store)) }
+        ensures clean { IsClean (S.Store.view self.new.store) → IsClean (S.Store.view self.old.store) }
         ensures shut { self.old.is_shut ≡ true → IsErrOf result (begins.Store failures.Shut) }
         ensures cause { IsClean (S.Store.view self.new.store) → IfErr result (IfBeginStore (IsCaused (S.Store.view self.old.store) (S.Store.faults self.old.store) (S.Store.faults self.new.store)
             (RefusesNumber (S.Store.view self.old.store) self.old.rp.rp_id (self.old.timed.open_sessions.next + 1000)) ⊥)) }
@@ -89,7 +89,7 @@ impl<S: Store> KeptSite<S> {
         ensures refused { IfErr result (IsNotBegun self.old self.new (OpensRegistration user.now algorithms.now uv words usual)) }
         // However many sessions are open.
         ensures room { IfErr result (λ e. e ≡ begins.Site BeginError.SessionsFull → ⊥) }
-        ensures clean { OnOk result (IsClean (S.Store.view self.new.store) → IsClean (S.Store.view self.old.store)) }
+        ensures clean { IsClean (S.Store.view self.new.store) → IsClean (S.Store.view self.old.store) }
         ensures shut { self.old.is_shut ≡ true → IsErrOf result (begins.Store failures.Shut) }
         ensures cause { IsClean (S.Store.view self.new.store) → IfErr result (IfBeginStore (IsCaused (S.Store.view self.old.store) (S.Store.faults self.old.store) (S.Store.faults self.new.store)
             (RefusesNumber (S.Store.view self.old.store) self.old.rp.rp_id (self.old.timed.open_sessions.next + 1000)) ⊥)) }
@@ -118,7 +118,7 @@ impl<S: Store> KeptSite<S> {
         ensures refused { IfErr result (IsNotBegun self.old self.new (OpensRegistration user.now algorithms.now uv words asks)) }
         // However many sessions are open.
         ensures room { IfErr result (λ e. e ≡ begins.Site BeginError.SessionsFull → ⊥) }
-        ensures clean { OnOk result (IsClean (S.Store.view self.new.store) → IsClean (S.Store.view self.old.store)) }
+        ensures clean { IsClean (S.Store.view self.new.store) → IsClean (S.Store.view self.old.store) }
         ensures shut { self.old.is_shut ≡ true → IsErrOf result (begins.Store failures.Shut) }
         ensures cause { IsClean (S.Store.view self.new.store) → IfErr result (IfBeginStore (IsCaused (S.Store.view self.old.store) (S.Store.faults self.old.store) (S.Store.faults self.new.store)
             (RefusesNumber (S.Store.view self.old.store) self.old.rp.rp_id (self.old.timed.open_sessions.next + 1000)) ⊥)) }

@@ -23,6 +23,7 @@ impl<S: Store> SiteStore<S> {
         ensures found { IfOk result (λ found. IsClean (S.Store.view self.new.store) → (details : Details)
             → HoldsDetails details (S.Store.view self.old.store).trees → option_map detail_view found ≡ finite.get details place) }
         ensures same { OnOk result (IsSameView (S.Store.view self.old.store) (S.Store.view self.new.store)) }
+        ensures clean { IsClean (S.Store.view self.new.store) → IsClean (S.Store.view self.old.store) }
         ensures kept { OnOk result (self.new ≡ record self.old { store = self.new.store }) }
         ensures failed { IfErr result (λ e. (self.new.is_shut ≡ true) × (self.new.reserved ≡ self.old.reserved) × (self.new.durable ≡ self.old.durable) × (e ≡ failures.Shut → ⊥)) }
         ensures cause { IsClean (S.Store.view self.new.store) → IfErr result (IsCaused (S.Store.view self.old.store) (S.Store.faults self.old.store) (S.Store.faults self.new.store) ⊥ ⊥) }

@@ -34,6 +34,7 @@ impl<S: Store> KeptSite<S> {
         ensures found { IfOk result (λ c. IsClean (S.Store.view self.new.store) → (placed : Placed) → IsHeld placed self.old (S.Store.view self.old.store).trees
             → IsFound placed id.now (option_map row_view c)) }
         ensures same { OnOk result (IsSame S.Store.view self.old self.new) }
+        ensures clean { IsClean (S.Store.view self.new.store) → IsClean (S.Store.view self.old.store) }
         ensures failed { IfErr result (IsFailure self.old self.new) }
         ensures shut { self.old.is_shut ≡ true → IsErrOf result failures.Shut }
         ensures cause { IsClean (S.Store.view self.new.store) → IfErr result (IsCaused (S.Store.view self.old.store) (S.Store.faults self.old.store) (S.Store.faults self.new.store)
@@ -53,6 +54,7 @@ impl<S: Store> KeptSite<S> {
         ensures told { IfOk result (λ d. IsClean (S.Store.view self.new.store) → (placed : Placed) → IsHeld placed self.old (S.Store.view self.old.store).trees
             → (details : Details) → HoldsDetails details (S.Store.view self.old.store).trees → TellsDetail placed id.now details (option_map detail_view d)) }
         ensures same { OnOk result (IsSame S.Store.view self.old self.new) }
+        ensures clean { IsClean (S.Store.view self.new.store) → IsClean (S.Store.view self.old.store) }
         ensures failed { IfErr result (IsFailure self.old self.new) }
         ensures shut { self.old.is_shut ≡ true → IsErrOf result failures.Shut }
         ensures cause { IsClean (S.Store.view self.new.store) → IfErr result (IsCaused (S.Store.view self.old.store) (S.Store.faults self.old.store) (S.Store.faults self.new.store)

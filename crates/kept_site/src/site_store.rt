@@ -41,6 +41,7 @@ impl<S: Store> SiteStore<S> {
         ensures found { IfOk result (λ found. IsClean (S.Store.view self.new.store) → (placed : Placed)
             → Holds placed (S.Store.view self.old.store).trees → IsFoundAs placed id.now found) }
         ensures same { OnOk result (IsSameView (S.Store.view self.old.store) (S.Store.view self.new.store)) }
+        ensures clean { IsClean (S.Store.view self.new.store) → IsClean (S.Store.view self.old.store) }
         ensures kept { OnOk result (self.new ≡ record self.old { store = self.new.store }) }
         ensures failed { IfErr result (λ e. (self.new.is_shut ≡ true) × (self.new.reserved ≡ self.old.reserved) × (self.new.durable ≡ self.old.durable) × (e ≡ failures.Shut → ⊥)) }
         ensures cause { IsClean (S.Store.view self.new.store) → IfErr result (IsCaused (S.Store.view self.old.store) (S.Store.faults self.old.store) (S.Store.faults self.new.store)

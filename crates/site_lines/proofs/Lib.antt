@@ -2,6 +2,7 @@ pub mod Kept
 pub mod Asked
 pub mod Finished
 pub mod Detailed
+pub mod Caused
 pub mod Batched
 pub mod Shallow
 pub mod Accepted

@@ -1,5 +1,6 @@
 pub mod Answers
 pub mod Details
+pub mod Causes
 pub mod Batches
 pub mod Private
 pub mod Options

@@ -15,6 +15,7 @@ use Rattle.kept_site.specs.Calls.{IsFailure, IsNotBegun, IsSame}
 use Rattle.authdata.specs.Layout.{AttestedCredential, AuthenticatorData, AuthOf}
 use Rattle.site_lines.specs.declared.knowing.Unknown.{Unknown}
 use Rattle.site_lines.specs.declared.knowing.Unknown.TheVariants as unknowns
+use Rattle.kept_site.specs.declared.failure.Failure.{Failure}
 use Rattle.kept_site.specs.declared.failure.BeginFailure.{BeginFailure}
 use Rattle.kept_site.specs.declared.failure.BeginFailure.TheVariants as begins
 use Rattle.site_acts.specs.declared.act.FinishRegistration.{FinishRegistration}
@@ -65,6 +66,11 @@ IsRefusedRegistration profile step f (answers.Verify t) =
     (step ≡ register.BadStatement) × (f.verified ≡ found.Nothing) × RegistrationAsks profile (registration_response_view f.response) t
 IsRefusedRegistration profile step f (answers.Error why) = why ≡ errors.Memory
 IsRefusedRegistration profile step f _ = ⊥
+
+-- what is said of a failure, where it is why nothing is told of credentials
+abbrev pub IfUnknown : (Failure → Type 0) → Unknown → Type 0
+IfUnknown P unknowns.Memory = ⊤
+IfUnknown P (unknowns.Failed why) = P why
 
 -- why nothing is told of credentials: want of memory, and nothing has changed; or a failure
 abbrev pub IsUnknown : {S : Type 0} → (S → View) → KeptState S → KeptState S → Unknown → Type 0

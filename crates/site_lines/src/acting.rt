@@ -1,11 +1,15 @@
 //! Carrying out an act.
 
-ghost use Rattle.std.specs.Prelude.{◌≡◌, IfErr, IfOk, None, OnOk, Some, false, map, option_map};
+ghost use Rattle.std.specs.Prelude.{◌≡◌, ◌≤◌, IfErr, IfOk, None, OnOk, Some, false, map, option_map};
 ghost use Rattle.sqlite_trees.specs.Tree.{Trees};
+ghost use Rattle.sqlite_trees.specs.View.{IsClean};
+ghost use Rattle.credential_table.specs.Table as table;
 ghost use Rattle.site_lines.specs.Answers.{Keeps, Tells, TellsAbandoned, TellsDeleted, TellsExpired, TellsRetired, TellsRows, TellsStatus};
 ghost use Rattle.site_lines.specs.Details.{AreKnown, ForgetsDetail, TellsDetails, TellsRowDetails};
-ghost use Rattle.site_lines.specs.Private.{IsUnknown, IsWithKnown, unknown as unknown_of};
+ghost use Rattle.site_lines.specs.Causes.{AreTooMany, FailsBy, FailsIn, FailsShut, IsCausedIn};
+ghost use Rattle.site_lines.specs.Private.{IfUnknown, IsUnknown, IsWithKnown, unknown as unknown_of};
 ghost use Rattle.kept_site.specs.Calls.{IsSame};
+ghost use Rattle.kept_site.specs.Causes.{IsDamaged, RefusesChange};
 
 use crate::answer::{Answer, Counts, Known};
 use crate::beginning::{begin_registration, begin_sign_in};
@@ -21,6 +25,8 @@ use std::alloc::{AllocError, Global};
 fn retire<S: Store>(site: &mut KeptSite<S>, credential: &[u8]) -> Answer
     ensures told { TellsRetired S.Store.view credential.now site.old site.new result }
     ensures kept { Keeps S.Store.view site.old site.new result }
+    ensures cause { FailsBy S.Store.view S.Store.faults site.old site.new (RefusesChange (S.Store.view site.old.store) credential.now table.retired) (IsDamaged (S.Store.view site.old.store).trees) result }
+    ensures counts { S.Store.faults site.old.store ≤ S.Store.faults site.new.store }
     ensures crash { (db : Trees) → S.Store.recovers site.new.store db → S.Store.recovers site.old.store db }
 {
     match site.retire(credential) {
@@ -34,6 +40,8 @@ fn delete<S: Store>(site: &mut KeptSite<S>, credential: &[u8]) -> Answer
     ensures told { TellsDeleted S.Store.view credential.now site.old site.new result }
     ensures details { ForgetsDetail S.Store.view credential.now site.old site.new result }
     ensures kept { Keeps S.Store.view site.old site.new result }
+    ensures cause { FailsBy S.Store.view S.Store.faults site.old site.new ⊥ (IsDamaged (S.Store.view site.old.store).trees) result }
+    ensures counts { S.Store.faults site.old.store ≤ S.Store.faults site.new.store }
     ensures crash { (db : Trees) → S.Store.recovers site.new.store db → S.Store.recovers site.old.store db }
 {
     match site.delete(credential) {
@@ -46,6 +54,8 @@ fn delete<S: Store>(site: &mut KeptSite<S>, credential: &[u8]) -> Answer
 fn abandon<S: Store>(site: &mut KeptSite<S>, session: u64) -> Answer
     ensures told { TellsAbandoned session site.old site.new result }
     ensures kept { Keeps S.Store.view site.old site.new result }
+    ensures cause { FailsShut result }
+    ensures counts { S.Store.faults site.old.store ≤ S.Store.faults site.new.store }
     ensures crash { (db : Trees) → S.Store.recovers site.new.store db → S.Store.recovers site.old.store db }
 {
     Answer::Abandoned(site.abandon(session))
@@ -55,6 +65,8 @@ fn abandon<S: Store>(site: &mut KeptSite<S>, session: u64) -> Answer
 fn expire<S: Store>(site: &mut KeptSite<S>, now: u64, age: u64) -> Answer
     ensures told { TellsExpired age now site.old site.new result }
     ensures kept { Keeps S.Store.view site.old site.new result }
+    ensures cause { FailsShut result }
+    ensures counts { S.Store.faults site.old.store ≤ S.Store.faults site.new.store }
     ensures crash { (db : Trees) → S.Store.recovers site.new.store db → S.Store.recovers site.old.store db }
 {
     match site.expire(now.saturating_sub(age)) {
@@ -84,6 +96,9 @@ fn known_of<S: Store>(
     ensures known { IfOk result (λ list. AreKnown S.Store.view site.old site.new (map (λ r. r.id.items) rows.now) list.items) }
     ensures same { OnOk result (IsSame S.Store.view site.old site.new) }
     ensures unknown { IfErr result (IsUnknown S.Store.view site.old site.new) }
+    ensures clean { IsClean (S.Store.view site.new.store) → IsClean (S.Store.view site.old.store) }
+    ensures cause { IsClean (S.Store.view site.new.store) → IfErr result (IfUnknown (IsCausedIn S.Store.view S.Store.faults site.old site.new ⊥ (IsDamaged (S.Store.view site.old.store).trees))) }
+    ensures counts { S.Store.faults site.old.store ≤ S.Store.faults site.new.store }
     ensures crash { (db : Trees) → S.Store.recovers site.new.store db → S.Store.recovers site.old.store db }
 {
     let ids = ids_of(alloc, rows)?;
@@ -104,6 +119,9 @@ fn unknown(why: Unknown) -> Answer
 fn with_known<S: Store>(alloc: Global, site: &mut KeptSite<S>, rows: Vec<Row>) -> Answer
     requires live { site.old.is_shut ≡ false }
     ensures told { IsWithKnown S.Store.view rows site.old site.new result }
+    ensures clean { IsClean (S.Store.view site.new.store) → IsClean (S.Store.view site.old.store) }
+    ensures cause { FailsBy S.Store.view S.Store.faults site.old site.new ⊥ (IsDamaged (S.Store.view site.old.store).trees) result }
+    ensures counts { S.Store.faults site.old.store ≤ S.Store.faults site.new.store }
     ensures crash { (db : Trees) → S.Store.recovers site.new.store db → S.Store.recovers site.old.store db }
 {
     match known_of(alloc, site, rows.as_slice()) {
@@ -118,6 +136,8 @@ fn rows_of<S: Store>(alloc: Global, site: &mut KeptSite<S>, user: &[u8]) -> Answ
     ensures details { TellsRowDetails S.Store.view site.old site.new result }
     ensures told { TellsRows S.Store.view (Some user.now) site.old site.new result }
     ensures kept { Keeps S.Store.view site.old site.new result }
+    ensures cause { FailsBy S.Store.view S.Store.faults site.old site.new ⊥ (AreTooMany (Some user.now) (S.Store.view site.old.store)) result }
+    ensures counts { S.Store.faults site.old.store ≤ S.Store.faults site.new.store }
     ensures crash { (db : Trees) → S.Store.recovers site.new.store db → S.Store.recovers site.old.store db }
 {
     match site.rows_of(user) {
@@ -132,6 +152,8 @@ fn all_rows<S: Store>(alloc: Global, site: &mut KeptSite<S>) -> Answer
     ensures details { TellsRowDetails S.Store.view site.old site.new result }
     ensures told { TellsRows S.Store.view None site.old site.new result }
     ensures kept { Keeps S.Store.view site.old site.new result }
+    ensures cause { FailsBy S.Store.view S.Store.faults site.old site.new ⊥ (AreTooMany None (S.Store.view site.old.store)) result }
+    ensures counts { S.Store.faults site.old.store ≤ S.Store.faults site.new.store }
     ensures crash { (db : Trees) → S.Store.recovers site.new.store db → S.Store.recovers site.old.store db }
 {
     match site.rows() {
@@ -146,6 +168,8 @@ fn rows<S: Store>(alloc: Global, site: &mut KeptSite<S>, user: Option<&[u8]>) ->
     ensures details { TellsRowDetails S.Store.view site.old site.new result }
     ensures told { TellsRows S.Store.view (option_map (λ u. u.now) user.entry) site.old site.new result }
     ensures kept { Keeps S.Store.view site.old site.new result }
+    ensures cause { FailsBy S.Store.view S.Store.faults site.old site.new ⊥ (AreTooMany (option_map (λ u. u.now) user.entry) (S.Store.view site.old.store)) result }
+    ensures counts { S.Store.faults site.old.store ≤ S.Store.faults site.new.store }
     ensures crash { (db : Trees) → S.Store.recovers site.new.store db → S.Store.recovers site.old.store db }
 {
     match user {
@@ -158,6 +182,7 @@ fn rows<S: Store>(alloc: Global, site: &mut KeptSite<S>, user: Option<&[u8]>) ->
 fn status<S: Store>(site: &KeptSite<S>) -> Answer
     ensures told { TellsStatus site.now site.now result }
     ensures kept { Keeps S.Store.view site.now site.now result }
+    ensures cause { FailsShut result }
 {
     Answer::Status(Counts {
         credentials: site.count(),
@@ -178,6 +203,9 @@ pub fn carry_out<S: Store>(
     ensures told { Tells S.Store.view words now act site.old site.new result }
     ensures details { TellsDetails S.Store.view now act site.old site.new result }
     ensures kept { Keeps S.Store.view site.old site.new result }
+    // A failure has its cause in it.
+    ensures cause { FailsIn S.Store.view S.Store.faults now act site.old site.new result }
+    ensures counts { S.Store.faults site.old.store ≤ S.Store.faults site.new.store }
     // Nothing of it is in the file before it is committed.
     ensures crash { (db : Trees) → S.Store.recovers site.new.store db → S.Store.recovers site.old.store db }
 {

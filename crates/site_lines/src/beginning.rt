@@ -1,11 +1,13 @@
 //! Beginning a ceremony.
 
-ghost use Rattle.std.specs.Prelude.{◌≡◌, IfErr, IfOk, OnOk, false, map};
+ghost use Rattle.std.specs.Prelude.{◌≡◌, ◌≤◌, IfErr, IfOk, OnOk, false, map};
 ghost use Rattle.sqlite_trees.specs.Tree.{Trees};
 ghost use Rattle.sqlite_trees.specs.View.{IsClean};
 ghost use Rattle.kept_site.specs.Calls.{IsSame};
+ghost use Rattle.kept_site.specs.Causes.{IfBeginStore, IsDamaged};
 ghost use Rattle.ceremony_sessions.specs.Sessions.{Opening};
 ghost use Rattle.site_lines.specs.Answers.{Begins, Keeps, TellsRegistrationBegun, TellsSignInBegun, opens_registration, opens_sign_in};
+ghost use Rattle.site_lines.specs.Causes.{FailsBy, IsCausedIn, RefusesBegin};
 ghost use Rattle.site_lines.specs.Details.{AreKnown, TellsAllowed, TellsExcluded};
 ghost use Rattle.site_lines.specs.Private.{BeginsNone, IsNotBegunAfter, not_begun as not_begun_of};
 
@@ -45,6 +47,9 @@ fn named<S: Store>(
     ensures known { IfOk result (λ list. AreKnown S.Store.view site.old site.new (map (λ id. id.items) ids.now) list.items) }
     ensures same { OnOk result (IsSame S.Store.view site.old site.new) }
     ensures refused { IfErr result (λ why. (o : Opening) → IsNotBegunAfter S.Store.view site.old site.new o why) }
+    ensures clean { IsClean (S.Store.view site.new.store) → IsClean (S.Store.view site.old.store) }
+    ensures cause { IsClean (S.Store.view site.new.store) → IfErr result (IfBeginStore (IsCausedIn S.Store.view S.Store.faults site.old site.new ⊥ (IsDamaged (S.Store.view site.old.store).trees))) }
+    ensures counts { S.Store.faults site.old.store ≤ S.Store.faults site.new.store }
     ensures crash { (db : Trees) → S.Store.recovers site.new.store db → S.Store.recovers site.old.store db }
 {
     let Ok(ids) = lent(alloc, ids) else {
@@ -68,7 +73,9 @@ fn started_sign_in<S: Store>(
     ensures begun { IfOk result (λ s.
         Begins S.Store.view (opens_sign_in begin.now words) words now s.session s.challenge site.old site.new) }
     ensures refused { IfErr result (BeginsNone site.old site.new (opens_sign_in begin.now words)) }
-    ensures clean { OnOk result (IsClean (S.Store.view site.new.store) → IsClean (S.Store.view site.old.store)) }
+    ensures clean { IsClean (S.Store.view site.new.store) → IsClean (S.Store.view site.old.store) }
+    ensures cause { IsClean (S.Store.view site.new.store) → IfErr result (IfBeginStore (IsCausedIn S.Store.view S.Store.faults site.old site.new (RefusesBegin (S.Store.view site.old.store) site.old) ⊥)) }
+    ensures counts { S.Store.faults site.old.store ≤ S.Store.faults site.new.store }
     ensures crash { (db : Trees) → S.Store.recovers site.new.store db → S.Store.recovers site.old.store db }
 {
     let Ok(allow) = lent(alloc, begin.allow.as_slice()) else {
@@ -108,6 +115,8 @@ fn known_sign_in<S: Store>(
         Begins S.Store.view (opens_sign_in begin.now words) words now b.started.session b.started.challenge site.old site.new) }
     ensures known { IfOk result (λ b. AreKnown S.Store.view site.old site.new (map (λ id. id.items) begin.now.allow.items) b.known.items) }
     ensures refused { IfErr result (IsNotBegunAfter S.Store.view site.old site.new (opens_sign_in begin.now words)) }
+    ensures cause { IsClean (S.Store.view site.new.store) → IfErr result (IfBeginStore (IsCausedIn S.Store.view S.Store.faults site.old site.new (RefusesBegin (S.Store.view site.old.store) site.old) (IsDamaged (S.Store.view site.old.store).trees))) }
+    ensures counts { S.Store.faults site.old.store ≤ S.Store.faults site.new.store }
     ensures crash { (db : Trees) → S.Store.recovers site.new.store db → S.Store.recovers site.old.store db }
 {
     let known = match named(alloc, site, begin.allow.as_slice()) {
@@ -133,6 +142,8 @@ pub(crate) fn begin_sign_in<S: Store>(
     ensures told { TellsSignInBegun S.Store.view begin words now site.old site.new result }
     ensures details { TellsAllowed S.Store.view begin site.old site.new result }
     ensures kept { Keeps S.Store.view site.old site.new result }
+    ensures cause { FailsBy S.Store.view S.Store.faults site.old site.new (RefusesBegin (S.Store.view site.old.store) site.old) (IsDamaged (S.Store.view site.old.store).trees) result }
+    ensures counts { S.Store.faults site.old.store ≤ S.Store.faults site.new.store }
     ensures crash { (db : Trees) → S.Store.recovers site.new.store db → S.Store.recovers site.old.store db }
 {
     match known_sign_in(alloc, site, words, now, &begin) {
@@ -151,7 +162,9 @@ fn started_registration<S: Store>(
     ensures begun { IfOk result (λ s.
         Begins S.Store.view (opens_registration begin.now words) words now s.session s.challenge site.old site.new) }
     ensures refused { IfErr result (BeginsNone site.old site.new (opens_registration begin.now words)) }
-    ensures clean { OnOk result (IsClean (S.Store.view site.new.store) → IsClean (S.Store.view site.old.store)) }
+    ensures clean { IsClean (S.Store.view site.new.store) → IsClean (S.Store.view site.old.store) }
+    ensures cause { IsClean (S.Store.view site.new.store) → IfErr result (IfBeginStore (IsCausedIn S.Store.view S.Store.faults site.old site.new (RefusesBegin (S.Store.view site.old.store) site.old) ⊥)) }
+    ensures counts { S.Store.faults site.old.store ≤ S.Store.faults site.new.store }
     ensures crash { (db : Trees) → S.Store.recovers site.new.store db → S.Store.recovers site.old.store db }
 {
     site.begin_registration_for(
@@ -178,6 +191,8 @@ fn known_registration<S: Store>(
         Begins S.Store.view (opens_registration begin.now words) words now b.started.session b.started.challenge site.old site.new) }
     ensures known { IfOk result (λ b. AreKnown S.Store.view site.old site.new (map (λ id. id.items) begin.now.exclude.items) b.known.items) }
     ensures refused { IfErr result (IsNotBegunAfter S.Store.view site.old site.new (opens_registration begin.now words)) }
+    ensures cause { IsClean (S.Store.view site.new.store) → IfErr result (IfBeginStore (IsCausedIn S.Store.view S.Store.faults site.old site.new (RefusesBegin (S.Store.view site.old.store) site.old) (IsDamaged (S.Store.view site.old.store).trees))) }
+    ensures counts { S.Store.faults site.old.store ≤ S.Store.faults site.new.store }
     ensures crash { (db : Trees) → S.Store.recovers site.new.store db → S.Store.recovers site.old.store db }
 {
     let known = match named(alloc, site, begin.exclude.as_slice()) {
@@ -203,6 +218,8 @@ pub(crate) fn begin_registration<S: Store>(
     ensures told { TellsRegistrationBegun S.Store.view begin words now site.old site.new result }
     ensures details { TellsExcluded S.Store.view begin site.old site.new result }
     ensures kept { Keeps S.Store.view site.old site.new result }
+    ensures cause { FailsBy S.Store.view S.Store.faults site.old site.new (RefusesBegin (S.Store.view site.old.store) site.old) (IsDamaged (S.Store.view site.old.store).trees) result }
+    ensures counts { S.Store.faults site.old.store ≤ S.Store.faults site.new.store }
     ensures crash { (db : Trees) → S.Store.recovers site.new.store db → S.Store.recovers site.old.store db }
 {
     match known_registration(alloc, site, words, now, &begin) {

@@ -1,14 +1,17 @@
 //! Finishing a ceremony.
 
-ghost use Rattle.std.specs.Prelude.{◌≡◌, false};
+ghost use Rattle.std.specs.Prelude.{◌≡◌, ◌≤◌, false};
 ghost use Rattle.std.specs.Option.{ForSome};
 ghost use Rattle.sqlite_trees.specs.Tree.{Trees};
+ghost use Rattle.sqlite_trees.specs.View.{IsClean};
+ghost use Rattle.kept_site.specs.Causes.{IsDamaged, RefusesRegistered, RefusesSignedIn};
 ghost use Rattle.authdata.specs.Responses.{assertion_response_view, registration_response_view};
 ghost use Rattle.verification.specs.Views.{assertion_parts_view, registration_parts_view};
 ghost use Rattle.ceremony_sessions.specs.Sessions.{registration_at};
 ghost use Rattle.site_lines.specs.Answers.{Keeps, TellsRegistration, TellsSignIn};
 ghost use Rattle.credential_store.specs.Details.{detail_view};
-ghost use Rattle.site_lines.specs.Details.{RegistersDetail, UsesDetail};
+ghost use Rattle.site_lines.specs.Causes.{FailsBy, RefusesFinish};
+ghost use Rattle.site_lines.specs.Details.{RegistersDetail, UsesDetail, second as second_of};
 ghost use Rattle.site_lines.specs.Private.{KeepsDetail, IsRefusedRegistration, IsRefusedSignIn};
 
 use crate::answer::Answer;
@@ -57,6 +60,9 @@ fn refused_sign_in<S: Store>(
 ) -> Answer
     ensures told { IsRefusedSignIn S.Store.view step finish site.old site.new result }
     ensures kept { Keeps S.Store.view site.old site.new result }
+    ensures clean { IsClean (S.Store.view site.new.store) → IsClean (S.Store.view site.old.store) }
+    ensures cause { FailsBy S.Store.view S.Store.faults site.old site.new ⊥ (IsDamaged (S.Store.view site.old.store).trees) result }
+    ensures counts { S.Store.faults site.old.store ≤ S.Store.faults site.new.store }
     ensures crash { (db : Trees) → S.Store.recovers site.new.store db → S.Store.recovers site.old.store db }
 {
     let response = finish.response;
@@ -103,6 +109,8 @@ pub(crate) fn finish_sign_in<S: Store>(
     ensures told { TellsSignIn S.Store.view finish site.old site.new result }
     ensures details { UsesDetail S.Store.view now finish site.old site.new result }
     ensures kept { Keeps S.Store.view site.old site.new result }
+    ensures cause { FailsBy S.Store.view S.Store.faults site.old site.new (RefusesSignedIn (S.Store.view site.old.store) site.old.rp.profile (assertion_response_view finish.response) (second_of now)) (IsDamaged (S.Store.view site.old.store).trees) result }
+    ensures counts { S.Store.faults site.old.store ≤ S.Store.faults site.new.store }
     ensures crash { (db : Trees) → S.Store.recovers site.new.store db → S.Store.recovers site.old.store db }
 {
     let parts = assertion_parts(&finish.response);
@@ -138,6 +146,8 @@ fn finish_with<S: Store>(
     ensures told { TellsRegistration S.Store.view finish site.old site.new result }
     ensures details { KeepsDetail S.Store.view (detail_view detail.now) site.old site.new result }
     ensures kept { Keeps S.Store.view site.old site.new result }
+    ensures cause { FailsBy S.Store.view S.Store.faults site.old site.new (RefusesRegistered (S.Store.view site.old.store) site.old finish.session (registration_response_view finish.response) (detail_view detail.now)) (IsDamaged (S.Store.view site.old.store).trees) result }
+    ensures counts { S.Store.faults site.old.store ≤ S.Store.faults site.new.store }
     ensures crash { (db : Trees) → S.Store.recovers site.new.store db → S.Store.recovers site.old.store db }
 {
     // An acceptance closes the session.
@@ -166,6 +176,8 @@ pub(crate) fn finish_registration<S: Store>(
     ensures told { TellsRegistration S.Store.view finish site.old site.new result }
     ensures details { RegistersDetail S.Store.view now finish site.old site.new result }
     ensures kept { Keeps S.Store.view site.old site.new result }
+    ensures cause { FailsBy S.Store.view S.Store.faults site.old site.new (RefusesFinish (S.Store.view site.old.store) site.old now finish) (IsDamaged (S.Store.view site.old.store).trees) result }
+    ensures counts { S.Store.faults site.old.store ≤ S.Store.faults site.new.store }
     ensures crash { (db : Trees) → S.Store.recovers site.new.store db → S.Store.recovers site.old.store db }
 {
     let profile = site.party().profile();

@@ -1,13 +1,16 @@
 //! What is known of credentials beside what verdicts ask for.
 
-ghost use Rattle.std.specs.Prelude.{◌≡◌, ◌++◌, ◌∷◌, [], ℕ, IfErr, IfOk, List, None, OnOk, Option, Some, false, map, option_map, string_bytes};
+ghost use Rattle.std.specs.Prelude.{◌≡◌, ◌≤◌, ◌++◌, ◌∷◌, [], ℕ, IfErr, IfOk, List, None, OnOk, Option, Some, false, map, option_map, string_bytes};
 ghost use Rattle.std.specs.List.{AllByRecursion};
 ghost use Rattle.sqlite_trees.specs.Tree.{Trees};
+ghost use Rattle.sqlite_trees.specs.View.{IsClean};
 ghost use Rattle.authdata.specs.Responses.{registration_response_view};
 ghost use Rattle.credential_store.specs.Details.{detail_view, told};
 ghost use Rattle.kept_site.specs.Calls.{IsSame};
+ghost use Rattle.kept_site.specs.Causes.{IsDamaged};
+ghost use Rattle.site_lines.specs.Causes.{IsCausedIn};
 ghost use Rattle.site_lines.specs.Details.{AreTransports, IsAaguid, IsKnown, OfDetails, joined as joined_of, second as second_of};
-ghost use Rattle.site_lines.specs.Private.{IsAaguidOf, IsUnknown};
+ghost use Rattle.site_lines.specs.Private.{IfUnknown, IsAaguidOf, IsUnknown};
 ghost use Rattle.site_lines.specs.declared.knowing.Unknown.TheVariants as unknowns;
 
 use crate::answer::Known;
@@ -68,6 +71,9 @@ fn known<S: Store>(alloc: Global, site: &mut KeptSite<S>, id: &[u8]) -> Result<K
     ensures known { IfOk result (λ k. OfDetails S.Store.view site.old site.new (λ placed details. IsKnown placed details k)) }
     ensures same { OnOk result (IsSame S.Store.view site.old site.new) }
     ensures unknown { IfErr result (IsUnknown S.Store.view site.old site.new) }
+    ensures clean { IsClean (S.Store.view site.new.store) → IsClean (S.Store.view site.old.store) }
+    ensures cause { IsClean (S.Store.view site.new.store) → IfErr result (IfUnknown (IsCausedIn S.Store.view S.Store.faults site.old site.new ⊥ (IsDamaged (S.Store.view site.old.store).trees))) }
+    ensures counts { S.Store.faults site.old.store ≤ S.Store.faults site.new.store }
     ensures crash { (db : Trees) → S.Store.recovers site.new.store db → S.Store.recovers site.old.store db }
 {
     let copy = Vec::from_slice(alloc, id)?;
@@ -100,6 +106,9 @@ pub(crate) fn all_known<S: Store>(
     ensures known { IfOk result (λ list. OfDetails S.Store.view site.old site.new (λ placed details. AllByRecursion (IsKnown placed details) list.items)) }
     ensures same { OnOk result (IsSame S.Store.view site.old site.new) }
     ensures unknown { IfErr result (IsUnknown S.Store.view site.old site.new) }
+    ensures clean { IsClean (S.Store.view site.new.store) → IsClean (S.Store.view site.old.store) }
+    ensures cause { IsClean (S.Store.view site.new.store) → IfErr result (IfUnknown (IsCausedIn S.Store.view S.Store.faults site.old site.new ⊥ (IsDamaged (S.Store.view site.old.store).trees))) }
+    ensures counts { S.Store.faults site.old.store ≤ S.Store.faults site.new.store }
     ensures crash { (db : Trees) → S.Store.recovers site.new.store db → S.Store.recovers site.old.store db }
 {
     let mut list = Vec::with_capacity(alloc, ids.len())?;

@@ -1,12 +1,13 @@
 //! From lines to their answers.
 
-ghost use Rattle.std.specs.Prelude.{◌≡◌, ◌⊎◌, IfOk, OnErr, OnOk, Some, map, true};
+ghost use Rattle.std.specs.Prelude.{◌≡◌, ◌≤◌, ◌⊎◌, IfErr, IfOk, OnErr, OnOk, Some, map, true};
 ghost use Rattle.sqlite_trees.specs.Tree.{Trees};
 ghost use Rattle.kept_site.specs.State.{to_commit, with_site};
 ghost use Rattle.site_lines.specs.declared.answer.Answer.TheVariants as answers;
 ghost use Rattle.site_lines.specs.Answers.{Keeps, Tells};
 ghost use Rattle.site_lines.specs.Details.{TellsDetails};
-ghost use Rattle.site_lines.specs.Batches.{Answers, IsAnswered, IsCommitted, Leaves, Runs, failed_as};
+ghost use Rattle.site_lines.specs.Causes.{FailsIn};
+ghost use Rattle.site_lines.specs.Batches.{Answers, IsAnswered, IsCommitted, IsNotCommitted, Leaves, Runs, failed_as};
 
 use crate::acting::carry_out;
 use crate::answer::Answer;
@@ -69,6 +70,8 @@ fn carried_out<S: Store>(
     ensures details { TellsDetails S.Store.view now line.act site.old site.new result.answer }
     ensures kept { Keeps S.Store.view site.old site.new result.answer }
     ensures number { result.id ≡ Some line.id }
+    ensures cause { FailsIn S.Store.view S.Store.faults now line.act site.old site.new result.answer }
+    ensures counts { S.Store.faults site.old.store ≤ S.Store.faults site.new.store }
     ensures crash { (db : Trees) → S.Store.recovers site.new.store db → S.Store.recovers site.old.store db }
 {
     let named = named_session(&line.act);
@@ -99,8 +102,9 @@ fn answer_one<S: Store>(
     now: u64,
     arrived: &Arrived,
 ) -> Answered
-    ensures told { IsAnswered S.Store.view now arrived.now site.old site.new result }
+    ensures told { IsAnswered S.Store.view S.Store.faults now arrived.now site.old site.new result }
     ensures kept { Keeps S.Store.view site.old site.new result.answer }
+    ensures counts { S.Store.faults site.old.store ≤ S.Store.faults site.new.store }
     ensures crash { (db : Trees) → S.Store.recovers site.new.store db → S.Store.recovers site.old.store db }
 {
     match read_line(alloc, arrived.line.as_slice()) {
@@ -116,7 +120,8 @@ fn carry_all<S: Store>(
     now: u64,
     arrived: &[Arrived],
 ) -> Result<Vec<Answered>, AllocError>
-    ensures ran { IfOk result (λ answers. Runs S.Store.view now site.old arrived.now answers.items site.new) }
+    ensures ran { IfOk result (λ answers. Runs S.Store.view S.Store.faults now site.old arrived.now answers.items site.new) }
+    ensures counts { S.Store.faults site.old.store ≤ S.Store.faults site.new.store }
     ensures crash { (db : Trees) → S.Store.recovers site.new.store db → S.Store.recovers site.old.store db }
 {
     let mut answers = Vec::with_capacity(alloc, arrived.len())?;
@@ -161,6 +166,8 @@ fn commit<S: Store>(
 ) -> Result<(), Failure>
     ensures committed { OnOk result (IsCommitted S.Store.view S.Store.recovers site.old site.new) }
     ensures failed { OnErr result (site.new.is_shut ≡ true) }
+    ensures cause { IfErr result (IsNotCommitted S.Store.view S.Store.faults site.old site.new) }
+    ensures counts { S.Store.faults site.old.store ≤ S.Store.faults site.new.store }
     ensures crash { (db : Trees) → S.Store.recovers site.new.store db
         → (db ≡ with_site site.old.rp.rp_id (to_commit site.old.durable site.old.reserved) (S.Store.view site.old.store).trees) ⊎ S.Store.recovers site.old.store db }
 {
@@ -186,11 +193,13 @@ pub fn answer_lines<S: Store>(
     now: u64,
     arrived: &[Arrived],
 ) -> Result<Vec<Answered>, AllocError>
-    // What is told is committed; or each answer is one failure.
-    ensures told { IfOk result (λ answers. Answers S.Store.view S.Store.recovers now site.old arrived.now answers.items site.new) }
+    // What is told is committed; or each answer is one failure. Each failure has its cause in its line, or in the commit.
+    ensures told { IfOk result (λ answers. Answers S.Store.view S.Store.faults S.Store.recovers now site.old arrived.now answers.items site.new) }
+    // Faults of the disk are counted.
+    ensures counts { S.Store.faults site.old.store ≤ S.Store.faults site.new.store }
     // A crash leaves what it could leave before, or all that the lines have done.
     ensures crash { (db : Trees) → S.Store.recovers site.new.store db
-        → S.Store.recovers site.old.store db ⊎ Leaves S.Store.view now site.old arrived.now db }
+        → S.Store.recovers site.old.store db ⊎ Leaves S.Store.view S.Store.faults now site.old arrived.now db }
 {
     let answers = carry_all(alloc, site, now, arrived)?;
     match commit(clock, site, tally) {

@@ -1,4 +1,5 @@
 -- What is owed of `all_rows`.
+use Rattle.site_lines.proofs.Caused.{damaged_on, fails_after}
 use Rattle.site_lines.proofs.Detailed.{row_details_after}
 use Rattle.site_lines.proofs.acting.all_rows.Goals as goal
 
@@ -6,3 +7,10 @@ pub returns-in-Ok-clause-details : goal.returns-in-Ok-clause-details
 returns-in-Ok-clause-details g c =
     row_details_after g.S.Store.view c.in-Ok.rows c.args.site.now c.rows.new.self c.with_known.new.site c.with_known.result c.in-Ok.ensures.same
     c.with_known.ensures.told
+
+pub returns-in-Ok-clause-cause : goal.returns-in-Ok-clause-cause
+returns-in-Ok-clause-cause g c =
+    fails_after g.S.Store.view g.S.Store.faults c.args.site.now c.rows.new.self c.with_known.new.site _ _ _ _ c.with_known.result c.with_known.ensures.clean
+    c.in-Ok.ensures.counts (λ clean no. absurd no)
+    (λ clean damage placed holds. absurd (damaged_on g.S.Store.view c.args.site.now c.rows.new.self c.in-Ok.ensures.same clean damage placed holds))
+    c.with_known.ensures.cause

@@ -1,4 +1,5 @@
 -- What is owed of `finish_sign_in`.
+use Rattle.site_lines.proofs.Caused.{damaged_on, fails_after, refuses_signed_in_as, store_fails}
 use Rattle.site_lines.proofs.Detailed.{sign_in_leaves}
 use Rattle.site_lines.proofs.Finished.{sign_in_accepted, sign_in_left, sign_in_refused, sign_in_step}
 use Rattle.site_lines.proofs.finishing.finish_sign_in.Goals as goal
@@ -27,3 +28,16 @@ pub returns-in-Err-Site-Refused-clause-details : goal.returns-in-Err-Site-Refuse
 returns-in-Err-Site-Refused-clause-details g c =
     sign_in_leaves g.S.Store.view c.args.finish c.args.now c.args.site.now c.finish_parts.new.self c.refused_sign_in.new.site c.in-Err-Site-Refused.step
     c.refused_sign_in.result c.refused_sign_in.ensures.told
+
+pub returns-in-Err-Site-Refused-clause-cause : goal.returns-in-Err-Site-Refused-clause-cause
+returns-in-Err-Site-Refused-clause-cause g c =
+    let refused = rw c.in-Err-Site-Refused.field-0-is at c.in-Err-Site-Refused.ensures.refused in
+    fails_after g.S.Store.view g.S.Store.faults c.args.site.now c.finish_parts.new.self c.refused_sign_in.new.site _ _ _ _ c.refused_sign_in.result
+    c.refused_sign_in.ensures.clean c.in-Err-Site-Refused.ensures.counts (λ clean none. absurd none)
+    (λ clean. damaged_on g.S.Store.view c.args.site.now c.finish_parts.new.self refused.0 clean) c.refused_sign_in.ensures.cause
+
+pub returns-in-Err-Store-clause-cause : goal.returns-in-Err-Store-clause-cause
+returns-in-Err-Store-clause-cause g c =
+    store_fails g.S.Store.view g.S.Store.faults c.args.site.now c.finish_parts.new.self _ _ _ c.in-Err-Store.field-0 c.in-Err-Store.why c.in-Err-Store.field-0-is
+    (refuses_signed_in_as (g.S.Store.view c.args.site.now.store) c.args.site.now.rp.profile _ _ _ _ c.assertion_parts-parts.ensures c.second.ensures)
+    c.in-Err-Store.ensures.cause

@@ -1,8 +1,9 @@
 -- What is owed of `finish_with`.
-use Rattle.std.proofs.Common.{◌∙◌, ap, subst}
+use Rattle.std.proofs.Common.{◌∙◌, ap, refl, subst}
 use Rattle.kept_site.specs.State.{KeptState}
 use Rattle.site_lines.specs.Private.{IsRefusedRegistration}
 use Rattle.credential_store.specs.Details.{detail_view}
+use Rattle.site_lines.proofs.Caused.{refused_registration_fails, refuses_registered_as, store_fails}
 use Rattle.site_lines.proofs.Detailed.{registration_leaves}
 use Rattle.site_lines.proofs.Finished.{registration_accepted, registration_left, registration_refused, registration_step}
 use Rattle.site_lines.proofs.finishing.finish_with.Goals as goal
@@ -32,3 +33,14 @@ pub returns-in-Err-Site-Refused-clause-details : goal.returns-in-Err-Site-Refuse
 returns-in-Err-Site-Refused-clause-details g c =
     registration_leaves g.S.Store.view c.args.finish c.profile.result (detail_view c.args.detail.now) c.args.site.now c.finish_registration_parts.new.self
     c.in-Err-Site-Refused.step c.refused_registration.result c.refused_registration.ensures
+
+pub returns-in-Err-Site-Refused-clause-cause : goal.returns-in-Err-Site-Refused-clause-cause
+returns-in-Err-Site-Refused-clause-cause g c = λ clean.
+    refused_registration_fails _ c.profile.result c.in-Err-Site-Refused.step c.args.finish c.refused_registration.result c.refused_registration.ensures
+
+pub returns-in-Err-Store-clause-cause : goal.returns-in-Err-Store-clause-cause
+returns-in-Err-Store-clause-cause g c =
+    store_fails g.S.Store.view g.S.Store.faults c.args.site.now c.finish_registration_parts.new.self _ _ _ c.in-Err-Store.field-0 c.in-Err-Store.why
+    c.in-Err-Store.field-0-is
+    (refuses_registered_as (g.S.Store.view c.args.site.now.store) c.args.site.now c.args.finish.session _ _ (detail_view c.args.detail.now) _
+    c.registration_parts-parts.ensures refl) c.in-Err-Store.ensures.cause

@@ -1,0 +1,79 @@
+-- Why an act is answered by a failure.
+use Rattle.std.specs.Prelude.{◌≡◌, ◌≤◌, ◌+◌, ◌-◌, ◌^◌, ℕ, List, Option, None, Some, length, map, option_map, string_bytes, ⊤}
+use Rattle.sqlite_trees.specs.View.{View, IsClean}
+use Rattle.authdata.specs.Responses.{assertion_response_view, registration_response_view}
+use Rattle.credential_table.specs.Table.{retired}
+use Rattle.credential_store.specs.Details.{told}
+use Rattle.credential_store.specs.Held.{Holds, Placed}
+use Rattle.kept_site.specs.State.{KeptState}
+use Rattle.kept_site.specs.Causes.{IsCaused, IsDamaged, RefusesChange, RefusesNumber, RefusesRegistered, RefusesSignedIn}
+use Rattle.kept_site.specs.declared.failure.Failure.{Failure}
+use Rattle.kept_site.specs.declared.failure.Failure.TheVariants as failures
+use Rattle.site_acts.specs.declared.act.Act.{Act}
+use Rattle.site_acts.specs.declared.act.Act.TheVariants as acts
+use Rattle.site_acts.specs.declared.act.FinishRegistration.{FinishRegistration}
+use Rattle.site_lines.specs.Answers.{asked_rows}
+use Rattle.site_lines.specs.Details.{IsAaguid, joined, second}
+use Rattle.site_lines.specs.declared.answer.Answer.{Answer}
+use Rattle.site_lines.specs.declared.answer.Answer.TheVariants as answers
+
+-- what is said of a failure, where an answer is one
+abbrev pub IfFailed : (Failure → Type 0) → Answer → Type 0
+IfFailed P (answers.Failed why) = P why
+IfFailed P _ = ⊤
+
+-- a failure has its cause between an old site and a new one: want of memory, a fault of the disk that the store counted in between, a row that
+-- no store takes, or damage
+abbrev pub IsCausedIn : {S : Type 0} → (S → View) → (S → ℕ) → KeptState S → KeptState S → Type 0 → Type 0 → Failure → Type 0
+IsCausedIn view faults old new refused damage why = IsCaused (view old.store) (faults old.store) (faults new.store) refused damage why
+
+-- so it is with an answer, where it is one
+abbrev pub FailsBy : {S : Type 0} → (S → View) → (S → ℕ) → KeptState S → KeptState S → Type 0 → Type 0 → Answer → Type 0
+FailsBy view faults old new refused damage answer = IsClean (view new.store) → IfFailed (IsCausedIn view faults old new refused damage) answer
+
+-- ---- rows that no store takes
+
+-- the row of the relying party, with the numbers that a session that begins may reserve
+abbrev pub RefusesBegin : {S : Type 0} → View → KeptState S → Type 0
+RefusesBegin old s = RefusesNumber old s.rp.rp_id (s.timed.open_sessions.next + 1000)
+
+-- what is written of the credential that a line's response attests: this second, the transports that the line tells, and the aaguid of it
+abbrev pub RefusesFinish : {S : Type 0} → View → KeptState S → ℕ → FinishRegistration → Type 0
+RefusesFinish old s now f =
+    let r = registration_response_view f.response in
+    (aaguid : Option (List ℕ)) × IsAaguid s.rp.profile r aaguid
+    × RefusesRegistered old s f.session r (told (Some (second now)) None (joined (map string_bytes f.transports.items)) aaguid)
+
+-- what an act may write
+abbrev pub RefusesAct : {S : Type 0} → View → KeptState S → ℕ → Act → Type 0
+RefusesAct old s now (acts.BeginRegistration b) = RefusesBegin old s
+RefusesAct old s now (acts.BeginSignIn b) = RefusesBegin old s
+RefusesAct old s now (acts.FinishRegistration f) = RefusesFinish old s now f
+RefusesAct old s now (acts.FinishSignIn f) = RefusesSignedIn old s.rp.profile (assertion_response_view f.response) (second now)
+RefusesAct old s now (acts.Retire id) = RefusesChange old id.items retired
+RefusesAct old s now _ = ⊥
+
+-- ---- damage
+
+-- the rows that are asked for are more than any site holds, or the trees hold no credentials
+abbrev pub AreTooMany : Option (List ℕ) → View → Type 0
+AreTooMany user old = (placed : Placed) → Holds placed old.trees → 2 ^ 32 - 1 ≤ length (asked_rows user placed)
+
+-- what an act may find
+abbrev pub FindsDamage : View → Act → Type 0
+FindsDamage old (acts.Rows user) = AreTooMany (option_map (λ u. u.items) user) old
+FindsDamage old _ = IsDamaged old.trees
+
+-- ---- an act
+
+-- it fails only where the site was shut before
+abbrev pub FailsShut : Answer → Type 0
+FailsShut answer = IfFailed (λ why. why ≡ failures.Shut) answer
+
+-- a failure of an act has its cause in it; one that asks nothing of the store fails only where the site was shut before
+abbrev pub FailsIn : {S : Type 0} → (S → View) → (S → ℕ) → ℕ → Act → KeptState S → KeptState S → Answer → Type 0
+FailsIn view faults now (acts.Abandon session) old new answer = FailsShut answer
+FailsIn view faults now (acts.Expire age) old new answer = FailsShut answer
+FailsIn view faults now acts.Status old new answer = FailsShut answer
+FailsIn view faults now (acts.Backup path) old new answer = FailsShut answer
+FailsIn view faults now act old new answer = FailsBy view faults old new (RefusesAct (view old.store) old now act) (FindsDamage (view old.store) act) answer
