@@ -160,8 +160,8 @@ shut_fails view faults now (acts.Backup path) old new = refl
 
 -- the store fails
 pub store_fails : {S W : Type 0} (view : S → View) (faults : S → ℕ) (old new : KeptState S) (U V D : Type 0) (e : FinishFailure W) (why : Failure) → e ≡ finishes.Store why
-    → (U → V) → (IsClean (view new.store) → IfFinishStore (IsCausedIn view faults old new U D) e) → FailsBy view faults old new V D (answers.Failed why)
-store_fails view faults old new U V D e why is f h =
+    → (IsClean (view new.store) → IfFinishStore (IsCausedIn view faults old new U D) e) → (U → V) → FailsBy view faults old new V D (answers.Failed why)
+store_fails view faults old new U V D e why is h f =
     λ clean. caused_since (view old.store) (view old.store) _ _ _ U V D D why (omega arith) f (λ d. d) (subst (IfFinishStore (IsCausedIn view faults old new U D)) is (h clean))
 
 -- a refused registration is answered by no failure

@@ -192,7 +192,7 @@ fn status<S: Store>(site: &KeptSite<S>) -> Answer
 }
 
 /// Carries out an act, at this second of the host's clock. What it answers is to be committed before it is told.
-#[tactic(auto, using(crate::proofs::Detailed::fails))]
+#[tactic(auto, using(crate::proofs::Detailed::fails, crate::proofs::Caused::shut_fails))]
 pub fn carry_out<S: Store>(
     alloc: Global,
     site: &mut KeptSite<S>,

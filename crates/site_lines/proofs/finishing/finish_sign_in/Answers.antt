@@ -1,4 +1,6 @@
 -- What is owed of `finish_sign_in`.
+use Rattle.std.proofs.Common.{◌∙◌, rules}
+use Rattle.site_lines.specs.Details.{second}
 use Rattle.site_lines.proofs.Caused.{damaged_on, fails_after, refuses_signed_in_as, store_fails}
 use Rattle.site_lines.proofs.Detailed.{sign_in_leaves}
 use Rattle.site_lines.proofs.Finished.{sign_in_accepted, sign_in_left, sign_in_refused, sign_in_step}
@@ -39,5 +41,6 @@ returns-in-Err-Site-Refused-clause-cause g c =
 pub returns-in-Err-Store-clause-cause : goal.returns-in-Err-Store-clause-cause
 returns-in-Err-Store-clause-cause g c =
     store_fails g.S.Store.view g.S.Store.faults c.args.site.now c.finish_parts.new.self _ _ _ c.in-Err-Store.field-0 c.in-Err-Store.why c.in-Err-Store.field-0-is
-    (refuses_signed_in_as (g.S.Store.view c.args.site.now.store) c.args.site.now.rp.profile _ _ _ _ c.assertion_parts-parts.ensures c.second.ensures)
     c.in-Err-Store.ensures.cause
+    (refuses_signed_in_as (g.S.Store.view c.args.site.now.store) c.args.site.now.rp.profile _ _ _ (second c.args.now) c.assertion_parts-parts.ensures
+    (search rules ∙ c.second.ensures))

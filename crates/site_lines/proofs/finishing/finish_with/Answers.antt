@@ -41,6 +41,6 @@ returns-in-Err-Site-Refused-clause-cause g c = λ clean.
 pub returns-in-Err-Store-clause-cause : goal.returns-in-Err-Store-clause-cause
 returns-in-Err-Store-clause-cause g c =
     store_fails g.S.Store.view g.S.Store.faults c.args.site.now c.finish_registration_parts.new.self _ _ _ c.in-Err-Store.field-0 c.in-Err-Store.why
-    c.in-Err-Store.field-0-is
+    c.in-Err-Store.field-0-is c.in-Err-Store.ensures.cause
     (refuses_registered_as (g.S.Store.view c.args.site.now.store) c.args.site.now c.args.finish.session _ _ (detail_view c.args.detail.now) _
-    c.registration_parts-parts.ensures refl) c.in-Err-Store.ensures.cause
+    c.registration_parts-parts.ensures refl)

@@ -9,7 +9,7 @@ returns-in-Ok-clause-told g c = inl (c.carry_all.new.site, c.in_ok-answers.ensur
 
 pub returns-in-Err-clause-told : goal.returns-in-Err-clause-told
 returns-in-Err-clause-told g c =
-    if_ok c.failed.result _ _ (λ told is. inr (c.in-Err.why, c.in_ok-answers.answers.items, c.carry_all.new.site, c.in_ok-answers.ensures.ran, is ∙ ap (map (failed_as c.in-Err.why)) c.as_slice-in-Err.ensures.value, c.in-Err.ensures.failed)) c.failed.ensures
+    if_ok c.failed.result _ _ (λ told is. inr (c.in-Err.why, c.in_ok-answers.answers.items, c.carry_all.new.site, c.in_ok-answers.ensures.ran, is ∙ ap (map (failed_as c.in-Err.why)) c.as_slice-in-Err.ensures.value, c.in-Err.ensures.failed, c.in-Err.ensures.cause)) c.failed.ensures
 
 pub returns-in-Ok-clause-crash : goal.returns-in-Ok-clause-crash
 returns-in-Ok-clause-crash g c db r =
