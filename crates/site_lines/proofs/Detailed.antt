@@ -36,8 +36,8 @@ use Rattle.site_lines.specs.declared.answer.Known.{Known}
 use Rattle.verification.specs.declared.refusal.SignInRefusal.{SignInRefusal}
 use Rattle.verification.specs.declared.refusal.RegistrationRefusal.{RegistrationRefusal}
 use Rattle.site_lines.specs.Answers.{Begins, Keeps, TellsRegistrationBegun, TellsSignInBegun, opens_registration, opens_sign_in}
-use Rattle.site_lines.specs.Details.{AreKnown, IsAaguid, IsKnown, OfDetails, RegistersDetail, TellsAllowed, TellsDetails, TellsExcluded, TellsRowDetails, UsesDetail, joined, joined_on, second, with_comma}
-use Rattle.site_lines.specs.Private.{BeginsNone, IsAaguidOf, IsNotBegunAfter, IsRefusedRegistration, IsRefusedSignIn, IsUnknown, IsWithKnown, KeepsDetail, not_begun}
+use Rattle.site_lines.specs.Details.{AreKnown, IsAaguid, IsAttestedAaguid, IsKnown, OfDetails, RegistersDetail, TellsAllowed, TellsDetails, TellsExcluded, TellsRowDetails, UsesDetail, joined, joined_on, second, with_comma}
+use Rattle.site_lines.specs.Private.{BeginsNone, IsAaguidOf, IsAttestedIn, IsNotBegunAfter, IsRefusedRegistration, IsRefusedSignIn, IsUnknown, IsWithKnown, KeepsDetail, not_begun}
 use Rattle.site_lines.specs.declared.knowing.Unknown.{Unknown}
 use Rattle.site_lines.specs.declared.knowing.Unknown.TheVariants as unknowns
 use Rattle.credential_table.specs.declared.row.Row.{Row}
@@ -73,6 +73,12 @@ aaguid_is p bytes a c found read attested is b d other its =
   where
     same_credential : (x y : AttestedCredential) → Some x ≡ Some y → x ≡ y
     same_credential x y e = cc
+
+pub attested_in_object : (p : Profile) (r : responses.AuthenticatorAttestationResponse) (o : Attestation) (bytes : List ℕ) (found : Option (List ℕ)) → ObjectOf o r.object
+    → bytes ≡ o.auth_data → IsAttestedIn p bytes found → IsAttestedAaguid p r found
+attested_in_object p r o bytes None spelled is h = tt
+attested_in_object p r o bytes (Some x) spelled is h =
+    (o, h.0, h.1, record { object = spelled; auth_data = subst (AuthOf p h.0) is h.2; attested = h.3 }, h.4)
 
 pub no_aaguid : (p : Profile) (bytes : List ℕ) (a : AuthenticatorData) → AuthOf p a bytes → a.attested ≡ None → IsAaguidOf p bytes None
 no_aaguid p bytes a read none b d other its =

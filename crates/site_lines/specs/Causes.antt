@@ -13,7 +13,7 @@ use Rattle.site_acts.specs.declared.act.Act.{Act}
 use Rattle.site_acts.specs.declared.act.Act.TheVariants as acts
 use Rattle.site_acts.specs.declared.act.FinishRegistration.{FinishRegistration}
 use Rattle.site_lines.specs.Answers.{asked_rows}
-use Rattle.site_lines.specs.Details.{IsAaguid, joined, second}
+use Rattle.site_lines.specs.Details.{IsAaguid, IsAttestedAaguid, joined, second}
 use Rattle.site_lines.specs.declared.answer.Answer.{Answer}
 use Rattle.site_lines.specs.declared.answer.Answer.TheVariants as answers
 
@@ -37,11 +37,12 @@ FailsBy view faults old new refused damage answer = IsClean (view new.store) →
 abbrev pub RefusesBegin : {S : Type 0} → View → KeptState S → Type 0
 RefusesBegin old s = RefusesNumber old s.rp.rp_id (s.timed.open_sessions.next + 1000)
 
--- what is written of the credential that a line's response attests: this second, the transports that the line tells, and the aaguid of it
+-- what is written of the credential that a line's response attests, and of its detail: this second, the transports that the line tells, and its
+-- aaguid, or none where it attests none
 abbrev pub RefusesFinish : {S : Type 0} → View → KeptState S → ℕ → FinishRegistration → Type 0
 RefusesFinish old s now f =
     let r = registration_response_view f.response in
-    (aaguid : Option (List ℕ)) × IsAaguid s.rp.profile r aaguid
+    (aaguid : Option (List ℕ)) × IsAaguid s.rp.profile r aaguid × IsAttestedAaguid s.rp.profile r aaguid
     × RefusesRegistered old s f.session r (told (Some (second now)) None (joined (map string_bytes f.transports.items)) aaguid)
 
 -- what an act may write

@@ -1,5 +1,5 @@
 -- What lines tell and keep of credentials beside what verdicts ask for.
-use Rattle.std.specs.Prelude.{◌≡◌, ◌+◌, ◌++◌, ◌⊎◌, ℕ, ℤ, pos, min, List, [], ◌∷◌, Option, Some, None, map, option_map, string_bytes}
+use Rattle.std.specs.Prelude.{◌≡◌, ◌+◌, ◌++◌, ◌⊎◌, ℕ, ℤ, pos, min, List, [], ◌∷◌, Option, Some, None, map, option_map, string_bytes, ⊤}
 use Rattle.std.specs.FinMap as finite
 use Rattle.std.specs.List.{AllByRecursion}
 use Rattle.sqlite_trees.specs.View.{View, IsClean}
@@ -42,6 +42,11 @@ joined ts = joined_on [] ts
 -- the aaguid of the credential that a response attests (WebAuthn Level 2, section 6.5.1)
 abbrev pub IsAaguid : Profile → responses.AuthenticatorAttestationResponse → Option (List ℕ) → Type 0
 IsAaguid profile r found = (o : Attestation) (a : AuthenticatorData) (c : AttestedCredential) → Attests profile r o a c → found ≡ Some c.aaguid
+
+-- it is none, or that of a credential that a response attests
+abbrev pub IsAttestedAaguid : Profile → responses.AuthenticatorAttestationResponse → Option (List ℕ) → Type 0
+IsAttestedAaguid profile r None = ⊤
+IsAttestedAaguid profile r (Some aaguid) = (o : Attestation) × (a : AuthenticatorData) × (c : AttestedCredential) × Attests profile r o a c × (aaguid ≡ c.aaguid)
 
 -- of each map of credentials and of details that the store held before it
 abbrev pub OfDetails : {S : Type 0} → (S → View) → KeptState S → KeptState S → (Placed → Details → Type 0) → Type 0

@@ -81,6 +81,11 @@ IsUnknown view old new (unknowns.Failed why) = IsFailure old new why
 abbrev pub IsAaguidOf : Profile → List ℕ → Option (List ℕ) → Type 0
 IsAaguidOf profile bs found = (a : AuthenticatorData) (c : AttestedCredential) → AuthOf profile a bs → a.attested ≡ Some c → found ≡ Some c.aaguid
 
+-- it is none, or that of the credential that they attest
+abbrev pub IsAttestedIn : Profile → List ℕ → Option (List ℕ) → Type 0
+IsAttestedIn profile bs None = ⊤
+IsAttestedIn profile bs (Some aaguid) = (a : AuthenticatorData) × (c : AttestedCredential) × AuthOf profile a bs × (a.attested ≡ Some c) × (aaguid ≡ c.aaguid)
+
 -- what is answered where nothing is told of credentials
 abbrev pub unknown : Unknown → Answer
 unknown unknowns.Memory = answers.Error errors.Memory

@@ -9,8 +9,8 @@ ghost use Rattle.credential_store.specs.Details.{detail_view, told};
 ghost use Rattle.kept_site.specs.Calls.{IsSame};
 ghost use Rattle.kept_site.specs.Causes.{IsDamaged};
 ghost use Rattle.site_lines.specs.Causes.{IsCausedIn};
-ghost use Rattle.site_lines.specs.Details.{AreTransports, IsAaguid, IsKnown, OfDetails, joined as joined_of, second as second_of};
-ghost use Rattle.site_lines.specs.Private.{IfUnknown, IsAaguidOf, IsUnknown};
+ghost use Rattle.site_lines.specs.Details.{AreTransports, IsAaguid, IsAttestedAaguid, IsKnown, OfDetails, joined as joined_of, second as second_of};
+ghost use Rattle.site_lines.specs.Private.{IfUnknown, IsAaguidOf, IsAttestedIn, IsUnknown};
 ghost use Rattle.site_lines.specs.declared.knowing.Unknown.TheVariants as unknowns;
 
 use crate::answer::Known;
@@ -121,7 +121,7 @@ pub(crate) fn all_known<S: Store>(
 
 /// The aaguid in authenticator data.
 fn aaguid_of(alloc: Global, profile: Profile, bytes: &[u8]) -> Result<Option<Vec<u8>>, AllocError>
-    ensures { IfOk result (λ found. IsAaguidOf profile bytes.now (option_map (λ a. a.items) found)) }
+    ensures { IfOk result (λ found. IsAaguidOf profile bytes.now (option_map (λ a. a.items) found) × IsAttestedIn profile bytes.now (option_map (λ a. a.items) found)) }
 {
     let Ok(data) = read_view(profile, bytes) else {
         return Ok(None);
@@ -138,7 +138,8 @@ fn aaguid_in(
     profile: Profile,
     response: &RegistrationResponse,
 ) -> Result<Option<Vec<u8>>, AllocError>
-    ensures { IfOk result (λ found. IsAaguid profile (registration_response_view response.now) (option_map (λ a. a.items) found)) }
+    ensures { IfOk result (λ found. IsAaguid profile (registration_response_view response.now) (option_map (λ a. a.items) found)
+        × IsAttestedAaguid profile (registration_response_view response.now) (option_map (λ a. a.items) found)) }
 {
     match AttestationObject::read(alloc, response.object.as_slice()) {
         Ok(object) => aaguid_of(alloc, profile, object.auth_data.as_slice()),
@@ -156,7 +157,8 @@ pub(crate) fn detail_of(
     response: &RegistrationResponse,
 ) -> Result<Detail, AllocError>
     ensures { IfOk result (λ d. (aaguid : Option (List ℕ)) × IsAaguid profile (registration_response_view response.now) aaguid
-        × (detail_view d ≡ told (Some (second_of now)) None (joined_of (map string_bytes transports.now)) aaguid)) }
+        × (detail_view d ≡ told (Some (second_of now)) None (joined_of (map string_bytes transports.now)) aaguid)
+        × IsAttestedAaguid profile (registration_response_view response.now) aaguid) }
 {
     Ok(Detail {
         created_at: Some(second(now)),

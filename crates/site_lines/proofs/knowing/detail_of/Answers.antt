@@ -9,7 +9,8 @@ pub returns : goal.returns
 returns c =
     let aaguid = option_map (λ a. a.items) c.in_ok-aaguid_in.field-0 in (
       aaguid,
-      c.in_ok-aaguid_in.ensures,
+      c.in_ok-aaguid_in.ensures.0,
       ap (λ n. told (Some n) None c.in_ok-joined.field-0.items aaguid) (search rules ∙ c.second.ensures)
           ∙ ap (λ t. told (Some (second c.args.now)) None t aaguid) c.in_ok-joined.ensures,
+      c.in_ok-aaguid_in.ensures.1,
     )
