@@ -1,7 +1,6 @@
 -- A failure that has its cause in a part of an act has it in the act.
-use Rattle.std.proofs.Common.{◌≡◌, ℕ, ℤ, List, ap, arith, inl, inr, refl, subst}
-use Rattle.std.specs.Prelude.{◌≤◌, ◌+◌, ◌-◌, ◌^◌, Err, IfErr, Ok, min}
-use Rattle.std.specs.declared.result.Result.{Result}
+use Rattle.std.proofs.Common.{◌≡◌, ℕ, ℤ, ap, arith, inl, inr, refl, subst}
+use Rattle.std.specs.Prelude.{◌≤◌, ◌+◌, ◌-◌, ◌^◌, min}
 use Rattle.sqlite_trees.specs.View.{HasCause, IsClean, IsStorableRow, View}
 use Rattle.sqlite_trees.specs.declared.error.StoreError.{StoreError}
 use Rattle.sqlite_trees.specs.declared.error.StoreError.TheVariants.{OutOfMemory, Io, Corrupt, Full, Broken, Unstorable}
@@ -23,7 +22,7 @@ use Rattle.site_acts.specs.declared.act.FinishRegistration.{FinishRegistration}
 use Rattle.site_acts.specs.declared.act.Act.{Act}
 use Rattle.site_acts.specs.declared.act.Act.TheVariants as acts
 use Rattle.site_lines.specs.Causes.{FailsBy, FailsIn, IfFailed, IsCausedIn, RefusesBegin}
-use Rattle.site_lines.specs.Private.{IfUnknown, IsRefusedRegistration, not_begun, unknown}
+use Rattle.site_lines.specs.Private.{IfUnknown, IsRefusedRegistration}
 use Rattle.site_lines.specs.declared.answer.Answer.{Answer}
 use Rattle.site_lines.specs.declared.answer.Answer.TheVariants as answers
 use Rattle.site_lines.specs.declared.knowing.Unknown.{Unknown}
@@ -77,19 +76,6 @@ if_begin_store P Q (begins.Store why) f h = f why h
 pub if_unknown : (P Q : Failure → Type 0) (e : Unknown) → ((why : Failure) → P why → Q why) → IfUnknown P e → IfUnknown Q e
 if_unknown P Q unknowns.Memory f h = tt
 if_unknown P Q (unknowns.Failed why) f h = f why h
-
-pub not_begun_fails : (P : Failure → Type 0) (e : BeginFailure) → IfBeginStore P e → IfFailed P (not_begun e)
-not_begun_fails P (begins.Site why) h = tt
-not_begun_fails P begins.NoNumber h = tt
-not_begun_fails P (begins.Store why) h = h
-
-pub unknown_fails : (P : Failure → Type 0) (e : Unknown) → IfUnknown P e → IfFailed P (unknown e)
-unknown_fails P unknowns.Memory h = tt
-unknown_fails P (unknowns.Failed why) h = h
-
-pub if_err : {A E : Type 0} (r : Result A E) (P Q : E → Type 0) → ((e : E) → P e → Q e) → IfErr r P → IfErr r Q
-if_err (Ok x) P Q f h = tt
-if_err (Err e) P Q f h = f e h
 
 -- ---- behind a look
 

@@ -13,14 +13,13 @@ use Rattle.authdata.specs.Responses.{registration_response_view}
 use Rattle.authdata.specs.Responses as responses
 use Rattle.authdata.proofs.Objects.{one_object}
 use Rattle.authdata.proofs.Unique.{one_value}
-use Rattle.verification.specs.Registration.{Attests}
 use Rattle.ceremony_sessions.specs.Sessions.{IsRefused, Opening, challenge_of}
 use Rattle.ceremony_sessions.specs.declared.error.Error.TheVariants as full
 use Rattle.timed_sessions.specs.Timed.{IsTrimmed, Timed, after_begin}
 use Rattle.credential_store.specs.Held.{Placed}
 use Rattle.credential_store.specs.Details.{Detail, Details, HoldsDetails, told}
-use Rattle.kept_site.specs.State.{IsHeld, KeptState}
-use Rattle.kept_site.specs.Calls.{IsFailure, IsOneSite, IsSame}
+use Rattle.kept_site.specs.State.{KeptState}
+use Rattle.kept_site.specs.Calls.{IsSame}
 use Rattle.kept_site.specs.declared.failure.Failure.{Failure}
 use Rattle.kept_site.specs.declared.failure.BeginFailure.{BeginFailure}
 use Rattle.kept_site.specs.declared.failure.BeginFailure.TheVariants as begins
@@ -36,7 +35,7 @@ use Rattle.site_lines.specs.declared.answer.Known.{Known}
 use Rattle.verification.specs.declared.refusal.SignInRefusal.{SignInRefusal}
 use Rattle.verification.specs.declared.refusal.RegistrationRefusal.{RegistrationRefusal}
 use Rattle.site_lines.specs.Answers.{Begins, Keeps, TellsRegistrationBegun, TellsSignInBegun, opens_registration, opens_sign_in}
-use Rattle.site_lines.specs.Details.{AreKnown, IsAaguid, IsAttestedAaguid, IsKnown, OfDetails, RegistersDetail, TellsAllowed, TellsDetails, TellsExcluded, TellsRowDetails, UsesDetail, joined, joined_on, second, with_comma}
+use Rattle.site_lines.specs.Details.{IsAaguid, IsAttestedAaguid, IsKnown, OfDetails, RegistersDetail, TellsAllowed, TellsDetails, TellsExcluded, TellsRowDetails, UsesDetail, joined, joined_on, second, with_comma}
 use Rattle.site_lines.specs.Private.{BeginsNone, IsAaguidOf, IsAttestedIn, IsNotBegunAfter, IsRefusedRegistration, IsRefusedSignIn, IsUnknown, IsWithKnown, KeepsDetail, not_begun}
 use Rattle.site_lines.specs.declared.knowing.Unknown.{Unknown}
 use Rattle.site_lines.specs.declared.knowing.Unknown.TheVariants as unknowns

@@ -1,6 +1,6 @@
 -- What an answer says of the site from before the line and of the site from after it. What it says of credentials is said of
 -- each map of credentials that the store holds, where the disk has returned what was written.
-use Rattle.std.specs.Prelude.{◌≡◌, ◌≤◌, ◌+◌, ◌-◌, ◌^◌, ◌++◌, ◌⊎◌, ℕ, List, Bool, Option, Some, None, filter, map, option_map, is_some}
+use Rattle.std.specs.Prelude.{◌≡◌, ◌≤◌, ◌+◌, ◌-◌, ◌^◌, ◌++◌, ℕ, List, Bool, Option, Some, None, filter, map, option_map, is_some}
 use Rattle.std.specs.FinMap as finite
 use Rattle.std.specs.Str.{bytes_eq}
 use Rattle.sha2.specs.Sha256.{sha256}

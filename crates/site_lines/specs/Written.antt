@@ -23,7 +23,6 @@ use Rattle.credential_table.specs.Views.{row_view}
 use Rattle.credential_table.specs.declared.row.Row.{Row}
 use Rattle.credential_store.specs.Details.{detail_view}
 use Rattle.kept_site.specs.declared.finish.SignedIn.{SignedIn}
-use Rattle.kept_site.specs.declared.registration.Registered.{Registered}
 use Rattle.site_lines.specs.Options.{base64url, creation_options, request_options}
 use Rattle.site_lines.specs.declared.answer.Answer.{Answer}
 use Rattle.site_lines.specs.declared.answer.Answer.TheVariants as answers
