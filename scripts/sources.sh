@@ -34,7 +34,7 @@ sources_of() {
 machine_sources() {
     local program
     {
-        for program in "${programs[@]}" "libpasskey passkey_c"; do sources_of "${program#* }"; done
+        for program in "${programs[@]}" "libpasskey passkey_exports"; do sources_of "${program#* }"; done
         cat "$top"/c/{heap.c,library} "$top"/c/machines/{heap.c,system.c,portable.c,wasm.h,retarget.py,one_file.py} \
             "$top"/scripts/{machines,built.sh}
     } | digest
@@ -57,7 +57,7 @@ read_manifest() {
 # The program of a crate as it is built here, and the stamp beside it: 'SOURCES PROGRAM BY', the digests of its sources and
 # of itself, and what proved it: 'gate' (./test) or 'build' (./passkey --build).
 built_of() {
-    if [ "$1" = passkey_c ]; then echo "$top/crates/passkey_c/out/libpasskey_c.a"; else echo "$top/crates/$1/out/$1"; fi
+    if [ "$1" = passkey_exports ]; then echo "$top/crates/passkey_exports/out/libpasskey_exports.a"; else echo "$top/crates/$1/out/$1"; fi
 }
 stamp_of() { echo "$top/crates/$1/out/sources"; }
 

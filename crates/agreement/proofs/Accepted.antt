@@ -2,7 +2,7 @@
 use Rattle.std.proofs.Common.{◌≡◌, ◌≢◌, ◌<◌, ◌≤◌, ◌⊎◌, ◌^◌, ℕ, List, true, false, Option, Some, None, is_some, IsSome, refl, sym, ◌∙◌, ap, subst}
 use Rattle.std.proofs.Common.{arith, inl, inr}
 use Rattle.std.specs.Prelude.{Contains}
-use Rattle.std.proofs.lemmas.List.Elements.{All-contains}
+use Rattle.std.proofs.lemmas.List.Elements.{All-contains, recursion_from_All}
 use Rattle.std.proofs.lemmas.Option.{same_Some}
 use Rattle.std.specs.FinMap as finite
 use Rattle.sha2.specs.Sha256.{sha256}
@@ -18,21 +18,22 @@ use Rattle.authdata.specs.Layout.{AttestedCredential, AuthenticatorData, AuthOf}
 use Rattle.authdata.specs.Responses.{AuthenticatorAssertionResponse}
 use Rattle.verification.specs.SignIn.{AreUser, PassesSignIn}
 use Rattle.verification.specs.Records.{Credential}
-use Rattle.credential_table.specs.Table.{row_of}
-use Rattle.credential_table.proofs.RowLemmas.{found_id}
-use Rattle.ceremony_sessions.specs.Sessions.{ForSignIn, challenge_of, sign_in_at}
+use Rattle.site_state.specs.Table.{row_of}
+use Rattle.site_state.proofs.RowLemmas.{found_id}
+use Rattle.site_state.specs.Sessions.{ForSignIn, challenge_of, sign_in_at}
 use Rattle.site.specs.State.{SiteState, judged_sign_in}
 use Rattle.site.specs.Laws as site
 use Rattle.site.specs.Laws.{Takes}
 use Rattle.site.proofs.Goings.{none_there}
 use Rattle.authenticator.specs.Laws.{IsSound}
 use Rattle.authenticator.specs.Steps.{Entry, Keys, assertion}
-use Rattle.agreement.specs.World.{Abandons, Asks, AtSite, Begins, Bounds, Done, Event, EventEffect, EventEnd, Expires, Happens}
+use Rattle.agreement.specs.World.{Abandons, Asks, AtSite, Begins, Bounds, Deletes, Done, Event, EventEffect, EventEnd, Expires, Happens}
 use Rattle.agreement.specs.World.{Moment, Registers, RegistersBy, Reloads, Reopens, Restarts, Retires, SignsIn, SignsInBy, SiteEvent, World}
-use Rattle.agreement.specs.Agreement.{Agrees, AnswersSession, Brings, BringsTo, DifferInSession, Fits, IsAccepted, IsFresh, IsIdeal, IsKnown, RestsOnce}
+use Rattle.agreement.specs.Agreement.{Agrees, AnswersSession, Brings, BringsTo, DifferInSession, Fits, IsAccepted, IsDeleted, IsFresh, IsIdeal, IsKnown, RestsOnce}
 use Rattle.agreement.specs.Agreement.{ShareNone, message_of, session_in}
 use Rattle.agreement.specs.Below.{Below}
 use Rattle.agreement.proofs.Sites.{SignedIn, signs_in, takes}
+use Rattle.agreement.proofs.Spans.{Spans}
 use Rattle.agreement.proofs.Worlds.{Lived, Since}
 
 none_if : (o : Option AttestedCredential) → is_some o ≡ false → o ≡ None
@@ -202,15 +203,15 @@ module _ (valid : Validity) (public : Keys) (b : Below valid public) where
             ),
       )
 
-  pub share_none : (m l : Moment) → Lived valid public b m → Since valid public b m.new l → ShareNone m l
-  share_none m l lm s i n k r t row low am al same e rm rl =
+  pub share_none : (m : Moment) (between : List Moment) (l : Moment) → Lived valid public b m → Spans valid public b between m.new l → ShareNone m between l
+  share_none m between l lm s i n k r t row low am al same kept e rm rl =
       let a = accepted m i n r row lm am in
       let c = accepted l i k t low s.lived al in
       let x = matches (m.old.site i).rp.profile a.auth r e a.spelled a.bare rm.message (sound_at m rm.there.0 e lm rm.there.1) in
       let one = b.readings.one_front (m.old.site i).rp.profile (l.old.site i).rp.profile a.auth c.auth r.auth_data t.auth_data (sha256 r.client_data)
       (sha256 t.client_data) a.spelled c.spelled (sym rm.message
       ∙ rl.message) in
-      let later = (s.goes_on i).rows r.credential a.after a.stored in
+      let later = s.rows i r.credential a.after (recursion_from_All (λ x. IsDeleted i r.credential x → ⊥) between kept) a.stored in
       let is : Some later.now ≡ Some low = sym later.found ∙ ap (λ id. row_of id (l.old.site i).rows) (a.id ∙ same) ∙ al.tries.found in
       let now : later.now.sign_count ≡ low.sign_count = ap (λ (z : Credential). z.sign_count) (same_Some later.now low is) in
       clash a.auth.sign_count c.auth.sign_count a.after.sign_count later.now.sign_count low.sign_count x.counts
@@ -234,7 +235,7 @@ module _ (valid : Validity) (public : Keys) (b : Below valid public) where
 
   pub differ : (m l : Moment) → Lived valid public b m → Since valid public b m.new l → DifferInSession m l
   differ m l lm s i n em el am al =
-      let gone = (s.goes_on i).gone n (takes_at m i n lm em am).gone in
+      let gone = s.goes_on i n (takes_at m i n lm em am).gone in
       let open_now = (takes_at l i n s.lived el al).was_open in
       none_there (finite.get (l.old.site i).sessions.expected n) open_now gone.1
 
@@ -244,6 +245,7 @@ module _ (valid : Validity) (public : Keys) (b : Below valid public) where
   session_to (Begins o) n r brings = absurd brings
   session_to (Abandons k) n r brings = absurd brings
   session_to (Retires id) n r brings = absurd brings
+  session_to (Deletes id) n r brings = absurd brings
   session_to (Registers k q) n r brings = absurd brings
   session_to (RegistersBy k c ps t) n r brings = absurd brings
   session_to Expires n r brings = absurd brings

@@ -3,12 +3,15 @@ use Rattle.std.proofs.lemmas.List.Elements.{All-from_recursion}
 use Rattle.cose.specs.Schemes.{Validity}
 use Rattle.authenticator.specs.Steps.{Keys}
 use Rattle.authenticator.proofs.Stored.{each_weaker}
-use Rattle.agreement.specs.Agreement.{Agrees, DifferInSession, Fits, IsIdeal, IsKnown, OfAllRuns, Registered, RestsOnce, Retiring, ShareNone, StaysRetired}
+use Rattle.agreement.specs.Agreement.{Agrees, Deleting, DifferInSession, Fits, IsIdeal, IsKnown, OfAllRuns, Registered, RestsOnce, Retiring, ShareNone}
+use Rattle.agreement.specs.Agreement.{StaysDeleted, StaysRetired}
 use Rattle.agreement.specs.Below.{Below}
 use Rattle.agreement.proofs.Worlds.{Since, at_start, pairs, since, starts}
 use Rattle.agreement.proofs.Accepted.{agrees, differ, fits, known, rests_once, share_none}
+use Rattle.agreement.proofs.Deleted.{deleting, stays_deleted}
 use Rattle.agreement.proofs.Registered.{fits_registration}
 use Rattle.agreement.proofs.Retired.{retiring, stays_retired}
+use Rattle.agreement.proofs.Spans.{spans}
 
 pub of_all_runs : (valid : Validity) (public : Keys) → Below valid public → OfAllRuns valid public
 of_all_runs valid public b w run start is =
@@ -26,11 +29,15 @@ of_all_runs valid public b w run start is =
       agrees = All-from_recursion (λ m. IsIdeal valid m → Agrees m) run
           (each_weaker (Since valid public b w) (λ m. IsIdeal valid m → Agrees m) (λ m s k. agrees valid public b m s.lived k) run
           (since valid public b w w run sound (at_start valid public b w) is));
-      share_none = pairs valid public b ShareNone (share_none valid public b) w run sound is;
+      share_none = spans valid public b ShareNone (share_none valid public b) w run sound is;
       rests_once = pairs valid public b RestsOnce (rests_once valid public b) w run sound is;
       sessions = pairs valid public b DifferInSession (differ valid public b) w run sound is;
       retiring = All-from_recursion Retiring run
           (each_weaker (Since valid public b w) Retiring (λ m s. retiring valid public b m s.lived) run
           (since valid public b w w run sound (at_start valid public b w) is));
-      retired = pairs valid public b StaysRetired (stays_retired valid public b) w run sound is;
+      retired = spans valid public b StaysRetired (stays_retired valid public b) w run sound is;
+      deleting = All-from_recursion Deleting run
+          (each_weaker (Since valid public b w) Deleting (λ m s. deleting valid public b m s.lived) run
+          (since valid public b w w run sound (at_start valid public b w) is));
+      deleted = spans valid public b StaysDeleted (stays_deleted valid public b) w run sound is;
     }

@@ -7,13 +7,13 @@ use Rattle.std.proofs.lemmas.Grind.{common_steps}
 use Rattle.std.proofs.lemmas.Bool.Decides.{eqb_tells}
 use Rattle.cose.specs.Schemes.{Validity}
 use Rattle.authdata.specs.Responses as responses
-use Rattle.ceremony_sessions.specs.Sessions.{Expected, Opening, OpensRegistration, OpensSignIn, expected_of}
+use Rattle.site_state.specs.Sessions.{Expected, Opening, OpensRegistration, OpensSignIn, expected_of}
 use Rattle.site.specs.State.{SiteState}
 use Rattle.site.proofs.Goings.{begun_or, still}
 use Rattle.authenticator.specs.Steps.{Keys}
 use Rattle.agreement.specs.Begun.{ExpectsAsked, IsBegun, SessionsOfAllRuns}
 use Rattle.agreement.specs.Ledger.{world_after}
-use Rattle.agreement.specs.World.{Abandons, Asks, AtSite, Begins, Bounds, Done, Event, EventEnd, Expires, Happens, IsRun, Moment, Nothing, Registers}
+use Rattle.agreement.specs.World.{Abandons, Asks, AtSite, Begins, Bounds, Deletes, Done, Event, EventEnd, Expires, Happens, IsRun, Moment, Nothing, Registers}
 use Rattle.agreement.specs.World.{RegistersBy, Reloads, Reopens, Restarts, Retires, SignsIn, SignsInBy, SiteActs, SiteEvent, World}
 use Rattle.agreement.specs.Below.{Below}
 use Rattle.agreement.proofs.Ledger.{front, longer}
@@ -71,6 +71,7 @@ module _ (valid : Validity) (public : Keys) (b : Below valid public) where
       ]
   was_open s t (Abandons k) n x acts h = inl (still s k n x (subst (λ (z : SiteState). finite.get z.sessions.expected n ≡ Some x) acts h))
   was_open s t (Retires id) n x acts h = inl (subst (λ (z : SiteState). finite.get z.sessions.expected n ≡ Some x) acts h)
+  was_open s t (Deletes id) n x acts h = inl (subst (λ (z : SiteState). finite.get z.sessions.expected n ≡ Some x) acts h)
   was_open s t (SignsIn k r) n x acts h = open_signed_in s t k r (SignsIn k r) n x (record { passes = acts.0; after = acts.1 }) h
   was_open s t (SignsInBy k c ps d) n x acts h =
       let there = carried_there valid public b s t k c ps d acts in

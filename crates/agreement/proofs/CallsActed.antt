@@ -1,12 +1,13 @@
 -- What each call does is an event.
 use Rattle.std.proofs.Common.{◌≡◌, refl, ap, sym, ◌∙◌, ℕ}
-use Rattle.ceremony_sessions.specs.Sessions.{OpenSessions}
-use Rattle.site.specs.State.{SiteState, none_open}
+use Rattle.site_state.specs.Sessions.{OpenSessions}
+use Rattle.site.specs.State.{SiteState, judged_registration, none_open}
 use Rattle.cose.specs.Schemes.{Validity}
 use Rattle.authenticator.specs.Steps.{Keys}
 use Rattle.agreement.specs.Calls.{CallsAct}
 use Rattle.agreement.specs.World.{after_call, after_restart}
 use Rattle.agreement.proofs.Lived.{changes_holder}
+use Rattle.agreement.proofs.Sites.{passes_with_room, succeeds_with_room}
 
 pub calls_act : (valid : Validity) (public : Keys) → CallsAct valid public
 calls_act valid public = record {
@@ -14,9 +15,9 @@ calls_act valid public = record {
   abandons = λ s n. refl;
   retires = λ s id. refl;
   signs_in = λ s t n r passes after. (passes, after);
-  registers = λ s t n r passes after. (passes, after);
+  registers = λ s t n r passes after. (passes_with_room valid (judged_registration s n r) passes, after);
   signs_in_by = λ s t n c used ps d r succeeds after. ((used, r, succeeds), after);
-  registers_by = λ s t n c used ps d r succeeds after. ((used, r, succeeds), after);
+  registers_by = λ s t n c used ps d r succeeds after. (succeeds_with_room valid s n c used ps d r succeeds, after);
   restarts = λ s t bytes saved loaded. record {
     bytes = bytes;
     saved = saved;

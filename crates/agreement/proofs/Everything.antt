@@ -11,8 +11,8 @@ use Rattle.cose.specs.Schemes.{Validity}
 use Rattle.authdata.specs.Responses as responses
 use Rattle.ctap_replies.specs.Replies.{Assertion}
 use Rattle.verification.specs.Records as registered_row
-use Rattle.credential_table.specs.Table.{row_of, signed_in as counted_row}
-use Rattle.ceremony_sessions.specs.Sessions.{Expected, for_registration}
+use Rattle.site_state.specs.Table.{retired, row_of, signed_in as counted_row}
+use Rattle.site_state.specs.Sessions.{Expected, for_registration}
 use Rattle.authdata.specs.Flags.{is_set, BE}
 use Rattle.site.proofs.Kept.{row_changed}
 use Rattle.saved_table.specs.Saved.{TableOf, version_of}
@@ -25,8 +25,8 @@ use Rattle.authenticator.specs.Steps.{Entry, Keys}
 use Rattle.client.specs.Responses.{response_of}
 use Rattle.agreement.specs.Ends.{AuthenticatorEnd}
 use Rattle.agreement.specs.Honest.{AcceptsBoth, IsHonestRun, Run}
-use Rattle.agreement.specs.World.{Abandons, Asks, AtSite, Begins, Bounds, Done, Event, EventEffect, Expires, Holder, IsRun, Moment, Registers, RegistersBy, Reloads}
-use Rattle.agreement.specs.World.{Reopens, Restarts, Retires, SignsIn, SignsInBy, SiteActs, SiteEvent, World, reopened}
+use Rattle.agreement.specs.World.{Abandons, Asks, AtSite, Begins, Bounds, Deletes, Done, Event, EventEffect, Expires, Holder, IsRun, Moment, Registers, RegistersBy, Reloads}
+use Rattle.agreement.specs.World.{Reopens, Restarts, Retires, SignsIn, SignsInBy, SiteActs, SiteEvent, World, after_delete, reopened}
 use Rattle.agreement.specs.Agreement.{Brings, IsIdeal, WasSigned, message_of}
 use Rattle.agreement.specs.Lived as live
 use Rattle.agreement.specs.Lived.{Place, TakesPlace, with_holder, with_site}
@@ -39,7 +39,7 @@ use Rattle.agreement.proofs.Registering as registering
 use Rattle.agreement.proofs.SigningIn as signing_in
 use Rattle.agreement.proofs.Runs.{agrees, asked, here, idle, registered}
 use Rattle.agreement.proofs.Sites as sites
-use Rattle.agreement.proofs.Sites.{Registered, registered_by, same_assertion, signed_in_by}
+use Rattle.agreement.proofs.Sites.{Registered, registered_by, same_assertion, signed_in_by, succeeds_with_room}
 
 module _ (valid : Validity) (public : Keys) (b : Below valid public) (keeps : KeepsAlg public) (x : Run) (h : IsHonestRun valid public x) (p : Place)
     (t : TakesPlace valid public x h p) where
@@ -107,7 +107,11 @@ module _ (valid : Validity) (public : Keys) (b : Below valid public) (keeps : Ke
   registers_by = RegistersBy x.registering.session x.registering.channel x.registering.packets x.registering.out.client_data
 
   by_packets : SiteActs valid x.registering.site registers_by x.registered
-  by_packets = ((length x.registering.packets, a.registers.reply, a.registers.accepted), h.registered)
+  by_packets = (
+    succeeds_with_room valid x.registering.site x.registering.session x.registering.channel (length x.registering.packets) x.registering.packets
+        x.registering.out.client_data a.registers.reply a.registers.accepted,
+    h.registered,
+  )
 
   by_response : (r : responses.AuthenticatorAttestationResponse) × Registered valid public b x.registering.site x.registering.session r x.registered
   by_response =
@@ -204,6 +208,15 @@ module _ (valid : Validity) (public : Keys) (b : Below valid public) (keeps : Ke
         refl,
       )
 
+  -- and once the credential is retired
+  abbrev retired_there : site.SiteState
+  retired_there = after_retire bounded response.credential
+
+  still_there : IsSome (row_of response.credential retired_there.rows)
+  still_there =
+      let row_is = row_changed response.credential retired bounded.rows registered_there.0 (λ r. refl) registered_there.1 in
+      subst (λ (o : Option registered_row.Credential). IsSome o) (sym row_is) refl
+
   none_there : (n : ℕ) → finite.get (none_left x.registering.site).sessions.expected n ≡ None
   none_there n = grind (arith, gets, common_steps)
 
@@ -255,35 +268,38 @@ module _ (valid : Validity) (public : Keys) (b : Below valid public) (keeps : Ke
     m12 = done m11.new (AtSite 1 Reopens) (with_site 1 bounded m11.new)
 
     abbrev m13 : Moment
-    m13 = done m12.new (AtSite 1 (Retires response.credential)) (with_site 1 (after_retire bounded response.credential) m12.new)
+    m13 = done m12.new (AtSite 1 (Retires response.credential)) (with_site 1 retired_there m12.new)
 
     abbrev m14 : Moment
-    m14 = done m13.new (AtSite 2 Restarts) (with_site 2 first m13.new)
+    m14 = done m13.new (AtSite 1 (Deletes response.credential)) (with_site 1 (after_delete retired_there response.credential) m13.new)
 
     abbrev m15 : Moment
-    m15 = done m14.new (Reloads 2) (with_holder 2 new_holder m14.new)
+    m15 = done m14.new (AtSite 2 Restarts) (with_site 2 first m14.new)
 
     abbrev m16 : Moment
-    m16 = done m15.new (AtSite 0 (Begins p.opening)) (with_site 0 x.registering.site m15.new)
+    m16 = done m15.new (Reloads 2) (with_holder 2 new_holder m15.new)
 
     abbrev m17 : Moment
-    m17 = done m16.new (asks_first 0) (with_holder 0 made_holder m16.new)
+    m17 = done m16.new (AtSite 0 (Begins p.opening)) (with_site 0 x.registering.site m16.new)
 
     abbrev m18 : Moment
-    m18 = done m17.new (AtSite 0 registers_by) (with_site 0 x.registered m17.new)
+    m18 = done m17.new (asks_first 0) (with_holder 0 made_holder m17.new)
 
     abbrev m19 : Moment
-    m19 = done m18.new (AtSite 0 (Begins h.begins.0)) (with_site 0 x.signing_in.site m18.new)
+    m19 = done m18.new (AtSite 0 registers_by) (with_site 0 x.registered m18.new)
 
     abbrev m20 : Moment
-    m20 = done m19.new (asks_then 0) (with_holder 0 signed_holder m19.new)
+    m20 = done m19.new (AtSite 0 (Begins h.begins.0)) (with_site 0 x.signing_in.site m19.new)
 
     abbrev m21 : Moment
-    m21 = done m20.new (AtSite 0 signs_in_by) (with_site 0 p.signed_in m20.new)
+    m21 = done m20.new (asks_then 0) (with_holder 0 signed_holder m20.new)
+
+    abbrev m22 : Moment
+    m22 = done m21.new (AtSite 0 signs_in_by) (with_site 0 p.signed_in m21.new)
 
     abbrev earlier : List Moment
     earlier =
-        m1 ∷ m2 ∷ m3 ∷ m4 ∷ m5 ∷ m6 ∷ m7 ∷ m8 ∷ m9 ∷ m10 ∷ m11 ∷ m12 ∷ m13 ∷ m14 ∷ m15 ∷ m16 ∷ m17 ∷ m18 ∷ m19 ∷ m20 ∷ []
+        m1 ∷ m2 ∷ m3 ∷ m4 ∷ m5 ∷ m6 ∷ m7 ∷ m8 ∷ m9 ∷ m10 ∷ m11 ∷ m12 ∷ m13 ∷ m14 ∷ m15 ∷ m16 ∷ m17 ∷ m18 ∷ m19 ∷ m20 ∷ m21 ∷ []
 
     -- ---- the effects
 
@@ -297,7 +313,7 @@ module _ (valid : Validity) (public : Keys) (b : Below valid public) (keeps : Ke
     none_open_first =
         let e = t.start.sites p.site in λ i. record { expected = e i; next = first.sessions.next; max_open = first.sessions.max_open }
 
-    is_run : IsRun valid public world (earlier ++ m21 ∷ [])
+    is_run : IsRun valid public world (earlier ++ m22 ∷ [])
     is_run = (
       refl,
       begins_at 1 world refl,
@@ -336,19 +352,23 @@ module _ (valid : Validity) (public : Keys) (b : Below valid public) (keeps : Ke
                             changed 1 Reopens bounded bounded m11.new refl refl,
                             (
                               refl,
-                              changed 1 (Retires response.credential) bounded (after_retire bounded response.credential) m12.new refl refl,
+                              changed 1 (Retires response.credential) bounded retired_there m12.new refl refl,
                               (
                                 refl,
-                                changed 2 Restarts first first m13.new refl (record {
-                                  bytes = restarts.0;
-                                  saved = restarts.1;
-                                  version = version_of first.rows;
-                                  loaded = restarts.1;
-                                  rp = refl;
-                                  policy = refl;
-                                  none_open = none_open_first;
-                                }),
-                                (refl, (new_holder.state, record { bytes = reloads.0; saved = reloads.1; loaded = reloads.2 }, changes_holder 2 new_holder new_holder m14.new refl), (refl, begins_at 0 m15.new refl, (refl, makes 0 m16.new refl, (refl, changed 0 registers_by x.registering.site x.registered m17.new refl by_packets, (refl, begins_again_at 0 m18.new refl, (refl, asserts 0 m19.new refl, (refl, changed 0 signs_in_by x.signing_in.site p.signed_in m20.new refl signs_by_packets, tt))))))),
+                                changed 1 (Deletes response.credential) retired_there (after_delete retired_there response.credential) m13.new refl refl,
+                                (
+                                  refl,
+                                  changed 2 Restarts first first m14.new refl (record {
+                                    bytes = restarts.0;
+                                    saved = restarts.1;
+                                    version = version_of first.rows;
+                                    loaded = restarts.1;
+                                    rp = refl;
+                                    policy = refl;
+                                    none_open = none_open_first;
+                                  }),
+                                  (refl, (new_holder.state, record { bytes = reloads.0; saved = reloads.1; loaded = reloads.2 }, changes_holder 2 new_holder new_holder m15.new refl), (refl, begins_at 0 m16.new refl, (refl, makes 0 m17.new refl, (refl, changed 0 registers_by x.registering.site x.registered m18.new refl by_packets, (refl, begins_again_at 0 m19.new refl, (refl, asserts 0 m20.new refl, (refl, changed 0 signs_in_by x.signing_in.site p.signed_in m21.new refl signs_by_packets, tt))))))),
+                                ),
                               ),
                             ),
                           ),
@@ -372,8 +392,8 @@ module _ (valid : Validity) (public : Keys) (b : Below valid public) (keeps : Ke
     ideal_response : IsIdeal valid m6
     ideal_response = ideal_at m6 1 1 refl refl (λ j n r brings. (brings.0, sym brings.1.1))
 
-    ideal_packets : IsIdeal valid m21
-    ideal_packets = ideal_at m21 0 0 refl refl one_carried
+    ideal_packets : IsIdeal valid m22
+    ideal_packets = ideal_at m22 0 0 refl refl one_carried
 
     -- ---- all of it
 
@@ -387,33 +407,34 @@ module _ (valid : Validity) (public : Keys) (b : Below valid public) (keeps : Ke
       made = subst (λ (g : Holder). Contains g.made row.key) (sym held) (0, omega arith, refl);
     }
 
-    happened : (kind : Kind) → Happened (earlier ++ m21 ∷ []) kind
+    happened : (kind : Kind) → Happened (earlier ++ m22 ∷ []) kind
     happened shown.begins = (m1, (0, omega arith, refl), refl, refl, tt)
     happened shown.abandons = (m8, (7, omega arith, refl), refl, refl, open_there)
     happened shown.retires = (m13, (12, omega arith, refl), refl, refl, registered_there)
+    happened shown.deletes = (m14, (13, omega arith, refl), refl, refl, still_there)
     happened shown.signs_in = (m6, (5, omega arith, refl), refl, refl, tt)
-    happened shown.signs_in_by_packets = (m21, (20, omega arith, refl), refl, refl, tt)
+    happened shown.signs_in_by_packets = (m22, (21, omega arith, refl), refl, refl, tt)
     happened shown.registers = (m3, (2, omega arith, refl), refl, refl, tt)
-    happened shown.registers_by_packets = (m18, (17, omega arith, refl), refl, refl, tt)
+    happened shown.registers_by_packets = (m19, (18, omega arith, refl), refl, refl, tt)
     happened shown.expires = (m10, (9, omega arith, refl), refl, refl, (x.registering.session, open_there, none_there x.registering.session))
     happened shown.bounds = (m11, (10, omega arith, refl), refl, refl, λ e. absurd (omega (arith, e)))
-    happened shown.restarts = (m14, (13, omega arith, refl), refl, refl, tt)
+    happened shown.restarts = (m15, (14, omega arith, refl), refl, refl, tt)
     happened shown.reopens = (m12, (11, omega arith, refl), refl, refl, tt)
     happened shown.asks = (m2, (1, omega arith, refl), refl, refl, tt)
-    happened shown.reloads = (m15, (14, omega arith, refl), refl, refl, tt)
+    happened shown.reloads = (m16, (15, omega arith, refl), refl, refl, tt)
 
     pub full_run : FullRun valid public
     full_run = record {
       world = world;
       start = record { sites = λ i. t.start.sites p.site; holders = λ k. t.start.holders p.holder };
       before = earlier;
-      last = m21;
+      last = m22;
       is_run = is_run;
-      ideal = All-from_recursion (IsIdeal valid) (earlier ++ m21 ∷ []) (quiet m1 (λ j n r e. e.1), (quiet m2 (λ j n r e. e), (quiet m3 (λ j n r e. e.1), (quiet m4 (λ j n r e. e.1), (quiet m5 (λ j n r e. e), (ideal_response, (quiet m7 (λ j n r e. e.1), (quiet m8 (λ j n r e. e.1), (quiet m9 (λ j n r e. e.1), (quiet m10 (λ j n r e. e.1), (quiet m11 (λ j n r e. e.1), (quiet m12 (λ j n r e. e.1), (quiet m13 (λ j n r e. e.1), (quiet m14 (λ j n r e. e.1), (quiet m15 (λ j n r e. e), (quiet m16 (λ j n r e. e.1), (quiet m17 (λ j n r e. e), (quiet m18 (λ j n r e. e.1), (quiet m19 (λ j n r e. e.1), (quiet m20 (λ j n r e. e), (ideal_packets, tt)))))))))))))))))))));
+      ideal = All-from_recursion (IsIdeal valid) (earlier ++ m22 ∷ []) (quiet m1 (λ j n r e. e.1), (quiet m2 (λ j n r e. e), (quiet m3 (λ j n r e. e.1), (quiet m4 (λ j n r e. e.1), (quiet m5 (λ j n r e. e), (ideal_response, (quiet m7 (λ j n r e. e.1), (quiet m8 (λ j n r e. e.1), (quiet m9 (λ j n r e. e.1), (quiet m10 (λ j n r e. e.1), (quiet m11 (λ j n r e. e.1), (quiet m12 (λ j n r e. e.1), (quiet m13 (λ j n r e. e.1), (quiet m14 (λ j n r e. e.1), (quiet m15 (λ j n r e. e.1), (quiet m16 (λ j n r e. e), (quiet m17 (λ j n r e. e.1), (quiet m18 (λ j n r e. e), (quiet m19 (λ j n r e. e.1), (quiet m20 (λ j n r e. e.1), (quiet m21 (λ j n r e. e), (ideal_packets, tt))))))))))))))))))))));
       each_kind = happened;
       elsewhere = (m6, (5, omega arith, refl), refl, signed_in_at m6 1 1 refl refl (refl, (refl, refl)) refl);
       by_packets = refl;
       signed_in =
-          signed_in_at m21 0 0 refl refl
+          signed_in_at m22 0 0 refl refl
           (refl, (refl, (length x.signing_in.packets, a.signs_in.accepted.0, a.signs_in.reply, a.signs_in.accepted.1, a.signs_in.accepted.2, refl))) refl;
     }

@@ -1,9 +1,9 @@
 -- What passes by one relation passes by a wider one; so a host's run is a run.
-use Rattle.std.proofs.Common.{◌≡◌, ◌⊎◌, inl, inr, ℕ, List, [], ◌∷◌, codes, sym, ◌∙◌}
+use Rattle.std.proofs.Common.{◌≡◌, inl, inr, ℕ, List, [], ◌∷◌, codes, sym, ◌∙◌}
 use Rattle.cose.specs.Schemes.{Validity}
 use Rattle.authdata.specs.Layout.{AttestedCredential}
 use Rattle.authdata.specs.Objects.{Attestation}
-use Rattle.authdata.specs.Statements.{IsNone, IsSelfSigned}
+use Rattle.authdata.specs.Statements.{IsSelfSigned}
 use Rattle.verification.specs.SignIn as authentication
 use Rattle.verification.specs.SignIn.{JudgedSignIn, PassesSignIn, PassesSignInStep}
 use Rattle.verification.specs.Registration as registration
@@ -19,8 +19,8 @@ use Rattle.authenticator.proofs.Wider as stepping
 use Rattle.client.specs.Responses.{response_of}
 use Rattle.ceremony.specs.Registration.{response}
 use Rattle.agreement.specs.Hosts.{HostsRuns, IsHostsRun, IsWithin}
-use Rattle.agreement.specs.World.{Abandons, Asks, AtSite, Begins, Bounds, Done, Event, EventEnd, Expires, Happens, IsRun, Moment, Nothing, Registers}
-use Rattle.agreement.specs.World.{RegistersBy, Reloads, Reopens, Restarts, Retires, SignsIn, SignsInBy, SiteActs, SiteEvent, World}
+use Rattle.agreement.specs.World.{Abandons, Asks, AtSite, Begins, Bounds, Deletes, Done, Event, EventEnd, Expires, Happens, IsRun, Moment, Nothing, Registers}
+use Rattle.agreement.specs.World.{RegistersBy, Reloads, Reopens, Restarts, Retires, SignsIn, SignsInBy, SiteActs, SiteEvent, World, with_room}
 
 not_packed : (fmt : List ℕ) → fmt ≡ codes "none" → fmt ≡ codes "packed" → ⊥
 not_packed fmt a b = let bad : codes "none" ≡ codes "packed" = sym a ∙ b in absurd cc
@@ -63,13 +63,14 @@ module _ (narrow wide : Validity) (within : IsWithin narrow wide) where
   acts s t (SignsInBy n c ps d) h =
       let succeeds = h.0.2 in
       ((h.0.0, h.0.1, (succeeds.0, succeeds.1, succeeds.2, signs_in (judged_sign_in s n (response_of h.0.1 d)) succeeds.3)), h.1)
-  acts s t (Registers n r) h = (registers (judged_registration s n r) h.0, h.1)
+  acts s t (Registers n r) h = (registers (with_room (judged_registration s n r)) h.0, h.1)
   acts s t (RegistersBy n c ps d) h =
-      let succeeds = h.0.2 in
-      ((h.0.0, h.0.1, (succeeds.0, succeeds.1, succeeds.2, registers (judged_registration s n (response h.0.1 d)) succeeds.3)), h.1)
+      let came = h.0 in
+      ((came.0, came.1, came.2, came.3, came.4, registers (with_room (judged_registration s n (response came.2 d))) came.5), h.1)
   acts s t (Begins o) h = h
   acts s t (Abandons n) h = h
   acts s t (Retires id) h = h
+  acts s t (Deletes id) h = h
   acts s t Expires h = h
   acts s t (Bounds n) h = h
   acts s t Restarts h = h

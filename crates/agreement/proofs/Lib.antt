@@ -28,3 +28,6 @@ pub mod OneStep
 pub mod Everything
 pub mod OneRun
 pub mod CallsActed
+pub mod Rows
+pub mod Spans
+pub mod Deleted

@@ -10,7 +10,7 @@ use Rattle.cose.specs.declared.key.CoseKey.{CoseKey}
 use Rattle.authdata.specs.Responses as responses
 use Rattle.ctap_replies.specs.Replies.{Assertion}
 use Rattle.verification.specs.Records as registered_row
-use Rattle.credential_table.specs.Table.{row_of}
+use Rattle.site_state.specs.Table.{row_of}
 use Rattle.site.specs.State as site
 use Rattle.authenticator.specs.State.{AuthenticatorState}
 use Rattle.authenticator.specs.Steps.{Entry, Keys}
@@ -26,7 +26,7 @@ use Rattle.agreement.proofs.Exchanges.{IsStep}
 use Rattle.agreement.proofs.Registering as registering
 use Rattle.agreement.proofs.SigningIn as signing_in
 use Rattle.agreement.proofs.Runs.{agrees, asked, here, idle, registered}
-use Rattle.agreement.proofs.Sites.{same_assertion}
+use Rattle.agreement.proofs.Sites.{same_assertion, succeeds_with_room}
 
 -- ---- a world in which one is changed
 
@@ -117,8 +117,11 @@ module _ (valid : Validity) (public : Keys) (b : Below valid public) (keeps : Ke
       let there : third.old.site i ≡ x.registering.site = site_there i x.registering.site p.world in (
         x.registered,
         subst (λ (s : site.SiteState). SiteActs valid s
-            (RegistersBy x.registering.session x.registering.channel x.registering.packets x.registering.out.client_data) x.registered) (sym there)
-            ((length x.registering.packets, a.registers.reply, a.registers.accepted), h.registered),
+            (RegistersBy x.registering.session x.registering.channel x.registering.packets x.registering.out.client_data) x.registered) (sym there) (
+              succeeds_with_room valid x.registering.site x.registering.session x.registering.channel (length x.registering.packets) x.registering.packets
+                  x.registering.out.client_data a.registers.reply a.registers.accepted,
+              h.registered,
+            ),
         changes_site i x.registered third.old,
       )
 

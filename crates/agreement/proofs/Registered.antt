@@ -9,13 +9,13 @@ use Rattle.authdata.specs.Statements.{IsNone, IsSelfSigned}
 use Rattle.cose.specs.Schemes.{Validity}
 use Rattle.cose.specs.declared.key.CoseKey.{CoseKey}
 use Rattle.verification.specs.Registration.{IsStated, counted}
-use Rattle.credential_table.specs.Table.{row_of}
+use Rattle.site_state.specs.Table.{row_of}
 use Rattle.site.specs.State.{SiteState, registered}
 use Rattle.authenticator.specs.Steps.{Keys}
 use Rattle.agreement.specs.World.{AtSite, Moment}
 use Rattle.agreement.specs.Agreement.{Registered}
 use Rattle.agreement.specs.Below.{Below}
-use Rattle.agreement.proofs.Sites.{registered_in}
+use Rattle.agreement.proofs.Sites.{registered_in, unregistered}
 use Rattle.agreement.proofs.Storing.{row_last}
 use Rattle.agreement.proofs.Worlds.{Lived}
 use Rattle.agreement.proofs.Accepted.{the_one}
@@ -40,7 +40,7 @@ module _ (valid : Validity) (public : Keys) (b : Below valid public) where
       let a = after.2 in
       let c = after.3 in
       let seen = the_one (seen_of r.client_data) x.passes.1.0 in
-      let absent = b.sites.registered_refused old n r x.passes after.1 a c after.5 in
+      let absent = unregistered valid public b old effect.0 n r x in
       let rows : (m.new.site i).rows ≡ old.rows ++ registered e a c ∷ [] = ap (λ (s : SiteState). s.rows) (effect.2.now ∙ after.6) in
       record {
         expected = e;

@@ -25,7 +25,7 @@ use Rattle.verification.specs.Registration.{counted}
 use Rattle.verification.specs.RegistrationAnswers.{AcceptsAttestation}
 use Rattle.verification.specs.declared.party.Policy.{Policy}
 use Rattle.verification.proofs.Expected.{expected_says}
-use Rattle.credential_table.specs.Table.{row_of}
+use Rattle.site_state.specs.Table.{row_of}
 use Rattle.site.specs.State as site
 use Rattle.site.specs.State.{IsAfterRegistration, judged_registration, registered}
 use Rattle.authenticator.specs.State.{CredentialSource, AuthenticatorState}

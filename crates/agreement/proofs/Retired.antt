@@ -1,19 +1,21 @@
--- A credential that was retired stays retired.
+-- A credential that was retired stays retired until it is deleted.
 use Rattle.std.proofs.Common.{◌≡◌, inl, inr, ℕ, List, [], ◌∷◌, ◌++◌, Some, None, refl, sym, ◌∙◌, ap, subst}
 use Rattle.std.proofs.lemmas.List.{append_cancel_left}
+use Rattle.std.proofs.lemmas.List.Elements.{recursion_from_All}
 use Rattle.cose.specs.Schemes.{Validity}
 use Rattle.verification.specs.Records.{Credential}
-use Rattle.credential_table.specs.Table.{retired, row_of}
-use Rattle.credential_table.proofs.RowLemmas.{found_id}
+use Rattle.site_state.specs.Table.{retired, row_of}
+use Rattle.site_state.proofs.RowLemmas.{found_id}
 use Rattle.site.specs.State.{SiteState, registered}
-use Rattle.site.specs.Laws.{GoesOn, after_retire}
+use Rattle.site.specs.Laws.{IsKept, after_retire}
 use Rattle.site.proofs.Kept.{row_changed}
 use Rattle.authenticator.specs.Steps.{Keys}
 use Rattle.agreement.specs.World.{AtSite, Done, EventEffect, EventEnd, Event, Happens, Moment, Retires}
-use Rattle.agreement.specs.Agreement.{IsRefusedThere, IsRetired, Retiring, StaysRetired}
+use Rattle.agreement.specs.Agreement.{IsDeleted, IsRefusedThere, IsRetired, Retiring, StaysRetired}
 use Rattle.agreement.specs.Below.{Below}
-use Rattle.agreement.proofs.Sites.{registers}
-use Rattle.agreement.proofs.Worlds.{Lived, Since}
+use Rattle.agreement.proofs.Sites.{registers, unregistered}
+use Rattle.agreement.proofs.Spans.{Spans, kept_at}
+use Rattle.agreement.proofs.Worlds.{Lived}
 use Rattle.agreement.proofs.Accepted.{accepted}
 
 one_last : (xs : List Credential) (a c : Credential) → xs ++ a ∷ [] ≡ xs ++ c ∷ [] → a ≡ c
@@ -25,14 +27,12 @@ module _ (valid : Validity) (public : Keys) (b : Below valid public) where
       subst (λ (x : Event). EventEffect valid public m.old x m.new) is (subst (λ (x : EventEnd). Happens valid public m.old m.event x m.new) done l.happens)
 
   -- it is still there, and retired
-  kept : (s t : SiteState) (id : List ℕ) → GoesOn s t → IsRetired s id → IsRetired t id
-  kept s t id goes x =
-      let k = goes.rows id x.row x.found in
-      record {
-        row = k.now;
-        found = subst (λ j. row_of j t.rows ≡ Some k.now) (found_id id s.rows x.row x.found) k.found;
-        retired = k.retired x.retired;
-      }
+  kept : (s t : SiteState) (id : List ℕ) (x : IsRetired s id) → IsKept x.row t.rows → IsRetired t id
+  kept s t id x k = record {
+    row = k.now;
+    found = subst (λ j. row_of j t.rows ≡ Some k.now) (found_id id s.rows x.row x.found) k.found;
+    retired = k.retired x.retired;
+  }
 
   refused : (m : Moment) (i : ℕ) (id : List ℕ) → Lived valid public b m → IsRetired (m.old.site i) id → IsRefusedThere m i id
   refused m i id l x = record {
@@ -46,7 +46,7 @@ module _ (valid : Validity) (public : Keys) (b : Below valid public) where
         let rows : (m.old.site i).rows ++ c ∷ [] ≡ (m.old.site i).rows ++ registered after.0 after.2 after.3 ∷ [] =
         sym adds.rows ∙ ap (λ z. z.rows) (effect.2.now ∙ after.6) in
         let new : c ≡ registered after.0 after.2 after.3 = one_last (m.old.site i).rows c (registered after.0 after.2 after.3) rows in
-        let absent = b.sites.registered_refused (m.old.site i) y.0 y.1 y.2.passes after.1 after.2 after.3 after.5 in
+        let absent = unregistered valid public b (m.old.site i) effect.0 y.0 y.1 y.2 in
         let id_is : after.3.id ≡ id = sym (ap (λ (z : Credential). z.id) new) ∙ same in
         let bad : Some x.row ≡ None = sym x.found ∙ ap (λ k. row_of k (m.old.site i).rows) (sym id_is) ∙ absent in
         cc;
@@ -62,10 +62,18 @@ module _ (valid : Validity) (public : Keys) (b : Below valid public) where
           found = ap (λ z. row_of id z.rows) site ∙ row_changed id retired (m.old.site i).rows row (λ x. refl) found;
           retired = refl;
         };
-    refuses = λ i id x. (refused m i id l x, kept (m.old.site i) (m.new.site i) id (l.kept.goes_on i) x);
+    refuses = λ i id x. (
+      refused m i id l x,
+      λ stays. kept (m.old.site i) (m.new.site i) id x (kept_at valid public b m l i id x.row stays x.found),
+    );
   }
 
-  pub stays_retired : (m l : Moment) → Lived valid public b m → Since valid public b m.new l → StaysRetired m l
-  stays_retired m l lm s i id x =
-      let now : IsRetired (m.new.site i) id = elim x [ inl old ↦ kept (m.old.site i) (m.new.site i) id (lm.kept.goes_on i) old | inr new ↦ new ] in
-      let there = kept (m.new.site i) (l.old.site i) id (s.goes_on i) now in (there, refused l i id s.lived there)
+  pub stays_retired : (m : Moment) (between : List Moment) (l : Moment) → Lived valid public b m → Spans valid public b between m.new l
+      → StaysRetired m between l
+  stays_retired m between l lm s i id x undeleted =
+      let each = recursion_from_All (λ y. IsDeleted i id y → ⊥) (m ∷ between) undeleted in
+      let now : IsRetired (m.new.site i) id = elim x [
+        | inl old ↦ kept (m.old.site i) (m.new.site i) id old (kept_at valid public b m lm i id old.row each.0 old.found)
+        | inr new ↦ new
+      ] in
+      let there = kept (m.new.site i) (l.old.site i) id now (s.rows i id now.row each.1 now.found) in (there, refused l i id s.lived there)

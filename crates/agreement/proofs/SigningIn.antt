@@ -22,7 +22,7 @@ use Rattle.verification.specs.Records as expects
 use Rattle.verification.specs.Shared.{IsFor, IsPresent, IsVerifiedAs}
 use Rattle.verification.proofs.Expected.{expected_says}
 use Rattle.verification.proofs.Steps.{of_some}
-use Rattle.credential_table.specs.Table.{row_of, signed_in}
+use Rattle.site_state.specs.Table.{row_of, signed_in}
 use Rattle.site.specs.State as site
 use Rattle.site.specs.State.{IsAfterSignIn, judged_sign_in}
 use Rattle.authenticator.specs.State.{Asked, CredentialSource, AuthenticatorState}

@@ -1,5 +1,5 @@
 -- What an event at a site keeps, and which session it takes.
-use Rattle.std.proofs.Common.{◌≡◌, ◌<◌, ◌-◌, ◌^◌, inl, inr, ℕ, zero, suc, List, Option, Some, None, refl, sym, ◌∙◌, ap, subst, arith}
+use Rattle.std.proofs.Common.{◌≡◌, ◌≢◌, ◌<◌, ◌-◌, ◌^◌, ◌++◌, ◌∷◌, [], inl, inr, ℕ, zero, suc, List, Option, Some, None, refl, sym, ◌∙◌, ap, subst, arith}
 use Rattle.std.specs.Int.{w64, to_be_bytes}
 use Rattle.std.specs.Prelude.{IsSome}
 use Rattle.std.specs.FinMap.{gets}
@@ -14,21 +14,31 @@ use Rattle.authdata.specs.Responses as responses
 use Rattle.ctap_replies.specs.Replies.{Assertion, Creation, ReplyOf, assertion_reply, creation_reply}
 use Rattle.verification.specs.SignIn as authentication
 use Rattle.verification.specs.Registration as registration
-use Rattle.ceremony_sessions.specs.Sessions.{Expected, Opening, OpensRegistration, OpensSignIn, challenge_in, expected_of}
+use Rattle.verification.specs.Registration.{JudgedRegistration, PassesRegistrationStep}
+use Rattle.verification.specs.declared.refusal.RegistrationRefusal.{RegistrationRefusal}
+use Rattle.verification.specs.declared.refusal.RegistrationRefusal.TheVariants as step
+use Rattle.authdata.specs.Flags.{is_set, BE}
+use Rattle.site_state.specs.Table.{row_of, retired, signed_in}
+use Rattle.site_state.proofs.RowLemmas.{found_id}
+use Rattle.site_state.specs.Sessions.{Expected, Opening, OpensRegistration, OpensSignIn, challenge_in, closed, expected_of}
 use Rattle.saved_table.specs.Saved.{version_of}
-use Rattle.site.specs.State.{IsAfterRegistration, IsAfterSignIn, SiteState, judged_sign_in, judged_registration, none_open}
+use Rattle.site.specs.State.{IsAfterRegistration, IsAfterSignIn, SiteState, judged_sign_in, judged_registration, none_open, registered}
 use Rattle.verification.specs.Records.{Credential}
-use Rattle.site.specs.Laws.{IsFresh, IsKept, Keeps, Takes, after_begin, after_restart, GoesOn}
+use Rattle.site.specs.Laws.{IsFresh, IsGone, IsKept, IsNumbered, Keeps, Takes, after_begin, after_restart, GoesOn}
 use Rattle.site.proofs.Goings.{begun_or, still}
+use Rattle.site.proofs.Judged.{no_row}
+use Rattle.site.proofs.Kept.{kept_here, row_before}
 use Rattle.client.specs.Responses.{response_of}
 use Rattle.ceremony.specs.Registration as registering
-use Rattle.ceremony.specs.Verdict.{Delivers}
+use Rattle.ceremony.specs.Verdict.{CarriesReply, Delivers, Succeeds}
 use Rattle.ceremony.proofs.OneVerdict.{registration_one, sign_in_one}
 use Rattle.authenticator.specs.Steps.{Keys}
-use Rattle.agreement.specs.World.{Abandons, SiteActs, Begins, Bounds, EndsSessions, Expires, Loads, Registers, RegistersBy, Reopens, Restarts}
-use Rattle.agreement.specs.World.{Retires, SignsIn, SignsInBy, SiteEvent, reopened, words_of}
+use Rattle.authenticator.proofs.Stored.{each_weaker}
+use Rattle.agreement.specs.World.{Abandons, SiteActs, Begins, Bounds, Deletes, EndsSessions, Expires, Loads, Registers, RegistersBy, Reopens, Restarts}
+use Rattle.agreement.specs.World.{Retires, SignsIn, SignsInBy, SiteEvent, after_delete, reopened, with_room, words_of}
 use Rattle.agreement.specs.Agreement.{BringsNewTo, BringsTo, Carried, CarriedNew, IsRegistration, session_in}
 use Rattle.agreement.specs.Below.{Below}
+use Rattle.agreement.proofs.Rows.{none_last, none_with, none_without, others_left}
 
 -- ---- challenges are bytes
 
@@ -62,6 +72,22 @@ empty_bytes s none n e h =
     let empty : finite.get s.sessions.expected n ≡ None = rw none (grind (arith, gets, common_steps)) in
     let bad : None ≡ Some e = sym empty ∙ h in absurd cc
 
+-- what passes where there is room or not, passes where there is
+pub passes_with_room : (valid : Validity) (x : JudgedRegistration) → registration.PassesRegistration valid x
+    → registration.PassesRegistration valid (with_room x)
+passes_with_room valid x passes = each_weaker (PassesRegistrationStep valid x) (PassesRegistrationStep valid (with_room x)) step_by_step registration.steps passes
+  where
+    step_by_step : (w : RegistrationRefusal) → PassesRegistrationStep valid x w → PassesRegistrationStep valid (with_room x) w
+    step_by_step step.TableFull h = refl
+    step_by_step _ h = h
+
+pub succeeds_with_room : (valid : Validity) (s : SiteState) (n c used : ℕ) (ps : List Packet) (d : List ℕ) (r : Creation)
+    → Succeeds (registering.registration valid s n d) c ps used r
+    → CarriesReply (λ x m. ReplyOf (creation_reply x) m)
+    (λ x. registration.PassesRegistration valid (with_room (judged_registration s n (registering.response x d)))) c ps
+succeeds_with_room valid s n c used ps d r h =
+    (used, h.0, r, h.1, h.2, passes_with_room valid (judged_registration s n (registering.response r d)) h.3)
+
 module _ (valid : Validity) (public : Keys) (b : Below valid public) where
   -- ---- one reply
 
@@ -86,7 +112,7 @@ module _ (valid : Validity) (public : Keys) (b : Below valid public) where
     pub after : IsAfterSignIn s n r t
 
   pub record Registered (s : SiteState) (n : ℕ) (r : responses.AuthenticatorAttestationResponse) (t : SiteState) : Type 0 where
-    pub passes : registration.PassesRegistration valid (judged_registration s n r)
+    pub passes : registration.PassesRegistration valid (with_room (judged_registration s n r))
     pub after : IsAfterRegistration s n r t
 
   -- by the packets, with whatever response they carry
@@ -109,29 +135,27 @@ module _ (valid : Validity) (public : Keys) (b : Below valid public) where
   pub registered_by : (s t : SiteState) (n c : ℕ) (ps : List Packet) (d : List ℕ) → SiteActs valid s (RegistersBy n c ps d) t
       → (r : responses.AuthenticatorAttestationResponse) × Registered s n r t
   registered_by s t n c ps d acts =
-      let used = acts.0.0 in
-      let reply = acts.0.1 in
-      let succeeds = acts.0.2 in
+      let came = acts.0 in
+      let reply = came.2 in
       let after = acts.1 in
-      let one : after.2 ≡ reply = same_creation s n c after.0 used ps d after.1 succeeds.0 after.2 reply after.3 after.4 succeeds.1 succeeds.2 in (
+      let one : after.2 ≡ reply = same_creation s n c after.0 came.0 ps d after.1 came.1 after.2 reply after.3 after.4 came.3 came.4 in (
         registering.response reply d,
-        record { passes = succeeds.3; after = subst (λ (z : Creation). IsAfterRegistration s n (registering.response z d) t) one after.5 },
+        record { passes = came.5; after = subst (λ (z : Creation). IsAfterRegistration s n (registering.response z d) t) one after.5 },
       )
 
   -- with whatever response they carry
   registered_with : (s t : SiteState) (n c : ℕ) (ps : List Packet) (d : List ℕ) (r : responses.AuthenticatorAttestationResponse)
       → SiteActs valid s (RegistersBy n c ps d) t → CarriedNew c ps d r → Registered s n r t
   registered_with s t n c ps d r acts carried =
-      let used = acts.0.0 in
-      let reply = acts.0.1 in
-      let succeeds = acts.0.2 in
+      let came = acts.0 in
+      let reply = came.2 in
       let after = acts.1 in
-      let one : reply ≡ carried.2 = same_creation s n c used carried.0 ps d succeeds.0 carried.1 reply carried.2 succeeds.1 succeeds.2 carried.3 carried.4 in
+      let one : reply ≡ carried.2 = same_creation s n c came.0 carried.0 ps d came.1 carried.1 reply carried.2 came.3 came.4 carried.3 carried.4 in
       let two : after.2 ≡ carried.2 = same_creation s n c after.0 carried.0 ps d after.1 carried.1 after.2 carried.2 after.3 after.4 carried.3 carried.4 in
       let response : (x : Creation) → x ≡ carried.2 → registering.response x d ≡ r = λ x same. ap (λ z. registering.response z d) same ∙ sym carried.5 in
       record {
-        passes = subst (λ (z : responses.AuthenticatorAttestationResponse). registration.PassesRegistration valid (judged_registration s n z))
-            (response reply one) succeeds.3;
+        passes = subst (λ (z : responses.AuthenticatorAttestationResponse). registration.PassesRegistration valid (with_room (judged_registration s n z)))
+            (response reply one) came.5;
         after = subst (λ (z : responses.AuthenticatorAttestationResponse). IsAfterRegistration s n z t) (response after.2 two) after.5;
       }
 
@@ -145,6 +169,7 @@ module _ (valid : Validity) (public : Keys) (b : Below valid public) where
   registered_in s t (Begins o) n r acts brings = absurd brings
   registered_in s t (Abandons k) n r acts brings = absurd brings
   registered_in s t (Retires id) n r acts brings = absurd brings
+  registered_in s t (Deletes id) n r acts brings = absurd brings
   registered_in s t (SignsIn k q) n r acts brings = absurd brings
   registered_in s t (SignsInBy k c ps d) n r acts brings = absurd brings
   registered_in s t Expires n r acts brings = absurd brings
@@ -170,6 +195,7 @@ module _ (valid : Validity) (public : Keys) (b : Below valid public) where
   signs_in s t (Begins o) n r acts brings = absurd brings
   signs_in s t (Abandons k) n r acts brings = absurd brings
   signs_in s t (Retires id) n r acts brings = absurd brings
+  signs_in s t (Deletes id) n r acts brings = absurd brings
   signs_in s t (Registers k q) n r acts brings = absurd brings
   signs_in s t (RegistersBy k c ps d) n r acts brings = absurd brings
   signs_in s t Expires n r acts brings = absurd brings
@@ -188,21 +214,52 @@ module _ (valid : Validity) (public : Keys) (b : Below valid public) where
       let sessions : t.sessions ≡ none_open t.sessions.max_open s.sessions.next = l.none_open ∙ ap (none_open t.sessions.max_open) same.1 in
       λ i. record { rp = rp i; policy = policy i; rows = rows i; sessions = sessions i }
 
-  pub record Stays (s t : SiteState) : Type 0 where
+  record Whole (s t : SiteState) : Type 0 where
     pub keeps : Keeps s t
     pub bytes : AreBytes s → AreBytes t
 
-  stays_signed_in : (s t : SiteState) (n : ℕ) (r : responses.AuthenticatorAssertionResponse) → IsFresh s → SignedIn s n r t → Stays s t
+  -- sessions have their numbers, and none comes again; and each credential is kept, but that of an id that is deleted
+  pub record Stays (s t : SiteState) (e : SiteEvent) : Type 0 where
+    pub numbered : IsNumbered s → IsNumbered t
+    pub fresh : IsFresh t
+    pub gone : (n : ℕ) → IsGone s n → IsGone t n
+    pub rows : (id : List ℕ) (row : Credential) → e ≢ Deletes id → row_of id s.rows ≡ Some row → IsKept row t.rows
+    pub bytes : AreBytes s → AreBytes t
+
+  whole : (s t : SiteState) (e : SiteEvent) → Whole s t → Stays s t e
+  whole s t e x = record {
+    numbered = x.keeps.numbered;
+    fresh = x.keeps.fresh;
+    gone = x.keeps.goes_on.gone;
+    rows = λ id row apart found. x.keeps.goes_on.rows id row found;
+    bytes = x.bytes;
+  }
+
+  stays_signed_in : (s t : SiteState) (n : ℕ) (r : responses.AuthenticatorAssertionResponse) → IsFresh s → SignedIn s n r t → Whole s t
   stays_signed_in s t n r fresh x = record {
     keeps = (b.sites.signs_in s n r t fresh x.passes x.after).0;
     bytes = λ old k e h. old k e (still s n k e (subst (λ (z : SiteState). finite.get z.sessions.expected k ≡ Some e) x.after.2 h));
   }
 
-  stays_registered : (s t : SiteState) (n : ℕ) (r : responses.AuthenticatorAttestationResponse) → IsFresh s → Registered s n r t → Stays s t
-  stays_registered s t n r fresh x = record {
-    keeps = (b.sites.registers s n r t fresh x.passes x.after).0;
-    bytes = λ old k e h. old k e (still s n k e (subst (λ (z : SiteState). finite.get z.sessions.expected k ≡ Some e) x.after.6 h));
-  }
+  stays_registered : (s t : SiteState) (n : ℕ) (r : responses.AuthenticatorAttestationResponse) → IsFresh s → Registered s n r t → Whole s t
+  stays_registered s t n r fresh x =
+      let c = registered x.after.0 x.after.2 x.after.3 in
+      let shut = b.sites.abandons s n fresh in
+      let keeps : Keeps s (record s { rows = s.rows ++ c ∷ []; sessions = closed n s.sessions }) = record {
+        numbered = shut.numbered;
+        fresh = shut.fresh;
+        goes_on = record {
+          rows = λ id row found.
+              kept_here (s.rows ++ c ∷ []) row
+              (ap (λ (k : List ℕ). row_of k (s.rows ++ c ∷ [])) (found_id id s.rows row found) ∙ row_before id s.rows (c ∷ []) row found);
+          gone = shut.goes_on.gone;
+          rp = refl;
+        };
+      } in
+      record {
+        keeps = subst (Keeps s) (sym x.after.6) keeps;
+        bytes = λ old k e h. old k e (still s n k e (subst (λ (z : SiteState). finite.get z.sessions.expected k ≡ Some e) x.after.6 h));
+      }
 
   -- what is open is what was open
   pub left_open : (s t : SiteState) (n : ℕ) (e : Expected) → EndsSessions s t → finite.get t.sessions.expected n ≡ Some e
@@ -221,7 +278,7 @@ module _ (valid : Validity) (public : Keys) (b : Below valid public) where
     | inr same ↦ subst (λ (o : Option Expected). IsSome o) same h
   ]
 
-  ended : (s t : SiteState) → IsFresh s → EndsSessions s t → Stays s t
+  ended : (s t : SiteState) → IsFresh s → EndsSessions s t → Whole s t
   ended s t fresh ends =
       let onward = b.sites.stays s in
       let next : t.sessions.next ≡ s.sessions.next = ap (λ (z : SiteState). z.sessions.next) ends.same in
@@ -239,35 +296,60 @@ module _ (valid : Validity) (public : Keys) (b : Below valid public) where
         bytes = λ old n e h. old n e (left_open s t n e ends h);
       }
 
-  rebounded : (s t : SiteState) (max_open : ℕ) → IsFresh s → t ≡ reopened max_open s → Stays s t
+  rebounded : (s t : SiteState) (max_open : ℕ) → IsFresh s → t ≡ reopened max_open s → Whole s t
   rebounded s t max_open fresh is =
       let onward = b.sites.stays s in
       let goes_on : GoesOn s (reopened max_open s) = record { rows = onward.rows; gone = onward.gone; rp = onward.rp } in
       let same : Keeps s (reopened max_open s) = record { numbered = λ h. h; fresh = fresh; goes_on = goes_on } in
-      subst (Stays s) (sym is) (record { keeps = same; bytes = λ old. old })
+      subst (Whole s) (sym is) (record { keeps = same; bytes = λ old. old })
 
-  pub stays : (s t : SiteState) (e : SiteEvent) → IsFresh s → SiteActs valid s e t → Stays s t
+  deleted : (s t : SiteState) (id : List ℕ) → IsFresh s → t ≡ after_delete s id → Stays s t (Deletes id)
+  deleted s t id fresh is =
+      subst (λ (z : SiteState). Stays s z (Deletes id)) (sym is) (record {
+        numbered = λ h. h;
+        fresh = fresh;
+        gone = λ n h. h;
+        rows = λ k row apart found.
+            let same : row.id ≡ k = found_id k s.rows row found in
+            kept_here (after_delete s id).rows row
+            (others_left id row.id s.rows (λ mine. apart (ap Deletes (sym mine ∙ same))) ∙ ap (λ (j : List ℕ). row_of j s.rows) same ∙ found);
+        bytes = λ old. old;
+      })
+
+  pub stays : (s t : SiteState) (e : SiteEvent) → IsFresh s → SiteActs valid s e t → Stays s t e
   stays s t (Begins o) fresh acts =
-      subst (Stays s) (sym acts.2) (record { keeps = b.sites.begins s o acts.1 fresh; bytes = bytes_begun s o acts.1 acts.0 })
-  stays s t (Abandons n) fresh acts = subst (Stays s) (sym acts) (record { keeps = b.sites.abandons s n fresh; bytes = λ old k e h. old k e (still s n k e h) })
-  stays s t (Retires id) fresh acts = subst (Stays s) (sym acts) (record { keeps = b.sites.retires s id fresh; bytes = λ old. old })
-  stays s t (SignsIn n r) fresh acts = stays_signed_in s t n r fresh (record { passes = acts.0; after = acts.1 })
+      whole s t (Begins o) (subst (Whole s) (sym acts.2) (record { keeps = b.sites.begins s o acts.1 fresh; bytes = bytes_begun s o acts.1 acts.0 }))
+  stays s t (Abandons n) fresh acts =
+      whole s t (Abandons n)
+      (subst (Whole s) (sym acts) (record { keeps = b.sites.abandons s n fresh; bytes = λ old k e h. old k e (still s n k e h) }))
+  stays s t (Retires id) fresh acts =
+      whole s t (Retires id) (subst (Whole s) (sym acts) (record { keeps = b.sites.retires s id fresh; bytes = λ old. old }))
+  stays s t (Deletes id) fresh acts = deleted s t id fresh acts
+  stays s t (SignsIn n r) fresh acts = whole s t (SignsIn n r) (stays_signed_in s t n r fresh (record { passes = acts.0; after = acts.1 }))
   stays s t (SignsInBy n c ps d) fresh acts =
       let x = carried_there s t n c ps d acts in
-      stays_signed_in s t n x.0 fresh (signed_in_by s t n c ps d x.0 acts x.1)
-  stays s t (Registers n r) fresh acts = stays_registered s t n r fresh (record { passes = acts.0; after = acts.1 })
-  stays s t (RegistersBy n c ps d) fresh acts = let x = registered_by s t n c ps d acts in stays_registered s t n x.0 fresh x.1
-  stays s t Expires fresh acts = ended s t fresh acts
-  stays s t (Bounds max_open) fresh acts = rebounded s t max_open fresh acts
+      whole s t (SignsInBy n c ps d) (stays_signed_in s t n x.0 fresh (signed_in_by s t n c ps d x.0 acts x.1))
+  stays s t (Registers n r) fresh acts = whole s t (Registers n r) (stays_registered s t n r fresh (record { passes = acts.0; after = acts.1 }))
+  stays s t (RegistersBy n c ps d) fresh acts =
+      let x = registered_by s t n c ps d acts in
+      whole s t (RegistersBy n c ps d) (stays_registered s t n x.0 fresh x.1)
+  stays s t Expires fresh acts = whole s t Expires (ended s t fresh acts)
+  stays s t (Bounds max_open) fresh acts = whole s t (Bounds max_open) (rebounded s t max_open fresh acts)
   stays s t Restarts fresh acts =
       let max_open = t.sessions.max_open in
-      subst (Stays s) (sym (loaded s t acts)) (record {
+      whole s t Restarts (subst (Whole s) (sym (loaded s t acts)) (record {
         keeps = b.sites.restarts max_open s fresh;
         bytes = λ old. empty_bytes (after_restart max_open s) refl;
-      })
-  stays s t Reopens fresh acts = rebounded s t t.sessions.max_open fresh acts
+      }))
+  stays s t Reopens fresh acts = whole s t Reopens (rebounded s t t.sessions.max_open fresh acts)
 
   -- ---- which session is taken
+
+  takes_registered : (s t : SiteState) (n : ℕ) (r : responses.AuthenticatorAttestationResponse) → IsFresh s → Registered s n r t → Takes s t n
+  takes_registered s t n r fresh x =
+      let there = b.sites.is_open_to_register s n x.after.0 x.after.4 in
+      let was : IsSome (finite.get s.sessions.expected n) = subst (λ (o : Option Expected). IsSome o) (sym there) refl in
+      subst (λ (z : SiteState). Takes s z n) (sym x.after.6) (record { was_open = was; gone = (fresh n was, grind (arith, gets, common_steps)) })
 
   pub takes : (s t : SiteState) (e : SiteEvent) (n : ℕ) → IsFresh s → SiteActs valid s e t → session_in e ≡ Some n → Takes s t n
   takes s t (SignsIn k r) n fresh acts is = subst (Takes s t) (same_Some k n is) (b.sites.signs_in s k r t fresh acts.0 acts.1).1
@@ -275,12 +357,14 @@ module _ (valid : Validity) (public : Keys) (b : Below valid public) where
       let x = carried_there s t k c ps d acts in
       let y = signed_in_by s t k c ps d x.0 acts x.1 in
       subst (Takes s t) (same_Some k n is) (b.sites.signs_in s k x.0 t fresh y.passes y.after).1
-  takes s t (Registers k r) n fresh acts is = subst (Takes s t) (same_Some k n is) (b.sites.registers s k r t fresh acts.0 acts.1).1
+  takes s t (Registers k r) n fresh acts is =
+      subst (Takes s t) (same_Some k n is) (takes_registered s t k r fresh (record { passes = acts.0; after = acts.1 }))
   takes s t (RegistersBy k c ps d) n fresh acts is =
       let x = registered_by s t k c ps d acts in
-      subst (Takes s t) (same_Some k n is) (b.sites.registers s k x.0 t fresh x.1.passes x.1.after).1
+      subst (Takes s t) (same_Some k n is) (takes_registered s t k x.0 fresh x.1)
   takes s t (Begins o) n fresh acts is = let bad : None ≡ Some n = is in absurd cc
   takes s t (Abandons k) n fresh acts is = let bad : None ≡ Some n = is in absurd cc
+  takes s t (Deletes id) n fresh acts is = let bad : None ≡ Some n = is in absurd cc
   takes s t (Retires id) n fresh acts is = let bad : None ≡ Some n = is in absurd cc
   takes s t Expires n fresh acts is = let bad : None ≡ Some n = is in absurd cc
   takes s t (Bounds k) n fresh acts is = let bad : None ≡ Some n = is in absurd cc
@@ -295,9 +379,50 @@ module _ (valid : Validity) (public : Keys) (b : Below valid public) where
   registers s t (Begins o) acts is = absurd is
   registers s t (Abandons n) acts is = absurd is
   registers s t (Retires id) acts is = absurd is
+  registers s t (Deletes id) acts is = absurd is
   registers s t (SignsIn n r) acts is = absurd is
   registers s t (SignsInBy n c ps d) acts is = absurd is
   registers s t Expires acts is = absurd is
   registers s t (Bounds k) acts is = absurd is
   registers s t Restarts acts is = absurd is
   registers s t Reopens acts is = absurd is
+
+  -- no id that has a credential is registered
+  pub unregistered : (s t : SiteState) (n : ℕ) (r : responses.AuthenticatorAttestationResponse) (x : Registered s n r t)
+      → row_of x.after.3.id s.rows ≡ None
+  unregistered s t n r x = no_row (row_of x.after.3.id s.rows) (x.passes.1.1.1.1.1.1.1.1.1.1.1.1.1.1.1.1.0 x.after.1 x.after.2 x.after.3 x.after.5)
+
+  -- ---- an id that none has
+
+  none_registered : (s t : SiteState) (n : ℕ) (r : responses.AuthenticatorAttestationResponse) → Registered s n r t → (id : List ℕ) → row_of id s.rows ≡ None
+      → ((c : Credential) → t.rows ≡ s.rows ++ c ∷ [] → c.id ≢ id) → row_of id t.rows ≡ None
+  none_registered s t n r x id none apart =
+      let c = registered x.after.0 x.after.2 x.after.3 in
+      let rows : t.rows ≡ s.rows ++ c ∷ [] = ap (λ (z : SiteState). z.rows) x.after.6 in
+      ap (row_of id) rows ∙ none_last id s.rows c none (apart c rows)
+
+  none_signed_in : (s t : SiteState) (n : ℕ) (r : responses.AuthenticatorAssertionResponse) → SignedIn s n r t → (id : List ℕ) → row_of id s.rows ≡ None
+      → row_of id t.rows ≡ None
+  none_signed_in s t n r x id none =
+      ap (λ (z : SiteState). row_of id z.rows) x.after.2
+      ∙ none_with id r.credential (signed_in x.after.0.sign_count (is_set x.after.0.flags BE)) s.rows (λ row. refl) none
+
+  -- it is none's still, if it isn't registered
+  pub absent : (s t : SiteState) (e : SiteEvent) → SiteActs valid s e t → (id : List ℕ) → row_of id s.rows ≡ None
+      → ((c : Credential) → IsRegistration e → t.rows ≡ s.rows ++ c ∷ [] → c.id ≢ id) → row_of id t.rows ≡ None
+  absent s t (Begins o) acts id none apart = ap (λ (z : SiteState). row_of id z.rows) acts.2 ∙ none
+  absent s t (Abandons n) acts id none apart = ap (λ (z : SiteState). row_of id z.rows) acts ∙ none
+  absent s t (Retires k) acts id none apart = ap (λ (z : SiteState). row_of id z.rows) acts ∙ none_with id k retired s.rows (λ row. refl) none
+  absent s t (Deletes k) acts id none apart = ap (λ (z : SiteState). row_of id z.rows) acts ∙ none_without id k s.rows none
+  absent s t (SignsIn n r) acts id none apart = none_signed_in s t n r (record { passes = acts.0; after = acts.1 }) id none
+  absent s t (SignsInBy n c ps d) acts id none apart =
+      let x = carried_there s t n c ps d acts in
+      none_signed_in s t n x.0 (signed_in_by s t n c ps d x.0 acts x.1) id none
+  absent s t (Registers n r) acts id none apart = none_registered s t n r (record { passes = acts.0; after = acts.1 }) id none (λ c. apart c tt)
+  absent s t (RegistersBy n c ps d) acts id none apart =
+      let x = registered_by s t n c ps d acts in
+      none_registered s t n x.0 x.1 id none (λ c. apart c tt)
+  absent s t Expires acts id none apart = ap (λ (z : SiteState). row_of id z.rows) acts.same ∙ none
+  absent s t (Bounds max_open) acts id none apart = ap (λ (z : SiteState). row_of id z.rows) acts ∙ none
+  absent s t Restarts acts id none apart = ap (λ (z : SiteState). row_of id z.rows) (loaded s t acts) ∙ none
+  absent s t Reopens acts id none apart = ap (λ (z : SiteState). row_of id z.rows) acts ∙ none

@@ -11,7 +11,7 @@ use Rattle.authenticator.specs.Orders.{candidates, is_stored_for, kept}
 use Rattle.client.specs.Asked.{descriptor_of}
 use Rattle.verification.specs.Records as registered
 use Rattle.authenticator.proofs.Stored.{itself, none_without}
-use Rattle.credential_table.specs.Table.{row_of}
+use Rattle.site_state.specs.Table.{row_of}
 use Rattle.std.proofs.lemmas.Grind.{common_steps}
 
 -- ---- at the authenticator

@@ -6,7 +6,7 @@ use Rattle.std.proofs.lemmas.Bool.Decides.{eqb_tells}
 use Rattle.std.proofs.lemmas.List.Elements.{All-append, All-from_recursion, All-nil, All-same}
 use Rattle.cose.specs.Schemes.{Validity}
 use Rattle.site.specs.State as site
-use Rattle.site.specs.Laws.{GoesOn, IsFresh, IsNumbered}
+use Rattle.site.specs.Laws.{IsFresh, IsGone, IsNumbered}
 use Rattle.authenticator.specs.Laws.{IsSound, SoundState}
 use Rattle.authenticator.specs.Steps.{Keys}
 use Rattle.authenticator.proofs.Stored.{each_weaker}
@@ -29,9 +29,13 @@ pub record Sound (w : World) : Type 0 where
   pub sites : (i : ℕ) → SoundSite (w.site i)
   pub holders : (k : ℕ) → SoundHolder (w.holder k)
 
--- each site goes on
+-- no session comes again
+abbrev pub GoneStays : site.SiteState → site.SiteState → Type 0
+GoneStays s t = (n : ℕ) → IsGone s n → IsGone t n
+
+-- at no site
 abbrev pub GoOn : World → World → Type 0
-GoOn v w = (i : ℕ) → GoesOn (v.site i) (w.site i)
+GoOn v w = (i : ℕ) → GoneStays (v.site i) (w.site i)
 
 -- of a site that changed, and of the others
 at_sites : (R : site.SiteState → site.SiteState → Type 0) (old new : World) (i : ℕ) (s : site.SiteState) → ChangesSite old new i s → R (old.site i) s
@@ -57,17 +61,17 @@ module _ (valid : Validity) (public : Keys) (b : Below valid public) where
       → Kept old new
   at_site old new i e s sound acts change =
       let x = stays valid public b (old.site i) s e (sound.sites i).fresh acts in
-      let here : SoundSite s = record { fresh = x.keeps.fresh; numbered = x.keeps.numbered (sound.sites i).numbered; bytes = x.bytes (sound.sites i).bytes } in
+      let here : SoundSite s = record { fresh = x.fresh; numbered = x.numbered (sound.sites i).numbered; bytes = x.bytes (sound.sites i).bytes } in
       record {
         sound = record {
           sites = at_sites (λ a z. SoundSite z) old new i s change here sound.sites;
           holders = λ k. subst SoundHolder (sym (change.holders k)) (sound.holders k);
         };
-        goes_on = at_sites GoesOn old new i s change x.keeps.goes_on (λ j. b.sites.stays (old.site j));
+        goes_on = at_sites GoneStays old new i s change x.gone (λ j n gone. gone);
       }
 
   same_sites : (old new : World) → ((i : ℕ) → new.site i ≡ old.site i) → GoOn old new
-  same_sites old new same i = subst (GoesOn (old.site i)) (sym (same i)) (b.sites.stays (old.site i))
+  same_sites old new same i = subst (GoneStays (old.site i)) (sym (same i)) (λ n gone. gone)
 
   happened : (old new : World) (e : Event) (end : EventEnd) → Sound old → Happens valid public old e end new → Kept old new
   happened old new (AtSite i e) Done sound h = at_site old new i e h.0 sound h.1 h.2
@@ -92,10 +96,10 @@ module _ (valid : Validity) (public : Keys) (b : Below valid public) where
         };
         goes_on = same_sites old new h.2.sites;
       }
-  happened old new (AtSite i e) Nothing sound h = subst (Kept old) (sym h) (record { sound = sound; goes_on = λ j. b.sites.stays (old.site j) })
+  happened old new (AtSite i e) Nothing sound h = subst (Kept old) (sym h) (record { sound = sound; goes_on = λ j n gone. gone })
   happened old new (Asks k channel bs consent words) Nothing sound h =
-      subst (Kept old) (sym h) (record { sound = sound; goes_on = λ j. b.sites.stays (old.site j) })
-  happened old new (Reloads k) Nothing sound h = subst (Kept old) (sym h) (record { sound = sound; goes_on = λ j. b.sites.stays (old.site j) })
+      subst (Kept old) (sym h) (record { sound = sound; goes_on = λ j n gone. gone })
+  happened old new (Reloads k) Nothing sound h = subst (Kept old) (sym h) (record { sound = sound; goes_on = λ j n gone. gone })
 
   -- ---- runs
 
@@ -105,7 +109,7 @@ module _ (valid : Validity) (public : Keys) (b : Below valid public) where
     pub happens : Happens valid public m.old m.event m.end m.new
     pub kept : Kept m.old m.new
 
-  lived : (w : World) (m : Moment) → Sound w → m.old ≡ w → Happens valid public m.old m.event m.end m.new → Lived m
+  pub lived : (w : World) (m : Moment) → Sound w → m.old ≡ w → Happens valid public m.old m.event m.end m.new → Lived m
   lived w m sound start is =
       let here : Sound m.old = subst Sound (sym start) sound in
       record { sound = here; happens = is; kept = happened m.old m.new m.event m.end here is }
@@ -119,13 +123,13 @@ module _ (valid : Validity) (public : Keys) (b : Below valid public) where
   since v w [] sound goes run = tt
   since v w (m ∷ ms) sound goes run =
       let l = lived w m sound run.0 run.1 in
-      let here : GoOn v m.old = λ i. subst (λ (x : World). GoesOn (v.site i) (x.site i)) (sym run.0) (goes i) in (
+      let here : GoOn v m.old = λ i. subst (λ (x : World). GoneStays (v.site i) (x.site i)) (sym run.0) (goes i) in (
         record { lived = l; goes_on = here },
-        since v m.new ms l.kept.sound (λ i. b.sites.onward (v.site i) (m.old.site i) (m.new.site i) (here i) (l.kept.goes_on i)) run.2,
+        since v m.new ms l.kept.sound (λ i n gone. l.kept.goes_on i n (here i n gone)) run.2,
       )
 
   pub at_start : (w : World) → GoOn w w
-  at_start w i = b.sites.stays (w.site i)
+  at_start w i n gone = gone
 
   -- ---- each moment and each later one
 

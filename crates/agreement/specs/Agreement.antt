@@ -22,14 +22,15 @@ use Rattle.ctap_replies.specs.Replies as replies
 use Rattle.ctap_replies.specs.Replies.{ReplyOf, assertion_reply, creation_reply}
 use Rattle.verification.specs.Records.{Credential, ExpectedRegistration, ExpectedSignIn}
 use Rattle.verification.specs.Registration.{Attests}
-use Rattle.credential_table.specs.Table.{row_of}
-use Rattle.ceremony_sessions.specs.Sessions.{registration_at, sign_in_at}
+use Rattle.site_state.specs.Table.{row_of}
+use Rattle.site_state.specs.Sessions.{registration_at, sign_in_at}
 use Rattle.site.specs.State.{SiteState}
 use Rattle.authenticator.specs.Steps.{Entry, Keys, assertion}
 use Rattle.client.specs.Responses.{response_of}
 use Rattle.ceremony.specs.Registration as registering
 use Rattle.ceremony.specs.Verdict.{Delivers}
-use Rattle.agreement.specs.World.{AtSite, Asks, Done, Event, IsRun, IsStart, Moment, Registers, RegistersBy, Reloads, Retires, SignsIn, SignsInBy, SiteEvent, World}
+use Rattle.agreement.specs.World.{AtSite, Asks, Deletes, Done, Event, IsRun, IsStart, Moment, Registers, RegistersBy, Reloads, Retires, SignsIn, SignsInBy}
+use Rattle.agreement.specs.World.{SiteEvent, World}
 
 -- ---- sign-ins
 
@@ -213,11 +214,23 @@ Agrees m =
     (i n : ℕ) (r : AuthenticatorAssertionResponse) (row : Credential) → IsAccepted m i n r row → WasMade m.old row.key
     → ((e : Entry) × RestsOn m r row e) × ((e : Entry) → RestsOn m r row e → Says m i n r e × Consented m i n e)
 
--- two accepted sign-ins for one credential of a site rest on no common entry
-abbrev pub ShareNone : Moment → Moment → Type 0
-ShareNone m l =
+-- of each moment of a run and each later one, with those between the two
+abbrev pub AllSpans : (Moment → List Moment → Moment → Type 0) → List Moment → Type 0
+AllSpans R run = (before between later : List Moment) (m l : Moment) → run ≡ before ++ m ∷ (between ++ l ∷ later) → R m between l
+
+-- at the moment site i deletes the credential of this id
+abbrev pub IsDeleted : ℕ → List ℕ → Moment → Type 0
+IsDeleted i id m = (m.event ≡ AtSite i (Deletes id)) × (m.end ≡ Done)
+
+-- and at none of these moments
+abbrev pub NoneDeleted : ℕ → List ℕ → List Moment → Type 0
+NoneDeleted i id moments = All (λ m. IsDeleted i id m → ⊥) moments
+
+-- two accepted sign-ins for one credential of a site, which is not deleted between them, rest on no common entry
+abbrev pub ShareNone : Moment → List Moment → Moment → Type 0
+ShareNone m between l =
     (i n k : ℕ) (r t : AuthenticatorAssertionResponse) (row low : Credential) → IsAccepted m i n r row → IsAccepted l i k t low → r.credential ≡ t.credential
-    → (e : Entry) → RestsOn m r row e → RestsOn l t low e → ⊥
+    → NoneDeleted i r.credential between → (e : Entry) → RestsOn m r row e → RestsOn l t low e → ⊥
 
 -- nor do any two at all sites, where no two sites have rp ids of one hash and no two client data are of one
 abbrev pub RestsOnce : Moment → Moment → Type 0
@@ -267,27 +280,48 @@ pub record IsRefusedThere (m : Moment) (i : ℕ) (id : List ℕ) : Type 0 where
   pub signs_in : (n : ℕ) (r : AuthenticatorAssertionResponse) (row : Credential) → IsAccepted m i n r row → r.credential ≢ id
   pub registers : (c : Credential) → Adds m i c → c.id ≢ id
 
--- to retire a credential has that effect; and one that is retired is refused, and retired afterwards
+-- to retire a credential has that effect; and one that is retired is refused, and retired afterwards, unless it is deleted
 pub record Retiring (m : Moment) : Type 0 where
   pub retires : (i : ℕ) (id : List ℕ) (row : Credential) → m.event ≡ AtSite i (Retires id) → m.end ≡ Done → row_of id (m.old.site i).rows ≡ Some row
       → IsRetired (m.new.site i) id
-  pub refuses : (i : ℕ) (id : List ℕ) → IsRetired (m.old.site i) id → IsRefusedThere m i id × IsRetired (m.new.site i) id
+  pub refuses : (i : ℕ) (id : List ℕ) → IsRetired (m.old.site i) id → IsRefusedThere m i id × ((IsDeleted i id m → ⊥) → IsRetired (m.new.site i) id)
 
--- a credential that is retired at a site, before a moment or after it, is so at each later one, and is refused there
-abbrev pub StaysRetired : Moment → Moment → Type 0
-StaysRetired m l =
-    (i : ℕ) (id : List ℕ) → IsRetired (m.old.site i) id ⊎ IsRetired (m.new.site i) id → IsRetired (l.old.site i) id × IsRefusedThere l i id
+-- a credential that is retired at a site, before a moment or after it, is so at each later one, and is refused there, if it is not
+-- deleted from the one to the other
+abbrev pub StaysRetired : Moment → List Moment → Moment → Type 0
+StaysRetired m between l =
+    (i : ℕ) (id : List ℕ) → IsRetired (m.old.site i) id ⊎ IsRetired (m.new.site i) id → NoneDeleted i id (m ∷ between)
+    → IsRetired (l.old.site i) id × IsRefusedThere l i id
+
+-- no credential of this id is registered at the site
+abbrev pub HasNone : SiteState → List ℕ → Type 0
+HasNone s id = row_of id s.rows ≡ None
+
+-- to delete a credential has that effect: none has its id then, and each other is as it was; and no sign-in with an id that none
+-- has is accepted
+pub record Deleting (m : Moment) : Type 0 where
+  pub deletes : (i : ℕ) (id : List ℕ) → IsDeleted i id m → HasNone (m.new.site i) id
+  pub others : (i : ℕ) (id other : List ℕ) → IsDeleted i id m → other ≢ id → row_of other (m.new.site i).rows ≡ row_of other (m.old.site i).rows
+  pub refuses : (i n : ℕ) (id : List ℕ) (r : AuthenticatorAssertionResponse) → HasNone (m.old.site i) id → Brings m.event i n r → m.end ≡ Done
+      → r.credential ≢ id
+
+-- where no credential of a site has an id after a moment, none has it at each later one, if it is not registered between the two
+abbrev pub StaysDeleted : Moment → List Moment → Moment → Type 0
+StaysDeleted m between l =
+    (i : ℕ) (id : List ℕ) → HasNone (m.new.site i) id → All (λ x. (c : Credential) → Adds x i c → c.id ≢ id) between → HasNone (l.old.site i) id
 
 pub record Agreement (valid : Validity) (run : List Moment) : Type 0 where
   pub registered : All (Registered valid) run
   pub known : All IsKnown run
   pub fits : All Fits run
   pub agrees : All (λ m. IsIdeal valid m → Agrees m) run
-  pub share_none : AllPairs ShareNone run
+  pub share_none : AllSpans ShareNone run
   pub rests_once : AllPairs RestsOnce run
   pub sessions : AllPairs DifferInSession run
   pub retiring : All Retiring run
-  pub retired : AllPairs StaysRetired run
+  pub retired : AllSpans StaysRetired run
+  pub deleting : All Deleting run
+  pub deleted : AllSpans StaysDeleted run
 
 -- It is so whatever the scheme calls valid, and whichever key is a secret's.
 abbrev pub OfAllRuns : Validity → Keys → Type 0

@@ -4,7 +4,7 @@ use Rattle.std.specs.Prelude.{◌≡◌, ℕ, List, ◌∷◌, ◌++◌, Some}
 use Rattle.std.specs.FinMap as finite
 use Rattle.std.specs.Int.{w64, to_be_bytes}
 use Rattle.cose.specs.Schemes.{Validity}
-use Rattle.ceremony_sessions.specs.Sessions.{Expected, ForRegistration, ForSignIn, Opening, OpensRegistration, OpensSignIn}
+use Rattle.site_state.specs.Sessions.{Expected, ForRegistration, ForSignIn, Opening, OpensRegistration, OpensSignIn}
 use Rattle.authenticator.specs.Steps.{Keys}
 use Rattle.agreement.specs.Ledger.{world_after}
 use Rattle.agreement.specs.World.{AtSite, Begins, Done, IsRun, IsStart, Moment, World}

@@ -11,8 +11,8 @@ use Rattle.ctap_replies.specs.Replies as replies
 use Rattle.verification.specs.SignIn as authentication
 use Rattle.verification.specs.Registration as registration
 use Rattle.saved_table.specs.Saved.{TableOf, version_of}
-use Rattle.ceremony_sessions.specs.Sessions.{Expected, Opening, begun, closed}
-use Rattle.credential_table.specs.Table.{retired, with_row}
+use Rattle.site_state.specs.Sessions.{Expected, Opening, begun, closed}
+use Rattle.site_state.specs.Table.{retired, with_row}
 use Rattle.site.specs.State as site
 use Rattle.site.specs.State.{IsAfterRegistration, IsAfterSignIn, IsLoaded, judged_sign_in, judged_registration, saved_of}
 use Rattle.authenticator.specs.State as authenticator

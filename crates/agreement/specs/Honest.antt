@@ -14,8 +14,8 @@ use Rattle.authdata.specs.declared.statement.AttestationType.TheVariants as type
 use Rattle.ctap_replies.specs.Replies as replies
 use Rattle.verification.specs.Records as expects
 use Rattle.verification.specs.RegistrationAnswers.{AcceptsAttestation}
-use Rattle.credential_table.specs.Table.{row_of}
-use Rattle.ceremony_sessions.specs.Sessions.{Opening, registration_at, sign_in_at}
+use Rattle.site_state.specs.Table.{row_of}
+use Rattle.site_state.specs.Sessions.{Opening, registration_at, sign_in_at}
 use Rattle.site.specs.State as site
 use Rattle.site.specs.Laws.{after_begin}
 use Rattle.authenticator.specs.State.{CredentialSource, AuthenticatorState}

@@ -9,7 +9,7 @@ use Rattle.authdata.specs.Responses as responses
 use Rattle.authdata.specs.declared.statement.AttestationType.{AttestationType}
 use Rattle.authdata.specs.declared.statement.AttestationType.TheVariants as types
 use Rattle.verification.specs.Records as registered
-use Rattle.ceremony_sessions.specs.Sessions.{Opening}
+use Rattle.site_state.specs.Sessions.{Opening}
 use Rattle.site.specs.State as site
 use Rattle.site.specs.Laws.{after_begin}
 use Rattle.authenticator.specs.Steps.{Entry, Keys, assertion, attestation, key_of}

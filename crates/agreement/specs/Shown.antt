@@ -5,13 +5,13 @@ use Rattle.std.specs.List.{All}
 use Rattle.cose.specs.Schemes.{Validity}
 use Rattle.authdata.specs.Responses.{AuthenticatorAssertionResponse}
 use Rattle.verification.specs.Records.{Credential}
-use Rattle.credential_table.specs.Table.{row_of}
+use Rattle.site_state.specs.Table.{row_of}
 use Rattle.site.specs.State.{SiteState}
 use Rattle.authenticator.specs.Steps.{Keys}
 use Rattle.agreement.specs.Agreement.{IsAccepted, IsIdeal}
 use Rattle.agreement.specs.Honest.{IsHonestRun, Run}
 use Rattle.agreement.specs.Lived.{Place, TakesPlace}
-use Rattle.agreement.specs.World.{Abandons, Asks, AtSite, Begins, Bounds, Done, Event, Expires, IsRun, IsStart, Moment, Registers, RegistersBy, Reloads}
+use Rattle.agreement.specs.World.{Abandons, Asks, AtSite, Begins, Bounds, Deletes, Done, Event, Expires, IsRun, IsStart, Moment, Registers, RegistersBy, Reloads}
 use Rattle.agreement.specs.World.{Reopens, Restarts, Retires, SignsIn, SignsInBy, SiteEvent, World}
 
 -- an honest registration and sign-in, at a site that begins without sessions and a new authenticator of some world
@@ -26,6 +26,7 @@ pub data Kind : Type 0 where
   begins : Kind
   abandons : Kind
   retires : Kind
+  deletes : Kind
   signs_in : Kind
   signs_in_by_packets : Kind
   registers : Kind
@@ -41,6 +42,7 @@ abbrev pub kind_at_site : SiteEvent → Kind
 kind_at_site (Begins o) = begins
 kind_at_site (Abandons n) = abandons
 kind_at_site (Retires id) = retires
+kind_at_site (Deletes id) = deletes
 kind_at_site (SignsIn n r) = signs_in
 kind_at_site (SignsInBy n c ps t) = signs_in_by_packets
 kind_at_site (Registers n r) = registers
@@ -56,10 +58,12 @@ kind_of (Asks k channel bs consent words) = asks
 kind_of (Reloads k) = reloads
 
 -- the event finds what it is for: a session that is abandoned is open, a credential that is retired is registered and not
--- retired yet, by an expiry a session ends that was open, and a bound that is set is another. Nothing is asked of the others
+-- retired yet, one that is deleted is registered, by an expiry a session ends that was open, and a bound that is set is another.
+-- Nothing is asked of the others
 abbrev pub HasCause : SiteState → SiteEvent → SiteState → Type 0
 HasCause s (Abandons n) t = IsSome (finite.get s.sessions.expected n)
 HasCause s (Retires id) t = (row : Credential) × (row_of id s.rows ≡ Some row) × (row.retired ≡ false)
+HasCause s (Deletes id) t = IsSome (row_of id s.rows)
 HasCause s Expires t = (n : ℕ) × IsSome (finite.get s.sessions.expected n) × (finite.get t.sessions.expected n ≡ None)
 HasCause s (Bounds n) t = n ≢ s.sessions.max_open
 HasCause s e t = Unit {0}

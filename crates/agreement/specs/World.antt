@@ -1,18 +1,21 @@
 -- Sites and authenticators, any number of each, and all that may happen to them: the packets, the client data and the
 -- requests are whatever an adversary makes of them. A site or an authenticator that begins again loads what it has saved;
 -- a site that is stored by each call finds itself as it was.
-use Rattle.std.specs.Prelude.{◌≡◌, ◌≢◌, ◌<◌, ◌-◌, ◌^◌, ◌⊎◌, ℕ, Bool, List, [], ◌∷◌, ◌++◌, length, None}
+use Rattle.std.specs.Prelude.{◌≡◌, ◌≢◌, ◌<◌, ◌-◌, ◌^◌, ◌⊎◌, ℕ, Bool, false, not, List, [], ◌∷◌, ◌++◌, filter, length, None}
 use Rattle.std.specs.FinMap as finite
+use Rattle.std.specs.Str.{bytes_eq}
 use Rattle.base64.specs.GeneralPurpose.{IsBytes}
 use Rattle.hidframe.specs.declared.Packet.{Packet}
 use Rattle.cose.specs.Schemes.{Validity}
 use Rattle.cose.specs.declared.key.CoseKey.{CoseKey}
 use Rattle.authdata.specs.Responses as responses
 use Rattle.ctap_replies.specs.Replies as replies
+use Rattle.ctap_replies.specs.Replies.{ReplyOf, creation_reply}
 use Rattle.verification.specs.SignIn as authentication
 use Rattle.verification.specs.Registration as registration
+use Rattle.verification.specs.Registration.{JudgedRegistration}
 use Rattle.saved_table.specs.Saved.{TableOf, version_of}
-use Rattle.ceremony_sessions.specs.Sessions.{Opening, OpensRegistration, OpensSignIn}
+use Rattle.site_state.specs.Sessions.{Opening, OpensRegistration, OpensSignIn}
 use Rattle.site.specs.State as site
 use Rattle.site.specs.State.{IsAfterRegistration, IsAfterSignIn, judged_sign_in, judged_registration, none_open, saved_of}
 use Rattle.site.specs.Laws.{after_abandon, after_begin, after_retire}
@@ -23,7 +26,7 @@ use Rattle.authenticator.specs.Steps.{Entry, Keys, Outcome, Step}
 use Rattle.authenticator.specs.declared.consent.Consent.{Consent}
 use Rattle.authenticator.specs.declared.consent.Words.{Words}
 use Rattle.authdata.specs.declared.statement.AttestationType.{AttestationType}
-use Rattle.ceremony.specs.Verdict.{Succeeds}
+use Rattle.ceremony.specs.Verdict.{CarriesReply, Succeeds}
 use Rattle.ceremony.specs.SignIn as by_packets
 use Rattle.ceremony.specs.Registration as registering
 
@@ -47,6 +50,7 @@ pub data SiteEvent : Type 0 where
   Begins : (opening : Opening) → SiteEvent
   Abandons : (session : ℕ) → SiteEvent
   Retires : (id : List ℕ) → SiteEvent
+  Deletes : (id : List ℕ) → SiteEvent
   SignsIn : (session : ℕ) (r : responses.AuthenticatorAssertionResponse) → SiteEvent
   SignsInBy : (session c : ℕ) (ps : List Packet) (t : List ℕ) → SiteEvent
   Registers : (session : ℕ) (r : responses.AuthenticatorAttestationResponse) → SiteEvent
@@ -87,17 +91,28 @@ pub record EndsSessions (s t : site.SiteState) : Type 0 where
 abbrev pub reopened : ℕ → site.SiteState → site.SiteState
 reopened max_open s = record s { sessions = record s.sessions { max_open = max_open } }
 
+-- without the credential of an id; the others stay, in their order
+abbrev pub after_delete : site.SiteState → List ℕ → site.SiteState
+after_delete s id = record s { rows = filter (λ row. not (bytes_eq id row.id)) s.rows }
+
+-- a registration as it is judged where there is room: how many credentials a site may have is its own limit, and no law needs one
+abbrev pub with_room : JudgedRegistration → JudgedRegistration
+with_room x = record x { is_full = false }
+
 -- the effect of an event at a site, as the contracts of its calls have it
 abbrev pub SiteActs : Validity → site.SiteState → SiteEvent → site.SiteState → Type 0
 SiteActs valid s (Begins o) t = IsBytes (words_of o) × (s.sessions.next < 2 ^ 64 - 1) × (t ≡ after_begin s o)
 SiteActs valid s (Abandons n) t = t ≡ after_abandon s n
 SiteActs valid s (Retires id) t = t ≡ after_retire s id
+SiteActs valid s (Deletes id) t = t ≡ after_delete s id
 SiteActs valid s (SignsIn n r) t = authentication.PassesSignIn valid (judged_sign_in s n r) × IsAfterSignIn s n r t
 SiteActs valid s (SignsInBy n c ps d) t =
     ((used : ℕ) × (r : replies.Assertion) × Succeeds (by_packets.sign_in valid s n d) c ps used r) × by_packets.IsAfter s n d c ps t
-SiteActs valid s (Registers n r) t = registration.PassesRegistration valid (judged_registration s n r) × IsAfterRegistration s n r t
+SiteActs valid s (Registers n r) t = registration.PassesRegistration valid (with_room (judged_registration s n r)) × IsAfterRegistration s n r t
 SiteActs valid s (RegistersBy n c ps d) t =
-    ((used : ℕ) × (r : replies.Creation) × Succeeds (registering.registration valid s n d) c ps used r) × registering.IsAfter s n d c ps t
+    CarriesReply (λ r m. ReplyOf (creation_reply r) m)
+    (λ r. registration.PassesRegistration valid (with_room (judged_registration s n (registering.response r d)))) c ps
+    × registering.IsAfter s n d c ps t
 SiteActs valid s Expires t = EndsSessions s t
 SiteActs valid s (Bounds max_open) t = t ≡ reopened max_open s
 SiteActs valid s Restarts t = Loads s t

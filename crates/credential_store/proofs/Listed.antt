@@ -12,7 +12,7 @@ use Rattle.std.specs.Cmp.{nat_cmp_total}
 use Rattle.std.specs.Cmp.Lexicographic.{bytes_decides}
 use Rattle.std.specs.Str.{bytes_eq}
 use Rattle.verification.specs.Records.{Credential}
-use Rattle.credential_table.specs.Table.{row_of, with_row}
+use Rattle.site_state.specs.Table.{row_of, with_row}
 use Rattle.credential_store.specs.Held.{ArePlaced, HasNone, IsAt, Placed, rows_of}
 use Rattle.credential_store.proofs.Tables.{all_above, entries_found, first_of, second_of}
 

@@ -21,8 +21,8 @@ use Rattle.sqlite_trees.specs.Tree.{IsAscending, IsIndex, Trees, from_key}
 use Rattle.sqlite_trees.proofs.ListLemmas.{all_weaker, ascending-filter, ascending-map, filter-map}
 use Rattle.sqlite_trees.proofs.TreeLemmas.{from_key-filter, not_true, prefix_cmp_follows, sorted_index}
 use Rattle.verification.specs.Records.{Credential}
-use Rattle.credential_table.specs.Views.{row_view, rows_view}
-use Rattle.credential_table.specs.declared.row.Row.{Row as StoredRow}
+use Rattle.site_state.specs.RowViews.{row_view, rows_view}
+use Rattle.site_state.specs.declared.row.Row.{Row as StoredRow}
 use Rattle.credential_store.specs.Held.{Holds, Placed, Stands, entry, placed_rows, rows_of}
 use Rattle.credential_store.specs.Private.{AreEntries, IsPast}
 use Rattle.credential_store.proofs.Seeks.{all_stand, first_is, of_key}

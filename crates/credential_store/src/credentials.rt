@@ -7,7 +7,7 @@ ghost use Rattle.cose.specs.Keys.{IsKey, alg_of, lent_key_view, number_of, x_of}
 ghost use Rattle.cose.specs.declared.key.CoseKey.{CoseKey};
 ghost use Rattle.verification.specs.Records.{Credential};
 ghost use Rattle.verification.specs.Views.{credential_view};
-ghost use Rattle.credential_table.specs.Views.{row_view};
+ghost use Rattle.site_state.specs.RowViews.{row_view};
 ghost use Rattle.credential_store.specs.Rows.{IsStored, credential_row, y_value};
 ghost use Rattle.credential_store.specs.Values.{blob_in};
 ghost use Rattle.credential_store.specs.declared.error.RowError.TheVariants as errors;
@@ -15,7 +15,7 @@ ghost use Rattle.credential_store.specs.declared.error.RowError.TheVariants as e
 use crate::error::RowError;
 use crate::values::{blob_at, int_at, truth, truth_in, truth_or_null};
 use cose::{Alg, KeyView, RsaView};
-use credential_table::Row as StoredRow;
+use site_state::Row as StoredRow;
 use sqlite_value::row::Row;
 use sqlite_value::value::ValueRef;
 use std::alloc::{AllocError, Global};

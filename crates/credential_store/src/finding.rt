@@ -7,7 +7,7 @@ ghost use Rattle.sqlite_trees.specs.Tree.{Trees};
 ghost use Rattle.sqlite_trees.specs.View.{IsClean, KeepsSchema, StayLive};
 ghost use Rattle.sqlite_trees.specs.declared.store.Shape.TheVariants.{Table};
 ghost use Rattle.verification.specs.Views.{credential_view};
-ghost use Rattle.credential_table.specs.Views.{row_view};
+ghost use Rattle.site_state.specs.RowViews.{row_view};
 ghost use Rattle.verification.specs.Records.{Credential};
 ghost use Rattle.credential_store.specs.Causes.{HasReadCause};
 ghost use Rattle.credential_store.specs.Held.{HasNone, HasTrees, Holds, IsAt, IsSameView, Placed, placed_rows};
@@ -15,7 +15,7 @@ ghost use Rattle.credential_store.specs.Held.{HasNone, HasTrees, Holds, IsAt, Is
 use crate::credentials::read_credential;
 use crate::entries::{first_place, rowid_of};
 use crate::error::RowError;
-use credential_table::Row as StoredRow;
+use site_state::Row as StoredRow;
 use sqlite_trees::error::StoreError;
 use sqlite_trees::store::Store;
 use sqlite_value::row::Row;

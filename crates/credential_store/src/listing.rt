@@ -9,14 +9,14 @@ ghost use Rattle.sqlite_trees.specs.Tree.{Trees};
 ghost use Rattle.sqlite_trees.specs.View.{IsClean, KeepsSchema};
 ghost use Rattle.sqlite_trees.specs.declared.store.Shape.TheVariants.{Table};
 ghost use Rattle.verification.specs.Records.{Credential};
-ghost use Rattle.credential_table.specs.Views.{row_view, rows_view};
+ghost use Rattle.site_state.specs.RowViews.{row_view, rows_view};
 ghost use Rattle.credential_store.specs.Causes.{HasReadCause};
 ghost use Rattle.credential_store.specs.Held.{HasTrees, Holds, IsSameView, Placed, entry as entry_of, placed_rows, rows_of};
 ghost use Rattle.credential_store.specs.Private.{AreEntries, IsPast};
 
 use crate::entries::{next_place, seek_key};
 use crate::finding::credential_at;
-use credential_table::Row as StoredRow;
+use site_state::Row as StoredRow;
 use sqlite_trees::error::StoreError;
 use sqlite_trees::store::Store;
 use sqlite_value::row::Row;

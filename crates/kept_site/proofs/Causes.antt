@@ -1,34 +1,15 @@
 -- What a part of a call tells of its failure, as told by the call.
-use Rattle.std.proofs.Common.{◌≡◌, ℕ, arith, false, inl, inr, refl, subst, sym, true≢false, ◌∙◌}
-use Rattle.std.specs.Prelude.{◌≤◌, IsTrue}
+use Rattle.std.proofs.Common.{◌≡◌, ℕ, arith, inl, inr, refl}
+use Rattle.std.specs.Prelude.{◌≤◌}
 use Rattle.sqlite_disk.specs.Disk.{MoreFaults}
 use Rattle.sqlite_trees.specs.View.{HasCause, View}
 use Rattle.sqlite_trees.specs.declared.error.StoreError.{StoreError}
 use Rattle.sqlite_trees.specs.declared.error.StoreError.TheVariants.{OutOfMemory, Io, Corrupt, Full, Broken, Unstorable}
-use Rattle.credential_store.specs.Causes.{HasReadCause}
-use Rattle.credential_store.specs.Held.{Holds, Placed}
 use Rattle.kept_site.specs.Causes.{IfFinishStore, IsCaused}
 use Rattle.kept_site.specs.declared.failure.Failure.{Failure}
 use Rattle.kept_site.specs.declared.failure.Failure.TheVariants as failures
 use Rattle.kept_site.specs.declared.failure.FinishFailure.{FinishFailure}
 use Rattle.kept_site.specs.declared.failure.FinishFailure.TheVariants as finishes
-
-never_broken : (v : View) (fault U : Type 0) (e : StoreError) → v.is_broken ≡ false → HasCause v fault U e → e ≡ Broken → ⊥
-never_broken v fault U e sound h is =
-    let broken : IsTrue v.is_broken = subst (HasCause v fault U) is h in
-    true≢false (sym broken ∙ sound)
-
-corrupt_apart : Corrupt ≡ Broken → ⊥
-corrupt_apart is = cc
-
--- the error of a store that was not broken
-pub caused : (v : View) (a b : ℕ) (U D : Type 0) (e : StoreError) → v.is_broken ≡ false → HasCause v (MoreFaults a b) U e → IsCaused v a b U D (failures.Failed e)
-caused v a b U D e sound h = (never_broken v (MoreFaults a b) U e sound h, inl h)
-
-pub caused_reading : (v : View) (a b : ℕ) (P : Placed → Type 0) (e : StoreError) → v.is_broken ≡ false → HasReadCause v (MoreFaults a b) P e
-    → IsCaused v a b ⊥ ((placed : Placed) → Holds placed v.trees → P placed) (failures.Failed e)
-caused_reading v a b P e sound (inl h) = (never_broken v (MoreFaults a b) ⊥ e sound h, inl h)
-caused_reading v a b P e sound (inr bad) = (λ is. corrupt_apart (sym bad.0 ∙ is), inr bad)
 
 cause_since : (old mid : View) (a b c : ℕ) (U V : Type 0) (e : StoreError) → a ≤ b → (U → V) → (e ≡ Broken → ⊥)
     → HasCause mid (MoreFaults b c) U e → HasCause old (MoreFaults a c) V e

@@ -5,8 +5,8 @@ use Rattle.std.specs.Prelude.{Option, Some, None, if◌then◌else◌}
 use Rattle.std.specs.Option.{ForSome}
 use Rattle.sqlite_trees.specs.View.{IsClean, IsStorableRow, View}
 use Rattle.verification.specs.Records.{Credential}
-use Rattle.credential_table.specs.Table.{retired}
-use Rattle.credential_table.specs.Views.{row_view}
+use Rattle.site_state.specs.Table.{retired}
+use Rattle.site_state.specs.RowViews.{row_view}
 use Rattle.credential_store.specs.Held.{Holds, IsAt, Placed}
 use Rattle.credential_store.specs.Rows.{credential_row}
 use Rattle.credential_store.specs.declared.finding.Found.{Found}

@@ -11,9 +11,9 @@ use Rattle.verification.specs.SignIn.{PassesSignIn}
 use Rattle.verification.specs.SignInAnswers.{IsRefused}
 use Rattle.verification.specs.declared.refusal.VerificationError.{VerificationError}
 use Rattle.verification.specs.declared.refusal.SignInRefusal.{SignInRefusal}
-use Rattle.credential_table.specs.Table.{signed_in}
-use Rattle.credential_table.specs.Views.{row_view}
-use Rattle.ceremony_sessions.specs.Sessions.{sign_in_at}
+use Rattle.site_state.specs.Table.{signed_in}
+use Rattle.site_state.specs.RowViews.{row_view}
+use Rattle.site_state.specs.Sessions.{sign_in_at}
 use Rattle.credential_store.specs.Held.{HasNone, Holds, IsAt, IsWritten, Placed}
 use Rattle.credential_store.specs.Rows.{credential_row}
 use Rattle.credential_store.specs.declared.finding.Found.{Found}

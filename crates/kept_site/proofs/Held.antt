@@ -9,11 +9,12 @@ use Rattle.std.specs.Cmp.{nat_cmp_total}
 use Rattle.sqlite_trees.specs.Tree.{Trees}
 use Rattle.sqlite_trees.specs.View.{View}
 use Rattle.verification.specs.Records.{Credential}
-use Rattle.credential_table.specs.Views.{row_view}
+use Rattle.site_state.specs.RowViews.{row_view}
 use Rattle.credential_store.specs.Held.{HasNone, Indexes, IsAt, IsWritten, Placed}
 use Rattle.credential_store.specs.Details.{Details, HoldsDetails, IsDetailed}
 use Rattle.credential_store.specs.declared.finding.Found.{Found}
-use Rattle.kept_site.specs.Private.{IsFoundAs}
+use Rattle.kept_site.specs.Calls.{IsFound}
+use Rattle.kept_site.specs.Private.{IsFoundAs, credential_of}
 use Rattle.kept_site.specs.State.{HoldsSite, IsHeld, KeptState}
 
 pub found_as : (C : Type 0) (H : Placed → Type 0) (id : List ℕ) (found : Option Found)
@@ -21,6 +22,10 @@ pub found_as : (C : Type 0) (H : Placed → Type 0) (id : List ℕ) (found : Opt
     → (found ≡ None → C → (placed : Placed) → H placed → HasNone placed id) → C → (placed : Placed) → H placed → IsFoundAs placed id found
 found_as C H id None there none clean placed h = none refl clean placed h
 found_as C H id (Some f) there none clean placed h = there clean placed h
+
+pub is_found : (placed : Placed) (id : List ℕ) (found : Option Found) → IsFoundAs placed id found → IsFound placed id (credential_of found)
+is_found placed id None is = is
+is_found placed id (Some f) is = (f.place, is)
 
 tied : (p q : ℕ) → eq_by_cmp nat_cmp p q ≡ true → p ≡ q
 tied p q e = grind (arith, common_steps, e)

@@ -1,21 +1,18 @@
 -- Reading credentials one after the other.
-use Rattle.std.proofs.Common.{◌≡◌, ◌≤◌, ℕ, Bool, true, false, List, [], ◌∷◌, ◌++◌, map, length, length-append, refl, sym, ap, subst, true≢false, arith, ◌∙◌}
-use Rattle.std.proofs.lemmas.List.{length-map}
-use Rattle.std.proofs.lemmas.Option.{same_Some}
+use Rattle.std.proofs.Common.{◌≡◌, ℕ, List, [], ◌∷◌, ◌++◌, map, refl, sym, ap, subst, ◌∙◌}
 use Rattle.std.specs.Prelude.{Some}
 use Rattle.std.specs.List.{AllByRecursion}
 use Rattle.std.specs.FinMap as finite
 use Rattle.sqlite_value.specs.Order.{Row}
 use Rattle.sqlite_trees.specs.Tree.{Trees}
-use Rattle.sqlite_trees.specs.View.{Advances, View}
 use Rattle.verification.specs.Records.{Credential}
-use Rattle.credential_table.specs.Views.{row_view, rows_view}
-use Rattle.credential_table.specs.declared.row.Row.{Row as StoredRow}
+use Rattle.site_state.specs.RowViews.{row_view, rows_view}
+use Rattle.site_state.specs.declared.row.Row.{Row as StoredRow}
 use Rattle.credential_store.specs.Held.{ArePlaced, Holds, Placed, placed_rows, rows_of}
 use Rattle.credential_store.specs.Rows.{credential_row}
 use Rattle.credential_store.proofs.One.{one_credential}
 use Rattle.credential_store.proofs.Tables.{entries_found}
-use Rattle.kept_site.specs.Private.{AreCredentials, IsCredentialRow}
+use Rattle.kept_site.specs.Private.{AreCredentials}
 
 abbrev pub rows_in : List (ℕ × Credential) → List Row
 rows_in es = map (λ e. credential_row e.0 e.1) es
@@ -70,16 +67,6 @@ read_whole all left read placed at none are = go (at (finite.entries placed) are
     go [] rows joined = sym (joined ∙ plus_none (rows_view read))
     go (f ∷ fs) rows joined = let no : [] ≡ credential_row f.0 f.1 ∷ rows_in fs = sym none ∙ rows in absurd cc
 
--- no more were read than there are
-pub read_few : (all left : List Row) (read : List StoredRow) (placed : Placed) → IsReadTo all (rows_view read) left → all ≡ placed_rows placed
-    → length read ≤ length (rows_of placed)
-read_few all left read placed at are =
-    let to = at (finite.entries placed) are in
-    let whole : length (rows_of placed) ≡ length (rows_view read ++ credentials_in to.0) = ap length to.2 in
-    let parts = length-append (rows_view read) (credentials_in to.0) in
-    let each = length-map read row_view in
-    omega (arith, whole, parts, each)
-
 -- ---- each row is a credential's
 
 all_stored : (placed : Placed) (es : List (ℕ × Credential)) → ArePlaced placed → AllByRecursion (λ e. finite.get placed e.0 ≡ Some e.1) es
@@ -92,9 +79,3 @@ all_stored placed (e ∷ es) are found =
 pub are_credentials : (placed : Placed) (db : Trees) → Holds placed db → AreCredentials (db 0)
 are_credentials placed db h =
     subst AreCredentials (sym h.table) (all_stored placed (finite.entries placed) h.are (entries_found placed))
-
--- so is the one that a cursor gave
-pub credential_given : (old new : View) (row : Row) (left : List Row) (found : Bool) → found ≡ true → Advances old new 0 row found → old.cursors 0 ≡ Some left
-    → AreCredentials left → IsCredentialRow row
-credential_given old new row left true t a at are = (subst AreCredentials (same_Some left (row ∷ a.0) (sym at ∙ a.1)) are).0
-credential_given old new row left false t a at are = absurd (true≢false (sym t))

@@ -1,16 +1,16 @@
 -- Why a row is not read.
-use Rattle.std.proofs.Common.{◌≡◌, ℕ, Bool, List, ap, inl, inr, subst, sym, true}
+use Rattle.std.proofs.Common.{◌≡◌, ℕ, List, ap, inl, inr}
 use Rattle.std.specs.Prelude.{◌≤◌, ◌⊎◌, Some}
 use Rattle.sqlite_disk.specs.Disk.{MoreFaults}
 use Rattle.sqlite_value.specs.Order.{Row}
-use Rattle.sqlite_trees.specs.View.{Advances, HasCause, View}
+use Rattle.sqlite_trees.specs.View.{HasCause, View}
 use Rattle.sqlite_trees.specs.declared.error.StoreError.{StoreError}
-use Rattle.sqlite_trees.specs.declared.error.StoreError.TheVariants.{Corrupt, OutOfMemory}
+use Rattle.sqlite_trees.specs.declared.error.StoreError.TheVariants.{Corrupt}
 use Rattle.credential_store.proofs.Causes.{cause_since}
 use Rattle.credential_store.specs.Causes.{HasReadCause}
 use Rattle.credential_store.specs.Held.{Placed}
-use Rattle.kept_site.specs.Private.{AreCredentials, IsCredentialRow}
-use Rattle.kept_site.proofs.ReadTo.{are_credentials, credential_given}
+use Rattle.kept_site.specs.Private.{AreCredentials}
+use Rattle.kept_site.proofs.ReadTo.{are_credentials}
 
 -- a row that is no credential's is of no table of credentials
 pub row_cause : (old mid : View) (a b c : ℕ) (P : Placed → Type 0) (e : StoreError) (left : List Row) → mid ≡ record old { cursors = mid.cursors } → a ≤ b
@@ -20,10 +20,3 @@ pub row_cause : (old mid : View) (a b c : ℕ) (P : Placed → Type 0) (e : Stor
 row_cause old mid a b c P e left same up at are (inl h) = inl (cause_since old mid a b c ⊥ ⊥ e (ap (λ v. v.is_broken) same) up (λ no. no) h)
 row_cause old mid a b c P e left same up at are (inr bad) =
     inr (bad.0, λ placed h. absurd (bad.1 left at (are (are_credentials placed old.trees h))))
-
--- nor are the rows from it on
-pub no_credential : (old new : View) (row : Row) (found : Bool) (F : Type 0) (e : StoreError) → found ≡ true → Advances old new 0 row found
-    → (e ≡ OutOfMemory) ⊎ ((e ≡ Corrupt) × (IsCredentialRow row → ⊥))
-    → HasCause old F ⊥ e ⊎ ((e ≡ Corrupt) × ((left : List Row) → old.cursors 0 ≡ Some left → AreCredentials left → ⊥))
-no_credential old new row found F e given a (inl memory) = inl (subst (HasCause old F ⊥) (sym memory) tt)
-no_credential old new row found F e given a (inr bad) = inr (bad.0, λ left at are. bad.1 (credential_given old new row left found given a at are))

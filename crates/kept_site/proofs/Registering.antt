@@ -9,9 +9,9 @@ use Rattle.authdata.specs.Layout.{AttestedCredential, AuthenticatorData}
 use Rattle.authdata.specs.Responses as responses
 use Rattle.cose.specs.declared.key.CoseKey.{CoseKey}
 use Rattle.verification.specs.Records.{Credential, ExpectedRegistration, NewCredential}
-use Rattle.credential_table.specs.Views.{row_view}
-use Rattle.credential_table.specs.declared.row.Row.{Row as StoredRow}
-use Rattle.ceremony_sessions.specs.Sessions.{registration_at}
+use Rattle.site_state.specs.RowViews.{row_view}
+use Rattle.site_state.specs.declared.row.Row.{Row as StoredRow}
+use Rattle.site_state.specs.Sessions.{registration_at}
 use Rattle.credential_store.specs.Held.{HasNone, Holds, IsWritten, Placed}
 use Rattle.credential_store.specs.Causes.{IsRefused}
 use Rattle.kept_site.specs.Calls.{Registers, is_full, registered}

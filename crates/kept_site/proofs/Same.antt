@@ -3,7 +3,7 @@ use Rattle.std.proofs.Common.{◌≡◌, ◌<◌, Bool, true, false, ap, arith, 
 use Rattle.std.proofs.lemmas.Grind.{common_steps}
 use Rattle.std.specs.Prelude.{nat_lt}
 use Rattle.std.specs.FinMap as finite
-use Rattle.timed_sessions.specs.Timed.{IsTrimmed, Timed}
+use Rattle.site_state.specs.Timed.{IsTrimmed, Timed}
 use Rattle.kept_site.specs.State.{KeptState}
 
 pub same_sessions : {S : Type 0} (s : KeptState S) (t : Timed) → t ≡ s.timed → ◌≡◌ {A = KeptState S} (record s { timed = t }) s

@@ -4,7 +4,7 @@ use Rattle.std.specs.Prelude.{Bool, Option}
 use Rattle.authdata.specs.Responses.{AuthenticatorAssertionResponse}
 use Rattle.verification.specs.Records.{Credential, ExpectedSignIn, RelyingParty}
 use Rattle.verification.specs.SignIn.{JudgedSignIn}
-use Rattle.credential_table.specs.Table.{signed_in}
+use Rattle.site_state.specs.Table.{signed_in}
 
 abbrev attempt_with : RelyingParty → AuthenticatorAssertionResponse → Option ExpectedSignIn → Option Credential → JudgedSignIn
 attempt_with rp r session credential = record { rp = rp; session = session; credential = credential; response = r }

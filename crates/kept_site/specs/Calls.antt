@@ -12,10 +12,10 @@ use Rattle.verification.specs.Records.{Credential, ExpectedRegistration}
 use Rattle.verification.specs.SignIn.{JudgedSignIn, PassesSignIn}
 use Rattle.verification.specs.Registration.{Attests, JudgedRegistration, PassesRegistration}
 use Rattle.std.specs.Option.{ForSome}
-use Rattle.credential_table.specs.Table.{retired, signed_in}
-use Rattle.credential_table.specs.Views.{row_view}
-use Rattle.ceremony_sessions.specs.Sessions.{Opening, registration_at, sign_in_at}
-use Rattle.ceremony_sessions.specs.Sessions as sessions
+use Rattle.site_state.specs.Table.{retired, signed_in}
+use Rattle.site_state.specs.RowViews.{row_view}
+use Rattle.site_state.specs.Sessions.{Opening, registration_at, sign_in_at}
+use Rattle.site_state.specs.Sessions as sessions
 use Rattle.verification.specs.SignInAnswers.{IsRefused}
 use Rattle.verification.specs.RegistrationAnswers as registrations
 use Rattle.verification.specs.declared.refusal.RegistrationRefusal.{RegistrationRefusal}
@@ -24,7 +24,7 @@ use Rattle.verification.specs.declared.refusal.SignInRefusal.{SignInRefusal}
 use Rattle.credential_store.specs.Held.{HasNone, IsAt, Placed}
 use Rattle.credential_store.specs.Details.{Detail, Details, HoldsDetails, used}
 use Rattle.sqlite_trees.specs.Tree.{Trees}
-use Rattle.timed_sessions.specs.Timed.{skipped}
+use Rattle.site_state.specs.Timed.{skipped}
 use Rattle.kept_site.specs.State.{KeptState, to_commit}
 use Rattle.kept_site.specs.declared.failure.Failure.{Failure}
 use Rattle.kept_site.specs.declared.failure.Failure.TheVariants as failures

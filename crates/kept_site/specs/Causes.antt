@@ -1,9 +1,10 @@
 -- Why a call over a site's store fails.
-use Rattle.std.specs.Prelude.{◌≡◌, ◌⊎◌, ◌+◌, ℕ, ℤ, List, Some, ⊤}
+use Rattle.std.specs.Prelude.{◌≡◌, ◌⊎◌, ◌+◌, ℕ, ℤ, List, Some, false, ⊤}
 use Rattle.std.specs.FinMap as finite
 use Rattle.sqlite_disk.specs.Disk.{MoreFaults}
 use Rattle.sqlite_trees.specs.Tree.{Trees}
 use Rattle.sqlite_trees.specs.View.{HasCause, IsStorableRow, View}
+use Rattle.sqlite_trees.specs.declared.error.StoreError.{StoreError}
 use Rattle.sqlite_trees.specs.declared.error.StoreError.TheVariants.{Broken, Corrupt}
 use Rattle.authdata.specs.Flags.{is_set, BE}
 use Rattle.authdata.specs.Layout.{AttestedCredential, AuthenticatorData, AuthOf}
@@ -13,8 +14,8 @@ use Rattle.authdata.specs.Responses as responses
 use Rattle.authdata.specs.declared.profile.Profile.{Profile}
 use Rattle.verification.specs.Records.{Credential, ExpectedRegistration}
 use Rattle.verification.specs.Registration.{Attests}
-use Rattle.credential_table.specs.Table.{signed_in}
-use Rattle.ceremony_sessions.specs.Sessions.{registration_at}
+use Rattle.site_state.specs.Table.{signed_in}
+use Rattle.site_state.specs.Sessions.{registration_at}
 use Rattle.credential_store.specs.Causes.{IsRefused}
 use Rattle.credential_store.specs.Details.{Detail, Details, HoldsDetails, detail_row, used}
 use Rattle.credential_store.specs.Held.{Holds, IsAt, Placed}
@@ -23,6 +24,10 @@ use Rattle.kept_site.specs.Calls.{registered}
 use Rattle.kept_site.specs.State.{KeptState, site_row}
 use Rattle.kept_site.specs.declared.failure.Failure.{Failure}
 use Rattle.kept_site.specs.declared.failure.Failure.TheVariants as failures
+use Rattle.kept_site.specs.declared.failure.CreateFailure.{CreateFailure}
+use Rattle.kept_site.specs.declared.failure.CreateFailure.TheVariants as creates
+use Rattle.kept_site.specs.declared.failure.OpenFailure.{OpenFailure}
+use Rattle.kept_site.specs.declared.failure.OpenFailure.TheVariants as opens
 use Rattle.kept_site.specs.declared.failure.BeginFailure.{BeginFailure}
 use Rattle.kept_site.specs.declared.failure.BeginFailure.TheVariants as begins
 use Rattle.kept_site.specs.declared.failure.FinishFailure.{FinishFailure}
@@ -44,37 +49,60 @@ IfBeginStore P (begins.Site why) = ⊤
 IfBeginStore P begins.NoNumber = ⊤
 IfBeginStore P (begins.Store why) = P why
 
--- what is said of it, where it is why a ceremony is not finished
+-- what is said of the store's failure, where it is why a ceremony is not finished
 abbrev pub IfFinishStore : {W : Type 0} → (Failure → Type 0) → FinishFailure W → Type 0
 IfFinishStore P (finishes.Site why) = ⊤
 IfFinishStore P (finishes.Store why) = P why
 
+-- ---- a site over a store that is made or opened
+
+-- the error of a store that a site is to be over has its cause in this call: so too, and it is Broken where the store was shut before, or where a
+-- fault of the disk shut it
+abbrev pub IsStartCaused : View → ℕ → ℕ → Type 0 → StoreError → Type 0
+IsStartCaused old before after refused Broken = (old.is_open ≡ false) ⊎ MoreFaults before after
+IsStartCaused old before after refused e = HasCause old (MoreFaults before after) refused e
+
+-- what is said of the store's error, where it is why no site is made
+abbrev pub IfCreateStore : (StoreError → Type 0) → CreateFailure → Type 0
+IfCreateStore P creates.NotNew = ⊤
+IfCreateStore P (creates.Failed e) = P e
+
+-- what is said of the store's error, where it is why no site is opened
+abbrev pub IfOpenStore : (StoreError → Type 0) → OpenFailure → Type 0
+IfOpenStore P opens.NoSite = ⊤
+IfOpenStore P opens.OtherSite = ⊤
+IfOpenStore P opens.Newer = ⊤
+IfOpenStore P opens.Older = ⊤
+IfOpenStore P opens.TooMany = ⊤
+IfOpenStore P opens.BadRow = ⊤
+IfOpenStore P (opens.Failed e) = P e
+
 -- ---- rows that no store takes, as one of over a billion bytes
 
--- the row of the relying party, with this number
-abbrev pub RefusesNumber : View → List ℕ → ℕ → Type 0
-RefusesNumber old rp_id next = ¬ IsStorableRow (old.reals 2) (site_row rp_id next)
+-- no store takes the row of the relying party with this number
+abbrev pub RefusesNumber : (ℕ → ℕ) → List ℕ → ℕ → Type 0
+RefusesNumber reals rp_id next = ¬ IsStorableRow (reals 2) (site_row rp_id next)
 
--- the row of the credential that has an id, so changed
+-- no store takes the row of the credential that has an id, so changed
 pub record RefusesChange (old : View) (id : List ℕ) (change : Credential → Credential) : Type 0 where
   pub place : ℕ
   pub credential : Credential
   pub found : (placed : Placed) → Holds placed old.trees → IsAt placed id place credential
   pub row : ¬ IsStorableRow (old.reals 0) (credential_row place (change credential))
 
--- the row of its detail, used at this second
+-- no store takes the row of the detail of the credential that has an id, used at this second
 abbrev pub RefusesUse : View → List ℕ → ℤ → Type 0
 RefusesUse old id now =
     (placed : Placed) → Holds placed old.trees → (details : Details) → HoldsDetails details old.trees
     → (place : ℕ) × (c : Credential) × IsAt placed id place c × (¬ IsStorableRow (old.reals 5) (detail_row place (used now (finite.get details place))))
 
--- the row of the credential that signs in, with the counter and the mark that came; or that of its detail
+-- no store takes the row of the credential that signs in, with the counter and the mark that came; or that of its detail
 abbrev pub RefusesSignedIn : View → Profile → AuthenticatorAssertionResponse → ℤ → Type 0
 RefusesSignedIn old profile r now =
     ((a : AuthenticatorData) × AuthOf profile a r.auth_data × RefusesChange old r.credential (signed_in a.sign_count (is_set a.flags BE)))
     ⊎ RefusesUse old r.credential now
 
--- the row, or an entry, of the credential that a response attests in a session
+-- no store takes the row, or an entry, of the credential that a response attests in a session
 pub record RefusesNew {S : Type 0} (old : View) (s : KeptState S) (n : ℕ) (r : responses.AuthenticatorAttestationResponse) : Type 0 where
   pub expected : ExpectedRegistration
   pub object : Attestation
@@ -84,6 +112,6 @@ pub record RefusesNew {S : Type 0} (old : View) (s : KeptState S) (n : ℕ) (r :
   pub attests : Attests s.rp.profile r object data_read credential
   pub row : IsRefused old.reals (s.last + 1) (registered expected data_read credential)
 
--- it; or the row of its detail
+-- no store takes that; or the row of its detail
 abbrev pub RefusesRegistered : {S : Type 0} → View → KeptState S → ℕ → responses.AuthenticatorAttestationResponse → Detail → Type 0
 RefusesRegistered old s n r detail = RefusesNew old s n r ⊎ (¬ IsStorableRow (old.reals 5) (detail_row (s.last + 1) detail))

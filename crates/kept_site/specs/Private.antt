@@ -20,8 +20,8 @@ use Rattle.verification.specs.declared.party.Policy.{Policy}
 use Rattle.verification.specs.SignIn.{JudgedSignIn, PassesSignIn}
 use Rattle.verification.specs.declared.refusal.VerificationError.{VerificationError}
 use Rattle.std.specs.Option.{ForSome}
-use Rattle.credential_table.specs.Table.{retired, signed_in}
-use Rattle.credential_table.specs.Views.{row_view}
+use Rattle.site_state.specs.Table.{retired, signed_in}
+use Rattle.site_state.specs.RowViews.{row_view}
 use Rattle.credential_store.specs.Held.{HasNone, HasTrees, Holds, IsAt, IsWritten, Placed}
 use Rattle.sqlite_trees.specs.declared.store.Shape.TheVariants.{Table}
 use Rattle.credential_store.specs.declared.finding.Found.{Found}

@@ -12,9 +12,9 @@ use Rattle.authdata.specs.contracts.profile.Profile as profile
 use Rattle.verification.specs.Records.{Credential, RelyingParty}
 use Rattle.verification.specs.declared.party.Policy.{Policy}
 use Rattle.verification.specs.contracts.party.Policy as policy
-use Rattle.ceremony_sessions.specs.Codes.{Bytes, coded_bytes}
+use Rattle.site_state.specs.Codes.{Bytes, coded_bytes}
 use Rattle.credential_store.specs.Held.{HasTrees, Holds, Placed}
-use Rattle.timed_sessions.specs.Timed.{Timed, timed_code}
+use Rattle.site_state.specs.Timed.{Timed, timed_code}
 
 -- the relying party; the attestations that it accepts; the open sessions; the number below which all may have been given, and the
 -- same by what is committed; how many credentials there are, the highest place that one ever had, and how many there may be; the

@@ -4,8 +4,8 @@ ghost use Rattle.std.specs.Prelude.{◌≡◌, ◌↔◌, ◌+◌, ◌<◌, ◌�
 ghost use Rattle.sqlite_trees.specs.Tree.{Trees};
 ghost use Rattle.sqlite_trees.specs.View.{IsClean};
 ghost use Rattle.credential_store.specs.Held.{Placed};
-ghost use Rattle.ceremony_sessions.specs.Sessions.{OpensRegistration, OpensSignIn, challenge_of, usual};
-ghost use Rattle.timed_sessions.specs.Timed.{IsTrimmed, after_begin};
+ghost use Rattle.site_state.specs.Sessions.{OpensRegistration, OpensSignIn, challenge_of, usual};
+ghost use Rattle.site_state.specs.Timed.{IsTrimmed, after_begin};
 ghost use Rattle.kept_site.specs.State.{IsHeld};
 ghost use Rattle.kept_site.specs.Calls.{IsNotBegun, IsOneSite};
 ghost use Rattle.kept_site.specs.Causes.{IfBeginStore, IsCaused, RefusesNumber};
@@ -14,8 +14,8 @@ ghost use Rattle.kept_site.specs.declared.failure.BeginFailure.TheVariants as be
 
 use crate::failure::{BeginFailure, Failure};
 use crate::kept::KeptSite;
-use ceremony_sessions::{Asks, Error as BeginError, Started};
 use cose::Alg;
+use site_state::{Asks, BeginError, Started};
 use sqlite_trees::store::Store;
 
 /// Whether the number after a session's, and those that may be reserved with it, are ones that a column can hold.
@@ -52,7 +52,7 @@ impl<S: Store> KeptSite<S> {
         ensures clean { IsClean (S.Store.view self.new.store) → IsClean (S.Store.view self.old.store) }
         ensures shut { self.old.is_shut ≡ true → IsErrOf result (begins.Store failures.Shut) }
         ensures cause { IsClean (S.Store.view self.new.store) → IfErr result (IfBeginStore (IsCaused (S.Store.view self.old.store) (S.Store.faults self.old.store) (S.Store.faults self.new.store)
-            (RefusesNumber (S.Store.view self.old.store) self.old.rp.rp_id (self.old.timed.open_sessions.next + 1000)) ⊥)) }
+            (RefusesNumber (S.Store.view self.old.store).reals self.old.rp.rp_id (self.old.timed.open_sessions.next + 1000)) ⊥)) }
         ensures counts { S.Store.faults self.old.store ≤ S.Store.faults self.new.store }
         ensures crash { (db : Trees) → S.Store.recovers self.new.store db → S.Store.recovers self.old.store db }
     {
@@ -92,7 +92,7 @@ impl<S: Store> KeptSite<S> {
         ensures clean { IsClean (S.Store.view self.new.store) → IsClean (S.Store.view self.old.store) }
         ensures shut { self.old.is_shut ≡ true → IsErrOf result (begins.Store failures.Shut) }
         ensures cause { IsClean (S.Store.view self.new.store) → IfErr result (IfBeginStore (IsCaused (S.Store.view self.old.store) (S.Store.faults self.old.store) (S.Store.faults self.new.store)
-            (RefusesNumber (S.Store.view self.old.store) self.old.rp.rp_id (self.old.timed.open_sessions.next + 1000)) ⊥)) }
+            (RefusesNumber (S.Store.view self.old.store).reals self.old.rp.rp_id (self.old.timed.open_sessions.next + 1000)) ⊥)) }
         ensures counts { S.Store.faults self.old.store ≤ S.Store.faults self.new.store }
         ensures crash { (db : Trees) → S.Store.recovers self.new.store db → S.Store.recovers self.old.store db }
     {
@@ -121,7 +121,7 @@ impl<S: Store> KeptSite<S> {
         ensures clean { IsClean (S.Store.view self.new.store) → IsClean (S.Store.view self.old.store) }
         ensures shut { self.old.is_shut ≡ true → IsErrOf result (begins.Store failures.Shut) }
         ensures cause { IsClean (S.Store.view self.new.store) → IfErr result (IfBeginStore (IsCaused (S.Store.view self.old.store) (S.Store.faults self.old.store) (S.Store.faults self.new.store)
-            (RefusesNumber (S.Store.view self.old.store) self.old.rp.rp_id (self.old.timed.open_sessions.next + 1000)) ⊥)) }
+            (RefusesNumber (S.Store.view self.old.store).reals self.old.rp.rp_id (self.old.timed.open_sessions.next + 1000)) ⊥)) }
         ensures counts { S.Store.faults self.old.store ≤ S.Store.faults self.new.store }
         ensures crash { (db : Trees) → S.Store.recovers self.new.store db → S.Store.recovers self.old.store db }
     {

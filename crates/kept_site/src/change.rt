@@ -5,7 +5,7 @@ ghost use Rattle.std.specs.FinMap as finite;
 ghost use Rattle.sqlite_trees.specs.Tree.{Trees};
 ghost use Rattle.sqlite_trees.specs.View.{IsClean};
 ghost use Rattle.verification.specs.Views.{credential_view};
-ghost use Rattle.credential_table.specs.Table as table;
+ghost use Rattle.site_state.specs.Table as table;
 ghost use Rattle.credential_store.specs.Held.{Placed};
 ghost use Rattle.credential_store.specs.Details.{Details, HoldsDetails};
 ghost use Rattle.kept_site.specs.State.{IsHeld, IsReady};

@@ -1,9 +1,10 @@
 //! A site over a store without rows.
 
-ghost use Rattle.std.specs.Prelude.{◌≡◌, ◌⊎◌, ◌≤◌, [], IfErr, IfOk, IsTrue, OnOk, false};
+ghost use Rattle.std.specs.Prelude.{◌≡◌, ◌⊎◌, ◌≤◌, [], IfErr, IfOk, IsTrue, MatchResult, OnOk, false};
 ghost use Rattle.std.specs.FinMap as finite;
 ghost use Rattle.sqlite_trees.specs.Tree.{Trees};
 ghost use Rattle.sqlite_trees.specs.View.{IsClean};
+ghost use Rattle.kept_site.specs.Causes.{IfCreateStore, IsStartCaused, RefusesNumber};
 ghost use Rattle.kept_site.specs.State.{HoldsSite, IsHeld, IsReady};
 ghost use Rattle.kept_site.specs.Private.{IsNew};
 
@@ -12,9 +13,9 @@ use crate::kept::KeptSite;
 use crate::rows::reserve;
 use crate::scan::{has_trees, is_empty, rest};
 use crate::site_store::SiteStore;
+use site_state::TimedSessions;
 use sqlite_trees::store::Store;
 use std::alloc::Global;
-use timed_sessions::TimedSessions;
 use verification::{Policy, RelyingParty};
 
 /// How much a site may have.
@@ -30,6 +31,9 @@ pub struct Bounds {
 fn check_new<S: Store>(alloc: Global, store: &mut S) -> Result<(), CreateFailure>
     ensures new { OnOk result (IsClean (S.Store.view store.new) → IsNew (S.Store.view store.new)) }
     ensures clean { OnOk result (IsClean (S.Store.view store.new) → IsClean (S.Store.view store.old)) }
+    ensures reals { OnOk result (IsClean (S.Store.view store.new) → (S.Store.view store.new).reals ≡ (S.Store.view store.old).committed_reals) }
+    ensures cause { IsClean (S.Store.view store.new) → IfErr result (IfCreateStore (IsStartCaused (S.Store.view store.old) (S.Store.faults store.old) (S.Store.faults store.new) ⊥)) }
+    ensures counts { S.Store.faults store.old ≤ S.Store.faults store.new }
     ensures crash { (db : Trees) → S.Store.recovers store.new db → S.Store.recovers store.old db }
 {
     rest(store)?;
@@ -55,6 +59,8 @@ fn write_new<S: Store>(
 ) -> Result<(), CreateFailure>
     ensures held { OnOk result (IsClean (S.Store.view store.new) → HoldsSite finite.empty party.now.rp_id 1 (S.Store.view store.new).trees) }
     ensures ready { OnOk result (IsClean (S.Store.view store.new) → IsReady (S.Store.view store.new) false) }
+    ensures cause { IsClean (S.Store.view store.new) → IfErr result (IfCreateStore (IsStartCaused (S.Store.view store.old) (S.Store.faults store.old) (S.Store.faults store.new) (RefusesNumber (S.Store.view store.old).committed_reals party.now.rp_id 1))) }
+    ensures counts { S.Store.faults store.old ≤ S.Store.faults store.new }
     ensures crash { (db : Trees) → IsClean (S.Store.view store.new) → S.Store.recovers store.new db
         → S.Store.recovers store.old db ⊎ HoldsSite finite.empty party.now.rp_id 1 db }
 {
@@ -80,6 +86,9 @@ impl<S: Store> KeptSite<S> {
         ensures made { IfOk result (λ s. (s.rp ≡ party) × (s.policy ≡ policy) × (s.most ≡ bounds.credentials) × (s.is_shut ≡ false) × (s.is_pending ≡ false)) }
         ensures sessions { IfOk result (λ s. (s.timed.open_sessions.expected ≡ finite.empty) × (s.timed.open_sessions.next ≡ 1)) }
         ensures held { IfOk result (λ s. IsClean (S.Store.view s.store) → IsHeld finite.empty s (S.Store.view s.store).trees) }
+        ensures cause { IfErr result (λ e. IsClean (S.Store.view e.1) → IfCreateStore (IsStartCaused (S.Store.view store) (S.Store.faults store) (S.Store.faults e.1)
+            (RefusesNumber (S.Store.view store).committed_reals party.rp_id 1)) e.0) }
+        ensures counts { MatchResult result (λ s. S.Store.faults store ≤ S.Store.faults s.store) (λ e. S.Store.faults store ≤ S.Store.faults e.1) }
         // An open after a crash finds what it could find before, or the new site.
         ensures crash { IfOk result (λ s. (db : Trees) → IsClean (S.Store.view s.store) → S.Store.recovers s.store db
             → S.Store.recovers store db ⊎ HoldsSite finite.empty party.rp_id 1 db) }

@@ -8,7 +8,7 @@ ghost use Rattle.kept_site.specs.declared.failure.OpenFailure.TheVariants as ope
 ghost use Rattle.kept_site.specs.declared.failure.BeginFailure.TheVariants as begins;
 ghost use Rattle.kept_site.specs.declared.failure.FinishFailure.TheVariants as finishes;
 
-use ceremony_sessions::Error as BeginError;
+use site_state::BeginError;
 use sqlite_trees::error::StoreError;
 use std::alloc::AllocError;
 use std::fmt::Display;

@@ -5,11 +5,11 @@ ghost use Rattle.sqlite_trees.specs.Tree.{Trees};
 ghost use Rattle.sqlite_trees.specs.View.{IsClean};
 ghost use Rattle.verification.specs.SignInAnswers.{IsRefused};
 ghost use Rattle.verification.specs.Views.{assertion_parts_view, credential_view};
-ghost use Rattle.credential_table.specs.Table as table;
+ghost use Rattle.site_state.specs.Table as table;
 ghost use Rattle.credential_store.specs.Held.{Placed};
 ghost use Rattle.credential_store.specs.Details.{Details, HoldsDetails};
-ghost use Rattle.ceremony_sessions.specs.Sessions.{sign_in_at};
-ghost use Rattle.timed_sessions.specs.Timed.{after_end};
+ghost use Rattle.site_state.specs.Sessions.{sign_in_at};
+ghost use Rattle.site_state.specs.Timed.{after_end};
 ghost use Rattle.kept_site.specs.State.{IsHeld, IsReady};
 ghost use Rattle.kept_site.specs.Calls.{IsNotFinished, IsOneSite, RefusesSignIn, SignsIn, TellsUsed};
 ghost use Rattle.kept_site.specs.Causes.{IfFinishStore, IsCaused, IsDamaged, RefusesSignedIn};
@@ -22,9 +22,9 @@ use crate::kept::KeptSite;
 use crate::site_store::SiteStore;
 use cose::Verifier;
 use credential_store::{Found, lent};
+use site_state::TimedSessions;
 use sqlite_trees::store::Store;
 use std::alloc::Global;
-use timed_sessions::TimedSessions;
 use verification::{
     AssertionParts, RelyingParty, RowView, SignInAttempt, SignInRefusal, VerificationError,
     VerifiedAssertion, verify_assertion,

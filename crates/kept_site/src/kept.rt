@@ -5,9 +5,9 @@ ghost use Rattle.std.specs.FinMap as finite;
 ghost use Rattle.sqlite_trees.specs.Tree.{Trees};
 ghost use Rattle.sqlite_trees.specs.View.{IsClean};
 ghost use Rattle.verification.specs.Views.{registration_view};
-ghost use Rattle.ceremony_sessions.specs.Sessions.{registration_at};
+ghost use Rattle.site_state.specs.Sessions.{registration_at};
 ghost use Rattle.credential_store.specs.Held.{Placed};
-ghost use Rattle.timed_sessions.specs.Timed.{after_end, since};
+ghost use Rattle.site_state.specs.Timed.{after_end, since};
 ghost use Rattle.kept_site.specs.State.{IsHeld, IsSound, to_commit, with_site};
 ghost use Rattle.kept_site.specs.Calls.{IsCommit, IsFailure};
 ghost use Rattle.kept_site.specs.Causes.{IsCaused, RefusesNumber};
@@ -16,10 +16,10 @@ ghost use Rattle.kept_site.specs.declared.failure.Failure.TheVariants as failure
 use crate::failure::Failure;
 use crate::rows::to_commit;
 use crate::site_store::SiteStore;
+use site_state::TimedSessions;
 use sqlite_trees::store::Store;
 use std::alloc::AllocError;
 use std::marker::Model;
-use timed_sessions::TimedSessions;
 use verification::{Policy, RegistrationSession, RelyingParty};
 
 /// A relying party whose credentials are rows of a store, and whose open sessions are in memory.
@@ -139,7 +139,7 @@ impl<S: Store> KeptSite<S> {
         ensures crash { (db : Trees) → S.Store.recovers self.new.store db
             → (db ≡ with_site self.old.rp.rp_id (to_commit self.old.durable self.old.reserved) (S.Store.view self.old.store).trees) ⊎ S.Store.recovers self.old.store db }
         ensures cause { IsClean (S.Store.view self.new.store) → IfErr result (IsCaused (S.Store.view self.old.store) (S.Store.faults self.old.store) (S.Store.faults self.new.store)
-            (RefusesNumber (S.Store.view self.old.store) self.old.rp.rp_id (to_commit self.old.durable self.old.reserved)) ⊥) }
+            (RefusesNumber (S.Store.view self.old.store).reals self.old.rp.rp_id (to_commit self.old.durable self.old.reserved)) ⊥) }
         ensures counts { S.Store.faults self.old.store ≤ S.Store.faults self.new.store }
         ensures failed { IfErr result (IsFailure self.old self.new) }
         ensures shut { self.old.is_shut ≡ true → IsErrOf result failures.Shut }

@@ -3,7 +3,7 @@
 ghost use Rattle.std.specs.Prelude.{◌≡◌, ◌≤◌, IfErr, IfOk, IsErrOf, OnOk, option_map, true};
 ghost use Rattle.sqlite_trees.specs.Tree.{Trees};
 ghost use Rattle.sqlite_trees.specs.View.{IsClean};
-ghost use Rattle.credential_table.specs.Views.{row_view};
+ghost use Rattle.site_state.specs.RowViews.{row_view};
 ghost use Rattle.credential_store.specs.Held.{Placed};
 ghost use Rattle.credential_store.specs.Details.{Details, HoldsDetails, detail_view};
 ghost use Rattle.kept_site.specs.State.{IsHeld};
@@ -15,7 +15,7 @@ ghost use Rattle.kept_site.specs.declared.failure.Failure.TheVariants as failure
 use crate::failure::Failure;
 use crate::kept::KeptSite;
 use credential_store::{Detail, Found};
-use credential_table::Row;
+use site_state::Row;
 use sqlite_trees::store::Store;
 
 /// The credential that was found.

@@ -1,15 +1,17 @@
 //! Opening the site that a store holds.
 
-ghost use Rattle.std.specs.Prelude.{◌≡◌, ◌<◌, ◌≤◌, ◌^◌, ℕ, [], ◌∷◌, IfErr, IfOk, IfSome, IsSome, IsTrue, List, OnOk, Some, None, false, length};
+ghost use Rattle.std.specs.Prelude.{◌≡◌, ◌<◌, ◌≤◌, ◌^◌, ℕ, [], ◌∷◌, IfErr, IfOk, IfSome, IsSome, IsTrue, List, MatchResult, OnOk, Some, None, false, length};
 ghost use Rattle.std.specs.FinMap as finite;
 ghost use Rattle.std.specs.List.{AllByRecursion};
 ghost use Rattle.sqlite_value.specs.Order.{Row as Columns};
+ghost use Rattle.sqlite_disk.specs.Disk.{MoreFaults};
 ghost use Rattle.sqlite_trees.specs.Tree.{Trees};
-ghost use Rattle.sqlite_trees.specs.View.{IsClean};
+ghost use Rattle.sqlite_trees.specs.View.{HasCause, IsClean};
 ghost use Rattle.sqlite_trees.specs.declared.store.Shape.TheVariants.{Table};
 ghost use Rattle.verification.specs.Records.{Credential};
 ghost use Rattle.credential_store.specs.Held.{HasTrees, IsSameView, Placed, placed_rows};
 ghost use Rattle.credential_store.specs.Rows.{credential_row};
+ghost use Rattle.kept_site.specs.Causes.{IfOpenStore, IsStartCaused};
 ghost use Rattle.kept_site.specs.State.{HasParty, HoldsSite, IsHeld, IsReady, site_row};
 ghost use Rattle.kept_site.specs.Private.{IsUpTo};
 ghost use Rattle.kept_site.specs.declared.failure.OpenFailure.TheVariants as opens;
@@ -21,17 +23,18 @@ use crate::rows::{VERSION, site_row};
 use crate::scan::{begin_scan, has_trees, rest};
 use crate::site_store::SiteStore;
 use credential_store::{RowError, int_at, read_credential};
+use site_state::TimedSessions;
 use sqlite_trees::error::StoreError;
 use sqlite_trees::store::Store;
 use sqlite_value::row::Row;
 use std::alloc::Global;
-use timed_sessions::TimedSessions;
 use verification::{Policy, RelyingParty};
 
 /// The number of the next session in the row of a relying party.
 fn next_in(alloc: Global, rp_id: &str, row: &Row) -> Result<u64, OpenFailure>
     ensures row { IfOk result (λ next. row.now ≡ site_row rp_id.now next) }
     ensures limits { IfOk result (λ next. (1 ≤ next) × (next < 2 ^ 63)) }
+    ensures cause { IfErr result (IfOpenStore (λ e. e ≡ StoreError.OutOfMemory)) }
 {
     let Some(next) = int_at(row, 4) else {
         return Err(OpenFailure::NoSite);
@@ -56,6 +59,9 @@ fn read_site<S: Store>(alloc: Global, rp_id: &str, store: &mut S) -> Result<u64,
     ensures row { IfOk result (λ next. IsClean (S.Store.view store.new) → HasParty rp_id.now next (S.Store.view store.old).trees) }
     ensures limits { IfOk result (λ next. (1 ≤ next) × (next < 2 ^ 63)) }
     ensures same { OnOk result (IsSameView (S.Store.view store.old) (S.Store.view store.new)) }
+    ensures clean { IsClean (S.Store.view store.new) → IsClean (S.Store.view store.old) }
+    ensures cause { IsClean (S.Store.view store.new) → IfErr result (IfOpenStore (HasCause (S.Store.view store.old) (MoreFaults (S.Store.faults store.old) (S.Store.faults store.new)) ⊥)) }
+    ensures counts { S.Store.faults store.old ≤ S.Store.faults store.new }
     ensures crash { (db : Trees) → S.Store.recovers store.new db → S.Store.recovers store.old db }
 {
     let mut row = Row::new(alloc);
@@ -67,7 +73,8 @@ fn read_site<S: Store>(alloc: Global, rp_id: &str, store: &mut S) -> Result<u64,
 
 /// The place of a credential's row.
 fn place_of(alloc: Global, row: &Row) -> Result<u32, OpenFailure>
-    ensures { IfOk result (λ n. (p : ℕ) (c : Credential) → row.now ≡ credential_row p c → p ≡ n) }
+    ensures place { IfOk result (λ n. (p : ℕ) (c : Credential) → row.now ≡ credential_row p c → p ≡ n) }
+    ensures cause { IfErr result (IfOpenStore (λ e. e ≡ StoreError.OutOfMemory)) }
 {
     let Some(place) = int_at(row, 0) else {
         return Err(OpenFailure::BadRow);
@@ -95,6 +102,9 @@ fn next_place<S: Store>(
     ensures ended { IfOk result (λ found. found ≡ None → IsClean (S.Store.view store.new) → (left : List Columns)
         → (S.Store.view store.old).cursors 0 ≡ Some left → left ≡ []) }
     ensures same { OnOk result (IsSameView (S.Store.view store.old) (S.Store.view store.new)) }
+    ensures clean { IsClean (S.Store.view store.new) → IsClean (S.Store.view store.old) }
+    ensures cause { IsClean (S.Store.view store.new) → IfErr result (IfOpenStore (HasCause (S.Store.view store.old) (MoreFaults (S.Store.faults store.old) (S.Store.faults store.new)) ⊥)) }
+    ensures counts { S.Store.faults store.old ≤ S.Store.faults store.new }
     ensures crash { (db : Trees) → S.Store.recovers store.new db → S.Store.recovers store.old db }
 {
     if !store.next(0, row)? {
@@ -116,6 +126,9 @@ fn count_rows<S: Store>(alloc: Global, store: &mut S) -> Result<Count, OpenFailu
     ensures counted { IfOk result (λ x. IsClean (S.Store.view store.new) → (length ((S.Store.view store.old).trees 0) ≡ x.count)
         × AllByRecursion (IsUpTo x.last) ((S.Store.view store.old).trees 0)) }
     ensures same { OnOk result (IsSameView (S.Store.view store.old) (S.Store.view store.new)) }
+    ensures clean { IsClean (S.Store.view store.new) → IsClean (S.Store.view store.old) }
+    ensures cause { IsClean (S.Store.view store.new) → IfErr result (IfOpenStore (HasCause (S.Store.view store.old) (MoreFaults (S.Store.faults store.old) (S.Store.faults store.new)) ⊥)) }
+    ensures counts { S.Store.faults store.old ≤ S.Store.faults store.new }
     ensures crash { (db : Trees) → S.Store.recovers store.new db → S.Store.recovers store.old db }
 {
     begin_scan(alloc, store, 0)?;
@@ -163,6 +176,8 @@ fn read_all<S: Store>(
     ensures newer { IfOk result (λ f. at_least < f.next) }
     ensures clean { OnOk result (IsClean (S.Store.view store.new) → IsClean (S.Store.view store.old)) }
     ensures ready { OnOk result (IsClean (S.Store.view store.new) → IsReady (S.Store.view store.new) false) }
+    ensures cause { IsClean (S.Store.view store.new) → IfErr result (IfOpenStore (IsStartCaused (S.Store.view store.old) (S.Store.faults store.old) (S.Store.faults store.new) ⊥)) }
+    ensures counts { S.Store.faults store.old ≤ S.Store.faults store.new }
     ensures crash { (db : Trees) → S.Store.recovers store.new db → S.Store.recovers store.old db }
 {
     rest(store)?;
@@ -208,6 +223,8 @@ impl<S: Store> KeptSite<S> {
         ensures clean { IfOk result (λ s. IsClean (S.Store.view s.store) → IsClean (S.Store.view store)) }
         // and it is what an open could find before.
         ensures found { IfOk result (λ s. IsClean (S.Store.view s.store) → S.Store.recovers store (S.Store.view s.store).trees) }
+        ensures cause { IfErr result (λ e. IsClean (S.Store.view e.1) → IfOpenStore (IsStartCaused (S.Store.view store) (S.Store.faults store) (S.Store.faults e.1) ⊥) e.0) }
+        ensures counts { MatchResult result (λ s. S.Store.faults store ≤ S.Store.faults s.store) (λ e. S.Store.faults store ≤ S.Store.faults e.1) }
         ensures crash { IfOk result (λ s. (db : Trees) → S.Store.recovers s.store db → S.Store.recovers store db) }
         ensures failed { IfErr result (λ e. (db : Trees) → S.Store.recovers e.1 db → S.Store.recovers store db) }
     {

@@ -10,11 +10,11 @@ ghost use Rattle.verification.specs.Registration.{JudgedRegistration, PassesRegi
 ghost use Rattle.verification.specs.Views.{admitted_view, registration_parts_view};
 ghost use Rattle.refusal_order.specs.Lines.{Each, FirstFailing};
 ghost use Rattle.verification.specs.Shared.{never};
-ghost use Rattle.credential_table.specs.Views.{row_view};
+ghost use Rattle.site_state.specs.RowViews.{row_view};
 ghost use Rattle.credential_store.specs.Held.{HasNone, Holds, IsSameView, IsWritten, Placed};
 ghost use Rattle.credential_store.specs.Details.{Details, HoldsDetails, detail_view};
-ghost use Rattle.ceremony_sessions.specs.Sessions.{registration_at};
-ghost use Rattle.timed_sessions.specs.Timed.{after_end};
+ghost use Rattle.site_state.specs.Sessions.{registration_at};
+ghost use Rattle.site_state.specs.Timed.{after_end};
 ghost use Rattle.kept_site.specs.State.{IsHeld, IsReady};
 ghost use Rattle.kept_site.specs.Calls.{IsNotFinished, IsOneSite, RefusesRegistration, Registers};
 ghost use Rattle.kept_site.specs.Causes.{IfFinishStore, IsCaused, IsDamaged, RefusesRegistered};
@@ -27,10 +27,9 @@ use crate::kept::KeptSite;
 use crate::site_store::SiteStore;
 use cose::Verifier;
 use credential_store::{Detail, lent};
-use credential_table::Row;
+use site_state::{Row, TimedSessions};
 use sqlite_trees::store::Store;
 use std::alloc::Global;
-use timed_sessions::TimedSessions;
 use verification::{
     AdmittedCredential, Policy, RegistrationAttempt, RegistrationParts, RegistrationRefusal,
     RelyingParty, VerificationError, VerifiedRegistration, verify_registration,

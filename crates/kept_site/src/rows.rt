@@ -78,7 +78,7 @@ pub(crate) fn reserve<S: Store>(
     ensures writes { OnOk result (IsClean (S.Store.view store.new) → OnlyWrites (S.Store.view store.old) (S.Store.view store.new)) }
     ensures clean { IsClean (S.Store.view store.new) → IsClean (S.Store.view store.old) }
     ensures cause { IsClean (S.Store.view store.new) → IfErr result (HasCause (S.Store.view store.old) (MoreFaults (S.Store.faults store.old) (S.Store.faults store.new))
-        (RefusesNumber (S.Store.view store.old) rp_id.now next)) }
+        (RefusesNumber (S.Store.view store.old).reals rp_id.now next)) }
     ensures counts { S.Store.faults store.old ≤ S.Store.faults store.new }
     ensures crash { (db : Trees) → S.Store.recovers store.new db → S.Store.recovers store.old db }
 {

@@ -6,6 +6,7 @@ ghost use Rattle.sqlite_trees.specs.Tree.{Trees};
 ghost use Rattle.sqlite_trees.specs.View.{HasCause, IsClean};
 ghost use Rattle.sqlite_trees.specs.declared.store.Shape.TheVariants.{Table};
 ghost use Rattle.credential_store.specs.Held.{HasTrees, IsSameView};
+ghost use Rattle.kept_site.specs.Causes.{IsStartCaused};
 ghost use Rattle.kept_site.specs.Private.{IsAtRest};
 
 use sqlite_trees::error::StoreError;
@@ -42,6 +43,9 @@ pub(crate) fn is_empty<S: Store>(
     ensures empty { IfOk result (λ empty. IsClean (S.Store.view store.new) → IsTrue empty → (S.Store.view store.old).trees tree ≡ []) }
     ensures other { IfOk result (λ empty. IsClean (S.Store.view store.new) → empty ≡ false → (S.Store.view store.old).trees tree ≡ [] → ⊥) }
     ensures same { OnOk result (IsSameView (S.Store.view store.old) (S.Store.view store.new)) }
+    ensures clean { IsClean (S.Store.view store.new) → IsClean (S.Store.view store.old) }
+    ensures cause { IsClean (S.Store.view store.new) → IfErr result (HasCause (S.Store.view store.old) (MoreFaults (S.Store.faults store.old) (S.Store.faults store.new)) ⊥) }
+    ensures counts { S.Store.faults store.old ≤ S.Store.faults store.new }
     ensures crash { (db : Trees) → S.Store.recovers store.new db → S.Store.recovers store.old db }
 {
     begin_scan(alloc, store, tree)?;
@@ -53,6 +57,9 @@ pub(crate) fn is_empty<S: Store>(
 /// Undoes what an earlier transaction has not committed.
 pub(crate) fn rest<S: Store>(store: &mut S) -> Result<(), StoreError>
     ensures rests { OnOk result (IsClean (S.Store.view store.new) → IsAtRest (S.Store.view store.new)) }
+    ensures reals { OnOk result (IsClean (S.Store.view store.new) → (S.Store.view store.new).reals ≡ (S.Store.view store.old).committed_reals) }
+    ensures cause { IsClean (S.Store.view store.new) → IfErr result (IsStartCaused (S.Store.view store.old) (S.Store.faults store.old) (S.Store.faults store.new) ⊥) }
+    ensures counts { S.Store.faults store.old ≤ S.Store.faults store.new }
     ensures crash { (db : Trees) → S.Store.recovers store.new db → S.Store.recovers store.old db }
     ensures clean { IsClean (S.Store.view store.new) → IsClean (S.Store.view store.old) }
 {

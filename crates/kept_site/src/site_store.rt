@@ -6,7 +6,7 @@ ghost use Rattle.sqlite_trees.specs.Tree.{Trees};
 ghost use Rattle.sqlite_trees.specs.View.{IsClean, IsStorableRow, OnlyWrites};
 ghost use Rattle.verification.specs.Records.{Credential};
 ghost use Rattle.verification.specs.Views.{credential_view};
-ghost use Rattle.credential_table.specs.Views.{row_view};
+ghost use Rattle.site_state.specs.RowViews.{row_view};
 ghost use Rattle.credential_store.specs.Causes.{IsRefused};
 ghost use Rattle.credential_store.specs.Rows.{credential_row};
 ghost use Rattle.credential_store.specs.Held.{HasNone, Holds, IsAt, IsSameView, IsWritten, Placed};
@@ -154,7 +154,7 @@ impl<S: Store> SiteStore<S> {
         ensures open { OnOk result ((self.new.is_shut ≡ false) × (self.new.is_pending ≡ true) × (self.new.durable ≡ self.old.durable)) }
         ensures failed { IfErr result (λ e. (self.new.is_shut ≡ true) × (self.new.reserved ≡ self.old.reserved) × (self.new.durable ≡ self.old.durable) × (e ≡ failures.Shut → ⊥)) }
         ensures cause { IsClean (S.Store.view self.new.store) → IfErr result (IsCaused (S.Store.view self.old.store) (S.Store.faults self.old.store) (S.Store.faults self.new.store)
-            (RefusesNumber (S.Store.view self.old.store) rp_id.now reserved) ⊥) }
+            (RefusesNumber (S.Store.view self.old.store).reals rp_id.now reserved) ⊥) }
         ensures counts { S.Store.faults self.old.store ≤ S.Store.faults self.new.store }
         ensures crash { (db : Trees) → S.Store.recovers self.new.store db → S.Store.recovers self.old.store db }
     {
@@ -183,7 +183,7 @@ impl<S: Store> SiteStore<S> {
         ensures open { OnOk result ((self.new.is_shut ≡ false) × (self.new.durable ≡ self.old.durable)) }
         ensures failed { IfErr result (λ e. (self.new.is_shut ≡ true) × (self.new.reserved ≡ self.old.reserved) × (self.new.durable ≡ self.old.durable) × (e ≡ failures.Shut → ⊥)) }
         ensures cause { IsClean (S.Store.view self.new.store) → IfErr result (IsCaused (S.Store.view self.old.store) (S.Store.faults self.old.store) (S.Store.faults self.new.store)
-            (RefusesNumber (S.Store.view self.old.store) rp_id.now (next + 999)) ⊥) }
+            (RefusesNumber (S.Store.view self.old.store).reals rp_id.now (next + 999)) ⊥) }
         ensures counts { S.Store.faults self.old.store ≤ S.Store.faults self.new.store }
         ensures crash { (db : Trees) → S.Store.recovers self.new.store db → S.Store.recovers self.old.store db }
     {

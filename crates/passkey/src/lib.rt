@@ -2,6 +2,7 @@
 #![tactic(auto)]
 
 mod check;
+mod here;
 mod inspect;
 mod program;
 mod replay;
@@ -9,6 +10,7 @@ mod script;
 
 pub use agreement::{agreement, of_all_runs};
 pub use ceremony::{Accepted, Enrolled, Error, Fed, Live, one_verdict, register, sign_in};
+pub use here::run_here;
 pub use passkey_command_line::{Inspection, Subcommand, command, unhex};
 pub use program::{MAX_INPUT, run};
 pub use security_key::{

@@ -1,53 +1,9 @@
 //! The program `passkey` over the standard streams.
 #![tactic(auto)]
 
-use passkey::run;
-use std::env::Env;
-use std::io::Write;
+use passkey::run_here;
 use std::process::ExitCode;
-use std::{env, io};
-
-/// The arguments of the command line behind the file's name.
-fn arguments(rt: &(impl Env + AllocGlobal)) -> io::Result<Vec<String>> {
-    let mut arguments = Vec::new(rt.alloc());
-    for word in env::args(rt)?.skip(1) {
-        arguments.push(word)?;
-    }
-    Ok(arguments)
-}
-
-/// The status where the arguments could not be collected.
-fn no_words(rt: &HostRuntime, error: &io::Error) -> u8 {
-    let (text, status) = if error.kind() == io::ErrorKind::OutOfMemory {
-        ("out of memory\n", 3)
-    } else {
-        ("words are not UTF-8\n", 2)
-    };
-    let _ = rt.stderr().write_all(text.as_bytes());
-    status
-}
-
-/// Runs the program on its name and the arguments.
-fn run_words(rt: &HostRuntime) -> io::Result<u8> {
-    let owned = arguments(rt)?;
-    let mut arguments = Vec::new(rt.alloc());
-    arguments.push("passkey")?;
-    for word in &owned {
-        arguments.push(word.as_str())?;
-    }
-    Ok(run(
-        rt.alloc(),
-        arguments.as_slice(),
-        &mut rt.stdin(),
-        &mut rt.stdout(),
-        &mut rt.stderr(),
-    ))
-}
 
 fn main(rt: HostRuntime) -> ExitCode {
-    let status = match run_words(&rt) {
-        Ok(status) => status,
-        Err(error) => no_words(&rt, &error),
-    };
-    ExitCode::from(status)
+    ExitCode::from(run_here(&rt))
 }

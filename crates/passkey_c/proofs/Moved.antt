@@ -10,7 +10,7 @@ use Rattle.verification.specs.SignIn.{JudgedSignIn, PassesSignIn}
 use Rattle.verification.specs.declared.party.Policy.{Policy}
 use Rattle.verification.specs.declared.refusal.RegistrationRefusal.{RegistrationRefusal}
 use Rattle.verification.specs.declared.refusal.SignInRefusal.{SignInRefusal}
-use Rattle.verified_signature.specs.Signed.{Signed, only_verified}
+use Rattle.verification.specs.Signed.{Signed, only_verified}
 
 -- ---- sign-in
 

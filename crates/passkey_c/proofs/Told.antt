@@ -9,7 +9,7 @@ use Rattle.authdata.proofs.Objects.{one_object}
 use Rattle.cose.specs.Keys.{lent_key_view}
 use Rattle.cose.specs.declared.key.CoseKey.{CoseKey}
 use Rattle.verification.specs.Registration.{counted, hash_in}
-use Rattle.verified_signature.specs.Attested.{AttestsKey, AttestsNoKey}
+use Rattle.verification.specs.AttestedKey.{AttestsKey, AttestsNoKey}
 use Rattle.passkey_c.specs.Asked.{Asks, AsksNothing, IsBroken, IsNotSelfSigned, IsSmall, IsUnread, SelfAsks, Tells, TellsAs}
 use Rattle.passkey_c.specs.Parts.{flag_of}
 use Rattle.passkey_c.specs.declared.answers.Limit.{Limit}

@@ -9,8 +9,8 @@ use Rattle.cose.specs.Keys.{alg_of, number_of, x_of}
 use Rattle.authdata.specs.declared.profile.Profile.{Profile}
 use Rattle.authdata.specs.declared.profile.Profile.TheVariants.{Level3, Open, Strict}
 use Rattle.verification.specs.Records.{RelyingParty}
-use Rattle.verified_signature.specs.Coordinates.{key_with}
-use Rattle.verified_signature.specs.Signed.{Signed}
+use Rattle.verification.specs.Coordinates.{key_with}
+use Rattle.verification.specs.Signed.{Signed}
 use Rattle.passkey_c.specs.declared.parts.Bytes.{Bytes}
 use Rattle.passkey_c.specs.declared.parts.KeyOut.{KeyOut}
 use Rattle.passkey_c.specs.declared.parts.KeyParts.{KeyParts}

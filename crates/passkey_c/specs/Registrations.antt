@@ -11,7 +11,7 @@ use Rattle.authdata.specs.Statements.{IsNone, IsSelfSignedBy}
 use Rattle.verification.specs.Numbers.{registration_number}
 use Rattle.verification.specs.Registration.{Attests, JudgedRegistration, IsFirstFailing, counted}
 use Rattle.verification.specs.declared.refusal.RegistrationRefusal.{RegistrationRefusal}
-use Rattle.verified_signature.specs.Signed.{only_verified}
+use Rattle.verification.specs.Signed.{only_verified}
 use Rattle.passkey_c.specs.declared.answers.InputFault.{InputFault}
 use Rattle.passkey_c.specs.declared.parts.RegistrationCall.{RegistrationCall}
 use Rattle.passkey_c.specs.declared.parts.RegistrationOut.{RegistrationOut}

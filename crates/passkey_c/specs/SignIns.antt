@@ -7,7 +7,7 @@ use Rattle.authdata.specs.Layout.{AuthenticatorData, AuthOf, extension_bytes}
 use Rattle.verification.specs.SignIn.{JudgedSignIn, IsFirstFailing}
 use Rattle.verification.specs.Numbers.{sign_in_number}
 use Rattle.verification.specs.declared.refusal.SignInRefusal.{SignInRefusal}
-use Rattle.verified_signature.specs.Signed.{only_verified}
+use Rattle.verification.specs.Signed.{only_verified}
 use Rattle.passkey_c.specs.declared.answers.InputFault.{InputFault}
 use Rattle.passkey_c.specs.declared.assertion.Refusal.{Refusal}
 use Rattle.passkey_c.specs.declared.assertion.Refusal.TheVariants as refusals

@@ -18,8 +18,7 @@ use authdata::{AttestationObject, Profile, self_signature};
 use clientdata::hash;
 use cose::KeyView;
 use std::alloc::Global;
-use verification::counts_as_none;
-use verified_signature::attested_key;
+use verification::{attested_key, counts_as_none};
 
 /// A signature that is to be verified, of the authenticator data and then the hash of the client data.
 #[derive(Drop)]
@@ -196,8 +195,7 @@ fn tell_sign_in(
 /// Tells which signature the host is to verify: 0 where it is told, or that there is none; 7 where a registration attests
 /// nothing; 104 to 106 where a sign-in's key is out of its limits; 110 or 111 where a room is too small; 112 where a
 /// registration's profile is not known; 127 where there was no memory.
-#[unsafe(no_mangle)]
-pub extern "C" fn passkey_signature_asked(
+pub fn passkey_signature_asked(
     alloc: Global,
     call: &SignatureCall<'_>,
     message: &mut [u8],

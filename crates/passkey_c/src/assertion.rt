@@ -8,7 +8,7 @@ ghost use Rattle.verification.specs.SignIn.{IsFirstFailing, PassesSignIn};
 ghost use Rattle.authdata.specs.Layout.{AuthOf, lent_auth_view};
 ghost use Rattle.verification.specs.Views.{assertion_parts_view, credential_view, judged_sign_in_view, sign_in_view};
 ghost use Rattle.verification.specs.declared.refusal.SignInRefusal.{SignInRefusal};
-ghost use Rattle.verified_signature.specs.Signed.{lent_signature_view};
+ghost use Rattle.verification.specs.Signed.{lent_signature_view};
 ghost use Rattle.passkey_c.specs.declared.assertion.Refusal.TheVariants as refusals;
 ghost use Rattle.passkey_c.specs.Limits.{IsFault, SignInKeeps, sign_in_limits};
 ghost use Rattle.passkey_c.specs.Numbers.{limit_number};
@@ -24,10 +24,9 @@ use authdata::{AuthView, read_view};
 use cose::KeyView;
 use std::alloc::Global;
 use verification::{
-    AssertionParts, RelyingParty, RowView, SignInAttempt, SignInRefusal, SignInSession,
-    VerificationError, verify_assertion,
+    AssertionParts, HostVerifier, RelyingParty, RowView, SignInAttempt, SignInRefusal,
+    SignInSession, VerificationError, verify_assertion,
 };
-use verified_signature::HostVerifier;
 
 /// Why a sign-in is not accepted.
 #[derive(Clone, Copy, Debug, PartialEq, Eq, Drop)]
@@ -200,12 +199,7 @@ fn accepted_data<'a>(call: &AssertionCall<'a>) -> AuthView<'a>
 /// Judges a sign-in: 0 where each step of section 7.2 is passed, the only valid signature being the one that the host
 /// verified, and then what it says is written; else 1 to 18 for the first step that is not passed, 100 and up for a
 /// member that is out of its limits, 127 where there was no memory, and nothing is written.
-#[unsafe(no_mangle)]
-pub extern "C" fn passkey_assertion(
-    alloc: Global,
-    call: &AssertionCall<'_>,
-    out: &mut AssertionOut,
-) -> u32
+pub fn passkey_assertion(alloc: Global, call: &AssertionCall<'_>, out: &mut AssertionOut) -> u32
     ensures accepted { result ≡ 0 → PassesSignIn (sign_in_validity call.now) (judged_sign_in call.now) }
     ensures told { result ≡ 0 → TellsSignIn call.now out.new }
     ensures refused { (step : SignInRefusal) → result ≡ sign_in_number step

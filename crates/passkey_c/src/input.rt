@@ -11,8 +11,7 @@ use crate::parts::{Bytes, KeyOut, KeyParts, PartyParts};
 use cose::{Alg, KeyView};
 use std::alloc::{AllocError, Global};
 use std::str;
-use verification::{Profile, RelyingParty};
-use verified_signature::Coordinate;
+use verification::{Coordinate, Profile, RelyingParty};
 
 /// A member of a key that is out of its limits.
 #[derive(Clone, Copy, Debug, PartialEq, Eq, Drop)]
@@ -89,7 +88,7 @@ pub(crate) fn key_from<'a>(parts: &KeyParts<'a>) -> Result<KeyView<'a>, KeyLimit
     let Some(alg) = algorithm_of(parts.algorithm) else {
         return Err(KeyLimit::Algorithm);
     };
-    match verified_signature::key_from(alg, parts.x, parts.y) {
+    match verification::key_from(alg, parts.x, parts.y) {
         Ok(key) => Ok(key),
         Err(Coordinate::X) => Err(KeyLimit::X),
         Err(Coordinate::Y) => Err(KeyLimit::Y),

@@ -29,8 +29,7 @@ fn key_in(bytes: &[u8]) -> Option<KeyView<'_>>
 
 /// Tells the key whose COSE_Key bytes (RFC 9052, section 7) these are, in canonical CBOR, of ES256, EdDSA or RS256: true
 /// exactly if they are, and then it is written; else nothing is. No test is made that a point lies on its curve.
-#[unsafe(no_mangle)]
-pub extern "C" fn passkey_key_from_cose(bytes: &[u8], out: &mut KeyOut) -> bool
+pub fn passkey_key_from_cose(bytes: &[u8], out: &mut KeyOut) -> bool
     ensures is { IsTrue result ↔ ((key : CoseKey) × IsCoseKey key bytes.now) }
     ensures told { result ≡ true → (key : CoseKey) × IsCoseKey key bytes.now × TellsKey out.new key }
     ensures untouched { result ≡ false → out.new ≡ out.old }
@@ -61,8 +60,7 @@ fn cose_of(alloc: Global, key: &KeyView<'_>) -> Option<Vec<u8>>
 /// Writes the COSE_Key bytes (RFC 9052, section 7) of a key to the front of a room, and tells how many they are: 77 of ES256,
 /// 42 of EdDSA, 13 more than x and y have of RS256. 0 where the key is out of its limits, the room is too small, or there was
 /// no memory, and then nothing is written.
-#[unsafe(no_mangle)]
-pub extern "C" fn passkey_key_to_cose(alloc: Global, key: &KeyParts<'_>, room: &mut [u8]) -> usize
+pub fn passkey_key_to_cose(alloc: Global, key: &KeyParts<'_>, room: &mut [u8]) -> usize
     ensures kept { result ≢ 0 → Each (KeyKeeps key.now) key_order }
     ensures written { result ≢ 0 → (k : CoseKey) × (bytes : List ℕ) × (key_of key.now ≡ Some k) × IsCoseKey k bytes
         × (result ≡ length bytes) × (room.new ≡ bytes ++ drop result room.old) }

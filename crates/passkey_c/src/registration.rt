@@ -7,7 +7,7 @@ ghost use Rattle.verification.specs.Registration.{IsFirstFailing, PassesRegistra
 ghost use Rattle.verification.specs.RegistrationAnswers.{IsVerifiedRegistration};
 ghost use Rattle.verification.specs.Views.{registration_parts_view, registration_view};
 ghost use Rattle.verification.specs.declared.refusal.RegistrationRefusal.{RegistrationRefusal};
-ghost use Rattle.verified_signature.specs.Signed.{lent_signature_view};
+ghost use Rattle.verification.specs.Signed.{lent_signature_view};
 ghost use Rattle.passkey_c.specs.declared.registration.Refusal.TheVariants as refusals;
 ghost use Rattle.passkey_c.specs.Limits.{IsFault, RegistrationKeeps, registration_limits};
 ghost use Rattle.passkey_c.specs.Numbers.{limit_number};
@@ -23,10 +23,10 @@ use crate::signature::verifier_from;
 use cose::Alg;
 use std::alloc::{AllocError, Global};
 use verification::{
-    Policy, RegistrationAttempt, RegistrationParts, RegistrationRefusal, RegistrationSession,
-    RelyingParty, VerificationError, VerifiedRegistration, verify_registration,
+    HostVerifier, Policy, RegistrationAttempt, RegistrationParts, RegistrationRefusal,
+    RegistrationSession, RelyingParty, VerificationError, VerifiedRegistration,
+    verify_registration,
 };
-use verified_signature::HostVerifier;
 
 /// Why a registration is not accepted.
 #[derive(Clone, Copy, Debug, PartialEq, Eq, Drop)]
@@ -185,8 +185,7 @@ fn accepted_credential<'a>(call: &RegistrationCall<'a>) -> SeenRegistration<'a>
 /// host verified and the only id that is not registered the one that it found to be free, and then what it attests is
 /// written; else 1 to 18 for the first step that is not passed, 100 and up for a member that is out of its limits, 127
 /// where there was no memory, and nothing is written.
-#[unsafe(no_mangle)]
-pub extern "C" fn passkey_registration(
+pub fn passkey_registration(
     alloc: Global,
     call: &RegistrationCall<'_>,
     out: &mut RegistrationOut,

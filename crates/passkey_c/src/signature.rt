@@ -2,13 +2,13 @@
 
 ghost use Rattle.std.specs.Prelude.{◌≡◌, IfErr, IfOk, OnOk, option_map, true};
 ghost use Rattle.refusal_order.specs.Lines.{Each};
-ghost use Rattle.verified_signature.specs.Signed.{lent_signature_view};
+ghost use Rattle.verification.specs.Signed.{lent_signature_view};
 ghost use Rattle.passkey_c.specs.Limits.{KeyKeeps, key_order};
 ghost use Rattle.passkey_c.specs.Parts.{verified_in};
 
 use crate::input::{KeyLimit, key_from};
 use crate::parts::VerifiedParts;
-use verified_signature::{HostVerifier, SignatureView};
+use verification::{HostVerifier, SignatureView};
 
 /// The verifier of the signature that the host verified, where it says that it did.
 pub(crate) fn verifier_from<'a>(

@@ -11,16 +11,14 @@ use ccbor::View;
 use clientdata::challenge_characters;
 
 /// The version of these calls.
-#[unsafe(no_mangle)]
-pub extern "C" fn passkey_abi_version() -> u32
+pub fn passkey_abi_version() -> u32
     ensures { result ≡ 4 }
 {
     4
 }
 
 /// Whether the bytes are one value of canonical CBOR, and no more.
-#[unsafe(no_mangle)]
-pub extern "C" fn passkey_is_canonical(bytes: &[u8]) -> bool
+pub fn passkey_is_canonical(bytes: &[u8]) -> bool
     ensures { IsTrue result ↔ ((v : Item) × Canon v bytes.now) }
 {
     match View::check_all(bytes) {
@@ -30,8 +28,7 @@ pub extern "C" fn passkey_is_canonical(bytes: &[u8]) -> bool
 }
 
 /// Makes a challenge: the session's number in 8 big-endian bytes, then 24 random bytes.
-#[unsafe(no_mangle)]
-pub extern "C" fn passkey_challenge(session: u64, words: &[u8], challenge: &mut [u8]) -> bool
+pub fn passkey_challenge(session: u64, words: &[u8], challenge: &mut [u8]) -> bool
     ensures fits { IsTrue result ↔ ((length words.now ≡ 24) × (length challenge.old ≡ 32)) }
     ensures made { result ≡ true → challenge.new ≡ to_be_bytes w64 session ++ words.now }
     ensures untouched { result ≡ false → challenge.new ≡ challenge.old }
@@ -46,8 +43,7 @@ pub extern "C" fn passkey_challenge(session: u64, words: &[u8], challenge: &mut 
 }
 
 /// Writes a challenge of 32 bytes as client data have it: 43 characters.
-#[unsafe(no_mangle)]
-pub extern "C" fn passkey_challenge_text(challenge: &[u8], text: &mut [u8]) -> bool
+pub fn passkey_challenge_text(challenge: &[u8], text: &mut [u8]) -> bool
     ensures fits { IsTrue result ↔ ((length challenge.now ≡ 32) × (length text.old ≡ 43)) }
     ensures written { result ≡ true → text.new ≡ challenge_text_of challenge.now }
     ensures untouched { result ≡ false → text.new ≡ text.old }

@@ -108,8 +108,7 @@ fn text_of(is_registration: bool, answer: u32) -> Option<&'static str>
 
 /// Writes the text of an answer, of a registration where the flag is not 0, and tells how many bytes it has: 0 where the
 /// answer has no text or the room is too small, and then nothing is written. It takes no memory.
-#[unsafe(no_mangle)]
-pub extern "C" fn passkey_refusal_text(is_registration: u32, answer: u32, room: &mut [u8]) -> usize
+pub fn passkey_refusal_text(is_registration: u32, answer: u32, room: &mut [u8]) -> usize
     ensures written { result ≢ 0 → (text : List ℕ) × IsText (flag_of is_registration) answer text
         × (result ≡ length text) × (room.new ≡ text ++ drop result room.old) }
     ensures none { result ≡ 0 → (text : List ℕ) → IsText (flag_of is_registration) answer text → length room.old < length text }

@@ -10,7 +10,7 @@ use Rattle.cose.specs.Keys.{item_of as key_item}
 use Rattle.cose.proofs.KeyLemmas.{key_fits}
 use Rattle.authdata.specs.declared.profile.Profile.TheVariants.{Open}
 use Rattle.verification.specs.Records.{Credential}
-use Rattle.credential_table.specs.Table.{IsRow, AreRows, IsTable}
+use Rattle.site_state.specs.Table.{IsRow, AreRows, IsTable}
 use Rattle.saved_table.specs.Saved.{Saved, FitsVersion, credential_item, table_item, true_if}
 
 -- the members that not every row has, behind the counter

@@ -13,8 +13,8 @@ use Rattle.ccbor.proofs.Decoding.{same_item}
 use Rattle.ccbor.proofs.Numbers.{bind_some}
 use Rattle.authdata.specs.declared.profile.Profile.{Profile}
 use Rattle.verification.specs.Records.{Credential}
-use Rattle.credential_table.specs.Table.{row_of, IsRow, IsTable}
-use Rattle.credential_table.proofs.RowLemmas.{front_absent, looser}
+use Rattle.site_state.specs.Table.{row_of, IsRow, IsTable}
+use Rattle.site_state.proofs.RowLemmas.{front_absent, looser}
 use Rattle.saved_table.specs.Saved.{Saved, FitsVersion, TableOf, credential_item, has_version_4, table_item}
 use Rattle.saved_table.specs.Private.{IsOf, table_in}
 use Rattle.saved_table.specs.declared.error.Error.{Error}

@@ -12,7 +12,7 @@ use Rattle.cose.specs.declared.key.CoseKey.{CoseKey}
 use Rattle.cose.specs.declared.key.CoseKey.TheVariants as keys
 use Rattle.authdata.specs.declared.profile.Profile.TheVariants.{Open}
 use Rattle.verification.specs.Records.{Credential}
-use Rattle.credential_table.specs.Table.{IsTable}
+use Rattle.site_state.specs.Table.{IsTable}
 
 -- its rp id, the number of the next session, and its credentials in order of registration
 pub record Saved : Type 0 where

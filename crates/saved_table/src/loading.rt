@@ -5,7 +5,7 @@ ghost use Rattle.refusal_order.specs.Lines.{Each};
 ghost use Rattle.ccbor.specs.View.{items_of};
 ghost use Rattle.ccbor.specs.Viewing.{shown_items};
 ghost use Rattle.verification.specs.Records.{Credential};
-ghost use Rattle.credential_table.specs.Table.{IsTable};
+ghost use Rattle.site_state.specs.Table.{IsTable};
 ghost use Rattle.saved_table.specs.Saved.{Saved, FitsVersion, TableOf, credential_item, has_version_4};
 ghost use Rattle.saved_table.specs.Private.{IsOf};
 ghost use Rattle.saved_table.specs.Views.{table_members_view};
@@ -16,7 +16,7 @@ use crate::reading::{TableMembers, credential, table_members};
 use crate::saving::version_of;
 use authdata::Profile;
 use ccbor::{ArrayView, View};
-use credential_table::Table;
+use site_state::Table;
 use std::alloc::Global;
 
 /// What was saved of a relying party.

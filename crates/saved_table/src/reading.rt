@@ -6,7 +6,7 @@ ghost use Rattle.ctap_encoding.specs.Reading.{Yields, read_in};
 ghost use Rattle.ctap_encoding.specs.Table.{record_of};
 ghost use Rattle.cose.specs.Keys.{lent_key_view};
 ghost use Rattle.verification.specs.Records.{Credential};
-ghost use Rattle.credential_table.specs.Views.{row_view};
+ghost use Rattle.site_state.specs.RowViews.{row_view};
 ghost use Rattle.saved_table.specs.Saved.{FitsVersion, credential_item, needs_version_4};
 ghost use Rattle.saved_table.specs.Private.{AreMarks, credential_members, table_in};
 ghost use Rattle.saved_table.specs.Views.{members_content, table_members_view};
@@ -15,10 +15,10 @@ ghost use Rattle.saved_table.specs.declared.error.Error.TheVariants as errors;
 use crate::error::Error;
 use ccbor::{ArrayView, MapKey, View};
 use cose::KeyView;
-use credential_table::Row;
 use ctap_encoding::{
     Shape, any_map, bytes, end, members, optional, required, truth_if_there, unsigned,
 };
+use site_state::Row;
 use std::alloc::Global;
 
 /// The members of a table's map.

@@ -5,14 +5,14 @@ ghost use Rattle.refusal_order.specs.Lines.{Each};
 ghost use Rattle.ccbor.specs.Item.{boolean};
 ghost use Rattle.ccbor.specs.View.{items_of, items_view, view};
 ghost use Rattle.verification.specs.Views.{credential_view};
-ghost use Rattle.credential_table.specs.Table.{IsTable};
+ghost use Rattle.site_state.specs.Table.{IsTable};
 ghost use Rattle.authdata.specs.declared.profile.Profile.TheVariants.{Open};
 ghost use Rattle.saved_table.specs.Saved.{AppendsTable, FitsVersion, credential_item, table_item, true_if, version_of};
 
 use crate::reading::needs_version_4;
 use ccbor::{MapKey, Value, encode};
-use credential_table::Table;
 use ctap_encoding::{bytes_value, push_if_there, push_member, text_value};
+use site_state::Table;
 use std::alloc::{AllocError, Global};
 use verification::RowView;
 

@@ -16,12 +16,12 @@ use Rattle.cose.specs.Schemes.{Validity}
 use Rattle.verification.specs.SignIn as authentication
 use Rattle.verification.specs.SignIn.{IsCounted}
 use Rattle.verification.specs.Registration as registration
-use Rattle.credential_table.specs.Table.{row_of, with_row, signed_in, retired}
-use Rattle.credential_table.proofs.RowLemmas.{found_id}
+use Rattle.site_state.specs.Table.{row_of, with_row, signed_in, retired}
+use Rattle.site_state.proofs.RowLemmas.{found_id}
 use Rattle.saved_table.specs.Saved.{TableOf}
 use Rattle.saved_table.proofs.Tables.{one_saved}
-use Rattle.ceremony_sessions.specs.Sessions.{Expected, ForRegistration, ForSignIn, Opening, OpensSignIn, OpensRegistration, begun, challenge_in, challenge_of, closed, expected_of}
-use Rattle.ceremony_sessions.specs.Sessions.{for_registration, for_sign_in, sign_in_at}
+use Rattle.site_state.specs.Sessions.{Expected, ForRegistration, ForSignIn, Opening, OpensSignIn, OpensRegistration, begun, challenge_in, challenge_of, closed, expected_of}
+use Rattle.site_state.specs.Sessions.{for_registration, for_sign_in, sign_in_at}
 use Rattle.site.specs.State.{SiteState, IsAfterRegistration, IsAfterSignIn, judged_sign_in, judged_registration, registered, saved_of}
 use Rattle.site.specs.Laws.{GoesOn, IsFresh, IsGone, IsNumbered, Keeps, SiteLaws, Takes, after_abandon, after_begin, after_restart, after_retire}
 use Rattle.site.proofs.Judged.{no_row, same_attempt}

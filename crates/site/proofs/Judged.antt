@@ -15,8 +15,8 @@ use Rattle.verification.specs.Records.{RelyingParty, Credential, ExpectedSignIn,
 use Rattle.verification.specs.SignIn.{JudgedSignIn}
 use Rattle.verification.specs.Registration.{JudgedRegistration}
 use Rattle.verification.specs.declared.party.Policy.{Policy}
-use Rattle.credential_table.specs.Table.{IsWithin, row_of, signed_in, with_row}
-use Rattle.ceremony_sessions.specs.Sessions.{OpenSessions}
+use Rattle.site_state.specs.Table.{IsWithin, row_of, signed_in, with_row}
+use Rattle.site_state.specs.Sessions.{OpenSessions}
 use Rattle.site.specs.State.{SiteState}
 
 -- ---- sign-in

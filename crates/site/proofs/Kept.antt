@@ -4,8 +4,8 @@ use Rattle.std.proofs.lemmas.Bool.{cases_Bool}
 use Rattle.std.proofs.lemmas.Grind.{common_steps}
 use Rattle.std.specs.Str.{bytes_eq}
 use Rattle.verification.specs.Records.{Credential}
-use Rattle.credential_table.specs.Table.{row_of, with_row}
-use Rattle.credential_table.proofs.RowLemmas.{found_id, same_id}
+use Rattle.site_state.specs.Table.{row_of, with_row}
+use Rattle.site_state.proofs.RowLemmas.{found_id, same_id}
 use Rattle.std.specs.Cmp.Lexicographic.{bytes_decides}
 use Rattle.site.specs.Laws.{IsKept}
 

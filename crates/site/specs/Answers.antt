@@ -7,7 +7,7 @@ use Rattle.authdata.specs.Objects.{Attestation}
 use Rattle.authdata.specs.Responses.{AuthenticatorAssertionResponse}
 use Rattle.authdata.specs.Responses as responses
 use Rattle.verification.specs.Registration.{Attests}
-use Rattle.credential_table.specs.Table.{row_of}
+use Rattle.site_state.specs.Table.{row_of}
 use Rattle.site.specs.State.{SiteState}
 use Rattle.site.specs.declared.signing_in.SignedIn.{SignedIn}
 use Rattle.site.specs.declared.registration.Registered.{Registered}

@@ -8,8 +8,8 @@ use Rattle.cose.specs.contracts.key.CoseKey as key
 use Rattle.verification.specs.Records.{RelyingParty, Credential}
 use Rattle.verification.specs.declared.party.Policy.{Policy}
 use Rattle.verification.specs.contracts.party.Policy as policy
-use Rattle.ceremony_sessions.specs.Sessions.{OpenSessions}
-use Rattle.ceremony_sessions.specs.Codes.{Bytes, coded_bytes, open_code}
+use Rattle.site_state.specs.Sessions.{OpenSessions}
+use Rattle.site_state.specs.Codes.{Bytes, coded_bytes, open_code}
 use Rattle.site.specs.State.{SiteState}
 
 abbrev party_code : Coded RelyingParty

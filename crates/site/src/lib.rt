@@ -8,13 +8,12 @@ mod restore;
 mod signing_in;
 mod site;
 
-pub use ceremony_sessions::{Error as BeginError, Session, Started};
-pub use credential_table::{Row, Rows, Table};
 pub use error::Error;
 pub use law::site_laws;
 pub use registration::Registered;
 pub use signing_in::SignedIn;
 pub use site::{MAX_RP_ID, Site};
+pub use site_state::{BeginError, Row, Rows, Session, Started, Table};
 pub use verification::{
     AssertionParts, Policy, RegistrationParts, RegistrationRefusal, RowView, SignInRefusal,
     VerificationError,

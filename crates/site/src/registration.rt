@@ -11,7 +11,7 @@ ghost use Rattle.site.specs.State.{IsAfterRegistration, judged_registration};
 use crate::site::Site;
 use authdata::RegistrationResponse;
 use cose::Verifier;
-use credential_table::Row;
+use site_state::Row;
 use verification::{
     RegistrationAttempt, RegistrationParts, RegistrationRefusal, VerificationError,
     verify_registration,

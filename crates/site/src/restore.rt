@@ -1,12 +1,11 @@
 //! What a site had before a restart.
 
 ghost use Rattle.std.specs.Prelude.{◌≡◌, ◌≤◌, ◌↔◌, IsTrue, false, true};
-ghost use Rattle.credential_table.specs.Table.{IsTable};
+ghost use Rattle.site_state.specs.Table.{IsTable};
 ghost use Rattle.site.specs.Laws.{IsFresh, IsNumbered};
 
 use crate::site::Site;
-use ceremony_sessions::Sessions;
-use credential_table::Table;
+use site_state::{Sessions, Table};
 
 impl Site {
     /// Puts the credentials and the open sessions of before a restart in place of its own: true where each id is as

@@ -6,20 +6,19 @@ ghost use Rattle.std.specs.FinMap as finite;
 ghost use Rattle.std.specs.Option.{ForSome};
 ghost use Rattle.authdata.specs.declared.profile.Profile.TheVariants.{Open, Strict};
 ghost use Rattle.verification.specs.Views.{credential_view, texts_of};
-ghost use Rattle.credential_table.specs.Table.{IsTable, IsWithin, retired, row_of, with_row};
-ghost use Rattle.credential_table.specs.Views.{rows_view, stored_row_view};
-ghost use Rattle.ceremony_sessions.specs.Sessions.{IsRefused, OpensRegistration, OpensSignIn, PassesOpening, begun, challenge_of, closed, usual};
-ghost use Rattle.ceremony_sessions.specs.Views.{session_view};
+ghost use Rattle.site_state.specs.Table.{IsTable, IsWithin, retired, row_of, with_row};
+ghost use Rattle.site_state.specs.RowViews.{rows_view, stored_row_view};
+ghost use Rattle.site_state.specs.Sessions.{IsRefused, OpensRegistration, OpensSignIn, PassesOpening, begun, challenge_of, closed, usual};
+ghost use Rattle.site_state.specs.SessionViews.{session_view};
 ghost use Rattle.saved_table.specs.Saved.{AppendsTable};
 ghost use Rattle.site.specs.State.{IsLoaded, IsNoTable, IsParty, framed_party, idle, party_of, saved_of};
 ghost use Rattle.site.specs.declared.error.Error.TheVariants as errors;
 
 use crate::error::Error;
 use authdata::Profile;
-use ceremony_sessions::{Asks, Session, Sessions, Started};
 use cose::Alg;
-use credential_table::{Row, Rows, Table, is_within};
 use saved_table::{Loaded, save};
+use site_state::{Asks, Row, Rows, Session, Sessions, Started, Table, is_within};
 use std::alloc::{AllocError, Global};
 use std::marker::Model;
 use verification::{Policy, RelyingParty, RowView};
@@ -40,7 +39,7 @@ pub struct Site {
 
 impl Model for Site {
     ghost use Rattle.std.specs.Prelude.{◌≡◌, ◌≤◌};
-    ghost use Rattle.credential_table.specs.Table.{IsTable};
+    ghost use Rattle.site_state.specs.Table.{IsTable};
     ghost use Rattle.site.specs.State.{SiteState, IsParty};
     ghost use Rattle.site.specs.Codes.{state_code};
 
@@ -167,7 +166,7 @@ impl Site {
     }
 
     /// A site with these credentials, in order of registration, of the strict profile. For the open one make a
-    /// [`Table`](credential_table::Table) of it, and the site by [`Site::with_profile`].
+    /// [`Table`](site_state::Table) of it, and the site by [`Site::with_profile`].
     ///
     /// `BadInput` as for `new`; then `BadTable` where an id or a user handle is not of 1 to 64 bytes, an id stands
     /// twice, or there are more than 65,536 credentials.
@@ -191,8 +190,8 @@ impl Site {
                 let party = RelyingParty::new(alloc, rp_id, origins)?;
                 Ok(site_with(alloc, party, policy, table, 1))
             }
-            Err(credential_table::Error::BadTable) => Err(Error::BadTable),
-            Err(credential_table::Error::Memory) => Err(Error::Memory),
+            Err(site_state::TableError::BadTable) => Err(Error::BadTable),
+            Err(site_state::TableError::Memory) => Err(Error::Memory),
         }
     }
 
@@ -288,7 +287,7 @@ impl Site {
         allow: &[&[u8]],
         uv: bool,
         words: [u8; 24],
-    ) -> Result<Started, ceremony_sessions::Error>
+    ) -> Result<Started, site_state::BeginError>
         ensures passes { OnOk result (PassesOpening self.old.rp.profile self.old.sessions
             (OpensSignIn (option_map (λ u. u.now) user.entry) (map (λ id. id.now) allow.now) uv words)) }
         ensures started { IfOk result (λ s. (s.session ≡ self.old.sessions.next) × (s.challenge ≡ challenge_of self.old.sessions.next words)) }
@@ -313,7 +312,7 @@ impl Site {
         algorithms: &[Alg],
         uv: bool,
         words: [u8; 24],
-    ) -> Result<Started, ceremony_sessions::Error>
+    ) -> Result<Started, site_state::BeginError>
         ensures passes { OnOk result (PassesOpening self.old.rp.profile self.old.sessions (OpensRegistration user.now algorithms.now uv words usual)) }
         ensures started { IfOk result (λ s. (s.session ≡ self.old.sessions.next) × (s.challenge ≡ challenge_of self.old.sessions.next words)) }
         ensures begun { OnOk result (self.new ≡ record self.old { sessions = begun self.old.sessions (OpensRegistration user.now algorithms.now uv words usual) }) }
@@ -331,7 +330,7 @@ impl Site {
         uv: bool,
         asks: Asks,
         words: [u8; 24],
-    ) -> Result<Started, ceremony_sessions::Error>
+    ) -> Result<Started, site_state::BeginError>
         ensures passes { OnOk result (PassesOpening self.old.rp.profile self.old.sessions (OpensRegistration user.now algorithms.now uv words asks)) }
         ensures started { IfOk result (λ s. (s.session ≡ self.old.sessions.next) × (s.challenge ≡ challenge_of self.old.sessions.next words)) }
         ensures begun { OnOk result (self.new ≡ record self.old { sessions = begun self.old.sessions (OpensRegistration user.now algorithms.now uv words asks) }) }

@@ -4,7 +4,7 @@ use Rattle.cose.specs.declared.key.Alg.{Alg}
 use Rattle.cose.specs.declared.key.Alg.TheVariants as algs
 use Rattle.cose.specs.declared.key.CoseKey.{CoseKey}
 use Rattle.serde_json.specs.Data.{Data}
-use Rattle.verified_signature.specs.Coordinates.{key_with}
+use Rattle.verification.specs.Coordinates.{key_with}
 use Rattle.site_acts.specs.Lines.{HasBytes, HasKey}
 use Rattle.site_acts.specs.Faults.{HasYOf, IsAlgorithmOf}
 

@@ -8,7 +8,7 @@ use Rattle.serde_json.specs.Read.{read}
 use Rattle.serde_json.specs.View.{items_of}
 use Rattle.cose.specs.declared.key.Alg.{Alg}
 use Rattle.cose.specs.declared.key.Alg.TheVariants as algs
-use Rattle.verified_signature.specs.Coordinates.{IsX, IsY}
+use Rattle.verification.specs.Coordinates.{IsX, IsY}
 use Rattle.site_acts.specs.Lines.{HasBytes, HasNumber, HasText, IsAlgorithm, IsBase64url, member}
 use Rattle.site_acts.specs.declared.acts.ActKind.{ActKind}
 use Rattle.site_acts.specs.declared.acts.ActKind.TheVariants as kinds

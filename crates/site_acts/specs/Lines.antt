@@ -13,7 +13,7 @@ use Rattle.cose.specs.declared.key.CoseKey.TheVariants as keys
 use Rattle.cose.specs.Keys.{alg_of, number_of, x_of}
 use Rattle.authdata.specs.declared.response.AssertionResponse.{AssertionResponse}
 use Rattle.authdata.specs.declared.response.RegistrationResponse.{RegistrationResponse}
-use Rattle.ceremony_sessions.specs.declared.session.Asks.{Asks}
+use Rattle.site_state.specs.declared.session.Asks.{Asks}
 use Rattle.site_acts.specs.declared.verified.Verified.{Verified}
 use Rattle.site_acts.specs.declared.verified.Verified.TheVariants as found
 use Rattle.site_acts.specs.declared.act.Act.{Act}

@@ -6,7 +6,7 @@ use Rattle.serde_json.specs.Find.{as_array, as_bool}
 use Rattle.serde_json.specs.View.{items_view}
 use Rattle.serde_json.specs.declared.value.Value.{Value}
 use Rattle.authdata.specs.declared.response.RegistrationResponse.{RegistrationResponse}
-use Rattle.verified_signature.specs.declared.signature.VerifiedSignature.{VerifiedSignature}
+use Rattle.verification.specs.declared.signature.VerifiedSignature.{VerifiedSignature}
 use Rattle.site_acts.specs.Lines.{HasBytes, HasKey, member}
 use Rattle.site_acts.specs.declared.error.LineError.{LineError}
 use Rattle.site_acts.specs.declared.error.LineError.TheVariants as errors

@@ -1,7 +1,7 @@
 -- Which signatures are valid to a site whose host verifies them.
 use Rattle.std.specs.Prelude.{Option, Some, None}
 use Rattle.cose.specs.Schemes.{Validity}
-use Rattle.verified_signature.specs.Signed.{Signed, only_verified, signature_view}
+use Rattle.verification.specs.Signed.{Signed, only_verified, signature_view}
 use Rattle.site_acts.specs.declared.verified.Verified.{Verified}
 use Rattle.site_acts.specs.declared.verified.Verified.TheVariants as found
 

@@ -2,8 +2,8 @@
 
 use crate::verified::Verified;
 use authdata::{AssertionResponse, RegistrationResponse};
-use ceremony_sessions::Asks;
 use cose::Alg;
+use site_state::Asks;
 
 /// A registration that is to begin.
 #[derive(Debug, Drop)]

@@ -3,7 +3,7 @@
 ghost use Rattle.std.specs.Prelude.{◌≡◌};
 ghost use Rattle.site_acts.specs.declared.error.LineError.TheVariants as errors;
 
-use ceremony_sessions::Error as BeginError;
+use site_state::BeginError;
 use std::alloc::{AllocError, AllocFailed};
 
 /// Why a line is refused. Nothing has changed.

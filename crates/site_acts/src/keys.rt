@@ -11,7 +11,7 @@ use crate::members::{algorithm, bytes, needed};
 use cose::{Alg, CoseKey};
 use serde_json::Value;
 use std::alloc::Global;
-use verified_signature::{Coordinate, key_from};
+use verification::{Coordinate, key_from};
 
 /// The algorithm of the member `algorithm`.
 fn algorithm_of(object: &Value) -> Result<Alg, LineError>

@@ -18,10 +18,10 @@ use crate::members::{
 use crate::response::{assertion_response, credential_id, registration_response};
 use crate::transports::transports;
 use crate::verified::Verified;
-use ceremony_sessions::Asks;
 use serde_json::Value;
+use site_state::Asks;
 use std::alloc::Global;
-use verified_signature::VerifiedSignature;
+use verification::VerifiedSignature;
 
 /// The most bytes of a line.
 pub const MAX_LINE: usize = 65_536;

@@ -1,11 +1,11 @@
 //! What a host says of a signature, as it stands in a line.
 
 ghost use Rattle.std.specs.Prelude.{◌≡◌, ◌↔◌, IsTrue, option_map};
-ghost use Rattle.verified_signature.specs.Signed.{lent_signature_view};
+ghost use Rattle.verification.specs.Signed.{lent_signature_view};
 ghost use Rattle.site_acts.specs.VerifiedSignatures.{verified_in};
 ghost use Rattle.site_acts.specs.declared.verified.Verified.TheVariants as found;
 
-use verified_signature::{HostVerifier, VerifiedSignature};
+use verification::{HostVerifier, VerifiedSignature};
 
 /// What the host found by its own library.
 #[derive(Debug, Drop)]

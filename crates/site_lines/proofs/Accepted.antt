@@ -11,8 +11,8 @@ use Rattle.authdata.proofs.Unique.{one_value}
 use Rattle.verification.specs.Records.{Credential}
 use Rattle.verification.specs.Registration.{CountsAsNone, counted}
 use Rattle.verification.proofs.Registrations.{counted_none, counted_whole}
-use Rattle.credential_table.specs.Views.{row_view}
-use Rattle.credential_table.specs.declared.row.Row.{Row}
+use Rattle.site_state.specs.RowViews.{row_view}
+use Rattle.site_state.specs.declared.row.Row.{Row}
 use Rattle.kept_site.specs.declared.finish.SignedIn.{SignedIn}
 use Rattle.site_lines.proofs.Shallow.{attested_flat, row_flat, signed_flat, who_flat}
 use Rattle.site_lines.specs.Written.{IsRegistered, IsSignedIn, attested_members, data_members, natural, row_members, who_members}

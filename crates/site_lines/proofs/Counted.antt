@@ -5,8 +5,8 @@ use Rattle.std.specs.List.{slice_get, slice_index_or}
 use Rattle.std.specs.Slice.{IsItemAt}
 use Rattle.std.specs.Borrow.{Bor}
 use Rattle.serde_json.specs.Data.{Data, Members}
-use Rattle.credential_table.specs.declared.row.Row.{Row}
-use Rattle.site_lines.specs.declared.answer.Known.{Known}
+use Rattle.site_state.specs.declared.row.Row.{Row}
+use Rattle.site_acts.specs.declared.known.Known.{Known}
 use Rattle.site_lines.specs.Private.{row_at}
 use Rattle.site_lines.specs.Written.{counts_from, whole_row, whole_rows, with_count}
 

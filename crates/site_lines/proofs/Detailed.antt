@@ -13,9 +13,9 @@ use Rattle.authdata.specs.Responses.{registration_response_view}
 use Rattle.authdata.specs.Responses as responses
 use Rattle.authdata.proofs.Objects.{one_object}
 use Rattle.authdata.proofs.Unique.{one_value}
-use Rattle.ceremony_sessions.specs.Sessions.{IsRefused, Opening, challenge_of}
-use Rattle.ceremony_sessions.specs.declared.error.Error.TheVariants as full
-use Rattle.timed_sessions.specs.Timed.{IsTrimmed, Timed, after_begin}
+use Rattle.site_state.specs.Sessions.{IsRefused, Opening, challenge_of}
+use Rattle.site_state.specs.declared.error.BeginError.TheVariants as full
+use Rattle.site_state.specs.Timed.{IsTrimmed, Timed, after_begin}
 use Rattle.credential_store.specs.Held.{Placed}
 use Rattle.credential_store.specs.Details.{Detail, Details, HoldsDetails, told}
 use Rattle.kept_site.specs.State.{KeptState}
@@ -31,29 +31,18 @@ use Rattle.site_acts.specs.declared.act.FinishRegistration.{FinishRegistration}
 use Rattle.site_acts.specs.declared.act.FinishSignIn.{FinishSignIn}
 use Rattle.site_lines.specs.declared.answer.Answer.{Answer}
 use Rattle.site_lines.specs.declared.answer.Answer.TheVariants as answers
-use Rattle.site_lines.specs.declared.answer.Known.{Known}
+use Rattle.site_acts.specs.declared.known.Known.{Known}
 use Rattle.verification.specs.declared.refusal.SignInRefusal.{SignInRefusal}
 use Rattle.verification.specs.declared.refusal.RegistrationRefusal.{RegistrationRefusal}
 use Rattle.site_lines.specs.Answers.{Begins, Keeps, TellsRegistrationBegun, TellsSignInBegun, opens_registration, opens_sign_in}
-use Rattle.site_lines.specs.Details.{IsAaguid, IsAttestedAaguid, IsKnown, OfDetails, RegistersDetail, TellsAllowed, TellsDetails, TellsExcluded, TellsRowDetails, UsesDetail, joined, joined_on, second, with_comma}
+use Rattle.site_acts.specs.Joined.{joined}
+use Rattle.site_acts.proofs.Commas.{map_on}
+use Rattle.site_lines.specs.Details.{IsAaguid, IsAttestedAaguid, IsKnown, OfDetails, RegistersDetail, TellsAllowed, TellsDetails, TellsExcluded, TellsRowDetails, UsesDetail, second}
 use Rattle.site_lines.specs.Private.{BeginsNone, IsAaguidOf, IsAttestedIn, IsNotBegunAfter, IsRefusedRegistration, IsRefusedSignIn, IsUnknown, IsWithKnown, KeepsDetail, not_begun}
 use Rattle.site_lines.specs.declared.knowing.Unknown.{Unknown}
 use Rattle.site_lines.specs.declared.knowing.Unknown.TheVariants as unknowns
-use Rattle.credential_table.specs.declared.row.Row.{Row}
+use Rattle.site_state.specs.declared.row.Row.{Row}
 use Rattle.site_lines.proofs.Kept.{failure_then, held_on, same_site, same_then}
-
--- ---- texts
-
-more_on : (text : List ℕ) (ts : List (List ℕ)) (t : List ℕ) → joined_on text (ts ++ t ∷ []) ≡ with_comma (joined_on text ts) ++ t
-more_on text [] t = refl
-more_on text (s ∷ ts) t = more_on (with_comma text ++ s) ts t
-
-map_on : {A B : Type 0} (f : A → B) (xs : List A) (x : A) → map f (xs ++ x ∷ []) ≡ map f xs ++ f x ∷ []
-map_on f [] x = refl
-map_on f (y ∷ xs) x = ap (λ l. f y ∷ l) (map_on f xs x)
-
-pub joined_more : {T : Type 0} (text_of : T → List ℕ) (ts : List T) (t : T) → joined (map text_of (ts ++ t ∷ [])) ≡ with_comma (joined (map text_of ts)) ++ text_of t
-joined_more text_of ts t = ap joined (map_on text_of ts t) ∙ more_on [] (map text_of ts) (text_of t)
 
 -- ---- the aaguid
 

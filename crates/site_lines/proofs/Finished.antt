@@ -13,13 +13,13 @@ use Rattle.verification.specs.declared.refusal.SignInRefusal.TheVariants as sign
 use Rattle.verification.specs.declared.refusal.VerificationError.{VerificationError}
 use Rattle.verification.specs.declared.refusal.VerificationError.TheVariants as errors
 use Rattle.verification.specs.declared.refusal.RegistrationRefusal.{RegistrationRefusal}
-use Rattle.ceremony_sessions.specs.Sessions.{registration_at}
-use Rattle.timed_sessions.specs.Timed.{after_end}
+use Rattle.site_state.specs.Sessions.{registration_at}
+use Rattle.site_state.specs.Timed.{after_end}
 use Rattle.kept_site.specs.State.{KeptState}
 use Rattle.kept_site.specs.Calls.{IsFound, IsOneSite, IsSame, RefusesRegistration, RefusesSignIn, Registers, SignsIn, judged_sign_in}
 use Rattle.kept_site.specs.declared.finish.SignedIn.{SignedIn}
 use Rattle.kept_site.specs.declared.registration.Registered.{Registered}
-use Rattle.verified_signature.specs.Signed.{Signed, only_verified}
+use Rattle.verification.specs.Signed.{Signed, only_verified}
 use Rattle.site_acts.specs.VerifiedSignatures.{is_valid, verified_in}
 use Rattle.site_acts.specs.declared.act.FinishRegistration.{FinishRegistration}
 use Rattle.site_acts.specs.declared.act.FinishSignIn.{FinishSignIn}

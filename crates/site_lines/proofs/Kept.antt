@@ -4,10 +4,10 @@ use Rattle.std.specs.declared.result.Result.{Result}
 use Rattle.std.proofs.Common.{◌≡◌, ℕ, Bool, List, Option, ap, refl, sym, subst, ◌∙◌, false, true≢false}
 use Rattle.sqlite_trees.specs.View.{IsClean, View}
 use Rattle.cose.specs.declared.key.Alg.{Alg}
-use Rattle.ceremony_sessions.specs.Sessions.{Opening, OpensRegistration, OpensSignIn, challenge_of}
-use Rattle.ceremony_sessions.specs.declared.session.Asks.{Asks}
-use Rattle.ceremony_sessions.specs.declared.error.Error.TheVariants as full
-use Rattle.timed_sessions.specs.Timed.{IsTrimmed, after_begin}
+use Rattle.site_state.specs.Sessions.{Opening, OpensRegistration, OpensSignIn, challenge_of}
+use Rattle.site_state.specs.declared.session.Asks.{Asks}
+use Rattle.site_state.specs.declared.error.BeginError.TheVariants as full
+use Rattle.site_state.specs.Timed.{IsTrimmed, after_begin}
 use Rattle.credential_store.specs.Held.{Placed}
 use Rattle.kept_site.specs.State.{IsHeld, KeptState}
 use Rattle.kept_site.specs.Calls.{IsFailure, IsNotBegun, IsOneSite, IsSame}

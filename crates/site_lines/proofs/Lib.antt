@@ -1,5 +1,4 @@
 pub mod Kept
-pub mod Asked
 pub mod Finished
 pub mod Detailed
 pub mod Caused

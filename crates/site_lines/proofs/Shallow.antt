@@ -10,9 +10,9 @@ use Rattle.cose.specs.declared.key.Alg.{Alg}
 use Rattle.authdata.specs.Layout.{AttestedCredential, AuthenticatorData}
 use Rattle.verification.specs.Records.{Credential}
 use Rattle.kept_site.specs.declared.finish.SignedIn.{SignedIn}
-use Rattle.credential_table.specs.declared.row.Row.{Row}
+use Rattle.site_state.specs.declared.row.Row.{Row}
 use Rattle.credential_store.specs.Details.{Detail, detail_view}
-use Rattle.site_lines.specs.Options.{base64url, creation_options, descriptor, parameter, request_options}
+use Rattle.site_acts.specs.Options.{base64url, creation_options, descriptor, parameter, request_options}
 use Rattle.site_lines.specs.Private.{IsShallow}
 use Rattle.site_lines.specs.Written.{Writes, aaguid_or_null, answered, attested_members, begun, by_step, bytes_or_null, counts_from, data_members, flag_or_null, integer_or_null, line_number, natural, row_members, status, step_name, who_members, whole_row, whole_rows, with_count}
 use Rattle.site_acts.specs.declared.act.BeginRegistration.{BeginRegistration}
@@ -20,7 +20,7 @@ use Rattle.site_acts.specs.declared.act.BeginSignIn.{BeginSignIn}
 use Rattle.site_lines.specs.declared.answer.Answer.{Answer}
 use Rattle.site_lines.specs.declared.answer.Answer.TheVariants as answers
 use Rattle.site_lines.specs.declared.answer.Counts.{Counts}
-use Rattle.site_lines.specs.declared.answer.Known.{Known}
+use Rattle.site_acts.specs.declared.known.Known.{Known}
 use Rattle.site_lines.specs.declared.tally.Tally.{Tally}
 use Rattle.site_lines.specs.declared.writing.Teller.{Teller}
 

@@ -11,8 +11,8 @@ use Rattle.authdata.specs.Objects.{Attestation}
 use Rattle.authdata.specs.Responses.{AuthenticatorAssertionResponse, assertion_response_view, registration_response_view}
 use Rattle.authdata.specs.Responses as responses
 use Rattle.authdata.specs.Statements.{IsSelfSignedBy}
-use Rattle.ceremony_sessions.specs.Sessions.{IsRefused, Opening, OpensRegistration, OpensSignIn, challenge_of, registration_at}
-use Rattle.ceremony_sessions.specs.declared.error.Error.TheVariants as begins
+use Rattle.site_state.specs.Sessions.{IsRefused, Opening, OpensRegistration, OpensSignIn, challenge_of, registration_at}
+use Rattle.site_state.specs.declared.error.BeginError.TheVariants as begins
 use Rattle.verification.specs.Records.{Credential, ExpectedRegistration}
 use Rattle.verification.specs.Registration.{Attests, hash_in}
 use Rattle.verification.specs.Registration as registration
@@ -20,13 +20,14 @@ use Rattle.verification.specs.SignIn.{IsFirstFailing}
 use Rattle.verification.specs.declared.refusal.SignInRefusal.TheVariants as sign_in
 use Rattle.verification.specs.declared.refusal.RegistrationRefusal.{RegistrationRefusal}
 use Rattle.verification.specs.declared.refusal.RegistrationRefusal.TheVariants as register
-use Rattle.credential_table.specs.Views.{rows_view}
+use Rattle.site_state.specs.RowViews.{rows_view}
 use Rattle.credential_store.specs.Held.{IsAt, Placed, rows_of}
-use Rattle.timed_sessions.specs.Timed.{IsTrimmed, after_begin, after_end, since}
+use Rattle.site_state.specs.Timed.{IsTrimmed, after_begin, after_end, since}
 use Rattle.kept_site.specs.State.{IsHeld, KeptState}
 use Rattle.kept_site.specs.Calls.{IsFailure, IsFound, IsOneSite, IsSame, Registers, SignsIn, TellsIds, judged_registration, judged_sign_in}
 use Rattle.kept_site.specs.Calls as calls
-use Rattle.verified_signature.specs.declared.signature.VerifiedSignature.{VerifiedSignature}
+use Rattle.verification.specs.declared.signature.VerifiedSignature.{VerifiedSignature}
+use Rattle.site_acts.specs.Asked.{RegistrationAsks}
 use Rattle.site_acts.specs.VerifiedSignatures.{is_valid}
 use Rattle.site_acts.specs.declared.verified.Verified.TheVariants as found
 use Rattle.site_acts.specs.declared.act.Act.{Act}
@@ -92,13 +93,6 @@ TellsSignIn view f old new (answers.Failed why) = Unit {0}
 TellsSignIn view f old new _ = ⊥
 
 -- ---- registration
-
--- the signature of self attestation: of the authenticator data and then the hash of the client data, under the key that they
--- attest (section 8.2)
-abbrev pub RegistrationAsks : Profile → responses.AuthenticatorAttestationResponse → VerifiedSignature → Type 0
-RegistrationAsks profile r t =
-    (o : Attestation) × (a : AuthenticatorData) × (c : AttestedCredential) × Attests profile r o a c
-    × (t.key ≡ c.key) × IsSelfSignedBy o c.key t.signature.items × (t.message.items ≡ o.auth_data ++ hash_in r)
 
 -- a step is the first that a response does not pass, by whichever test tells the ids
 abbrev pub StopsRegistration : {S : Type 0} → (S → View) → FinishRegistration → KeptState S → KeptState S → RegistrationRefusal → Type 0

@@ -50,7 +50,7 @@ pub record IsCommitted {S : Type 0} (view : S → View) (recovers : S → Trees 
 abbrev pub IsNotCommitted : {S : Type 0} → (S → View) → (S → ℕ) → KeptState S → KeptState S → Failure → Type 0
 IsNotCommitted view faults mid new why =
     IsFailure mid new why
-    × (IsClean (view new.store) → IsCausedIn view faults mid new (RefusesNumber (view mid.store) mid.rp.rp_id (to_commit mid.durable mid.reserved)) ⊥ why)
+    × (IsClean (view new.store) → IsCausedIn view faults mid new (RefusesNumber (view mid.store).reals mid.rp.rp_id (to_commit mid.durable mid.reserved)) ⊥ why)
 
 -- what is told: the answers of the lines, which are committed; or, of each, why they are not
 abbrev pub Answers : {S : Type 0} → (S → View) → (S → ℕ) → (S → Trees → Type 0) → ℕ → KeptState S → List Arrived → List Answered → KeptState S → Type 0

@@ -2,7 +2,7 @@
 use Rattle.std.specs.Prelude.{◌≡◌, ◌≤◌, ◌+◌, ◌-◌, ◌^◌, ℕ, List, Option, None, Some, length, map, option_map, string_bytes, ⊤}
 use Rattle.sqlite_trees.specs.View.{View, IsClean}
 use Rattle.authdata.specs.Responses.{assertion_response_view, registration_response_view}
-use Rattle.credential_table.specs.Table.{retired}
+use Rattle.site_state.specs.Table.{retired}
 use Rattle.credential_store.specs.Details.{told}
 use Rattle.credential_store.specs.Held.{Holds, Placed}
 use Rattle.kept_site.specs.State.{KeptState}
@@ -13,7 +13,8 @@ use Rattle.site_acts.specs.declared.act.Act.{Act}
 use Rattle.site_acts.specs.declared.act.Act.TheVariants as acts
 use Rattle.site_acts.specs.declared.act.FinishRegistration.{FinishRegistration}
 use Rattle.site_lines.specs.Answers.{asked_rows}
-use Rattle.site_lines.specs.Details.{IsAaguid, IsAttestedAaguid, joined, second}
+use Rattle.site_acts.specs.Joined.{joined}
+use Rattle.site_lines.specs.Details.{IsAaguid, IsAttestedAaguid, second}
 use Rattle.site_lines.specs.declared.answer.Answer.{Answer}
 use Rattle.site_lines.specs.declared.answer.Answer.TheVariants as answers
 
@@ -35,7 +36,7 @@ FailsBy view faults old new refused damage answer = IsClean (view new.store) →
 
 -- the row of the relying party, with the numbers that a session that begins may reserve
 abbrev pub RefusesBegin : {S : Type 0} → View → KeptState S → Type 0
-RefusesBegin old s = RefusesNumber old s.rp.rp_id (s.timed.open_sessions.next + 1000)
+RefusesBegin old s = RefusesNumber old.reals s.rp.rp_id (s.timed.open_sessions.next + 1000)
 
 -- what is written of the credential that a line's response attests, and of its detail: this second, the transports that the line tells, and its
 -- aaguid, or none where it attests none

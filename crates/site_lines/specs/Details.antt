@@ -13,6 +13,7 @@ use Rattle.credential_store.specs.Held.{Placed}
 use Rattle.credential_store.specs.Details.{Detail, Details, HoldsDetails, detail_view, told}
 use Rattle.kept_site.specs.State.{IsHeld, KeptState}
 use Rattle.kept_site.specs.Calls.{TellsDetail, TellsForgotten, TellsUsed}
+use Rattle.site_acts.specs.Joined.{joined}
 use Rattle.site_acts.specs.declared.act.Act.{Act}
 use Rattle.site_acts.specs.declared.act.Act.TheVariants as acts
 use Rattle.site_acts.specs.declared.act.BeginRegistration.{BeginRegistration}
@@ -21,23 +22,11 @@ use Rattle.site_acts.specs.declared.act.FinishRegistration.{FinishRegistration}
 use Rattle.site_acts.specs.declared.act.FinishSignIn.{FinishSignIn}
 use Rattle.site_lines.specs.declared.answer.Answer.{Answer}
 use Rattle.site_lines.specs.declared.answer.Answer.TheVariants as answers
-use Rattle.site_lines.specs.declared.answer.Known.{Known}
+use Rattle.site_acts.specs.declared.known.Known.{Known}
 
 -- a second of the host's clock, as a column holds it: at most 2^63 - 1
 abbrev pub second : ℕ → ℤ
 second now = pos (min now 9223372036854775807)
-
--- texts as one, with a comma between each and the next
-abbrev pub with_comma : List ℕ → List ℕ
-with_comma [] = []
-with_comma (b ∷ bs) = (b ∷ bs) ++ 44 ∷ []
-
-abbrev pub joined_on : List ℕ → List (List ℕ) → List ℕ
-joined_on text [] = text
-joined_on text (t ∷ ts) = joined_on (with_comma text ++ t) ts
-
-abbrev pub joined : List (List ℕ) → List ℕ
-joined ts = joined_on [] ts
 
 -- the aaguid of the credential that a response attests (WebAuthn Level 2, section 6.5.1)
 abbrev pub IsAaguid : Profile → responses.AuthenticatorAttestationResponse → Option (List ℕ) → Type 0

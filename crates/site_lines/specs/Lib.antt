@@ -3,5 +3,4 @@ pub mod Details
 pub mod Causes
 pub mod Batches
 pub mod Private
-pub mod Options
 pub mod Written

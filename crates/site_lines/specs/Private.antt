@@ -8,8 +8,8 @@ use Rattle.verification.specs.declared.refusal.SignInRefusal.{SignInRefusal}
 use Rattle.verification.specs.declared.refusal.SignInRefusal.TheVariants as sign_in
 use Rattle.verification.specs.declared.refusal.RegistrationRefusal.{RegistrationRefusal}
 use Rattle.verification.specs.declared.refusal.RegistrationRefusal.TheVariants as register
-use Rattle.ceremony_sessions.specs.Sessions.{IsRefused, Opening}
-use Rattle.ceremony_sessions.specs.declared.error.Error.TheVariants as full
+use Rattle.site_state.specs.Sessions.{IsRefused, Opening}
+use Rattle.site_state.specs.declared.error.BeginError.TheVariants as full
 use Rattle.kept_site.specs.State.{KeptState}
 use Rattle.kept_site.specs.Calls.{IsFailure, IsNotBegun, IsSame}
 use Rattle.authdata.specs.Layout.{AttestedCredential, AuthenticatorData, AuthOf}
@@ -25,13 +25,14 @@ use Rattle.site_lines.specs.declared.answer.Answer.TheVariants as answers
 use Rattle.site_acts.specs.declared.error.LineError.TheVariants as errors
 use Rattle.site_acts.specs.declared.verified.Verified.TheVariants as found
 use Rattle.site_lines.specs.Written.{answered, step, whole_row}
-use Rattle.site_lines.specs.declared.answer.Known.{Known}
-use Rattle.site_lines.specs.Answers.{OfHeld, RegistrationAsks, SignInAsks}
+use Rattle.site_acts.specs.declared.known.Known.{Known}
+use Rattle.site_acts.specs.Asked.{RegistrationAsks}
+use Rattle.site_lines.specs.Answers.{OfHeld, SignInAsks}
 use Rattle.site_lines.specs.Details.{AreKnown, OfDetails}
 use Rattle.credential_store.specs.Details.{Detail, HoldsDetails}
 use Rattle.std.specs.FinMap as finite
 use Rattle.std.specs.Global.{Global}
-use Rattle.credential_table.specs.declared.row.Row.{Row}
+use Rattle.site_state.specs.declared.row.Row.{Row}
 
 -- what is answered where no session begins
 abbrev pub not_begun : BeginFailure → Answer

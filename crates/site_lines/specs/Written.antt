@@ -18,16 +18,16 @@ use Rattle.authdata.specs.Objects.{Attestation, ObjectOf}
 use Rattle.verification.specs.Numbers.{registration_number, sign_in_number}
 use Rattle.verification.specs.Records.{Credential}
 use Rattle.verification.specs.Registration.{counted}
-use Rattle.verified_signature.specs.declared.signature.VerifiedSignature.{VerifiedSignature}
-use Rattle.credential_table.specs.Views.{row_view}
-use Rattle.credential_table.specs.declared.row.Row.{Row}
+use Rattle.verification.specs.declared.signature.VerifiedSignature.{VerifiedSignature}
+use Rattle.site_state.specs.RowViews.{row_view}
+use Rattle.site_state.specs.declared.row.Row.{Row}
 use Rattle.credential_store.specs.Details.{detail_view}
 use Rattle.kept_site.specs.declared.finish.SignedIn.{SignedIn}
-use Rattle.site_lines.specs.Options.{base64url, creation_options, request_options}
+use Rattle.site_acts.specs.Options.{base64url, creation_options, request_options}
 use Rattle.site_lines.specs.declared.answer.Answer.{Answer}
 use Rattle.site_lines.specs.declared.answer.Answer.TheVariants as answers
 use Rattle.site_lines.specs.declared.answer.Counts.{Counts}
-use Rattle.site_lines.specs.declared.answer.Known.{Known}
+use Rattle.site_acts.specs.declared.known.Known.{Known}
 use Rattle.site_lines.specs.declared.tally.Tally.{Tally}
 use Rattle.site_lines.specs.declared.writing.Teller.{Teller}
 

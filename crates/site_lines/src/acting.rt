@@ -3,7 +3,7 @@
 ghost use Rattle.std.specs.Prelude.{◌≡◌, ◌≤◌, IfErr, IfOk, None, OnOk, Some, false, map, option_map};
 ghost use Rattle.sqlite_trees.specs.Tree.{Trees};
 ghost use Rattle.sqlite_trees.specs.View.{IsClean};
-ghost use Rattle.credential_table.specs.Table as table;
+ghost use Rattle.site_state.specs.Table as table;
 ghost use Rattle.site_lines.specs.Answers.{Keeps, Tells, TellsAbandoned, TellsDeleted, TellsExpired, TellsRetired, TellsRows, TellsStatus};
 ghost use Rattle.site_lines.specs.Details.{AreKnown, ForgetsDetail, TellsDetails, TellsRowDetails};
 ghost use Rattle.site_lines.specs.Causes.{AreTooMany, FailsBy, FailsIn, FailsShut, IsCausedIn};
@@ -11,13 +11,13 @@ ghost use Rattle.site_lines.specs.Private.{IfUnknown, IsUnknown, IsWithKnown, un
 ghost use Rattle.kept_site.specs.Calls.{IsSame};
 ghost use Rattle.kept_site.specs.Causes.{IsDamaged, RefusesChange};
 
-use crate::answer::{Answer, Counts, Known};
+use crate::answer::{Answer, Counts};
 use crate::beginning::{begin_registration, begin_sign_in};
 use crate::finishing::{finish_registration, finish_sign_in};
 use crate::knowing::{Unknown, all_known};
-use credential_table::Row;
 use kept_site::{Failure, KeptSite};
-use site_acts::{Act, LineError};
+use site_acts::{Act, Known, LineError};
+use site_state::Row;
 use sqlite_trees::store::Store;
 use std::alloc::{AllocError, Global};
 

@@ -1,13 +1,10 @@
 //! What a line is answered.
 
 use authdata::{AssertionResponse, RegistrationResponse};
-use ceremony_sessions::Started;
-use credential_store::Detail;
-use credential_table::Row;
 use kept_site::{Failure, Registered, SignedIn};
-use site_acts::{BeginRegistration, BeginSignIn, LineError};
-use verification::{RegistrationRefusal, SignInRefusal};
-use verified_signature::VerifiedSignature;
+use site_acts::{BeginRegistration, BeginSignIn, Known, LineError};
+use site_state::{Row, Started};
+use verification::{RegistrationRefusal, SignInRefusal, VerifiedSignature};
 
 /// How many there are.
 #[derive(Clone, Copy, Debug, PartialEq, Eq, Drop)]
@@ -18,17 +15,6 @@ pub struct Counts {
     pub sessions: usize,
     /// The number that the next session will have.
     pub next_session: u64,
-}
-
-/// A credential by its id, and what is known of it beside what verdicts ask for.
-#[derive(Debug, Drop)]
-pub struct Known {
-    /// Its id.
-    pub id: Vec<u8>,
-    /// What is known of it.
-    pub detail: Option<Detail>,
-    /// Its transports; none where they are not known, or are none.
-    pub transports: Vec<String>,
 }
 
 /// What a line is answered.

@@ -5,17 +5,17 @@ ghost use Rattle.sqlite_trees.specs.Tree.{Trees};
 ghost use Rattle.sqlite_trees.specs.View.{IsClean};
 ghost use Rattle.kept_site.specs.Calls.{IsSame};
 ghost use Rattle.kept_site.specs.Causes.{IfBeginStore, IsDamaged};
-ghost use Rattle.ceremony_sessions.specs.Sessions.{Opening};
+ghost use Rattle.site_state.specs.Sessions.{Opening};
 ghost use Rattle.site_lines.specs.Answers.{Begins, Keeps, TellsRegistrationBegun, TellsSignInBegun, opens_registration, opens_sign_in};
 ghost use Rattle.site_lines.specs.Causes.{FailsBy, IsCausedIn, RefusesBegin};
 ghost use Rattle.site_lines.specs.Details.{AreKnown, TellsAllowed, TellsExcluded};
 ghost use Rattle.site_lines.specs.Private.{BeginsNone, IsNotBegunAfter, not_begun as not_begun_of};
 
-use crate::answer::{Answer, Known};
+use crate::answer::Answer;
 use crate::knowing::{Unknown, all_known};
-use ceremony_sessions::{Error as BeginError, Started};
 use kept_site::{BeginFailure, KeptSite};
-use site_acts::{BeginRegistration, BeginSignIn, LineError};
+use site_acts::{BeginRegistration, BeginSignIn, Known, LineError};
+use site_state::{BeginError, Started};
 use sqlite_trees::store::Store;
 use std::alloc::{AllocError, Global};
 

@@ -7,7 +7,7 @@ ghost use Rattle.sqlite_trees.specs.View.{IsClean};
 ghost use Rattle.kept_site.specs.Causes.{IsDamaged, RefusesRegistered, RefusesSignedIn};
 ghost use Rattle.authdata.specs.Responses.{assertion_response_view, registration_response_view};
 ghost use Rattle.verification.specs.Views.{assertion_parts_view, registration_parts_view};
-ghost use Rattle.ceremony_sessions.specs.Sessions.{registration_at};
+ghost use Rattle.site_state.specs.Sessions.{registration_at};
 ghost use Rattle.site_lines.specs.Answers.{Keeps, TellsRegistration, TellsSignIn};
 ghost use Rattle.credential_store.specs.Details.{detail_view};
 ghost use Rattle.site_lines.specs.Causes.{FailsBy, RefusesFinish};
@@ -15,12 +15,11 @@ ghost use Rattle.site_lines.specs.Details.{RegistersDetail, UsesDetail, second a
 ghost use Rattle.site_lines.specs.Private.{KeepsDetail, IsRefusedRegistration, IsRefusedSignIn};
 
 use crate::answer::Answer;
-use crate::asking::{registration_asks, sign_in_asks};
 use crate::knowing::{detail_of, second};
 use authdata::{AssertionResponse, Profile, RegistrationResponse};
 use credential_store::Detail;
 use kept_site::{FinishFailure, KeptSite};
-use site_acts::{FinishRegistration, FinishSignIn, LineError};
+use site_acts::{FinishRegistration, FinishSignIn, LineError, registration_asks, sign_in_asks};
 use sqlite_trees::store::Store;
 use std::alloc::Global;
 use verification::{

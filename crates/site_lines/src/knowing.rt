@@ -9,15 +9,15 @@ ghost use Rattle.credential_store.specs.Details.{detail_view, told};
 ghost use Rattle.kept_site.specs.Calls.{IsSame};
 ghost use Rattle.kept_site.specs.Causes.{IsDamaged};
 ghost use Rattle.site_lines.specs.Causes.{IsCausedIn};
-ghost use Rattle.site_lines.specs.Details.{AreTransports, IsAaguid, IsAttestedAaguid, IsKnown, OfDetails, joined as joined_of, second as second_of};
+ghost use Rattle.site_acts.specs.Joined.{joined as joined_of};
+ghost use Rattle.site_lines.specs.Details.{AreTransports, IsAaguid, IsAttestedAaguid, IsKnown, OfDetails, second as second_of};
 ghost use Rattle.site_lines.specs.Private.{IfUnknown, IsAaguidOf, IsAttestedIn, IsUnknown};
 ghost use Rattle.site_lines.specs.declared.knowing.Unknown.TheVariants as unknowns;
 
-use crate::answer::Known;
-use crate::transports::{joined, separate};
 use authdata::{AttestationObject, Profile, RegistrationResponse, read_view};
 use credential_store::Detail;
 use kept_site::{Failure, KeptSite};
+use site_acts::{Known, joined, separate};
 use sqlite_trees::store::Store;
 use std::alloc::{AllocError, Global};
 

@@ -3,20 +3,17 @@
 
 mod acting;
 mod answer;
-mod asking;
 mod beginning;
 mod finishing;
 mod knowing;
 mod line;
 mod log;
-mod options;
 mod tally;
-mod transports;
 mod values;
 mod writing;
 
 pub use acting::carry_out;
-pub use answer::{Answer, Counts, Known};
+pub use answer::{Answer, Counts};
 pub use line::{Answered, Arrived, answer_lines};
 pub use log::{Logged, log_line};
 pub use tally::Tally;

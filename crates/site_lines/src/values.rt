@@ -8,23 +8,21 @@ ghost use Rattle.authdata.specs.Layout.{AuthOf, AuthenticatorData, lent_auth_vie
 ghost use Rattle.authdata.specs.Objects.{object_view};
 ghost use Rattle.verification.specs.Registration.{counted};
 ghost use Rattle.credential_store.specs.Details.{detail_view};
-ghost use Rattle.credential_table.specs.Views.{row_view};
+ghost use Rattle.site_state.specs.RowViews.{row_view};
 ghost use Rattle.site_lines.specs.Written.{IsRegistered, IsSignedIn, aaguid_or_null as aaguid_or_null_of, attested_members, bytes_or_null as bytes_or_null_of, data_members, flag_or_null as flag_or_null_of, integer_or_null as integer_or_null_of, key_members, known_members, natural, row_members, to_verify, who_members, whole_row as whole_row_of, whole_rows, y_of as y_in};
 ghost use Rattle.site_lines.specs.Private.{row_at};
 
-use crate::answer::Known;
-use crate::options::{base64_text, texts};
 use authdata::flags::{BS, UV, is_set};
 use authdata::{
     AssertionResponse, AttestationObject, AuthView, Profile, RegistrationResponse, read_view,
 };
 use cose::{CoseKey, KeyView};
-use credential_table::Row;
 use kept_site::SignedIn;
 use serde_json::{Map, Value, put};
+use site_acts::{Known, base64_text, texts};
+use site_state::Row;
 use std::alloc::{AllocError, Global};
-use verification::counts_as_none;
-use verified_signature::VerifiedSignature;
+use verification::{VerifiedSignature, counts_as_none};
 
 /// The coordinate x of a key, of an RSA key its modulus.
 fn x_of<'a>(key: &'a KeyView<'_>) -> &'a [u8]

@@ -9,10 +9,10 @@ ghost use Rattle.site_lines.specs.Private.{IsOther, IsShallow, IsStep, IsText, S
 
 use crate::answer::{Answer, Counts};
 use crate::line::Answered;
-use crate::options::{creation_options, request_options};
 use crate::tally::Tally;
 use crate::values::{registered, rows, signed_in, verify};
 use serde_json::{Map, Value, json, put};
+use site_acts::{creation_options, request_options};
 use std::alloc::{AllocError, Global};
 use std::fmt::Display;
 use verification::{RegistrationRefusal, RelyingParty, SignInRefusal};

@@ -1,80 +1,9 @@
 //! A site over lines: one JSON object in, one out, over a file.
 #![tactic(auto)]
 
-mod arriving;
-mod fault;
-mod file;
-mod input;
-mod serving;
-
-use fault::Fault;
-use file::site_of;
-use input::check_input;
-use serving::serve;
-use site_acts::acts_help;
-use site_command_line::{Options, Told, asked_for, joined};
-use site_files::close;
-use std::io::Write;
+use site_service::run;
 use std::process::ExitCode;
-use std::{env, io};
-
-/// The arguments of the command line, the program's name first.
-fn arguments(rt: &HostRuntime) -> io::Result<Vec<String>> {
-    let mut arguments = Vec::new(rt.alloc());
-    for word in env::args(rt)? {
-        arguments.push(word)?;
-    }
-    Ok(arguments)
-}
-
-/// Serves lines over the site's file, and closes it.
-fn serve_file(rt: &HostRuntime, options: &Options<'_>) -> Result<(), Fault> {
-    check_input(rt)?;
-    let mut site = site_of(rt, options)?;
-    let served = serve(rt, options, &mut site);
-    close(site)?;
-    served
-}
-
-/// The status of serving with these options; a fault is told on standard error.
-fn run_options(rt: &HostRuntime, options: &Options<'_>) -> u8 {
-    match serve_file(rt, options) {
-        Ok(()) => 0,
-        Err(fault) => {
-            let _ = writeln!(rt.stderr(), "{fault}");
-            fault.status()
-        }
-    }
-}
-
-/// Tells this in place of serving: help on standard output, and a refusal on standard error. The status.
-fn tell(rt: &HostRuntime, told: &Told) -> io::Result<u8> {
-    if told.is_help {
-        rt.stdout().write_all(told.text.as_bytes())?;
-        return Ok(0);
-    }
-    rt.stderr().write_all(told.text.as_bytes())?;
-    Ok(2)
-}
-
-/// Runs the program on its arguments.
-fn run(rt: &HostRuntime) -> io::Result<u8> {
-    let owned = arguments(rt)?;
-    let words = joined(rt.alloc(), owned.as_slice())?;
-    let help = acts_help(rt.alloc())?;
-    match asked_for(rt.alloc(), help.as_str(), words.as_slice())? {
-        Ok(options) => Ok(run_options(rt, &options)),
-        Err(told) => tell(rt, &told),
-    }
-}
 
 fn main(rt: HostRuntime) -> ExitCode {
-    let status = match run(&rt) {
-        Ok(status) => status,
-        Err(error) => {
-            let _ = writeln!(rt.stderr(), "{error}");
-            3
-        }
-    };
-    ExitCode::from(status)
+    ExitCode::from(run(&rt))
 }

@@ -1,10 +1,11 @@
 -- Each call of a site over a store is an event of the law.
-use Rattle.std.proofs.Common.{◌≡◌, ◌<◌, ◌-◌, ◌^◌, ◌⊎◌, inl, inr, ℕ, Bool, true, false, List, [], ◌∷◌, ◌++◌, length, refl, sym, ap, ◌∙◌, subst, arith, cond}
+use Rattle.std.proofs.Common.{◌≡◌, ◌<◌, ◌-◌, ◌^◌, ◌⊎◌, inl, inr, ℕ, Bool, true, false, List, [], ◌∷◌, ◌++◌, filter, not, refl, sym, ap, ◌∙◌, subst, arith, cond}
 use Rattle.std.proofs.lemmas.Grind.{common_steps}
 use Rattle.std.specs.Prelude.{Some, None, is_some, Option, nat_lt}
 use Rattle.std.specs.FinMap.{get-retain_keys, nat_cmp-IsAntisymmetric}
 use Rattle.std.specs.FinMap as finite
 use Rattle.std.specs.Ordering.{nat_cmp}
+use Rattle.std.specs.Str.{bytes_eq}
 use Rattle.base64.specs.GeneralPurpose.{IsBytes}
 use Rattle.cose.specs.Schemes.{Validity}
 use Rattle.authdata.specs.Flags.{is_set, BE}
@@ -12,22 +13,22 @@ use Rattle.authdata.specs.Responses.{AuthenticatorAssertionResponse, Authenticat
 use Rattle.verification.specs.Records.{Credential}
 use Rattle.verification.specs.SignIn.{JudgedSignIn, PassesSignIn}
 use Rattle.verification.specs.Registration.{JudgedRegistration, PassesRegistration}
-use Rattle.credential_table.specs.Table.{retired, row_of, signed_in, with_row}
+use Rattle.site_state.specs.Table.{retired, row_of, signed_in, with_row}
 use Rattle.credential_store.specs.Held.{ArePlaced, rows_of}
 use Rattle.credential_store.proofs.Listed.{added_rows, changed_rows, found_row}
-use Rattle.ceremony_sessions.specs.Sessions.{Expected, Opening, OpenSessions, closed, registration_at, sign_in_at}
-use Rattle.timed_sessions.specs.Timed.{IsTrimmed, Timed, after_begin, after_end, is_since, since}
+use Rattle.site_state.specs.Sessions.{Expected, Opening, OpenSessions, closed, registration_at, sign_in_at}
+use Rattle.site_state.specs.Timed.{IsTrimmed, Timed, after_begin, after_end, is_since, since}
 use Rattle.site.specs.State as site
 use Rattle.kept_site.specs.Calls as calls
 use Rattle.kept_site.specs.declared.finish.SignedIn.{SignedIn}
 use Rattle.kept_site.specs.declared.registration.Registered.{Registered}
 use Rattle.authenticator.specs.Steps.{Keys}
-use Rattle.agreement.specs.World.{EndsSessions, SiteActs, SiteEvent, World, words_of}
+use Rattle.agreement.specs.World.{EndsSessions, SiteActs, SiteEvent, World, with_room, words_of}
 use Rattle.agreement.specs.World as world
-use Rattle.stored_runs.specs.History.{Abandons, Begins, Call, Does, Expires, IsKept, Kept, Registers, Retires, SignsIn, act_of, site_of}
+use Rattle.stored_runs.specs.History.{Abandons, Begins, Call, Deletes, Does, Expires, IsKept, Kept, Registers, Retires, SignsIn, act_of, site_of}
 use Rattle.stored_runs.specs.Stored.{LeadsTo}
 use Rattle.stored_runs.proofs.Pieces.{happens, joined, same, stays}
-use Rattle.stored_runs.proofs.Rows.{roomy, size_of, tells_ids}
+use Rattle.stored_runs.proofs.Rows.{removed_rows, tells_ids}
 use Rattle.kept_site.specs.Calls.{IsOneSite}
 
 roomy_or_not : (a b : ℕ) → (a < b) ⊎ (a < b → ⊥)
@@ -74,9 +75,7 @@ module _ {S : Type 0} (valid : Validity) (old new : Kept S) (kept : IsKept old) 
       let ids = λ (id : List ℕ). is_some (row_of id (rows_of old.placed)) in
       let passes = h.passes ids (tells_ids old.placed are) in
       let full = passes.1.1.1.1.1.1.1.1.1.1.1.1.1.1.1.1.1.0 in
-      let size : length (rows_of old.placed) ≡ old.state.count = size_of old.placed ∙ kept.held.count in
-      let law = roomy old.state.count old.state.most old.state.last (length (rows_of old.placed)) full size kept.most in
-      let judged : site.judged_registration (site_of old) n r ≡ calls.judged_registration old.state n ids r =
+      let judged : with_room (site.judged_registration (site_of old) n r) ≡ calls.judged_registration old.state n ids r =
       ap (λ (b : Bool). record {
         rp = old.state.rp;
         policy = old.state.policy;
@@ -84,7 +83,7 @@ module _ {S : Type 0} (valid : Validity) (old new : Kept S) (kept : IsKept old) 
         response = r;
         is_registered = ids;
         is_full = b;
-      }) (law ∙ sym full) in
+      }) (sym full) in
       let c = calls.registered h.expected h.data_read h.credential in
       let rows : rows_of new.placed ≡ rows_of old.placed ++ c ∷ [] = ap rows_of h.after_is ∙ added_rows old.placed old.state.last c kept.held.last in (
         subst (λ (j : JudgedRegistration). PassesRegistration valid j) (sym judged) passes,
@@ -175,6 +174,14 @@ module _ {S : Type 0} (valid : Validity) (old new : Kept S) (kept : IsKept old) 
         happens valid public w i (site_of old) (world.Retires id) (site_of new) is
         (made (with_row id retired (rows_of old.placed)) old.state.timed.open_sessions rows (sessions_of old.state.timed h.1))
     leads (Retires id false) h =
+        stays valid public w i (site_of new)
+        (is ∙ sym (made (rows_of old.placed) old.state.timed.open_sessions (ap rows_of h.0.0) (sessions_of old.state.timed h.1)))
+    leads (Deletes id true) h =
+        let rows : rows_of new.placed ≡ filter (λ row. not (bytes_eq id row.id)) (rows_of old.placed) =
+        ap rows_of h.0.3 ∙ removed_rows old.placed id h.0.0 h.0.1 are h.0.2 in
+        happens valid public w i (site_of old) (world.Deletes id) (site_of new) is
+        (made (filter (λ row. not (bytes_eq id row.id)) (rows_of old.placed)) old.state.timed.open_sessions rows (sessions_of old.state.timed h.1))
+    leads (Deletes id false) h =
         stays valid public w i (site_of new)
         (is ∙ sym (made (rows_of old.placed) old.state.timed.open_sessions (ap rows_of h.0.0) (sessions_of old.state.timed h.1)))
     leads (SignsIn n r) h = happens valid public w i (site_of old) (world.SignsIn n r) (site_of new) is (signs_in n r h.0.0 h.0.1 h.1)

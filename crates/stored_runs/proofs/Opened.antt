@@ -9,8 +9,8 @@ use Rattle.sqlite_trees.specs.Tree.{Trees}
 use Rattle.cose.specs.Schemes.{Validity}
 use Rattle.credential_store.specs.Held.{rows_of}
 use Rattle.std.specs.Ordering.{nat_cmp}
-use Rattle.ceremony_sessions.specs.Sessions.{Expected, HaveNumbers, Opening, OpensSignIn}
-use Rattle.timed_sessions.specs.Timed.{Timed, skipped}
+use Rattle.site_state.specs.Sessions.{Expected, HaveNumbers, Opening, OpensSignIn}
+use Rattle.site_state.specs.Timed.{Timed, skipped}
 use Rattle.site.specs.State as site
 use Rattle.site.specs.Laws.{after_begin}
 use Rattle.kept_site.specs.Laws.{IsOne, KeptLaws}

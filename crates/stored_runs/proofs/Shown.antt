@@ -1,4 +1,4 @@
--- A history with two crashes.
+-- A history with two crashes, and a credential that is retired and then deleted.
 use Rattle.std.proofs.Common.{◌≡◌, ◌≤◌, ◌<◌, ◌^◌, inl, ℕ, zero, suc, List, [], ◌∷◌, map, Bool, true, false, refl, sym, ap, ◌∙◌, subst, arith, replicate}
 use Rattle.std.proofs.lemmas.Grind.{common_steps}
 use Rattle.std.specs.Prelude.{None, Some}
@@ -12,13 +12,13 @@ use Rattle.cose.specs.Schemes.{Validity}
 use Rattle.cose.specs.declared.key.CoseKey.TheVariants as keys
 use Rattle.authdata.specs.declared.profile.Profile.TheVariants.{Level3}
 use Rattle.verification.specs.Records.{Credential}
-use Rattle.credential_table.specs.Table.{retired}
+use Rattle.site_state.specs.Table.{retired}
 use Rattle.credential_store.specs.Held.{ArePlaced, Indexes, Placed, entry}
 use Rattle.credential_store.specs.Rows.{IsStored, credential_row}
-use Rattle.ceremony_sessions.specs.Sessions.{Expected, HaveNumbers, Opening, OpensSignIn}
-use Rattle.timed_sessions.specs.Timed.{Timed, after_begin}
+use Rattle.site_state.specs.Sessions.{Expected, HaveNumbers, Opening, OpensSignIn}
+use Rattle.site_state.specs.Timed.{Timed, after_begin}
 use Rattle.kept_site.specs.State.{HoldsSite, KeptState, site_row}
-use Rattle.stored_runs.specs.History.{Calls, Commits, IsHistory, IsKept, Kept, Opens, Retires}
+use Rattle.stored_runs.specs.History.{Calls, Commits, Deletes, IsHistory, IsKept, Kept, Opens, Retires, Store}
 use Rattle.stored_runs.specs.Shown.{Shown}
 
 abbrev key : Credential
@@ -113,7 +113,6 @@ is_kept c timed reserved durable is_pending is numbers given below = record {
   numbers = numbers;
   given = given;
   reserved = below;
-  most = omega arith;
 }
 
 no_numbers : (next : ℕ) → HaveNumbers next (none_open next).open_sessions.expected
@@ -149,16 +148,98 @@ again = same_map nat_cmp_total nat_cmp-IsAntisymmetric _ _ (λ q. grind (arith, 
 room : finite.len (after_begin (none_open 1) opening 0).open_sessions.expected < 10
 room = grind (arith, gets, common_steps)
 
-last_open : (valid : Validity) → IsHistory valid (record { now = committed; committed = committed }) (Opens false ∷ []) (record { now = reopened; committed = reopened })
+-- ---- none is left
+
+abbrev none_placed : Placed
+none_placed = finite.empty
+
+none_at : (place : ℕ) (c : Credential) → finite.get none_placed place ≡ Some c → ⊥
+none_at place c is = let no : None ≡ Some c = sym (get-empty {X = Credential} nat_cmp place) ∙ is in absurd cc
+
+none_now : none_placed ≡ finite.remove (placed_of (retired key)) 1
+none_now = same_map nat_cmp_total nat_cmp-IsAntisymmetric _ _ (λ q. grind (arith, gets, common_steps))
+
+abbrev no_trees : ℕ → Trees
+no_trees next zero = []
+no_trees next (suc zero) = []
+no_trees next (suc (suc zero)) = site_row (3 ∷ []) next ∷ []
+no_trees next (suc (suc (suc n))) = []
+
+none_indexed : (column : Credential → List ℕ) → Indexes column none_placed []
+none_indexed column = record { each = λ place c is. absurd (none_at place c is); only = tt }
+
+none_holds : (next : ℕ) → HoldsSite none_placed (3 ∷ []) next (no_trees next)
+none_holds next = record {
+  credentials = record {
+    table = sym (ap (λ es. rows es) none_entered);
+    by_id = none_indexed (λ x. x.id);
+    by_user = none_indexed (λ x. x.user);
+    are = record { own = λ p q c d f g same. absurd (none_at p c f); stored = λ place c f. absurd (none_at place c f) };
+  };
+  site = refl;
+} where
+  rows : List (ℕ × Credential) → List Row
+  rows es = map (λ e. credential_row e.0 e.1) es
+
+abbrev none_of : Timed → ℕ → ℕ → Bool → Kept (Unit {0})
+none_of timed reserved durable is_pending = record {
+  state = record (state_of timed reserved durable is_pending) { count = 0 };
+  placed = none_placed;
+  trees = no_trees reserved;
+}
+
+none_kept : (next reserved durable : ℕ) (is_pending : Bool) → next ≤ reserved → reserved < 2 ^ 63
+    → IsKept (none_of (none_open next) reserved durable is_pending)
+none_kept next reserved durable is_pending given below = record {
+  held = record {
+    holds = none_holds reserved;
+    count = grind (arith, gets, common_steps);
+    last = λ place c is. absurd (none_at place c is);
+  };
+  numbers = no_numbers next;
+  given = given;
+  reserved = below;
+}
+
+abbrev deleted : Kept (Unit {0})
+deleted = none_of (none_open 2001) 2001 2001 true
+
+abbrev gone : Kept (Unit {0})
+gone = none_of (none_open 2001) 3001 3001 false
+
+-- ---- the steps, from the last
+
+abbrev end : Store (Unit {0})
+end = record { now = gone; committed = gone }
+
+deletes : (valid : Validity) → IsHistory valid (record { now = reopened; committed = reopened }) (Calls (Deletes (1 ∷ []) true) ∷ Commits ∷ []) end
+deletes valid = (
+  record { now = deleted; committed = reopened },
+  (
+    record { rp = refl; policy = refl; most = refl; durable = refl },
+    ((1, retired key, record { there = there (retired key); has_id = refl }, none_now), refl),
+    refl,
+  ),
+  none_kept 2001 2001 2001 true (omega arith) (omega arith),
+  (
+    end,
+    ((refl, record { quiet = λ idle. absurd cc; moved = λ busy. refl }), refl),
+    none_kept 2001 3001 3001 false (omega arith) (omega arith),
+    refl,
+  ),
+)
+
+last_open : (valid : Validity)
+    → IsHistory valid (record { now = committed; committed = committed }) (Opens false ∷ Calls (Deletes (1 ∷ []) true) ∷ Commits ∷ []) end
 last_open valid = (
   record { now = reopened; committed = reopened },
   (record { trees = refl; rp = refl; policy = refl; sessions = refl; next = refl }, refl),
   is_kept (retired key) (none_open 2001) 2001 2001 false stored_retired (no_numbers 2001) (omega arith) (omega arith),
-  refl,
+  deletes valid,
 )
 
 commits : (valid : Validity)
-    → IsHistory valid (record { now = written; committed = opened }) (Commits ∷ Opens false ∷ []) (record { now = reopened; committed = reopened })
+    → IsHistory valid (record { now = written; committed = opened }) (Commits ∷ Opens false ∷ Calls (Deletes (1 ∷ []) true) ∷ Commits ∷ []) end
 commits valid = (
   record { now = committed; committed = committed },
   ((refl, record { quiet = λ idle. absurd cc; moved = λ busy. refl }), refl),
@@ -167,8 +248,8 @@ commits valid = (
 )
 
 retires : (valid : Validity)
-    → IsHistory valid (record { now = opened; committed = opened }) (Calls (Retires (1 ∷ []) true) ∷ Commits ∷ Opens false ∷ [])
-    (record { now = reopened; committed = reopened })
+    → IsHistory valid (record { now = opened; committed = opened })
+    (Calls (Retires (1 ∷ []) true) ∷ Commits ∷ Opens false ∷ Calls (Deletes (1 ∷ []) true) ∷ Commits ∷ []) end
 retires valid = (
   record { now = written; committed = opened },
   (
@@ -181,8 +262,8 @@ retires valid = (
 )
 
 after_crash : (valid : Validity)
-    → IsHistory valid (record { now = begun; committed = start }) (Opens false ∷ Calls (Retires (1 ∷ []) true) ∷ Commits ∷ Opens false ∷ [])
-    (record { now = reopened; committed = reopened })
+    → IsHistory valid (record { now = begun; committed = start })
+    (Opens false ∷ Calls (Retires (1 ∷ []) true) ∷ Commits ∷ Opens false ∷ Calls (Deletes (1 ∷ []) true) ∷ Commits ∷ []) end
 after_crash valid = (
   record { now = opened; committed = opened },
   (record { trees = refl; rp = refl; policy = refl; sessions = refl; next = refl }, refl),
@@ -195,7 +276,7 @@ shown valid = record {
   start = start;
   opening = opening;
   id = 1 ∷ [];
-  end = record { now = reopened; committed = reopened };
+  end = end;
   kept = is_kept key (none_open 1) 1001 1001 false stored (no_numbers 1) (omega arith) (omega arith);
   history = (
     record { now = begun; committed = start },

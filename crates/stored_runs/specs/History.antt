@@ -7,12 +7,12 @@ use Rattle.base64.specs.GeneralPurpose.{IsBytes}
 use Rattle.cose.specs.Schemes.{Validity}
 use Rattle.authdata.specs.Responses.{AuthenticatorAssertionResponse, AuthenticatorAttestationResponse}
 use Rattle.credential_store.specs.Held.{Placed, rows_of}
-use Rattle.ceremony_sessions.specs.Sessions.{HaveNumbers, Opening}
-use Rattle.timed_sessions.specs.Timed.{IsTrimmed, after_begin, after_end, since}
+use Rattle.site_state.specs.Sessions.{HaveNumbers, Opening}
+use Rattle.site_state.specs.Timed.{IsTrimmed, after_begin, after_end, since}
 use Rattle.site.specs.State as site
 use Rattle.kept_site.specs.State.{IsHeld, KeptState}
 use Rattle.kept_site.specs.Calls as calls
-use Rattle.kept_site.specs.Calls.{IsOneSite, TellsRetired}
+use Rattle.kept_site.specs.Calls.{IsOneSite, TellsDeleted, TellsRetired}
 use Rattle.kept_site.specs.declared.finish.SignedIn.{SignedIn}
 use Rattle.kept_site.specs.declared.registration.Registered.{Registered}
 use Rattle.agreement.specs.World.{words_of}
@@ -25,13 +25,12 @@ pub record Kept (S : Type 0) : Type 0 where
   pub trees : Trees
 
 -- it is one: its trees hold it; each open session has a number that was given, and each of these is below those that are reserved
--- in the trees; and no more credentials are taken than a site of the law has room for
+-- in the trees
 pub record IsKept {S : Type 0} (k : Kept S) : Type 0 where
   pub held : IsHeld k.placed k.state k.trees
   pub numbers : HaveNumbers k.state.timed.open_sessions.next k.state.timed.open_sessions.expected
   pub given : k.state.timed.open_sessions.next ≤ k.state.reserved
   pub reserved : k.state.reserved < 2 ^ 63
-  pub most : k.state.most ≤ 65536
 
 -- the same, as the law over all runs knows a site
 abbrev pub site_of : {S : Type 0} → Kept S → site.SiteState
@@ -49,6 +48,7 @@ pub data Call : Type 0 where
   Abandons : (session : ℕ) → Call
   Expires : (moment : ℕ) → Call
   Retires : (id : List ℕ) (was : Bool) → Call
+  Deletes : (id : List ℕ) (was : Bool) → Call
   SignsIn : (session : ℕ) (r : AuthenticatorAssertionResponse) → Call
   Registers : (session : ℕ) (r : AuthenticatorAttestationResponse) → Call
 
@@ -62,6 +62,7 @@ Does valid old (Begins o now) new = IsBytes (words_of o) × Stays old new × IsT
 Does valid old (Abandons n) new = Stays old new × (new.state.timed ≡ after_end old.state.timed n)
 Does valid old (Expires moment) new = Stays old new × (new.state.timed ≡ since moment old.state.timed)
 Does valid old (Retires id was) new = TellsRetired old.placed id was new.placed × (new.state.timed ≡ old.state.timed)
+Does valid old (Deletes id was) new = TellsDeleted old.placed id was new.placed × (new.state.timed ≡ old.state.timed)
 Does valid old (SignsIn n r) new =
     ((x : SignedIn) × calls.SignsIn valid old.placed old.state n r x new.placed) × (new.state.timed ≡ after_end old.state.timed n)
 Does valid old (Registers n r) new =
@@ -112,6 +113,7 @@ IsHistory {S} valid old (step ∷ steps) new = (next : Store S) × Takes valid o
 -- what a call does to credentials
 abbrev pub act_of : Call → List world.SiteEvent
 act_of (Retires id true) = world.Retires id ∷ []
+act_of (Deletes id true) = world.Deletes id ∷ []
 act_of (SignsIn n r) = world.SignsIn n r ∷ []
 act_of (Registers n r) = world.Registers n r ∷ []
 act_of c = []

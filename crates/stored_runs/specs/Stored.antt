@@ -3,17 +3,18 @@ use Rattle.std.specs.Prelude.{◌≡◌, ◌≢◌, ◌==◌, ℕ, List, [], ◌
 use Rattle.cose.specs.Schemes.{Validity}
 use Rattle.site.specs.State as site
 use Rattle.authenticator.specs.Steps.{Keys}
-use Rattle.agreement.specs.World.{AtSite, Done, Event, EventEnd, IsRun, IsStart, Moment, Registers, Retires, SignsIn, SiteEvent, World}
+use Rattle.agreement.specs.World.{AtSite, Deletes, Done, Event, EventEnd, IsRun, IsStart, Moment, Registers, Retires, SignsIn, SiteEvent, World}
 use Rattle.agreement.specs.Agreement.{Agreement}
 use Rattle.agreement.specs.Ledger.{world_after}
 use Rattle.stored_runs.specs.History.{IsHistory, IsKept, Kept, Step, Store, kept_acts, site_of}
 
--- ---- the sign-ins by a response, registrations by a response and retirements of a site in a run
+-- ---- the sign-ins by a response, registrations by a response, retirements and deletions of a site in a run
 
 abbrev pub acts_in_event : SiteEvent → List SiteEvent
 acts_in_event (SignsIn n r) = SignsIn n r ∷ []
 acts_in_event (Registers n r) = Registers n r ∷ []
 acts_in_event (Retires id) = Retires id ∷ []
+acts_in_event (Deletes id) = Deletes id ∷ []
 acts_in_event e = []
 
 abbrev pub acts_at : ℕ → Event → EventEnd → List SiteEvent

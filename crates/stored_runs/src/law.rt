@@ -8,9 +8,9 @@ use cose::Verifier;
 use sqlite_trees::store::Store;
 
 /// What a site over a store keeps is what a run leaves at a site: whatever calls are made of it, whenever they are committed, and
-/// wherever it crashes and is opened again. The sign-ins, registrations and retirements that are kept are those of the run, in
-/// their order. So what holds of all runs holds of them. There are such histories: one has two crashes. It is so for each verifier
-/// and each store.
+/// wherever it crashes and is opened again. The sign-ins, registrations, retirements and deletions that are kept are those of the
+/// run, in their order. So what holds of all runs holds of them. There are such histories: one has two crashes. It is so for each
+/// verifier and each store.
 pub fn stored_runs<V: Verifier, S: Store>()
     ensures runs { (verifier : V) (public : Keys) → StoredRuns S (V.valid verifier) public }
     ensures shown { (verifier : V) → Shown (V.valid verifier) }

@@ -6,7 +6,7 @@ use site::{AssertionParts, RegistrationParts, Site};
 use std::alloc::{AllocError, Global};
 use std::io;
 use uses_lines::{tell, tell_bytes, told, unexpected};
-use verified_signature::{HostVerifier, SignatureView, VerifiedSignature};
+use verification::{HostVerifier, SignatureView, VerifiedSignature};
 
 /// The account's user handle.
 const USER: &[u8] = b"account 7";

@@ -9,3 +9,6 @@ pub mod Views
 pub mod Numbers
 pub mod Differences
 pub mod Attested
+pub mod Coordinates
+pub mod Signed
+pub mod AttestedKey

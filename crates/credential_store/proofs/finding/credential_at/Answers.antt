@@ -1,6 +1,6 @@
 -- What is owed of `credential_at`.
 use Rattle.std.proofs.Common.{◌≡◌, false, inr, refl, rules, true}
-use Rattle.credential_table.specs.Views.{row_view}
+use Rattle.site_state.specs.RowViews.{row_view}
 use Rattle.credential_store.proofs.Standing.{credential_there, not_there, row_there}
 use Rattle.credential_store.proofs.finding.credential_at.Goals as goal
 

@@ -1,7 +1,7 @@
 -- What is owed of `find`.
 use Rattle.std.proofs.Common.{◌≡◌, None, ap, ◌∙◌}
 use Rattle.credential_store.proofs.Seeks.{some_of}
-use Rattle.credential_table.specs.Views.{row_view}
+use Rattle.site_state.specs.RowViews.{row_view}
 use Rattle.credential_store.proofs.Standing.{at_entry, entries_of, indexed_there, none_at}
 use Rattle.credential_store.proofs.Causes.{passed_up, read_cause_since}
 use Rattle.credential_store.proofs.finding.find.Goals as goal

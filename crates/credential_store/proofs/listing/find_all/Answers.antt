@@ -3,7 +3,7 @@ use Rattle.std.proofs.Common.{◌≡◌, ◌^◌, ◌-◌, [], ◌∷◌, None, 
 use Rattle.sqlite_value.specs.Keys.{plain}
 use Rattle.sqlite_value.specs.declared.value.Value.TheVariants.{Blob}
 use Rattle.sqlite_trees.specs.Tree.{from_key}
-use Rattle.credential_table.specs.Views.{rows_view}
+use Rattle.site_state.specs.RowViews.{rows_view}
 use Rattle.credential_store.specs.Private.{AreEntries}
 use Rattle.credential_store.proofs.Causes.{passed_up, read_cause_since}
 use Rattle.credential_store.proofs.Seeks.{some_of}

@@ -4,7 +4,7 @@ use Rattle.sqlite_value.specs.Keys.{plain}
 use Rattle.sqlite_value.specs.Order.{Row as Columns}
 use Rattle.sqlite_trees.specs.Tree.{IsIndex, Trees}
 use Rattle.sqlite_trees.specs.View.{IsClean, KeepsSchema}
-use Rattle.credential_table.specs.Views.{rows_view}
+use Rattle.site_state.specs.RowViews.{rows_view}
 use Rattle.credential_store.specs.Held.{IsSameView}
 use Rattle.credential_store.specs.Private.{AreEntries}
 use Rattle.credential_store.proofs.Users.{IsReadTo}

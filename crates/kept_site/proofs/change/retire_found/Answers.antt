@@ -1,8 +1,8 @@
 -- What is owed of `retire_found`.
 use Rattle.std.proofs.Common.{◌∙◌, ap, subst}
 use Rattle.std.specs.FinMap as finite
-use Rattle.credential_table.specs.Table.{retired}
-use Rattle.credential_table.specs.Views.{row_view}
+use Rattle.site_state.specs.Table.{retired}
+use Rattle.site_state.specs.RowViews.{row_view}
 use Rattle.credential_store.specs.Held.{IsWritten}
 use Rattle.credential_store.proofs.Causes.{passed_up}
 use Rattle.sqlite_trees.specs.View.{IsStorableRow}

@@ -4,7 +4,7 @@ use Rattle.std.specs.FinMap as finite
 use Rattle.std.specs.Option.{option_copied}
 use Rattle.verification.specs.SignIn.{PassesSignIn}
 use Rattle.verification.specs.Views.{assertion_parts_view}
-use Rattle.credential_table.specs.Views.{row_view}
+use Rattle.site_state.specs.RowViews.{row_view}
 use Rattle.credential_store.specs.Held.{IsWritten}
 use Rattle.credential_store.specs.Details.{IsDetailed, detail_row, used}
 use Rattle.kept_site.proofs.Signing.{same_attempt, same_counted}

@@ -1,11 +1,11 @@
 -- What is owed of `read_all`.
-use Rattle.std.proofs.Common.{◌≡◌, ◌^◌, ◌-◌, None, arith, inr, length, refl, rules, subst, sym}
+use Rattle.std.proofs.Common.{◌≡◌, None, rules, subst, sym}
 use Rattle.credential_store.proofs.Causes.{passed_up}
 use Rattle.credential_store.proofs.Seeks.{some_of}
-use Rattle.credential_table.specs.Views.{rows_view}
+use Rattle.site_state.specs.RowViews.{rows_view}
 use Rattle.kept_site.specs.Private.{AreCredentials}
 use Rattle.kept_site.proofs.Reading.{row_cause}
-use Rattle.kept_site.proofs.ReadTo.{IsReadTo, read_few, read_one, read_whole}
+use Rattle.kept_site.proofs.ReadTo.{IsReadTo, read_one, read_whole}
 use Rattle.kept_site.proofs.listing.read_all.Goals as goal
 
 pub returns-in_default-clause-rows : goal.returns-in_default-clause-rows
@@ -41,13 +41,3 @@ returns-in_err-credential-clause-cause g c = λ clean.
     passed_up c.from_residual-in_err-credential.result c.in_err-credential.field-0.0 _ c.from_residual-in_err-credential.ensures.1
     (row_cause old (g.S.Store.view c.loop-read.store) _ _ _ _ _ inv.0 (c.loop-read.invariant.1.view before) c.loop-read.invariant.4 inv.1 inv.3
     (c.in_err-credential.ensures.cause clean))
-
-pub returns-clause-cause : goal.returns-clause-cause
-returns-clause-cause g c = λ clean. inr (
-  refl,
-  λ placed h.
-      let inv = c.loop-read.invariant.3 clean in
-      let few = read_few ((g.S.Store.view c.args.store.now).trees 0) inv.0 c.loop-read.rows.items placed inv.2 h.table in
-      let all : length c.loop-read.rows.items ≡ 2 ^ 32 - 1 = search rules in
-      omega (arith, few, all),
-)

@@ -3,7 +3,7 @@ use Rattle.std.proofs.Common.{◌≡◌, ◌≤◌, IsSome, List, Some, length}
 use Rattle.sqlite_value.specs.Order.{Row as Columns}
 use Rattle.sqlite_trees.specs.Tree.{Trees}
 use Rattle.sqlite_trees.specs.View.{IsClean}
-use Rattle.credential_table.specs.Views.{rows_view}
+use Rattle.site_state.specs.RowViews.{rows_view}
 use Rattle.credential_store.specs.Held.{IsSameView}
 use Rattle.kept_site.specs.Private.{AreCredentials}
 use Rattle.kept_site.proofs.ReadTo.{IsReadTo}

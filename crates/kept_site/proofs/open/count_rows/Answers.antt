@@ -24,4 +24,5 @@ loop-count-preserved g c = (
             (subst (AllByRecursion (IsUpTo most)) (sym step.1)
             ((λ p d is. let here = step.3 p d is in let there = right_of_max c.loop-count.last c.in-Some.place most low in omega (arith, here, there)), all)),
       ),
+  search rules,
 )

@@ -16,3 +16,4 @@ invariant-loop-count g l =
     × (IsClean (g.S.Store.view l.store) → (left : List Columns) × ((g.S.Store.view l.store).cursors 0 ≡ Some left)
     × (length ((g.S.Store.view l.fn.store).trees 0) ≡ l.count + length left)
     × ((most : ℕ) → l.last ≤ most → AllByRecursion (IsUpTo most) left → AllByRecursion (IsUpTo most) ((g.S.Store.view l.fn.store).trees 0)))
+    × (g.S.Store.faults l.fn.store ≤ g.S.Store.faults l.store)

@@ -6,7 +6,7 @@ use Rattle.authdata.specs.Objects.{object_view}
 use Rattle.authdata.specs.Statements.{IsSelfSignedBy}
 use Rattle.verification.specs.Registration.{counted}
 use Rattle.passkey_c.specs.Asked.{IsNotSelfSigned, response_of}
-use Rattle.verified_signature.specs.Attested.{AttestsKey, AttestsNoKey}
+use Rattle.verification.specs.AttestedKey.{AttestsKey, AttestsNoKey}
 use Rattle.passkey_c.proofs.Told.{asks_nothing, broken, is_unread, self_asks, tells}
 use Rattle.passkey_c.proofs.asked.tell_object.Goals as goal
 

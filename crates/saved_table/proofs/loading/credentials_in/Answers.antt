@@ -6,9 +6,9 @@ use Rattle.refusal_order.proofs.Laws.{each_joined}
 use Rattle.ccbor.specs.Item.{item}
 use Rattle.ccbor.specs.Viewing.{shown, shown_items}
 use Rattle.ccbor.proofs.AccessLemmas.{first_is, none_is}
-use Rattle.credential_table.specs.Table.{IsRow, row_of}
-use Rattle.credential_table.specs.Views.{row_view}
-use Rattle.credential_table.proofs.RowLemmas.{one_more}
+use Rattle.site_state.specs.Table.{IsRow, row_of}
+use Rattle.site_state.specs.RowViews.{row_view}
+use Rattle.site_state.proofs.RowLemmas.{one_more}
 use Rattle.saved_table.specs.Saved.{FitsVersion, credential_item, has_version_4, version_of}
 use Rattle.saved_table.specs.declared.error.Error.TheVariants as errors
 use Rattle.saved_table.proofs.Credentials.{one_credential}

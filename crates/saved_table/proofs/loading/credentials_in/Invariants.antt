@@ -2,7 +2,7 @@
 use Rattle.std.proofs.Common.{◌≡◌}
 use Rattle.refusal_order.specs.Lines.{Each}
 use Rattle.ccbor.specs.Viewing.{shown_items}
-use Rattle.credential_table.specs.Table.{IsTable}
+use Rattle.site_state.specs.Table.{IsTable}
 use Rattle.saved_table.specs.Saved.{FitsVersion}
 use Rattle.saved_table.proofs.Tables.{in_front}
 use Rattle.saved_table.proofs.loading.credentials_in.Given as goal

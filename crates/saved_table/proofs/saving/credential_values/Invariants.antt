@@ -4,8 +4,8 @@ use Rattle.refusal_order.specs.Lines.{Each}
 use Rattle.ccbor.specs.View.{view}
 use Rattle.verification.specs.Views.{credential_view}
 use Rattle.authdata.specs.declared.profile.Profile.TheVariants.{Open}
-use Rattle.credential_table.specs.Table.{IsTable}
-use Rattle.credential_table.specs.Views.{stored_row_view}
+use Rattle.site_state.specs.Table.{IsTable}
+use Rattle.site_state.specs.RowViews.{stored_row_view}
 use Rattle.saved_table.specs.Saved.{FitsVersion, credential_item}
 use Rattle.saved_table.proofs.saving.credential_values.Given as goal
 

@@ -2,7 +2,7 @@
 use Rattle.std.proofs.Common.{◌≡◌, ◌∙◌, ◌++◌, ◌∷◌, [], false, true, map, refl, sym, ap, append-nil}
 use Rattle.std.proofs.lemmas.List.{map-append}
 use Rattle.verification.specs.Views.{credential_view}
-use Rattle.credential_table.proofs.Entries.{entry_view, gone_over}
+use Rattle.site_state.proofs.Entries.{entry_view, gone_over}
 use Rattle.saved_table.specs.Saved.{has_version_4, needs_version_4}
 use Rattle.saved_table.proofs.Versions.{needed_there, none_behind}
 use Rattle.saved_table.proofs.saving.version_of.Goals as goal

@@ -1,7 +1,7 @@
 -- What the loop of `version_of` keeps.
 use Rattle.std.proofs.Common.{◌≡◌, ◌++◌, map, false}
 use Rattle.verification.specs.Views.{credential_view}
-use Rattle.credential_table.specs.Views.{stored_row_view}
+use Rattle.site_state.specs.RowViews.{stored_row_view}
 use Rattle.saved_table.specs.Saved.{has_version_4}
 use Rattle.saved_table.proofs.saving.version_of.Given as goal
 

@@ -1,6 +1,6 @@
 -- What is owed of `started_sign_in`.
 use Rattle.std.proofs.Common.{map, option_map, rules}
-use Rattle.ceremony_sessions.specs.Sessions.{OpensSignIn}
+use Rattle.site_state.specs.Sessions.{OpensSignIn}
 use Rattle.site_lines.specs.Answers.{opens_sign_in}
 use Rattle.site_lines.proofs.Kept.{begins_none, same_sign_in, session_begins}
 use Rattle.site_lines.proofs.beginning.started_sign_in.Goals as goal

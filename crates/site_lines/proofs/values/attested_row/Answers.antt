@@ -5,7 +5,7 @@ use Rattle.serde_json.specs.View.{view}
 use Rattle.authdata.specs.Layout.{lent_auth_view}
 use Rattle.authdata.specs.Objects.{object_view}
 use Rattle.verification.specs.Registration.{counted}
-use Rattle.credential_table.specs.Views.{row_view}
+use Rattle.site_state.specs.RowViews.{row_view}
 use Rattle.site_lines.specs.Written.{attested_members, row_members}
 use Rattle.site_lines.proofs.Accepted.{row_is}
 use Rattle.site_lines.proofs.Detailed.{if_ok}

@@ -3,7 +3,7 @@ use Rattle.std.proofs.Common.{◌≡◌, ◌++◌, ◌∙◌, Bor, ap, option_ma
 use Rattle.std.specs.List.{slice_get}
 use Rattle.site_lines.specs.Private.{row_at}
 use Rattle.site_lines.specs.Written.{whole_rows}
-use Rattle.site_lines.specs.declared.answer.Known.{Known}
+use Rattle.site_acts.specs.declared.known.Known.{Known}
 use Rattle.site_lines.proofs.Counted.{got, rows_more}
 use Rattle.site_lines.proofs.values.row_list.Goals as goal
 

@@ -23,6 +23,6 @@ returns-in_err-reserve_for-clause-cause g c =
     let next : c.next-2.result + 999 ≡ c.self.inside.sessions.open_sessions.next + 1000 = omega (arith, begun, told) in
     passed_up c.from_residual-in_err-reserve_for.result (begins.Store c.in_err-reserve_for.field-0.0) _ c.from_residual-in_err-reserve_for.ensures.1
     (caused_as old _ _ _ _ _ _ _
-    (λ no. subst (λ (n : ℕ). RefusesNumber old c.self.inside.party.rp_id n) next
-    (subst (λ (id : List ℕ). RefusesNumber old id (c.next-2.result + 999)) c.rp_id.ensures no))
+    (λ no. subst (λ (n : ℕ). RefusesNumber old.reals c.self.inside.party.rp_id n) next
+    (subst (λ (id : List ℕ). RefusesNumber old.reals id (c.next-2.result + 999)) c.rp_id.ensures no))
     (λ no. no) (c.in_err-reserve_for.ensures.cause clean)))

@@ -1,8 +1,6 @@
 -- What is owed of `KeptSite::delete`.
 use Rattle.std.proofs.Common.{ap, refl, ◌∙◌}
 use Rattle.kept_site.proofs.Changing.{tells_deleted, tells_forgotten}
-use Rattle.credential_store.proofs.Causes.{passed_up}
-use Rattle.kept_site.proofs.Causes.{caused_since}
 use Rattle.kept_site.proofs.kept.KeptSite.delete.Goals as goal
 
 pub returns-clause-told : goal.returns-clause-told
@@ -23,10 +21,3 @@ returns-clause-forgotten g c =
     (g.S.Store.view c.self.inside.held.store) (g.S.Store.view c.find.new.self.store) (g.S.Store.view c.delete_found.new.held.store) c.in_ok-found.found _ c.in_ok-was.was'
     details (c.in_ok-found.ensures.found mid placed held.holds.credentials) (λ same. ap (λ h. (g.S.Store.view h.store).trees) same) c.in_ok-was.ensures.told
     (ap (λ v. v.trees) (c.in_ok-found.ensures.same.view mid)) clean held d)
-
-pub returns-in_err-was-clause-cause : goal.returns-in_err-was-clause-cause
-returns-in_err-was-clause-cause g c =
-    rw (← c.self.view_is) (λ clean.
-    passed_up c.from_residual-in_err-was.result c.in_err-was.field-0.0 _ c.from_residual-in_err-was.ensures.1
-    (caused_since (g.S.Store.view c.self.inside.held.store) (g.S.Store.view c.find.new.self.store) _ _ _ _ _ _ _ _ c.in_ok-found.ensures.counts (λ no. no) (λ no. absurd no)
-    (c.in_err-was.ensures.cause clean)))

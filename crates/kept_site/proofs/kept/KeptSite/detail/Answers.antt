@@ -1,9 +1,7 @@
 -- What is owed of `KeptSite::detail`.
 use Rattle.std.proofs.Common.{ap, inl, subst, ◌∙◌}
-use Rattle.credential_table.specs.Views.{row_view}
+use Rattle.site_state.specs.RowViews.{row_view}
 use Rattle.kept_site.specs.Private.{IsFoundAs}
-use Rattle.credential_store.proofs.Causes.{passed_up}
-use Rattle.kept_site.proofs.Causes.{caused_since}
 use Rattle.kept_site.proofs.kept.KeptSite.detail.Goals as goal
 
 pub returns-clause-told : goal.returns-clause-told
@@ -17,10 +15,3 @@ returns-clause-told g c =
       subst (IsFoundAs placed c.args.id.now) c.in-Some.is (c.in_ok-found.ensures.found mid placed held.holds.credentials),
       c.in_ok-detail.ensures.found clean details (ap (λ v. v.trees 5) same ∙ d),
     ))
-
-pub returns-in_err-detail-clause-cause : goal.returns-in_err-detail-clause-cause
-returns-in_err-detail-clause-cause g c =
-    rw (← c.self.view_is) (λ clean.
-    passed_up c.from_residual-in_err-detail.result c.in_err-detail.field-0.0 _ c.from_residual-in_err-detail.ensures.1
-    (caused_since (g.S.Store.view c.self.inside.held.store) (g.S.Store.view c.find.new.self.store) _ _ _ _ _ _ _ _ c.in_ok-found.ensures.counts (λ no. no) (λ no. absurd no)
-    (c.in_err-detail.ensures.cause clean)))

@@ -2,13 +2,12 @@
 use Rattle.std.proofs.Common.{◌≡◌, ap, rules, sym, subst, refl, ◌∙◌}
 use Rattle.std.proofs.lemmas.Result.{err_from_is_err_and}
 use Rattle.verification.specs.Views.{assertion_parts_view}
-use Rattle.ceremony_sessions.specs.Sessions.{sign_in_at}
+use Rattle.site_state.specs.Sessions.{sign_in_at}
 use Rattle.kept_site.proofs.Finishing.{not_finished, refuses, refuses_signed_in, signs_in, tells_used}
 use Rattle.kept_site.specs.Causes.{RefusesSignedIn}
 use Rattle.kept_site.specs.Private.{SignsInAs}
 use Rattle.credential_store.proofs.Causes.{passed_up}
-use Rattle.kept_site.specs.declared.failure.FinishFailure.TheVariants as finishes
-use Rattle.kept_site.proofs.Causes.{caused_as, caused_since, if_finish_store}
+use Rattle.kept_site.proofs.Causes.{caused_since, if_finish_store}
 use Rattle.kept_site.proofs.kept.KeptSite.finish_parts.Goals as goal
 
 pub returns-clause-accepted : goal.returns-clause-accepted
@@ -59,12 +58,6 @@ returns-in_err-signed_in-clause-refused g c =
     (λ e refused clean placed held. refuses (g.V.Verifier.valid c.args.verifier.now) placed c.self.inside.party
     (sign_in_at c.args.session c.self.inside.sessions.open_sessions) (assertion_parts_view c.args.response.now) c.in_ok-found.found e (c.in_ok-found.ensures.found (c.in_err-signed_in.ensures.clean clean) placed held.holds.credentials) refused)
     c.in_err-signed_in.ensures.refused)
-
-pub returns-in_err-found-clause-cause : goal.returns-in_err-found-clause-cause
-returns-in_err-found-clause-cause g c =
-    rw (← c.self.view_is) (λ clean.
-    passed_up c.from_residual.result (finishes.Store c.in_err-found.field-0.0) _ c.from_residual.ensures.1
-    (caused_as (g.S.Store.view c.self.inside.held.store) _ _ _ _ _ _ _ (λ no. absurd no) (λ damage. damage) (c.in_err-found.ensures.cause clean)))
 
 pub returns-in_err-signed_in-clause-cause : goal.returns-in_err-signed_in-clause-cause
 returns-in_err-signed_in-clause-cause g c =

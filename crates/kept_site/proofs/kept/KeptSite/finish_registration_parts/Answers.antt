@@ -1,18 +1,16 @@
 -- What is owed of `KeptSite::finish_registration_parts`.
-use Rattle.std.proofs.Common.{◌+◌, ℕ, arith, inl, inr, refl, sym, ap, subst, ◌∙◌, Bool}
+use Rattle.std.proofs.Common.{◌+◌, inl, refl, sym, ap, subst, ◌∙◌, Bool}
 use Rattle.std.specs.FinMap as finite
 use Rattle.verification.specs.Views.{admitted_view, registration_parts_view}
-use Rattle.ceremony_sessions.specs.Sessions.{registration_at}
+use Rattle.site_state.specs.Sessions.{registration_at}
 use Rattle.credential_store.specs.Held.{HasNone, IsWritten}
 use Rattle.kept_site.specs.Private.{Admits}
 use Rattle.kept_site.proofs.Held.{details_stay, held_beside}
 use Rattle.kept_site.proofs.Registering.{refuses_new, registers, written_last}
 use Rattle.credential_store.proofs.Causes.{passed_up}
-use Rattle.sqlite_trees.specs.View.{IsStorableRow}
 use Rattle.credential_store.specs.Causes.{IsRefused}
-use Rattle.credential_store.specs.Details.{detail_row, detail_view}
 use Rattle.kept_site.specs.declared.failure.FinishFailure.TheVariants as finishes
-use Rattle.kept_site.proofs.Causes.{caused_as, caused_since, if_finish_store}
+use Rattle.kept_site.proofs.Causes.{caused_since}
 use Rattle.kept_site.proofs.kept.KeptSite.finish_registration_parts.Goals as goal
 
 pub returns-clause-accepted : goal.returns-clause-accepted
@@ -52,13 +50,6 @@ returns-clause-detailed g c =
     (c.in_ok-put_detail.ensures.put clean).holds details
     (details_stay (g.S.Store.view c.judge.new.held.store) (g.S.Store.view c.add.new.self.store) _ details w (ap (λ v. v.trees 5) same ∙ d)))
 
-pub returns-in_err-admitted-clause-cause : goal.returns-in_err-admitted-clause-cause
-returns-in_err-admitted-clause-cause g c =
-    rw (← c.self.view_is) (λ clean.
-    passed_up c.from_residual.result c.in_err-admitted.field-0.0 _ c.from_residual.ensures.1
-    (if_finish_store _ _ c.in_err-admitted.field-0.0 (λ why. caused_as (g.S.Store.view c.self.inside.held.store) _ _ _ _ _ _ why (λ no. absurd no) (λ damage. damage))
-    (c.in_err-admitted.ensures.cause clean)))
-
 pub returns-in_err-add-clause-cause : goal.returns-in_err-add-clause-cause
 returns-in_err-add-clause-cause g c =
     rw (← c.self.view_is) (λ clean.
@@ -75,17 +66,3 @@ returns-in_err-add-clause-cause g c =
     c.in_ok-row.ensures.row (ap (λ v. v.reals) (c.in_ok-admitted.ensures.same.0.view before))
     (subst (IsRefused mid.reals (c.self.inside.last + 1)) c.lent.ensures no)))
     (λ no. absurd no) (c.in_err-add.ensures.cause clean)))
-
-pub returns-in_err-put_detail-clause-cause : goal.returns-in_err-put_detail-clause-cause
-returns-in_err-put_detail-clause-cause g c =
-    rw (← c.self.view_is) (λ clean.
-    let old = (g.S.Store.view c.self.inside.held.store) in
-    let added = g.S.Store.view c.add.new.self.store in
-    let before = c.in_ok-add.ensures.clean (c.in_err-put_detail.ensures.clean clean) in
-    let reals = c.in_ok-add.ensures.reals ∙ ap (λ v. v.reals) (c.in_ok-admitted.ensures.same.0.view before) in
-    let up = c.in_ok-admitted.ensures.counts in
-    let more = c.in_ok-add.ensures.counts in
-    passed_up c.from_residual-in_err-put_detail.result (finishes.Store c.in_err-put_detail.field-0.0) _ c.from_residual-in_err-put_detail.ensures.1
-    (caused_since old added (g.S.Store.faults c.self.inside.held.store) (g.S.Store.faults c.add.new.self.store) _ _ _ _ _ _ (omega (arith, up, more))
-    (λ no. inr (subst (λ (k : ℕ → ℕ). ¬ IsStorableRow (k 5) (detail_row (c.self.inside.last + 1) (detail_view c.args.detail.now))) reals no))
-    (λ no. absurd no) (c.in_err-put_detail.ensures.cause clean)))

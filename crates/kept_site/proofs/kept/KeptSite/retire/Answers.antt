@@ -2,7 +2,7 @@
 use Rattle.std.proofs.Common.{ap, refl, ◌∙◌}
 use Rattle.kept_site.proofs.Changing.{refuses_retired, tells_retired}
 use Rattle.credential_store.proofs.Causes.{passed_up}
-use Rattle.kept_site.proofs.Causes.{caused_as, caused_since}
+use Rattle.kept_site.proofs.Causes.{caused_since}
 use Rattle.kept_site.proofs.kept.KeptSite.retire.Goals as goal
 
 pub returns-clause-told : goal.returns-clause-told
@@ -23,9 +23,3 @@ returns-in_err-was-clause-cause g c =
     (caused_since (g.S.Store.view c.self.inside.held.store) (g.S.Store.view c.find.new.self.store) _ _ _ _ _ _ _ _ c.in_ok-found.ensures.counts
     (refuses_retired (g.S.Store.view c.self.inside.held.store) (g.S.Store.view c.find.new.self.store) c.args.id.now c.in_ok-found.found (ap (λ v. v.reals) (c.in_ok-found.ensures.same.view mid))
     (c.in_ok-found.ensures.found mid)) (λ no. absurd no) (c.in_err-was.ensures.cause clean)))
-
-pub returns-in_err-found-clause-cause : goal.returns-in_err-found-clause-cause
-returns-in_err-found-clause-cause g c =
-    rw (← c.self.view_is) (λ clean.
-    passed_up c.from_residual.result c.in_err-found.field-0.0 _ c.from_residual.ensures.1
-    (caused_as (g.S.Store.view c.self.inside.held.store) _ _ _ _ _ _ _ (λ no. absurd no) (λ damage. damage) (c.in_err-found.ensures.cause clean)))

@@ -6,7 +6,7 @@ use Rattle.std.proofs.lemmas.Result.{err_from_is_err_and}
 use Rattle.verification.specs.SignInAnswers.{IsRefused}
 use Rattle.verification.specs.SignIn.{PassesSignIn}
 use Rattle.verification.specs.Views.{assertion_parts_view, credential_view}
-use Rattle.credential_table.proofs.RowLemmas.{found_id}
+use Rattle.site_state.proofs.RowLemmas.{found_id}
 use Rattle.site.proofs.Judged.{same_attempt, same_change, same_state}
 use Rattle.site.proofs.site.Site.finish_parts.Goals as goal
 

@@ -5,7 +5,7 @@ use Rattle.std.proofs.lemmas.Result.{err_from_is_err_and}
 use Rattle.verification.specs.Registration.{IsFirstFailing, PassesRegistration}
 use Rattle.verification.specs.RegistrationAnswers.{IsRefused}
 use Rattle.verification.specs.Views.{registration_view, registration_parts_view}
-use Rattle.credential_table.specs.Table.{row_of}
+use Rattle.site_state.specs.Table.{row_of}
 use Rattle.verification.proofs.Registrations.{all_pass, table_fails}
 use Rattle.site.proofs.Judged.{admitted_as, has_room, is_full, looser_id, no_row, row_limits, said_full, said_row, same_registration, same_row}
 use Rattle.site.proofs.Judged.{same_state, some_seen}

@@ -1,4 +1,0 @@
-pub mod Sessions
-pub mod Views
-pub mod Codes
-pub mod Numbers

@@ -1,3 +1,0 @@
-pub mod RowLemmas
-pub mod Entries
-pub mod Made

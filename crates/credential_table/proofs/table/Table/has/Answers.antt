@@ -1,6 +1,0 @@
--- What is owed of `Table::has`.
-use Rattle.credential_table.proofs.Entries.{has_not}
-use Rattle.credential_table.proofs.table.Table.has.Goals as goal
-
-pub returns : goal.returns
-returns c = rw (← c.self.view_is) (has_not c.args.id.now c.self.inside.rows.entries c.contains_key.result c.contains_key.ensures)

@@ -1,0 +1,9 @@
+//! What a security key over lines answers: packets, decisions and signatures in, packets and what is to be signed out.
+#![tactic(auto)]
+
+pub mod command;
+pub mod key;
+pub mod pin_command;
+pub mod pin_key_lines;
+pub mod serving;
+pub mod telling;

@@ -1,3 +1,0 @@
-pub mod Coordinates
-pub mod Signed
-pub mod Attested
