@@ -110,11 +110,12 @@ fn row(alloc: Global, id: &str, user: &str, found: &str, count: &str) -> Result<
     if !is_decimal(count) {
         return Err(Fault::BadScript);
     }
+    let sign_count = count.parse::<u32>().map_err(|_| Fault::BadScript)?;
     Ok(Row {
         id: bytes(alloc, id)?,
         user: bytes(alloc, user)?,
         key: key(alloc, found)?,
-        sign_count: count.parse::<u32>().map_err(|_| Fault::BadScript)?,
+        sign_count,
         eligible: None,
         retired: false,
     })

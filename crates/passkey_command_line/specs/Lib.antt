@@ -1,2 +1,3 @@
 pub mod HexText
 pub mod CommandLine
+pub mod Private

@@ -8,6 +8,7 @@ ghost use Rattle.passkey_command_line.specs.declared.arguments.Inspection.{Inspe
 ghost use Rattle.passkey_command_line.specs.CommandLine.{check_app, check_options_app, check_type_app, inspect_app, passkey_app, replay_app, HasApp};
 ghost use Rattle.passkey_command_line.specs.CommandLine.{HasAppOf, HasAppOfBoth, IsAsked, IsAskedBy, ceremony_word, inspection_word, required};
 ghost use Rattle.passkey_command_line.specs.CommandLine.{required_option};
+ghost use Rattle.passkey_command_line.specs.Private.{HasRuleOf, chosen};
 
 use crate::script_lines::replay_help;
 use clap::error::ErrorKind;
@@ -65,17 +66,30 @@ const CHECK_HELP: &str =
 
 Example: passkey check --type get --challenge 000102 --origin https://a.example < client-data.json";
 
+/// An argument that is required, and one of these words.
+fn choice<'a>(alloc: Global, name: &'a str, words: &'a [&'a str], help: &'a str) -> Arg<'a>
+    ensures rule { HasRuleOf (chosen name.entry.now) result }
+    ensures local { result.global ≡ false }
+{
+    Arg::new(alloc, name)
+        .required(true)
+        .value_parser(words)
+        .help(help)
+}
+
+/// A subcommand without arguments.
+fn plain<'a>(alloc: Global, name: &'a str, about: &'a str, help: &'a str) -> Parser<'a>
+    ensures { HasApp (new_app name.entry.now) result }
+{
+    Parser::new(alloc, name).about(about).after_help(help)
+}
+
 /// The subcommand that shows bytes.
 fn inspect<'a>(alloc: Global) -> Result<Parser<'a>, AllocError>
     ensures { IfOk result (λ c. HasAppOf inspect_app c) }
 {
-    let kind = Arg::new(alloc, "kind")
-        .required(true)
-        .value_parser(INSPECTIONS.as_slice())
-        .help("What the bytes are");
-    let parser = Parser::new(alloc, "inspect")
-        .about("Show what bytes say")
-        .after_help(INSPECT_HELP);
+    let kind = choice(alloc, "kind", INSPECTIONS.as_slice(), "What the bytes are");
+    let parser = plain(alloc, "inspect", "Show what bytes say", INSPECT_HELP);
     parser.arg(kind)
 }
 
@@ -97,14 +111,9 @@ fn with_required<'a>(
 fn check_type<'a>(alloc: Global) -> Result<Parser<'a>, AllocError>
     ensures { IfOk result (λ c. HasAppOf check_type_app c) }
 {
-    let kind = Arg::new(alloc, "type")
-        .long("type")
-        .required(true)
-        .value_parser(CEREMONIES.as_slice())
-        .help("The ceremony");
-    let parser = Parser::new(alloc, "check")
-        .about("Verify client data against what they should say")
-        .after_help(CHECK_HELP);
+    let kind = choice(alloc, "type", CEREMONIES.as_slice(), "The ceremony").long("type");
+    let about = "Verify client data against what they should say";
+    let parser = plain(alloc, "check", about, CHECK_HELP);
     parser.arg(kind)
 }
 
@@ -151,9 +160,8 @@ fn with_sub<'a>(parser: Parser<'a>, sub: Parser<'a>) -> Result<Parser<'a>, Alloc
 fn replay<'a>(alloc: Global, help: &'a str) -> Parser<'a>
     ensures { HasApp replay_app result }
 {
-    Parser::new(alloc, "replay")
-        .about("Run a script from standard input: packets in, the site's verdict out")
-        .after_help(help)
+    let about = "Run a script from standard input: packets in, the site's verdict out";
+    plain(alloc, "replay", about, help)
 }
 
 /// The program's parser, with this text behind the help of `replay`.

@@ -130,17 +130,33 @@ pub fn line_kind(word: &str) -> Option<LineKind> {
     None
 }
 
-/// The help of `passkey replay`: each form of a line with what it says, and a script with a line of each.
-pub fn replay_help(alloc: Global) -> Result<String, AllocError> {
-    let mut help = String::from_str(alloc, "Lines of a script:\n")?;
+/// A form with what it says, as the help shows it.
+fn put_form(help: &mut String, form: &Form) -> Result<(), AllocError> {
+    let (word, fields, meaning) = (form.word, form.fields, form.meaning);
+    writeln!(help, "  {word:<7} {fields:<34} {meaning}")
+}
+
+/// The example of a form.
+fn put_example(help: &mut String, form: &Form) -> Result<(), AllocError> {
+    help.push_str("\n  ")?;
+    help.push_str(form.example)
+}
+
+/// The forms, and a script with a line of each.
+fn put_forms(help: &mut String) -> Result<(), AllocError> {
     for form in &FORMS {
-        let (word, fields, meaning) = (form.word, form.fields, form.meaning);
-        writeln!(help, "  {word:<7} {fields:<34} {meaning}")?;
+        put_form(help, form)?;
     }
     help.push_str(BEHIND_THE_LINES)?;
     for form in &FORMS {
-        help.push_str("\n  ")?;
-        help.push_str(form.example)?;
+        put_example(help, form)?;
     }
+    Ok(())
+}
+
+/// The help of `passkey replay`: each form of a line with what it says, and a script with a line of each.
+pub fn replay_help(alloc: Global) -> Result<String, AllocError> {
+    let mut help = String::from_str(alloc, "Lines of a script:\n")?;
+    put_forms(&mut help)?;
     Ok(help)
 }

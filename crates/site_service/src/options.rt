@@ -282,6 +282,63 @@ fn bound(word: Option<&str>, absent: u64) -> Option<u32>
     u32::try_from(bound).ok()
 }
 
+/// The numbers of the options.
+#[derive(Clone, Copy, Drop)]
+struct Numbers {
+    max_open: u32,
+    max_credentials: u32,
+    expire: u64,
+    at_least: u64,
+}
+
+/// The numbers that were read; nothing where one is no number, or out of its bounds.
+fn numbers_of(matches: &ArgMatches<'_>) -> Option<Numbers>
+    ensures within { IfSome result (λ n.
+        ((1 ≤ n.max_open) × (n.max_open ≤ 1000000)) × ((1 ≤ n.max_credentials) × (n.max_credentials ≤ 1000000))) }
+{
+    let max_open = bound(matches.get_str("max-open"), 100_000)?;
+    let max_credentials = bound(matches.get_str("max-credentials"), 1_000_000)?;
+    let expire = number(matches.get_str("expire"), 300)?;
+    let at_least = number(matches.get_str("at-least"), 0)?;
+    Some(Numbers {
+        max_open,
+        max_credentials,
+        expire,
+        at_least,
+    })
+}
+
+/// The options, with the values that were read before.
+fn options_with<'a>(
+    matches: &ArgMatches<'a>,
+    file: &'a str,
+    rp_id: &'a str,
+    origins: Vec<&'a str>,
+    top_origins: Vec<&'a str>,
+    numbers: Numbers,
+) -> Options<'a>
+    ensures { (result.max_open ≡ numbers.max_open) × (result.max_credentials ≡ numbers.max_credentials) }
+{
+    Options {
+        file,
+        rp_id,
+        rp_name: matches.get_str("rp-name").unwrap_or(rp_id),
+        origins,
+        top_origins,
+        profile: profile_named(matches.get_str("profile")),
+        policy: policy_named(matches.get_str("attestation")),
+        max_open: numbers.max_open,
+        max_credentials: numbers.max_credentials,
+        is_new: matches.get_flag("new"),
+        is_existing: matches.get_flag("existing") || 0 < numbers.at_least,
+        has_no_sums: matches.get_flag("no-sums"),
+        is_wary: matches.get_flag("wary"),
+        at_least: numbers.at_least,
+        log: log_named(matches.get_str("log")),
+        expire: numbers.expire,
+    }
+}
+
 /// The options that were read; nothing where a value is missing, no number, or out of its bounds.
 fn options_of<'a>(
     alloc: Global,
@@ -290,39 +347,21 @@ fn options_of<'a>(
     ensures within { IfOk result (λ found. IfSome found (λ o.
         ((1 ≤ o.max_open) × (o.max_open ≤ 1000000)) × ((1 ≤ o.max_credentials) × (o.max_credentials ≤ 1000000)))) }
 {
-    let (Some(file), Some(rp_id), Some(origins)) = (
-        matches.get_str("FILE"),
-        matches.get_str("rp-id"),
-        matches.get_strs("origin"),
-    ) else {
+    let Some(file) = matches.get_str("FILE") else {
         return Ok(None);
     };
-    let (Some(max_open), Some(max_credentials), Some(expire), Some(at_least)) = (
-        bound(matches.get_str("max-open"), 100_000),
-        bound(matches.get_str("max-credentials"), 1_000_000),
-        number(matches.get_str("expire"), 300),
-        number(matches.get_str("at-least"), 0),
-    ) else {
+    let Some(rp_id) = matches.get_str("rp-id") else {
         return Ok(None);
     };
-    Ok(Some(Options {
-        file,
-        rp_id,
-        rp_name: matches.get_str("rp-name").unwrap_or(rp_id),
-        origins: Vec::from_slice(alloc, origins)?,
-        top_origins: Vec::from_slice(alloc, matches.get_strs("top-origin").unwrap_or(&[]))?,
-        profile: profile_named(matches.get_str("profile")),
-        policy: policy_named(matches.get_str("attestation")),
-        max_open,
-        max_credentials,
-        is_new: matches.get_flag("new"),
-        is_existing: matches.get_flag("existing") || 0 < at_least,
-        has_no_sums: matches.get_flag("no-sums"),
-        is_wary: matches.get_flag("wary"),
-        at_least,
-        log: log_named(matches.get_str("log")),
-        expire,
-    }))
+    let Some(origins) = matches.get_strs("origin") else {
+        return Ok(None);
+    };
+    let Some(numbers) = numbers_of(matches) else {
+        return Ok(None);
+    };
+    let origins = Vec::from_slice(alloc, origins)?;
+    let top_origins = Vec::from_slice(alloc, matches.get_strs("top-origin").unwrap_or(&[]))?;
+    Ok(Some(options_with(matches, file, rp_id, origins, top_origins, numbers)))
 }
 
 /// What is told in place of serving.
