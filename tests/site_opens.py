@@ -1,7 +1,8 @@
 #!/usr/bin/python3
 """Opens that are refused, of the program of crates/site_program: tests/site_opens.py PROGRAM. Damaged files, each bit of the heads of
 a file and of a log among them, every 7th byte of a file with sums, older copies, files of another kind, other sites' files, and
-files that are made again: what is refused keeps its bytes, the file's and the log's, and what is opened has the site that it had. Then three processes make one file at once, 150
+files that are made again, logs beside other files, and files of versions 1 and 2: what is refused keeps its bytes, the file's and the
+log's, and what is opened has the site that it had. Then three processes make one file at once, 150
 times: one gets it. The last line is 'N passed, M failed'."""
 import json
 import random
@@ -11,12 +12,15 @@ import sys
 import tempfile
 import time
 from collections import Counter
+from itertools import count
 from pathlib import Path
 
 from site_lines import PARTY, Device, EDDSA, Host, Tests, to_text
 
 HEAD, MANY, BYTES = 100, 600, 7
 LINES = b'{"id":1,"act":"rows"}\n'
+OTHER_LOG = "the log (FILE-wal) is another file's, or of another time\n"
+TEXTS = (Path(__file__).resolve().parent / "stored_tests" / "versions.rt.txt").read_text()
 OTHER = ["--rp-id", "other.example", "--origin", "https://other.example"]
 
 
@@ -39,6 +43,8 @@ def flipped(pair, which, bit):
 
 
 class Opens(Tests):
+    numbers = count()
+
     def __init__(self, program):
         super().__init__(program)
         memory = Path("/dev/shm")
@@ -179,7 +185,9 @@ class Opens(Tests):
         """Tables and rows that no site writes, in the file and in its log."""
         for text, why in (("create table note (id integer primary key)", "the file has other tables than a site's\n"),
                           ("drop index credential_by_user", "the file has other tables than a site's\n"),
-                          ("update site set version = 3", "the file is of a later version\n"),
+                          ("update site set version = 4", "the file is of a later version\n"),
+                          ("update site set version = 2", "the file is of another site or version\n"),
+                          ("update mark set sum = zeroblob(16)", "a row is not one that a site has written\n"),
                           ("update site set next_session = 0", "the file has no site\n"),
                           ("delete from site", "the file has no site\n"),
                           ("update credential set sign_count = -1 where place = 3", "a row is not one that a site has written\n"),
@@ -213,6 +221,121 @@ class Opens(Tests):
                 changed = file[:at] + rng.randbytes(512) + file[at + 512:]
                 self.check(f"page {page} damaged at {start}, whole in the log", self.open((changed, log), "--existing")[0] == rows)
         self.check("the log has the first page", 1 in pages)
+
+    def acts(self, host, count):
+        """Registrations, each of another credential."""
+        for _ in range(count):
+            self.register(host, Device(EDDSA, credential=b"logged %d" % next(self.numbers)))
+
+    def killed_at(self, path, count, *words):
+        """The files of a site that did so much and was killed, and its rows."""
+        host = Host(self.program, path, *PARTY, *words)
+        self.acts(host, count)
+        rows = host.ask("rows")["rows"]
+        host.process.kill()
+        host.process.wait()
+        return both(path), rows
+
+    def logs(self):
+        """A log beside its own file, an older or a newer one, a backup that was made while it was written, and another site's."""
+        path, copy = self.file("logged.db"), self.file("logged copy.db")
+        for words in ((), ("--no-sums",)):
+            put(path, (None, None))
+            made, _ = self.killed_at(path, 3, *words)
+            self.check("the end", Host(self.program, path, *PARTY).end()[0], 0)
+            older = both(path)
+            host = Host(self.program, path, *PARTY)
+            self.acts(host, 2)
+            copy.unlink(missing_ok=True)
+            self.check("a backup", host.ask("backup", path=str(copy))["backup"], True)
+            early = copy.read_bytes()
+            self.acts(host, 2)
+            copy.unlink(missing_ok=True)
+            self.check("a second backup", host.ask("backup", path=str(copy))["backup"], True)
+            self.acts(host, 1)
+            first_rows = host.ask("rows")["rows"]
+            host.process.kill()
+            host.process.wait()
+            first = both(path)
+            # The backups are of this log's time, or its file's: it goes on from them.
+            for what, file in (("its own file", first[0]), ("the file before it", older[0]), ("an early backup", early),
+                               ("a later backup", copy.read_bytes())):
+                self.check(f"{what}, {words}", self.open((file, first[1]), "--existing")[0], first_rows)
+            put(path, first)
+            self.check("the second end", Host(self.program, path, *PARTY).end()[0], 0)
+            newer = both(path)
+            second, rows = self.killed_at(path, 2)
+            self.check(f"the newer log, {words}", self.open(second, "--existing")[0], rows)
+            other, _ = self.killed_at(self.file(f"another{len(words)}.db"), 3, *words)
+            host = Host(self.program, self.file(f"another{len(words)}.db"), *PARTY)
+            self.check("another end", host.end()[0], 0)
+            closed = both(self.file(f"another{len(words)}.db"))
+            for what, file, log in (("an older file", older[0], second[1]), ("an early backup beside a newer log", early, second[1]),
+                                    ("a backup beside a newer log", copy.read_bytes(), second[1]),
+                                    ("a newer file", second[0], made[1]), ("another site's log", newer[0], other[1]), ("another site's file", closed[0], second[1])):
+                for way in ("--existing", "--new"):
+                    self.check(f"{what}, {way}, {words}", self.is_kept(what, (file, log), way), OTHER_LOG)
+            self.copied(second, rows, words)
+
+    def copied(self, pair, rows, words):
+        """A log of which some pages were copied into the file, and of the page of the mark some bytes, or others."""
+        file, log = pair
+        frames = {int.from_bytes(log[at:at + 4], "big"): log[at + 24:at + 4120] for at in range(32, len(log) - 4119, 4120)}
+        marked = [page for page, content in frames.items() if content[0] == 13 and b"\x25\x01\x05\x00\x1c\x1c\x2c" in content]
+        self.check(f"one page has marks, {words}", len(marked), 1)
+        rng = random.Random(9)
+        for number in range(40):
+            changed = bytearray(file)
+            for page in rng.sample(sorted(frames), rng.randrange(len(frames) + 1)) if number else sorted(frames):
+                if 4096 * page <= len(changed):
+                    changed[4096 * (page - 1):4096 * page] = frames[page]
+            at, kind = 4096 * (marked[0] - 1), number % 4
+            for place in range(at, at + 4096, 1 if kind == 1 else 512):
+                size = 1 if kind == 1 else 512
+                if kind in (1, 2) and rng.random() < 0.5:
+                    changed[place:place + size] = file[place:place + size]
+                elif kind in (1, 2):
+                    changed[place:place + size] = frames[marked[0]][place - at:place - at + size]
+                elif kind == 3 and rng.random() < 0.5:
+                    changed[place:place + size] = rng.randbytes(size)
+            self.check(f"copied {number}, {words}", self.open((bytes(changed), log), "--existing")[0], rows)
+
+    def versions(self):
+        """Files of versions 1 and 2 are upgraded, with sums or without; the rows and the next number stay."""
+        path = self.file("version.db")
+
+        def text(name):
+            return TEXTS.split(f"const {name}: &str = \"")[1].split("\";")[0]
+        for version, texts in ((1, ["TABLES"]), (2, ["TABLES", "SECOND"])):
+            put(path, (None, None))
+            file = sqlite3.connect(path)
+            for name in texts:
+                file.executescript(text(name))
+            file.execute("insert into site values (1, ?, ?, 7)", (version, PARTY[1]))
+            devices = [Device(EDDSA, credential=b"version %d %d" % (version, number)) for number in range(300)]
+            file.executemany("insert into credential values (?, ?, ?, -8, ?, null, 0, null, 0)",
+                             [(place, device.id, b"user", device.x) for place, device in enumerate(devices, 1)])
+            file.commit()
+            file.close()
+            pair = both(path)
+            self.check(f"version {version}: another rp id", self.is_kept(f"version {version}", pair, party=OTHER),
+                       "the file is of another site or version\n")
+            self.check(f"version {version}: made", self.is_kept(f"version {version}, made", pair, "--new"), "there is a file at this path\n")
+            put(path, pair)
+            host = Host(self.program, path, *PARTY)
+            self.check(f"version {version}: the number", host.ask("begin_sign_in")["session"], 7)
+            self.check(f"version {version}: the rows", [row["credential"] for row in host.ask("rows")["rows"]],
+                       [to_text(device.id) for device in devices])
+            host.process.kill()
+            host.process.wait()
+            self.check(f"version {version}: killed", len(self.open(both(path), "--existing")[0] or []), 300)
+            # The upgrade is in the log alone, and the file of before it may stand beside it.
+            self.check(f"version {version}: the file of before", len(self.open((pair[0], both(path)[1]), "--existing")[0] or []), 300)
+            self.check(f"version {version}: the end", Host(self.program, path, *PARTY).end()[0], 0)
+            file = sqlite3.connect(path)
+            self.check(f"version {version}: upgraded", file.execute("select version from site").fetchone(), (3,))
+            self.check(f"version {version}: sound", file.execute("pragma integrity_check").fetchone(), ("ok",))
+            file.close()
 
     def races(self, count):
         """Three processes make one file at once: one has it, and the others are told that it is in use."""
@@ -251,6 +374,8 @@ def main():
     opens.others()
     opens.edited()
     opens.torn()
+    opens.logs()
+    opens.versions()
     opens.races(150)
     print(f"{opens.passed} passed, {opens.failed} failed")
     return opens.failed != 0

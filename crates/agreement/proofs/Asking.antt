@@ -18,7 +18,7 @@ use Rattle.authenticator.specs.State.{AuthenticatorState}
 use Rattle.authenticator.specs.Credentials.{credential_of}
 use Rattle.authenticator.specs.Orders as order
 use Rattle.authenticator.specs.Orders.{assertion_order, candidates, creation_order, first_is_at_end, first_supported, is_empty, is_excluded}
-use Rattle.authenticator.specs.Orders.{is_false, is_true, kept, supported_by}
+use Rattle.authenticator.specs.Orders.{is_false, is_true, kept}
 use Rattle.authenticator.specs.Steps.{CarriesOut, Keys, Outcome, Step}
 use Rattle.authenticator.specs.declared.consent.Consent.{Consent}
 use Rattle.authenticator.specs.declared.consent.Words.{Words}

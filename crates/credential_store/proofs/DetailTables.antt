@@ -8,7 +8,8 @@ use Rattle.sqlite_value.specs.Order.{Row}
 use Rattle.sqlite_trees.specs.Tree.{Trees, has_rowid, put_row, rowid, with_tree, without_rowid}
 use Rattle.sqlite_trees.specs.View.{Finds, SetsTree, View}
 use Rattle.credential_store.proofs.Tables.{no_row, put_in, row_in, without_in}
-use Rattle.credential_store.specs.Details.{Detail, Details, IsDetailed, detail_row}
+use Rattle.site_state.specs.Details.{Detail}
+use Rattle.credential_store.specs.Details.{Details, IsDetailed, detail_row}
 
 numbered : (n : ℕ) (d : Detail) → rowid (detail_row n d) ≡ Int (pos n)
 numbered n d = refl

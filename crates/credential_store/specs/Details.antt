@@ -1,6 +1,6 @@
 -- What is known of credentials beside what verdicts ask for, in one tree of a store: tree 5 is the table of details, by the places of
 -- their credentials.
-use Rattle.std.specs.Prelude.{◌≡◌, ◌≢◌, ℕ, ℤ, pos, Option, Some, None, List, [], ◌∷◌, map, option_map}
+use Rattle.std.specs.Prelude.{◌≡◌, ◌≢◌, ℕ, ℤ, pos, Option, Some, None, List, [], ◌∷◌, map}
 use Rattle.std.specs.FinMap as finite
 use Rattle.std.specs.Ordering.{nat_cmp}
 use Rattle.sqlite_value.specs.Order.{Row}
@@ -8,21 +8,7 @@ use Rattle.sqlite_value.specs.declared.value.Value.{Value}
 use Rattle.sqlite_value.specs.declared.value.Value.TheVariants.{Null, Int, Text, Blob}
 use Rattle.sqlite_trees.specs.Tree.{Trees}
 use Rattle.sqlite_trees.specs.View.{View}
-use Rattle.credential_store.specs.declared.detail.Detail as declared
-
--- when it was registered and when it was last used, in seconds of the host's clock; the transports that its client told, joined by
--- commas (WebAuthn Level 2, section 5.8.4); the aaguid that its authenticator data said (section 6.5.1)
-pub record Detail : Type 0 where
-  pub created_at : Option ℤ
-  pub used_at : Option ℤ
-  pub transports : List ℕ
-  pub aaguid : Option (List ℕ)
-
-abbrev pub told : Option ℤ → Option ℤ → List ℕ → Option (List ℕ) → Detail
-told created_at used_at transports aaguid = record { created_at = created_at; used_at = used_at; transports = transports; aaguid = aaguid }
-
-abbrev pub detail_view : declared.Detail → Detail
-detail_view d = told d.created_at d.used_at d.transports.items (option_map (λ a. a.items) d.aaguid)
+use Rattle.site_state.specs.Details.{Detail, told}
 
 -- NULL where it is not known
 abbrev pub int_or_null : Option ℤ → Value

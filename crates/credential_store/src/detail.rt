@@ -3,25 +3,14 @@
 ghost use Rattle.std.specs.Prelude.{◌≡◌, IfOk, List, ℕ, ℤ, Option, Some, option_map};
 ghost use Rattle.sqlite_value.specs.Order.{column};
 ghost use Rattle.sqlite_value.specs.Value.{owned};
-ghost use Rattle.credential_store.specs.Details.{Detail as Known, blob_or_null, detail_row, detail_view, int_or_null, told};
+ghost use Rattle.site_state.specs.Details.{Detail as Known, detail_view, told};
+ghost use Rattle.credential_store.specs.Details.{blob_or_null, detail_row, int_or_null};
 
 use crate::values::text_at;
+use site_state::Detail;
 use sqlite_value::row::Row;
 use sqlite_value::value::ValueRef;
 use std::alloc::{AllocError, Global};
-
-/// What is known of a credential beside what verdicts ask for.
-#[derive(Debug, Drop)]
-pub struct Detail {
-    /// When it was registered, in seconds of the host's clock.
-    pub created_at: Option<i64>,
-    /// When it was last used, in seconds of the host's clock.
-    pub used_at: Option<i64>,
-    /// The transports that its client told, joined by commas.
-    pub transports: Vec<u8>,
-    /// The aaguid that its authenticator data said.
-    pub aaguid: Option<Vec<u8>>,
-}
 
 /// The value of a number that may not be known.
 fn int_or_null<'a>(known: Option<i64>) -> ValueRef<'a>

@@ -7,9 +7,11 @@ ghost use Rattle.sqlite_trees.specs.Tree.{Trees};
 ghost use Rattle.sqlite_trees.specs.View.{HasCause, IsClean, IsStorableRow, KeepsSchema};
 ghost use Rattle.sqlite_trees.specs.declared.store.Shape.TheVariants.{Table};
 ghost use Rattle.credential_store.specs.Held.{IsSameView};
-ghost use Rattle.credential_store.specs.Details.{Details, HoldsDetails, IsDetailed, detail_row as row_of, detail_view, used};
+ghost use Rattle.credential_store.specs.Details.{Details, HoldsDetails, IsDetailed, detail_row as row_of, used};
+ghost use Rattle.site_state.specs.Details.{detail_view};
 
-use crate::detail::{Detail, detail_row, read_detail};
+use crate::detail::{detail_row, read_detail};
+use site_state::Detail;
 use sqlite_trees::error::StoreError;
 use sqlite_trees::store::Store;
 use sqlite_value::row::Row;

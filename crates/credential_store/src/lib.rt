@@ -13,7 +13,7 @@ mod values;
 mod writing;
 
 pub use credentials::{credential_row, read_credential};
-pub use detail::{Detail, detail_row, read_detail};
+pub use detail::{detail_row, read_detail};
 pub use details::{delete_detail, find_detail, mark_used, put_detail};
 pub use error::RowError;
 pub use finding::{Found, find, lent};

@@ -1,11 +1,11 @@
 -- What a part of a call tells of its failure, as told by the call.
-use Rattle.std.proofs.Common.{◌≡◌, ℕ, arith, inl, inr, refl}
+use Rattle.std.proofs.Common.{◌≡◌, ℕ, false, arith, inl, inr, refl}
 use Rattle.std.specs.Prelude.{◌≤◌}
 use Rattle.sqlite_disk.specs.Disk.{MoreFaults}
 use Rattle.sqlite_trees.specs.View.{HasCause, View}
 use Rattle.sqlite_trees.specs.declared.error.StoreError.{StoreError}
 use Rattle.sqlite_trees.specs.declared.error.StoreError.TheVariants.{OutOfMemory, Io, Corrupt, Full, Broken, Unstorable}
-use Rattle.kept_site.specs.Causes.{IfFinishStore, IsCaused}
+use Rattle.kept_site.specs.Causes.{IfFinishStore, IsCaused, IsStartCaused}
 use Rattle.kept_site.specs.declared.failure.Failure.{Failure}
 use Rattle.kept_site.specs.declared.failure.Failure.TheVariants as failures
 use Rattle.kept_site.specs.declared.failure.FinishFailure.{FinishFailure}
@@ -19,6 +19,16 @@ cause_since old mid a b c U V Corrupt up f never h = omega arith
 cause_since old mid a b c U V Full up f never h = omega arith
 cause_since old mid a b c U V Broken up f never h = absurd (never refl)
 cause_since old mid a b c U V Unstorable up f never h = f h
+
+-- the same as a site is made, where the store was not broken before that part
+pub start_cause_since : (old mid : View) (a b c : ℕ) (U V : Type 0) (e : StoreError) → mid.is_broken ≡ false → a ≤ b → (U → V)
+    → HasCause mid (MoreFaults b c) U e → IsStartCaused old a c V e
+start_cause_since old mid a b c U V OutOfMemory sound up f h = tt
+start_cause_since old mid a b c U V Io sound up f h = omega arith
+start_cause_since old mid a b c U V Corrupt sound up f h = omega arith
+start_cause_since old mid a b c U V Full sound up f h = omega arith
+start_cause_since old mid a b c U V Broken sound up f h = absurd cc
+start_cause_since old mid a b c U V Unstorable sound up f h = f h
 
 -- a cause within the last part of a call is one within the call
 pub caused_since : (old mid : View) (a b c : ℕ) (U V D E : Type 0) (e : Failure) → a ≤ b → (U → V) → (D → E) → IsCaused mid b c U D e → IsCaused old a c V E e

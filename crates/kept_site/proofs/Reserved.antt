@@ -1,4 +1,4 @@
--- The row of the relying party is set, and nothing else.
+-- The row of the relying party is set, or that of a commit, and nothing else.
 use Rattle.std.proofs.Common.{◌≡◌, ℕ, List, [], ◌∷◌, refl, sym, ap, ◌∙◌, subst}
 use Rattle.sqlite_value.specs.Order.{Row}
 use Rattle.sqlite_trees.specs.Tree.{put_row}
@@ -20,4 +20,16 @@ reserved old new placed rp_id was next row is s h = record {
     are = h.credentials.are;
   };
   site = ap (λ v. v.trees 2) s.is ∙ ap (λ r. put_row r (old.trees 2)) is ∙ ap (put_row (site_row rp_id next)) h.site ∙ one_site rp_id next was;
+}
+
+pub marked : (old new : View) (placed : Placed) (rp_id : List ℕ) (next : ℕ) (row : Row) → SetsTree old new 6 (put_row row)
+    → HoldsSite placed rp_id next old.trees → HoldsSite placed rp_id next new.trees
+marked old new placed rp_id next row s h = record {
+  credentials = record {
+    table = ap (λ v. v.trees 0) s.is ∙ h.credentials.table;
+    by_id = subst (Indexes (λ c. c.id) placed) (sym (ap (λ v. v.trees 3) s.is)) h.credentials.by_id;
+    by_user = subst (Indexes (λ c. c.user) placed) (sym (ap (λ v. v.trees 4) s.is)) h.credentials.by_user;
+    are = h.credentials.are;
+  };
+  site = ap (λ v. v.trees 2) s.is ∙ h.site;
 }

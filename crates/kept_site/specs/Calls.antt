@@ -22,10 +22,11 @@ use Rattle.verification.specs.declared.refusal.RegistrationRefusal.{Registration
 use Rattle.verification.specs.declared.refusal.VerificationError.{VerificationError}
 use Rattle.verification.specs.declared.refusal.SignInRefusal.{SignInRefusal}
 use Rattle.credential_store.specs.Held.{HasNone, IsAt, Placed}
-use Rattle.credential_store.specs.Details.{Detail, Details, HoldsDetails, used}
+use Rattle.site_state.specs.Details.{Detail}
+use Rattle.credential_store.specs.Details.{Details, HoldsDetails, used}
 use Rattle.sqlite_trees.specs.Tree.{Trees}
 use Rattle.site_state.specs.Timed.{skipped}
-use Rattle.kept_site.specs.State.{KeptState, to_commit}
+use Rattle.kept_site.specs.State.{KeptState, mark_after, to_commit}
 use Rattle.kept_site.specs.declared.failure.Failure.{Failure}
 use Rattle.kept_site.specs.declared.failure.Failure.TheVariants as failures
 use Rattle.kept_site.specs.declared.failure.BeginFailure.{BeginFailure}
@@ -43,12 +44,14 @@ pub record IsSame {S : Type 0} (view : S → View) (old new : KeptState S) : Typ
   pub clean : IsClean (view new.store) → IsClean (view old.store)
   pub store : IsClean (view new.store) → view new.store ≡ record (view old.store) { cursors = (view new.store).cursors }
 
--- the relying party, the policy and the bound on credentials stay, and what is committed
+-- the relying party, the policy and the bound on credentials stay, what is committed, and the marks of commits
 pub record IsOneSite {S : Type 0} (old new : KeptState S) : Type 0 where
   pub rp : new.rp ≡ old.rp
   pub policy : new.policy ≡ old.policy
   pub most : new.most ≡ old.most
   pub durable : new.durable ≡ old.durable
+  pub mark : new.mark ≡ old.mark
+  pub next_mark : new.next_mark ≡ old.next_mark
 
 -- why a call failed: the site was shut, and has not changed; or the store or memory failed, and it is shut from now on
 abbrev pub IsFailure : {S : Type 0} → KeptState S → KeptState S → Failure → Type 0
@@ -57,8 +60,8 @@ IsFailure old new (failures.Failed e) = (old.is_shut ≡ false) × (new.is_shut 
 
 -- ---- a commit
 
--- where something was written, it is committed; more numbers are reserved in the same commit, and the next number is none that an
--- earlier commit has reserved
+-- where something was written, it is committed; more numbers are reserved in the same commit, the next number is none that an
+-- earlier commit has reserved, and the next mark is another one
 pub record IsCommit {S : Type 0} (old new : KeptState S) : Type 0 where
   pub quiet : old.is_pending ≡ false → new ≡ old
   pub moved : old.is_pending ≡ true
@@ -67,6 +70,8 @@ pub record IsCommit {S : Type 0} (old new : KeptState S) : Type 0 where
         is_pending = false;
         reserved = to_commit old.durable old.reserved;
         durable = to_commit old.durable old.reserved;
+        mark = old.next_mark;
+        next_mark = mark_after old.next_mark;
         timed = skipped (max old.timed.open_sessions.next old.durable) old.timed;
       }
 

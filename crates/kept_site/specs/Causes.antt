@@ -17,11 +17,12 @@ use Rattle.verification.specs.Registration.{Attests}
 use Rattle.site_state.specs.Table.{signed_in}
 use Rattle.site_state.specs.Sessions.{registration_at}
 use Rattle.credential_store.specs.Causes.{IsRefused}
-use Rattle.credential_store.specs.Details.{Detail, Details, HoldsDetails, detail_row, used}
+use Rattle.site_state.specs.Details.{Detail}
+use Rattle.credential_store.specs.Details.{Details, HoldsDetails, detail_row, used}
 use Rattle.credential_store.specs.Held.{Holds, IsAt, Placed}
 use Rattle.credential_store.specs.Rows.{credential_row}
 use Rattle.kept_site.specs.Calls.{registered}
-use Rattle.kept_site.specs.State.{KeptState, site_row}
+use Rattle.kept_site.specs.State.{KeptState, mark_row, site_row}
 use Rattle.kept_site.specs.declared.failure.Failure.{Failure}
 use Rattle.kept_site.specs.declared.failure.Failure.TheVariants as failures
 use Rattle.kept_site.specs.declared.failure.CreateFailure.{CreateFailure}
@@ -82,6 +83,10 @@ IfOpenStore P (opens.Failed e) = P e
 -- no store takes the row of the relying party with this number
 abbrev pub RefusesNumber : (ℕ → ℕ) → List ℕ → ℕ → Type 0
 RefusesNumber reals rp_id next = ¬ IsStorableRow (reals 2) (site_row rp_id next)
+
+-- no store takes that, or the row of a commit that has a mark, and follows another
+abbrev pub RefusesCommit : (ℕ → ℕ) → List ℕ → ℕ → ℕ → ℕ → Type 0
+RefusesCommit reals rp_id next mark follows = RefusesNumber reals rp_id next ⊎ (¬ IsStorableRow (reals 6) (mark_row mark follows))
 
 -- no store takes the row of the credential that has an id, so changed
 pub record RefusesChange (old : View) (id : List ℕ) (change : Credential → Credential) : Type 0 where

@@ -135,12 +135,13 @@ pub record IsAtRest (v : View) : Type 0 where
 -- the store has the trees of a site, without rows
 pub record IsNew (v : View) : Type 0 where
   pub rest : IsAtRest v
-  pub shapes : HasTrees v × (v.shape 2 ≡ Table) × (v.shape 5 ≡ Table)
+  pub shapes : HasTrees v × (v.shape 2 ≡ Table) × (v.shape 5 ≡ Table) × (v.shape 6 ≡ Table)
   pub credentials : v.trees 0 ≡ []
   pub site : v.trees 2 ≡ []
   pub by_id : v.trees 3 ≡ []
   pub by_user : v.trees 4 ≡ []
   pub details : v.trees 5 ≡ []
+  pub marks : v.trees 6 ≡ []
 
 -- where a row is a credential's, its place is not above this one
 abbrev pub IsUpTo : ℕ → Row → Type 0

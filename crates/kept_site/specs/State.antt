@@ -1,9 +1,10 @@
 -- A relying party whose credentials are rows of a store, and whose open sessions are in memory.
-use Rattle.std.specs.Prelude.{◌≡◌, ◌<◌, ◌≤◌, ◌+◌, ◌^◌, if◌then◌else◌, ℕ, pos, Bool, false, List, [], ◌∷◌, IsTrue, Some, filter, nat_lt, refl}
+use Rattle.std.specs.Prelude.{◌≡◌, ◌⊎◌, ◌<◌, ◌≤◌, ◌+◌, ◌*◌, ◌^◌, if◌then◌else◌, ℕ, pos, Bool, false, List, [], ◌∷◌, IsTrue, Some, filter, nat_lt, refl}
 use Rattle.std.specs.Coded.{Coded, code_by, coded×, coded_bool, coded_list, coded_ℕ}
 use Rattle.std.specs.FinMap as finite
+use Rattle.std.specs.Int.{to_be_bytes, w64, w128}
 use Rattle.sqlite_value.specs.Order.{Row}
-use Rattle.sqlite_value.specs.declared.value.Value.TheVariants.{Null, Int, Text}
+use Rattle.sqlite_value.specs.declared.value.Value.TheVariants.{Null, Int, Text, Blob}
 use Rattle.sqlite_trees.specs.Tree.{Trees, has_rowid, put_row, with_tree}
 use Rattle.sqlite_trees.specs.View.{View, IsClean}
 use Rattle.sqlite_trees.specs.declared.store.Shape.TheVariants.{Table}
@@ -17,14 +18,16 @@ use Rattle.credential_store.specs.Held.{HasTrees, Holds, Placed}
 use Rattle.site_state.specs.Timed.{Timed, timed_code}
 
 -- the relying party; the attestations that it accepts; the open sessions; the number below which all may have been given, and the
--- same by what is committed; how many credentials there are, the highest place that one ever had, and how many there may be; the
--- store; whether a failure has shut it; whether something is written that is not committed
+-- same by what is committed; the mark of the last commit, and that of the next one; how many credentials there are, the highest place that one ever
+-- had, and how many there may be; the store; whether a failure has shut it; whether something is written that is not committed
 pub record KeptState (S : Type 0) : Type 0 where
   pub rp : RelyingParty
   pub policy : Policy
   pub timed : Timed
   pub reserved : ℕ
   pub durable : ℕ
+  pub mark : ℕ
+  pub next_mark : ℕ
   pub count : ℕ
   pub last : ℕ
   pub most : ℕ
@@ -41,19 +44,21 @@ party_code =
 
 abbrev pub kept_code : {S : Type 0} → Coded S → Coded (KeptState S)
 kept_code {S} store =
-    code_by ((RelyingParty × (Policy × Timed)) × ((ℕ × (ℕ × (ℕ × (ℕ × ℕ)))) × (S × (Bool × Bool))))
+    code_by ((RelyingParty × (Policy × Timed)) × ((ℕ × (ℕ × (ℕ × (ℕ × (ℕ × (ℕ × ℕ)))))) × (S × (Bool × Bool))))
     (coded× (coded× party_code (coded× policy.the_row.coded timed_code))
-    (coded× (coded× coded_ℕ (coded× coded_ℕ (coded× coded_ℕ (coded× coded_ℕ coded_ℕ)))) (coded× store (coded× coded_bool coded_bool))))
-    (λ s. ((s.rp, (s.policy, s.timed)), ((s.reserved, (s.durable, (s.count, (s.last, s.most)))), (s.store, (s.is_shut, s.is_pending)))))
+    (coded× (coded× coded_ℕ (coded× coded_ℕ (coded× coded_ℕ (coded× coded_ℕ (coded× coded_ℕ (coded× coded_ℕ coded_ℕ)))))) (coded× store (coded× coded_bool coded_bool))))
+    (λ s. ((s.rp, (s.policy, s.timed)), ((s.reserved, (s.durable, (s.mark, (s.next_mark, (s.count, (s.last, s.most)))))), (s.store, (s.is_shut, s.is_pending)))))
     (λ p. record {
       rp = p.0.0;
       policy = p.0.1.0;
       timed = p.0.1.1;
       reserved = p.1.0.0;
       durable = p.1.0.1.0;
-      count = p.1.0.1.1.0;
-      last = p.1.0.1.1.1.0;
-      most = p.1.0.1.1.1.1;
+      mark = p.1.0.1.1.0;
+      next_mark = p.1.0.1.1.1.0;
+      count = p.1.0.1.1.1.1.0;
+      last = p.1.0.1.1.1.1.1.0;
+      most = p.1.0.1.1.1.1.1.1;
       store = p.1.1.0;
       is_shut = p.1.1.1.0;
       is_pending = p.1.1.1.1;
@@ -63,7 +68,7 @@ kept_code {S} store =
 
 -- the columns: number, version, rp_id, next_session
 abbrev pub site_row : List ℕ → ℕ → Row
-site_row rp_id next = Int (pos 1) ∷ Null ∷ Int (pos 2) ∷ Text rp_id ∷ Int (pos next) ∷ []
+site_row rp_id next = Int (pos 1) ∷ Null ∷ Int (pos 3) ∷ Text rp_id ∷ Int (pos next) ∷ []
 
 -- the number below which all may be given once 1,000 more are reserved, as far as a column holds it
 abbrev pub moved_on : ℕ → ℕ
@@ -76,6 +81,29 @@ to_commit durable reserved = if nat_lt durable reserved then reserved else moved
 -- trees with this row of the relying party
 abbrev pub with_site : List ℕ → ℕ → Trees → Trees
 with_site rp_id next db = with_tree db 2 (put_row (site_row rp_id next) (db 2))
+
+-- the columns: number, mark, follows, sum; a mark of 8 bytes, that of the commit before, and the first one times a number of 64 bits, by which a
+-- page is told that was not written to its end
+abbrev pub mark_row : ℕ → ℕ → Row
+mark_row mark follows =
+    Int (pos 1) ∷ Null ∷ Blob (to_be_bytes w64 mark) ∷ Blob (to_be_bytes w64 follows) ∷ Blob (to_be_bytes w128 (mark * 11400714819323198485)) ∷ []
+
+-- trees with this row of a commit that has a mark, and follows another
+abbrev pub with_mark : ℕ → ℕ → Trees → Trees
+with_mark mark follows db = with_tree db 6 (put_row (mark_row mark follows) (db 6))
+
+-- the mark of the commit after one, of 64 bits
+abbrev pub mark_after : ℕ → ℕ
+mark_after mark = if nat_lt mark 18446744073709551615 then mark + 1 else 0
+
+-- trees as a site's commit leaves them: with these numbers reserved, and its mark
+abbrev pub committed_as : {S : Type 0} → KeptState S → Trees → Trees
+committed_as s db = with_mark s.next_mark s.mark (with_site s.rp.rp_id (to_commit s.durable s.reserved) db)
+
+-- the row of the last commit stands in tree 6; none where nothing was committed since the table was made
+abbrev pub HasMark : ℕ → Trees → Type 0
+HasMark mark db =
+    ((mark ≡ 0) × (filter (has_rowid (pos 1)) (db 6) ≡ [])) ⊎ ((follows : ℕ) × (filter (has_rowid (pos 1)) (db 6) ≡ mark_row mark follows ∷ []))
 
 -- trees 0, 3 and 4 hold the credentials, tree 2 the row of the relying party: no session had this number or a higher one
 pub record HoldsSite (placed : Placed) (rp_id : List ℕ) (next : ℕ) (db : Trees) : Type 0 where
@@ -97,6 +125,7 @@ pub record IsReady (v : View) (is_pending : Bool) : Type 0 where
   pub trees : HasTrees v
   pub site : v.shape 2 ≡ Table
   pub details : v.shape 5 ≡ Table
+  pub marks : v.shape 6 ≡ Table
   pub is_open : IsTrue v.is_open
   pub sound : v.is_broken ≡ false
   pub committed : is_pending ≡ false → v.trees ≡ v.committed

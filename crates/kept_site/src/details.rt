@@ -5,14 +5,16 @@ ghost use Rattle.std.specs.FinMap as finite;
 ghost use Rattle.sqlite_trees.specs.Tree.{Trees};
 ghost use Rattle.sqlite_trees.specs.View.{IsClean, IsStorableRow};
 ghost use Rattle.credential_store.specs.Held.{IsSameView};
-ghost use Rattle.credential_store.specs.Details.{Details, HoldsDetails, IsDetailed, detail_row, detail_view, used};
+ghost use Rattle.credential_store.specs.Details.{Details, HoldsDetails, IsDetailed, detail_row, used};
+ghost use Rattle.site_state.specs.Details.{detail_view};
 ghost use Rattle.kept_site.specs.Causes.{IsCaused};
 ghost use Rattle.kept_site.specs.State.{IsReady};
 ghost use Rattle.kept_site.specs.declared.failure.Failure.TheVariants as failures;
 
 use crate::failure::Failure;
 use crate::site_store::SiteStore;
-use credential_store::{Detail, delete_detail, find_detail, mark_used, put_detail};
+use credential_store::{delete_detail, find_detail, mark_used, put_detail};
+use site_state::Detail;
 use sqlite_trees::store::Store;
 
 impl<S: Store> SiteStore<S> {

@@ -8,12 +8,13 @@ ghost use Rattle.verification.specs.Views.{registration_view};
 ghost use Rattle.site_state.specs.Sessions.{registration_at};
 ghost use Rattle.credential_store.specs.Held.{Placed};
 ghost use Rattle.site_state.specs.Timed.{after_end, since};
-ghost use Rattle.kept_site.specs.State.{IsHeld, IsSound, to_commit, with_site};
+ghost use Rattle.kept_site.specs.State.{IsHeld, IsSound, committed_as, to_commit};
 ghost use Rattle.kept_site.specs.Calls.{IsCommit, IsFailure};
-ghost use Rattle.kept_site.specs.Causes.{IsCaused, RefusesNumber};
+ghost use Rattle.kept_site.specs.Causes.{IsCaused, RefusesCommit};
 ghost use Rattle.kept_site.specs.declared.failure.Failure.TheVariants as failures;
 
 use crate::failure::Failure;
+use crate::marks::mark_after;
 use crate::rows::to_commit;
 use crate::site_store::SiteStore;
 use site_state::TimedSessions;
@@ -32,6 +33,8 @@ pub struct KeptSite<S: Store> {
     pub(crate) party: RelyingParty,
     pub(crate) policy: Policy,
     pub(crate) sessions: TimedSessions,
+    pub(crate) mark: u64,
+    pub(crate) next_mark: u64,
     pub(crate) count: u32,
     pub(crate) last: u32,
     pub(crate) most: u32,
@@ -51,6 +54,8 @@ impl<S: Store> Model for KeptSite<S> {
       timed = s.sessions;
       reserved = s.held.reserved;
       durable = s.held.durable;
+      mark = s.mark;
+      next_mark = s.next_mark;
       count = s.count;
       last = s.last;
       most = s.most;
@@ -65,6 +70,8 @@ impl<S: Store> Model for KeptSite<S> {
       timed = s.sessions;
       reserved = s.held.reserved;
       durable = s.held.durable;
+      mark = s.mark;
+      next_mark = s.next_mark;
       count = s.count;
       last = s.last;
       most = s.most;
@@ -125,21 +132,22 @@ impl<S: Store> KeptSite<S> {
     /// Commits what was written since the last commit, if anything was. What the calls since then answered may be told now.
     ///
     /// More numbers are reserved in the same commit, and the next session has none that an earlier commit has reserved: so its
-    /// number tells each earlier copy of the store from this one (`open`).
+    /// number tells each earlier copy of the store from this one (`open`). The commit has a mark of its own, and names that of the
+    /// commit before it.
     pub fn commit(&mut self) -> Result<(), Failure>
         ensures kept { OnOk result (IsCommit self.old self.new) }
         ensures held { OnOk result (IsClean (S.Store.view self.new.store) → (placed : Placed) → IsHeld placed self.old (S.Store.view self.old.store).trees
             → IsHeld placed self.new (S.Store.view self.new.store).trees) }
-        ensures beside { OnOk result (IsClean (S.Store.view self.new.store) → (tree : ℕ) → (tree ≡ 2 → ⊥)
+        ensures beside { OnOk result (IsClean (S.Store.view self.new.store) → (tree : ℕ) → (tree ≡ 2 → ⊥) → (tree ≡ 6 → ⊥)
             → (S.Store.view self.new.store).trees tree ≡ (S.Store.view self.old.store).trees tree) }
         // After it a crash leaves all of it.
         ensures durable { OnOk result (IsClean (S.Store.view self.new.store) → (db : Trees) → S.Store.recovers self.new.store db
             → db ≡ (S.Store.view self.new.store).trees) }
         // In it a crash leaves all or nothing of it.
         ensures crash { (db : Trees) → S.Store.recovers self.new.store db
-            → (db ≡ with_site self.old.rp.rp_id (to_commit self.old.durable self.old.reserved) (S.Store.view self.old.store).trees) ⊎ S.Store.recovers self.old.store db }
+            → (db ≡ committed_as self.old (S.Store.view self.old.store).trees) ⊎ S.Store.recovers self.old.store db }
         ensures cause { IsClean (S.Store.view self.new.store) → IfErr result (IsCaused (S.Store.view self.old.store) (S.Store.faults self.old.store) (S.Store.faults self.new.store)
-            (RefusesNumber (S.Store.view self.old.store).reals self.old.rp.rp_id (to_commit self.old.durable self.old.reserved)) ⊥) }
+            (RefusesCommit (S.Store.view self.old.store).reals self.old.rp.rp_id (to_commit self.old.durable self.old.reserved) self.old.next_mark self.old.mark) ⊥) }
         ensures counts { S.Store.faults self.old.store ≤ S.Store.faults self.new.store }
         ensures failed { IfErr result (IsFailure self.old self.new) }
         ensures shut { self.old.is_shut ≡ true → IsErrOf result failures.Shut }
@@ -153,7 +161,10 @@ impl<S: Store> KeptSite<S> {
         let durable = self.held.durable;
         let reserved = to_commit(durable, self.held.reserved);
         self.held.reserve(self.party.rp_id(), reserved)?;
+        self.held.put_mark(self.next_mark, self.mark)?;
         self.held.commit()?;
+        self.mark = self.next_mark;
+        self.next_mark = mark_after(self.mark);
         self.sessions
             .skip_to(u64::max(self.sessions.next(), durable));
         Ok(())

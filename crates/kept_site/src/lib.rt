@@ -11,6 +11,7 @@ mod kept;
 mod law;
 mod listing;
 mod looking;
+mod marks;
 mod open;
 mod registration;
 mod rows;

@@ -5,7 +5,8 @@ ghost use Rattle.sqlite_trees.specs.Tree.{Trees};
 ghost use Rattle.sqlite_trees.specs.View.{IsClean};
 ghost use Rattle.site_state.specs.RowViews.{row_view};
 ghost use Rattle.credential_store.specs.Held.{Placed};
-ghost use Rattle.credential_store.specs.Details.{Details, HoldsDetails, detail_view};
+ghost use Rattle.credential_store.specs.Details.{Details, HoldsDetails};
+ghost use Rattle.site_state.specs.Details.{detail_view};
 ghost use Rattle.kept_site.specs.State.{IsHeld};
 ghost use Rattle.kept_site.specs.Calls.{IsFailure, IsFound, IsSame, TellsDetail};
 ghost use Rattle.kept_site.specs.Causes.{IsCaused, IsDamaged};
@@ -14,8 +15,8 @@ ghost use Rattle.kept_site.specs.declared.failure.Failure.TheVariants as failure
 
 use crate::failure::Failure;
 use crate::kept::KeptSite;
-use credential_store::{Detail, Found};
-use site_state::Row;
+use credential_store::Found;
+use site_state::{Detail, Row};
 use sqlite_trees::store::Store;
 
 /// The credential that was found.

@@ -12,13 +12,14 @@ ghost use Rattle.verification.specs.Records.{Credential};
 ghost use Rattle.credential_store.specs.Held.{HasTrees, IsSameView, Placed, placed_rows};
 ghost use Rattle.credential_store.specs.Rows.{credential_row};
 ghost use Rattle.kept_site.specs.Causes.{IfOpenStore, IsStartCaused};
-ghost use Rattle.kept_site.specs.State.{HasParty, HoldsSite, IsHeld, IsReady, site_row};
+ghost use Rattle.kept_site.specs.State.{HasMark, HasParty, HoldsSite, IsHeld, IsReady, site_row};
 ghost use Rattle.kept_site.specs.Private.{IsUpTo};
 ghost use Rattle.kept_site.specs.declared.failure.OpenFailure.TheVariants as opens;
 
 use crate::create::Bounds;
 use crate::failure::OpenFailure;
 use crate::kept::KeptSite;
+use crate::marks::read_mark;
 use crate::rows::{VERSION, site_row};
 use crate::scan::{begin_scan, has_trees, rest};
 use crate::site_store::SiteStore;
@@ -147,6 +148,7 @@ fn count_rows<S: Store>(alloc: Global, store: &mut S) -> Result<Count, OpenFailu
 #[derive(Drop)]
 struct FoundSite {
     next: u64,
+    mark: u64,
     count: u32,
     last: u32,
 }
@@ -172,6 +174,7 @@ fn read_all<S: Store>(
     ensures found { IfOk result (λ f. IsClean (S.Store.view store.new) → (placed : Placed) (next : ℕ) → HoldsSite placed rp_id.now next (S.Store.view store.new).trees
         → (f.next ≡ next) × (finite.len placed ≡ f.count) × ((p : ℕ) (c : Credential) → finite.get placed p ≡ Some c → p ≤ f.last)) }
     ensures party { IfOk result (λ f. IsClean (S.Store.view store.new) → HasParty rp_id.now f.next (S.Store.view store.new).trees) }
+    ensures mark { IfOk result (λ f. IsClean (S.Store.view store.new) → HasMark f.mark (S.Store.view store.new).trees) }
     ensures limits { IfOk result (λ f. (1 ≤ f.next) × (f.next < 2 ^ 63)) }
     ensures newer { IfOk result (λ f. at_least < f.next) }
     ensures clean { OnOk result (IsClean (S.Store.view store.new) → IsClean (S.Store.view store.old)) }
@@ -186,9 +189,11 @@ fn read_all<S: Store>(
     }
     let next = read_site(alloc, rp_id, store)?;
     check_age(next, at_least)?;
+    let mark = read_mark(alloc, store)?;
     let counted = count_rows(alloc, store)?;
     Ok(FoundSite {
         next,
+        mark,
         count: counted.count,
         last: counted.last,
     })
@@ -199,6 +204,7 @@ impl<S: Store> KeptSite<S> {
     /// earlier transaction of the store has not committed is undone.
     ///
     /// `at_least` is the number of a session that is known to have been begun, as the last that was told, and 0 where none is known.
+    /// `life` is a random number, the mark of the next commit.
     ///
     /// `NoSite` where the trees are not those of a site, `Newer` and `OtherSite` where their version or rp id is another, `Older`
     /// where no session can have had that number, `TooMany` and `BadRow` where a row is no credential's, `Failed` where the disk
@@ -209,10 +215,13 @@ impl<S: Store> KeptSite<S> {
         policy: Policy,
         bounds: Bounds,
         at_least: u64,
+        life: u64,
         mut store: S,
     ) -> Result<KeptSite<S>, (OpenFailure, S)>
         ensures made { IfOk result (λ s. (s.rp ≡ party) × (s.policy ≡ policy) × (s.most ≡ bounds.credentials) × (s.is_shut ≡ false) × (s.is_pending ≡ false)) }
         ensures sessions { IfOk result (λ s. (s.timed.open_sessions.expected ≡ finite.empty) × (s.timed.open_sessions.next ≡ s.reserved)) }
+        // The next commit follows the last one.
+        ensures marks { IfOk result (λ s. (s.next_mark ≡ life) × (IsClean (S.Store.view s.store) → HasMark s.mark (S.Store.view s.store).trees)) }
         // It is of this relying party,
         ensures party { IfOk result (λ s. IsClean (S.Store.view s.store) → HasParty party.rp_id s.reserved (S.Store.view s.store).trees) }
         // where the store holds a site, this is it,
@@ -233,6 +242,8 @@ impl<S: Store> KeptSite<S> {
                 party,
                 policy,
                 sessions: TimedSessions::new(alloc, found.next, bounds.open_sessions),
+                mark: found.mark,
+                next_mark: life,
                 count: found.count,
                 last: found.last,
                 most: bounds.credentials,

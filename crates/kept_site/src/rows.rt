@@ -16,7 +16,7 @@ use sqlite_value::value::ValueRef;
 use std::alloc::{AllocError, Global};
 
 /// The version of a file.
-pub(crate) const VERSION: i64 = 2;
+pub(crate) const VERSION: i64 = 3;
 
 /// The row of a relying party, none of whose sessions had this number or a higher one.
 pub(crate) fn site_row(alloc: Global, rp_id: &str, next: u64) -> Result<Row, AllocError>
@@ -75,6 +75,7 @@ pub(crate) fn reserve<S: Store>(
     ensures reserved { OnOk result (IsClean (S.Store.view store.new) → (placed : Placed) (was : ℕ) → HoldsSite placed rp_id.now was (S.Store.view store.old).trees
         → HoldsSite placed rp_id.now next (S.Store.view store.new).trees) }
     ensures set { OnOk result (IsClean (S.Store.view store.new) → SetsTree (S.Store.view store.old) (S.Store.view store.new) 2 (put_row (site_row rp_id.now next))) }
+    ensures reals { (S.Store.view store.new).reals ≡ (S.Store.view store.old).reals }
     ensures writes { OnOk result (IsClean (S.Store.view store.new) → OnlyWrites (S.Store.view store.old) (S.Store.view store.new)) }
     ensures clean { IsClean (S.Store.view store.new) → IsClean (S.Store.view store.old) }
     ensures cause { IsClean (S.Store.view store.new) → IfErr result (HasCause (S.Store.view store.old) (MoreFaults (S.Store.faults store.old) (S.Store.faults store.new))

@@ -73,11 +73,12 @@ pub(crate) fn rest<S: Store>(store: &mut S) -> Result<(), StoreError>
 /// Whether the trees have the shapes of a site's.
 pub(crate) fn has_trees<S: Store>(store: &S) -> bool
     ensures { IsTrue result → HasTrees (S.Store.view store.now) × ((S.Store.view store.now).shape 2 ≡ Table)
-        × ((S.Store.view store.now).shape 5 ≡ Table) }
+        × ((S.Store.view store.now).shape 5 ≡ Table) × ((S.Store.view store.now).shape 6 ≡ Table) }
 {
     store.shape(0) == Shape::Table
         && store.shape(2) == Shape::Table
         && store.shape(3) == Shape::Index(Order::PLAIN)
         && store.shape(4) == Shape::Index(Order::PLAIN)
         && store.shape(5) == Shape::Table
+        && store.shape(6) == Shape::Table
 }

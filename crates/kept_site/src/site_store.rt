@@ -1,6 +1,6 @@
 //! The store of a site.
 
-ghost use Rattle.std.specs.Prelude.{◌≡◌, ◌⊎◌, ◌+◌, ◌<◌, ◌≤◌, ◌^◌, ℕ, IfErr, IfOk, IfSome, IsTrue, OnErr, OnOk, None, Some, true, false};
+ghost use Rattle.std.specs.Prelude.{◌≡◌, ◌⊎◌, ◌+◌, ◌<◌, ◌≤◌, ◌^◌, ℕ, List, IfErr, IfOk, IfSome, IsTrue, OnErr, OnOk, None, Some, true, false};
 ghost use Rattle.std.specs.FinMap as finite;
 ghost use Rattle.sqlite_trees.specs.Tree.{Trees};
 ghost use Rattle.sqlite_trees.specs.View.{IsClean, IsStorableRow, OnlyWrites};
@@ -12,10 +12,11 @@ ghost use Rattle.credential_store.specs.Rows.{credential_row};
 ghost use Rattle.credential_store.specs.Held.{HasNone, Holds, IsAt, IsSameView, IsWritten, Placed};
 ghost use Rattle.kept_site.specs.Causes.{IsCaused, IsDamaged, RefusesNumber};
 ghost use Rattle.kept_site.specs.Private.{IsFoundAs, TellsHad};
-ghost use Rattle.kept_site.specs.State.{HoldsSite, IsReady, with_site};
+ghost use Rattle.kept_site.specs.State.{HoldsSite, IsReady, mark_row, with_mark, with_site};
 ghost use Rattle.kept_site.specs.declared.failure.Failure.TheVariants as failures;
 
 use crate::failure::Failure;
+use crate::marks::write_mark;
 use crate::rows::{BLOCK, reserve};
 use credential_store::Found;
 use sqlite_trees::store::Store;
@@ -149,6 +150,7 @@ impl<S: Store> SiteStore<S> {
             → HoldsSite placed rp_id.now self.new.reserved (S.Store.view self.new.store).trees) }
         ensures trees { OnOk result (IsClean (S.Store.view self.new.store)
             → (S.Store.view self.new.store).trees ≡ with_site rp_id.now reserved (S.Store.view self.old.store).trees) }
+        ensures reals { (S.Store.view self.new.store).reals ≡ (S.Store.view self.old.store).reals }
         ensures ready { OnOk result (IsClean (S.Store.view self.new.store) → IsReady (S.Store.view self.new.store) true) }
         ensures clean { IsClean (S.Store.view self.new.store) → IsClean (S.Store.view self.old.store) }
         ensures open { OnOk result ((self.new.is_shut ≡ false) × (self.new.is_pending ≡ true) × (self.new.durable ≡ self.old.durable)) }
@@ -161,6 +163,29 @@ impl<S: Store> SiteStore<S> {
         self.is_shut = true;
         reserve(self.alloc, &mut self.store, rp_id, reserved)?;
         self.reserved = reserved;
+        self.is_pending = true;
+        self.is_shut = false;
+        Ok(())
+    }
+
+    /// Writes the row of the commit that is to come. A failure shuts it.
+    pub(crate) fn put_mark(&mut self, mark: u64, follows: u64) -> Result<(), Failure>
+        requires ready { IsClean (S.Store.view self.old.store) → IsReady (S.Store.view self.old.store) self.old.is_pending }
+        ensures held { OnOk result (IsClean (S.Store.view self.new.store) → (placed : Placed) (rp_id : List ℕ) (next : ℕ) → HoldsSite placed rp_id next (S.Store.view self.old.store).trees
+            → HoldsSite placed rp_id next (S.Store.view self.new.store).trees) }
+        ensures trees { OnOk result (IsClean (S.Store.view self.new.store)
+            → (S.Store.view self.new.store).trees ≡ with_mark mark follows (S.Store.view self.old.store).trees) }
+        ensures ready { OnOk result (IsClean (S.Store.view self.new.store) → IsReady (S.Store.view self.new.store) true) }
+        ensures clean { IsClean (S.Store.view self.new.store) → IsClean (S.Store.view self.old.store) }
+        ensures open { OnOk result ((self.new.is_shut ≡ false) × (self.new.is_pending ≡ true) × (self.new.reserved ≡ self.old.reserved) × (self.new.durable ≡ self.old.durable)) }
+        ensures failed { IfErr result (λ e. (self.new.is_shut ≡ true) × (self.new.reserved ≡ self.old.reserved) × (self.new.durable ≡ self.old.durable) × (e ≡ failures.Shut → ⊥)) }
+        ensures cause { IsClean (S.Store.view self.new.store) → IfErr result (IsCaused (S.Store.view self.old.store) (S.Store.faults self.old.store) (S.Store.faults self.new.store)
+            (¬ IsStorableRow ((S.Store.view self.old.store).reals 6) (mark_row mark follows)) ⊥) }
+        ensures counts { S.Store.faults self.old.store ≤ S.Store.faults self.new.store }
+        ensures crash { (db : Trees) → S.Store.recovers self.new.store db → S.Store.recovers self.old.store db }
+    {
+        self.is_shut = true;
+        write_mark(self.alloc, &mut self.store, mark, follows)?;
         self.is_pending = true;
         self.is_shut = false;
         Ok(())

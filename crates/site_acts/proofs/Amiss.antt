@@ -2,7 +2,7 @@
 use Rattle.std.proofs.Common.{◌≡◌, ◌<◌, ◌≤◌, ◌+◌, ℕ, zero, suc, List, [], ◌∷◌, length, get_or, map, take, Bor, Option, Some, None, refl, sym, subst, ap, inl, inr, ◌∙◌, arith}
 use Rattle.std.specs.Prelude.{option_and_then}
 use Rattle.std.specs.List.{AllByRecursion}
-use Rattle.serde_json.specs.Data.{Data, Items, no_items, item}
+use Rattle.serde_json.specs.Data.{Data, Items, item}
 use Rattle.serde_json.specs.Find.{as_array}
 use Rattle.serde_json.specs.View.{items_of, view}
 use Rattle.serde_json.specs.declared.value.Value.{Value}
@@ -10,7 +10,6 @@ use Rattle.site_acts.specs.Faults.{AreTransports, HasItems, IsIllFormed, IsPlain
 use Rattle.site_acts.specs.Lines.{member}
 use Rattle.site_acts.specs.Private.{AreItems, IsRefusedAs}
 use Rattle.site_acts.specs.declared.error.LineError.{LineError}
-use Rattle.site_acts.specs.declared.error.LineError.TheVariants as errors
 
 each : (Is : Data → Type 0) (values : List Value) (i : ℕ) (v : Value) → i < length values → v ≡ get_or values i v → AllByRecursion Is (map view values) → Is (view v)
 each Is [] i v below is all = absurd (omega arith)

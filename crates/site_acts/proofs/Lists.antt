@@ -1,5 +1,5 @@
 -- Members that are lists.
-use Rattle.std.proofs.Common.{◌≡◌, ℕ, List, [], ◌∷◌, codes, map, refl, sym, ap, subst, ◌∙◌, inl, inr, Some, None}
+use Rattle.std.proofs.Common.{◌≡◌, ℕ, List, [], ◌∷◌, codes, map, refl, sym, ap, ◌∙◌, inl, inr, Some}
 use Rattle.std.specs.Prelude.{Vec, option_and_then}
 use Rattle.std.specs.Global.{Global}
 use Rattle.base64.specs.GeneralPurpose.{encode_of}

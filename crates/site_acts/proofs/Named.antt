@@ -1,5 +1,5 @@
 -- The names of an object's members.
-use Rattle.std.proofs.Common.{◌≡◌, ℕ, zero, suc, List, [], ◌∷◌, Option, Some, None, String, Global, string_bytes, sym, ap, inl, inr}
+use Rattle.std.proofs.Common.{◌≡◌, ℕ, zero, suc, List, [], ◌∷◌, Some, String, Global, string_bytes, sym, ap, inl, inr}
 use Rattle.std.specs.List.{slice_get}
 use Rattle.serde_json.specs.View.{members_view}
 use Rattle.serde_json.specs.declared.value.Value.{Value}

@@ -1,6 +1,6 @@
 //! What is known of a credential beside what verdicts ask for.
 
-use credential_store::Detail;
+use site_state::Detail;
 
 /// A credential by its id, and what is known of it beside what verdicts ask for.
 #[derive(Debug, Drop)]

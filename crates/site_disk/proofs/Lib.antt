@@ -1,1 +1,3 @@
 mod Staying
+mod Frames
+mod Marks

@@ -8,38 +8,41 @@ ghost use Rattle.kept_site.specs.State.{IsHeld};
 
 use crate::FileSite;
 use crate::bounds::check_bounds;
+use crate::earlier::check_empty;
 use crate::error::FileError;
-use crate::first::check_empty;
 use crate::looking::{looked_at, unless_in_use};
 use crate::opening::same_party;
-use crate::path::{Found, found_at};
-use crate::stores::{connected, list_at, second_at};
-use crate::tables::{Listed, list_of, made, upgraded};
+use crate::stores::{connected, latest_at, list_at, random};
+use crate::tables::{Earlier, Listed, list_of, made, upgraded};
 use kept_site::{Bounds, KeptSite};
-use site_disk::SiteFile;
+use site_disk::{Found, SiteFile, found_at};
 use sqlite::{Alter, FileStore, Start};
 use std::alloc::Global;
 use verification::{Policy, RelyingParty};
 
-/// The store with the tables of version 2, of those of version 1 that have no row.
-fn taken_up<S: Alter + Drop>(alloc: Global, mut store: S) -> Result<S, (FileError, S)>
+/// The store with the tables of version 3, of those of an earlier one that have no row.
+fn taken_up<S: Alter + Drop>(
+    alloc: Global,
+    version: Earlier,
+    mut store: S,
+) -> Result<S, (FileError, S)>
     requires numbered { IsClean (S.Store.view store) → IsTrue (S.Store.view store).is_numbered }
 {
-    match check_empty(alloc, &mut store) {
-        Ok(()) => upgraded(alloc, store),
+    match check_empty(alloc, version, &mut store) {
+        Ok(()) => upgraded(alloc, version, store),
         Err(e) => Err((e, store)),
     }
 }
 
 /// The store with the tables of a site: they are made where it lists nothing, and taken as they are where a creation was cut off
-/// behind their commit. `Exists` where it lists others, or rows stand in those of version 1.
+/// behind their commit. `Exists` where it lists others, or rows stand in those of an earlier version.
 fn with_tables<S: Alter + Drop>(alloc: Global, store: S) -> Result<S, (FileError, S)>
     requires numbered { IsClean (S.Store.view store) → IsTrue (S.Store.view store).is_numbered }
 {
     match list_of(alloc, &store) {
         Ok(Listed::Nothing) => made(alloc, store),
-        Ok(Listed::First) => taken_up(alloc, store),
-        Ok(Listed::Second) => Ok(store),
+        Ok(Listed::Earlier(version)) => taken_up(alloc, version, store),
+        Ok(Listed::Latest) => Ok(store),
         Ok(Listed::Other) => Err((FileError::Exists, store)),
         Err(e) => Err((e, store)),
     }
@@ -51,6 +54,7 @@ fn site_over<S: Alter + Drop>(
     party: RelyingParty,
     policy: Policy,
     bounds: Bounds,
+    life: u64,
     store: S,
 ) -> Result<KeptSite<S>, (FileError, S)>
     ensures made { IfOk result (λ s. (s.rp ≡ party) × (s.policy ≡ policy) × (s.most ≡ bounds.credentials) × (s.is_shut ≡ false) × (s.is_pending ≡ false)) }
@@ -58,23 +62,24 @@ fn site_over<S: Alter + Drop>(
     ensures held { IfOk result (λ s. IsClean (S.Store.view s.store) → IsHeld finite.empty s (S.Store.view s.store).trees) }
 {
     match list_of(alloc, &store) {
-        Ok(Listed::Second) => {}
+        Ok(Listed::Latest) => {}
         Ok(_) => return Err((FileError::Exists, store)),
         Err(e) => return Err((e, store)),
     }
-    match KeptSite::create(alloc, party, policy, bounds, store) {
+    match KeptSite::create(alloc, party, policy, bounds, life, store) {
         Ok(site) => Ok(site),
         Err((e, store)) => Err((e.into(), store)),
     }
 }
 
 /// Makes the tables of a site in a store that lists nothing, and the site in them; a creation that was cut off is taken up.
-/// `BadBound` and `Exists` as `create`. The store is handed back.
+/// `life` is a random number, the first mark of a commit. `BadBound` and `Exists` as `create`. The store is handed back.
 pub fn create_over<S: Alter + Drop>(
     alloc: Global,
     party: RelyingParty,
     policy: Policy,
     bounds: Bounds,
+    life: u64,
     store: S,
 ) -> Result<KeptSite<S>, (FileError, S)>
     requires numbered { IsClean (S.Store.view store) → IsTrue (S.Store.view store).is_numbered }
@@ -86,7 +91,7 @@ pub fn create_over<S: Alter + Drop>(
         return Err((e, store));
     }
     let store = with_tables(alloc, store)?;
-    site_over(alloc, party, policy, bounds, store)
+    site_over(alloc, party, policy, bounds, life, store)
 }
 
 /// The same store, whose file begins from now on as a SQLite file does, which `open` asks.
@@ -120,7 +125,7 @@ fn new_file<S: Start>(
     }
 }
 
-/// The store of a file that is there: one of version 2 is not read by SQL, as at an open.
+/// The store of a file that is there: one of version 3 is not read by SQL, as at an open.
 fn found_file<S: Start>(
     rt: &HostRuntime,
     path: &str,
@@ -129,7 +134,7 @@ fn found_file<S: Start>(
     start: S,
 ) -> Result<FileStore<SiteFile<S>>, FileError> {
     match list_at(rt, path) {
-        Ok(Listed::Second) => written(second_at(rt, path, wary, start)?),
+        Ok(Listed::Latest) => written(latest_at(rt, path, wary, start)?),
         _ => new_file(rt, path, sums, wary, start),
     }
 }
@@ -145,7 +150,9 @@ fn check_create(
 ) -> Result<(), FileError> {
     let alloc = rt.alloc();
     let party = same_party(alloc, party)?;
-    match create_over(alloc, party, policy, bounds, looked_at(rt, path)?) {
+    // Nothing of it is written.
+    let life = 0;
+    match create_over(alloc, party, policy, bounds, life, looked_at(rt, path)?) {
         Ok(_site) => Ok(()),
         Err((e, _store)) => Err(e),
     }
@@ -161,6 +168,7 @@ fn is_there(
 ) -> Result<bool, FileError> {
     match found_at(rt, path)? {
         Found::Other => Err(FileError::Exists),
+        Found::LoneLog => Err(FileError::LoneLog),
         Found::Nothing | Found::Empty => Ok(false),
         Found::Sqlite => {
             check_create(rt, path, party, policy, bounds)?;
@@ -176,7 +184,7 @@ fn is_there(
 /// bytes are told. A `sqlite3` without that extension reads such a file, and spoils it when it writes. `wary` as at `open`.
 ///
 /// `BadBound` where more than 1,000,000 sessions could be open or as many credentials registered, `Exists` where a file is there
-/// that holds something, `LoneLog` where its log is there alone, `NotSqlite` and `DamagedLog` where the two are no sound SQLite file;
+/// that holds something, `LoneLog` where its log is there alone, `NotSqlite`, `DamagedLog` and `OtherLog` where the two are no sound SQLite file;
 /// nothing is made or changed then. `InUse`, `CannotOpen` and `Failed` where the system, the disk or memory failed.
 ///
 /// A creation that is cut off leaves no file, or one that holds nothing: it is empty, or has no table, or the tables of a
@@ -196,12 +204,13 @@ pub fn create<S: Start>(
     ensures held { IfOk result (λ s. IsClean (view s.store) → IsHeld finite.empty s (view s.store).trees) }
 {
     check_bounds(bounds)?;
+    let life = random(rt)?;
     let store = match is_there(rt, path, &party, policy, bounds) {
         Ok(true) => found_file(rt, path, sums, wary, start)?,
         Ok(false) => new_file(rt, path, sums, wary, start)?,
         Err(e) => return Err(unless_in_use(rt, path, e)),
     };
-    match site_over(rt.alloc(), party, policy, bounds, store) {
+    match site_over(rt.alloc(), party, policy, bounds, life, store) {
         Ok(site) => Ok(site),
         Err((e, store)) => {
             drop(store.close());

@@ -4,6 +4,7 @@ use kept_site::{CreateFailure, OpenFailure};
 use sqlite::{Error, ErrorCode};
 use sqlite_std_file::OpenError;
 use sqlite_trees::error::StoreError;
+use sqlite_wal::Error as LogError;
 use std::alloc::{AllocError, AllocFailed};
 use std::io;
 
@@ -28,6 +29,9 @@ pub enum FileError {
     /// The header of the file's log is damaged, and what it may hold would be passed over.
     #[error("the file's log (FILE-wal) is damaged")]
     DamagedLog,
+    /// The file's log does not go on from it: one of the two was put there from elsewhere, as an older copy.
+    #[error("the log (FILE-wal) is another file's, or of another time")]
+    OtherLog,
     /// The file is no sound SQLite file.
     #[error("the file is no sound SQLite file")]
     NotSqlite,
@@ -115,6 +119,16 @@ impl From<OpenError> for FileError {
                 FileError::Failed(StoreError::OutOfMemory)
             }
             _ => FileError::CannotOpen,
+        }
+    }
+}
+
+impl From<LogError> for FileError {
+    fn from(e: LogError) -> FileError {
+        match e {
+            LogError::OutOfMemory => FileError::Failed(StoreError::OutOfMemory),
+            LogError::Io(error) => error.into(),
+            _ => FileError::NotSqlite,
         }
     }
 }

@@ -5,11 +5,10 @@ mod backing_up;
 mod bounds;
 mod closing;
 mod creating;
+mod earlier;
 mod error;
-mod first;
 mod looking;
 mod opening;
-mod path;
 mod stores;
 mod tables;
 

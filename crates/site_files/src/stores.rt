@@ -1,6 +1,6 @@
 //! The store of a site's files.
 
-ghost use Rattle.std.specs.Prelude.{◌≡◌, Bool, IfOk, IfSome, IsTrue, OnOk};
+ghost use Rattle.std.specs.Prelude.{◌≡◌, Bool, IfOk, IsTrue, OnOk};
 ghost use Rattle.sqlite_wal.specs.Files.{image_at};
 ghost use Rattle.sqlite_pool.specs.Stored.{used_size};
 ghost use Rattle.sqlite_trees.specs.Tree.{Trees};
@@ -11,15 +11,15 @@ ghost use Rattle.sqlite_store.specs.Unopened.{AreUsable, files_of, image, state_
 ghost use Rattle.site_files.specs.Files.{IsFoundIn, IsHeldIn};
 
 use crate::error::FileError;
-use crate::path::{Found, has_sums_at, head_at};
-use crate::tables::{Listed, list_in, second};
-use site_disk::{SiteFile, files_at};
+use crate::tables::{Listed, latest, list_in};
+use site_disk::{Found, SiteFile, files_at, has_sums_at, head_at};
 use sqlite::{Connection, FileStore, Files, Options, Start, Unknown};
 use sqlite_disk::Disk;
 use sqlite_pager::Pager;
 use sqlite_store::{OpenError, Unopened};
 use sqlite_trees::error::StoreError;
 use sqlite_value::row::Row;
+use sqlite_value::value::ValueRef;
 use sqlite_wal::PageSize;
 use std::alloc::{AllocError, Global};
 use std::hash::{BuildHasher, RandomState};
@@ -27,27 +27,35 @@ use std::hash::{BuildHasher, RandomState};
 /// The size of a page in a site's file.
 const PAGE_SIZE: usize = 4096;
 
-/// A number that others don't know, for the sums of the log.
-pub fn options(rt: &HostRuntime) -> Result<Options, FileError> {
-    let seed = RandomState::new(rt)?.hash_one(&0u8);
-    Ok(Options::new(seed))
+/// A random number.
+pub fn random(rt: &HostRuntime) -> Result<u64, FileError> {
+    Ok(RandomState::new(rt)?.hash_one(&0u8))
 }
 
-/// Files, to be opened with the tables of version 2, whose pages end in sums or not.
-fn unopened<D: Disk + Drop>(
+/// A number that others don't know, for the sums of the log.
+pub fn options(rt: &HostRuntime) -> Result<Options, FileError> {
+    Ok(Options::new(random(rt)?))
+}
+
+/// Files, to be opened with the tables of version 3, whose pages end in sums or not.
+pub fn unopened<D: Disk + Drop>(
     alloc: Global,
     files: Files<D>,
     options: Options,
     has_sums: bool,
 ) -> Result<Unopened<D>, FileError>
+    ensures usable { IfOk result (λ it. AreUsable it) }
     ensures files { IfOk result (λ it. files_of it ≡ (files.log, files.db)) }
     ensures size { IfOk result (λ it. (state_of it).page_size ≡ used_size 4096 has_sums) }
 {
+    if !files.log.may_be_used() || !files.db.may_be_used() {
+        return Err(FileError::Failed(StoreError::Io));
+    }
     let size = PageSize::new(PAGE_SIZE).unwrap();
     let Ok(pager) = Pager::new(alloc, files, size, options) else {
         return Err(FileError::Failed(StoreError::OutOfMemory));
     };
-    match Unopened::with_sums(alloc, pager, &second(), has_sums) {
+    match Unopened::with_sums(alloc, pager, &latest(), has_sums) {
         Ok(it) => Ok(it),
         Err(_) => Err(FileError::Failed(StoreError::OutOfMemory)),
     }
@@ -76,15 +84,37 @@ fn without_roots(alloc: Global, listed: &[Row]) -> Result<Vec<Row>, AllocError> 
     Ok(rows)
 }
 
+/// The page where the table of marks begins, of the list of a file of version 3.
+fn mark_root(listed: &[Row]) -> u32 {
+    match listed.last() {
+        Some(row) => match row.get(4) {
+            ValueRef::Int(root) => u32::try_from(root).unwrap_or(0),
+            _ => 0,
+        },
+        None => 0,
+    }
+}
+
+/// What files list.
+#[derive(Clone, Copy, Drop)]
+pub struct Catalog {
+    pub listed: Listed,
+    /// The page where the table of marks begins, in a file of version 3.
+    pub mark_root: u32,
+}
+
 /// What files list, of which only that is read.
-fn list_of_files<D: Disk>(alloc: Global, it: &mut Unopened<D>) -> Result<Listed, FileError>
+pub fn list_of_files<D: Disk>(alloc: Global, it: &mut Unopened<D>) -> Result<Catalog, FileError>
     requires { AreUsable it.old }
     ensures usable { OnOk result (AreUsable it.new) }
 {
     match it.read_catalog() {
         Ok(listed) => {
             let rows = without_roots(alloc, listed.as_slice())?;
-            Ok(list_in(alloc, rows.as_slice())?)
+            Ok(Catalog {
+                listed: list_in(alloc, rows.as_slice())?,
+                mark_root: mark_root(listed.as_slice()),
+            })
         }
         Err(e) => Err(failure(e)),
     }
@@ -102,11 +132,11 @@ pub fn list_at(rt: &HostRuntime, path: &str) -> Result<Listed, FileError> {
     let mut it = unopened(rt.alloc(), files, options, has_sums)?;
     let list = list_of_files(rt.alloc(), &mut it);
     drop(it.close());
-    list
+    Ok(list?.listed)
 }
 
-/// The store of files with the tables of version 2, whose pages and trees are tested.
-fn opened<D: Disk + Drop>(it: Unopened<D>) -> Result<FileStore<D>, FileError>
+/// The store of files with the tables of version 3, whose pages and trees are tested.
+pub fn opened<D: Disk + Drop>(it: Unopened<D>) -> Result<FileStore<D>, FileError>
     requires { AreUsable it }
     ensures numbered { IfOk result (λ store. IsTrue (view store).is_numbered) }
     ensures rests { IfOk result (λ store. (view store).committed ≡ (view store).trees) }
@@ -126,45 +156,10 @@ pub fn listed_in<D: Disk + Drop>(
     options: Options,
     has_sums: bool,
 ) -> Result<Listed, FileError> {
-    if !files.log.may_be_used() || !files.db.may_be_used() {
-        return Err(FileError::Failed(StoreError::Io));
-    }
     let mut it = unopened(alloc, files, options, has_sums)?;
     let list = list_of_files(alloc, &mut it);
     drop(it.close());
-    list
-}
-
-/// The store of files that list the tables of version 2, and none where they don't, or where their list is not read.
-fn second_in<D: Disk + Drop>(
-    mut it: Unopened<D>,
-    alloc: Global,
-) -> Result<Option<FileStore<D>>, FileError>
-    requires { AreUsable it }
-    ensures numbered { IfOk result (λ found. IfSome found (λ store. IsTrue (view store).is_numbered)) }
-{
-    match list_of_files(alloc, &mut it) {
-        Ok(Listed::Second) => Ok(Some(opened(it)?)),
-        _ => {
-            drop(it.close());
-            Ok(None)
-        }
-    }
-}
-
-/// The same of files that were not opened yet.
-pub fn second_of<D: Disk + Drop>(
-    alloc: Global,
-    files: Files<D>,
-    options: Options,
-    has_sums: bool,
-) -> Result<Option<FileStore<D>>, FileError>
-    ensures numbered { IfOk result (λ found. IfSome found (λ store. IsTrue (view store).is_numbered)) }
-{
-    if !files.log.may_be_used() || !files.db.may_be_used() {
-        return Err(FileError::Failed(StoreError::Io));
-    }
-    second_in(unopened(alloc, files, options, has_sums)?, alloc)
+    Ok(list?.listed)
 }
 
 /// The store of files that SQL opens. A new file has sums of its pages, or not.
@@ -212,10 +207,10 @@ pub fn connected<S: Start>(
     }
 }
 
-/// The store of a file of version 2: its list, its pages and its trees are tested, and what rows say of each other is not.
+/// The store of a file of version 3: its list, its pages and its trees are tested, and what rows say of each other is not.
 /// `NotSqlite` where it is none, or damaged: where its pages end in sums
 /// each is tested.
-pub fn second_at<S: Start>(
+pub fn latest_at<S: Start>(
     rt: &HostRuntime,
     path: &str,
     wary: bool,

@@ -63,8 +63,15 @@ const DETAIL: &str = "CREATE TABLE detail (
   aaguid BLOB
 ) STRICT";
 
-/// What makes the tables of a new file: those of version 1, and then of them those of version 2.
-static NEW: [&str; 8] = [
+const MARK: &str = "CREATE TABLE mark (
+  number INTEGER PRIMARY KEY,
+  mark BLOB NOT NULL,
+  follows BLOB NOT NULL,
+  sum BLOB NOT NULL
+) STRICT";
+
+/// What makes the tables of a new file: those of version 1, of them those of version 2, and of them those of version 3.
+static NEW: [&str; 10] = [
     CREDENTIAL,
     SESSION,
     SITE,
@@ -73,6 +80,8 @@ static NEW: [&str; 8] = [
     "DROP TABLE session",
     DETAIL,
     "UPDATE site SET version = 2",
+    MARK,
+    "UPDATE site SET version = 3",
 ];
 
 /// Runs these texts in one transaction.
@@ -120,12 +129,26 @@ pub fn made<S: Alter + Drop>(alloc: Global, store: S) -> Result<S, (FileError, S
     changed(alloc, store, &NEW)
 }
 
-/// Makes the tables of version 2 of those of version 1. The open sessions end.
-pub fn upgraded<S: Alter + Drop>(alloc: Global, store: S) -> Result<S, (FileError, S)>
+/// An earlier version.
+#[derive(Clone, Copy, PartialEq, Eq, Drop)]
+pub enum Earlier {
+    First,
+    Second,
+}
+
+/// Makes the tables of version 3 of those of an earlier one. The open sessions of version 1 end.
+pub fn upgraded<S: Alter + Drop>(
+    alloc: Global,
+    version: Earlier,
+    store: S,
+) -> Result<S, (FileError, S)>
     requires numbered { IsClean (S.Store.view store) → IsTrue (S.Store.view store).is_numbered }
     ensures clean { IfOk result (λ new. IsClean (S.Store.view new) → IsClean (S.Store.view store)) }
 {
-    changed(alloc, store, &NEW[3..])
+    match version {
+        Earlier::First => changed(alloc, store, &NEW[3..]),
+        Earlier::Second => changed(alloc, store, &NEW[8..]),
+    }
 }
 
 /// What a file lists.
@@ -133,10 +156,10 @@ pub fn upgraded<S: Alter + Drop>(alloc: Global, store: S) -> Result<S, (FileErro
 pub enum Listed {
     /// Nothing.
     Nothing,
-    /// The tables of version 1.
-    First,
-    /// The tables and indices of version 2.
-    Second,
+    /// The tables, and indices, of an earlier version.
+    Earlier(Earlier),
+    /// The tables and indices of version 3.
+    Latest,
     /// Something else.
     Other,
 }
@@ -185,8 +208,8 @@ fn first<'a>() -> [Object<'a>; 3] {
     ]
 }
 
-/// Those of version 2.
-pub fn second<'a>() -> [Object<'a>; 6] {
+/// Those of version 3: its first six are those of version 2.
+pub fn latest<'a>() -> [Object<'a>; 7] {
     [
         table("credential", CREDENTIAL),
         gap(),
@@ -194,6 +217,7 @@ pub fn second<'a>() -> [Object<'a>; 6] {
         index("credential_by_id", BY_ID),
         index("credential_by_user", BY_USER),
         table("detail", DETAIL),
+        table("mark", MARK),
     ]
 }
 
@@ -239,13 +263,17 @@ fn are_same(rows: &[Row], wanted: &[Row]) -> bool {
 /// What the rows of a file's list are: just the objects of a version with these texts, nothing, or something else.
 pub fn list_in(alloc: Global, rows: &[Row]) -> Result<Listed, AllocError> {
     let first = rows_of(alloc, &first())?;
-    let second = rows_of(alloc, &second())?;
+    let latest = latest();
+    let second = rows_of(alloc, &latest[..6])?;
+    let latest = rows_of(alloc, &latest)?;
     Ok(if rows.is_empty() {
         Listed::Nothing
     } else if are_same(rows, first.as_slice()) {
-        Listed::First
+        Listed::Earlier(Earlier::First)
     } else if are_same(rows, second.as_slice()) {
-        Listed::Second
+        Listed::Earlier(Earlier::Second)
+    } else if are_same(rows, latest.as_slice()) {
+        Listed::Latest
     } else {
         Listed::Other
     })

@@ -15,7 +15,7 @@ use Rattle.kept_site.specs.declared.failure.FinishFailure.{FinishFailure}
 use Rattle.kept_site.specs.declared.failure.FinishFailure.TheVariants as finishes
 use Rattle.authdata.specs.Responses.{AuthenticatorAssertionResponse}
 use Rattle.authdata.specs.Responses as responses
-use Rattle.credential_store.specs.Details.{Detail}
+use Rattle.site_state.specs.Details.{Detail}
 use Rattle.authdata.specs.declared.profile.Profile.{Profile}
 use Rattle.verification.specs.declared.refusal.RegistrationRefusal.{RegistrationRefusal}
 use Rattle.site_acts.specs.declared.act.FinishRegistration.{FinishRegistration}

@@ -2,7 +2,7 @@
 use Rattle.std.specs.Prelude.{◌≤◌, ◌^◌, ◌+◌, IfOk, Ok, Err, Vec, string_bytes}
 use Rattle.std.specs.declared.result.Result.{Result}
 use Rattle.std.specs.Global.{Global}
-use Rattle.std.proofs.Common.{◌≡◌, ◌++◌, ◌∷◌, [], ℕ, List, Option, Some, None, map, ap, refl, sym, subst, ◌∙◌, false}
+use Rattle.std.proofs.Common.{◌≡◌, ◌++◌, ◌∷◌, [], ℕ, List, Option, Some, None, map, ap, sym, subst, ◌∙◌, false}
 use Rattle.std.specs.FinMap as finite
 use Rattle.std.specs.List.{AllByRecursion}
 use Rattle.sqlite_trees.specs.View.{IsClean, View}
@@ -17,7 +17,8 @@ use Rattle.site_state.specs.Sessions.{IsRefused, Opening, challenge_of}
 use Rattle.site_state.specs.declared.error.BeginError.TheVariants as full
 use Rattle.site_state.specs.Timed.{IsTrimmed, Timed, after_begin}
 use Rattle.credential_store.specs.Held.{Placed}
-use Rattle.credential_store.specs.Details.{Detail, Details, HoldsDetails, told}
+use Rattle.site_state.specs.Details.{Detail, told}
+use Rattle.credential_store.specs.Details.{Details, HoldsDetails}
 use Rattle.kept_site.specs.State.{KeptState}
 use Rattle.kept_site.specs.Calls.{IsSame}
 use Rattle.kept_site.specs.declared.failure.Failure.{Failure}
@@ -123,6 +124,8 @@ begins_after view o words moment session challenge old mid new same back b =
         policy = b.3.policy ∙ ap (λ (s : KeptState _). s.policy) same.is;
         most = b.3.most ∙ ap (λ (s : KeptState _). s.most) same.is;
         durable = b.3.durable ∙ ap (λ (s : KeptState _). s.durable) same.is;
+        mark = b.3.mark ∙ ap (λ (s : KeptState _). s.mark) same.is;
+        next_mark = b.3.next_mark ∙ ap (λ (s : KeptState _). s.next_mark) same.is;
       },
       λ clean placed held. b.4 clean placed (held_on view placed old mid same (back clean) held),
     )

@@ -1,9 +1,9 @@
 -- What is written nests no deeper than what is read.
-use Rattle.std.proofs.Common.{◌≡◌, ◌≤◌, ◌+◌, ◌==◌, ℕ, ℤ, suc, Bool, true, false, List, [], ◌∷◌, length, map, Option, Some, None, Ordering, Less, Equal, Greater, String, Global, string_bytes, codes, if◌then◌else◌, sym, subst, arith}
+use Rattle.std.proofs.Common.{◌≡◌, ◌≤◌, ◌+◌, ◌==◌, ℕ, ℤ, Bool, true, false, List, [], ◌∷◌, length, map, Option, Some, None, Ordering, Less, Equal, Greater, String, Global, string_bytes, codes, if◌then◌else◌, sym, subst, arith}
 use Rattle.std.specs.Prelude.{option_and_then, option_map}
 use Rattle.std.specs.Ordering.{match_ordering, nat_cmp}
 use Rattle.std.specs.Cmp.Lexicographic.{slice_cmp}
-use Rattle.serde_json.specs.Data.{Data, Members, array, depth, items_depth, member, members_depth, no_members, null, object, put, string}
+use Rattle.serde_json.specs.Data.{Data, Members, depth, items_depth, member, members_depth, no_members, null, object, put, string}
 use Rattle.serde_json.specs.Read.{max_depth}
 use Rattle.serde_json.specs.View.{items_of}
 use Rattle.cose.specs.declared.key.Alg.{Alg}
@@ -11,7 +11,7 @@ use Rattle.authdata.specs.Layout.{AttestedCredential, AuthenticatorData}
 use Rattle.verification.specs.Records.{Credential}
 use Rattle.kept_site.specs.declared.finish.SignedIn.{SignedIn}
 use Rattle.site_state.specs.declared.row.Row.{Row}
-use Rattle.credential_store.specs.Details.{Detail, detail_view}
+use Rattle.site_state.specs.Details.{Detail, detail_view}
 use Rattle.site_acts.specs.Options.{base64url, creation_options, descriptor, parameter, request_options}
 use Rattle.site_lines.specs.Private.{IsShallow}
 use Rattle.site_lines.specs.Written.{Writes, aaguid_or_null, answered, attested_members, begun, by_step, bytes_or_null, counts_from, data_members, flag_or_null, integer_or_null, line_number, natural, row_members, status, step_name, who_members, whole_row, whole_rows, with_count}

@@ -5,16 +5,10 @@ use Rattle.std.specs.FinMap as finite
 use Rattle.std.specs.Str.{bytes_eq}
 use Rattle.sha2.specs.Sha256.{sha256}
 use Rattle.sqlite_trees.specs.View.{View, IsClean}
-use Rattle.authdata.specs.declared.profile.Profile.{Profile}
-use Rattle.authdata.specs.Layout.{AttestedCredential, AuthenticatorData}
-use Rattle.authdata.specs.Objects.{Attestation}
 use Rattle.authdata.specs.Responses.{AuthenticatorAssertionResponse, assertion_response_view, registration_response_view}
-use Rattle.authdata.specs.Responses as responses
-use Rattle.authdata.specs.Statements.{IsSelfSignedBy}
 use Rattle.site_state.specs.Sessions.{IsRefused, Opening, OpensRegistration, OpensSignIn, challenge_of, registration_at}
 use Rattle.site_state.specs.declared.error.BeginError.TheVariants as begins
 use Rattle.verification.specs.Records.{Credential, ExpectedRegistration}
-use Rattle.verification.specs.Registration.{Attests, hash_in}
 use Rattle.verification.specs.Registration as registration
 use Rattle.verification.specs.SignIn.{IsFirstFailing}
 use Rattle.verification.specs.declared.refusal.SignInRefusal.TheVariants as sign_in

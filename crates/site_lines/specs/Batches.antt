@@ -3,9 +3,9 @@ use Rattle.std.specs.Prelude.{◌≡◌, ◌≤◌, ◌⊎◌, ℕ, List, [], �
 use Rattle.sqlite_trees.specs.Tree.{Trees}
 use Rattle.sqlite_trees.specs.View.{View, IsClean}
 use Rattle.credential_store.specs.Held.{Placed}
-use Rattle.kept_site.specs.State.{IsHeld, KeptState, to_commit, with_site}
+use Rattle.kept_site.specs.State.{IsHeld, KeptState, committed_as, to_commit}
 use Rattle.kept_site.specs.Calls.{IsCommit, IsFailure}
-use Rattle.kept_site.specs.Causes.{RefusesNumber}
+use Rattle.kept_site.specs.Causes.{RefusesCommit}
 use Rattle.kept_site.specs.declared.failure.Failure.{Failure}
 use Rattle.site_lines.specs.Answers.{Keeps, Tells}
 use Rattle.site_lines.specs.Details.{TellsDetails}
@@ -38,19 +38,19 @@ Runs view faults now old _ _ new = ⊥
 abbrev pub failed_as : Failure → Answered → Answered
 failed_as why a = record a { answer = answers.Failed why }
 
--- the site is as the lines have left it, but that more numbers are reserved, and all of it is committed: a crash from now on
--- leaves just this
+-- the site is as the lines have left it, but that more numbers are reserved, and the commit has its mark, and all of it is committed: a crash
+-- from now on leaves just this
 pub record IsCommitted {S : Type 0} (view : S → View) (recovers : S → Trees → Type 0) (mid new : KeptState S) : Type 0 where
   pub is : IsCommit mid new
   pub held : IsClean (view new.store) → (placed : Placed) → IsHeld placed mid (view mid.store).trees → IsHeld placed new (view new.store).trees
-  pub beside : IsClean (view new.store) → (tree : ℕ) → (tree ≡ 2 → ⊥) → (view new.store).trees tree ≡ (view mid.store).trees tree
+  pub beside : IsClean (view new.store) → (tree : ℕ) → (tree ≡ 2 → ⊥) → (tree ≡ 6 → ⊥) → (view new.store).trees tree ≡ (view mid.store).trees tree
   pub durable : IsClean (view new.store) → (db : Trees) → recovers new.store db → db ≡ (view new.store).trees
 
 -- a commit fails: the site was shut before it, or its failure has its cause in it
 abbrev pub IsNotCommitted : {S : Type 0} → (S → View) → (S → ℕ) → KeptState S → KeptState S → Failure → Type 0
 IsNotCommitted view faults mid new why =
     IsFailure mid new why
-    × (IsClean (view new.store) → IsCausedIn view faults mid new (RefusesNumber (view mid.store).reals mid.rp.rp_id (to_commit mid.durable mid.reserved)) ⊥ why)
+    × (IsClean (view new.store) → IsCausedIn view faults mid new (RefusesCommit (view mid.store).reals mid.rp.rp_id (to_commit mid.durable mid.reserved) mid.next_mark mid.mark) ⊥ why)
 
 -- what is told: the answers of the lines, which are committed; or, of each, why they are not
 abbrev pub Answers : {S : Type 0} → (S → View) → (S → ℕ) → (S → Trees → Type 0) → ℕ → KeptState S → List Arrived → List Answered → KeptState S → Type 0
@@ -59,8 +59,8 @@ Answers {S} view faults recovers now old lines told new =
     ⊎ ((why : Failure) × (carried : List Answered) × (mid : KeptState S) × Runs view faults now old lines carried mid × (told ≡ map (failed_as why) carried)
     × (new.is_shut ≡ true) × IsNotCommitted view faults mid new why)
 
--- what is in the file where the commit was cut off behind its write: all that the lines have done, and more numbers reserved
+-- what is in the file where the commit was cut off after its write: all that the lines have done, more numbers reserved, and its mark
 abbrev pub Leaves : {S : Type 0} → (S → View) → (S → ℕ) → ℕ → KeptState S → List Arrived → Trees → Type 0
 Leaves {S} view faults now old lines db =
     (carried : List Answered) × (mid : KeptState S) × Runs view faults now old lines carried mid
-    × (db ≡ with_site mid.rp.rp_id (to_commit mid.durable mid.reserved) (view mid.store).trees)
+    × (db ≡ committed_as mid (view mid.store).trees)

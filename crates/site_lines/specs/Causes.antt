@@ -3,7 +3,7 @@ use Rattle.std.specs.Prelude.{◌≡◌, ◌≤◌, ◌+◌, ◌-◌, ◌^◌, �
 use Rattle.sqlite_trees.specs.View.{View, IsClean}
 use Rattle.authdata.specs.Responses.{assertion_response_view, registration_response_view}
 use Rattle.site_state.specs.Table.{retired}
-use Rattle.credential_store.specs.Details.{told}
+use Rattle.site_state.specs.Details.{told}
 use Rattle.credential_store.specs.Held.{Holds, Placed}
 use Rattle.kept_site.specs.State.{KeptState}
 use Rattle.kept_site.specs.Causes.{IsCaused, IsDamaged, RefusesChange, RefusesNumber, RefusesRegistered, RefusesSignedIn}

@@ -1,5 +1,5 @@
 -- What lines tell and keep of credentials beside what verdicts ask for.
-use Rattle.std.specs.Prelude.{◌≡◌, ◌+◌, ◌++◌, ◌⊎◌, ℕ, ℤ, pos, min, List, [], ◌∷◌, Option, Some, None, map, option_map, string_bytes, ⊤}
+use Rattle.std.specs.Prelude.{◌≡◌, ◌+◌, ◌⊎◌, ℕ, ℤ, pos, min, List, [], Option, Some, None, map, option_map, string_bytes, ⊤}
 use Rattle.std.specs.FinMap as finite
 use Rattle.std.specs.List.{AllByRecursion}
 use Rattle.sqlite_trees.specs.View.{View, IsClean}
@@ -10,7 +10,8 @@ use Rattle.authdata.specs.Responses.{registration_response_view}
 use Rattle.authdata.specs.Responses as responses
 use Rattle.verification.specs.Registration.{Attests}
 use Rattle.credential_store.specs.Held.{Placed}
-use Rattle.credential_store.specs.Details.{Detail, Details, HoldsDetails, detail_view, told}
+use Rattle.site_state.specs.Details.{Detail, detail_view, told}
+use Rattle.credential_store.specs.Details.{Details, HoldsDetails}
 use Rattle.kept_site.specs.State.{IsHeld, KeptState}
 use Rattle.kept_site.specs.Calls.{TellsDetail, TellsForgotten, TellsUsed}
 use Rattle.site_acts.specs.Joined.{joined}

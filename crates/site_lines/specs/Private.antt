@@ -29,7 +29,8 @@ use Rattle.site_acts.specs.declared.known.Known.{Known}
 use Rattle.site_acts.specs.Asked.{RegistrationAsks}
 use Rattle.site_lines.specs.Answers.{OfHeld, SignInAsks}
 use Rattle.site_lines.specs.Details.{AreKnown, OfDetails}
-use Rattle.credential_store.specs.Details.{Detail, HoldsDetails}
+use Rattle.site_state.specs.Details.{Detail}
+use Rattle.credential_store.specs.Details.{HoldsDetails}
 use Rattle.std.specs.FinMap as finite
 use Rattle.std.specs.Global.{Global}
 use Rattle.site_state.specs.declared.row.Row.{Row}

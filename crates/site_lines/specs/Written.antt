@@ -21,7 +21,7 @@ use Rattle.verification.specs.Registration.{counted}
 use Rattle.verification.specs.declared.signature.VerifiedSignature.{VerifiedSignature}
 use Rattle.site_state.specs.RowViews.{row_view}
 use Rattle.site_state.specs.declared.row.Row.{Row}
-use Rattle.credential_store.specs.Details.{detail_view}
+use Rattle.site_state.specs.Details.{detail_view}
 use Rattle.kept_site.specs.declared.finish.SignedIn.{SignedIn}
 use Rattle.site_acts.specs.Options.{base64url, creation_options, request_options}
 use Rattle.site_lines.specs.declared.answer.Answer.{Answer}

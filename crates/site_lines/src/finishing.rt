@@ -9,7 +9,7 @@ ghost use Rattle.authdata.specs.Responses.{assertion_response_view, registration
 ghost use Rattle.verification.specs.Views.{assertion_parts_view, registration_parts_view};
 ghost use Rattle.site_state.specs.Sessions.{registration_at};
 ghost use Rattle.site_lines.specs.Answers.{Keeps, TellsRegistration, TellsSignIn};
-ghost use Rattle.credential_store.specs.Details.{detail_view};
+ghost use Rattle.site_state.specs.Details.{detail_view};
 ghost use Rattle.site_lines.specs.Causes.{FailsBy, RefusesFinish};
 ghost use Rattle.site_lines.specs.Details.{RegistersDetail, UsesDetail, second as second_of};
 ghost use Rattle.site_lines.specs.Private.{KeepsDetail, IsRefusedRegistration, IsRefusedSignIn};
@@ -17,9 +17,9 @@ ghost use Rattle.site_lines.specs.Private.{KeepsDetail, IsRefusedRegistration, I
 use crate::answer::Answer;
 use crate::knowing::{detail_of, second};
 use authdata::{AssertionResponse, Profile, RegistrationResponse};
-use credential_store::Detail;
 use kept_site::{FinishFailure, KeptSite};
 use site_acts::{FinishRegistration, FinishSignIn, LineError, registration_asks, sign_in_asks};
+use site_state::Detail;
 use sqlite_trees::store::Store;
 use std::alloc::Global;
 use verification::{

@@ -5,7 +5,7 @@ ghost use Rattle.std.specs.List.{AllByRecursion};
 ghost use Rattle.sqlite_trees.specs.Tree.{Trees};
 ghost use Rattle.sqlite_trees.specs.View.{IsClean};
 ghost use Rattle.authdata.specs.Responses.{registration_response_view};
-ghost use Rattle.credential_store.specs.Details.{detail_view, told};
+ghost use Rattle.site_state.specs.Details.{detail_view, told};
 ghost use Rattle.kept_site.specs.Calls.{IsSame};
 ghost use Rattle.kept_site.specs.Causes.{IsDamaged};
 ghost use Rattle.site_lines.specs.Causes.{IsCausedIn};
@@ -15,9 +15,9 @@ ghost use Rattle.site_lines.specs.Private.{IfUnknown, IsAaguidOf, IsAttestedIn, 
 ghost use Rattle.site_lines.specs.declared.knowing.Unknown.TheVariants as unknowns;
 
 use authdata::{AttestationObject, Profile, RegistrationResponse, read_view};
-use credential_store::Detail;
 use kept_site::{Failure, KeptSite};
 use site_acts::{Known, joined, separate};
+use site_state::Detail;
 use sqlite_trees::store::Store;
 use std::alloc::{AllocError, Global};
 

@@ -2,7 +2,7 @@
 
 ghost use Rattle.std.specs.Prelude.{◌≡◌, ◌≤◌, ◌⊎◌, IfErr, IfOk, OnErr, OnOk, Some, map, true};
 ghost use Rattle.sqlite_trees.specs.Tree.{Trees};
-ghost use Rattle.kept_site.specs.State.{to_commit, with_site};
+ghost use Rattle.kept_site.specs.State.{committed_as};
 ghost use Rattle.site_lines.specs.declared.answer.Answer.TheVariants as answers;
 ghost use Rattle.site_lines.specs.Answers.{Keeps, Tells};
 ghost use Rattle.site_lines.specs.Details.{TellsDetails};
@@ -169,7 +169,7 @@ fn commit<S: Store>(
     ensures cause { IfErr result (IsNotCommitted S.Store.view S.Store.faults site.old site.new) }
     ensures counts { S.Store.faults site.old.store ≤ S.Store.faults site.new.store }
     ensures crash { (db : Trees) → S.Store.recovers site.new.store db
-        → (db ≡ with_site site.old.rp.rp_id (to_commit site.old.durable site.old.reserved) (S.Store.view site.old.store).trees) ⊎ S.Store.recovers site.old.store db }
+        → (db ≡ committed_as site.old (S.Store.view site.old.store).trees) ⊎ S.Store.recovers site.old.store db }
 {
     if !site.is_pending() {
         return site.commit();

@@ -7,7 +7,7 @@ ghost use Rattle.cose.specs.Keys.{lent_key_view, x_of as x_in};
 ghost use Rattle.authdata.specs.Layout.{AuthOf, AuthenticatorData, lent_auth_view};
 ghost use Rattle.authdata.specs.Objects.{object_view};
 ghost use Rattle.verification.specs.Registration.{counted};
-ghost use Rattle.credential_store.specs.Details.{detail_view};
+ghost use Rattle.site_state.specs.Details.{detail_view};
 ghost use Rattle.site_state.specs.RowViews.{row_view};
 ghost use Rattle.site_lines.specs.Written.{IsRegistered, IsSignedIn, aaguid_or_null as aaguid_or_null_of, attested_members, bytes_or_null as bytes_or_null_of, data_members, flag_or_null as flag_or_null_of, integer_or_null as integer_or_null_of, key_members, known_members, natural, row_members, to_verify, who_members, whole_row as whole_row_of, whole_rows, y_of as y_in};
 ghost use Rattle.site_lines.specs.Private.{row_at};

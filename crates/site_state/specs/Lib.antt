@@ -5,4 +5,5 @@ pub mod SessionViews
 pub mod Codes
 pub mod Numbers
 pub mod Timed
+pub mod Details
 pub mod Private

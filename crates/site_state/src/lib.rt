@@ -4,6 +4,7 @@
 #![tactic(auto)]
 
 mod began_at;
+mod detail;
 mod error;
 mod row;
 mod session;
@@ -11,6 +12,7 @@ mod sessions;
 mod table;
 mod timed;
 
+pub use detail::Detail;
 pub use error::BeginError;
 pub use row::Row;
 pub use session::{Asks, Session};

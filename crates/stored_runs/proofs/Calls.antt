@@ -23,7 +23,7 @@ use Rattle.kept_site.specs.Calls as calls
 use Rattle.kept_site.specs.declared.finish.SignedIn.{SignedIn}
 use Rattle.kept_site.specs.declared.registration.Registered.{Registered}
 use Rattle.authenticator.specs.Steps.{Keys}
-use Rattle.agreement.specs.World.{EndsSessions, SiteActs, SiteEvent, World, with_room, words_of}
+use Rattle.agreement.specs.World.{SiteActs, World, with_room, words_of}
 use Rattle.agreement.specs.World as world
 use Rattle.stored_runs.specs.History.{Abandons, Begins, Call, Deletes, Does, Expires, IsKept, Kept, Registers, Retires, SignsIn, act_of, site_of}
 use Rattle.stored_runs.specs.Stored.{LeadsTo}

@@ -1,5 +1,5 @@
 -- A history with two crashes, and a credential that is retired and then deleted.
-use Rattle.std.proofs.Common.{◌≡◌, ◌≤◌, ◌<◌, ◌^◌, inl, ℕ, zero, suc, List, [], ◌∷◌, map, Bool, true, false, refl, sym, ap, ◌∙◌, subst, arith, replicate}
+use Rattle.std.proofs.Common.{◌≡◌, ◌+◌, ◌≤◌, ◌<◌, ◌^◌, inl, ℕ, zero, suc, List, [], ◌∷◌, map, Bool, true, false, refl, sym, ap, ◌∙◌, subst, arith, replicate}
 use Rattle.std.proofs.lemmas.Grind.{common_steps}
 use Rattle.std.specs.Prelude.{None, Some}
 use Rattle.std.specs.FinMap.{gets, entries-from_sorted, entries-insert, get-empty, get-from_sorted, nat_cmp-IsAntisymmetric, same_map}
@@ -78,14 +78,16 @@ stored = record { key = refl; sign_count = omega arith }
 stored_retired : IsStored (retired key)
 stored_retired = record { key = refl; sign_count = omega arith }
 
--- the site with this credential, these sessions, and these numbers reserved
-abbrev state_of : Timed → ℕ → ℕ → Bool → KeptState (Unit {0})
-state_of timed reserved durable is_pending = record {
+-- the site with this credential, these sessions, these numbers reserved, and this mark of the last commit
+abbrev state_of : Timed → ℕ → ℕ → ℕ → Bool → KeptState (Unit {0})
+state_of timed reserved durable mark is_pending = record {
   rp = record { rp_id = 3 ∷ []; origins = []; top_origins = []; profile = Level3 };
   policy = record { accept_none = true; accept_self = true };
   timed = timed;
   reserved = reserved;
   durable = durable;
+  mark = mark;
+  next_mark = mark + 1;
   count = 1;
   last = 1;
   most = 10;
@@ -97,14 +99,14 @@ state_of timed reserved durable is_pending = record {
 abbrev none_open : ℕ → Timed
 none_open next = record { open_sessions = record { expected = finite.empty; next = next; max_open = 10 }; began = finite.empty }
 
-abbrev kept_of : Credential → Timed → ℕ → ℕ → Bool → Kept (Unit {0})
-kept_of c timed reserved durable is_pending =
-    record { state = state_of timed reserved durable is_pending; placed = placed_of c; trees = trees_of c reserved }
+abbrev kept_of : Credential → Timed → ℕ → ℕ → ℕ → Bool → Kept (Unit {0})
+kept_of c timed reserved durable mark is_pending =
+    record { state = state_of timed reserved durable mark is_pending; placed = placed_of c; trees = trees_of c reserved }
 
-is_kept : (c : Credential) (timed : Timed) (reserved durable : ℕ) (is_pending : Bool) → IsStored c
+is_kept : (c : Credential) (timed : Timed) (reserved durable mark : ℕ) (is_pending : Bool) → IsStored c
     → HaveNumbers timed.open_sessions.next timed.open_sessions.expected
-    → timed.open_sessions.next ≤ reserved → reserved < 2 ^ 63 → IsKept (kept_of c timed reserved durable is_pending)
-is_kept c timed reserved durable is_pending is numbers given below = record {
+    → timed.open_sessions.next ≤ reserved → reserved < 2 ^ 63 → IsKept (kept_of c timed reserved durable mark is_pending)
+is_kept c timed reserved durable mark is_pending is numbers given below = record {
   held = record {
     holds = holds c reserved is;
     count = grind (arith, gets, common_steps);
@@ -125,22 +127,22 @@ begun_numbers : HaveNumbers 2 (after_begin (none_open 1) opening 0).open_session
 begun_numbers n e f = grind (arith, gets, common_steps, f)
 
 abbrev start : Kept (Unit {0})
-start = kept_of key (none_open 1) 1001 1001 false
+start = kept_of key (none_open 1) 1001 1001 0 false
 
 abbrev begun : Kept (Unit {0})
-begun = kept_of key (after_begin (none_open 1) opening 0) 1001 1001 false
+begun = kept_of key (after_begin (none_open 1) opening 0) 1001 1001 0 false
 
 abbrev opened : Kept (Unit {0})
-opened = kept_of key (none_open 1001) 1001 1001 false
+opened = kept_of key (none_open 1001) 1001 1001 0 false
 
 abbrev written : Kept (Unit {0})
-written = kept_of (retired key) (none_open 1001) 1001 1001 true
+written = kept_of (retired key) (none_open 1001) 1001 1001 0 true
 
 abbrev committed : Kept (Unit {0})
-committed = kept_of (retired key) (none_open 1001) 2001 2001 false
+committed = kept_of (retired key) (none_open 1001) 2001 2001 1 false
 
 abbrev reopened : Kept (Unit {0})
-reopened = kept_of (retired key) (none_open 2001) 2001 2001 false
+reopened = kept_of (retired key) (none_open 2001) 2001 2001 1 false
 
 again : placed_of (retired key) ≡ finite.insert (placed_of key) 1 (retired key)
 again = same_map nat_cmp_total nat_cmp-IsAntisymmetric _ _ (λ q. grind (arith, gets, common_steps))
@@ -181,16 +183,16 @@ none_holds next = record {
   rows : List (ℕ × Credential) → List Row
   rows es = map (λ e. credential_row e.0 e.1) es
 
-abbrev none_of : Timed → ℕ → ℕ → Bool → Kept (Unit {0})
-none_of timed reserved durable is_pending = record {
-  state = record (state_of timed reserved durable is_pending) { count = 0 };
+abbrev none_of : Timed → ℕ → ℕ → ℕ → Bool → Kept (Unit {0})
+none_of timed reserved durable mark is_pending = record {
+  state = record (state_of timed reserved durable mark is_pending) { count = 0 };
   placed = none_placed;
   trees = no_trees reserved;
 }
 
-none_kept : (next reserved durable : ℕ) (is_pending : Bool) → next ≤ reserved → reserved < 2 ^ 63
-    → IsKept (none_of (none_open next) reserved durable is_pending)
-none_kept next reserved durable is_pending given below = record {
+none_kept : (next reserved durable mark : ℕ) (is_pending : Bool) → next ≤ reserved → reserved < 2 ^ 63
+    → IsKept (none_of (none_open next) reserved durable mark is_pending)
+none_kept next reserved durable mark is_pending given below = record {
   held = record {
     holds = none_holds reserved;
     count = grind (arith, gets, common_steps);
@@ -202,10 +204,10 @@ none_kept next reserved durable is_pending given below = record {
 }
 
 abbrev deleted : Kept (Unit {0})
-deleted = none_of (none_open 2001) 2001 2001 true
+deleted = none_of (none_open 2001) 2001 2001 1 true
 
 abbrev gone : Kept (Unit {0})
-gone = none_of (none_open 2001) 3001 3001 false
+gone = none_of (none_open 2001) 3001 3001 2 false
 
 -- ---- the steps, from the last
 
@@ -216,15 +218,15 @@ deletes : (valid : Validity) → IsHistory valid (record { now = reopened; commi
 deletes valid = (
   record { now = deleted; committed = reopened },
   (
-    record { rp = refl; policy = refl; most = refl; durable = refl },
+    record { rp = refl; policy = refl; most = refl; durable = refl; mark = refl; next_mark = refl },
     ((1, retired key, record { there = there (retired key); has_id = refl }, none_now), refl),
     refl,
   ),
-  none_kept 2001 2001 2001 true (omega arith) (omega arith),
+  none_kept 2001 2001 2001 1 true (omega arith) (omega arith),
   (
     end,
     ((refl, record { quiet = λ idle. absurd cc; moved = λ busy. refl }), refl),
-    none_kept 2001 3001 3001 false (omega arith) (omega arith),
+    none_kept 2001 3001 3001 2 false (omega arith) (omega arith),
     refl,
   ),
 )
@@ -234,7 +236,7 @@ last_open : (valid : Validity)
 last_open valid = (
   record { now = reopened; committed = reopened },
   (record { trees = refl; rp = refl; policy = refl; sessions = refl; next = refl }, refl),
-  is_kept (retired key) (none_open 2001) 2001 2001 false stored_retired (no_numbers 2001) (omega arith) (omega arith),
+  is_kept (retired key) (none_open 2001) 2001 2001 1 false stored_retired (no_numbers 2001) (omega arith) (omega arith),
   deletes valid,
 )
 
@@ -243,7 +245,7 @@ commits : (valid : Validity)
 commits valid = (
   record { now = committed; committed = committed },
   ((refl, record { quiet = λ idle. absurd cc; moved = λ busy. refl }), refl),
-  is_kept (retired key) (none_open 1001) 2001 2001 false stored_retired (no_numbers 1001) (omega arith) (omega arith),
+  is_kept (retired key) (none_open 1001) 2001 2001 1 false stored_retired (no_numbers 1001) (omega arith) (omega arith),
   last_open valid,
 )
 
@@ -253,11 +255,11 @@ retires : (valid : Validity)
 retires valid = (
   record { now = written; committed = opened },
   (
-    record { rp = refl; policy = refl; most = refl; durable = refl },
+    record { rp = refl; policy = refl; most = refl; durable = refl; mark = refl; next_mark = refl },
     ((1, key, record { there = there key; has_id = refl }, refl, again), refl),
     refl,
   ),
-  is_kept (retired key) (none_open 1001) 1001 1001 true stored_retired (no_numbers 1001) (omega arith) (omega arith),
+  is_kept (retired key) (none_open 1001) 1001 1001 0 true stored_retired (no_numbers 1001) (omega arith) (omega arith),
   commits valid,
 )
 
@@ -267,7 +269,7 @@ after_crash : (valid : Validity)
 after_crash valid = (
   record { now = opened; committed = opened },
   (record { trees = refl; rp = refl; policy = refl; sessions = refl; next = refl }, refl),
-  is_kept key (none_open 1001) 1001 1001 false stored (no_numbers 1001) (omega arith) (omega arith),
+  is_kept key (none_open 1001) 1001 1001 0 false stored (no_numbers 1001) (omega arith) (omega arith),
   retires valid,
 )
 
@@ -277,15 +279,15 @@ shown valid = record {
   opening = opening;
   id = 1 ∷ [];
   end = end;
-  kept = is_kept key (none_open 1) 1001 1001 false stored (no_numbers 1) (omega arith) (omega arith);
+  kept = is_kept key (none_open 1) 1001 1001 0 false stored (no_numbers 1) (omega arith) (omega arith);
   history = (
     record { now = begun; committed = start },
     (
-      record { rp = refl; policy = refl; most = refl; durable = refl },
+      record { rp = refl; policy = refl; most = refl; durable = refl; mark = refl; next_mark = refl },
       ((λ k. omega arith), refl, record { roomy = λ room. refl; full = λ full. absurd (full room) }),
       refl,
     ),
-    is_kept key (after_begin (none_open 1) opening 0) 1001 1001 false stored begun_numbers (omega arith) (omega arith),
+    is_kept key (after_begin (none_open 1) opening 0) 1001 1001 0 false stored begun_numbers (omega arith) (omega arith),
     after_crash valid,
   );
   acts = refl;

@@ -1,6 +1,6 @@
 -- What is owed of `put_detail`.
 use Rattle.credential_store.proofs.Transactions.{on_ok}
-use Rattle.credential_store.specs.Details.{detail_view}
+use Rattle.site_state.specs.Details.{detail_view}
 use Rattle.credential_store.proofs.DetailTables.{put}
 use Rattle.credential_store.proofs.details.put_detail.Goals as goal
 

@@ -1,7 +1,7 @@
 -- What is owed of `open_over`.
 use Rattle.std.proofs.Common.{sym, ◌∙◌, subst, inl, inr}
 use Rattle.sqlite_trees.specs.View.{IsClean}
-use Rattle.site_files.specs.First.{IsFirst}
+use Rattle.site_files.specs.Earlier.{IsEarlier}
 use Rattle.site_files.proofs.Found.{open_if_sound}
 use Rattle.site_files.proofs.opening.open_over.Goals as goal
 
@@ -17,5 +17,5 @@ returns-in-Ok-clause-found g c clean =
       | inl same ↦ let here = subst (λ s. IsClean (g.S.Store.view s)) same sound in
           let found = subst (λ s. g.S.Store.recovers s now) same (c.in-Ok.ensures.found clean) in
           (here, live here, inl (g.met.S.Store.settled was now (live here) found))
-      | inr first ↦ let f = first sound in (f.0, live f.0, inr (subst (λ n. IsFirst n shown.trees) c.rp_id.ensures f.1))
+      | inr first ↦ let f = first sound in (f.0, live f.0, inr (subst (λ n. IsEarlier n shown.trees) c.rp_id.ensures f.1))
     ]

@@ -2,7 +2,7 @@
 use Rattle.std.proofs.Common.{Some, None, ◌∙◌, ap, map, subst}
 use Rattle.std.specs.Prelude.{string_bytes}
 use Rattle.authdata.specs.Responses.{registration_response_view}
-use Rattle.credential_store.specs.Details.{detail_view, told}
+use Rattle.site_state.specs.Details.{detail_view, told}
 use Rattle.site_acts.specs.Joined.{joined}
 use Rattle.site_lines.specs.Details.{IsAaguid, IsAttestedAaguid, second}
 use Rattle.kept_site.specs.Causes.{RefusesRegistered}

@@ -2,7 +2,7 @@
 use Rattle.std.proofs.Common.{◌∙◌, ap, refl, subst}
 use Rattle.kept_site.specs.State.{KeptState}
 use Rattle.site_lines.specs.Private.{IsRefusedRegistration}
-use Rattle.credential_store.specs.Details.{detail_view}
+use Rattle.site_state.specs.Details.{detail_view}
 use Rattle.site_lines.proofs.Caused.{refused_registration_fails, refuses_registered_as, store_fails}
 use Rattle.site_lines.proofs.Detailed.{registration_leaves}
 use Rattle.site_lines.proofs.Finished.{registration_accepted, registration_left, registration_refused, registration_step}

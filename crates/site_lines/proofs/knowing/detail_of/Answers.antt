@@ -1,7 +1,7 @@
 -- What is owed of `detail_of`.
 use Rattle.std.proofs.Common.{Some, None, ◌∙◌, ap, rules}
 use Rattle.std.specs.Prelude.{option_map}
-use Rattle.credential_store.specs.Details.{told}
+use Rattle.site_state.specs.Details.{told}
 use Rattle.site_lines.specs.Details.{second}
 use Rattle.site_lines.proofs.knowing.detail_of.Goals as goal
 

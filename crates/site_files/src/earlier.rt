@@ -1,12 +1,13 @@
-//! A file of version 1.
+//! A file of version 1 or 2.
 
-ghost use Rattle.std.specs.Prelude.{◌≡◌, ◌<◌, ◌^◌, ℕ, [], IfErr, IfOk, IfSome, IsSome, IsTrue, OnOk, Some};
+ghost use Rattle.std.specs.Prelude.{◌≡◌, ◌<◌, ◌≤◌, ◌^◌, ℕ, [], IfErr, IfOk, IfSome, IsSome, IsTrue, OnOk, Some};
 ghost use Rattle.sqlite_trees.specs.View.{IsClean};
 ghost use Rattle.sqlite_trees.specs.declared.store.Shape.TheVariants.{Table};
 ghost use Rattle.credential_store.specs.Held.{IsSameView};
-ghost use Rattle.site_files.specs.First.{IsFirst, first_row};
+ghost use Rattle.site_files.specs.Earlier.{IsEarlier, earlier_row};
 
 use crate::error::FileError;
+use crate::tables::Earlier;
 use credential_store::{RowError, int_at, read_credential};
 use sqlite_trees::error::StoreError;
 use sqlite_trees::store::{Direction, Shape, Store};
@@ -14,31 +15,44 @@ use sqlite_value::row::Row;
 use sqlite_value::value::ValueRef;
 use std::alloc::{AllocError, Global};
 
+/// The number of an earlier version.
+fn number_of(version: Earlier) -> u64
+    ensures first { 1 ≤ result }
+    ensures last { result ≤ 2 }
+{
+    match version {
+        Earlier::First => 1,
+        Earlier::Second => 2,
+    }
+}
+
 /// The row of a relying party.
-fn first_row(alloc: Global, rp_id: &str, next: u64) -> Result<Row, AllocError>
+fn earlier_row(alloc: Global, version: u64, rp_id: &str, next: u64) -> Result<Row, AllocError>
+    requires version { version ≤ 2 }
     requires fits { next < 2 ^ 63 }
-    ensures row { IfOk result (λ row. row ≡ first_row rp_id.now next) }
+    ensures row { IfOk result (λ row. row ≡ earlier_row version rp_id.now next) }
 {
     let mut row = Row::new(alloc);
     row.push(ValueRef::Int(1))?;
     row.push(ValueRef::Null)?;
-    row.push(ValueRef::Int(1))?;
+    row.push(ValueRef::Int(version as i64))?;
     row.push(ValueRef::Text(rp_id.as_bytes()))?;
     row.push(ValueRef::Int(next as i64))?;
     Ok(row)
 }
 
-/// That the version in a row of a relying party is none above 2.
+/// That the version in a row of a relying party is none above 3.
 fn check_version(row: &Row) -> Result<(), FileError> {
     match int_at(row, 2) {
-        Some(version) if version > 2 => Err(FileError::Newer),
+        Some(version) if version > 3 => Err(FileError::Newer),
         _ => Ok(()),
     }
 }
 
-/// That a row is this relying party's.
-fn check_row(alloc: Global, rp_id: &str, row: &Row) -> Result<(), FileError>
-    ensures first { OnOk result ((next : ℕ) × (row.now ≡ first_row rp_id.now next)) }
+/// That a row is this relying party's, of this version.
+fn check_row(alloc: Global, version: u64, rp_id: &str, row: &Row) -> Result<(), FileError>
+    requires { version ≤ 2 }
+    ensures earlier { OnOk result ((next : ℕ) × (row.now ≡ earlier_row version rp_id.now next)) }
 {
     check_version(row)?;
     let Some(next) = int_at(row, 4) else {
@@ -47,16 +61,21 @@ fn check_row(alloc: Global, rp_id: &str, row: &Row) -> Result<(), FileError>
     if next < 1 {
         return Err(FileError::NoSite);
     }
-    let written = first_row(alloc, rp_id, next as u64)?;
+    let written = earlier_row(alloc, version, rp_id, next as u64)?;
     if !row.is_same(&written) {
         return Err(FileError::OtherSite);
     }
     Ok(())
 }
 
-/// That the row in tree 2 is this relying party's.
-fn check_party<S: Store>(alloc: Global, rp_id: &str, store: &mut S) -> Result<(), FileError>
-    ensures first { OnOk result (IsClean (S.Store.view store.new) → IsFirst rp_id.now (S.Store.view store.old).trees) }
+/// That the row in tree 2 is this relying party's, of this version.
+fn check_party<S: Store>(
+    alloc: Global,
+    version: Earlier,
+    rp_id: &str,
+    store: &mut S,
+) -> Result<(), FileError>
+    ensures earlier { OnOk result (IsClean (S.Store.view store.new) → IsEarlier rp_id.now (S.Store.view store.old).trees) }
     ensures same { OnOk result (IsSameView (S.Store.view store.old) (S.Store.view store.new)) }
 {
     if store.shape(2) != Shape::Table {
@@ -66,7 +85,7 @@ fn check_party<S: Store>(alloc: Global, rp_id: &str, store: &mut S) -> Result<()
     if !store.get(2, 1, &mut row)? {
         return Err(FileError::NoSite);
     }
-    check_row(alloc, rp_id, &row)
+    check_row(alloc, number_of(version), rp_id, &row)
 }
 
 /// That a row is a credential's.
@@ -125,13 +144,18 @@ fn check_credentials<S: Store>(alloc: Global, store: &mut S) -> Result<(), FileE
     Err(FileError::TooMany)
 }
 
-/// That a store whose tables are those of version 1 holds a site of this relying party, as far as it is taken over: its row, and
-/// those of its credentials.
-pub fn check_first<S: Store>(alloc: Global, rp_id: &str, store: &mut S) -> Result<(), FileError>
-    ensures first { OnOk result (IsClean (S.Store.view store.new) → IsFirst rp_id.now (S.Store.view store.old).trees) }
+/// That a store whose tables are those of an earlier version holds a site of this relying party, as far as it is taken over: its row,
+/// and those of its credentials.
+pub fn check_earlier<S: Store>(
+    alloc: Global,
+    version: Earlier,
+    rp_id: &str,
+    store: &mut S,
+) -> Result<(), FileError>
+    ensures earlier { OnOk result (IsClean (S.Store.view store.new) → IsEarlier rp_id.now (S.Store.view store.old).trees) }
     ensures same { OnOk result (IsSameView (S.Store.view store.old) (S.Store.view store.new)) }
 {
-    check_party(alloc, rp_id, store)?;
+    check_party(alloc, version, rp_id, store)?;
     check_credentials(alloc, store)
 }
 
@@ -145,14 +169,23 @@ fn is_empty<S: Store>(alloc: Global, store: &mut S, tree: u32) -> Result<bool, S
     Ok(!found)
 }
 
-/// That the tables of version 1 in a store have no row: a creation was cut off.
-pub fn check_empty<S: Store>(alloc: Global, store: &mut S) -> Result<(), FileError>
+/// That the tables of an earlier version in a store have no row: a creation was cut off.
+pub fn check_empty<S: Store>(
+    alloc: Global,
+    version: Earlier,
+    store: &mut S,
+) -> Result<(), FileError>
     ensures same { OnOk result (IsSameView (S.Store.view store.old) (S.Store.view store.new)) }
 {
+    // Open sessions, or details.
+    let more = match version {
+        Earlier::First => 1,
+        Earlier::Second => 5,
+    };
     let credentials = is_empty(alloc, store, 0)?;
-    let sessions = is_empty(alloc, store, 1)?;
     let site = is_empty(alloc, store, 2)?;
-    if !(credentials && sessions && site) {
+    let rest = is_empty(alloc, store, more)?;
+    if !(credentials && site && rest) {
         return Err(FileError::Exists);
     }
     Ok(())

@@ -1,9 +1,9 @@
--- What is owed of `second_at`.
+-- What is owed of `latest_at`.
 use Rattle.std.proofs.Common.{subst, ◌∙◌, inl}
 use Rattle.sqlite_store.specs.FileStore.{view}
 use Rattle.site_files.specs.Files.{IsFoundIn}
 use Rattle.site_files.proofs.Found.{image_from, same_image}
-use Rattle.site_files.proofs.stores.second_at.Goals as goal
+use Rattle.site_files.proofs.stores.latest_at.Goals as goal
 
 pub returns-in-Ok-clause-found : goal.returns-in-Ok-clause-found
 returns-in-Ok-clause-found g c clean is_open =

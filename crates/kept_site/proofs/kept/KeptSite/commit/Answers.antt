@@ -1,0 +1,53 @@
+-- What is owed of `KeptSite::commit`.
+use Rattle.std.proofs.Common.{ℕ, inl, inr, sym, ap, ◌∙◌, subst}
+use Rattle.sqlite_trees.specs.View.{IsStorableRow}
+use Rattle.credential_store.proofs.Causes.{passed_up}
+use Rattle.kept_site.specs.State.{HoldsSite, mark_row, with_mark, with_site}
+use Rattle.kept_site.proofs.Causes.{caused_since}
+use Rattle.kept_site.proofs.kept.KeptSite.commit.Goals as goal
+
+pub returns-clause-crash : goal.returns-clause-crash
+returns-clause-crash g c =
+    rw (← c.self.view_is) (λ db r. elim (c.commit.ensures.crash db r) [
+      | inl now ↦ inl (now.1 ∙ c.in_ok-put_mark.ensures.trees now.0
+          ∙ ap (with_mark c.self.inside.next_mark c.self.inside.mark) (c.in_ok-reserve.ensures.trees (c.in_ok-put_mark.ensures.clean now.0)
+          ∙ ap (λ id. with_site id c.to_commit-reserved.result (g.S.Store.view c.self.inside.held.store).trees) c.rp_id.ensures
+          ∙ ap (λ n. with_site c.self.inside.party.rp_id n (g.S.Store.view c.self.inside.held.store).trees) c.to_commit-reserved.ensures.moved))
+      | inr was ↦ inr (c.reserve.ensures.crash db (c.put_mark.ensures.crash db was))
+    ])
+
+pub returns-in_err-commit-clause-crash : goal.returns-in_err-commit-clause-crash
+returns-in_err-commit-clause-crash g c =
+    rw (← c.self.view_is) (λ db r. elim (c.commit.ensures.crash db r) [
+      | inl now ↦ inl (now.1 ∙ c.in_ok-put_mark.ensures.trees now.0
+          ∙ ap (with_mark c.self.inside.next_mark c.self.inside.mark) (c.in_ok-reserve.ensures.trees (c.in_ok-put_mark.ensures.clean now.0)
+          ∙ ap (λ id. with_site id c.to_commit-reserved.result (g.S.Store.view c.self.inside.held.store).trees) c.rp_id.ensures
+          ∙ ap (λ n. with_site c.self.inside.party.rp_id n (g.S.Store.view c.self.inside.held.store).trees) c.to_commit-reserved.ensures.moved))
+      | inr was ↦ inr (c.reserve.ensures.crash db (c.put_mark.ensures.crash db was))
+    ])
+
+pub returns-clause-held : goal.returns-clause-held
+returns-clause-held g c =
+    rw (← c.self.view_is) (λ clean placed held.
+    let marked = c.in_ok-commit.ensures.clean clean in
+    let reserved = c.in_ok-put_mark.ensures.clean marked in
+    let numbers = c.in_ok-reserve.ensures.held reserved placed c.self.inside.held.reserved
+    (subst (λ id. HoldsSite placed id c.self.inside.held.reserved (g.S.Store.view c.self.inside.held.store).trees) (sym c.rp_id.ensures) held.holds) in
+    let stands = c.in_ok-put_mark.ensures.held marked placed _ _ numbers in
+    record {
+      holds = subst (HoldsSite placed c.self.inside.party.rp_id c.commit.new.self.reserved) (sym (c.in_ok-commit.ensures.same clean))
+          (subst (λ n. HoldsSite placed c.self.inside.party.rp_id n (g.S.Store.view c.put_mark.new.self.store).trees)
+          (sym (c.in_ok-commit.ensures.open.2 ∙ c.in_ok-put_mark.ensures.open.2))
+          (subst (λ id. HoldsSite placed id c.reserve.new.self.reserved (g.S.Store.view c.put_mark.new.self.store).trees) c.rp_id.ensures stands));
+      count = held.count;
+      last = held.last;
+    })
+
+pub returns-in_err-put_mark-clause-cause : goal.returns-in_err-put_mark-clause-cause
+returns-in_err-put_mark-clause-cause g c =
+    rw (← c.self.view_is) (λ clean.
+    passed_up c.from_residual-in_err-put_mark.result c.in_err-put_mark.field-0.0 _ c.from_residual-in_err-put_mark.ensures.1
+    (caused_since (g.S.Store.view c.self.inside.held.store) (g.S.Store.view c.reserve.new.self.store) (g.S.Store.faults c.self.inside.held.store)
+    (g.S.Store.faults c.reserve.new.self.store) (g.S.Store.faults c.put_mark.new.self.store) _ _ _ _ c.in_err-put_mark.field-0.0 c.reserve.ensures.counts
+    (λ refused. inr (subst (λ (k : ℕ → ℕ). ¬ IsStorableRow (k 6) (mark_row c.self.inside.next_mark c.self.inside.mark)) c.reserve.ensures.reals refused))
+    (λ no. no) (c.in_err-put_mark.ensures.cause clean)))
