@@ -30,7 +30,7 @@ use ctap_encoding::status::{
 use ctap_replies::{CreationReply, Reply};
 use ctap_requests::{MakeCredential, Parameters, RelyingParty, User};
 use sha2::{Digest, Sha256};
-use std::alloc::AllocError;
+use std::alloc::{AllocError, Global};
 
 /// The most credentials of one authenticator.
 pub const MAX_CREDENTIALS: usize = 256;
@@ -130,6 +130,34 @@ fn new_credential(request: MakeCredential, choice: Choice, words: &Words) -> Sto
         resident: choice.resident,
         sign_count: 0,
     }
+}
+
+/// The reply of a credential that is attested by this signature.
+fn packed_reply(
+    alloc: Global,
+    alg: SigningAlg,
+    auth_data: Vec<u8>,
+    signature: &[u8],
+) -> Result<Vec<u8>, AllocError>
+    requires low { 1 ≤ length signature.now }
+    requires high { length signature.now ≤ 128 }
+    requires data { length auth_data.items ≤ 164 }
+    ensures reply { IfOk result (λ reply. ReplyOf (creation_reply (record {
+      fmt = codes "packed";
+      auth_data = auth_data.items;
+      statement = packed_statement (signed_alg alg) signature.now;
+    })) reply.items) }
+    ensures size { IfOk result (λ reply. length reply.items ≤ 7609) }
+{
+    let signature = Vec::from_slice(alloc, signature)?;
+    let statement = packed(alloc, alg, signature)?;
+    let fmt = String::from_str(alloc, "packed")?;
+    let shown = CreationReply {
+        fmt,
+        auth_data,
+        statement,
+    };
+    written(alloc, Reply::MakeCredential(shown))
 }
 
 impl Authenticator {
@@ -295,13 +323,7 @@ impl Authenticator {
             resident,
             overwritten: overwritten(&self.credentials, &request, resident),
         };
-        let signature = Vec::from_slice(alloc, signature)?;
-        let shown = CreationReply {
-            fmt: String::from_str(alloc, "packed")?,
-            auth_data,
-            statement: packed(alloc, alg, signature)?,
-        };
-        let reply = written(alloc, Reply::MakeCredential(shown))?;
+        let reply = packed_reply(alloc, alg, auth_data, signature)?;
         self.add(request, choice, &words)?;
         Ok(reply)
     }

@@ -1,11 +1,11 @@
 //! Reading the members of a saved authenticator's maps, where they lie.
 
-ghost use Rattle.std.specs.Prelude.{◌≡◌, option_map};
-ghost use Rattle.ccbor.specs.Viewing.{shown};
-ghost use Rattle.authenticator.specs.Private.{alg_in, counter_in, members_in, members_shown, sized_in, source_in, source_shown};
+ghost use Rattle.std.specs.Prelude.{◌≡◌, ◌≤◌, length, option_map};
+ghost use Rattle.ccbor.specs.Viewing.{shown, shown_pairs};
+ghost use Rattle.authenticator.specs.Private.{alg_in, behind_secret, counter_in, members_in, members_shown, sized_in, source_in, source_shown};
 
 use crate::members::{SavedMembers, SourceView};
-use ccbor::{MapKey, View};
+use ccbor::{MapKey, MapView, View};
 use cose::SigningAlg;
 
 /// The version of what is saved.
@@ -54,20 +54,18 @@ fn sign_count(value: &View<'_>) -> Option<u32>
     u32::try_from(value.as_uint()?).ok()
 }
 
-/// The credential that has this map.
-#[tactic(auto, unfolding(crate::specs::Private::source_in))]
-pub(crate) fn source<'a>(value: &View<'a>) -> Option<SourceView<'a>>
-    ensures { option_map source_shown result ≡ source_in (shown value.now) }
+/// The credential of these parts, whose map goes on with these members.
+fn behind_secret<'a>(
+    id: [u8; 32],
+    rp_id: &'a str,
+    user: &'a [u8],
+    secret: [u8; 32],
+    rest: &MapView<'a>,
+) -> Option<SourceView<'a>>
+    requires low { 1 ≤ length user.now }
+    requires high { length user.now ≤ 64 }
+    ensures { option_map source_shown result ≡ behind_secret id rp_id.now user.now secret (shown_pairs rest.now) }
 {
-    let rest = value.as_map()?;
-    let (held, rest) = rest.split_key(MapKey::Uint(1))?;
-    let id = bytes_32(&held)?;
-    let (held, rest) = rest.split_key(MapKey::Uint(2))?;
-    let rp_id = held.as_text()?;
-    let (held, rest) = rest.split_key(MapKey::Uint(3))?;
-    let user = user(&held)?;
-    let (held, rest) = rest.split_key(MapKey::Uint(4))?;
-    let secret = bytes_32(&held)?;
     let (held, rest) = rest.split_key(MapKey::Uint(5))?;
     let alg = alg(&held)?;
     let (held, rest) = rest.split_key(MapKey::Uint(6))?;
@@ -86,6 +84,23 @@ pub(crate) fn source<'a>(value: &View<'a>) -> Option<SourceView<'a>>
         resident,
         sign_count,
     })
+}
+
+/// The credential that has this map.
+#[tactic(auto, unfolding(crate::specs::Private::source_in))]
+pub(crate) fn source<'a>(value: &View<'a>) -> Option<SourceView<'a>>
+    ensures { option_map source_shown result ≡ source_in (shown value.now) }
+{
+    let rest = value.as_map()?;
+    let (held, rest) = rest.split_key(MapKey::Uint(1))?;
+    let id = bytes_32(&held)?;
+    let (held, rest) = rest.split_key(MapKey::Uint(2))?;
+    let rp_id = held.as_text()?;
+    let (held, rest) = rest.split_key(MapKey::Uint(3))?;
+    let user = user(&held)?;
+    let (held, rest) = rest.split_key(MapKey::Uint(4))?;
+    let secret = bytes_32(&held)?;
+    behind_secret(id, rp_id, user, secret, &rest)
 }
 
 /// The members of an authenticator's map.

@@ -12,8 +12,8 @@ use crate::authenticator::Authenticator;
 use crate::credential::StoredCredential;
 use crate::reading::VERSION;
 use authdata::AttestationType;
-use ccbor::{MapKey, Value, encode};
-use ctap_encoding::{bytes_value, push_member, text_value};
+use ccbor::{Value, encode};
+use ctap_encoding::{bytes_value, text_value};
 use std::alloc::{AllocError, Global};
 
 /// Whether new credentials are attested by their own keys.
@@ -39,14 +39,15 @@ fn source_value(alloc: Global, credential: &StoredCredential) -> Result<Value, A
     let alg = Value::Nint(credential.alg.alg().argument());
     let resident = Value::Bool(credential.resident);
     let sign_count = Value::Uint(u64::from(credential.sign_count));
-    let mut pairs = Vec::new(alloc);
-    push_member(alloc, &mut pairs, MapKey::Uint(1), id)?;
-    push_member(alloc, &mut pairs, MapKey::Uint(2), rp_id)?;
-    push_member(alloc, &mut pairs, MapKey::Uint(3), user)?;
-    push_member(alloc, &mut pairs, MapKey::Uint(4), secret)?;
-    push_member(alloc, &mut pairs, MapKey::Uint(5), alg)?;
-    push_member(alloc, &mut pairs, MapKey::Uint(6), resident)?;
-    push_member(alloc, &mut pairs, MapKey::Uint(7), sign_count)?;
+    let pairs = vec![in alloc;
+        (Value::Uint(1), id),
+        (Value::Uint(2), rp_id),
+        (Value::Uint(3), user),
+        (Value::Uint(4), secret),
+        (Value::Uint(5), alg),
+        (Value::Uint(6), resident),
+        (Value::Uint(7), sign_count),
+    ]?;
     Ok(Value::Map(pairs))
 }
 
@@ -74,14 +75,13 @@ impl Authenticator {
         let alloc = self.allocator();
         let aaguid = bytes_value(alloc, &self.aaguid)?;
         let credentials = source_values(alloc, &self.credentials)?;
-        let self_signed = Value::Bool(is_self_signed(self.attest));
-        let mut pairs = Vec::new(alloc);
-        push_member(alloc, &mut pairs, MapKey::Uint(1), Value::Uint(VERSION))?;
-        push_member(alloc, &mut pairs, MapKey::Uint(2), aaguid)?;
-        push_member(alloc, &mut pairs, MapKey::Uint(3), Value::Bool(self.uv))?;
-        push_member(alloc, &mut pairs, MapKey::Uint(4), self_signed)?;
-        let credentials = Value::Array(credentials);
-        push_member(alloc, &mut pairs, MapKey::Uint(5), credentials)?;
+        let pairs = vec![in alloc;
+            (Value::Uint(1), Value::Uint(VERSION)),
+            (Value::Uint(2), aaguid),
+            (Value::Uint(3), Value::Bool(self.uv)),
+            (Value::Uint(4), Value::Bool(is_self_signed(self.attest))),
+            (Value::Uint(5), Value::Array(credentials)),
+        ]?;
         Ok(Value::Map(pairs))
     }
 

@@ -1,7 +1,7 @@
 //! Writing a value at the end of an output.
 
 ghost use Rattle.std.specs.Prelude.{◌≡◌, ◌<◌, [], ◌++◌, ℕ, List, length, OnOk, OnErr, IfErr, IsErrOf, ◌⊎◌};
-ghost use Rattle.ccbor.specs.Item.{Item};
+ghost use Rattle.ccbor.specs.Item.{Item, array, map};
 ghost use Rattle.ccbor.specs.declared.error.Error.TheVariants as errors;
 ghost use Rattle.ccbor.specs.Canon.{Canon, head, is_key, spelling, spelling_of_items, spelling_of_pairs, Fits, ItemsFit, PairsFit, AppendsCanon};
 ghost use Rattle.ccbor.specs.View.{view, items_view, pairs_view};
@@ -45,22 +45,40 @@ fn put(value: &Value, depth: u8, out: &mut Vec<u8>) -> Result<(), Error>
         Value::Nint(n) => put_head(NEGATIVE, *n, out)?,
         Value::Bytes(content) => put_string(BYTES, content, out)?,
         Value::Text(text) => put_string(TEXT, text.as_bytes(), out)?,
-        Value::Array(items) => {
-            if depth == 0 {
-                return Err(Error::Unfit);
-            }
-            put_head(ARRAY, items.len() as u64, out)?;
-            put_items(items, depth - 1, out)?;
-        }
-        Value::Map(pairs) => {
-            if depth == 0 {
-                return Err(Error::Unfit);
-            }
-            put_head(MAP, pairs.len() as u64, out)?;
-            put_pairs(pairs, depth - 1, out)?;
-        }
+        Value::Array(items) => return put_array(items, depth, out),
+        Value::Map(pairs) => return put_map(pairs, depth, out),
         Value::Bool(b) => out.push(32 * SIMPLE + if *b { TRUE } else { FALSE })?,
     }
+    Ok(())
+}
+
+/// Appends the encoding of an array.
+#[cycle(writing)]
+fn put_array(items: &[Value], depth: u8, out: &mut Vec<u8>) -> Result<(), Error>
+    ensures written { Writes (Fits depth (array (items_view items.now))) (spelling (array (items_view items.now)))
+        out.old.items out.new.items result }
+    ensures grows { Grows out.old.items out.new.items }
+{
+    if depth == 0 {
+        return Err(Error::Unfit);
+    }
+    put_head(ARRAY, items.len() as u64, out)?;
+    put_items(items, depth - 1, out)?;
+    Ok(())
+}
+
+/// Appends the encoding of a map.
+#[cycle(writing)]
+fn put_map(pairs: &[(Value, Value)], depth: u8, out: &mut Vec<u8>) -> Result<(), Error>
+    ensures written { Writes (Fits depth (map (pairs_view pairs.now))) (spelling (map (pairs_view pairs.now)))
+        out.old.items out.new.items result }
+    ensures grows { Grows out.old.items out.new.items }
+{
+    if depth == 0 {
+        return Err(Error::Unfit);
+    }
+    put_head(MAP, pairs.len() as u64, out)?;
+    put_pairs(pairs, depth - 1, out)?;
     Ok(())
 }
 

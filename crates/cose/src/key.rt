@@ -6,6 +6,7 @@ ghost use Rattle.ccbor.specs.View.{view};
 ghost use Rattle.ccbor.specs.Viewing.{shown};
 ghost use Rattle.cose.specs.Keys.{alg_of, argument_of, lent_key_view, number_of, signed_alg, x_of, KeyOf};
 ghost use Rattle.cose.specs.Reading.{members_view};
+ghost use Rattle.cose.specs.declared.key.CoseKey.TheVariants as keys;
 
 use crate::reading::{Members, eddsa, es256, rs256};
 use crate::rsa::{RsaKey, RsaView};
@@ -136,6 +137,51 @@ fn key_of<'a>(members: &Members<'a>) -> Result<KeyView<'a>, NotAKey>
     }
 }
 
+/// The value of a point of P-256.
+fn es256_value(alloc: Global, x: &[u8; 32], y: &[u8; 32]) -> Result<Value, AllocError>
+    ensures { IfOk result (λ v. KeyOf (keys.Es256 x.now y.now) (view v)) }
+{
+    let x = Value::Bytes(Vec::from_slice(alloc, x)?);
+    let y = Value::Bytes(Vec::from_slice(alloc, y)?);
+    let pairs = vec![in alloc;
+        (Value::Uint(1), Value::Uint(2)),
+        (Value::Uint(3), Value::Nint(6)),
+        (Value::Nint(0), Value::Uint(1)),
+        (Value::Nint(1), x),
+        (Value::Nint(2), y),
+    ]?;
+    Ok(Value::Map(pairs))
+}
+
+/// The value of a key of Ed25519.
+fn eddsa_value(alloc: Global, x: &[u8; 32]) -> Result<Value, AllocError>
+    ensures { IfOk result (λ v. KeyOf (keys.EdDsa x.now) (view v)) }
+{
+    let x = Value::Bytes(Vec::from_slice(alloc, x)?);
+    let pairs = vec![in alloc;
+        (Value::Uint(1), Value::Uint(1)),
+        (Value::Uint(3), Value::Nint(7)),
+        (Value::Nint(0), Value::Uint(6)),
+        (Value::Nint(1), x),
+    ]?;
+    Ok(Value::Map(pairs))
+}
+
+/// The value of a key of RSA.
+fn rs256_value(alloc: Global, key: &RsaView<'_>) -> Result<Value, AllocError>
+    ensures { IfOk result (λ v. KeyOf (lent_key_view (KeyView.Rs256 key.now)) (view v)) }
+{
+    let n = Value::Bytes(Vec::from_slice(alloc, key.n)?);
+    let e = Value::Bytes(Vec::from_slice(alloc, key.e)?);
+    let pairs = vec![in alloc;
+        (Value::Uint(1), Value::Uint(3)),
+        (Value::Uint(3), Value::Nint(256)),
+        (Value::Nint(0), n),
+        (Value::Nint(1), e),
+    ]?;
+    Ok(Value::Map(pairs))
+}
+
 impl<'a> KeyView<'a> {
     /// The key's algorithm.
     pub fn alg(&self) -> Alg
@@ -186,29 +232,11 @@ impl<'a> KeyView<'a> {
     pub fn to_value(&self, alloc: Global) -> Result<Value, AllocError>
         ensures { IfOk result (λ v. KeyOf (lent_key_view self.now) (view v)) }
     {
-        let mut pairs = Vec::new(alloc);
         match self {
-            KeyView::Es256 { x, y } => {
-                pairs.push((Value::Uint(1), Value::Uint(2)))?;
-                pairs.push((Value::Uint(3), Value::Nint(6)))?;
-                pairs.push((Value::Nint(0), Value::Uint(1)))?;
-                pairs.push((Value::Nint(1), Value::Bytes(Vec::from_slice(alloc, x)?)))?;
-                pairs.push((Value::Nint(2), Value::Bytes(Vec::from_slice(alloc, y)?)))?;
-            }
-            KeyView::EdDsa { x } => {
-                pairs.push((Value::Uint(1), Value::Uint(1)))?;
-                pairs.push((Value::Uint(3), Value::Nint(7)))?;
-                pairs.push((Value::Nint(0), Value::Uint(6)))?;
-                pairs.push((Value::Nint(1), Value::Bytes(Vec::from_slice(alloc, x)?)))?;
-            }
-            KeyView::Rs256(key) => {
-                pairs.push((Value::Uint(1), Value::Uint(3)))?;
-                pairs.push((Value::Uint(3), Value::Nint(256)))?;
-                pairs.push((Value::Nint(0), Value::Bytes(Vec::from_slice(alloc, key.n)?)))?;
-                pairs.push((Value::Nint(1), Value::Bytes(Vec::from_slice(alloc, key.e)?)))?;
-            }
+            KeyView::Es256 { x, y } => es256_value(alloc, x, y),
+            KeyView::EdDsa { x } => eddsa_value(alloc, x),
+            KeyView::Rs256(key) => rs256_value(alloc, key),
         }
-        Ok(Value::Map(pairs))
     }
 
     /// The key that has this value. It takes no memory, and answers `NotAKey` exactly if no key

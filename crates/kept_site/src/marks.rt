@@ -9,7 +9,6 @@ ghost use Rattle.sqlite_trees.specs.declared.store.Shape.TheVariants.{Table};
 ghost use Rattle.credential_store.specs.Held.{IsSameView, Placed};
 ghost use Rattle.kept_site.specs.Causes.{IfOpenStore};
 ghost use Rattle.kept_site.specs.State.{HasMark, HoldsSite, mark_after, mark_row};
-ghost use Rattle.kept_site.specs.declared.failure.OpenFailure.TheVariants as opens;
 
 use crate::failure::OpenFailure;
 use sqlite_trees::error::StoreError;

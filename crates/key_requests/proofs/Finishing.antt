@@ -1,5 +1,5 @@
 -- What is finished of a value is finished of the request that it is.
-use Rattle.std.proofs.Common.{◌≡◌, ◌<◌, ◌≤◌, ℕ, List, ◌∷◌, length, Some, None, Option, option_map, refl, sym, subst, ◌∙◌, Result, Ok, Err, IfOk, IfErr, ◌⊎◌, inl, inr}
+use Rattle.std.proofs.Common.{◌≡◌, ℕ, List, ◌∷◌, Some, None, Option, option_map, refl, sym, subst, ◌∙◌, Result, Ok, Err, IfOk, IfErr, ◌⊎◌, inl, inr}
 use Rattle.std.specs.Prelude.{IsErrOf}
 use Rattle.ccbor.specs.Item.{Item}
 use Rattle.ccbor.specs.Canon.{Canon}

@@ -2,7 +2,7 @@
 use Rattle.std.specs.Prelude.{◌≡◌, ℕ, ◌<◌, ◌≤◌, List, length, true, false, Result, Ok, Err}
 use Rattle.ctap_requests.specs.Entities.{CreationFlags}
 use Rattle.key_replies.specs.Replies.{Info}
-use Rattle.key_requests.specs.Limits.{is_over, has_long_id, offers, max_message}
+use Rattle.key_requests.specs.Limits.{is_over, has_long_id, offers}
 use Rattle.key_requests.specs.declared.error.RequestError.{RequestError}
 use Rattle.key_requests.specs.declared.error.RequestError.TheVariants as errors
 

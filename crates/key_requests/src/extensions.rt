@@ -66,21 +66,21 @@ pub fn creation_extensions(
 ) -> Result<Value, AllocError>
     ensures { IfOk result (λ v. view v ≡ item_of (record_of creation_inputs) (creation_inputs_content (creation_inputs_view inputs.now))) }
 {
-    let cred_blob = bytes_if_there(alloc, inputs.cred_blob)?;
-    let cred_protect = number_if_there(inputs.cred_protect);
-    let hmac_secret = truth_if_wanted(inputs.hmac_secret);
-    let large_blob_key = truth_if_wanted(inputs.large_blob_key);
-    let min_pin_length = truth_if_wanted(inputs.min_pin_length);
     let mut pairs = Vec::new(alloc);
+    let cred_blob = bytes_if_there(alloc, inputs.cred_blob)?;
     push_if_there(alloc, &mut pairs, MapKey::Text("credBlob"), cred_blob)?;
+    let cred_protect = number_if_there(inputs.cred_protect);
     push_if_there(alloc, &mut pairs, MapKey::Text("credProtect"), cred_protect)?;
+    let hmac_secret = truth_if_wanted(inputs.hmac_secret);
     push_if_there(alloc, &mut pairs, MapKey::Text("hmac-secret"), hmac_secret)?;
+    let large_blob_key = truth_if_wanted(inputs.large_blob_key);
     push_if_there(
         alloc,
         &mut pairs,
         MapKey::Text("largeBlobKey"),
         large_blob_key,
     )?;
+    let min_pin_length = truth_if_wanted(inputs.min_pin_length);
     push_if_there(
         alloc,
         &mut pairs,
@@ -100,14 +100,14 @@ fn named_protocol(protocol: u64) -> Option<u64>
 fn secret_value(alloc: Global, secret: &HmacSecret<'_>) -> Result<Value, AllocError>
     ensures { IfOk result (λ v. view v ≡ item_of (record_of secret_members) (secret_content (secret_view secret.now))) }
 {
-    let key = point_value(alloc, &secret.key)?;
-    let salt_enc = bytes_value(alloc, secret.salt_enc)?;
-    let salt_auth = bytes_value(alloc, secret.salt_auth)?;
-    let protocol = number_if_there(named_protocol(secret.protocol));
     let mut pairs = Vec::new(alloc);
+    let key = point_value(alloc, &secret.key)?;
     push_member(alloc, &mut pairs, MapKey::Uint(1), key)?;
+    let salt_enc = bytes_value(alloc, secret.salt_enc)?;
     push_member(alloc, &mut pairs, MapKey::Uint(2), salt_enc)?;
+    let salt_auth = bytes_value(alloc, secret.salt_auth)?;
     push_member(alloc, &mut pairs, MapKey::Uint(3), salt_auth)?;
+    let protocol = number_if_there(named_protocol(secret.protocol));
     push_if_there(alloc, &mut pairs, MapKey::Uint(4), protocol)?;
     Ok(Value::Map(pairs))
 }

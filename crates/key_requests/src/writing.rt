@@ -1,8 +1,9 @@
 //! Writing a request.
 
-ghost use Rattle.std.specs.Prelude.{◌≡◌, ◌⊎◌, ◌∷◌, ◌<◌, ◌≤◌, ℕ, List, IfOk, IfErr, IsErrOf, None, length, map, option_map};
+ghost use Rattle.std.specs.Prelude.{◌≡◌, ◌⊎◌, [], ◌∷◌, ◌<◌, ◌≤◌, ℕ, List, IfOk, IfErr, IsErrOf, OnOk, None, length, map, option_map};
 ghost use Rattle.ccbor.specs.Canon.{Canon};
-ghost use Rattle.ccbor.specs.View.{view};
+ghost use Rattle.ccbor.specs.Item.{map as map_of};
+ghost use Rattle.ccbor.specs.View.{pairs_view, view};
 ghost use Rattle.ctap_encoding.specs.Content.{item_of};
 ghost use Rattle.ctap_encoding.specs.Table.{record_of};
 ghost use Rattle.key_replies.specs.ReplyView.{info_view};
@@ -38,58 +39,82 @@ fn auth_members<'a>(auth: Option<PinUvAuth<'a>>) -> (Option<&'a [u8]>, Option<u6
     }
 }
 
+/// Adds the members of a makeCredential request to none.
+fn push_creation(
+    alloc: Global,
+    pairs: &mut Vec<(Value, Value)>,
+    request: MakeCredential<'_>,
+) -> Result<(), AllocError>
+    requires { pairs.old.items ≡ [] }
+    ensures { OnOk result (map_of (pairs_view pairs.new.items) ≡ item_of (record_of creation_members) (creation_content (creation_view request.entry))) }
+{
+    let hash = bytes_value(alloc, request.client_data_hash)?;
+    push_member(alloc, pairs, MapKey::Uint(1), hash)?;
+    let rp = rp_value(alloc, &request.rp)?;
+    push_member(alloc, pairs, MapKey::Uint(2), rp)?;
+    let user = user_value(alloc, &request.user)?;
+    push_member(alloc, pairs, MapKey::Uint(3), user)?;
+    let algorithms = algorithms_value(alloc, request.algorithms)?;
+    push_member(alloc, pairs, MapKey::Uint(4), algorithms)?;
+    let exclude = descriptors_if_there(alloc, request.exclude)?;
+    push_if_there(alloc, pairs, MapKey::Uint(5), exclude)?;
+    push_if_there(alloc, pairs, MapKey::Uint(6), request.extensions)?;
+    let options = options_if_there(alloc, &request.options)?;
+    push_if_there(alloc, pairs, MapKey::Uint(7), options)?;
+    let (param, protocol) = auth_members(request.auth);
+    let param = bytes_if_there(alloc, param)?;
+    push_if_there(alloc, pairs, MapKey::Uint(8), param)?;
+    let protocol = number_if_there(protocol);
+    push_if_there(alloc, pairs, MapKey::Uint(9), protocol)?;
+    Ok(())
+}
+
 /// The value of a makeCredential request's map.
 fn creation_value(alloc: Global, request: MakeCredential<'_>) -> Result<Value, AllocError>
     ensures { IfOk result (λ v. view v ≡ item_of (record_of creation_members) (creation_content (creation_view request.entry))) }
 {
-    let extensions = request.extensions;
-    let hash = bytes_value(alloc, request.client_data_hash)?;
-    let rp = rp_value(alloc, &request.rp)?;
-    let user = user_value(alloc, &request.user)?;
-    let algorithms = algorithms_value(alloc, request.algorithms)?;
-    let exclude = descriptors_if_there(alloc, request.exclude)?;
-    let options = options_if_there(alloc, &request.options)?;
-    let (param, protocol) = auth_members(request.auth);
-    let param = bytes_if_there(alloc, param)?;
-    let protocol = number_if_there(protocol);
     let mut pairs = Vec::new(alloc);
-    push_member(alloc, &mut pairs, MapKey::Uint(1), hash)?;
-    push_member(alloc, &mut pairs, MapKey::Uint(2), rp)?;
-    push_member(alloc, &mut pairs, MapKey::Uint(3), user)?;
-    push_member(alloc, &mut pairs, MapKey::Uint(4), algorithms)?;
-    push_if_there(alloc, &mut pairs, MapKey::Uint(5), exclude)?;
-    push_if_there(alloc, &mut pairs, MapKey::Uint(6), extensions)?;
-    push_if_there(alloc, &mut pairs, MapKey::Uint(7), options)?;
-    push_if_there(alloc, &mut pairs, MapKey::Uint(8), param)?;
-    push_if_there(alloc, &mut pairs, MapKey::Uint(9), protocol)?;
+    push_creation(alloc, &mut pairs, request)?;
     Ok(Value::Map(pairs))
 }
 
-/// The value of a getAssertion request's map.
-fn assertion_value(alloc: Global, request: GetAssertion<'_>) -> Result<Value, AllocError>
-    ensures { IfOk result (λ v. view v ≡ item_of (record_of assertion_members) (assertion_content (assertion_view request.entry))) }
+/// Adds the members of a getAssertion request to none.
+fn push_assertion(
+    alloc: Global,
+    pairs: &mut Vec<(Value, Value)>,
+    request: GetAssertion<'_>,
+) -> Result<(), AllocError>
+    requires { pairs.old.items ≡ [] }
+    ensures { OnOk result (map_of (pairs_view pairs.new.items) ≡ item_of (record_of assertion_members) (assertion_content (assertion_view request.entry))) }
 {
-    let extensions = request.extensions;
     let rp_id = text_value(alloc, request.rp_id)?;
+    push_member(alloc, pairs, MapKey::Uint(1), rp_id)?;
     let hash = bytes_value(alloc, request.client_data_hash)?;
+    push_member(alloc, pairs, MapKey::Uint(2), hash)?;
     let allow = descriptors_if_there(alloc, request.allow)?;
+    push_if_there(alloc, pairs, MapKey::Uint(3), allow)?;
+    push_if_there(alloc, pairs, MapKey::Uint(4), request.extensions)?;
     let options = Options {
         rk: None,
         up: request.options.up,
         uv: request.options.uv,
     };
     let options = options_if_there(alloc, &options)?;
+    push_if_there(alloc, pairs, MapKey::Uint(5), options)?;
     let (param, protocol) = auth_members(request.auth);
     let param = bytes_if_there(alloc, param)?;
+    push_if_there(alloc, pairs, MapKey::Uint(6), param)?;
     let protocol = number_if_there(protocol);
+    push_if_there(alloc, pairs, MapKey::Uint(7), protocol)?;
+    Ok(())
+}
+
+/// The value of a getAssertion request's map.
+fn assertion_value(alloc: Global, request: GetAssertion<'_>) -> Result<Value, AllocError>
+    ensures { IfOk result (λ v. view v ≡ item_of (record_of assertion_members) (assertion_content (assertion_view request.entry))) }
+{
     let mut pairs = Vec::new(alloc);
-    push_member(alloc, &mut pairs, MapKey::Uint(1), rp_id)?;
-    push_member(alloc, &mut pairs, MapKey::Uint(2), hash)?;
-    push_if_there(alloc, &mut pairs, MapKey::Uint(3), allow)?;
-    push_if_there(alloc, &mut pairs, MapKey::Uint(4), extensions)?;
-    push_if_there(alloc, &mut pairs, MapKey::Uint(5), options)?;
-    push_if_there(alloc, &mut pairs, MapKey::Uint(6), param)?;
-    push_if_there(alloc, &mut pairs, MapKey::Uint(7), protocol)?;
+    push_assertion(alloc, &mut pairs, request)?;
     Ok(Value::Map(pairs))
 }
 

@@ -43,9 +43,15 @@ replay_app = new_app (codes "replay")
 abbrev pub required : App → App
 required a = record { top = record a.top { subcommand_required = true }; subs = a.subs }
 
+-- with its first subcommand, and with two
+abbrev pub inspecting_app : ValueParser → App
+inspecting_app p = with_subcommand (required (new_app (codes "passkey"))) (inspect_app p).top
+
+abbrev pub checking_app : ValueParser → ValueParser → App
+checking_app p q = with_subcommand (inspecting_app p) (check_app q).top
+
 abbrev pub passkey_app : ValueParser → ValueParser → App
-passkey_app p q = with_subcommand
-    (with_subcommand (with_subcommand (required (new_app (codes "passkey"))) (inspect_app p).top) (check_app q).top) replay_app.top
+passkey_app p q = with_subcommand (checking_app p q) replay_app.top
 
 -- the command has the shape, whatever two parsers its arguments have
 abbrev pub HasAppOfBoth : (ValueParser → ValueParser → App) → Command → Type 0

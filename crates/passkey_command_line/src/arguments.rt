@@ -5,7 +5,7 @@ ghost use Rattle.clap.specs.Words.{app_of, new_app, shape_of, subcommand_rows_of
 ghost use Rattle.clap.specs.declared.builder.command.Command.TheViews.{out-Command as fields_of};
 ghost use Rattle.clientdata.specs.declared.record.CeremonyType.{CeremonyType};
 ghost use Rattle.passkey_command_line.specs.declared.arguments.Inspection.{Inspection};
-ghost use Rattle.passkey_command_line.specs.CommandLine.{check_app, check_options_app, check_type_app, inspect_app, passkey_app, replay_app, HasApp};
+ghost use Rattle.passkey_command_line.specs.CommandLine.{check_app, check_options_app, check_type_app, inspect_app, passkey_app, replay_app, HasApp, inspecting_app, checking_app};
 ghost use Rattle.passkey_command_line.specs.CommandLine.{HasAppOf, HasAppOfBoth, IsAsked, IsAskedBy, ceremony_word, inspection_word, required};
 ghost use Rattle.passkey_command_line.specs.CommandLine.{required_option};
 ghost use Rattle.passkey_command_line.specs.Private.{HasRuleOf, chosen};
@@ -164,14 +164,28 @@ fn replay<'a>(alloc: Global, help: &'a str) -> Parser<'a>
     plain(alloc, "replay", about, help)
 }
 
+/// The program's parser with its first subcommand.
+fn inspecting<'a>(alloc: Global) -> Result<Parser<'a>, AllocError>
+    ensures { IfOk result (λ c. HasAppOf inspecting_app c) }
+{
+    let inspect = inspect(alloc)?;
+    with_sub(top(alloc), inspect)
+}
+
+/// The same with its second one.
+fn checking<'a>(alloc: Global) -> Result<Parser<'a>, AllocError>
+    ensures { IfOk result (λ c. HasAppOfBoth checking_app c) }
+{
+    let check = check(alloc)?;
+    let parser = inspecting(alloc)?;
+    with_sub(parser, check)
+}
+
 /// The program's parser, with this text behind the help of `replay`.
 fn passkey<'a>(alloc: Global, help: &'a str) -> Result<Parser<'a>, AllocError>
     ensures { IfOk result (λ c. HasAppOfBoth passkey_app c) }
 {
-    let inspect = inspect(alloc)?;
-    let check = check(alloc)?;
-    let parser = with_sub(top(alloc), inspect)?;
-    let parser = with_sub(parser, check)?;
+    let parser = checking(alloc)?;
     with_sub(parser, replay(alloc, help))
 }
 
@@ -275,6 +289,21 @@ fn asked<'a>(
     Ok(asked_by(alloc, &matches)?)
 }
 
+/// What the arguments ask the program's parser for, where no value is missing.
+fn wanted<'a>(
+    alloc: Global,
+    parser: &mut Parser<'a>,
+    arguments: &'a [&'a str],
+) -> Result<Subcommand, Error>
+    requires { HasAppOfBoth passkey_app parser.old }
+    ensures { IfOk result (λ a. IsAskedBy (map (λ w. w.now) arguments.now) a) }
+{
+    match asked(alloc, parser, arguments)? {
+        Some(asked) => Ok(asked),
+        None => Err(parser.error(ErrorKind::MissingRequiredArgument, "a value is missing")?),
+    }
+}
+
 /// What the arguments ask for, the program's name first. Arguments that are refused, and a call for help, give
 /// clap's error, which has the text to show; its kind is `OutOfMemory` where there was no memory.
 pub fn command<'a>(alloc: Global, arguments: &'a [&'a str]) -> Result<Subcommand, Error>
@@ -282,8 +311,5 @@ pub fn command<'a>(alloc: Global, arguments: &'a [&'a str]) -> Result<Subcommand
 {
     let help = replay_help(alloc)?;
     let mut parser = passkey(alloc, help.as_str())?;
-    match asked(alloc, &mut parser, arguments)? {
-        Some(asked) => Ok(asked),
-        None => Err(parser.error(ErrorKind::MissingRequiredArgument, "a value is missing")?),
-    }
+    wanted(alloc, &mut parser, arguments)
 }

@@ -1,5 +1,5 @@
 -- Requests of authenticatorClientPIN: CTAP 2.1, section 6.5.5, in the message encoding of section 8.
-use Rattle.std.specs.Prelude.{◌≡◌, ℕ, List, ◌∷◌, true, false, Option, Some, None, ℤ, pos, negsuc, codes}
+use Rattle.std.specs.Prelude.{◌≡◌, ℕ, List, ◌∷◌, true, false, Option, Some, None, pos, negsuc}
 use Rattle.ccbor.specs.Item as of
 use Rattle.ccbor.specs.Canon.{Canon}
 use Rattle.ctap_encoding.specs.Table.{Members, no_more, listed, a_number, a_text, some_bytes, unsigned, record_of, sized, gravest}

@@ -1,5 +1,5 @@
 -- What the private functions of these messages are proved against; no public clause cites it.
-use Rattle.std.specs.Prelude.{◌≡◌, ◌≢◌, ℕ, List, [], ◌∷◌, option_map}
+use Rattle.std.specs.Prelude.{option_map}
 use Rattle.ctap_encoding.specs.Content.{Contents}
 use Rattle.pin_messages.specs.declared.command.PinMembers.{PinMembers}
 use Rattle.pin_messages.specs.CommandView.{point_view}

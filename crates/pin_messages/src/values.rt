@@ -1,8 +1,8 @@
 //! The values of a request's members.
 
-ghost use Rattle.std.specs.Prelude.{◌≡◌, IfOk, option_map};
-ghost use Rattle.ccbor.specs.Item.{bytes, text, uint};
-ghost use Rattle.ccbor.specs.View.{view};
+ghost use Rattle.std.specs.Prelude.{◌≡◌, [], IfOk, OnOk, option_map};
+ghost use Rattle.ccbor.specs.Item.{bytes, map, text, uint};
+ghost use Rattle.ccbor.specs.View.{pairs_view, view};
 ghost use Rattle.ctap_encoding.specs.Content.{item_of};
 ghost use Rattle.ctap_encoding.specs.Table.{record_of};
 ghost use Rattle.pin_messages.specs.CommandView.{point_view};
@@ -20,12 +20,13 @@ pub fn point_value(alloc: Global, point: &Point<'_>) -> Result<Value, AllocError
 {
     let x = bytes_value(alloc, point.x)?;
     let y = bytes_value(alloc, point.y)?;
-    let mut pairs = Vec::new(alloc);
-    push_member(alloc, &mut pairs, MapKey::Uint(1), Value::Uint(2))?;
-    push_member(alloc, &mut pairs, MapKey::Uint(3), Value::Nint(24))?;
-    push_member(alloc, &mut pairs, MapKey::Nint(0), Value::Uint(1))?;
-    push_member(alloc, &mut pairs, MapKey::Nint(1), x)?;
-    push_member(alloc, &mut pairs, MapKey::Nint(2), y)?;
+    let pairs = vec![in alloc;
+        (Value::Uint(1), Value::Uint(2)),
+        (Value::Uint(3), Value::Nint(24)),
+        (Value::Nint(0), Value::Uint(1)),
+        (Value::Nint(1), x),
+        (Value::Nint(2), y),
+    ]?;
     Ok(Value::Map(pairs))
 }
 
@@ -69,26 +70,39 @@ pub fn number_if_there(number: Option<u64>) -> Option<Value>
     }
 }
 
+/// Adds the members of a request's map to none.
+fn push_members(
+    alloc: Global,
+    pairs: &mut Vec<(Value, Value)>,
+    members: &PinMembers<'_>,
+) -> Result<(), AllocError>
+    requires { pairs.old.items ≡ [] }
+    ensures { OnOk result (map (pairs_view pairs.new.items) ≡ item_of (record_of pin_members) (content_of members.now)) }
+{
+    let protocol = Value::Uint(members.protocol);
+    push_member(alloc, pairs, MapKey::Uint(1), protocol)?;
+    let subcommand = Value::Uint(members.subcommand);
+    push_member(alloc, pairs, MapKey::Uint(2), subcommand)?;
+    let key = point_if_there(alloc, members.key)?;
+    push_if_there(alloc, pairs, MapKey::Uint(3), key)?;
+    let param = bytes_if_there(alloc, members.param)?;
+    push_if_there(alloc, pairs, MapKey::Uint(4), param)?;
+    let new_pin = bytes_if_there(alloc, members.new_pin)?;
+    push_if_there(alloc, pairs, MapKey::Uint(5), new_pin)?;
+    let pin_hash = bytes_if_there(alloc, members.pin_hash)?;
+    push_if_there(alloc, pairs, MapKey::Uint(6), pin_hash)?;
+    let permissions = number_if_there(members.permissions);
+    push_if_there(alloc, pairs, MapKey::Uint(9), permissions)?;
+    let rp_id = text_if_there(alloc, members.rp_id)?;
+    push_if_there(alloc, pairs, MapKey::Uint(10), rp_id)?;
+    Ok(())
+}
+
 /// The value of a request's map.
 pub(crate) fn members_value(alloc: Global, members: &PinMembers<'_>) -> Result<Value, AllocError>
     ensures { IfOk result (λ v. view v ≡ item_of (record_of pin_members) (content_of members.now)) }
 {
-    let key = point_if_there(alloc, members.key)?;
-    let param = bytes_if_there(alloc, members.param)?;
-    let new_pin = bytes_if_there(alloc, members.new_pin)?;
-    let pin_hash = bytes_if_there(alloc, members.pin_hash)?;
-    let permissions = number_if_there(members.permissions);
-    let rp_id = text_if_there(alloc, members.rp_id)?;
-    let protocol = Value::Uint(members.protocol);
-    let subcommand = Value::Uint(members.subcommand);
     let mut pairs = Vec::new(alloc);
-    push_member(alloc, &mut pairs, MapKey::Uint(1), protocol)?;
-    push_member(alloc, &mut pairs, MapKey::Uint(2), subcommand)?;
-    push_if_there(alloc, &mut pairs, MapKey::Uint(3), key)?;
-    push_if_there(alloc, &mut pairs, MapKey::Uint(4), param)?;
-    push_if_there(alloc, &mut pairs, MapKey::Uint(5), new_pin)?;
-    push_if_there(alloc, &mut pairs, MapKey::Uint(6), pin_hash)?;
-    push_if_there(alloc, &mut pairs, MapKey::Uint(9), permissions)?;
-    push_if_there(alloc, &mut pairs, MapKey::Uint(10), rp_id)?;
+    push_members(alloc, &mut pairs, members)?;
     Ok(Value::Map(pairs))
 }

@@ -50,16 +50,16 @@ fn reply_value(alloc: Global, reply: &PinReply<'_>) -> Result<Value, Error>
     ensures unfit { IsErrOf result errors.Unfit → IfSome (reply_view reply.now).key IsPoint → ⊥ }
     ensures errors { IfErr result (λ e. (e ≡ errors.Unfit) ⊎ (e ≡ errors.Memory)) }
 {
-    let key = key_if_there(alloc, &reply.key)?;
-    let token = bytes_if_there(alloc, reply.token)?;
-    let pin_retries = number_if_there(reply.pin_retries);
-    let power_cycle = truth_if_there(reply.power_cycle);
-    let uv_retries = number_if_there(reply.uv_retries);
     let mut pairs = Vec::new(alloc);
+    let key = key_if_there(alloc, &reply.key)?;
     push_if_there(alloc, &mut pairs, MapKey::Uint(1), key)?;
+    let token = bytes_if_there(alloc, reply.token)?;
     push_if_there(alloc, &mut pairs, MapKey::Uint(2), token)?;
+    let pin_retries = number_if_there(reply.pin_retries);
     push_if_there(alloc, &mut pairs, MapKey::Uint(3), pin_retries)?;
+    let power_cycle = truth_if_there(reply.power_cycle);
     push_if_there(alloc, &mut pairs, MapKey::Uint(4), power_cycle)?;
+    let uv_retries = number_if_there(reply.uv_retries);
     push_if_there(alloc, &mut pairs, MapKey::Uint(5), uv_retries)?;
     Ok(Value::Map(pairs))
 }

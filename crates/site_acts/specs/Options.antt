@@ -51,17 +51,22 @@ selection b =
     (member (codes "residentKey") (string (resident_key b.resident))
     (member (codes "userVerification") (string (verification b.user_verification)) no_members)))
 
--- the options of a registration: for this relying party, with the session's challenge, what the line asks for, and what is known of the
+-- the options of a registration: for the relying party, with the session's challenge, what the line asks for, and what is known of the
 -- credentials that it names
-abbrev pub creation_options : List ℕ → List ℕ → List ℕ → BeginRegistration → List Known → Data
-creation_options rp_id rp_name challenge b known =
+abbrev pub creation_of : Data → List ℕ → BeginRegistration → List Known → Data
+creation_of rp challenge b known =
     object (member (codes "attestation") (string (conveyance b.asks.attestation))
     (member (codes "authenticatorSelection") (selection b)
     (member (codes "challenge") (base64url challenge)
     (member (codes "excludeCredentials") (array (items_of (map descriptor known)))
     (member (codes "pubKeyCredParams") (array (items_of (map parameter b.algorithms.items)))
-    (member (codes "rp") (object (member (codes "id") (string rp_id) (member (codes "name") (string rp_name) no_members)))
+    (member (codes "rp") rp
     (member (codes "user") (account b) no_members)))))))
+
+-- for a relying party of this id and name
+abbrev pub creation_options : List ℕ → List ℕ → List ℕ → BeginRegistration → List Known → Data
+creation_options rp_id rp_name challenge b known =
+    creation_of (object (member (codes "id") (string rp_id) (member (codes "name") (string rp_name) no_members))) challenge b known
 
 -- the options of a sign-in
 abbrev pub request_options : List ℕ → List ℕ → BeginSignIn → List Known → Data

@@ -295,38 +295,63 @@ pub(crate) fn act_named(name: &str) -> Option<ActKind>
     }
 }
 
-/// Whether a line of this act may have a member of this name.
-fn takes(act: ActKind, name: &str) -> bool
-    ensures { IsTrue result ↔ IsOneOf (codes "id" ∷ codes "act" ∷ names_for act) name.now }
+/// Whether a line that begins a registration has a member of this name.
+fn begins_registration(name: &str) -> bool
+    ensures { IsTrue result ↔ IsOneOf (names_for Kind.BeginRegistration) name.now }
 {
-    if name == "id" || name == "act" {
-        return true;
+    match name {
+        "user"
+        | "user_name"
+        | "display_name"
+        | "exclude"
+        | "user_verification"
+        | "resident"
+        | "algorithms"
+        | "conditional"
+        | "attestation" => true,
+        _ => false,
     }
+}
+
+/// Whether a line that finishes a registration has a member of this name.
+fn finishes_registration(name: &str) -> bool
+    ensures { IsTrue result ↔ IsOneOf (names_for Kind.FinishRegistration) name.now }
+{
+    match name {
+        "session" | "response" | "transports" | "verified" => true,
+        _ => false,
+    }
+}
+
+/// Whether a line that begins a sign-in has a member of this name.
+fn begins_sign_in(name: &str) -> bool
+    ensures { IsTrue result ↔ IsOneOf (names_for Kind.BeginSignIn) name.now }
+{
+    match name {
+        "user" | "allow" | "user_verification" => true,
+        _ => false,
+    }
+}
+
+/// Whether a line that finishes a sign-in has a member of this name.
+fn finishes_sign_in(name: &str) -> bool
+    ensures { IsTrue result ↔ IsOneOf (names_for Kind.FinishSignIn) name.now }
+{
+    match name {
+        "session" | "response" | "verified" => true,
+        _ => false,
+    }
+}
+
+/// Whether lines of this act have a member of this name, beside `id` and `act`.
+fn has(act: ActKind, name: &str) -> bool
+    ensures { IsTrue result ↔ IsOneOf (names_for act) name.now }
+{
     match act {
-        ActKind::BeginRegistration => match name {
-            "user"
-            | "user_name"
-            | "display_name"
-            | "exclude"
-            | "user_verification"
-            | "resident"
-            | "algorithms"
-            | "conditional"
-            | "attestation" => true,
-            _ => false,
-        },
-        ActKind::FinishRegistration => match name {
-            "session" | "response" | "transports" | "verified" => true,
-            _ => false,
-        },
-        ActKind::BeginSignIn => match name {
-            "user" | "allow" | "user_verification" => true,
-            _ => false,
-        },
-        ActKind::FinishSignIn => match name {
-            "session" | "response" | "verified" => true,
-            _ => false,
-        },
+        ActKind::BeginRegistration => begins_registration(name),
+        ActKind::FinishRegistration => finishes_registration(name),
+        ActKind::BeginSignIn => begins_sign_in(name),
+        ActKind::FinishSignIn => finishes_sign_in(name),
         ActKind::Retire | ActKind::Delete => name == "credential",
         ActKind::Abandon => name == "session",
         ActKind::Expire => name == "older_than",
@@ -334,6 +359,13 @@ fn takes(act: ActKind, name: &str) -> bool
         ActKind::Status => false,
         ActKind::Backup => name == "path",
     }
+}
+
+/// Whether a line of this act may have a member of this name.
+fn takes(act: ActKind, name: &str) -> bool
+    ensures { IsTrue result ↔ IsOneOf (codes "id" ∷ codes "act" ∷ names_for act) name.now }
+{
+    name == "id" || name == "act" || has(act, name)
 }
 
 /// That a line has no member that its act does not take.

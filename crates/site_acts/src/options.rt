@@ -1,16 +1,16 @@
 //! What the page is given: `PublicKeyCredentialCreationOptionsJSON` and `PublicKeyCredentialRequestOptionsJSON` (WebAuthn
 //! Level 3, sections 5.1.8 and 5.1.9), each value of bytes in base64url without padding.
 
-ghost use Rattle.std.specs.Prelude.{◌≡◌, IfOk, map, string_bytes};
-ghost use Rattle.serde_json.specs.Data.{array, string};
-ghost use Rattle.serde_json.specs.View.{items_of, view};
-ghost use Rattle.site_acts.specs.Options.{account, base64url, conveyance as conveyance_of, creation_options as creation_options_of, descriptor as descriptor_of, parameter as parameter_of, request_options as request_options_of, resident_key as resident_key_of, selection as selection_of, verification as verification_of};
+ghost use Rattle.std.specs.Prelude.{◌≡◌, IfOk, OnOk, map, string_bytes};
+ghost use Rattle.serde_json.specs.Data.{array, no_members, object, string};
+ghost use Rattle.serde_json.specs.View.{items_of, members_view, view};
+ghost use Rattle.site_acts.specs.Options.{account, base64url, conveyance as conveyance_of, creation_of, creation_options as creation_options_of, descriptor as descriptor_of, parameter as parameter_of, request_options as request_options_of, resident_key as resident_key_of, selection as selection_of, verification as verification_of};
 
 use crate::act::{BeginRegistration, BeginSignIn};
 use crate::known::Known;
 use base64::engine::general_purpose::URL_SAFE_NO_PAD;
 use cose::Alg;
-use serde_json::{Value, json};
+use serde_json::{Map, Value, json, put};
 use site_state::Started;
 use std::alloc::{AllocError, Global};
 
@@ -143,6 +143,33 @@ fn conveyance(is_asked: bool) -> &'static str
     if is_asked { "direct" } else { "none" }
 }
 
+/// Adds the members of a registration's options to none.
+fn put_creation(
+    members: &mut Map<String, Value>,
+    alloc: Global,
+    rp: Value,
+    challenge: &[u8],
+    begin: &BeginRegistration,
+    known: &[Known],
+) -> Result<(), AllocError>
+    requires { members_view members.old.entries ≡ no_members }
+    ensures { OnOk result (object (members_view members.new.entries) ≡ creation_of (view rp) challenge.now begin.now known.now) }
+{
+    put(members, alloc, "rp", rp)?;
+    let user = user(alloc, begin)?;
+    put(members, alloc, "user", user)?;
+    let challenge = base64_text(alloc, challenge)?;
+    put(members, alloc, "challenge", challenge)?;
+    let parameters = parameters(alloc, begin.algorithms.as_slice())?;
+    put(members, alloc, "pubKeyCredParams", parameters)?;
+    let exclude = descriptors(alloc, known)?;
+    put(members, alloc, "excludeCredentials", exclude)?;
+    let selection = selection(alloc, begin)?;
+    put(members, alloc, "authenticatorSelection", selection)?;
+    let attestation = String::from_str(alloc, conveyance(begin.asks.attestation))?;
+    put(members, alloc, "attestation", Value::String(attestation))
+}
+
 /// The options of a registration.
 pub fn creation_options(
     alloc: Global,
@@ -154,17 +181,10 @@ pub fn creation_options(
 ) -> Result<Value, AllocError>
     ensures { IfOk result (λ v. view v ≡ creation_options_of rp_id.now rp_name.now started.now.challenge begin.now known.now) }
 {
-    let challenge = base64_text(alloc, &started.challenge)?;
-    let user = user(alloc, begin)?;
-    let parameters = parameters(alloc, begin.algorithms.as_slice())?;
-    let exclude = descriptors(alloc, known)?;
-    let selection = selection(alloc, begin)?;
-    let attestation = conveyance(begin.asks.attestation);
     let rp = json!(in alloc; {"id": rp_id, "name": rp_name})?;
-    json!(in alloc; {
-        "rp": rp, "user": user, "challenge": challenge, "pubKeyCredParams": parameters,
-        "excludeCredentials": exclude, "authenticatorSelection": selection, "attestation": attestation
-    })
+    let mut members = Map::new(alloc);
+    put_creation(&mut members, alloc, rp, &started.challenge, begin, known)?;
+    Ok(Value::Object(members))
 }
 
 /// The options of a sign-in.

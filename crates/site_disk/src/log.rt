@@ -1,7 +1,8 @@
 //! The log beside a file, looked at, mended and put back.
 
+ghost use Rattle.std.specs.Prelude.{◌↔◌, ◌≤◌, IsTrue};
+
 use crate::path::log_of;
-use crate::site_disk::files_at;
 use sqlite::Unknown;
 use sqlite_std_file::OpenError;
 use sqlite_wal::checksum_of;
@@ -10,7 +11,7 @@ use std::io::{self, Read};
 use std::os::unix::fs::FileExt;
 
 /// The bytes of a log's header and of a frame's: SQLite passes over a log that is shorter.
-const SHORTEST: usize = 56;
+const SHORTEST: u64 = 56;
 
 /// What the header of a log begins with (fileformat2.html, 4.1). It is written alone, as a log ends and as one begins, so that a crash may
 /// leave any byte there.
@@ -41,15 +42,17 @@ fn is_whole(log: &[u8]) -> bool {
 }
 
 /// Whether a log may hold commits, by its length.
-pub fn may_hold_commits(log: &[u8]) -> bool {
-    SHORTEST <= log.len()
+pub fn may_hold_commits(len: u64) -> bool
+    ensures { IsTrue result ↔ (56 ≤ len) }
+{
+    SHORTEST <= len
 }
 
 /// A log as it is to be read, whose first byte is put in where the rest of its header is whole: as it ended, all of it is in the file,
 /// and as it begins, it has no frame. None where the header is damaged: no log is passed over that may hold commits. While a header
 /// is written its first byte is 0.
 fn read_as(mut log: Vec<u8>) -> Option<Vec<u8>> {
-    if log.len() < SHORTEST {
+    if !may_hold_commits(log.len() as u64) {
         return Some(log);
     }
     if is_whole(log.as_slice()) {
@@ -84,7 +87,7 @@ pub fn short_log(rt: &HostRuntime, path: &str) -> io::Result<Option<ShortLog>> {
     if !fs::exists(rt, log.as_str())? {
         return Ok(Some(ShortLog::Absent));
     }
-    if SHORTEST as u64 <= fs::metadata(rt, log.as_str())?.len() {
+    if may_hold_commits(fs::metadata(rt, log.as_str())?.len()) {
         return Ok(None);
     }
     Ok(Some(ShortLog::There(fs::read(rt, log.as_str())?)))
@@ -111,6 +114,22 @@ fn write_first(rt: &HostRuntime, log: &str) -> io::Result<()> {
     file.sync_all()
 }
 
+/// Writes the first byte of the log at a path, where it is still wanted. These files are held meanwhile.
+fn mend_held<H: Drop>(rt: &HostRuntime, log: &str, _held: H) -> io::Result<()> {
+    if !lacks_first(rt, log)? {
+        return Ok(());
+    }
+    write_first(rt, log)
+}
+
+/// The same, where nobody else has the files at the path.
+fn mend_alone(rt: &HostRuntime, path: &str, log: &str) -> Result<(), OpenError> {
+    match sqlite_std_file::open(rt, path, Unknown) {
+        Ok(files) => Ok(mend_held(rt, log, files)?),
+        Err(e) => Err(e),
+    }
+}
+
 /// Writes the first byte of the log of a file at a path, where the rest of its header is whole: an open would pass over it. It is to
 /// be looked at before.
 pub fn mend_log(rt: &HostRuntime, path: &str) -> Result<(), OpenError> {
@@ -119,14 +138,7 @@ pub fn mend_log(rt: &HostRuntime, path: &str) -> Result<(), OpenError> {
         return Ok(());
     }
     // Another process may be about to write that byte.
-    let files = files_at(rt, path, true, Unknown)?;
-    let mended = if lacks_first(rt, log.as_str())? {
-        write_first(rt, log.as_str())
-    } else {
-        Ok(())
-    };
-    drop(files);
-    Ok(mended?)
+    mend_alone(rt, path, log.as_str())
 }
 
 /// Takes away a log that an open has made, while it has the files.
@@ -134,8 +146,8 @@ fn remove_log(rt: &HostRuntime, path: &str) -> io::Result<()> {
     fs::remove_file(rt, log_of(rt, path)?.as_str())
 }
 
-/// Puts back a log, while the caller has the files.
-fn write_back(rt: &HostRuntime, path: &str, log: &ShortLog) -> io::Result<()> {
+/// Puts back a log. These files are held meanwhile.
+fn write_back<H: Drop>(rt: &HostRuntime, path: &str, log: &ShortLog, _held: H) -> io::Result<()> {
     if !matches!(short_log(rt, path), Ok(Some(ShortLog::There(_)))) {
         return Ok(());
     }
@@ -147,26 +159,32 @@ fn write_back(rt: &HostRuntime, path: &str, log: &ShortLog) -> io::Result<()> {
 
 /// Puts back the log of files that an open has refused. Where that fails what is there is left: such a log says nothing.
 pub fn put_back(rt: &HostRuntime, path: &str, log: &ShortLog) {
-    if let Ok(files) = files_at(rt, path, true, Unknown) {
-        let _ = write_back(rt, path, log);
-        drop(files);
+    if let Ok(files) = sqlite_std_file::open(rt, path, Unknown) {
+        let _ = write_back(rt, path, log, files);
+    }
+}
+
+/// Leaves no log that was not there. These files are held meanwhile.
+fn leave<H: Drop>(rt: &HostRuntime, path: &str, had_log: bool, _held: H) -> io::Result<()> {
+    if had_log {
+        return Ok(());
+    }
+    remove_log(rt, path)
+}
+
+/// Opens the files at a path, which nobody else has, and leaves them.
+fn open_and_leave(rt: &HostRuntime, path: &str, had_log: bool) -> Result<(), OpenError> {
+    match sqlite_std_file::open(rt, path, Unknown) {
+        Ok(files) => Ok(leave(rt, path, had_log, files)?),
+        Err(e) => Err(e),
     }
 }
 
 /// Whether somebody has the files at a path open. No log is left that was not there.
 pub fn is_in_use(rt: &HostRuntime, path: &str) -> Result<bool, OpenError> {
     let had_log = fs::exists(rt, log_of(rt, path)?.as_str())?;
-    match files_at(rt, path, true, Unknown) {
-        Ok(files) => {
-            let left = if had_log {
-                Ok(())
-            } else {
-                remove_log(rt, path)
-            };
-            drop(files);
-            left?;
-            Ok(false)
-        }
+    match open_and_leave(rt, path, had_log) {
+        Ok(()) => Ok(false),
         Err(OpenError::Busy) => Ok(true),
         Err(e) => Err(e),
     }

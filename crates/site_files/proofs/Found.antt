@@ -1,5 +1,6 @@
 -- What an open finds is what the files held.
 use Rattle.std.proofs.Common.{◌≡◌, ◌≤◌, ◌∙◌, ℕ, Bool, true, false, List, IsTrue, refl, ap, ap₂, sym, arith}
+use Rattle.std.specs.Prelude.{Result, Ok, Err, IfOk}
 use Rattle.sqlite_disk.specs.declared.Disk.{Ghosts}
 use Rattle.sqlite_wal.specs.Files.{seen_image}
 use Rattle.sqlite_wal.specs.Recovery.{Image}
@@ -7,6 +8,11 @@ use Rattle.sqlite_store.specs.declared.store.open.Unopened.{Unopened}
 use Rattle.sqlite_store.specs.Unopened.{files_of, image}
 use Rattle.sqlite_trees.specs.Tree.{Trees}
 use Rattle.sqlite_trees.specs.View.{View, doubt, IsClean, IsRolledBack}
+
+-- what is shown of a value is shown of the one that is answered
+pub if_ok : {A E : Type 0} (r : Result A E) (P Q : A → Type 0) → ((x : A) → P x → Q x) → IfOk r P → IfOk r Q
+if_ok (Ok x) P Q f h = f x h
+if_ok (Err e) P Q f h = tt
 
 abbrev image_with : List ℕ → List ℕ → Image
 image_with log db = record { log = log; db = db }

@@ -1,5 +1,6 @@
 //! A copy of a site's file.
 
+use crate::closing::copied_and_closed;
 use crate::error::{FileError, copy_failure};
 use crate::stores::{latest_at, list_at};
 use crate::tables::Listed;
@@ -23,11 +24,10 @@ fn settle(rt: &HostRuntime, part: &str) -> Result<(), FileError> {
     if list_at(rt, part)? != Listed::Latest {
         return Err(FileError::OtherTables);
     }
-    let mut store = latest_at(rt, part, true, Unknown)?;
-    let copied = store.checkpoint();
-    drop(store.close());
-    copied?;
-    Ok(())
+    match latest_at(rt, part, true, Unknown) {
+        Ok(store) => copied_and_closed(store),
+        Err(e) => Err(e),
+    }
 }
 
 /// Makes the part whole.

@@ -17,6 +17,7 @@ use crate::tables::{Earlier, Listed, list_of, made, upgraded};
 use kept_site::{Bounds, KeptSite};
 use site_disk::{Found, SiteFile, found_at};
 use sqlite::{Alter, FileStore, Start};
+use sqlite_disk::Disk;
 use std::alloc::Global;
 use verification::{Policy, RelyingParty};
 
@@ -95,14 +96,25 @@ pub fn create_over<S: Alter + Drop>(
 }
 
 /// The same store, whose file begins from now on as a SQLite file does, which `open` asks.
-fn written<S: Start>(
-    mut store: FileStore<SiteFile<S>>,
-) -> Result<FileStore<SiteFile<S>>, FileError> {
+fn written<D: Disk + Drop>(mut store: FileStore<D>) -> Result<FileStore<D>, FileError> {
     match store.checkpoint() {
         Ok(()) => Ok(store),
         Err(e) => {
             drop(store.close());
             Err(e.into())
+        }
+    }
+}
+
+/// The same store with the tables of a site.
+fn tabled<D: Disk + Drop>(alloc: Global, store: FileStore<D>) -> Result<FileStore<D>, FileError>
+    requires { IsClean (view store) → IsTrue (view store).is_numbered }
+{
+    match with_tables(alloc, store) {
+        Ok(store) => written(store),
+        Err((e, store)) => {
+            drop(store.close());
+            Err(e)
         }
     }
 }
@@ -115,13 +127,9 @@ fn new_file<S: Start>(
     wary: bool,
     start: S,
 ) -> Result<FileStore<SiteFile<S>>, FileError> {
-    let store = connected(rt, path, sums, wary, start)?;
-    match with_tables(rt.alloc(), store) {
-        Ok(store) => written(store),
-        Err((e, store)) => {
-            drop(store.close());
-            Err(e)
-        }
+    match connected(rt, path, sums, wary, start) {
+        Ok(store) => tabled(rt.alloc(), store),
+        Err(e) => Err(e),
     }
 }
 
@@ -134,8 +142,29 @@ fn found_file<S: Start>(
     start: S,
 ) -> Result<FileStore<SiteFile<S>>, FileError> {
     match list_at(rt, path) {
-        Ok(Listed::Latest) => written(latest_at(rt, path, wary, start)?),
+        Ok(Listed::Latest) => match latest_at(rt, path, wary, start) {
+            Ok(store) => written(store),
+            Err(e) => Err(e),
+        },
         _ => new_file(rt, path, sums, wary, start),
+    }
+}
+
+/// That a site can be made over a store, which is done.
+fn check_over<S: Alter + Drop>(
+    alloc: Global,
+    party: RelyingParty,
+    policy: Policy,
+    bounds: Bounds,
+    store: S,
+) -> Result<(), FileError>
+    requires { IsClean (S.Store.view store) → IsTrue (S.Store.view store).is_numbered }
+{
+    // Nothing of it is written.
+    let life = 0;
+    match create_over(alloc, party, policy, bounds, life, store) {
+        Ok(_site) => Ok(()),
+        Err((e, _store)) => Err(e),
     }
 }
 
@@ -150,11 +179,9 @@ fn check_create(
 ) -> Result<(), FileError> {
     let alloc = rt.alloc();
     let party = same_party(alloc, party)?;
-    // Nothing of it is written.
-    let life = 0;
-    match create_over(alloc, party, policy, bounds, life, looked_at(rt, path)?) {
-        Ok(_site) => Ok(()),
-        Err((e, _store)) => Err(e),
+    match looked_at(rt, path) {
+        Ok(store) => check_over(alloc, party, policy, bounds, store),
+        Err(e) => Err(e),
     }
 }
 
@@ -173,6 +200,46 @@ fn is_there(
         Found::Sqlite => {
             check_create(rt, path, party, policy, bounds)?;
             Ok(true)
+        }
+    }
+}
+
+/// The store of the files at a path, with the tables of a site.
+fn store_for<S: Start>(
+    rt: &HostRuntime,
+    path: &str,
+    party: &RelyingParty,
+    policy: Policy,
+    bounds: Bounds,
+    sums: bool,
+    wary: bool,
+    start: S,
+) -> Result<FileStore<SiteFile<S>>, FileError> {
+    match is_there(rt, path, party, policy, bounds) {
+        Ok(true) => found_file(rt, path, sums, wary, start),
+        Ok(false) => new_file(rt, path, sums, wary, start),
+        Err(e) => Err(unless_in_use(rt, path, e)),
+    }
+}
+
+/// A site without credentials and sessions over the store of a file, which is closed where it is refused.
+fn site_in<D: Disk + Drop>(
+    alloc: Global,
+    party: RelyingParty,
+    policy: Policy,
+    bounds: Bounds,
+    life: u64,
+    store: FileStore<D>,
+) -> Result<KeptSite<FileStore<D>>, FileError>
+    ensures made { IfOk result (λ s. (s.rp ≡ party) × (s.policy ≡ policy) × (s.most ≡ bounds.credentials) × (s.is_shut ≡ false) × (s.is_pending ≡ false)) }
+    ensures sessions { IfOk result (λ s. (s.timed.open_sessions.expected ≡ finite.empty) × (s.timed.open_sessions.next ≡ 1)) }
+    ensures held { IfOk result (λ s. IsClean (view s.store) → IsHeld finite.empty s (view s.store).trees) }
+{
+    match site_over(alloc, party, policy, bounds, life, store) {
+        Ok(site) => Ok(site),
+        Err((e, store)) => {
+            drop(store.close());
+            Err(e)
         }
     }
 }
@@ -205,16 +272,8 @@ pub fn create<S: Start>(
 {
     check_bounds(bounds)?;
     let life = random(rt)?;
-    let store = match is_there(rt, path, &party, policy, bounds) {
-        Ok(true) => found_file(rt, path, sums, wary, start)?,
-        Ok(false) => new_file(rt, path, sums, wary, start)?,
-        Err(e) => return Err(unless_in_use(rt, path, e)),
-    };
-    match site_over(rt.alloc(), party, policy, bounds, life, store) {
-        Ok(site) => Ok(site),
-        Err((e, store)) => {
-            drop(store.close());
-            Err(e)
-        }
+    match store_for(rt, path, &party, policy, bounds, sums, wary, start) {
+        Ok(store) => site_in(rt.alloc(), party, policy, bounds, life, store),
+        Err(e) => Err(e),
     }
 }

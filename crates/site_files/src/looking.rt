@@ -25,11 +25,11 @@ fn options_without_checkpoint(rt: &HostRuntime) -> Result<Options, FileError> {
 
 /// The log of the file at a path, as it is to be read. `DamagedLog` where its header is damaged, and `NotSqlite` where the file is
 /// empty and the log may hold commits: an open would begin anew.
-fn log_of(rt: &HostRuntime, path: &str) -> Result<Vec<u8>, FileError> {
+fn log_beside(rt: &HostRuntime, path: &str) -> Result<Vec<u8>, FileError> {
     let Some(log) = log_at(rt, path)? else {
         return Err(FileError::DamagedLog);
     };
-    if may_hold_commits(log.as_slice()) && fs::metadata(rt, path)?.len() == 0 {
+    if may_hold_commits(log.len() as u64) && fs::metadata(rt, path)?.len() == 0 {
         return Err(FileError::NotSqlite);
     }
     Ok(log)
@@ -80,17 +80,18 @@ pub fn looked_at(rt: &HostRuntime, path: &str) -> Result<FileStore<Seen>, FileEr
 {
     let options = options_without_checkpoint(rt)?;
     let has_sums = has_sums_at(rt, path)?;
-    let log = log_of(rt, path)?;
+    let log = log_beside(rt, path)?;
     let files = seen_files(rt, path, log.as_slice())?;
     let it = unopened(rt.alloc(), files, options, has_sums)?;
-    match latest_in(rt, path, log.as_slice(), it)? {
-        Some(store) => Ok(store),
-        None => by_sql(
+    match latest_in(rt, path, log.as_slice(), it) {
+        Ok(Some(store)) => Ok(store),
+        Ok(None) => by_sql(
             rt.alloc(),
             seen_files(rt, path, log.as_slice())?,
             options,
             false,
         ),
+        Err(e) => Err(e),
     }
 }
 

@@ -21,6 +21,7 @@ use crate::tables::{Earlier, Listed, list_of, upgraded};
 use kept_site::{Bounds, KeptSite};
 use site_disk::{Found, ShortLog, SiteFile, found_at, mend_log, put_back};
 use sqlite::{Alter, FileStore, Start};
+use sqlite_disk::Disk;
 use sqlite_trees::error::StoreError;
 use std::alloc::Global;
 use verification::{Policy, RelyingParty};
@@ -124,6 +125,25 @@ pub fn same_party(alloc: Global, party: &RelyingParty) -> Result<RelyingParty, F
     Ok(RelyingParty::with_profile(alloc, party.profile(), party.rp_id(), &[])?)
 }
 
+/// That the site of a store is opened, which is done.
+fn check_over<S: Alter + Drop>(
+    alloc: Global,
+    party: RelyingParty,
+    policy: Policy,
+    bounds: Bounds,
+    at_least: u64,
+    store: S,
+) -> Result<(), FileError>
+    requires { IsClean (S.Store.view store) → IsTrue (S.Store.view store).is_numbered }
+{
+    // Nothing of it is written.
+    let life = 0;
+    match open_over(alloc, party, policy, bounds, at_least, life, store) {
+        Ok(_site) => Ok(()),
+        Err((e, _store)) => Err(e),
+    }
+}
+
 /// That the files at a path are opened as they stand. All that an open does is done over what is read of them, so that nothing is
 /// written where it refuses them.
 fn check_open(
@@ -137,19 +157,9 @@ fn check_open(
     check_sqlite(rt, path)?;
     let alloc = rt.alloc();
     let party = same_party(alloc, party)?;
-    // Nothing of it is written.
-    let life = 0;
-    match open_over(
-        alloc,
-        party,
-        policy,
-        bounds,
-        at_least,
-        life,
-        looked_at(rt, path)?,
-    ) {
-        Ok(_site) => Ok(()),
-        Err((e, _store)) => Err(e),
+    match looked_at(rt, path) {
+        Ok(store) => check_over(alloc, party, policy, bounds, at_least, store),
+        Err(e) => Err(e),
     }
 }
 
@@ -159,6 +169,35 @@ fn with_log(rt: &HostRuntime, path: &str, log: Option<ShortLog>, e: FileError) -
         put_back(rt, path, &log);
     }
     e
+}
+
+/// The site that the store of a file holds, which is closed where it is refused. Clauses as of `open_over`.
+fn site_in<D: Disk + Drop>(
+    alloc: Global,
+    party: RelyingParty,
+    policy: Policy,
+    bounds: Bounds,
+    at_least: u64,
+    life: u64,
+    store: FileStore<D>,
+) -> Result<KeptSite<FileStore<D>>, FileError>
+    requires numbered { IsClean (view store) → IsTrue (view store).is_numbered }
+    ensures made { IfOk result (λ s. (s.rp ≡ party) × (s.policy ≡ policy) × (s.most ≡ bounds.credentials) × (s.is_shut ≡ false) × (s.is_pending ≡ false)) }
+    ensures sessions { IfOk result (λ s. (s.timed.open_sessions.expected ≡ finite.empty) × (s.timed.open_sessions.next ≡ s.reserved)) }
+    ensures party { IfOk result (λ s. IsClean (view s.store) → HasParty party.rp_id s.reserved (view s.store).trees) }
+    ensures held { IfOk result (λ s. IsClean (view s.store) → (placed : Placed) (next : ℕ)
+        → HoldsSite placed party.rp_id next (view s.store).trees → IsHeld placed s (view s.store).trees) }
+    ensures newer { IfOk result (λ s. at_least < s.reserved) }
+    ensures found { IfOk result (λ s. IsClean (view s.store) → IsClean (view store) × IsTrue (view store).is_open
+        × (((view s.store).trees ≡ (view store).committed) ⊎ IsEarlier party.rp_id (view store).trees)) }
+{
+    match open_over(alloc, party, policy, bounds, at_least, life, store) {
+        Ok(site) => Ok(site),
+        Err((e, store)) => {
+            drop(store.close());
+            Err(e)
+        }
+    }
 }
 
 /// The site of the files at a path.
@@ -182,13 +221,9 @@ fn opened<S: Start>(
         × (((view s.store).trees ≡ was) ⊎ IsEarlier party.rp_id was)) }
 {
     let life = random(rt)?;
-    let store = store_at(rt, path, wary, start)?;
-    match open_over(rt.alloc(), party, policy, bounds, at_least, life, store) {
-        Ok(site) => Ok(site),
-        Err((e, store)) => {
-            drop(store.close());
-            Err(e)
-        }
+    match store_at(rt, path, wary, start) {
+        Ok(store) => site_in(rt.alloc(), party, policy, bounds, at_least, life, store),
+        Err(e) => Err(e),
     }
 }
 

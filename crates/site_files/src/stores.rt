@@ -128,11 +128,10 @@ pub fn list_at(rt: &HostRuntime, path: &str) -> Result<Listed, FileError> {
     }
     let has_sums = has_sums_at(rt, path)?;
     let options = options(rt)?;
-    let files = files_at(rt, path, true, Unknown)?;
-    let mut it = unopened(rt.alloc(), files, options, has_sums)?;
-    let list = list_of_files(rt.alloc(), &mut it);
-    drop(it.close());
-    Ok(list?.listed)
+    match sqlite_std_file::open(rt, path, Unknown) {
+        Ok(files) => listed_in(rt.alloc(), files, options, has_sums),
+        Err(e) => Err(e.into()),
+    }
 }
 
 /// The store of files with the tables of version 3, whose pages and trees are tested.
@@ -200,8 +199,25 @@ pub fn connected<S: Start>(
         return Err(FileError::CannotOpen);
     }
     let options = options(rt)?;
-    let files = files_at(rt, path, wary, start)?;
-    match by_sql(rt.alloc(), files, options, has_sums) {
+    match files_at(rt, path, wary, start) {
+        Ok(files) => by_sql(rt.alloc(), files, options, has_sums),
+        Err(e) => Err(e.into()),
+    }
+}
+
+/// The store of files of version 3, whose pages end in sums or not.
+fn latest_of<D: Disk + Drop>(
+    alloc: Global,
+    files: Files<D>,
+    options: Options,
+    has_sums: bool,
+) -> Result<FileStore<D>, FileError>
+    ensures numbered { IfOk result (λ store. IsClean (view store) → IsTrue (view store).is_numbered) }
+    ensures rests { IfOk result (λ store. IsClean (view store) → IsTrue (view store).is_open → (view store).committed ≡ (view store).trees) }
+    ensures found { IfOk result (λ store. IsClean (view store) → IsFoundIn (image_of D.Disk files) (view store).trees) }
+{
+    let it = unopened(alloc, files, options, has_sums)?;
+    match opened(it) {
         Ok(store) => Ok(store),
         Err(e) => Err(e),
     }
@@ -222,10 +238,8 @@ pub fn latest_at<S: Start>(
 {
     let has_sums = has_sums_at(rt, path)?;
     let options = options(rt)?;
-    let files = files_at(rt, path, wary, start)?;
-    let it = unopened(rt.alloc(), files, options, has_sums)?;
-    match opened(it) {
-        Ok(store) => Ok(store),
-        Err(e) => Err(e),
+    match files_at(rt, path, wary, start) {
+        Ok(files) => latest_of(rt.alloc(), files, options, has_sums),
+        Err(e) => Err(e.into()),
     }
 }
