@@ -8,7 +8,7 @@
 
 enum { ROOM = 2048, WORDS = 8 };
 
-/* a word of a line: bytes in hexadecimal behind =, or anything else for none */
+/* a word of a line: bytes in hexadecimal after =, or anything else for none */
 typedef struct {
     bool is_there;
     uint8_t data[ROOM];

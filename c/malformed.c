@@ -26,7 +26,7 @@ static struct part *part_of(const char *kind, const char *name)
     return made;
 }
 
-/* Appends a word: digits, digits and how often, or characters behind '. */
+/* Appends a word: digits, digits and how often, or characters after '. */
 static void append(struct part *part, const char *word)
 {
     if (*word == '\'') {

@@ -36,7 +36,7 @@ export class Image {
     this.bytes = this.view = null;
   }
 
-  // Room behind what is used already, at a multiple of 8: where it begins.
+  // Room after what is used already, at a multiple of 8: where it begins.
   #append(size) {
     const at = Math.ceil(this.used / 8) * 8;
     this.used = at + size;
@@ -199,7 +199,7 @@ export class Module {
     return at;
   }
 
-  /** Where an image lies in the memory, with room for so many bytes behind it; and where that begins. */
+  /** Where an image lies in the memory, with room for so many bytes after it; and where that begins. */
   place(image, size) {
     const behind = Math.ceil(image.used / 8) * 8, at = this.take(behind + size);
     this.bytes().set(image.bytes.subarray(0, image.used), at);

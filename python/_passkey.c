@@ -11,7 +11,7 @@
 
 enum { MOST_CHARACTERS = 65536, COSE_ROOM = 1024, TEXT_ROOM = 128, FEW = 16, OF_CREDENTIAL = 9, OF_SIGN_IN = 6 };
 
-/* What is lent of a sign-in, and of a registration. Behind it come origins, those of pages that may frame, then the ids of a list. */
+/* What is lent of a sign-in, and of a registration. After it come origins, those of pages that may frame, then the ids of a list. */
 enum { ACCOUNT, HANDLE, MAY_BE_NONE, RP_ID = MAY_BE_NONE, CHALLENGE, ID, USER, X, Y, RAW_ID, CLIENT_DATA, AUTH_DATA, SIGNATURE, OF_ASSERTION };
 enum { FREE_ID, PARTY, NONCE, HOLDER, CREATED, ATTESTATION_OBJECT, OF_REGISTRATION };
 

@@ -198,7 +198,7 @@ def flushes_of(calls, path):
 
 
 def is_named_when_whole(calls, part, name):
-    """Whether a file that is made under one name and renamed was flushed before that, and its folder behind it, before the next
+    """Whether a file that is made under one name and renamed was flushed before that, and its folder after it, before the next
     answer."""
     is_flushed = is_renamed = is_kept = False
     for call in calls:

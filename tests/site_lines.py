@@ -274,14 +274,14 @@ def begin_of(finish, expected):
 
 
 def random_file(path, challenges):
-    """A file that gives challenges these bytes behind their numbers, the first of the first line, and then others."""
+    """A file that gives challenges these bytes after their numbers, the first of the first line, and then others."""
     path.write_bytes(b"".join(from_text(challenge, "challenge")[8:] for challenge in challenges) + os.urandom(1 << 20))
     return path
 
 
 def browser(tests):
     """What a browser made (python/tests/recorded.json), in sessions whose random bytes are those of the recorded challenges: so
-    these are the bytes of each challenge behind its number, in their order, each used once."""
+    these are the bytes of each challenge after its number, in their order, each used once."""
     recorded = json.loads((top / "python" / "tests" / "recorded.json").read_text())
     path = tests.file("browser.db")
     party = [path, "--rp-id", "localhost", "--origin", recorded["origin"]]

@@ -260,7 +260,11 @@ def visits_while_killed(opened, site, port, primary):
         if len(workers_of(primary)) == 4:
             break
         time.sleep(0.1)
-    time.sleep(1)  # The last one listens.
+    # Until the last one listens, and the browser has let go of what a killed one left.
+    for _ in range(100):
+        if not str(run("await visit('sign-in')").get("error")).startswith("TypeError"):
+            break
+        time.sleep(0.1)
     check(f"{site}: and afterwards", run("await visit('sign-in')"), made)
     opened.without(key)
 

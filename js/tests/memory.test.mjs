@@ -25,7 +25,7 @@ function serving(bytes = file) {
   return { module, first, server: new Server("example.com", ["https://example.com"]), helpers: helpersOver(() => module) };
 }
 
-// What is left of the first memory, and behind it: nothing.
+// What is left of the first memory, and after it: nothing.
 function isAsAtFirst({ module, first }) {
   const now = Buffer.from(module.bytes());
   return now.subarray(0, first.length).equals(first) && now.subarray(first.length).every((byte) => byte === 0);

@@ -1,5 +1,5 @@
 """Prints the ceremonies of recorded.json, which Chromium made, and ceremonies of RSA keys that `cryptography` made, as
-lines for c/ceremonies.c: ceremonies.py. A word is bytes in hexadecimal behind =, or - for none."""
+lines for c/ceremonies.c: ceremonies.py. A word is bytes in hexadecimal after =, or - for none."""
 import json
 from pathlib import Path
 

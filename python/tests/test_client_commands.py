@@ -21,7 +21,7 @@ from pin_key import Cable, PinKey
 from garvoeng import client_commands
 from garvoeng.client import HidMissing, KeyLost, SecurityKey, security_keys
 
-# The command, over keys in its own process: the words of sys.argv behind the first, which says how many keys there are and how each is.
+# The command, over keys in its own process: the words of sys.argv after the first, which says how many keys there are and how each is.
 BEHIND = f"""
 import sys, json
 sys.path[:0] = [{CLIENTS!r}, {str(Path(client_commands.__file__).parents[1])!r}]

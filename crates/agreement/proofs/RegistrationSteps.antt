@@ -1,5 +1,5 @@
 -- A response passes each step of a registration.
-use Rattle.std.proofs.Common.{◌≡◌, inl, true, false, Some, refl, sym, ◌∙◌, ap, subst, get_or, Contains}
+use Rattle.std.proofs.Common.{◌≡◌, inl, false, Some, refl, sym, ◌∙◌, ap, subst, get_or, Contains}
 use Rattle.refusal_order.specs.Lines.{Each}
 use Rattle.clientdata.specs.declared.record.CeremonyType.TheVariants.{Create}
 use Rattle.cose.specs.Keys.{alg_of}

@@ -46,3 +46,9 @@ holds_new old new rp_id next none s = record {
   credentials = holds_none new.trees (ap (λ v. v.trees 0) s.is ∙ none.credentials) (ap (λ v. v.trees 3) s.is ∙ none.by_id) (ap (λ v. v.trees 4) s.is ∙ none.by_user);
   site = ap (λ v. v.trees 2) s.is ∙ ap (put_row (site_row rp_id next)) none.site;
 }
+
+-- and its commit has a mark
+pub marked_new : (old set : View) (marked : Trees) (rp_id id : List ℕ) (next : ℕ) → IsNew old → SetsTree old set 2 (put_row (site_row id next))
+    → (HoldsSite finite.empty id next set.trees → HoldsSite finite.empty id next marked) → id ≡ rp_id → HoldsSite finite.empty rp_id next marked
+marked_new old set marked rp_id id next none sets holds same =
+    subst (λ id. HoldsSite finite.empty id next marked) same (holds (holds_new old set id next none sets))

@@ -1,11 +1,11 @@
 -- The row of the relying party is set, or that of a commit, and nothing else.
-use Rattle.std.proofs.Common.{◌≡◌, ℕ, List, [], ◌∷◌, refl, sym, ap, ◌∙◌, subst}
+use Rattle.std.proofs.Common.{◌≡◌, ℕ, List, [], ◌∷◌, refl, sym, ap, ap₂, ◌∙◌, subst}
 use Rattle.sqlite_value.specs.Order.{Row}
-use Rattle.sqlite_trees.specs.Tree.{put_row}
+use Rattle.sqlite_trees.specs.Tree.{Trees, put_row}
 use Rattle.sqlite_trees.specs.View.{SetsTree, View}
 use Rattle.credential_store.specs.Held.{Indexes, Placed}
 use Rattle.credential_store.proofs.Tables.{by_number}
-use Rattle.kept_site.specs.State.{HoldsSite, site_row}
+use Rattle.kept_site.specs.State.{HoldsSite, site_row, with_mark, with_site}
 
 one_site : (id : List ℕ) (n m : ℕ) → put_row (site_row id n) (site_row id m ∷ []) ≡ site_row id n ∷ []
 one_site id n m = rw (by_number 1 1) refl
@@ -33,3 +33,9 @@ marked old new placed rp_id next row s h = record {
   };
   site = ap (λ v. v.trees 2) s.is ∙ h.site;
 }
+
+-- both are set by a commit
+pub both_set : (db marked set was : Trees) (rp_id id : List ℕ) (next n mark follows : ℕ) → db ≡ marked → marked ≡ with_mark mark follows set
+    → set ≡ with_site id n was → id ≡ rp_id → n ≡ next → db ≡ with_mark mark follows (with_site rp_id next was)
+both_set db marked set was rp_id id next n mark follows is marks sets same_id same_n =
+    is ∙ marks ∙ ap (with_mark mark follows) (sets ∙ ap₂ (λ id n. with_site id n was) same_id same_n)

@@ -67,8 +67,12 @@ kept_code {S} store =
 -- ---- what a store holds of it
 
 -- the columns: number, version, rp_id, next_session
+abbrev pub site_row_of : ℕ → List ℕ → ℕ → Row
+site_row_of version rp_id next = Int (pos 1) ∷ Null ∷ Int (pos version) ∷ Text rp_id ∷ Int (pos next) ∷ []
+
+-- the same in a file of version 3
 abbrev pub site_row : List ℕ → ℕ → Row
-site_row rp_id next = Int (pos 1) ∷ Null ∷ Int (pos 3) ∷ Text rp_id ∷ Int (pos next) ∷ []
+site_row rp_id next = site_row_of 3 rp_id next
 
 -- the number below which all may be given once 1,000 more are reserved, as far as a column holds it
 abbrev pub moved_on : ℕ → ℕ

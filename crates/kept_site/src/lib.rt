@@ -24,3 +24,4 @@ pub use finish::SignedIn;
 pub use kept::KeptSite;
 pub use law::kept_laws;
 pub use registration::Registered;
+pub use rows::site_row_of;

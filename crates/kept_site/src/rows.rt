@@ -7,7 +7,7 @@ ghost use Rattle.sqlite_trees.specs.View.{HasCause, IsClean, OnlyWrites, SetsTre
 ghost use Rattle.sqlite_trees.specs.declared.store.Shape.TheVariants.{Table};
 ghost use Rattle.credential_store.specs.Held.{Placed};
 ghost use Rattle.kept_site.specs.Causes.{RefusesNumber};
-ghost use Rattle.kept_site.specs.State.{HoldsSite, moved_on, site_row, to_commit};
+ghost use Rattle.kept_site.specs.State.{HoldsSite, moved_on, site_row, site_row_of, to_commit};
 
 use sqlite_trees::error::StoreError;
 use sqlite_trees::store::Store;
@@ -18,18 +18,27 @@ use std::alloc::{AllocError, Global};
 /// The version of a file.
 pub(crate) const VERSION: i64 = 3;
 
-/// The row of a relying party, none of whose sessions had this number or a higher one.
-pub(crate) fn site_row(alloc: Global, rp_id: &str, next: u64) -> Result<Row, AllocError>
+/// The row of a relying party in a file of a version, none of whose sessions had this number or a higher one.
+pub fn site_row_of(alloc: Global, version: u64, rp_id: &str, next: u64) -> Result<Row, AllocError>
+    requires version { version ≤ 3 }
     requires fits { next < 2 ^ 63 }
-    ensures row { IfOk result (λ row. row ≡ site_row rp_id.now next) }
+    ensures row { IfOk result (λ row. row ≡ site_row_of version rp_id.now next) }
 {
     let mut row = Row::new(alloc);
     row.push(ValueRef::Int(1))?;
     row.push(ValueRef::Null)?;
-    row.push(ValueRef::Int(VERSION))?;
+    row.push(ValueRef::Int(version as i64))?;
     row.push(ValueRef::Text(rp_id.as_bytes()))?;
     row.push(ValueRef::Int(next as i64))?;
     Ok(row)
+}
+
+/// The same in a file of this version.
+pub(crate) fn site_row(alloc: Global, rp_id: &str, next: u64) -> Result<Row, AllocError>
+    requires fits { next < 2 ^ 63 }
+    ensures row { IfOk result (λ row. row ≡ site_row rp_id.now next) }
+{
+    site_row_of(alloc, VERSION as u64, rp_id, next)
 }
 
 /// How many numbers are reserved at a time.

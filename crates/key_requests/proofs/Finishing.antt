@@ -1,16 +1,19 @@
 -- What is finished of a value is finished of the request that it is.
-use Rattle.std.proofs.Common.{◌≡◌, ℕ, List, ◌∷◌, Some, None, Option, option_map, refl, sym, subst, ◌∙◌, Result, Ok, Err, IfOk, IfErr, ◌⊎◌, inl, inr}
+use Rattle.std.proofs.Common.{◌≡◌, ◌++◌, ◌+◌, ℕ, false, List, ◌∷◌, Some, None, Option, option_map, refl, sym, subst, ◌∙◌, Result, Ok, Err, IfOk, IfErr, ◌⊎◌, inl, inr}
 use Rattle.std.specs.Prelude.{IsErrOf}
-use Rattle.ccbor.specs.Item.{Item}
+use Rattle.ccbor.specs.Item.{Item, Pairs, bytes, uint}
 use Rattle.ccbor.specs.Canon.{Canon}
 use Rattle.ctap_encoding.specs.Table.{Members, gravest, record_of}
-use Rattle.ctap_encoding.specs.Content.{Contents, item_of}
+use Rattle.ctap_encoding.specs.Building.{member_list}
+use Rattle.ctap_encoding.specs.Content.{Contents, item_of, member_pair}
 use Rattle.ctap_encoding.specs.declared.fault.Fault.{Fault}
-use Rattle.ctap_requests.specs.Entities.{CreationFlags}
+use Rattle.ctap_requests.specs.Entities.{CreationFlags, creation_options_members}
 use Rattle.key_replies.specs.Replies.{Info}
 use Rattle.pin_messages.specs.Commands.{MessageOf}
 use Rattle.key_requests.specs.Limits.{IsWithin, IsWritten, IsRefused, max_message}
-use Rattle.key_requests.specs.Pieces.{Finishes, IsBeyond}
+use Rattle.pin_messages.proofs.Building.{onto, pushed_if_there}
+use Rattle.key_requests.specs.Pieces.{Finishes, IsBeyond, with_end}
+use Rattle.key_requests.specs.Requests.{Auth, options_content}
 use Rattle.key_requests.specs.declared.error.RequestError.{RequestError}
 use Rattle.key_requests.specs.declared.error.RequestError.TheVariants as errors
 
@@ -70,3 +73,15 @@ module _ {V : Type 0} (items : V → List ℕ) (info : Info) (o : CreationFlags)
 pub same_item : (o : Option Item) → o ≡ option_map (λ x. x) o
 same_item (Some x) = refl
 same_item None = refl
+
+-- the options and the proof of a token are pushed
+pub pushed_end : (label : ℕ) (o : CreationFlags) (auth : Option Auth) (s t : List (Item × Item)) (ps : Pairs) → t ≡ with_end label o auth s
+    → onto t ps ≡ onto s (member_pair false (uint label) (item_of (record_of creation_options_members)) (options_content o)
+    (member_pair false (uint (label + 1)) bytes (option_map (λ a. a.param) auth)
+    (member_pair false (uint (label + 2)) uint (option_map (λ a. a.protocol) auth) ps)))
+pushed_end label o auth s t ps is =
+    let options = s ++ member_list (uint label) (option_map (item_of (record_of creation_options_members)) (options_content o)) in
+    let param = options ++ member_list (uint (label + 1)) (option_map bytes (option_map (λ a. a.param) auth)) in
+    pushed_if_there uint _ param t (uint (label + 2)) _ ps is refl
+    ∙ pushed_if_there bytes _ options param (uint (label + 1)) _ _ refl refl
+    ∙ pushed_if_there (item_of (record_of creation_options_members)) _ s options (uint label) _ _ refl refl

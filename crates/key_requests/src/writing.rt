@@ -4,11 +4,12 @@ ghost use Rattle.std.specs.Prelude.{◌≡◌, ◌⊎◌, [], ◌∷◌, ◌<◌
 ghost use Rattle.ccbor.specs.Canon.{Canon};
 ghost use Rattle.ccbor.specs.Item.{map as map_of};
 ghost use Rattle.ccbor.specs.View.{pairs_view, view};
+ghost use Rattle.ctap_encoding.specs.Building.{pair_list_view};
 ghost use Rattle.ctap_encoding.specs.Content.{item_of};
 ghost use Rattle.ctap_encoding.specs.Table.{record_of};
 ghost use Rattle.key_replies.specs.ReplyView.{info_view};
 ghost use Rattle.key_requests.specs.Limits.{IsRefused, IsWritten, max_message};
-ghost use Rattle.key_requests.specs.Pieces.{Finishes};
+ghost use Rattle.key_requests.specs.Pieces.{Finishes, with_end};
 ghost use Rattle.key_requests.specs.Requests.{AssertionOf, CreationOf, assertion_content, assertion_members, creation_content, creation_members};
 ghost use Rattle.key_requests.specs.RequestView.{assertion_view, auth_view, creation_view, options_view};
 ghost use Rattle.key_requests.specs.declared.error.RequestError.TheVariants as errors;
@@ -39,6 +40,28 @@ fn auth_members<'a>(auth: Option<PinUvAuth<'a>>) -> (Option<&'a [u8]>, Option<u6
     }
 }
 
+/// Adds the options and the proof of a token, by three labels of which this is the first.
+fn push_end(
+    alloc: Global,
+    pairs: &mut Vec<(Value, Value)>,
+    label: u64,
+    options: &Options,
+    auth: Option<PinUvAuth<'_>>,
+) -> Result<(), AllocError>
+    requires { label ≤ 7 }
+    ensures { OnOk result (pair_list_view pairs.new.items
+        ≡ with_end label (options_view options.now) (option_map auth_view auth.entry) (pair_list_view pairs.old.items)) }
+{
+    let options = options_if_there(alloc, options)?;
+    push_if_there(alloc, pairs, MapKey::Uint(label), options)?;
+    let (param, protocol) = auth_members(auth);
+    let param = bytes_if_there(alloc, param)?;
+    push_if_there(alloc, pairs, MapKey::Uint(label + 1), param)?;
+    let protocol = number_if_there(protocol);
+    push_if_there(alloc, pairs, MapKey::Uint(label + 2), protocol)?;
+    Ok(())
+}
+
 /// Adds the members of a makeCredential request to none.
 fn push_creation(
     alloc: Global,
@@ -59,13 +82,7 @@ fn push_creation(
     let exclude = descriptors_if_there(alloc, request.exclude)?;
     push_if_there(alloc, pairs, MapKey::Uint(5), exclude)?;
     push_if_there(alloc, pairs, MapKey::Uint(6), request.extensions)?;
-    let options = options_if_there(alloc, &request.options)?;
-    push_if_there(alloc, pairs, MapKey::Uint(7), options)?;
-    let (param, protocol) = auth_members(request.auth);
-    let param = bytes_if_there(alloc, param)?;
-    push_if_there(alloc, pairs, MapKey::Uint(8), param)?;
-    let protocol = number_if_there(protocol);
-    push_if_there(alloc, pairs, MapKey::Uint(9), protocol)?;
+    push_end(alloc, pairs, 7, &request.options, request.auth)?;
     Ok(())
 }
 
@@ -99,13 +116,7 @@ fn push_assertion(
         up: request.options.up,
         uv: request.options.uv,
     };
-    let options = options_if_there(alloc, &options)?;
-    push_if_there(alloc, pairs, MapKey::Uint(5), options)?;
-    let (param, protocol) = auth_members(request.auth);
-    let param = bytes_if_there(alloc, param)?;
-    push_if_there(alloc, pairs, MapKey::Uint(6), param)?;
-    let protocol = number_if_there(protocol);
-    push_if_there(alloc, pairs, MapKey::Uint(7), protocol)?;
+    push_end(alloc, pairs, 5, &options, request.auth)?;
     Ok(())
 }
 

@@ -5,9 +5,7 @@ ghost use Rattle.clap.specs.Words.{app_of, new_app, shape_of, subcommand_rows_of
 ghost use Rattle.clap.specs.declared.builder.command.Command.TheViews.{out-Command as fields_of};
 ghost use Rattle.clientdata.specs.declared.record.CeremonyType.{CeremonyType};
 ghost use Rattle.passkey_command_line.specs.declared.arguments.Inspection.{Inspection};
-ghost use Rattle.passkey_command_line.specs.CommandLine.{check_app, check_options_app, check_type_app, inspect_app, passkey_app, replay_app, HasApp, inspecting_app, checking_app};
-ghost use Rattle.passkey_command_line.specs.CommandLine.{HasAppOf, HasAppOfBoth, IsAsked, IsAskedBy, ceremony_word, inspection_word, required};
-ghost use Rattle.passkey_command_line.specs.CommandLine.{required_option};
+ghost use Rattle.passkey_command_line.specs.CommandLine.{HasApp, HasAppOf, HasAppOfBoth, IsAsked, IsAskedBy, ceremony_word, check_app, check_options_app, check_type_app, checking_app, inspect_app, inspecting_app, inspection_word, passkey_app, replay_app, required, required_option};
 ghost use Rattle.passkey_command_line.specs.Private.{HasRuleOf, chosen};
 
 use crate::script_lines::replay_help;

@@ -1,5 +1,5 @@
 -- The pairs of a map that is made member by member, some of which may be absent.
-use Rattle.std.proofs.Common.{◌≡◌, ◌++◌, ℕ, false, List, [], ◌∷◌, Option, Some, None, option_map, refl, sym, ap, ◌∙◌, rules}
+use Rattle.std.proofs.Common.{◌≡◌, ◌++◌, ℕ, false, List, [], ◌∷◌, Option, Some, None, option_map, refl, ap, ◌∙◌, rules}
 use Rattle.ccbor.specs.Item.{Item, Pairs, no_pairs, pair, uint}
 use Rattle.ccbor.specs.View.{pairs_of, view}
 use Rattle.ccbor.specs.declared.value.Value.{Uint, the_lemmas}

@@ -7,7 +7,7 @@ use Rattle.ctap_encoding.specs.Content.{Contents}
 use Rattle.ctap_encoding.specs.declared.error.Error.{Error}
 use Rattle.ctap_encoding.specs.declared.error.Error.TheVariants as errors
 use Rattle.key_replies.specs.Telling.{Tells}
-use Rattle.pin_messages.specs.Commands.{key_members, PublicPoint}
+use Rattle.pin_messages.specs.Commands.{key_members}
 
 -- the public key of the authenticator's key agreement, as it was told
 pub record ToldKey : Type 0 where

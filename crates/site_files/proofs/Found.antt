@@ -1,6 +1,5 @@
 -- What an open finds is what the files held.
 use Rattle.std.proofs.Common.{◌≡◌, ◌≤◌, ◌∙◌, ℕ, Bool, true, false, List, IsTrue, refl, ap, ap₂, sym, arith}
-use Rattle.std.specs.Prelude.{Result, Ok, Err, IfOk}
 use Rattle.sqlite_disk.specs.declared.Disk.{Ghosts}
 use Rattle.sqlite_wal.specs.Files.{seen_image}
 use Rattle.sqlite_wal.specs.Recovery.{Image}
@@ -9,11 +8,6 @@ use Rattle.sqlite_store.specs.Unopened.{files_of, image}
 use Rattle.sqlite_trees.specs.Tree.{Trees}
 use Rattle.sqlite_trees.specs.View.{View, doubt, IsClean, IsRolledBack}
 
--- what is shown of a value is shown of the one that is answered
-pub if_ok : {A E : Type 0} (r : Result A E) (P Q : A → Type 0) → ((x : A) → P x → Q x) → IfOk r P → IfOk r Q
-if_ok (Ok x) P Q f h = f x h
-if_ok (Err e) P Q f h = tt
-
 abbrev image_with : List ℕ → List ℕ → Image
 image_with log db = record { log = log; db = db }
 
@@ -21,7 +15,7 @@ pub open_if_sound : (is_open is_broken : Bool) → (is_open ≡ false → IsTrue
 open_if_sound true is_broken law sound = refl
 open_if_sound false is_broken law sound = let broken = law refl in absurd cc
 
--- what was found before is there behind a rollback
+-- what was found before is there after a rollback
 pub found_behind : (old new : View) (HeldIn : Trees → Type 0) → (IsClean old → (db : Trees) → HeldIn db → old.committed ≡ db)
     → IsRolledBack old new → doubt old.is_clean ≤ doubt new.is_clean → IsClean new → IsTrue new.is_open
     → (db : Trees) → HeldIn db → new.trees ≡ db

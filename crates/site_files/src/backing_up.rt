@@ -2,7 +2,8 @@
 
 use crate::closing::copied_and_closed;
 use crate::error::{FileError, copy_failure};
-use crate::stores::{latest_at, list_at};
+use crate::looking::list_with_log;
+use crate::stores::latest_at;
 use crate::tables::Listed;
 use site_disk::{Names, copy_parts, name_part, remove_parts};
 use sqlite::Unknown;
@@ -19,9 +20,10 @@ fn check_names(rt: &HostRuntime, names: &Names) -> Result<(), FileError> {
     Ok(())
 }
 
-/// Copies the log into the part, which is a sound SQLite file with the tables of a site.
+/// Copies the log into the part, which is a sound SQLite file with the tables of a site, from which its log goes on.
 fn settle(rt: &HostRuntime, part: &str) -> Result<(), FileError> {
-    if list_at(rt, part)? != Listed::Latest {
+    // An open would pass over a log whose header is damaged, and cut it off.
+    if list_with_log(rt, part)? != Listed::Latest {
         return Err(FileError::OtherTables);
     }
     match latest_at(rt, part, true, Unknown) {
@@ -42,8 +44,9 @@ fn make_part(rt: &HostRuntime, names: &Names) -> Result<(), FileError> {
 ///
 /// It is made under the names `TO.part` and `TO.part-wal`; what an earlier backup that was cut off left there is replaced.
 ///
-/// `NoFile` where no file stands at the path, `Exists` where a file or a log stands at the other name; `NotSqlite` and
-/// `OtherTables` where the copy is no sound file of a site; `CannotOpen` and `Failed` where the system, the disk or memory failed.
+/// `NoFile` where no file stands at the path, `Exists` where a file or a log stands at the other name; `NotSqlite`, `DamagedLog`,
+/// `OtherLog` and `OtherTables` where the copy is no sound file of a site; `CannotOpen` and `Failed` where the system, the disk or
+/// memory failed.
 /// No new file is there then.
 pub fn backup(rt: &HostRuntime, path: &str, to: &str) -> Result<(), FileError> {
     let names = Names::new(rt, path, to)?;

@@ -6,6 +6,13 @@ use sqlite::{FileStore, Start};
 use sqlite_disk::Disk;
 use sqlite_trees::store::Store;
 
+/// Why nothing is made over a store of files, which is closed.
+pub(crate) fn closed<D: Disk + Drop>(refused: (FileError, FileStore<D>)) -> FileError {
+    let (e, store) = refused;
+    drop(store.close());
+    e
+}
+
 /// Copies the log into the file, and closes both.
 pub(crate) fn copied_and_closed<D: Disk + Drop>(mut store: FileStore<D>) -> Result<(), FileError> {
     let copied = store.checkpoint();

@@ -8,9 +8,10 @@ ghost use Rattle.kept_site.specs.State.{IsHeld};
 
 use crate::FileSite;
 use crate::bounds::check_bounds;
+use crate::closing::closed;
 use crate::earlier::check_empty;
 use crate::error::FileError;
-use crate::looking::{looked_at, unless_in_use};
+use crate::looking::{NO_MARK, looked_at, outcome_of, unless_in_use};
 use crate::opening::same_party;
 use crate::stores::{connected, latest_at, list_at, random};
 use crate::tables::{Earlier, Listed, list_of, made, upgraded};
@@ -36,7 +37,7 @@ fn taken_up<S: Alter + Drop>(
 }
 
 /// The store with the tables of a site: they are made where it lists nothing, and taken as they are where a creation was cut off
-/// behind their commit. `Exists` where it lists others, or rows stand in those of an earlier version.
+/// after their commit. `Exists` where it lists others, or rows stand in those of an earlier version.
 fn with_tables<S: Alter + Drop>(alloc: Global, store: S) -> Result<S, (FileError, S)>
     requires numbered { IsClean (S.Store.view store) → IsTrue (S.Store.view store).is_numbered }
 {
@@ -99,10 +100,7 @@ pub fn create_over<S: Alter + Drop>(
 fn written<D: Disk + Drop>(mut store: FileStore<D>) -> Result<FileStore<D>, FileError> {
     match store.checkpoint() {
         Ok(()) => Ok(store),
-        Err(e) => {
-            drop(store.close());
-            Err(e.into())
-        }
+        Err(e) => Err(closed((e.into(), store))),
     }
 }
 
@@ -112,10 +110,7 @@ fn tabled<D: Disk + Drop>(alloc: Global, store: FileStore<D>) -> Result<FileStor
 {
     match with_tables(alloc, store) {
         Ok(store) => written(store),
-        Err((e, store)) => {
-            drop(store.close());
-            Err(e)
-        }
+        Err(refused) => Err(closed(refused)),
     }
 }
 
@@ -150,24 +145,6 @@ fn found_file<S: Start>(
     }
 }
 
-/// That a site can be made over a store, which is done.
-fn check_over<S: Alter + Drop>(
-    alloc: Global,
-    party: RelyingParty,
-    policy: Policy,
-    bounds: Bounds,
-    store: S,
-) -> Result<(), FileError>
-    requires { IsClean (S.Store.view store) → IsTrue (S.Store.view store).is_numbered }
-{
-    // Nothing of it is written.
-    let life = 0;
-    match create_over(alloc, party, policy, bounds, life, store) {
-        Ok(_site) => Ok(()),
-        Err((e, _store)) => Err(e),
-    }
-}
-
 /// That the files at a path hold nothing, and a site can be made in them. All that a creation does is done over what is read of
 /// them, so that nothing is written where it refuses them.
 fn check_create(
@@ -180,7 +157,7 @@ fn check_create(
     let alloc = rt.alloc();
     let party = same_party(alloc, party)?;
     match looked_at(rt, path) {
-        Ok(store) => check_over(alloc, party, policy, bounds, store),
+        Ok(store) => outcome_of(create_over(alloc, party, policy, bounds, NO_MARK, store)),
         Err(e) => Err(e),
     }
 }
@@ -237,10 +214,7 @@ fn site_in<D: Disk + Drop>(
 {
     match site_over(alloc, party, policy, bounds, life, store) {
         Ok(site) => Ok(site),
-        Err((e, store)) => {
-            drop(store.close());
-            Err(e)
-        }
+        Err(refused) => Err(closed(refused)),
     }
 }
 

@@ -1,19 +1,19 @@
 //! A file of version 1 or 2.
 
-ghost use Rattle.std.specs.Prelude.{◌≡◌, ◌<◌, ◌≤◌, ◌^◌, ℕ, [], IfErr, IfOk, IfSome, IsSome, IsTrue, OnOk, Some};
+ghost use Rattle.std.specs.Prelude.{◌≡◌, ◌≤◌, ℕ, IsSome, OnOk};
 ghost use Rattle.sqlite_trees.specs.View.{IsClean};
-ghost use Rattle.sqlite_trees.specs.declared.store.Shape.TheVariants.{Table};
 ghost use Rattle.credential_store.specs.Held.{IsSameView};
-ghost use Rattle.site_files.specs.Earlier.{IsEarlier, earlier_row};
+ghost use Rattle.kept_site.specs.State.{site_row_of};
+ghost use Rattle.site_files.specs.Earlier.{IsEarlier};
 
 use crate::error::FileError;
 use crate::tables::Earlier;
 use credential_store::{RowError, int_at, read_credential};
+use kept_site::site_row_of;
 use sqlite_trees::error::StoreError;
 use sqlite_trees::store::{Direction, Shape, Store};
 use sqlite_value::row::Row;
-use sqlite_value::value::ValueRef;
-use std::alloc::{AllocError, Global};
+use std::alloc::Global;
 
 /// The number of an earlier version.
 fn number_of(version: Earlier) -> u64
@@ -24,21 +24,6 @@ fn number_of(version: Earlier) -> u64
         Earlier::First => 1,
         Earlier::Second => 2,
     }
-}
-
-/// The row of a relying party.
-fn earlier_row(alloc: Global, version: u64, rp_id: &str, next: u64) -> Result<Row, AllocError>
-    requires version { version ≤ 2 }
-    requires fits { next < 2 ^ 63 }
-    ensures row { IfOk result (λ row. row ≡ earlier_row version rp_id.now next) }
-{
-    let mut row = Row::new(alloc);
-    row.push(ValueRef::Int(1))?;
-    row.push(ValueRef::Null)?;
-    row.push(ValueRef::Int(version as i64))?;
-    row.push(ValueRef::Text(rp_id.as_bytes()))?;
-    row.push(ValueRef::Int(next as i64))?;
-    Ok(row)
 }
 
 /// That the version in a row of a relying party is none above 3.
@@ -52,7 +37,7 @@ fn check_version(row: &Row) -> Result<(), FileError> {
 /// That a row is this relying party's, of this version.
 fn check_row(alloc: Global, version: u64, rp_id: &str, row: &Row) -> Result<(), FileError>
     requires { version ≤ 2 }
-    ensures earlier { OnOk result ((next : ℕ) × (row.now ≡ earlier_row version rp_id.now next)) }
+    ensures earlier { OnOk result ((next : ℕ) × (row.now ≡ site_row_of version rp_id.now next)) }
 {
     check_version(row)?;
     let Some(next) = int_at(row, 4) else {
@@ -61,7 +46,7 @@ fn check_row(alloc: Global, version: u64, rp_id: &str, row: &Row) -> Result<(), 
     if next < 1 {
         return Err(FileError::NoSite);
     }
-    let written = earlier_row(alloc, version, rp_id, next as u64)?;
+    let written = site_row_of(alloc, version, rp_id, next as u64)?;
     if !row.is_same(&written) {
         return Err(FileError::OtherSite);
     }

@@ -1,18 +1,19 @@
 //! What an open would find in the files at a path, looked at before one of them is changed.
 
-ghost use Rattle.std.specs.Prelude.{IfOk, IfSome, IsTrue};
+ghost use Rattle.std.specs.Prelude.{IfOk, IsTrue, OnOk};
 ghost use Rattle.sqlite_trees.specs.View.{IsClean};
 ghost use Rattle.sqlite_store.specs.FileStore.{view};
 ghost use Rattle.sqlite_store.specs.Unopened.{AreUsable};
 
 use crate::error::FileError;
-use crate::stores::{Catalog, by_sql, list_of_files, listed_in, opened, options, unopened};
+use crate::stores::{Catalog, by_sql, left, list_of_files, listed_in, opened, options, unopened};
 use crate::tables::Listed;
 use site_disk::{
     Found, Seen, ShortLog, goes_on, has_sums_at, head_at, is_in_use, log_at, mark_on,
     may_hold_commits, memory_of, seen_files, short_log,
 };
 use sqlite::{FileStore, Options};
+use sqlite_disk::Disk;
 use sqlite_store::Unopened;
 use std::fs;
 
@@ -45,32 +46,44 @@ fn check_log(rt: &HostRuntime, path: &str, log: &[u8], mark_root: u32) -> Result
     Ok(())
 }
 
-/// The store of files of version 3, whose log goes on from the file, and none where they are of no such version, or their list is not
-/// read.
-fn latest_in(
+/// What files list. `OtherLog` where that is version 3 and the log does not go on from the file.
+fn checked_list<D: Disk>(
     rt: &HostRuntime,
     path: &str,
     log: &[u8],
-    mut it: Unopened<Seen>,
-) -> Result<Option<FileStore<Seen>>, FileError>
-    requires { AreUsable it }
-    ensures numbered { IfOk result (λ found. IfSome found (λ store. IsTrue (view store).is_numbered)) }
+    it: &mut Unopened<D>,
+) -> Result<Listed, FileError>
+    requires { AreUsable it.old }
+    ensures usable { OnOk result (AreUsable it.new) }
 {
-    let Ok(
-        Catalog {
-            listed: Listed::Latest,
-            mark_root,
-        },
-    ) = list_of_files(rt.alloc(), &mut it)
-    else {
-        drop(it.close());
-        return Ok(None);
-    };
-    if let Err(e) = check_log(rt, path, log, mark_root) {
-        drop(it.close());
-        return Err(e);
+    let Catalog { listed, mark_root } = list_of_files(rt.alloc(), it)?;
+    if listed == Listed::Latest {
+        check_log(rt, path, log, mark_root)?;
     }
-    Ok(Some(opened(it)?))
+    Ok(listed)
+}
+
+/// The files at a path, whose writes are kept in memory, with this log.
+fn seen_at(rt: &HostRuntime, path: &str, log: &[u8]) -> Result<Unopened<Seen>, FileError>
+    ensures usable { IfOk result (λ it. AreUsable it) }
+{
+    let has_sums = has_sums_at(rt, path)?;
+    let options = options_without_checkpoint(rt)?;
+    match seen_files(rt, path, log) {
+        Ok(files) => unopened(rt.alloc(), files, options, has_sums),
+        Err(e) => Err(e.into()),
+    }
+}
+
+/// The store of the same, which SQL opens.
+fn seen_by_sql(rt: &HostRuntime, path: &str, log: &[u8]) -> Result<FileStore<Seen>, FileError>
+    ensures numbered { IfOk result (λ store. IsClean (view store) → IsTrue (view store).is_numbered) }
+{
+    let options = options_without_checkpoint(rt)?;
+    match seen_files(rt, path, log) {
+        Ok(files) => by_sql(rt.alloc(), files, options, false),
+        Err(e) => Err(e.into()),
+    }
 }
 
 /// The store of the files at a path, whose writes are kept in memory. `DamagedLog` where the header of the log is damaged, `OtherLog`
@@ -78,20 +91,42 @@ fn latest_in(
 pub fn looked_at(rt: &HostRuntime, path: &str) -> Result<FileStore<Seen>, FileError>
     ensures numbered { IfOk result (λ store. IsClean (view store) → IsTrue (view store).is_numbered) }
 {
-    let options = options_without_checkpoint(rt)?;
-    let has_sums = has_sums_at(rt, path)?;
     let log = log_beside(rt, path)?;
-    let files = seen_files(rt, path, log.as_slice())?;
-    let it = unopened(rt.alloc(), files, options, has_sums)?;
-    match latest_in(rt, path, log.as_slice(), it) {
-        Ok(Some(store)) => Ok(store),
-        Ok(None) => by_sql(
-            rt.alloc(),
-            seen_files(rt, path, log.as_slice())?,
-            options,
-            false,
-        ),
-        Err(e) => Err(e),
+    let mut it = seen_at(rt, path, log.as_slice())?;
+    match checked_list(rt, path, log.as_slice(), &mut it) {
+        Ok(Listed::Latest) => opened(it),
+        // SQL names what is refused.
+        Ok(_) | Err(FileError::NotSqlite) => {
+            left(it);
+            seen_by_sql(rt, path, log.as_slice())
+        }
+        Err(e) => {
+            left(it);
+            Err(e)
+        }
+    }
+}
+
+/// What the file at a path lists, with its log. `DamagedLog` and `OtherLog` as `looked_at`.
+pub fn list_with_log(rt: &HostRuntime, path: &str) -> Result<Listed, FileError> {
+    if head_at(rt, path)? != Found::Sqlite {
+        return Err(FileError::NotSqlite);
+    }
+    let log = log_beside(rt, path)?;
+    let mut it = seen_at(rt, path, log.as_slice())?;
+    let listed = checked_list(rt, path, log.as_slice(), &mut it);
+    left(it);
+    listed
+}
+
+/// The first mark of a site that is only looked at: nothing of it is written.
+pub const NO_MARK: u64 = 0;
+
+/// That a site was made over what is looked at, or why not.
+pub fn outcome_of<T: Drop, S: Drop>(outcome: Result<T, (FileError, S)>) -> Result<(), FileError> {
+    match outcome {
+        Ok(_site) => Ok(()),
+        Err((e, _store)) => Err(e),
     }
 }
 
@@ -104,10 +139,8 @@ pub fn plain_log(rt: &HostRuntime, path: &str) -> Result<Option<ShortLog>, FileE
     let Some(log) = short_log(rt, path)? else {
         return Ok(None);
     };
-    let options = options_without_checkpoint(rt)?;
-    let has_sums = has_sums_at(rt, path)?;
-    let files = seen_files(rt, path, &[])?;
-    Ok(match listed_in(rt.alloc(), files, options, has_sums)? {
+    let it = seen_at(rt, path, &[])?;
+    Ok(match listed_in(rt.alloc(), it)? {
         Listed::Latest => Some(log),
         _ => None,
     })

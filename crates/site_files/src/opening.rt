@@ -13,9 +13,10 @@ ghost use Rattle.site_files.specs.Earlier.{IsEarlier};
 
 use crate::FileSite;
 use crate::bounds::check_bounds;
+use crate::closing::closed;
 use crate::earlier::{check_earlier, why_other};
 use crate::error::FileError;
-use crate::looking::{looked_at, plain_log, unless_in_use};
+use crate::looking::{NO_MARK, looked_at, outcome_of, plain_log, unless_in_use};
 use crate::stores::{connected, latest_at, list_at, random};
 use crate::tables::{Earlier, Listed, list_of, upgraded};
 use kept_site::{Bounds, KeptSite};
@@ -125,25 +126,6 @@ pub fn same_party(alloc: Global, party: &RelyingParty) -> Result<RelyingParty, F
     Ok(RelyingParty::with_profile(alloc, party.profile(), party.rp_id(), &[])?)
 }
 
-/// That the site of a store is opened, which is done.
-fn check_over<S: Alter + Drop>(
-    alloc: Global,
-    party: RelyingParty,
-    policy: Policy,
-    bounds: Bounds,
-    at_least: u64,
-    store: S,
-) -> Result<(), FileError>
-    requires { IsClean (S.Store.view store) → IsTrue (S.Store.view store).is_numbered }
-{
-    // Nothing of it is written.
-    let life = 0;
-    match open_over(alloc, party, policy, bounds, at_least, life, store) {
-        Ok(_site) => Ok(()),
-        Err((e, _store)) => Err(e),
-    }
-}
-
 /// That the files at a path are opened as they stand. All that an open does is done over what is read of them, so that nothing is
 /// written where it refuses them.
 fn check_open(
@@ -158,7 +140,7 @@ fn check_open(
     let alloc = rt.alloc();
     let party = same_party(alloc, party)?;
     match looked_at(rt, path) {
-        Ok(store) => check_over(alloc, party, policy, bounds, at_least, store),
+        Ok(store) => outcome_of(open_over(alloc, party, policy, bounds, at_least, NO_MARK, store)),
         Err(e) => Err(e),
     }
 }
@@ -193,10 +175,7 @@ fn site_in<D: Disk + Drop>(
 {
     match open_over(alloc, party, policy, bounds, at_least, life, store) {
         Ok(site) => Ok(site),
-        Err((e, store)) => {
-            drop(store.close());
-            Err(e)
-        }
+        Err(refused) => Err(closed(refused)),
     }
 }
 

@@ -129,7 +129,7 @@ pub fn list_at(rt: &HostRuntime, path: &str) -> Result<Listed, FileError> {
     let has_sums = has_sums_at(rt, path)?;
     let options = options(rt)?;
     match sqlite_std_file::open(rt, path, Unknown) {
-        Ok(files) => listed_in(rt.alloc(), files, options, has_sums),
+        Ok(files) => listed_in(rt.alloc(), unopened(rt.alloc(), files, options, has_sums)?),
         Err(e) => Err(e.into()),
     }
 }
@@ -148,16 +148,17 @@ pub fn opened<D: Disk + Drop>(it: Unopened<D>) -> Result<FileStore<D>, FileError
     }
 }
 
-/// What files list that were not opened yet, whose pages end in sums or not. Nothing else of them is read.
-pub fn listed_in<D: Disk + Drop>(
-    alloc: Global,
-    files: Files<D>,
-    options: Options,
-    has_sums: bool,
-) -> Result<Listed, FileError> {
-    let mut it = unopened(alloc, files, options, has_sums)?;
-    let list = list_of_files(alloc, &mut it);
+/// Closes files that were not opened.
+pub fn left<D: Disk + Drop>(it: Unopened<D>) {
     drop(it.close());
+}
+
+/// What files list that were not opened yet. Nothing else of them is read.
+pub fn listed_in<D: Disk + Drop>(alloc: Global, mut it: Unopened<D>) -> Result<Listed, FileError>
+    requires { AreUsable it }
+{
+    let list = list_of_files(alloc, &mut it);
+    left(it);
     Ok(list?.listed)
 }
 
@@ -217,10 +218,7 @@ fn latest_of<D: Disk + Drop>(
     ensures found { IfOk result (λ store. IsClean (view store) → IsFoundIn (image_of D.Disk files) (view store).trees) }
 {
     let it = unopened(alloc, files, options, has_sums)?;
-    match opened(it) {
-        Ok(store) => Ok(store),
-        Err(e) => Err(e),
-    }
+    opened(it)
 }
 
 /// The store of a file of version 3: its list, its pages and its trees are tested, and what rows say of each other is not.

@@ -1,6 +1,5 @@
 -- What is known of credentials, and what is told of it.
-use Rattle.std.specs.Prelude.{◌≤◌, ◌^◌, ◌+◌, IfOk, Ok, Err, Vec, string_bytes}
-use Rattle.std.specs.declared.result.Result.{Result}
+use Rattle.std.specs.Prelude.{◌≤◌, ◌^◌, ◌+◌, Vec, string_bytes}
 use Rattle.std.specs.Global.{Global}
 use Rattle.std.proofs.Common.{◌≡◌, ◌++◌, ◌∷◌, [], ℕ, List, Option, Some, None, map, ap, sym, subst, ◌∙◌, false}
 use Rattle.std.specs.FinMap as finite
@@ -273,7 +272,3 @@ pub unknown_after : {S : Type 0} (view : S → View) (old mid new : KeptState S)
     → IsUnknown view old new why
 unknown_after view old mid new unknowns.Memory live same h = same_then view old mid new same h
 unknown_after view old mid new (unknowns.Failed why) live same h = failure_then view old mid new why live same h
-
-pub if_ok : {A E : Type 0} (r : Result A E) (P Q : A → Type 0) → ((x : A) → P x → Q x) → IfOk r P → IfOk r Q
-if_ok (Ok x) P Q f h = f x h
-if_ok (Err e) P Q f h = tt

@@ -33,7 +33,7 @@ fn bounds(options: &Options<'_>) -> Bounds {
 /// Makes the site's file.
 fn made(rt: &HostRuntime, options: &Options<'_>) -> Result<FileSite<Unknown>, Fault> {
     let party = party(rt.alloc(), options)?;
-    Ok(create(
+    let made = create(
         rt,
         options.file,
         party,
@@ -42,13 +42,14 @@ fn made(rt: &HostRuntime, options: &Options<'_>) -> Result<FileSite<Unknown>, Fa
         !options.has_no_sums,
         options.is_wary,
         Unknown,
-    )?)
+    );
+    made.map_err(Fault::File)
 }
 
 /// Opens the site's file.
 fn opened(rt: &HostRuntime, options: &Options<'_>) -> Result<FileSite<Unknown>, Fault> {
     let party = party(rt.alloc(), options)?;
-    Ok(open(
+    let opened = open(
         rt,
         options.file,
         party,
@@ -57,14 +58,28 @@ fn opened(rt: &HostRuntime, options: &Options<'_>) -> Result<FileSite<Unknown>, 
         options.at_least,
         options.is_wary,
         Unknown,
-    )?)
+    );
+    opened.map_err(Fault::File)
 }
 
-/// Makes the site's file where one stands that has no site: a creation that was cut off is taken up, and all else refused.
-fn taken_up(rt: &HostRuntime, options: &Options<'_>) -> Result<FileSite<Unknown>, Fault> {
-    match made(rt, options) {
-        Err(Fault::File(FileError::Exists)) => Err(Fault::File(FileError::NoSite)),
+/// Why no site is made where a file stands that has none.
+fn unless_taken_up(e: Fault) -> Fault {
+    match e {
+        Fault::File(FileError::Exists) => Fault::File(FileError::NoSite),
         other => other,
+    }
+}
+
+/// Makes the site's file where this is why none is opened: where none is there, or one of a creation that was cut off, which is taken up.
+fn made_instead(
+    rt: &HostRuntime,
+    options: &Options<'_>,
+    e: Fault,
+) -> Result<FileSite<Unknown>, Fault> {
+    match e {
+        Fault::File(FileError::NoFile) => made(rt, options),
+        Fault::File(FileError::NoSite) => made(rt, options).map_err(unless_taken_up),
+        other => Err(other),
     }
 }
 
@@ -79,8 +94,8 @@ pub(crate) fn site_of(rt: &HostRuntime, options: &Options<'_>) -> Result<FileSit
         return made(rt, options);
     }
     match opened(rt, options) {
-        Err(Fault::File(FileError::NoFile)) if !options.is_existing => made(rt, options),
-        Err(Fault::File(FileError::NoSite)) if !options.is_existing => taken_up(rt, options),
-        other => other,
+        Ok(site) => Ok(site),
+        Err(e) if !options.is_existing => made_instead(rt, options, e),
+        Err(e) => Err(e),
     }
 }

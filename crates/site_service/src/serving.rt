@@ -9,7 +9,7 @@ use site_lines::{
     Answer, Answered, Arrived, Logged, Tally, Teller, answer_lines, log_line, write_answer,
 };
 use std::fs::File;
-use std::io::{self, BufReader, Write};
+use std::io::{self, BufReader, Read, Write};
 use std::time::{SystemTime, UNIX_EPOCH};
 
 /// The program's version.
@@ -98,19 +98,19 @@ fn answer<S: Start>(
     tell(rt, options, &teller, now, answers.as_slice())
 }
 
-/// Answers the lines of the input until its end, those that have come together at once. Once a second the sessions that are
+/// Answers the lines of an input until its end, those that have come together at once. Once a second the sessions that are
 /// too old end before that.
-pub(crate) fn serve<S: Start>(
+fn serve_lines<S: Start, R: Read, W: Read>(
     rt: &HostRuntime,
     options: &Options<'_>,
     site: &mut FileSite<S>,
+    reader: &mut BufReader<R>,
+    random: &mut W,
 ) -> Result<(), Fault> {
-    let mut random = BufReader::new(rt.alloc(), File::open(rt, "/dev/urandom")?)?;
-    let mut reader = BufReader::with_capacity(rt.alloc(), READ_AT_ONCE, rt.reader())?;
     let mut tally = Tally::new();
     let mut last = 0;
     for _ in 0..u64::MAX {
-        let arrived = take_lines(rt.alloc(), &mut reader, &mut random)?;
+        let arrived = take_lines(rt.alloc(), reader, random)?;
         if arrived.is_empty() {
             break;
         }
@@ -122,4 +122,27 @@ pub(crate) fn serve<S: Start>(
         answer(rt, options, site, &mut tally, now, arrived.as_slice())?;
     }
     Ok(())
+}
+
+/// Answers the lines of this input until its end, with the bytes of this source of random ones.
+fn serve_with<S: Start, R: Read + Drop, W: Read + Drop>(
+    rt: &HostRuntime,
+    options: &Options<'_>,
+    site: &mut FileSite<S>,
+    input: R,
+    source: W,
+) -> Result<(), Fault> {
+    let mut random = BufReader::new(rt.alloc(), source)?;
+    let mut reader = BufReader::with_capacity(rt.alloc(), READ_AT_ONCE, input)?;
+    serve_lines(rt, options, site, &mut reader, &mut random)
+}
+
+/// The same of standard input, with the system's random bytes.
+pub(crate) fn serve<S: Start>(
+    rt: &HostRuntime,
+    options: &Options<'_>,
+    site: &mut FileSite<S>,
+) -> Result<(), Fault> {
+    let source = File::open(rt, "/dev/urandom")?;
+    serve_with(rt, options, site, rt.reader(), source)
 }

@@ -6,7 +6,7 @@ use Rattle.credential_store.proofs.Causes.{passed_up}
 use Rattle.kept_site.specs.Causes.{IfCreateStore}
 use Rattle.kept_site.specs.State.{HoldsSite, mark_row}
 use Rattle.kept_site.proofs.Causes.{start_cause_since}
-use Rattle.kept_site.proofs.New.{holds_new}
+use Rattle.kept_site.proofs.New.{marked_new}
 use Rattle.kept_site.proofs.create.write_new.Goals as goal
 
 pub returns-clause-held : goal.returns-clause-held
@@ -16,8 +16,8 @@ returns-clause-held g c clean =
     let reserved = c.in_ok-write_mark.ensures.clean before in
     let empty = c.in_ok-reserve.ensures.clean reserved in
     subst (HoldsSite finite.empty c.args.party.now.rp_id 1) (sym (ap (λ v. v.trees) (c.in_ok-commit.ensures.ok clean).is))
-    (subst (λ id. HoldsSite finite.empty id 1 (g.S.Store.view c.write_mark.new.store).trees) c.rp_id.ensures
-    (c.in_ok-write_mark.ensures.held before finite.empty _ 1 (holds_new _ _ _ 1 (c.in_ok-check_new.ensures.new empty) (c.in_ok-reserve.ensures.set reserved))))
+    (marked_new _ _ _ _ _ 1 (c.in_ok-check_new.ensures.new empty) (c.in_ok-reserve.ensures.set reserved)
+    (c.in_ok-write_mark.ensures.held before finite.empty _ 1) c.rp_id.ensures)
 
 pub returns-clause-crash : goal.returns-clause-crash
 returns-clause-crash g c db clean r =
@@ -27,8 +27,8 @@ returns-clause-crash g c db clean r =
     let empty = c.in_ok-reserve.ensures.clean reserved in
     elim (c.commit.ensures.crash db r) [
       | inl now ↦ inr (subst (HoldsSite finite.empty c.args.party.now.rp_id 1) (sym now.1)
-          (subst (λ id. HoldsSite finite.empty id 1 (g.S.Store.view c.write_mark.new.store).trees) c.rp_id.ensures
-          (c.in_ok-write_mark.ensures.held before finite.empty _ 1 (holds_new _ _ _ 1 (c.in_ok-check_new.ensures.new empty) (c.in_ok-reserve.ensures.set reserved)))))
+          (marked_new _ _ _ _ _ 1 (c.in_ok-check_new.ensures.new empty) (c.in_ok-reserve.ensures.set reserved)
+          (c.in_ok-write_mark.ensures.held before finite.empty _ 1) c.rp_id.ensures))
       | inr was ↦ inl (c.check_new.ensures.crash db (c.reserve.ensures.crash db (c.write_mark.ensures.crash db was)))
     ]
 
@@ -40,8 +40,8 @@ returns-in_err-commit-clause-crash g c db clean r =
     let empty = c.in_ok-reserve.ensures.clean reserved in
     elim (c.commit.ensures.crash db r) [
       | inl now ↦ inr (subst (HoldsSite finite.empty c.args.party.now.rp_id 1) (sym now.1)
-          (subst (λ id. HoldsSite finite.empty id 1 (g.S.Store.view c.write_mark.new.store).trees) c.rp_id.ensures
-          (c.in_ok-write_mark.ensures.held before finite.empty _ 1 (holds_new _ _ _ 1 (c.in_ok-check_new.ensures.new empty) (c.in_ok-reserve.ensures.set reserved)))))
+          (marked_new _ _ _ _ _ 1 (c.in_ok-check_new.ensures.new empty) (c.in_ok-reserve.ensures.set reserved)
+          (c.in_ok-write_mark.ensures.held before finite.empty _ 1) c.rp_id.ensures))
       | inr was ↦ inl (c.check_new.ensures.crash db (c.reserve.ensures.crash db (c.write_mark.ensures.crash db was)))
     ]
 

@@ -1,11 +1,7 @@
 -- What is owed of `read_mark`.
 use Rattle.std.proofs.Common.{[], ◌∷◌, cond, inr, ap, ◌∙◌}
-use Rattle.std.specs.Prelude.{Result, Ok, Err, IfOk}
+use Rattle.site_state.proofs.Kept.{if_ok}
 use Rattle.kept_site.proofs.marks.read_mark.Goals as goal
-
-if_ok : {A E : Type 0} (r : Result A E) (P Q : A → Type 0) → ((x : A) → P x → Q x) → IfOk r P → IfOk r Q
-if_ok (Ok x) P Q f h = f x h
-if_ok (Err e) P Q f h = tt
 
 pub returns-clause-mark : goal.returns-clause-mark
 returns-clause-mark g c =

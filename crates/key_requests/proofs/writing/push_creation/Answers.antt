@@ -1,22 +1,19 @@
 -- What is owed of `push_creation`.
 use Rattle.std.proofs.Common.{◌∙◌, ap, option_map}
-use Rattle.ccbor.specs.Item.{map, bytes, uint}
-use Rattle.ccbor.specs.View.{view}
+use Rattle.ccbor.specs.Item.{map}
 use Rattle.ctap_encoding.specs.Table.{list_of, record_of}
 use Rattle.ctap_encoding.specs.Content.{item_of}
 use Rattle.ctap_encoding.specs.Building.{pair_list_view}
-use Rattle.ctap_requests.specs.Entities.{creation_options_members}
 use Rattle.key_replies.specs.Replies.{credential_members}
 use Rattle.pin_messages.proofs.Building.{all_pairs, none_pushed, pushed, pushed_if_there}
-use Rattle.key_requests.proofs.Finishing.{same_item}
+use Rattle.key_requests.specs.RequestView.{auth_view, options_view}
+use Rattle.key_requests.proofs.Finishing.{pushed_end, same_item}
 use Rattle.key_requests.proofs.writing.push_creation.Goals as goal
 
 pub returns : goal.returns
 returns c =
     ap map (all_pairs _
-    ∙ pushed_if_there uint _ _ _ _ _ _ c.in_ok-push_if_there-5.ensures (c.number_if_there-protocol.ensures ∙ ap (option_map uint) c.auth_members-protocol.ensures.protocol)
-    ∙ pushed_if_there bytes _ _ _ _ _ _ c.in_ok-push_if_there-4.ensures (c.in_ok-param.ensures ∙ ap (option_map bytes) c.auth_members-protocol.ensures.param)
-    ∙ pushed_if_there (item_of (record_of creation_options_members)) _ _ _ _ _ _ c.in_ok-push_if_there-3.ensures c.in_ok-options.ensures
+    ∙ pushed_end 7 (options_view c.args.request.options) (option_map auth_view c.args.request.auth) (pair_list_view c.push_if_there-2.new.pairs.items) _ _ c.in_ok-push_end.ensures
     ∙ pushed_if_there (λ x. x) _ _ _ _ _ _ c.in_ok-push_if_there-2.ensures (same_item _)
     ∙ pushed_if_there (item_of (list_of (record_of credential_members))) _ _ _ _ _ _ c.in_ok-push_if_there.ensures c.in_ok-exclude.ensures
     ∙ pushed _ _ _ _ _ _ c.in_ok-push_member-4.ensures c.in_ok-algorithms.ensures

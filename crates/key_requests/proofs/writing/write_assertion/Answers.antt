@@ -1,7 +1,6 @@
 -- What is owed of `write_assertion`.
-use Rattle.std.proofs.Common.{ℕ, Vec, Global, map, subst}
+use Rattle.std.proofs.Common.{map}
 use Rattle.key_replies.specs.ReplyView.{info_view}
-use Rattle.key_requests.specs.Pieces.{Finishes}
 use Rattle.key_requests.specs.Requests.{AssertionOf}
 use Rattle.key_requests.specs.RequestView.{assertion_view, options_view}
 use Rattle.key_requests.proofs.Finishing.{beyond}

@@ -3,7 +3,7 @@ use Rattle.ccbor.specs.Viewing.{shown}
 use Rattle.ctap_encoding.specs.Table.{record_of}
 use Rattle.ctap_encoding.specs.declared.error.Error.TheVariants as errors
 use Rattle.key_replies.specs.Reading.{open_in}
-use Rattle.key_replies.proofs.Laws.{is_reply, is_shape, never_both, no_value}
+use Rattle.key_replies.proofs.Laws.{is_reply, is_shape, never_both}
 use Rattle.key_replies.proofs.Telling.{is_told}
 use Rattle.pin_messages.specs.Replies.{TellsPin, reply_content, reply_members}
 use Rattle.pin_messages.specs.ReplyView.{reply_view}

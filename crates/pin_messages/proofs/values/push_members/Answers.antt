@@ -1,6 +1,5 @@
 -- What is owed of `push_members`.
-use Rattle.std.proofs.Common.{◌≡◌, ◌∙◌, ap, refl, option_map}
-use Rattle.std.specs.Prelude.{OnOk}
+use Rattle.std.proofs.Common.{◌∙◌, ap}
 use Rattle.ccbor.specs.Item.{map, bytes, text, uint}
 use Rattle.ctap_encoding.specs.Table.{record_of}
 use Rattle.ctap_encoding.specs.Content.{item_of}

@@ -1,7 +1,7 @@
 -- What is owed of `opened`.
 use Rattle.std.proofs.Common.{◌∙◌, inl, inr}
 use Rattle.sqlite_store.specs.FileStore.{view}
-use Rattle.site_files.proofs.Found.{if_ok}
+use Rattle.site_state.proofs.Kept.{if_ok}
 use Rattle.site_files.proofs.opening.opened.Goals as goal
 
 pub returns-in-Ok-clause-found : goal.returns-in-Ok-clause-found

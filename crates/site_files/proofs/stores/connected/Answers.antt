@@ -2,7 +2,8 @@
 use Rattle.std.proofs.Common.{◌≡◌, inr, subst}
 use Rattle.sqlite_store.specs.FileStore.{view}
 use Rattle.sqlite.specs.Files.{HoldsDatabase}
-use Rattle.site_files.proofs.Found.{if_ok, same_image}
+use Rattle.site_state.proofs.Kept.{if_ok}
+use Rattle.site_files.proofs.Found.{same_image}
 use Rattle.site_files.proofs.stores.connected.Goals as goal
 
 pub returns-in-Ok-clause-found : goal.returns-in-Ok-clause-found

@@ -2,7 +2,8 @@
 use Rattle.std.proofs.Common.{subst}
 use Rattle.authdata.specs.Objects.{ObjectOf, object_view}
 use Rattle.authdata.specs.Responses.{registration_response_view}
-use Rattle.site_lines.proofs.Detailed.{aaguid_in_object, attested_in_object, if_ok}
+use Rattle.site_state.proofs.Kept.{if_ok}
+use Rattle.site_lines.proofs.Detailed.{aaguid_in_object, attested_in_object}
 use Rattle.site_lines.proofs.knowing.aaguid_in.Goals as goal
 
 pub returns-in-Ok : goal.returns-in-Ok

@@ -1,7 +1,7 @@
 -- What is owed of `answer_lines`.
 use Rattle.std.proofs.Common.{◌∙◌, ap, inl, inr, map}
 use Rattle.site_lines.specs.Batches.{failed_as}
-use Rattle.site_lines.proofs.Detailed.{if_ok}
+use Rattle.site_state.proofs.Kept.{if_ok}
 use Rattle.site_lines.proofs.line.answer_lines.Goals as goal
 
 pub returns-in-Ok-clause-told : goal.returns-in-Ok-clause-told

@@ -8,7 +8,7 @@ use Rattle.verification.specs.Registration.{counted}
 use Rattle.site_state.specs.RowViews.{row_view}
 use Rattle.site_lines.specs.Written.{attested_members, row_members}
 use Rattle.site_lines.proofs.Accepted.{row_is}
-use Rattle.site_lines.proofs.Detailed.{if_ok}
+use Rattle.site_state.proofs.Kept.{if_ok}
 use Rattle.site_lines.proofs.values.attested_row.Goals as goal
 
 pub returns-in-Ok-clause-told : goal.returns-in-Ok-clause-told

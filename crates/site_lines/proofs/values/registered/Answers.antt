@@ -3,7 +3,7 @@ use Rattle.std.proofs.Common.{rules}
 use Rattle.serde_json.specs.View.{view}
 use Rattle.authdata.specs.Objects.{object_view}
 use Rattle.site_lines.proofs.Accepted.{registered_is}
-use Rattle.site_lines.proofs.Detailed.{if_ok}
+use Rattle.site_state.proofs.Kept.{if_ok}
 use Rattle.site_lines.proofs.values.registered.Goals as goal
 
 pub returns-in-Ok-clause-told : goal.returns-in-Ok-clause-told

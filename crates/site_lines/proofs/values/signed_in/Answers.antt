@@ -3,7 +3,7 @@ use Rattle.std.proofs.Common.{rules}
 use Rattle.serde_json.specs.View.{view}
 use Rattle.authdata.specs.Layout.{lent_auth_view}
 use Rattle.site_lines.proofs.Accepted.{who_is}
-use Rattle.site_lines.proofs.Detailed.{if_ok}
+use Rattle.site_state.proofs.Kept.{if_ok}
 use Rattle.site_lines.proofs.values.signed_in.Goals as goal
 
 pub returns-in-Ok-clause-told : goal.returns-in-Ok-clause-told

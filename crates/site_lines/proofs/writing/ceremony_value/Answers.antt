@@ -3,7 +3,7 @@ use Rattle.std.proofs.Common.{IfOk, subst, sym}
 use Rattle.serde_json.specs.View.{view}
 use Rattle.site_lines.specs.Written.{IsRegistered, IsSignedIn, Writes}
 use Rattle.site_lines.specs.declared.answer.Answer.TheVariants as answers
-use Rattle.site_lines.proofs.Detailed.{if_ok}
+use Rattle.site_state.proofs.Kept.{if_ok}
 use Rattle.site_lines.proofs.writing.ceremony_value.Goals as goal
 
 pub returns-in_ok-row-in-Registered-clause-told : goal.returns-in_ok-row-in-Registered-clause-told

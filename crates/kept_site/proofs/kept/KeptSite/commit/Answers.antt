@@ -1,28 +1,25 @@
 -- What is owed of `KeptSite::commit`.
-use Rattle.std.proofs.Common.{ℕ, inl, inr, sym, ap, ◌∙◌, subst}
+use Rattle.std.proofs.Common.{ℕ, inl, inr, sym, ◌∙◌, subst}
 use Rattle.sqlite_trees.specs.View.{IsStorableRow}
 use Rattle.credential_store.proofs.Causes.{passed_up}
-use Rattle.kept_site.specs.State.{HoldsSite, mark_row, with_mark, with_site}
+use Rattle.kept_site.specs.State.{HoldsSite, mark_row}
 use Rattle.kept_site.proofs.Causes.{caused_since}
+use Rattle.kept_site.proofs.Reserved.{both_set}
 use Rattle.kept_site.proofs.kept.KeptSite.commit.Goals as goal
 
 pub returns-clause-crash : goal.returns-clause-crash
 returns-clause-crash g c =
     rw (← c.self.view_is) (λ db r. elim (c.commit.ensures.crash db r) [
-      | inl now ↦ inl (now.1 ∙ c.in_ok-put_mark.ensures.trees now.0
-          ∙ ap (with_mark c.self.inside.next_mark c.self.inside.mark) (c.in_ok-reserve.ensures.trees (c.in_ok-put_mark.ensures.clean now.0)
-          ∙ ap (λ id. with_site id c.to_commit-reserved.result (g.S.Store.view c.self.inside.held.store).trees) c.rp_id.ensures
-          ∙ ap (λ n. with_site c.self.inside.party.rp_id n (g.S.Store.view c.self.inside.held.store).trees) c.to_commit-reserved.ensures.moved))
+      | inl now ↦ inl (both_set _ _ _ (g.S.Store.view c.self.inside.held.store).trees _ _ _ _ _ _ now.1 (c.in_ok-put_mark.ensures.trees now.0)
+          (c.in_ok-reserve.ensures.trees (c.in_ok-put_mark.ensures.clean now.0)) c.rp_id.ensures c.to_commit-reserved.ensures.moved)
       | inr was ↦ inr (c.reserve.ensures.crash db (c.put_mark.ensures.crash db was))
     ])
 
 pub returns-in_err-commit-clause-crash : goal.returns-in_err-commit-clause-crash
 returns-in_err-commit-clause-crash g c =
     rw (← c.self.view_is) (λ db r. elim (c.commit.ensures.crash db r) [
-      | inl now ↦ inl (now.1 ∙ c.in_ok-put_mark.ensures.trees now.0
-          ∙ ap (with_mark c.self.inside.next_mark c.self.inside.mark) (c.in_ok-reserve.ensures.trees (c.in_ok-put_mark.ensures.clean now.0)
-          ∙ ap (λ id. with_site id c.to_commit-reserved.result (g.S.Store.view c.self.inside.held.store).trees) c.rp_id.ensures
-          ∙ ap (λ n. with_site c.self.inside.party.rp_id n (g.S.Store.view c.self.inside.held.store).trees) c.to_commit-reserved.ensures.moved))
+      | inl now ↦ inl (both_set _ _ _ (g.S.Store.view c.self.inside.held.store).trees _ _ _ _ _ _ now.1 (c.in_ok-put_mark.ensures.trees now.0)
+          (c.in_ok-reserve.ensures.trees (c.in_ok-put_mark.ensures.clean now.0)) c.rp_id.ensures c.to_commit-reserved.ensures.moved)
       | inr was ↦ inr (c.reserve.ensures.crash db (c.put_mark.ensures.crash db was))
     ])
 
