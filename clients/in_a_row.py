@@ -1,7 +1,7 @@
 """Sign-ins in a row, of which only `softkey` does any work: ./in_a_row.py PROGRAM [COUNT]
 
 Each is a request of one packet, a decision, and a signature that nobody verifies, written ahead. Prints the processor time of
-one, and the memory of the process before them and behind them.
+one, and the memory of the process before them and after them.
 """
 import os
 import sys
@@ -63,8 +63,8 @@ def main():
     writer.join()
     # the credential's counter stands at the end of what is saved, in CBOR
     assert replies == count and key.line("save")[0][1].endswith("06f507" + number(count))
-    behind, most = key.memory()
-    print(f"{count} sign-ins | {processor_seconds(key.process) / count * 1e6:.1f} µs each | {before} kB before, {behind} kB behind, {most} kB at most")
+    after, most = key.memory()
+    print(f"{count} sign-ins | {processor_seconds(key.process) / count * 1e6:.1f} µs each | {before} kB before, {after} kB after, {most} kB at most")
     assert key.close() == 0
 
 

@@ -232,7 +232,7 @@ def types(key):
 
 
 def bytes_that_are_none(key):
-    """Each front of a request, bytes behind it, and each byte turned: a status, and the key goes on."""
+    """Each front of a request, bytes after it, and each byte turned: a status, and the key goes on."""
     key.with_pin()
     for message in (b"\x06" + write(key.asking()[0]), b"\x01" + write(key.creating(bytes(32))), b"\x02" + write(key.getting(bytes(32)))):
         for length in range(1, len(message)):

@@ -231,7 +231,7 @@ def main():
         print(f"python-fido2 | {configuration} | {what} | {count}{each}")
     client.key.figures("python-fido2", configuration)
     print(f"python-fido2 | {configuration} | a sign-in in a row | {one * 1000:.2f} ms")
-    print(f"python-fido2 | {configuration} | memory of the process before these, behind them, and the most | {before} kB | {now} kB | {most} kB")
+    print(f"python-fido2 | {configuration} | memory of the process before these, after them, and the most | {before} kB | {now} kB | {most} kB")
 
 
 main()

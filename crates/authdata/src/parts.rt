@@ -14,7 +14,7 @@ use crate::flags;
 use ccbor::{MapView, View};
 use cose::KeyView;
 
-/// The key at the front, and the bytes behind it.
+/// The key at the front, and the bytes after it.
 pub fn key_front(bytes: &[u8]) -> Result<(KeyView<'_>, &[u8]), Error>
     ensures found { IfOk result (λ x. IsKey (lent_key_view x.0) × (bytes.now ≡ key_bytes (lent_key_view x.0) ++ x.1.now)) }
     ensures none { IfErr result (λ e. (e ≡ errors.BadKey) × (BeginsWithKey bytes.now → ⊥)) }
@@ -50,7 +50,7 @@ fn has_text_keys(map: MapView<'_>) -> bool
     true
 }
 
-/// The map of extensions at the front, and the bytes behind it.
+/// The map of extensions at the front, and the bytes after it.
 pub fn extensions_front(bytes: &[u8]) -> Option<(&[u8], &[u8])>
     ensures { MatchOption result (BeginsWithExtensions bytes.now → ⊥)
         (λ x. IsExtensionMap x.0.now × (bytes.now ≡ x.0.now ++ x.1.now)) }

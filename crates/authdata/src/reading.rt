@@ -19,7 +19,7 @@ use crate::parts::{extensions_front, id_len, is_short, key_front};
 use crate::profile::Profile;
 use std::alloc::{AllocError, Global};
 
-/// The rp id's hash, the flags, the counter and the bytes behind them.
+/// The rp id's hash, the flags, the counter and the bytes after them.
 fn fixed(bytes: &[u8]) -> Option<(&[u8; 32], u8, u32, &[u8])>
     ensures rest { MatchOption result (length bytes.now < 37) (λ x. x.3.now ≡ drop 37 bytes.now) }
     ensures parts { MatchOption result (length bytes.now < 37)
@@ -33,7 +33,7 @@ fn fixed(bytes: &[u8]) -> Option<(&[u8; 32], u8, u32, &[u8])>
     Some((hash, *flags, u32::from_be_bytes(*count), rest))
 }
 
-/// The attested credential data that begin at byte 37, and the bytes behind them.
+/// The attested credential data that begin at byte 37, and the bytes after them.
 fn credential_at(profile: Profile, bytes: &[u8]) -> Result<(AttestedView<'_>, &[u8]), Error>
     requires { 55 + id_len_in bytes.now ≤ length bytes.now }
     ensures found { IfOk result (λ x. drop 37 bytes.now
@@ -56,7 +56,7 @@ fn credential_at(profile: Profile, bytes: &[u8]) -> Result<(AttestedView<'_>, &[
     }
 }
 
-/// The attested credential data, if the flags say that there are any, and the bytes behind them.
+/// The attested credential data, if the flags say that there are any, and the bytes after them.
 fn attested_at(profile: Profile, bytes: &[u8]) -> Result<(Option<AttestedView<'_>>, &[u8]), Error>
     requires { Applies profile bytes.now errors.Short → ⊥ }
     ensures found { IfOk result (λ x. drop 37 bytes.now
@@ -77,7 +77,7 @@ fn attested_at(profile: Profile, bytes: &[u8]) -> Result<(Option<AttestedView<'_
     }
 }
 
-/// The extensions, if the flags say that there are any, and the bytes behind them.
+/// The extensions, if the flags say that there are any, and the bytes after them.
 fn extensions_at(flags: u8, bytes: &[u8]) -> Option<(Option<&[u8]>, &[u8])>
     ensures found { IfSome result (λ x. bytes.now ≡ extension_bytes (option_map (λ b. b.now) x.0) ++ x.1.now) }
     ensures is { IfSome result (λ x. IfSome (option_map (λ b. b.now) x.0) IsExtensionMap) }

@@ -12,7 +12,7 @@ use Rattle.cose.specs.declared.key.SigningAlg.{SigningAlg}
 use Rattle.cose.specs.declared.key.SigningAlg.TheVariants as algs
 use Rattle.authenticator.specs.State.{CredentialSource}
 use Rattle.authenticator.specs.Saved.{IsSource, source_item}
-use Rattle.authenticator.specs.Private.{alg_at, alg_in, behind_secret, counter_in, sized_in, source_in}
+use Rattle.authenticator.specs.Private.{alg_at, alg_in, after_secret, counter_in, sized_in, source_in}
 
 -- ---- its parts
 
@@ -80,7 +80,7 @@ source_read c is =
 pub one_source : (c d : CredentialSource) → IsSource c → IsSource d → source_item c ≡ source_item d → c ≡ d
 one_source c d h g e = same_Some c d (sym (source_read c h) ∙ ap source_in e ∙ source_read d g)
 
--- the members behind the secret
+-- the members after the secret
 record Behind (id rp user secret : List ℕ) (ps : Pairs) (c : CredentialSource) : Type 0 where
   pub sign_count : c.sign_count < 2 ^ 32
   pub is : c ≡ record { id = id; rp_id = rp; user = user; secret = secret; alg = c.alg; resident = c.resident; sign_count = c.sign_count }
@@ -91,7 +91,7 @@ joined_behind : (e f g : Item) (t u v w : Pairs) (alg : SigningAlg) (resident : 
     → t ≡ pair (uint 5) (alg_item (signed_alg alg)) (pair (uint 6) (boolean resident) (pair (uint 7) (uint n) no_pairs))
 joined_behind e f g t u v w alg resident n e0 e1 e2 e3 e4 e5 e6 = cc
 
-behind_is : (id rp user secret : List ℕ) (ps : Pairs) (c : CredentialSource) → behind_secret id rp user secret ps ≡ Some c → Behind id rp user secret ps c
+behind_is : (id rp user secret : List ℕ) (ps : Pairs) (c : CredentialSource) → after_secret id rp user secret ps ≡ Some c → Behind id rp user secret ps c
 behind_is id rp user secret ps c e =
     let five = bind_some (split_key (uint 5) ps) _ c e in
     let alg = bind_some (alg_in five.0.0) _ c five.2 in

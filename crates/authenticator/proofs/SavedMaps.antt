@@ -1,4 +1,4 @@
--- The credentials' maps one behind the other, and the map round them.
+-- The credentials' maps one after the other, and the map round them.
 use Rattle.std.proofs.Common.{◌≡◌, ◌<◌, ◌^◌, ℕ, suc, List, [], ◌∷◌, ◌++◌, length, Bool, true, false, Option, Some, None, Result, Err, IsUtf8}
 use Rattle.std.proofs.Common.{refl, sym, ap, ◌∙◌, subst, arith, ◌==◌, ◌&&◌}
 use Rattle.std.proofs.Common.{map as each}
@@ -87,7 +87,7 @@ front_absent [] more c are = refl
 front_absent (d ∷ front) more c are =
     grind (arith, common_steps, itself d.id, same_id d.id c.id, differs_behind d.id front more c are.0, front_absent front more c are.1)
 
--- and it may stand behind them
+-- and it may stand after them
 pub goes_behind : (cs front : List CredentialSource) (x : Item) → IsStore cs → (g : Goes cs front x)
     → (length front < 256) × (credential_of g.source.id front ≡ None)
 goes_behind cs front x store g =

@@ -49,7 +49,7 @@ all_reverse P xs h k d lt =
     let within : k < length xs = omega (arith, l, lt) in
     subst P (sym (get_or-reverse xs k d within)) (h (length xs - 1 - k) d (omega arith))
 
--- those behind the first are resident
+-- those after the first are resident
 abbrev pub LaterResident : List CredentialSource → List (List ℕ) → Type 0
 LaterResident cs [] = Unit {0}
 LaterResident cs (id ∷ later) = All (IsResident cs) later

@@ -159,8 +159,8 @@ abbrev pub counter_in : Item → Option ℕ
 counter_in x = uint_in x >>= λ n. if nat_le n 4294967295 then Some n else None
 
 -- the credential of these parts, whose other members are these
-abbrev pub behind_secret : List ℕ → List ℕ → List ℕ → List ℕ → Pairs → Option CredentialSource
-behind_secret id rp_id user secret ps = do
+abbrev pub after_secret : List ℕ → List ℕ → List ℕ → List ℕ → Pairs → Option CredentialSource
+after_secret id rp_id user secret ps = do
   five ← split_key (uint 5) ps
   alg ← alg_in five.0
   six ← split_key (uint 6) five.1
@@ -181,7 +181,7 @@ source_in x = do
   user ← sized_in 1 64 three.0
   four ← split_key (uint 4) three.1
   secret ← sized_in 32 32 four.0
-  behind_secret id rp_id user secret four.1
+  after_secret id rp_id user secret four.1
 
 abbrev pub Members : Type 0
 Members = List ℕ × Bool × Bool × Items

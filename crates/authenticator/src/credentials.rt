@@ -230,7 +230,7 @@ pub(crate) fn resident_place(
         .position(|c| c.is_resident_of(rp_id, user))
 }
 
-/// Stores a credential behind the others, and removes the one at a place.
+/// Stores a credential after the others, and removes the one at a place.
 pub(crate) fn store(
     credentials: &mut Vec<StoredCredential>,
     credential: StoredCredential,

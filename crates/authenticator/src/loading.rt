@@ -57,7 +57,7 @@ fn push_copy(
     Ok(())
 }
 
-/// Whether one more credential, of this id, may stand behind these.
+/// Whether one more credential, of this id, may stand after these.
 fn admits(credentials: &[StoredCredential], id: &[u8; 32]) -> bool
     ensures { IsTrue result ↔ ((length (credential_sources_view credentials.now) < 256)
         × (credential_of id.now (credential_sources_view credentials.now) ≡ None)) }

@@ -2,7 +2,7 @@
 
 ghost use Rattle.std.specs.Prelude.{◌≡◌, ◌≤◌, length, option_map};
 ghost use Rattle.ccbor.specs.Viewing.{shown, shown_pairs};
-ghost use Rattle.authenticator.specs.Private.{alg_in, behind_secret, counter_in, members_in, members_shown, sized_in, source_in, source_shown};
+ghost use Rattle.authenticator.specs.Private.{alg_in, after_secret, counter_in, members_in, members_shown, sized_in, source_in, source_shown};
 
 use crate::members::{SavedMembers, SourceView};
 use ccbor::{MapKey, MapView, View};
@@ -55,7 +55,7 @@ fn sign_count(value: &View<'_>) -> Option<u32>
 }
 
 /// The credential of these parts, whose map goes on with these members.
-fn behind_secret<'a>(
+fn after_secret<'a>(
     id: [u8; 32],
     rp_id: &'a str,
     user: &'a [u8],
@@ -64,7 +64,7 @@ fn behind_secret<'a>(
 ) -> Option<SourceView<'a>>
     requires low { 1 ≤ length user.now }
     requires high { length user.now ≤ 64 }
-    ensures { option_map source_shown result ≡ behind_secret id rp_id.now user.now secret (shown_pairs rest.now) }
+    ensures { option_map source_shown result ≡ after_secret id rp_id.now user.now secret (shown_pairs rest.now) }
 {
     let (held, rest) = rest.split_key(MapKey::Uint(5))?;
     let alg = alg(&held)?;
@@ -100,7 +100,7 @@ pub(crate) fn source<'a>(value: &View<'a>) -> Option<SourceView<'a>>
     let user = user(&held)?;
     let (held, rest) = rest.split_key(MapKey::Uint(4))?;
     let secret = bytes_32(&held)?;
-    behind_secret(id, rp_id, user, secret, &rest)
+    after_secret(id, rp_id, user, secret, &rest)
 }
 
 /// The members of an authenticator's map.

@@ -49,7 +49,7 @@ impl Pending {
         &self.secret
     }
 
-    /// What is to be signed, in two parts: the authenticator data, and behind them the hash of the client data (WebAuthn
+    /// What is to be signed, in two parts: the authenticator data, and after them the hash of the client data (WebAuthn
     /// Level 2, sections 6.3.3 and 8.2).
     pub fn message(&self) -> [&[u8]; 2]
         ensures { joined result ≡ message_of self.entry.now }

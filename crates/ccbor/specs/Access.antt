@@ -57,7 +57,7 @@ value_at k (pair l v ps) = if is_same_key l k then Some v else value_at k ps
 abbrev pub member : Item → Item → Option Item
 member k x = option_and_then (value_at k) (pairs_in x)
 
--- where the first pair has this key: its value, and the pairs behind it
+-- where the first pair has this key: its value, and the pairs after it
 abbrev pub split_key : Item → Pairs → Option (Item × Pairs)
 split_key k no_pairs = None
 split_key k (pair l v ps) = if is_same_key l k then Some (v, ps) else None
@@ -67,12 +67,12 @@ abbrev pub is_end : Pairs → Bool
 is_end no_pairs = true
 is_end (pair k v ps) = false
 
--- the first pair, and the pairs behind it
+-- the first pair, and the pairs after it
 abbrev pub pairs_first : Pairs → Option (Item × Item × Pairs)
 pairs_first no_pairs = None
 pairs_first (pair k v ps) = Some (k, v, ps)
 
--- the first item, and the items behind it
+-- the first item, and the items after it
 abbrev pub items_first : Items → Option (Item × Items)
 items_first no_items = None
 items_first (item x xs) = Some (x, xs)

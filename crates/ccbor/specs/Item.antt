@@ -20,5 +20,5 @@ mutual
 
   pub data Pairs : Type 0 where
     no_pairs : Pairs
-    -- a key, its value, and the pairs behind them
+    -- a key, its value, and the pairs after them
     pair : Item → Item → Pairs → Pairs

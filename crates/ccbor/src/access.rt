@@ -116,7 +116,7 @@ pub fn value_at<'a>(pairs: &'a [(Value, Value)], key: MapKey<'_>) -> Option<&'a 
     None
 }
 
-/// If the first pair has this key, its value and the pairs behind it.
+/// If the first pair has this key, its value and the pairs after it.
 pub fn split_key<'a>(
     pairs: &'a [(Value, Value)],
     key: MapKey<'_>,

@@ -6,7 +6,7 @@ ghost use Rattle.ccbor.specs.Canon.{Canon, before, is_key, spelling};
 ghost use Rattle.ccbor.specs.Viewing.{ArePairs, shown, shown_pairs};
 
 /// No encoding begins another, and each is of one value alone: where two encodings with something
-/// behind each are the same bytes, the encodings are the same, and so are their values. So what is
+/// after each are the same bytes, the encodings are the same, and so are their values. So what is
 /// written one after the other is read again, whatever follows it.
 pub fn one_spelling()
     ensures { (v w : Item) (a b x y : List ℕ) → Canon v a → Canon w b → a ++ x ≡ b ++ y

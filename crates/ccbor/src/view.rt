@@ -297,7 +297,7 @@ impl<'a> View<'a> {
 }
 
 impl<'a> ArrayView<'a> {
-    /// The first item, and the items behind it.
+    /// The first item, and the items after it.
     pub fn split_first(&self) -> Option<(View<'a>, ArrayView<'a>)>
         ensures parts { option_map (λ r. (shown r.0, shown_items r.1)) result
             ≡ items_first (shown_items self.now) }
@@ -318,7 +318,7 @@ impl<'a> ArrayView<'a> {
 }
 
 impl<'a> MapView<'a> {
-    /// The first pair's key and value, and the pairs behind it.
+    /// The first pair's key and value, and the pairs after it.
     pub fn split_first(&self) -> Option<(View<'a>, View<'a>, MapView<'a>)>
         ensures parts { option_map (λ r. (shown r.0, shown r.1, shown_pairs r.2)) result
             ≡ pairs_first (shown_pairs self.now) }
@@ -339,7 +339,7 @@ impl<'a> MapView<'a> {
         ))
     }
 
-    /// If the first pair has this key, its value and the pairs behind it.
+    /// If the first pair has this key, its value and the pairs after it.
     pub fn split_key(&self, key: MapKey<'_>) -> Option<(View<'a>, MapView<'a>)>
         ensures { option_map (λ r. (shown r.0, shown_pairs r.1)) result
             ≡ split_key (key_item key.entry) (shown_pairs self.now) }

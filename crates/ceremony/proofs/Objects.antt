@@ -13,7 +13,7 @@ use Rattle.ctap_replies.specs.Replies.{Creation, ReplyOf, creation_reply, creati
 use Rattle.authdata.specs.Objects.{IsMap, ObjectOf, object_item}
 use Rattle.client.specs.Responses.{object_of}
 
--- a pair's value, and the pairs behind it
+-- a pair's value, and the pairs after it
 value_fits : (d : ℕ) (last : List ℕ) (k v : Item) (ps : Pairs) → PairsFit d last (pair k v ps) → Fits d v
 value_fits d last k v ps h = h.3
 

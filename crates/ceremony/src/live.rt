@@ -116,7 +116,7 @@ impl Live {
         }
     }
 
-    /// Takes the packets, where none was taken before. Those behind the message change nothing.
+    /// Takes the packets, where none was taken before. Those after the message change nothing.
     pub(crate) fn feed_all(&mut self, packets: &[Packet])
         requires { HasGot self.old [] }
         ensures channel { self.new.cid ≡ self.old.cid }

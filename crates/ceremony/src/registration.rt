@@ -137,7 +137,7 @@ impl Live {
 ///
 /// The packets are those that came from the device after the request was sent, on channel `cid` and on others.
 /// Refusals are those of [`Live::finish_registration`]; `Memory` also where there was none for the packets' message.
-/// Packets behind the message change nothing.
+/// Packets after the message change nothing.
 pub fn register<V: Verifier>(
     alloc: Global,
     site: &mut Site,

@@ -139,7 +139,7 @@ impl Live {
 /// them is.
 ///
 /// The packets are those that came from the device after the request was sent, on channel `cid` and on others.
-/// Refusals are those of [`Live::finish`]; `Memory` also where there was none for the packets' message. Packets behind
+/// Refusals are those of [`Live::finish`]; `Memory` also where there was none for the packets' message. Packets after
 /// the message change nothing.
 pub fn sign_in<V: Verifier>(
     alloc: Global,

@@ -1,4 +1,4 @@
--- An rp id behind the front of a host.
+-- An rp id after the front of a host.
 use Rattle.std.proofs.Common.{◌≡◌, ◌≢◌, inl, inr, ℕ, List, [], ◌∷◌, ◌++◌, ◌==◌, length, Bool, false, sym, ◌∙◌, ap}
 use Rattle.std.specs.Prelude.{codes}
 use Rattle.std.proofs.lemmas.List.{append_cancel_right}
@@ -27,7 +27,7 @@ is_cut host rp_id front is own = elim own.1 [
   | inr dot ↦ inr ((dot.0, append_cancel_right front (dot.0 ++ codes ".") rp_id (sym is ∙ dot.1)))
 ]
 
--- and it is behind some front
+-- and it is after some front
 pub is_behind : (host rp_id : List ℕ) → IsRpIdOf host rp_id → (front : List ℕ) × (host ≡ front ++ rp_id)
 is_behind host rp_id own = elim own.1 [
   | inl same ↦ ([], same)

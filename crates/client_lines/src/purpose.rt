@@ -61,7 +61,7 @@ fn refused(error: RequestError) -> Refused {
     }
 }
 
-/// The host of an origin of the scheme `https`: what stands behind the scheme, up to the port.
+/// The host of an origin of the scheme `https`: what stands after the scheme, up to the port.
 fn host_of(origin: &str) -> &str {
     let Some(host) = origin.strip_prefix("https://") else {
         return "";

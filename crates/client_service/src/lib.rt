@@ -49,7 +49,7 @@ fn arguments(rt: &HostRuntime) -> io::Result<Vec<String>> {
     Ok(arguments)
 }
 
-/// What clap reads of the arguments, with this text behind the help.
+/// What clap reads of the arguments, with this text after the help.
 fn command_line<'a>(
     alloc: Global,
     help: &'a str,

@@ -9,13 +9,13 @@ use Rattle.clientdata.specs.Serialised.{truth_of, type_of}
 unfoldable pub before_challenge : CeremonyType → List ℕ
 before_challenge kind = codes "{\"type\":" ++ quoted (type_of kind) ++ codes ",\"challenge\":\""
 
--- from behind the challenge's last character to before the last member's value
-unfoldable pub behind_challenge : List ℕ → List ℕ
-behind_challenge origin = codes "\",\"origin\":" ++ quoted origin ++ codes ",\"crossOrigin\":"
+-- from the end of the challenge to before the last member's value
+unfoldable pub after_challenge : List ℕ → List ℕ
+after_challenge origin = codes "\",\"origin\":" ++ quoted origin ++ codes ",\"crossOrigin\":"
 
--- what stands behind the challenge
-abbrev pub IsBehindChallenge : List ℕ → Bool → List ℕ → Type 0
-IsBehindChallenge origin cross rest = rest ≡ behind_challenge origin ++ (truth_of cross ++ codes "}")
+-- what stands after the challenge
+abbrev pub IsAfterChallenge : List ℕ → Bool → List ℕ → Type 0
+IsAfterChallenge origin cross rest = rest ≡ after_challenge origin ++ (truth_of cross ++ codes "}")
 
 -- a byte that is an ASCII character and stands for itself between quotation marks
 abbrev pub IsPlain : ℕ → Type 0

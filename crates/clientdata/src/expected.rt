@@ -1,7 +1,7 @@
 //! Client data that are, byte for byte, what was expected: told without memory.
 
 ghost use Rattle.std.specs.Prelude.{◌≡◌, ◌≢◌, ◌↔◌, ◌++◌, ℕ, List, Bool, Contains, IfOk, IsTrue, IsUtf8, MatchOption};
-ghost use Rattle.clientdata.specs.Expected.{IsBehindChallenge, before_challenge, behind_challenge};
+ghost use Rattle.clientdata.specs.Expected.{IsAfterChallenge, before_challenge, after_challenge};
 ghost use Rattle.clientdata.specs.Serialised.{MayCross, client_data_text};
 
 use crate::challenge::challenge_characters;
@@ -20,13 +20,13 @@ pub struct ExpectedOrigin {
 
 impl Model for ExpectedOrigin {
     ghost use Rattle.std.specs.Prelude.{◌≡◌, ℕ, List, string_bytes};
-    ghost use Rattle.clientdata.specs.Expected.{behind_challenge};
+    ghost use Rattle.clientdata.specs.Expected.{after_challenge};
 
     ghost Value = { List ℕ };
 
     ghost view = { λ o. string_bytes o.origin };
 
-    ghost invariant = { λ o. string_bytes o.written ≡ behind_challenge (string_bytes o.origin) };
+    ghost invariant = { λ o. string_bytes o.written ≡ after_challenge (string_bytes o.origin) };
 }
 
 impl ExpectedOrigin {
@@ -50,21 +50,21 @@ impl ExpectedOrigin {
         self.origin.as_str()
     }
 
-    /// The text from behind the challenge to before the last member's value.
+    /// The text from the end of the challenge to before the last member's value.
     fn written(&self) -> &[u8]
-        ensures text { result.now ≡ behind_challenge self.now }
+        ensures text { result.now ≡ after_challenge self.now }
         ensures utf8 { IsUtf8 self.now }
     {
         self.written.as_bytes()
     }
 
-    /// Whether these bytes stand behind the challenge in serialised client data of this origin, cross-origin only where that is
+    /// Whether these bytes stand after the challenge in serialised client data of this origin, cross-origin only where that is
     /// taken.
     fn ends(&self, rest: &[u8], takes_cross: bool) -> bool
-        ensures told { IsTrue result ↔ ((cross : Bool) × MayCross takes_cross cross × IsBehindChallenge self.now cross rest.now) }
+        ensures told { IsTrue result ↔ ((cross : Bool) × MayCross takes_cross cross × IsAfterChallenge self.now cross rest.now) }
         ensures utf8 { IsUtf8 self.now }
     {
-        match behind(rest, self.written()) {
+        match after(rest, self.written()) {
             Some(rest) if rest == b"false}".as_slice() => true,
             Some(rest) => takes_cross && rest == b"true}".as_slice(),
             None => false,
@@ -82,15 +82,15 @@ fn before_challenge(kind: CeremonyType) -> &'static [u8]
     }
 }
 
-/// What stands behind a front of the bytes.
-pub(crate) fn behind<'a>(bytes: &'a [u8], front: &[u8]) -> Option<&'a [u8]>
+/// What stands after a front of the bytes.
+pub(crate) fn after<'a>(bytes: &'a [u8], front: &[u8]) -> Option<&'a [u8]>
     ensures { MatchOption result ((rest : List ℕ) → bytes.now ≢ front.now ++ rest) (λ rest. bytes.now ≡ front.now ++ rest.now) }
 {
     bytes.strip_prefix(front)
 }
 
-/// What stands behind the challenge, where the bytes begin as serialised client data of this ceremony and challenge do.
-fn behind_challenge<'a>(
+/// What stands after the challenge, where the bytes begin as serialised client data of this ceremony and challenge do.
+fn after_challenge<'a>(
     bytes: &'a [u8],
     kind: CeremonyType,
     challenge: &[u8; 32],
@@ -98,11 +98,11 @@ fn behind_challenge<'a>(
     ensures { MatchOption result
         ((origin : List ℕ) (cross : Bool) → bytes.now ≢ client_data_text kind challenge.now origin cross)
         (λ rest. (origin : List ℕ) (cross : Bool)
-        → (bytes.now ≡ client_data_text kind challenge.now origin cross) ↔ IsBehindChallenge origin cross rest.now) }
+        → (bytes.now ≡ client_data_text kind challenge.now origin cross) ↔ IsAfterChallenge origin cross rest.now) }
 {
     let challenge = challenge_characters(challenge);
-    let rest = behind(bytes, before_challenge(kind))?;
-    behind(rest, &challenge)
+    let rest = after(bytes, before_challenge(kind))?;
+    after(rest, &challenge)
 }
 
 /// Whether the bytes are the serialised client data (WebAuthn Level 2, section 5.8.1.1) of this ceremony,
@@ -116,7 +116,7 @@ pub fn is_serialised(
     ensures told { IsTrue result ↔ ((cross : Bool) × (bytes.now ≡ client_data_text kind challenge.now origin.now cross)) }
     ensures utf8 { IsTrue result → IsUtf8 origin.now }
 {
-    match behind_challenge(bytes, kind, challenge) {
+    match after_challenge(bytes, kind, challenge) {
         Some(rest) => origin.ends(rest, true),
         None => false,
     }
@@ -134,7 +134,7 @@ pub fn is_serialised_for_any(
     ensures { IsTrue result ↔ ((origin : List ℕ) × (cross : Bool) × MayCross takes_cross cross × Contains origins.now origin × IsUtf8 origin
         × (bytes.now ≡ client_data_text kind challenge.now origin cross)) }
 {
-    let Some(rest) = behind_challenge(bytes, kind, challenge) else {
+    let Some(rest) = after_challenge(bytes, kind, challenge) else {
         return false;
     };
     for origin in origins {

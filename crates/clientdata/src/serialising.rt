@@ -5,7 +5,7 @@ ghost use Rattle.clientdata.specs.Serialised.{front_of, text_of, truth_of};
 ghost use Rattle.clientdata.specs.Verified.{IsVerified};
 
 use crate::challenge::challenge_text;
-use crate::expected::behind;
+use crate::expected::after;
 use crate::quoting::push_quoted;
 use crate::record::ClientData;
 use std::alloc::{AllocError, Global};
@@ -39,7 +39,7 @@ pub fn limited_verify(
 fn goes_on(bytes: &[u8], expected: &[u8]) -> bool
     ensures { IsTrue result ↔ IsVerified bytes.now expected.now }
 {
-    match behind(bytes, expected) {
+    match after(bytes, expected) {
         Some([next, ..]) => *next == b'}' || *next == b',',
         Some([]) => false,
         None => false,

@@ -10,7 +10,7 @@ use Rattle.cose.specs.declared.key.CoseKey.TheVariants as keys
 use Rattle.cose.specs.Rsa.{RsaPublicKey, IsRsaKey}
 use Rattle.cose.specs.Keys.{item_of, IsKey, KeyOf, encoded_length}
 
--- behind the first three members, the coordinates
+-- after the first three members, the coordinates
 abbrev y_of : List ℕ → Pairs
 y_of y = pair (nint 2) (bytes y) no_pairs
 
@@ -22,7 +22,7 @@ x_fits : (x : List ℕ) (ps : Pairs) → length x ≡ 32 → PairsFit 0 (spellin
 unfolding head before
 x_fits x ps is h = (refl, refl, omega arith, omega arith, h)
 
--- behind the first two members of an RSA key, the modulus and the exponent
+-- after the first two members of an RSA key, the modulus and the exponent
 e_fits : (k : RsaPublicKey) → IsRsaKey k → PairsFit 0 (spelling (nint 0)) (pair (nint 1) (bytes k.e) no_pairs)
 unfolding head before
 e_fits k h = (refl, refl, omega arith, omega arith, tt)

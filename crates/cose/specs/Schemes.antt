@@ -7,7 +7,7 @@ use Rattle.cose.specs.declared.key.CoseKey.{CoseKey}
 abbrev pub no_part : Bor (List ℕ)
 no_part = record { ref_ptr = (0, 0); now = [] }
 
--- the message: the second part behind the first
+-- the message: the second part after the first
 abbrev pub joined : List (Bor (List ℕ)) → List ℕ
 joined parts = (slice_index_or parts 0 no_part).now ++ (slice_index_or parts 1 no_part).now
 

@@ -29,7 +29,7 @@ fn is_last(members: &Members<'_>) -> bool
     }
 }
 
-/// The members behind a first one that has this key and this value.
+/// The members after a first one that has this key and this value.
 #[tactic(auto, unfolding(crate::specs::Reading::constant_at))]
 fn constant<'a>(members: &Members<'a>, key: MapKey<'_>, value: MapKey<'_>) -> Option<Members<'a>>
     ensures { option_map members_view result
@@ -48,7 +48,7 @@ fn constant<'a>(members: &Members<'a>, key: MapKey<'_>, value: MapKey<'_>) -> Op
     if is_value { Some(rest) } else { None }
 }
 
-/// The bytes that a first member has at this key, and the members behind it.
+/// The bytes that a first member has at this key, and the members after it.
 #[tactic(auto, unfolding(crate::specs::Reading::bytes_at))]
 fn bytes<'a>(members: &Members<'a>, key: MapKey<'_>) -> Option<(&'a [u8], Members<'a>)>
     ensures { option_map (λ x. (x.0.now, members_view x.1)) result
@@ -66,7 +66,7 @@ fn bytes<'a>(members: &Members<'a>, key: MapKey<'_>) -> Option<(&'a [u8], Member
     }
 }
 
-/// The coordinate that a first member has at this key, and the members behind it.
+/// The coordinate that a first member has at this key, and the members after it.
 #[tactic(auto, unfolding(crate::specs::Reading::coordinate_at))]
 fn coordinate<'a>(members: &Members<'a>, key: MapKey<'_>) -> Option<([u8; 32], Members<'a>)>
     ensures { option_map (λ x. (x.0, members_view x.1)) result

@@ -16,7 +16,7 @@ pub trait Verifier {
     ghost valid: { Self → CoseKey → List ℕ → List ℕ → Type 0 };
 
     /// Whether the signature is valid under the key for the message that the two parts are when the
-    /// second is written behind the first. It takes no memory.
+    /// second is written after the first. It takes no memory.
     fn verify(&self, key: &KeyView<'_>, parts: [&[u8]; 2], sig: &[u8]) -> bool
         ensures { IsTrue result ↔ valid self.now (lent_key_view key.now) (joined parts.entry) sig.now };
 }
@@ -31,7 +31,7 @@ pub trait Signer: Verifier {
         ensures { result ≡ public_of self.now alg secret.now };
 
     /// Appends a signature, of 1 to 128 bytes, of the message that the two parts are when the
-    /// second is written behind the first. It is valid under the public key of the same algorithm
+    /// second is written after the first. It is valid under the public key of the same algorithm
     /// and secret. Where memory is wanting, nothing is appended.
     fn sign(
         &self,

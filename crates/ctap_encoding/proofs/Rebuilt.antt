@@ -34,7 +34,7 @@ skip k v ps (listed l r h ms) last up ordered =
     let inner = skip k v ps ms (spelling l) (λ x b. before_trans (spelling k) (spelling l) x after b) ordered.2 in
     rw (other, inner) refl
 
--- keys after the table's first one are listed behind it
+-- keys after the table's first one are listed after it
 narrowed : (k : Item) (r : Bool) (h : Holds) (ms : Members) (d : ℕ) (last : List ℕ) (ps : Pairs)
     → ((x : List ℕ) → before last x ≡ true → before (spelling k) x ≡ true) → PairsFit d last ps
     → all_keys (is_listed (listed k r h ms)) ps ≡ true → all_keys (is_listed ms) ps ≡ true

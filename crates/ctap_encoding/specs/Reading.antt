@@ -57,7 +57,7 @@ abbrev pub maybe : {A : Type 0} → (Item → Option A) → Option Item → Opti
 maybe f (Some v) = f v >>= λ a. Some (Some a)
 maybe f None = Some None
 
--- the value that the first pair has at this key, if it has it, and the pairs behind it
+-- the value that the first pair has at this key, if it has it, and the pairs after it
 abbrev pub taken_from : Option (Item × Pairs) → Pairs → Option Item × Pairs
 taken_from (Some m) ps = (Some m.0, m.1)
 taken_from None ps = (None, ps)

@@ -29,7 +29,7 @@ pub fn members<'a>(value: &View<'a>) -> Result<MapView<'a>, Shape>
     }
 }
 
-/// The value of the first member, whose key must be this one, and the members behind it; else
+/// The value of the first member, whose key must be this one, and the members after it; else
 /// [`Shape`].
 pub fn required<'a>(
     members: &MapView<'a>,
@@ -44,7 +44,7 @@ pub fn required<'a>(
     }
 }
 
-/// The value of the first member if its key is this one, and the members behind it; else all members.
+/// The value of the first member if its key is this one, and the members after it; else all members.
 pub fn optional<'a>(members: MapView<'a>, key: MapKey<'_>) -> (Option<View<'a>>, MapView<'a>)
     ensures { (option_map shown result.0, shown_pairs result.1)
         ≡ take_key (key_item key.entry) (shown_pairs members.entry) }

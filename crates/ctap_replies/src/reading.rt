@@ -42,7 +42,7 @@ fn creation_reply_after(alloc: Global, rest: &[u8]) -> Result<CreationReply, Err
     }
 }
 
-/// The reply to getAssertion, behind status 0.
+/// The reply to getAssertion, after status 0.
 fn assertion_after(rest: &[u8]) -> Result<AssertionView<'_>, Error>
     ensures found { IfOk result (λ r.
         IsReply kinds.GetAssertion (assertion_reply (lent_assertion_view r)) (0 ∷ rest.now)) }
@@ -59,7 +59,7 @@ fn assertion_after(rest: &[u8]) -> Result<AssertionView<'_>, Error>
     }
 }
 
-/// The reply to getNextAssertion, behind status 0.
+/// The reply to getNextAssertion, after status 0.
 fn next_after(rest: &[u8]) -> Result<AssertionView<'_>, Error>
     ensures found { IfOk result (λ r.
         IsReply kinds.GetNextAssertion (next_reply (lent_assertion_view r)) (0 ∷ rest.now)) }
@@ -120,7 +120,7 @@ fn reset_reply_after(rest: &[u8]) -> Result<Reply, Error>
     }
 }
 
-/// The reply to a command, behind status 0.
+/// The reply to a command, after status 0.
 fn reply_after(alloc: Global, kind: Kind, rest: &[u8]) -> Result<Reply, Error>
     ensures found { IfOk result (λ r. IsReply kind (reply_view r) (0 ∷ rest.now)) }
     ensures refused { IfErr result (λ e. ReplyRefused kind (0 ∷ rest.now) e) }
@@ -135,7 +135,7 @@ fn reply_after(alloc: Global, kind: Kind, rest: &[u8]) -> Result<Reply, Error>
 }
 
 /// What follows status 0.
-fn behind_status(bytes: &[u8]) -> Result<&[u8], Error>
+fn after_status(bytes: &[u8]) -> Result<&[u8], Error>
     ensures found { IfOk result (λ r. bytes.now ≡ 0 ∷ r.now) }
     ensures refused { (kind : Kind) → IfErr result (λ e. ReplyRefused kind bytes.now e) }
     ensures no_memory { IfErr result (λ e. e ≢ errors.Memory) }
@@ -162,7 +162,7 @@ pub fn read_assertion(bytes: &[u8]) -> Result<AssertionView<'_>, Error>
     ensures none { IfErr result (λ _. (q : Assertion) → ReplyOf (assertion_reply q) bytes.now → ⊥) }
 {
     // A `match` where the proof speaks of the error: `?` hides it behind its conversion.
-    let rest = match behind_status(bytes) {
+    let rest = match after_status(bytes) {
         Ok(rest) => rest,
         Err(e) => return Err(e),
     };
@@ -184,7 +184,7 @@ pub fn read_creation(alloc: Global, bytes: &[u8]) -> Result<CreationReply, Error
         → (q : Creation) → ReplyOf (creation_reply q) bytes.now → ⊥) }
 {
     // As in `read_assertion`.
-    let rest = match behind_status(bytes) {
+    let rest = match after_status(bytes) {
         Ok(rest) => rest,
         Err(e) => return Err(e),
     };
@@ -205,7 +205,7 @@ pub fn read_reply(alloc: Global, kind: Kind, bytes: &[u8]) -> Result<Reply, Erro
     ensures refused { IfErr result (λ e. ReplyRefused kind bytes.now e) }
 {
     // As in `read_assertion`.
-    match behind_status(bytes) {
+    match after_status(bytes) {
         Ok(rest) => reply_after(alloc, kind, rest),
         Err(e) => Err(e),
     }

@@ -13,8 +13,8 @@ use crate::assertions::is_id_size;
 use crate::reply::AssertionView;
 use ccbor::bytes_first;
 
-/// What stands behind a front of the bytes.
-fn behind<'a>(bytes: &'a [u8], front: &[u8]) -> Option<&'a [u8]>
+/// What stands after a front of the bytes.
+fn after<'a>(bytes: &'a [u8], front: &[u8]) -> Option<&'a [u8]>
     ensures { MatchOption result ((rest : List ℕ) → bytes.now ≢ front.now ++ rest) (λ rest. bytes.now ≡ front.now ++ rest.now) }
 {
     bytes.strip_prefix(front)
@@ -37,9 +37,9 @@ fn credential_first(bytes: &[u8]) -> Option<(&[u8], &[u8])>
     ensures { IfSome result (λ r. IsIdSize r.0.now
         × (bytes.now ≡ spelling (item_of (record_of credential_members) (credential_content r.0.now)) ++ r.1.now)) }
 {
-    let rest = behind(bytes, b"\xa2bid")?;
+    let rest = after(bytes, b"\xa2bid")?;
     let (id, rest) = id_first(rest)?;
-    let rest = behind(rest, b"dtypejpublic-key")?;
+    let rest = after(rest, b"dtypejpublic-key")?;
     Some((id, rest))
 }
 
@@ -47,11 +47,11 @@ fn credential_first(bytes: &[u8]) -> Option<(&[u8], &[u8])>
 fn required_first(bytes: &[u8]) -> Option<(AssertionView<'_>, &[u8])>
     ensures { IfSome result (λ r. HasFront (lent_assertion_view r.0) bytes.now r.1.now) }
 {
-    let rest = behind(bytes, &[1])?;
+    let rest = after(bytes, &[1])?;
     let (credential, rest) = credential_first(rest)?;
-    let rest = behind(rest, &[2])?;
+    let rest = after(rest, &[2])?;
     let (auth_data, rest) = bytes_first(rest)?;
-    let rest = behind(rest, &[3])?;
+    let rest = after(rest, &[3])?;
     let (signature, rest) = bytes_first(rest)?;
     let reply = AssertionView {
         credential,
@@ -76,7 +76,7 @@ fn with_user(bytes: &[u8]) -> Option<AssertionView<'_>>
     ensures { IfSome result (λ r. ReplyOf (assertion_reply (lent_assertion_view r)) (0 ∷ 0xa4 ∷ bytes.now)) }
 {
     let (mut reply, rest) = required_first(bytes)?;
-    let rest = behind(rest, b"\x04\xa1bid")?;
+    let rest = after(rest, b"\x04\xa1bid")?;
     let (user, rest) = id_first(rest)?;
     if !rest.is_empty() {
         return None;
@@ -85,7 +85,7 @@ fn with_user(bytes: &[u8]) -> Option<AssertionView<'_>>
     Some(reply)
 }
 
-/// The reply to getAssertion, behind status 0, if it has no number of credentials: told with one look at each byte.
+/// The reply to getAssertion, after status 0, if it has no number of credentials: told with one look at each byte.
 pub(crate) fn usual_assertion(bytes: &[u8]) -> Option<AssertionView<'_>>
     ensures { IfSome result (λ r. ReplyOf (assertion_reply (lent_assertion_view r)) (0 ∷ bytes.now)) }
 {

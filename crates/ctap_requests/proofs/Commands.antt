@@ -2,7 +2,7 @@
 use Rattle.std.proofs.Common.{◌≡◌, ◌||◌, ℕ, true, false, List, [], ◌∷◌, length, refl, sym, subst, Result, IfErr, arith}
 use Rattle.refusal_order.specs.Lines.{First}
 use Rattle.ctap_requests.specs.Pieces.{Alone}
-use Rattle.ctap_requests.specs.Status.{Rank, unknown_command, bytes_behind, status_of, ranks, has_map, has_none, Applies, Refused}
+use Rattle.ctap_requests.specs.Status.{Rank, unknown_command, bytes_after, status_of, ranks, has_map, has_none, Applies, Refused}
 use Rattle.ctap_encoding.specs.declared.error.Error.{Error}
 use Rattle.ctap_requests.proofs.Ranks.{applies_first}
 use Rattle.ctap_requests.specs.declared.request.RequestView.{RequestView}
@@ -10,7 +10,7 @@ use Rattle.ctap_requests.specs.declared.request.RequestView.{RequestView}
 refused_alone : (command : ℕ) (q : RequestView) (rest : List ℕ) (result : Result RequestView Error) → has_none command ≡ true → Alone q rest result
     → IfErr result (λ e. Refused (command ∷ rest) e)
 refused_alone command q [] result h is = rw is tt
-refused_alone command q (b ∷ rest) result h is = rw is (bytes_behind, applies_first (command ∷ b ∷ rest) bytes_behind (h, λ e. absurd cc), refl)
+refused_alone command q (b ∷ rest) result h is = rw is (bytes_after, applies_first (command ∷ b ∷ rest) bytes_after (h, λ e. absurd cc), refl)
 
 pub alone_refused : (command : ℕ) (q : RequestView) (bs rest : List ℕ) (result : Result RequestView Error) → has_none command ≡ true → bs ≡ command ∷ rest
     → Alone q rest result

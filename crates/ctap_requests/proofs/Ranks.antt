@@ -12,7 +12,7 @@ use Rattle.ctap_encoding.specs.declared.fault.Fault as map_faults
 use Rattle.ctap_encoding.specs.declared.fault.Fault.TheVariants as faults
 use Rattle.ctap_requests.specs.Requests.{map_of}
 use Rattle.ctap_requests.specs.Pieces.{rank_of}
-use Rattle.ctap_requests.specs.Status.{Rank, unknown_command, bytes_behind, not_canonical, another_kind, unlisted_key, missing_member, invalid_size}
+use Rattle.ctap_requests.specs.Status.{Rank, unknown_command, bytes_after, not_canonical, another_kind, unlisted_key, missing_member, invalid_size}
 use Rattle.ctap_requests.specs.Status.{over_limit, ranks, has_map, has_none, status_of, Fault, Applies, NoStatus, Refused}
 use Rattle.ctap_encoding.specs.declared.error.Error.{Error}
 use Rattle.ctap_encoding.specs.declared.error.Error.TheVariants as errors
@@ -31,7 +31,7 @@ not_both : (c : ℕ) → has_none c ≡ true → has_map c ≡ true → ⊥
 not_both c e h = grind (arith, nat_tests, e, h)
 
 -- of a command that has nothing no earlier rank applies; nor of one that has a map
-known : (bs : List ℕ) → Applies bs bytes_behind → Applies bs unknown_command → ⊥
+known : (bs : List ℕ) → Applies bs bytes_after → Applies bs unknown_command → ⊥
 known [] a b = a
 known (c ∷ rest) a b = with_none c b a.0
 
@@ -68,7 +68,7 @@ of_fault f bs a = let both = faulty f bs a in let two = of_map bs both.0 in (two
 -- the rank that applies is the first
 pub applies_first : (bs : List ℕ) (r : Rank) → Applies bs r → First (Applies bs) ranks r
 applies_first bs unknown_command a = first_at 0 refl tt a
-applies_first bs bytes_behind a = first_at 1 refl (known bs a, tt) a
+applies_first bs bytes_after a = first_at 1 refl (known bs a, tt) a
 applies_first bs not_canonical a = first_at 2 refl (of_map bs (unread bs a)) a
 applies_first bs another_kind a = first_behind (take 3 ranks) (of_fault faults.AnotherKind bs a) (first_at 0 refl tt a)
 applies_first bs unlisted_key a =

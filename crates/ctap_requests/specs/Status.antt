@@ -14,7 +14,7 @@ use Rattle.ctap_encoding.specs.declared.error.Error.TheVariants as errors
 -- the ranks of a request's faults
 pub data Rank : Type 0 where
   unknown_command : Rank
-  bytes_behind : Rank
+  bytes_after : Rank
   not_canonical : Rank
   another_kind : Rank
   unlisted_key : Rank
@@ -25,7 +25,7 @@ pub data Rank : Type 0 where
 -- what each is answered by
 abbrev pub status_of : Rank → ℕ
 status_of unknown_command = 0x01
-status_of bytes_behind = 0x02
+status_of bytes_after = 0x02
 status_of not_canonical = 0x12
 status_of another_kind = 0x11
 status_of unlisted_key = 0x02
@@ -33,7 +33,7 @@ status_of missing_member = 0x14
 status_of invalid_size = 0x02
 status_of over_limit = 0x15
 
--- makeCredential and getAssertion have a map behind the command byte
+-- makeCredential and getAssertion have a map after the command byte
 abbrev pub has_map : ℕ → Bool
 has_map command = command == 1 || command == 2
 
@@ -50,8 +50,8 @@ Fault f (command ∷ rest) = (has_map command ≡ true) × (v : Item) × Canon v
 abbrev pub Applies : List ℕ → Rank → Type 0
 Applies [] unknown_command = Unit {0}
 Applies (command ∷ rest) unknown_command = has_map command || has_none command ≡ false
-Applies [] bytes_behind = ⊥
-Applies (command ∷ rest) bytes_behind = (has_none command ≡ true) × (rest ≢ [])
+Applies [] bytes_after = ⊥
+Applies (command ∷ rest) bytes_after = (has_none command ≡ true) × (rest ≢ [])
 Applies [] not_canonical = ⊥
 Applies (command ∷ rest) not_canonical = (has_map command ≡ true) × ((v : Item) → Canon v rest → ⊥)
 Applies bs another_kind = Fault faults.AnotherKind bs
@@ -64,7 +64,7 @@ Applies bs over_limit = Fault faults.OverLimit bs
 abbrev pub ranks : List Rank
 ranks =
     unknown_command
-    ∷ bytes_behind
+    ∷ bytes_after
     ∷ not_canonical
     ∷ another_kind
     ∷ unlisted_key

@@ -120,7 +120,7 @@ fn alone<'a>(request: RequestView<'a>, rest: &[u8]) -> Result<RequestView<'a>, E
 /// [`Error::Memory`]:
 ///
 /// 1. 0x01: there is no byte, or another command byte;
-/// 2. 0x02: getInfo, reset or getNextAssertion with bytes behind the command byte;
+/// 2. 0x02: getInfo, reset or getNextAssertion with bytes after the command byte;
 /// 3. 0x12: what follows the command byte isn't one whole canonical CBOR value;
 /// 4. 0x11: it isn't a map, or a member at any level has another kind;
 /// 5. 0x02: a map other than extensions has a key that isn't listed;

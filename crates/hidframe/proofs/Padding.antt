@@ -1,4 +1,4 @@
--- Parts of a list with zeros behind them.
+-- Parts of a list with zeros after them.
 use Rattle.std.proofs.Common.{◌≡◌, ℕ, suc, zero, ◌+◌, ◌-◌, ◌≤◌, List, [], ◌∷◌, ◌++◌, length, take, drop, refl, sym, ◌∙◌, ap, arith, length-append}
 use Rattle.std.specs.Prelude.{replicate}
 use Rattle.std.proofs.lemmas.List.{drop-replicate, take-replicate, length-replicate}
@@ -15,7 +15,7 @@ drop_nil : (i : ℕ) → drop {A = ℕ} i [] ≡ []
 drop_nil zero = refl
 drop_nil (suc i) = refl
 
--- a part of a list with zeros behind it is the part of the list, padded
+-- a part of a list with zeros after it is the part of the list, padded
 pub pad : (n i : ℕ) (m : List ℕ) (r : ℕ) → i + n ≤ length m + r → take n (drop i (m ++ replicate r 0)) ≡ padded n (take n (drop i m))
 pad zero i m r h = refl
 pad (suc n) i [] r h =

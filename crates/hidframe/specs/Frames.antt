@@ -30,7 +30,7 @@ pub record Frames (c cmd : ℕ) (m : List ℕ) (ps : List Packet) : Type 0 where
   pub count : length later ≡ continuation_count (length m)
   pub begins : first ++ joined later ≡ m ++ rest
 
--- the packets are m, and the bytes behind it are zeros
+-- the packets are m, and the bytes after it are zeros
 pub record ZeroFrames (c cmd : ℕ) (m : List ℕ) (ps : List Packet) : Type 0 where
   pub whole : AllByRecursion IsPacket ps
   pub frames : Frames c cmd m ps

@@ -310,7 +310,7 @@ pub enum Received<'a> {
 }
 
 /// Feeds a new collector the packets, and says how many it took until one of them gave the reply, the
-/// device's error or the death: all of them, where none did. Those behind change nothing. Takes no memory.
+/// device's error or the death: all of them, where none did. Those after change nothing. Takes no memory.
 pub fn feed_all(collector: &mut Collector, packets: &[Packet]) -> usize
     requires { Got collector.old.cid [] collector.old.shown }
     ensures channel { collector.new.cid ≡ collector.old.cid }

@@ -104,7 +104,7 @@ alone ids = if length ids == 1 then slice_get ids 0 else None
 abbrev pub count_of : Signed → ℕ
 count_of first = unwrap_or first.number 1
 
--- the replies to getNextAssertion, of which there are at most so many, behind n messages and the command
+-- the replies to getNextAssertion, of which there are at most so many, after n messages and the command
 abbrev pub next_replies : Facts → ℕ → Signed → List (List ℕ)
 next_replies k n first = take (count_of first - 1) (drop (n + 1) k.replies)
 
@@ -134,7 +134,7 @@ Several k n first rs h =
     × (((length rs < count_of first - 1) × (m : Vec ℕ Global) × (m.items ≡ 8 ∷ []) × (h ≡ halts.Steps (n + 1 + length rs) (steps.Sends m)))
     ⊎ ((length rs ≡ count_of first - 1) × Choice (n + 1 + length rs) (first ∷ qs) k.chosen h)))
 
--- behind the first, whose command was sent after n messages
+-- after the first, whose command was sent after n messages
 abbrev pub Chosen : Facts → ℕ → Signed → KeyAssertion → Halt → Type 0
 Chosen k n first a h =
     ((count_of first ≤ 1) × (h ≡ halts.Steps (n + 1) (steps.Asserted a)))

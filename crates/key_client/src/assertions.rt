@@ -96,7 +96,7 @@ fn all_of<'a>(
     Ok(all)
 }
 
-/// Those of the replies behind this place that tell the other assertions, where there are so many in all.
+/// Those of the replies after this place that tell the other assertions, where there are so many in all.
 fn next_replies<'a>(known: &Known<'a>, place: usize, count: u64) -> &'a [Vec<u8>]
     requires within { place < length known.now.replies.now }
     requires more { 1 < count }

@@ -30,7 +30,7 @@ pub record IsExact {Q C : Type 0} (tells : Q → Item → Type 0) (read : Item �
 
 module _ {Q C : Type 0} (tells : Q → Item → Type 0) (read : Item → Option C) (content : Q → C) (is : IsExact tells read content) (bs : List ℕ) (v : Item)
     (h : HasValue bs v) where
-  -- the value behind status 0 is this one
+  -- the value after status 0 is this one
   told_here : (r : Q) → ReplyOf (tells r) bs → tells r v
   told_here r s =
       let rests : s.0 ≡ h.rest = let f = s.1 in let g = h.status in cc in

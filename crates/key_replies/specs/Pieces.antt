@@ -43,7 +43,7 @@ feature_content r = (
   ),
 )
 
--- and those behind its options
+-- and those after its options
 abbrev pub limit_members : Members
 limit_members =
     listed (of.uint 5) false (unsigned 0) (

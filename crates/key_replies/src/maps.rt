@@ -177,7 +177,7 @@ fn info_features<'a>(alloc: Global, value: &View<'a>) -> Result<InfoFeatures<'a>
     })
 }
 
-/// The members of a reply to getInfo behind its options.
+/// The members of a reply to getInfo after its options.
 fn info_limits<'a>(alloc: Global, value: &View<'a>) -> Result<InfoLimits<'a>, MapError>
     ensures { Gives (λ r. limit_content r) result (open_members limit_members (shown value.now)) }
 {

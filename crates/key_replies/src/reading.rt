@@ -16,7 +16,7 @@ use ctap_encoding::status::OK;
 use std::alloc::Global;
 
 /// What follows status 0.
-fn behind_status(bytes: &[u8]) -> Result<&[u8], Error>
+fn after_status(bytes: &[u8]) -> Result<&[u8], Error>
     ensures found { IfOk result (λ r. bytes.now ≡ 0 ∷ r.now) }
     ensures refused { IfErr result (λ e. HasNoValue bytes.now e) }
 {
@@ -50,7 +50,7 @@ pub fn value_of(bytes: &[u8]) -> Result<View<'_>, Error>
     ensures refused { IfErr result (λ e. HasNoValue bytes.now e) }
 {
     // A `match` where the proof speaks of the error: `?` hides it behind its conversion.
-    let rest = match behind_status(bytes) {
+    let rest = match after_status(bytes) {
         Ok(rest) => rest,
         Err(e) => return Err(e),
     };

@@ -111,7 +111,7 @@ pub(crate) struct InfoFeatures<'a> {
     pub remaining_discoverable_credentials: Option<u64>,
 }
 
-/// The members of a reply to getInfo behind its options.
+/// The members of a reply to getInfo after its options.
 #[derive(Debug, Drop)]
 pub(crate) struct InfoLimits<'a> {
     pub max_msg_size: Option<u64>,

@@ -27,7 +27,7 @@ Finishes items max of (Err errors.Unfit) = (bs : List ℕ) → of bs → ⊥
 Finishes items max of (Err errors.MessageTooLong) = (bs : List ℕ) × of bs × (max < length bs)
 Finishes items max of (Err _) = ⊥
 
--- these pairs, and behind them those of the options and of the proof of a token, by three labels
+-- these pairs, and after them those of the options and of the proof of a token, by three labels
 abbrev pub with_end : ℕ → CreationFlags → Option Auth → List (Item × Item) → List (Item × Item)
 with_end label options auth ps =
     ((ps ++ member_list (uint label) (option_map (item_of (record_of creation_options_members)) (options_content options)))

@@ -5,7 +5,7 @@ use std::env::Env;
 use std::io::Write;
 use std::{env, io};
 
-/// The arguments of the command line behind the file's name.
+/// The arguments of the command line after the file's name.
 fn arguments(rt: &(impl Env + AllocGlobal)) -> io::Result<Vec<String>> {
     let mut arguments = Vec::new(rt.alloc());
     for word in env::args(rt)?.skip(1) {

@@ -181,7 +181,7 @@ impl<'a> Replay<'a> {
         }
     }
 
-    /// Makes the site of the rows so far, before the first line behind them.
+    /// Makes the site of the rows so far, before the first line after them.
     fn close_rows(&mut self, alloc: Global) -> Result<(), Fault> {
         if let Some(rows) = self.rows.take() {
             self.site = site_with(alloc, self.rp_id, self.origin, rows)?;
@@ -220,7 +220,7 @@ impl<'a> Replay<'a> {
         Ok(())
     }
 
-    /// Runs a line that is not the first, behind the rows where it is none.
+    /// Runs a line that is not the first, after the rows where it is none.
     fn run(&mut self, alloc: Global, line: Line<'a>, out: &mut String) -> Result<(), Fault> {
         if !matches!(line, Line::Row(_)) {
             self.close_rows(alloc)?;

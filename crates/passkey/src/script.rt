@@ -18,7 +18,7 @@ pub enum Line<'a> {
         rp_id: &'a str,
         origin: &'a str,
     },
-    /// `row <id> <user> <key> <count>`: a registered credential, directly behind `site` or `row`.
+    /// `row <id> <user> <key> <count>`: a registered credential, directly after `site` or `row`.
     Row(Row),
     /// `session <user or -> <0 or 1> <words> [ids]`: a sign-in begins; 1 requires verification.
     Session {

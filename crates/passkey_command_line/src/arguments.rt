@@ -154,7 +154,7 @@ fn with_sub<'a>(parser: Parser<'a>, sub: Parser<'a>) -> Result<Parser<'a>, Alloc
     parser.subcommand(sub)
 }
 
-/// The subcommand that runs a script, with this text behind its help.
+/// The subcommand that runs a script, with this text after its help.
 fn replay<'a>(alloc: Global, help: &'a str) -> Parser<'a>
     ensures { HasApp replay_app result }
 {
@@ -179,7 +179,7 @@ fn checking<'a>(alloc: Global) -> Result<Parser<'a>, AllocError>
     with_sub(parser, check)
 }
 
-/// The program's parser, with this text behind the help of `replay`.
+/// The program's parser, with this text after the help of `replay`.
 fn passkey<'a>(alloc: Global, help: &'a str) -> Result<Parser<'a>, AllocError>
     ensures { IfOk result (λ c. HasAppOfBoth passkey_app c) }
 {

@@ -24,7 +24,7 @@ struct Form {
     kind: LineKind,
     /// The first word.
     word: &'static str,
-    /// What stands behind it.
+    /// What stands after it.
     fields: &'static str,
     meaning: &'static str,
     /// One line, or several, which follow those of the forms before.

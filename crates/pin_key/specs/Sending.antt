@@ -5,7 +5,7 @@ use Rattle.hidframe.specs.declared.ctaphid.TheConstants.{CTAPHID_CBOR}
 use Rattle.hidlink.specs.History.{DeviceCall, Answered, Leaves}
 use Rattle.hidlink.specs.Ranks.{DeviceState, Idle, on_working, packets_of}
 
--- the device has answered with this message, whose packets stand behind those that were there, and is idle
+-- the device has answered with this message, whose packets stand after those that were there, and is idle
 pub record IsSent (old : DeviceState) (before : List Packet) (message : List ℕ) (new : DeviceState) (after : List Packet) : Type 0 where
   pub packets : after ≡ before ++ packets_of (on_working old.state CTAPHID_CBOR message)
   pub idle : new.state ≡ Idle

@@ -182,7 +182,7 @@ pub(crate) fn begun<'a>(
     }
 }
 
-/// A text encrypted (CTAP 2.1, section 6.5.6, `encrypt`, and 6.5.7): the ciphertext, by protocol two behind its IV. It
+/// A text encrypted (CTAP 2.1, section 6.5.6, `encrypt`, and 6.5.7): the ciphertext, by protocol two after its IV. It
 /// lies in the answers. Stops at the encryption.
 pub fn sealed<'a>(
     alloc: Global,
@@ -203,7 +203,7 @@ pub fn sealed<'a>(
     }
 }
 
-/// A ciphertext decrypted (CTAP 2.1, section 6.5.6, `decrypt`, and 6.5.7); by protocol two it is behind its IV. The text
+/// A ciphertext decrypted (CTAP 2.1, section 6.5.6, `decrypt`, and 6.5.7); by protocol two it is after its IV. The text
 /// lies in the answers. Stops at the decryption.
 pub fn opened<'a>(
     alloc: Global,

@@ -21,7 +21,7 @@ use Rattle.pin_requests.specs.declared.asked.AskedMembers.{AskedMembers}
 use Rattle.pin_requests.specs.Protected.{Flags, Protection, IsProtection, RefusedProtection, SaysProtection, TellsProtection, flag_content, flag_members}
 use Rattle.pin_requests.specs.Protected.{protection_content, protection_members}
 
--- ---- of a value behind a command byte
+-- ---- of a value after a command byte
 
 module _ {Q C : Type 0} (tells : Q → Item → Type 0) (read : Item → Option C) (content : Q → C) (is : IsExact tells read content) (command : ℕ)
     (bs rest : List ℕ) (begins : bs ≡ command ∷ rest) (v : Item) (canon : Canon v rest) where

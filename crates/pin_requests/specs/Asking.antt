@@ -58,7 +58,7 @@ TellsAsking q v = Tells (record_of asked_members) (asked_content (Some q.subcomm
 
 -- ---- the status that answers bytes that are no such request (section 8.2)
 
--- behind the command byte there is no canonical value (0x12), or one that isn't of the table (0x11)
+-- after the command byte there is no canonical value (0x12), or one that isn't of the table (0x11)
 abbrev pub Untold : ℕ → Members → List ℕ → ℕ → Type 0
 Untold command ms bs s =
     ((s ≡ 0x12) × ((rest : List ℕ) × (bs ≡ command ∷ rest) × ((v : Item) → Canon v rest → ⊥)))

@@ -13,7 +13,7 @@ ghost use Rattle.pin_requests.specs.Protected.{IsUnprotected, IsWithout, Refused
 ghost use Rattle.pin_requests.specs.ProtectedView.{message_of};
 
 use crate::asked::ProtectedRequest;
-use crate::reading::{behind, whole};
+use crate::reading::{after, whole};
 use ccbor::{MapKey, MapView, Value, View, encode};
 use ctap_encoding::Error;
 use ctap_encoding::status::{CBOR_UNEXPECTED_TYPE, INVALID_COMMAND};
@@ -116,10 +116,10 @@ fn unprotected(alloc: Global, request: &[u8]) -> Result<Vec<u8>, Error>
     ensures bytes { IfOk result (λ v. IsUnprotected request.now v.items) }
     ensures refused { IfErr result RefusedBytes }
 {
-    if let Some(rest) = behind(request, MAKE_CREDENTIAL) {
+    if let Some(rest) = after(request, MAKE_CREDENTIAL) {
         return bytes_without(alloc, MAKE_CREDENTIAL, rest, 8, 9);
     }
-    match behind(request, GET_ASSERTION) {
+    match after(request, GET_ASSERTION) {
         Some(rest) => bytes_without(alloc, GET_ASSERTION, rest, 6, 7),
         None => Err(Error::Status(INVALID_COMMAND)),
     }

@@ -8,12 +8,12 @@ ghost use Rattle.pin_requests.specs.ProtectedView.{protection_view};
 
 use crate::asked::ParamView;
 use crate::maps::protection;
-use crate::reading::{behind, whole};
+use crate::reading::{after, whole};
 use ctap_encoding::Error;
 use ctap_encoding::status::{CBOR_UNEXPECTED_TYPE, INVALID_COMMAND};
 use ctap_requests::{GET_ASSERTION, MAKE_CREDENTIAL};
 
-/// What the map behind a command byte says, by the numbers of its members.
+/// What the map after a command byte says, by the numbers of its members.
 fn param_in(rest: &[u8], options: u64, param: u64, protocol: u64) -> Result<ParamView<'_>, Error>
     ensures found { IfOk result (λ p. (command : ℕ) → IsSaid command (TellsProtection options param protocol) (protection_view p) (command ∷ rest.now)) }
     ensures refused { IfErr result (λ e. (command : ℕ) → UntoldBy command (protection_members options param protocol) (command ∷ rest.now) e) }
@@ -38,10 +38,10 @@ pub fn read_param(request: &[u8]) -> Result<ParamView<'_>, Error>
     ensures found { IfOk result (λ p. IsProtection (protection_view p) request.now) }
     ensures refused { IfErr result (λ e. RefusedProtection request.now e) }
 {
-    if let Some(rest) = behind(request, MAKE_CREDENTIAL) {
+    if let Some(rest) = after(request, MAKE_CREDENTIAL) {
         return param_in(rest, 7, 8, 9);
     }
-    match behind(request, GET_ASSERTION) {
+    match after(request, GET_ASSERTION) {
         Some(rest) => param_in(rest, 5, 6, 7),
         None => Err(Error::Status(INVALID_COMMAND)),
     }

@@ -31,7 +31,7 @@ pub(crate) fn whole(bytes: &[u8]) -> Result<View<'_>, Error>
 }
 
 /// What follows this command byte, where it is there.
-pub(crate) fn behind(request: &[u8], command: u8) -> Option<&[u8]>
+pub(crate) fn after(request: &[u8], command: u8) -> Option<&[u8]>
     ensures found { IfSome result (λ r. request.now ≡ command ∷ r.now) }
     ensures none { IfNone result ((rest : List ℕ) → request.now ≡ command ∷ rest → ⊥) }
 {
@@ -73,7 +73,7 @@ pub fn read_pin(request: &[u8]) -> Result<PinAsked<'_>, Error>
     ensures found { IfOk result (λ a. IsSaid 6 TellsAsking (asking_view a) request.now) }
     ensures refused { IfErr result (λ e. Refused request.now e) }
 {
-    let Some(rest) = behind(request, CLIENT_PIN) else {
+    let Some(rest) = after(request, CLIENT_PIN) else {
         return Err(Error::Status(INVALID_COMMAND));
     };
     // A `match` where the proof speaks of the error: `?` hides it behind its conversion.

@@ -13,7 +13,7 @@ use Rattle.verification.specs.Records.{Credential}
 use Rattle.site_state.specs.Table.{IsRow, AreRows, IsTable}
 use Rattle.saved_table.specs.Saved.{Saved, FitsVersion, credential_item, table_item, true_if}
 
--- the members that not every row has, behind the counter
+-- the members that not every row has, after the counter
 abbrev marks : Option Bool → Bool → Pairs
 marks eligible retired = optional (uint 5) (option_map boolean eligible) (optional (uint 6) (true_if retired) no_pairs)
 

@@ -1,4 +1,4 @@
--- The credentials' maps one behind the other, and the map round them.
+-- The credentials' maps one after the other, and the map round them.
 use Rattle.std.proofs.Common.{◌≡◌, ◌<◌, ◌≤◌, ℕ, true, List, [], ◌∷◌, ◌++◌, length, Some, None, Result, Err, refl, sym, ap, ◌∙◌, subst, arith}
 use Rattle.std.proofs.Common.{map as each}
 use Rattle.std.proofs.lemmas.Option.{cond_some, same_Some}
@@ -70,7 +70,7 @@ module _ (version : ℕ) where
         map_is = more.map_is;
       }
 
-  -- and it may stand behind them
+  -- and it may stand after them
   pub goes_behind : (p : Profile) (rows front : List Credential) (x : Item) (xs : Items) → IsTable p rows → (g : Goes rows front x xs)
       → IsRow p g.row × (row_of g.row.id front ≡ None) × (length front < 65536)
   goes_behind p rows front x xs table g =

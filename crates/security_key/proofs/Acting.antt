@@ -225,7 +225,7 @@ asks_at_work public s a (act.Decide consent words) p asks = at_some s asks.0 ask
 asks_at_work public s a act.Wait p asks = absurd asks
 asks_at_work public s a act.Expire p asks = absurd asks
 
--- the two calls, one behind the other
+-- the two calls, one after the other
 pub both : {A E : Type 0} (valid : Validity) (public : Keys) (old mid new : DeviceState) (a b c : authenticator.AuthenticatorState) (x : Act) (p : Pending)
     (signature : List ℕ) (before between after : List Packet) (r : Result A E)
     → BeginsServing public old a x before (served.Signs p) mid b between

@@ -100,7 +100,7 @@ FinishesServing s a p signature d =
     (reply : List ℕ) × IsWorking s × IsPayload reply × Finishes a p signature reply d.authenticator
     × (d.calls ≡ Answered reply ∷ []) × (d.sent ≡ on_working s CTAPHID_CBOR reply)
 
--- it is done: the packets of what is due stand behind those that were there
+-- it is done: the packets of what is due stand after those that were there
 abbrev pub IsDone : DeviceState → List Packet → Done → DeviceState → AuthenticatorState → List Packet → Type 0
 IsDone old before d new b after =
     (b ≡ d.authenticator) × (after ≡ before ++ packets_of d.sent)

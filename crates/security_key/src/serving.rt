@@ -80,7 +80,7 @@ impl From<AllocError> for ServeError {
     }
 }
 
-/// Puts the packets that are left to send behind the others, for which there is room.
+/// Puts the packets that are left to send after the others, for which there is room.
 pub fn drain(device: &mut Device, out: &mut Vec<Packet>)
     requires { vec_len out.old + 129 ≤ vec_capacity out.old }
     ensures device { device.new ≡ record device.old { left = [] } }
@@ -242,7 +242,7 @@ pub fn begin_serving<K: PublicKeys>(
 }
 
 /// The second step: takes the signature, of 1 to 128 bytes, of what [`begin_serving`] told, answers the request that the
-/// device works on, and puts the packets of the answer behind those in `out`, for which it makes room first. The counter
+/// device works on, and puts the packets of the answer after those in `out`, for which it makes room first. The counter
 /// grows here, or the credential is stored.
 ///
 /// Refused: [`ServeError::NotWorking`] (6), where no request waits; [`ServeError::Memory`]. Then what waited is gone, and
@@ -279,7 +279,7 @@ pub fn finish_serving(
     Ok(())
 }
 
-/// Does what is due at the authenticator's end, and puts the packets that the device sends then behind those in
+/// Does what is due at the authenticator's end, and puts the packets that the device sends then after those in
 /// `out`: at most 129, for which it makes room first.
 ///
 /// A packet is fed to the device. A request that is complete waits for its decision; one that is cancelled is answered

@@ -366,7 +366,7 @@ impl Site {
         self.table.row(id)
     }
 
-    /// The credential of an id, retired or not, behind its place in order of registration, from 0. It takes no memory.
+    /// The credential of an id, retired or not, with its place in order of registration, from 0. It takes no memory.
     pub fn find(&self, id: &[u8]) -> Option<(usize, RowView<'_>)>
         ensures place { IfSome result (λ x. slice_get self.now.rows x.0 ≡ Some (credential_view x.1)) }
         ensures row { option_map (λ x. credential_view x.1) result ≡ row_of id.now self.now.rows }

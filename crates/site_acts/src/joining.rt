@@ -6,7 +6,7 @@ ghost use Rattle.site_acts.specs.Joined.{joined as joined_of, with_comma};
 use crate::transports::{MOST_TRANSPORTS, is_transport};
 use std::alloc::{AllocError, Global};
 
-/// One more text, behind a comma where there is one before it.
+/// One more text, after a comma where there is one before it.
 fn join(text: &mut Vec<u8>, more: &[u8]) -> Result<(), AllocError>
     ensures { OnOk result (text.new.items ≡ with_comma text.old.items ++ more.now) }
 {

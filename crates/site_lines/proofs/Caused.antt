@@ -77,7 +77,7 @@ pub if_unknown : (P Q : Failure → Type 0) (e : Unknown) → ((why : Failure) �
 if_unknown P Q unknowns.Memory f h = tt
 if_unknown P Q (unknowns.Failed why) f h = f why h
 
--- ---- behind a look
+-- ---- after a look
 
 -- damage that is found in a site that has not changed was there before
 pub damaged_on : {S : Type 0} (view : S → View) (old mid : KeptState S) → IsSame view old mid → IsClean (view mid.store)
@@ -97,7 +97,7 @@ pub unknown_since : {S : Type 0} (view : S → View) (faults : S → ℕ) (old m
 unknown_since view faults old mid new e same back up h clean =
     if_unknown _ _ e (λ why. caused_since (view old.store) (view mid.store) _ _ _ _ _ _ _ why up (λ no. no) (damaged_on view old mid same (back clean))) (h clean)
 
--- a session begins behind a look
+-- a session begins after a look
 pub begin_since : {S : Type 0} (view : S → View) (faults : S → ℕ) (old mid new : KeptState S) (e : BeginFailure) → IsSame view old mid
     → (IsClean (view new.store) → IsClean (view mid.store)) → faults old.store ≤ faults mid.store
     → (IsClean (view new.store) → IfBeginStore (IsCausedIn view faults mid new (RefusesBegin (view mid.store) mid) ⊥) e)
@@ -113,7 +113,7 @@ pub look_fails : {S : Type 0} (view : S → View) (faults : S → ℕ) (old new 
 look_fails view faults old new V D e h clean =
     if_begin_store _ _ e (λ why. caused_since (view old.store) (view old.store) _ _ _ _ _ _ _ why (omega arith) (λ no. absurd no) (λ d. d)) (h clean)
 
--- an answer behind a part
+-- an answer after a part
 pub fails_after : {S : Type 0} (view : S → View) (faults : S → ℕ) (old mid new : KeptState S) (U V D E : Type 0) (a : Answer)
     → (IsClean (view new.store) → IsClean (view mid.store)) → faults old.store ≤ faults mid.store
     → (IsClean (view mid.store) → U → V) → (IsClean (view mid.store) → D → E) → FailsBy view faults mid new U D a → FailsBy view faults old new V E a

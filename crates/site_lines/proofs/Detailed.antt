@@ -82,7 +82,7 @@ details_on : {S : Type 0} (view : S → View) (old mid : KeptState S) (details :
     → HoldsDetails details (view old.store).trees → HoldsDetails details (view mid.store).trees
 details_on view old mid details same clean h = ap (λ v. v.trees 5) (same.store clean) ∙ h
 
--- what is told of a site that has not changed, behind a look
+-- what is told of a site that has not changed, after a look
 pub of_details_on : {S : Type 0} (view : S → View) (old mid new : KeptState S) (Of : Placed → Details → Type 0) → IsSame view old mid
     → (IsClean (view new.store) → IsClean (view mid.store)) → OfDetails view mid new Of → OfDetails view old new Of
 of_details_on view old mid new Of same back of clean placed held details d =
@@ -108,7 +108,7 @@ pub ids_on : {A B : Type 0} (f : A → List ℕ) (g : B → List ℕ) (xs : List
     → map f (xs ++ a ∷ []) ≡ map g (ys ++ b ∷ [])
 ids_on f g xs ys a b same one = map_on f xs a ∙ ap (λ l. l ++ f a ∷ []) same ∙ ap (λ x. map g ys ++ x ∷ []) one ∙ sym (map_on g ys b)
 
--- ---- a session that begins behind a look
+-- ---- a session that begins after a look
 
 pub begins_after : {S : Type 0} (view : S → View) (o : Opening) (words : List ℕ) (moment session : ℕ) (challenge : List ℕ) (old mid new : KeptState S)
     → IsSame view old mid → (IsClean (view new.store) → IsClean (view mid.store)) → Begins view o words moment session challenge mid new
@@ -244,7 +244,7 @@ registers_detail view now f d aaguid old new (answers.NotBackedUp why) its is h 
 registers_detail view now f d aaguid old new (answers.Error why) its is h = tt
 registers_detail view now f d aaguid old new (answers.Failed why) its is h = tt
 
--- rows are told with what is known of each, behind a look
+-- rows are told with what is known of each, after a look
 pub row_details_after : {S : Type 0} (view : S → View) (rows : Vec Row Global) (old mid new : KeptState S) (a : Answer) → IsSame view old mid
     → IsWithKnown view rows mid new a → TellsRowDetails view old new a
 row_details_after view rows old mid new (answers.RegistrationBegun started b known) same h = absurd h

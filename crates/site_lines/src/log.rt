@@ -19,7 +19,7 @@ pub enum Logged {
 /// The most bytes of a credential id that are logged.
 const MOST_OF_AN_ID: usize = 384;
 
-/// Appends a word, and a number behind it, or `-` where there is none.
+/// Appends a word, and a number after it, or `-` where there is none.
 fn named(out: &mut String, word: &str, number: Option<u64>) -> Result<(), AllocError> {
     match number {
         Some(number) => write!(out, " {word} {number}"),

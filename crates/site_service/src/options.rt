@@ -204,12 +204,12 @@ fn file_options<'a>(alloc: Global, help: &'a str) -> Result<Command<'a>, AllocEr
         ))
 }
 
-/// The program's parser, with this text behind its help.
+/// The program's parser, with this text after its help.
 fn parser<'a>(alloc: Global, help: &'a str) -> Result<Command<'a>, AllocError> {
     file_options(alloc, help)?.arg(log_option(alloc))
 }
 
-/// The words with the value of `--log` joined to it, as the parser takes it: the word behind it is its value only where it
+/// The words with the value of `--log` joined to it, as the parser takes it: the word after it is its value only where it
 /// is one.
 pub(crate) fn joined<'a>(alloc: Global, owned: &'a [String]) -> Result<Vec<&'a str>, AllocError> {
     let mut words: Vec<&'a str> = Vec::with_capacity(alloc, owned.len())?;
@@ -398,7 +398,7 @@ fn options_or_told<'a>(
     }
 }
 
-/// The options of the arguments, the program's name first, with this text behind the help; or what is told in place of serving.
+/// The options of the arguments, the program's name first, with this text after the help; or what is told in place of serving.
 pub(crate) fn asked_for<'a>(
     alloc: Global,
     help: &'a str,

@@ -114,7 +114,7 @@ fn check_port(scheme: &str, port: &str) -> Result<(), PartyFault> {
     }
 }
 
-/// The host and the port of what stands behind an origin's scheme.
+/// The host and the port of what stands after an origin's scheme.
 fn host_and_port(rest: &str) -> (&str, Option<&str>) {
     if rest.ends_with(']') {
         return (rest, None);

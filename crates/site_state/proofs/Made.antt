@@ -7,7 +7,7 @@ use Rattle.site_state.specs.RowViews.{row_view, rows_view}
 use Rattle.site_state.specs.declared.row.Row.{Row}
 use Rattle.site_state.proofs.RowLemmas.{front_absent}
 
--- a row of a table may stand behind those before it
+-- a row of a table may stand after those before it
 pub admitted : (p : Profile) (rows front rest : List Row) (row : Row) → rows ≡ front ++ row ∷ rest → IsTable p (rows_view rows)
     → IsRow p (row_view row) × (row_of row.id.items (rows_view front) ≡ None) × (length (rows_view front) < 65536)
 admitted p rows front rest row is table =

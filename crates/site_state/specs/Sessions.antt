@@ -78,7 +78,7 @@ expected_of n (OpensRegistration user algorithms uv words asks) = ForRegistratio
   attestation = asks.attestation;
 })
 
--- the next number is opened, and the one behind it is next
+-- the next number is opened, and the one after it is next
 abbrev pub begun : OpenSessions → Opening → OpenSessions
 begun s o = record s { expected = finite.insert s.expected s.next (expected_of s.next o); next = s.next + 1 }
 

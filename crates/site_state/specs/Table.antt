@@ -31,7 +31,7 @@ IsWithin n bs = (1 ≤ length bs) × (length bs ≤ n)
 abbrev pub IsRow : Profile → Credential → Type 0
 IsRow profile row = IsWithin (max_id profile) row.id × IsWithin 64 row.user
 
--- each credential is within its limits, and none behind it has its id
+-- each credential is within its limits, and none after it has its id
 abbrev pub AreRows : Profile → List Credential → Type 0
 AreRows profile [] = Unit {0}
 AreRows profile (row ∷ rows) = IsRow profile row × (row_of row.id rows ≡ None) × AreRows profile rows

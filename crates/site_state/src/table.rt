@@ -189,7 +189,7 @@ impl Table {
         true
     }
 
-    /// Whether a credential may stand behind the others: it is within its limits, its id is not taken, and there is
+    /// Whether a credential may stand after the others: it is within its limits, its id is not taken, and there is
     /// room.
     pub fn admits(&self, profile: Profile, row: &Row) -> bool
         ensures { IsTrue result ↔ IsRow profile (row_view row.now) × (row_of row.now.id.items self.now ≡ None) × (length self.now < 65536) }
@@ -200,7 +200,7 @@ impl Table {
         row.is_within_limits(profile) && !self.is_full()
     }
 
-    /// Adds a credential behind the others. Where there is no memory nothing has changed.
+    /// Adds a credential after the others. Where there is no memory nothing has changed.
     pub fn push(&mut self, row: Row) -> Result<(), AllocError>
         requires limits { IsRow Open (row_view row) }
         requires absent { row_of row.id.items self.old ≡ None }

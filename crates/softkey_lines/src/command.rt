@@ -50,7 +50,7 @@ pub fn word<'a>(words: &[&'a str], number: usize) -> Option<&'a str> {
     words.get(number).copied()
 }
 
-/// The words of a decision, behind its name.
+/// The words of a decision, after its name.
 fn read_decision(words: &[&str]) -> Option<LineCommand> {
     let consent = Consent {
         present: flag(word(words, 1))?,

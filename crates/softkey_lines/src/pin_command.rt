@@ -29,7 +29,7 @@ pub enum PinLineCommand {
     Over,
 }
 
-/// The words for a computation, behind its name.
+/// The words for a computation, after its name.
 fn read_words(words: &[&str]) -> Option<PinLineCommand> {
     Some(PinLineCommand::Compute(PinWords {
         secret: word_of_32(word(words, 1))?,

@@ -97,7 +97,7 @@ fn operation_word(operation: Operation) -> &'static [u8] {
     }
 }
 
-/// Bytes behind a space, in hex; none as `-`.
+/// Bytes after a space, in hex; none as `-`.
 fn tell_word(told: &mut Vec<u8>, bytes: &[u8]) -> Result<(), AllocError> {
     told.extend_from_slice(b" ")?;
     if bytes.is_empty() {

@@ -41,7 +41,7 @@ pub fn tell_pending(told: &mut Vec<u8>, pending: &Pending) -> Result<(), AllocEr
     told.extend_from_slice(b"\n")
 }
 
-/// A channel behind a word, in a line.
+/// A channel after a word, in a line.
 pub fn tell_channel(told: &mut Vec<u8>, word: &[u8], cid: u32) -> Result<(), AllocError> {
     told.extend_from_slice(word)?;
     tell_hex(told, &cid.to_be_bytes())?;
@@ -68,7 +68,7 @@ pub fn tell_packets(told: &mut Vec<u8>, packets: &[Packet]) -> Result<(), AllocE
     Ok(())
 }
 
-/// Saved bytes behind a word, in a line.
+/// Saved bytes after a word, in a line.
 pub fn tell_saved(told: &mut Vec<u8>, word: &[u8], bytes: &[u8]) -> Result<(), AllocError> {
     told.extend_from_slice(word)?;
     tell_hex(told, bytes)?;

@@ -1,7 +1,7 @@
 //! Tables as texts, and bytes as words, for the crates of tests.
 //!
 //! Rows are written in two notations. A table is lines, each of parts with `|` between them. Bytes in a part are words:
-//! hexadecimal digits, with `*` and how often they stand where that is not once; characters behind `'`; or a name, which
+//! hexadecimal digits, with `*` and how often they stand where that is not once; characters after `'`; or a name, which
 //! stands for its own words. What is done in an order is a script: acts with `;` between them, each of the answer that is
 //! wanted, the act's name, and words `name=value`. The crate that has the acts reads the script; the README shows both.
 #![tactic(auto)]
@@ -79,7 +79,7 @@ pub fn bytes_of<'a>(
     Ok(bytes)
 }
 
-/// Appends the line of a refusal, behind a line break where one stands before: its number, 0 where it has none; its name
+/// Appends the line of a refusal, after a line break where one stands before: its number, 0 where it has none; its name
 /// and its text.
 pub fn append_refusal<E: Debug + Display>(
     alloc: Global,

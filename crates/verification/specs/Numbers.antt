@@ -1,5 +1,5 @@
 -- The product's numbers of the steps, in the order in which they are tested; but 17 and 18, of Level 3, are tested right
--- behind the origin.
+-- after the origin.
 use Rattle.std.specs.Prelude.{ℕ}
 use Rattle.verification.specs.declared.refusal.SignInRefusal.{SignInRefusal}
 use Rattle.verification.specs.declared.refusal.SignInRefusal.TheVariants as sign_in

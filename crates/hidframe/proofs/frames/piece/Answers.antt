@@ -26,7 +26,7 @@ later_item cid cmd (suc k) n m p e size is =
     ∙ ap (λ j. continuation cid k (take j (drop (57 + 59 * k) m))) least
     ∙ ap (continuation cid k) (take_min 59 (drop (57 + 59 * k) m))
 
--- item i of the list, with those behind it
+-- item i of the list, with those after it
 found_item : (cid cmd : ℕ) (m : List ℕ) (i : ℕ) (p : Packet) → p ≡ item cid cmd m i → i < packet_count (length m)
     → (Some p ≡ slice_get (items_from cid cmd m 0) i) × (items_from cid cmd m i ≡ p ∷ items_from cid cmd m (i + 1))
 found_item cid cmd m i p is h =

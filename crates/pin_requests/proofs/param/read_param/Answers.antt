@@ -11,13 +11,13 @@ pub returns-in-Some-clause-refused : goal.returns-in-Some-clause-refused
 returns-in-Some-clause-refused c =
     if_err c.param_in.result (λ e u. no_creation c.args.request.now c.in-Some.rest.now c.in-Some.ensures.found e (u 1)) c.param_in.ensures.refused
 
-pub returns-in-Some-behind-clause-found : goal.returns-in-Some-behind-clause-found
-returns-in-Some-behind-clause-found c =
-    let b = c.in-Some-behind in
-    if_ok c.param_in-in-Some-behind.result (λ p said. is_assertion (protection_view p) c.args.request.now b.rest.now b.ensures.found (said 2))
-    c.param_in-in-Some-behind.ensures.found
+pub returns-in-Some-after-clause-found : goal.returns-in-Some-after-clause-found
+returns-in-Some-after-clause-found c =
+    let b = c.in-Some-after in
+    if_ok c.param_in-in-Some-after.result (λ p said. is_assertion (protection_view p) c.args.request.now b.rest.now b.ensures.found (said 2))
+    c.param_in-in-Some-after.ensures.found
 
-pub returns-in-Some-behind-clause-refused : goal.returns-in-Some-behind-clause-refused
-returns-in-Some-behind-clause-refused c =
-    let b = c.in-Some-behind in
-    if_err c.param_in-in-Some-behind.result (λ e u. no_assertion c.args.request.now b.rest.now b.ensures.found e (u 2)) c.param_in-in-Some-behind.ensures.refused
+pub returns-in-Some-after-clause-refused : goal.returns-in-Some-after-clause-refused
+returns-in-Some-after-clause-refused c =
+    let b = c.in-Some-after in
+    if_err c.param_in-in-Some-after.result (λ e u. no_assertion c.args.request.now b.rest.now b.ensures.found e (u 2)) c.param_in-in-Some-after.ensures.refused
