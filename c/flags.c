@@ -164,6 +164,19 @@ static void level3(passkey_registration_call call)
     }
 }
 
+/* A free id is handed in, and the response attests another: each that is not the same, and before a room that is full. */
+static void other_ids(passkey_registration_call call)
+{
+    static const char *const others[] = { "", "i", "ID", "id ", "di" };
+    static uint8_t object[1024];
+    call.response.object = lent(object, attestation_object(object, false, 0x41, id, &es256, lent(NULL, 0)));
+    for (size_t i = 0; i < sizeof others / sizeof *others; i++) {
+        call.free_id = lent(others[i], strlen(others[i]));
+        for (call.is_full = 0; call.is_full < 2; call.is_full++)
+            MUST(registration(&call, PASSKEY_FORMAT_NONE, 0) == PASSKEY_REGISTRATION_OTHER_ID);
+    }
+}
+
 static void registrations(void)
 {
     static char client[512];
@@ -188,6 +201,7 @@ static void registrations(void)
 #define CLEAR(flag, answer) (accepted_clear.set = answer, try_registration(&call, &call.flag, false, &es256, accepted_clear))
     profiles_of_registrations(call);
     level3(call);
+    other_ids(call);
     SET(accept_none, false, es256, PASSKEY_REGISTRATION_ATTESTATION_NOT_ACCEPTED);
     SET(accept_self, true, es256, PASSKEY_REGISTRATION_ATTESTATION_NOT_ACCEPTED);
     SET(has_session, false, es256, PASSKEY_REGISTRATION_SESSION_NOT_OPEN);
@@ -242,12 +256,15 @@ static void texts(void)
 {
     static const char full[] = "there is no room for another credential";
     static const char changed[] = "the credential's eligibility for backup has changed";
+    static const char other[] = "the response's id is not the attested credential's";
     uint8_t text[128];
     for (uint32_t number = 1; number != 0; number <<= 1, calls++)
         MUST(passkey_refusal_text(number, 16, text, sizeof text) == sizeof full - 1 && memcmp(text, full, sizeof full - 1) == 0);
     MUST(passkey_refusal_text(0, 16, text, sizeof changed - 1) == sizeof changed - 1);
     MUST(memcmp(text, changed, sizeof changed - 1) == 0);
     MUST(passkey_refusal_text(0, 16, text, sizeof changed - 2) == 0);
+    MUST(passkey_refusal_text(1, 19, text, sizeof text) == sizeof other - 1 && memcmp(text, other, sizeof other - 1) == 0);
+    MUST(passkey_refusal_text(0, 19, text, sizeof text) == 0);
 }
 
 int main(void)

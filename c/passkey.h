@@ -14,7 +14,8 @@
  * The calls may be made from several threads at once, and not from a signal handler. They take memory from malloc.
  * A pointer may be null only where its size or count is 0. Texts are not terminated.
  *
- * A flag that is handed in is a number: 0 is false, and each other number is true. A bool that is told is 0 or 1.
+ * A flag that is handed in is a number: 0 is false, and each other number is true, also one by which a look-up tells that it
+ * failed: compare what it answers first. A bool that is told is 0 or 1.
  * What is told, `out` and the rooms, need not be initialised: nothing of it is read.
  * What is told may not overlap what is lent or what else is told. This is not tested: where the rooms of
  * passkey_signature_asked overlap each other or the response, it answers 0 and tells a wrong message or signature.
@@ -24,8 +25,10 @@
  * Keys: no test is made that a point lies on its curve, or that a modulus is a product of two primes. The library that
  * verifies signatures has to refuse such a key.
  *
- * PASSKEY_ABI_VERSION, which is also the number in libpasskey.so.4, is another one after each change of a struct, of a
- * call's parameters, or of what a number means. New calls and new answers leave it as it is.
+ * PASSKEY_ABI_VERSION changes with each change of a struct, of a call's parameters, or of what a number means. New calls
+ * and new answers leave it as it is. The library's calls have it in their names (passkey_assertion_5), so that a program
+ * built with the header of another ABI does not link, and in libpasskey.so.5. A host that does not read this header, and
+ * names those symbols by itself, has to compare passkey_abi_version() with the number that it was written for.
  */
 #ifndef PASSKEY_H
 #define PASSKEY_H
@@ -38,7 +41,19 @@
 extern "C" {
 #endif
 
-#define PASSKEY_ABI_VERSION 4
+#define PASSKEY_ABI_VERSION 5
+#define passkey_assertion passkey_assertion_5
+#define passkey_registration passkey_registration_5
+#define passkey_signature_asked passkey_signature_asked_5
+#define passkey_challenge passkey_challenge_5
+#define passkey_challenge_text passkey_challenge_text_5
+#define passkey_is_canonical passkey_is_canonical_5
+#define passkey_key_from_cose passkey_key_from_cose_5
+#define passkey_key_to_cose passkey_key_to_cose_5
+#define passkey_refusal_text passkey_refusal_text_5
+
+/* Each call takes at most so many bytes of its thread's stack, whatever it is handed. */
+#define PASSKEY_STACK_BYTES 32768
 
 #define PASSKEY_ES256 (-7) /* ECDSA over P-256 with SHA-256 */
 #define PASSKEY_EDDSA (-8) /* EdDSA over Ed25519 */
@@ -67,8 +82,9 @@ enum {
     PASSKEY_PROFILE_LEVEL3 = 2  /* as the open one; token binding is not looked at, and frames are (Level 3) */
 };
 
-/* Answers. 1 to 18 are the steps: 1 to 16 in their order, and 17 and 18, of Level 3, right after the origin (8 of a
- * sign-in, 5 of a registration). */
+/* Answers. 1 to 19 are the steps: 1 to 16 in their order, and 17 and 18, of Level 3, right after the origin (8 of a
+ * sign-in, 5 of a registration). 19, of a registration alone, stands in the place of 15 if the host hands in a free id and
+ * the response attests another. */
 enum {
     PASSKEY_ACCEPTED = 0,
 
@@ -111,6 +127,8 @@ enum {
     PASSKEY_REGISTRATION_NO_ROOM = 16,
     PASSKEY_REGISTRATION_CROSS_ORIGIN = 17,
     PASSKEY_REGISTRATION_WRONG_TOP_ORIGIN = 18,
+    PASSKEY_REGISTRATION_OTHER_ID = 19, /* free_id was handed in, and the response attests another id: its rawId is not
+                                           the attested credential's */
 
     /* a member that is out of its limits */
     PASSKEY_LIMIT_RP_ID = 101,             /* party.rp_id: UTF-8 */
@@ -257,7 +275,9 @@ typedef struct passkey_registration_call {
     passkey_registration_session session;
     passkey_registration_response response;
     uint8_t has_free_id;   /* the host looked an id up, and no credential has it, retired or not */
-    passkey_bytes free_id; /* that id: rawId of the answer; each other id counts as registered */
+    passkey_bytes free_id; /* that id: rawId of the answer. A response that attests another is refused, by
+                              PASSKEY_REGISTRATION_OTHER_ID; where has_free_id is 0, by
+                              PASSKEY_REGISTRATION_CREDENTIAL_REGISTERED */
     uint8_t is_full;       /* there is no room for another credential */
     uint8_t has_verified;  /* the host verified a signature, of self attestation */
     passkey_verified verified;
@@ -278,7 +298,7 @@ typedef struct passkey_registration_out {
     size_t extensions_size; /* in bytes: the last ones of response.object are the map of extensions; 0: there is none */
 } passkey_registration_out;
 
-/* Judges a registration, as passkey_assertion a sign-in. */
+/* Judges a registration, as passkey_assertion a sign-in; the steps are 1 to 19. */
 uint32_t passkey_registration(const passkey_registration_call *call, passkey_registration_out *out);
 
 /* A response whose signature is to be verified. */
@@ -317,7 +337,8 @@ bool passkey_challenge(uint64_t session, const uint8_t *words, size_t words_size
  * challenge is not 32 bytes or the room not 43, and then nothing is written. */
 bool passkey_challenge_text(const uint8_t *challenge, size_t challenge_size, uint8_t *text, size_t text_size);
 
-/* Whether the bytes are one value of canonical CBOR (CTAP 2.1), and no more. */
+/* Whether the bytes are one value of canonical CBOR (CTAP 2.1, section 8), and no more. Narrower than CTAP: null, undefined,
+ * floats and other simple values are refused, and keys of maps that are neither integers nor texts. */
 bool passkey_is_canonical(const uint8_t *bytes, size_t size);
 
 /* Tells the key whose COSE_Key bytes (RFC 9052, section 7) these are, as other libraries store them. False where they are

@@ -14,6 +14,7 @@ const listed = (list = []) => list.map((one) => ({ ...one, id: bytesOf(one.id) }
 
 // The options of a kind, Creation or Request.
 function optionsOf(kind, options) {
+  if (!isSupported()) throw new DOMException("this browser has no passkeys", "NotSupportedError");
   const parse = `parse${kind}OptionsFromJSON`;
   if (PublicKeyCredential[parse] !== undefined) return PublicKeyCredential[parse](options);
   const { user, excludeCredentials, allowCredentials } = options, own = { ...options, challenge: bytesOf(options.challenge) };
@@ -54,6 +55,25 @@ async function credentialBy(call, publicKey, { signal, mediation }) {
   }
 }
 
-export const register = async (options, { signal } = {}) => credentialBy("create", optionsOf("Creation", options), { signal });
+export const isSupported = () => globalThis.PublicKeyCredential !== undefined;
+export const register = async (options, { signal, mediation } = {}) => credentialBy("create", optionsOf("Creation", options), { signal, mediation });
 export const signIn = async (options, { signal, mediation } = {}) => credentialBy("get", optionsOf("Request", options), { signal, mediation });
 export const canAutofill = async () => (await globalThis.PublicKeyCredential?.isConditionalMediationAvailable?.()) === true;
+
+export async function autofill(begin, { signal, milliseconds = 240_000 } = {}) {
+  for (;;) {
+    const controller = new AbortController(), end = () => controller.abort(signal.reason);
+    let isOld = false;
+    const timer = setTimeout(() => ((isOld = true), controller.abort()), milliseconds);
+    signal?.addEventListener("abort", end);
+    if (signal?.aborted) end();
+    try {
+      return await signIn(await begin(), { signal: controller.signal, mediation: "conditional" });
+    } catch (error) {
+      if (!isOld) throw error;
+    } finally {
+      clearTimeout(timer);
+      signal?.removeEventListener("abort", end);
+    }
+  }
+}

@@ -1,6 +1,7 @@
 // The forms of JSON that pages and sites exchange (WebAuthn Level 3, section 5.1): each value of bytes in base64url without
 // padding.
 import { BadInput } from "./errors.js";
+import { isBytes, memberOf, ownOf, shown } from "./limits.js";
 
 /** The most characters of a response's members together. */
 export const MAX_RESPONSE = 65_536;
@@ -13,8 +14,9 @@ const ZERO = LETTERS.charCodeAt(0);
 const SEXTETS = new Uint8Array(256).fill(255);
 for (let index = 0; index < 64; index++) SEXTETS[LETTERS.charCodeAt(index)] = index;
 
-/** Base64url without padding. */
+/** Base64url without padding. Throws `BadInput` where the value is not a Uint8Array. */
 export function toText(value) {
+  if (!isBytes(value)) throw new BadInput(`toText takes a Uint8Array, and not ${shown(value)}: write new Uint8Array(..) of an ArrayBuffer`);
   let text = "";
   for (let at = 0; at < value.length; at += 3) {
     const group = (value[at] << 16) | ((value[at + 1] ?? 0) << 8) | (value[at + 2] ?? 0);
@@ -54,7 +56,7 @@ function readInto(value, made, text) {
 
 /** The bytes of base64url without padding, whose one spelling each value has (RFC 4648, sections 3.5 and 5). Throws
  *  `BadInput`. */
-export function fromText(text, what) {
+export function fromText(text, what = "the text") {
   if (typeof text !== "string") throw new BadInput(`${what} is not a text`);
   const value = new Uint8Array(sizeOf(text));
   if (!readInto(value, 0, text)) throw new BadInput(`${what} is not base64url`);
@@ -66,7 +68,7 @@ function isObject(value) {
 }
 
 function textIn(value, name) {
-  const text = value[name];
+  const text = memberOf(value, name);
   if (text === undefined || text === null) throw new BadInput(`${name} is missing`);
   if (typeof text !== "string") throw new BadInput(`${name} is not a text`);
   return text;
@@ -76,20 +78,21 @@ function textIn(value, name) {
 function checkEnvelope(response) {
   if (textIn(response, "id") !== textIn(response, "rawId")) throw new BadInput("id is not rawId");
   if (textIn(response, "type") !== "public-key") throw new BadInput("type is not public-key");
-  const { clientExtensionResults = {}, authenticatorAttachment = null } = response;
-  if (!isObject(clientExtensionResults)) throw new BadInput("clientExtensionResults is not an object");
-  if (authenticatorAttachment !== null && typeof authenticatorAttachment !== "string")
+  const results = memberOf(response, "clientExtensionResults"), attachment = memberOf(response, "authenticatorAttachment") ?? null;
+  if (results !== undefined && !isObject(results)) throw new BadInput("clientExtensionResults is not an object");
+  if (attachment !== null && typeof attachment !== "string")
     throw new BadInput("authenticatorAttachment is not a text");
 }
 
 /** `rawId` and the members of these names of a RegistrationResponseJSON or an AuthenticationResponseJSON, as texts. An optional
  *  one that is null counts as absent; members of other names are passed over. Throws `BadInput`. */
 export function textsIn(response, names, optional = []) {
-  if (!isObject(response) || !isObject(response.response)) throw new BadInput("response is missing");
+  const parts = isObject(response) ? memberOf(response, "response") : undefined;
+  if (!isObject(parts)) throw new BadInput("response is missing");
   checkEnvelope(response);
-  const parts = response.response, texts = { rawId: response.rawId };
+  const texts = ownOf({ rawId: textIn(response, "rawId") });
   for (const name of names) texts[name] = textIn(parts, name);
-  for (const name of optional) if ((parts[name] ?? null) !== null) texts[name] = textIn(parts, name);
+  for (const name of optional) if ((memberOf(parts, name) ?? null) !== null) texts[name] = textIn(parts, name);
   let size = 0;
   for (const name in texts) size += texts[name].length;
   if (size > MAX_RESPONSE) throw new BadInput("the response is too long");
@@ -115,8 +118,13 @@ export function bytesIn(response, names, optional) {
 export function handedOn(response, names, optional) {
   const { rawId, ...parts } = textsIn(response, names, optional);
   fromText(rawId, "rawId");
-  for (const name in parts) fromText(parts[name], name);
+  for (const name of Object.keys(parts)) fromText(parts[name], name);
   return { id: rawId, rawId, type: "public-key", response: parts };
+}
+
+/** The transports that a response tells, whatever they are. */
+export function transportsOf(response) {
+  return memberOf(response.response, "transports");
 }
 
 /** A PublicKeyCredentialDescriptorJSON of `{ id, transports }`. */

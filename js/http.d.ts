@@ -1,5 +1,5 @@
 // The requests of a site with passkeys, for Node.
-import { StoredServer } from "./index.js";
+import { SignOuts, StoredServer } from "./index.js";
 import { SqlServer } from "./sql.js";
 
 /** What is asked of a request: those of `node:http` and of Express. */
@@ -8,20 +8,29 @@ export interface SiteRequest {
   readonly url?: string;
   readonly headers: { readonly "content-type"?: string; readonly cookie?: string };
   on(name: string, listener: (...told: any[]) => void): unknown;
+  /** What the host has read of the body, if it has: an object, its text or its bytes. */
+  readonly body?: unknown;
+  readonly rawBody?: unknown;
 }
 
 /** What is asked of a response. */
 export interface SiteResponse {
   readonly headersSent: boolean;
-  appendHeader(name: string, value: string): unknown;
+  appendHeader(name: string, value: readonly string[]): unknown;
   writeHead(status: number, headers: Record<string, string>): { end(body: any): unknown };
 }
 
 export interface PasskeysOptions {
   /** What signs the cookies: a text of 32 characters or more, the same in all processes of a site. A new one signs everybody out. */
   secret: string;
-  /** Whether cookies are for HTTPS alone: true. */
+  /** Whether cookies are for HTTPS alone, with `__Host-` before their names: where not all origins of the server are http. */
   secure?: boolean;
+  /** Seconds after which a sign-in ends by itself: 86,400. */
+  lifetime?: number;
+  /** Seconds after a sign-in in which its visitor may begin to add a passkey: 300. */
+  fresh?: number;
+  /** Where sign-ins that ended are kept: those of the server. */
+  signOuts?: SignOuts;
   /** What gets each error that is not the visitor's: `console.error`. */
   logger?: (error: unknown) => void;
 }
@@ -31,11 +40,13 @@ export interface PasskeysOptions {
  *  is none they are answered by 404. */
 export interface Passkeys {
   (request: SiteRequest, response: SiteResponse, next?: () => void): Promise<void>;
-  /** The user handle of who is signed in by this browser, or null. */
-  signedIn(request: SiteRequest): Uint8Array | null;
+  /** The user handle of who is signed in by this browser, or null: by a sign-in that has not ended, whose passkey is there and not
+   *  retired. Rejected by `BadInput` where the request is one of `fetch`, and by `StoreFailed`. */
+  signedIn(request: Pick<SiteRequest, "headers">): Promise<Uint8Array | null>;
 }
 
 /** What answers the requests of pages: a listener of `node:http`'s `createServer`, or a middleware of Express. Who registers is a new account, whose
- *  user handle is 32 random bytes; one who is signed in gets one more passkey. A body has at most 131,072 bytes and is `application/json`.
- *  Answers are JSON: a refusal is 403 with `error` and `refusal`, its name; what is no input is 400 with `error`; what failed is 503. */
+ *  user handle is 32 random bytes; one who is signed in gets one more passkey, shortly after a sign-in. A body has at most 131,072 bytes and is `application/json`.
+ *  Answers are JSON: a refusal is 403 with `error` and `refusal`, its name; what is no input is 400 with `error`; what wants a sign-in
+ *  is 401; a damaged row, and a body that the host read and did not hand on, is 500; what failed is 503. */
 export function passkeys(server: StoredServer | SqlServer, options: PasskeysOptions): Passkeys;

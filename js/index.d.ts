@@ -1,8 +1,8 @@
 // The package in Node.
-import { Credential, Registered, RegistrationOptions, ServerOptions, SignInOptions, Told } from "./web.js";
+import { Awaitable, Credential, Registered, RegistrationOptions, ServerOptions, SignInOptions, Told } from "./web.js";
 export {
   Awaitable, BadInput, Credential, CredentialMembers, EDDSA, ES256, Ids, MAX_LIST, NoMemory, OptionsOfBoth, RS256, Refused, Registered,
-  RegistrationOptions, RegistrationSession, Requirement, Server, ServerOptions, SignInOptions, SignInSession, SignedIn, Told, Verify,
+  RegistrationOptions, RegistrationSession, Requirement, RowDamaged, Server, ServerOptions, SignInOptions, SignInSession, SignedIn, Told, Verify,
   coseKeyOf, credentialFromCose, fromText, isCanonical, toText,
 } from "./web.js";
 
@@ -13,6 +13,15 @@ export const MAX_STORED_LIST: 8;
  *  call tries anew. */
 export class StoreFailed extends Error {
   constructor(text: string, options?: { cause?: unknown });
+  readonly code: "GARVOENG_STORE_FAILED";
+}
+
+/** Which sign-ins of `garvoeng/http` ended before their time. `number` is a text of 32 hex digits; times are milliseconds since 1970. */
+export interface SignOuts {
+  /** A sign-in has ended; this is to be known up to `until`. */
+  add(number: string, until: number): Awaitable<void>;
+  /** Whether a sign-in, which was accepted `at` that time, has ended: true or false. */
+  has(number: string, at: number): Awaitable<boolean>;
 }
 
 /** A sign-in that was accepted. It is stored already. */
@@ -79,19 +88,28 @@ export class StoredServer {
   readonly rpId: string;
   readonly rpName: string;
   readonly origins: readonly string[];
-  /** As that of `Server`, with at most 8 credentials in `exclude`. `session` is a number that only this visitor may have. */
+  /** In the memory of the process that has the program: when it begins anew, all sign-ins have ended. */
+  readonly signOuts: SignOuts;
+  /** As that of `Server`, with at most 8 credentials in `exclude`. `session` is a number that only this visitor may have. Without
+   *  `exclude` the account's own credentials are excluded, the first 8. */
   registerBegin(user: Uint8Array, userName: string, options?: RegistrationOptions): Promise<{ options: object; session: number }>;
   /** What a RegistrationResponseJSON registers. It is in the file, with its transports. Rejected by `Refused`, `BadInput` or
    *  `StoreFailed`. */
   registerComplete(session: number | null, response: unknown): Promise<Registered>;
-  /** As that of `Server`, with at most 8 credentials in `allow`. */
+  /** As that of `Server`, with at most 8 credentials in `allow`. With `user` and without `allow` the account's own credentials are
+   *  listed; where they are more than 8, any of them that the browser finds may answer. */
   authenticateBegin(options?: SignInOptions): Promise<{ options: object; session: number }>;
   /** Who signed in, of an AuthenticationResponseJSON. Rejected as `registerComplete`. */
   authenticateComplete(session: number | null, response: unknown): Promise<StoredSignIn>;
-  /** A credential signs in no more; whether it did until now. */
-  retire(id: Uint8Array): Promise<boolean>;
-  /** A credential is forgotten, with all that is known of it, and its id may be registered again; whether it was there. */
-  delete(id: Uint8Array): Promise<boolean>;
+  /** A credential signs in no more; whether it did until now. With `user` one of another account is left as it is, and the account's open
+   *  registrations end. */
+  retire(id: Uint8Array, user?: Uint8Array | null): Promise<boolean>;
+  /** A credential is forgotten, with all that is known of it, and its id may be registered again; whether it was there. `user` is as in
+   *  `retire`. */
+  delete(id: Uint8Array, user?: Uint8Array | null): Promise<boolean>;
+  /** All credentials of an account are forgotten, and its open registrations end; how many they were. Where this is rejected some are, so ask
+   *  again. */
+  deleteAccount(user: Uint8Array): Promise<number>;
   /** A session ends; whether it was open. */
   abandon(session: number): Promise<boolean>;
   /** Ends the sessions that began more than so many seconds ago, by the system's clock; how many they were. */

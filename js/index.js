@@ -10,7 +10,7 @@ const moduleOf = () => module_;
 
 export const Server = serverOver(moduleOf, randomBytes, isValid);
 export const { isCanonical, credentialFromCose, coseKeyOf } = helpersOver(moduleOf);
-export { BadInput, NoMemory, Refused, StoreFailed } from "./errors.js";
+export { BadInput, NoMemory, Refused, RowDamaged, StoreFailed } from "./errors.js";
 export { fromText, toText } from "./forms.js";
 export { EDDSA, ES256, MAX_LIST, MAX_STORED_LIST, RS256 } from "./limits.js";
 export { Credential, RegistrationSession, SignInSession } from "./records.js";

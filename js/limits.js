@@ -27,16 +27,80 @@ const TRANSPORT = /^[a-z0-9-]{1,32}$/;
 const MAX_TRANSPORTS = 16;
 const NO_ALGORITHMS = "algorithms are ES256 (-7), EDDSA (-8) and RS256 (-257)";
 
+// What kind of typed array a value is, of whichever realm; undefined of any other value.
+const kindOfArray = Object.getOwnPropertyDescriptor(Object.getPrototypeOf(Uint8Array.prototype), Symbol.toStringTag).get;
+
+export function isBytes(value) {
+  return kindOfArray.call(value) === "Uint8Array";
+}
+
+/** A value as an error shows it. */
+export function shown(value) {
+  if (typeof value === "string") return JSON.stringify(value.length > 40 ? `${value.slice(0, 40)}..` : value);
+  if (["undefined", "boolean", "number"].includes(typeof value) || value === null) return String(value);
+  return typeof value === "object" ? "an object" : `a ${typeof value}`;
+}
+
+function either(texts) {
+  const listed = texts.map((text) => JSON.stringify(text));
+  return listed.length === 1 ? listed[0] : `${listed.slice(0, -1).join(", ")} or ${listed.at(-1)}`;
+}
+
+/** The members that a value has itself, and none that another program added to Object.prototype. */
+export function ownOf(value) {
+  return Object.assign(Object.create(null), value);
+}
+
+/** The options that a call was given itself, of these names. */
+export function optionsIn(options, call, names) {
+  if (options !== undefined && (typeof options !== "object" || options === null || Array.isArray(options)))
+    throw new BadInput(`the options of ${call} are ${shown(options)}: write an object, as { ${names[0]}: .. }`);
+  const own = ownOf(options);
+  for (const name of Object.keys(own))
+    if (!names.includes(name)) throw new BadInput(`${call} has no option ${shown(name)}: write ${names.join(", ")}`);
+  return own;
+}
+
+/** A member of a value of the host's, its own or its class's. */
+export function memberOf(value, name) {
+  const found = value[name];
+  return found === Object.prototype[name] && !Object.hasOwn(value, name) ? undefined : found;
+}
+
+export function checkFlag(value, what) {
+  if (typeof value !== "boolean") throw new BadInput(`${what} is ${shown(value)}: write true or false`);
+  return value;
+}
+
+export function checkFunction(value, what, as) {
+  if (typeof value !== "function") throw new BadInput(`${what} is ${shown(value)}: write a function, as ${what}: ${as}`);
+  return value;
+}
+
+export function checkText(value, what) {
+  if (typeof value !== "string") throw new BadInput(`${what} is ${shown(value)}: write a text`);
+  return value;
+}
+
+export function checkWhole(value, what, least, most = Number.MAX_SAFE_INTEGER) {
+  if (!Number.isSafeInteger(value) || value < least || value > most)
+    throw new BadInput(`${what} is ${shown(value)}: write a whole number from ${least} ${most === Number.MAX_SAFE_INTEGER ? "on" : `to ${most}`}`);
+  return value;
+}
+
 // A domain as browsers write it: 1 to 253 characters, and no IP address (WebAuthn Level 2, section 4).
 function checkRpId(rpId) {
+  if (typeof rpId === "string" && /^[a-z]+:\/\//i.test(rpId)) throw new BadInput(`the rp id is ${shown(rpId)}: write its domain alone, as "example.com"`);
+  if (typeof rpId === "string" && /:[0-9]*$/.test(rpId))
+    throw new BadInput(`the rp id is ${shown(rpId)}, with a port: write the domain alone, as "localhost", and the port in an origin, as "http://localhost:8080"`);
   if (typeof rpId !== "string" || rpId.length > 253 || !DOMAIN.test(rpId))
-    throw new BadInput("the rp id is not a domain in lower case, as example.com");
+    throw new BadInput(`the rp id is ${shown(rpId)}: write a domain in lower case, as "example.com"`);
   if (/^[0-9]+$/.test(rpId.split(".").at(-1))) throw new BadInput("the rp id is an IP address");
 }
 
 // The host of an origin as browsers write it (RFC 6454, section 6.2); empty of an app's.
 function hostOf(origin) {
-  if (typeof origin !== "string") throw new BadInput("an origin is not a text");
+  if (typeof origin !== "string") throw new BadInput(`an origin is ${shown(origin)}: write a text, as "https://example.com"`);
   if (ANDROID.test(origin)) return "";
   const found = ORIGIN.exec(origin);
   if (found === null) throw new BadInput(`'${origin}' is not an origin in lower case and without a path, as https://example.com`);
@@ -49,23 +113,23 @@ function hostOf(origin) {
 /** The origins of a relying party. Where there are web origins, the host of one is the rp id or ends in it. */
 export function checkParty(rpId, origins) {
   checkRpId(rpId);
-  if (!Array.isArray(origins) || origins.length === 0) throw new BadInput("origins is a list of one text or more");
+  if (!Array.isArray(origins) || origins.length === 0) throw new BadInput(`origins is ${shown(origins)}: write a list of one text or more, as ["https://example.com"]`);
   const listed = [...origins], hosts = listed.map(hostOf).filter((host) => host !== "");
   if (hosts.length > 0 && !hosts.some((host) => host === rpId || host.endsWith("." + rpId)))
-    throw new BadInput("the rp id is not of an origin's host");
+    throw new BadInput(`the rp id ${rpId} is neither the host of an origin nor what it ends in, as of https://${rpId} or https://www.${rpId}`);
   return Object.freeze(listed);
 }
 
 /** The origins of the pages that may have the site's in a frame (WebAuthn Level 3, section 5.8.1, `topOrigin`). */
 export function checkTopOrigins(topOrigins) {
-  if (!Array.isArray(topOrigins)) throw new BadInput("topOrigins is a list of texts");
+  if (!Array.isArray(topOrigins)) throw new BadInput(`topOrigins is ${shown(topOrigins)}: write a list of texts, as ["https://example.com"]`);
   topOrigins.forEach(hostOf);
   return Object.freeze([...topOrigins]);
 }
 
 /** A copy of bytes, which the host can change no more. */
 export function checkBytes(value, what) {
-  if (!(value instanceof Uint8Array)) throw new BadInput(`${what} is not a Uint8Array`);
+  if (!isBytes(value)) throw new BadInput(`${what} is ${shown(value)}, and not a Uint8Array: fromText reads base64url, new Uint8Array(..) an ArrayBuffer`);
   return new Uint8Array(value);
 }
 
@@ -83,29 +147,30 @@ export function transportsIn(value) {
 
 /** The `{ id, transports }` of a list of ids, or of values with such members. */
 export function checkIds(ids, most = MAX_LIST) {
-  if (!Array.isArray(ids)) throw new BadInput("a list of credential ids is an array");
+  if (!Array.isArray(ids)) throw new BadInput(`a list of credential ids is ${shown(ids)}: write an array of ids, or of credentials`);
   if (ids.length > most) throw new BadInput(`a list has at most ${most} credential ids`);
   return ids.map((one) => {
-    const isId = one instanceof Uint8Array, id = checkBytes(isId ? one : one?.id, "a credential id");
+    const isId = isBytes(one), id = checkBytes(isId || typeof one !== "object" || one === null ? one : one.id, "a credential id");
     if (id.length < 1 || id.length > MAX_ID) throw new BadInput(`a credential id has 1 to ${MAX_ID} bytes`);
     return { id, transports: isId ? [] : transportsIn(one.transports) };
   });
 }
 
 export function checkAlgorithms(algorithms) {
-  if (!Array.isArray(algorithms) || !algorithms.every((one) => ALGORITHMS.includes(one))) throw new BadInput(NO_ALGORITHMS);
+  if (!Array.isArray(algorithms) || algorithms.length === 0 || !algorithms.every((one) => ALGORITHMS.includes(one)))
+    throw new BadInput(`${NO_ALGORITHMS}: write a list of one or more`);
   return Object.freeze([...algorithms]);
 }
 
 /** One of some texts. */
 export function checkOneOf(value, what, texts) {
-  if (!texts.includes(value)) throw new BadInput(`${what} is ${texts.join(", ")}`);
+  if (!texts.includes(value)) throw new BadInput(`${what} is ${shown(value)}: write ${either(texts)}`);
   return value;
 }
 
 /** What a stored credential says, before it is handed on in fewer bits. */
 export function checkCredential({ algorithm, signCount }) {
-  if (!ALGORITHMS.includes(algorithm)) throw new BadInput(NO_ALGORITHMS);
-  if (!Number.isInteger(signCount) || signCount < 0 || signCount > 0xffffffff)
-    throw new BadInput("a signature counter is from 0 to 2^32 - 1");
+  if (!ALGORITHMS.includes(algorithm)) throw new BadInput(`algorithm is ${shown(algorithm)}: ${NO_ALGORITHMS}`);
+  if (["string", "bigint"].includes(typeof signCount)) throw new BadInput(`signCount is ${shown(signCount)}, and no number: write Number(..), since pg gives a bigint as text`);
+  checkWhole(signCount, "signCount", 0, 0xffffffff);
 }

@@ -2,14 +2,15 @@
 import { BYTES } from "./layout.js";
 import { NoMemory } from "./errors.js";
 
-const ABI_VERSION = 4;
+// The version of c/passkey.h that this package calls; it stands in the calls' names.
+const ABI_VERSION = 5;
 // The most bytes that a call lends and its rooms have: by them the module's memory stays below 64 MB.
 export const MOST_LENT = 4 * 1024 * 1024;
 // A module whose memory has grown beyond this is let go after the call, so that no later one has much to overwrite.
 const MOST_KEPT = 512 * 1024;
 const FIRST_SIZE = 1280;
-// The bytes of stack that a module has at first: enough for all but client data that nest some 60 deep. Calls that need more trap,
-// and are made again with the whole stack. So there is less to overwrite.
+// The bytes of stack that a module has at first, which are enough for each call. One that needed more would trap, and is made
+// again with the whole stack. So there is less to overwrite.
 const USUAL_STACK = 32 * 1024;
 
 function isTrap(error) {
@@ -209,9 +210,10 @@ export class Module {
     return [at, at + behind];
   }
 
-  /** A call of `passkey.h`; addresses and sizes are numbers. */
+  /** A call of `passkey.h`; addresses and sizes are numbers. The module names each call with its version, as
+   *  `passkey_assertion_5`. */
   call(name, ...words) {
-    return this.#exports[name](...words);
+    return this.#exports[`${name}_${ABI_VERSION}`](...words);
   }
 
   /** Makes calls of an owner, if there is one. Where the stack does not suffice they are made once more, from the first, with all of it. */

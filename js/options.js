@@ -1,13 +1,36 @@
-// What a page is asked: PublicKeyCredentialCreationOptionsJSON and PublicKeyCredentialRequestOptionsJSON (WebAuthn Level 3,
-// section 5.1).
+// The options of a relying party and of its calls, and what a page is asked: PublicKeyCredentialCreationOptionsJSON and
+// PublicKeyCredentialRequestOptionsJSON (WebAuthn Level 3, section 5.1).
 import { BadInput } from "./errors.js";
 import { descriptor, toText } from "./forms.js";
-import { checkOneOf } from "./limits.js";
+import { PROFILES, checkFlag, checkFunction, checkOneOf, checkText, checkTopOrigins, checkWhole, optionsIn, ownOf, shown } from "./limits.js";
 
 const REQUIREMENTS = ["required", "preferred", "discouraged"];
 const ATTACHMENTS = ["platform", "cross-platform"];
 const ATTESTATIONS = ["none", "indirect", "direct", "enterprise"];
 const HINTS = ["security-key", "client-device", "hybrid"];
+const OF_BOTH = ["userVerification", "timeout", "hints", "extensions"];
+const OF_REGISTRATION = ["displayName", "exclude", "algorithms", "residentKey", "authenticatorAttachment", "attestation", "conditional", ...OF_BOTH];
+const OF_SIGN_IN = ["user", "allow", ...OF_BOTH];
+const PARTY = ["rpName", "acceptNone", "acceptSelf", "profile", "topOrigins", "verify"];
+
+/** The options of a relying party in their limits, which has `isValid` for signatures; a class of servers may have some more. */
+export function partyOptionsIn(options, call, { rpId, isValid, more = [] }) {
+  const own = optionsIn(options, call, [...PARTY, ...more]);
+  const { rpName = rpId, acceptNone = true, acceptSelf = true, profile = "level3", topOrigins = [], verify = isValid } = own;
+  return Object.assign(own, {
+    rpName: checkText(rpName, "rpName"), acceptNone: checkFlag(acceptNone, "acceptNone"), acceptSelf: checkFlag(acceptSelf, "acceptSelf"),
+    profile: checkOneOf(profile, "profile", PROFILES), topOrigins: checkTopOrigins(topOrigins),
+    verify: checkFunction(verify, "verify", "(algorithm, x, y, message, signature) => true or false"),
+  });
+}
+
+export function registrationOptionsIn(options) {
+  return optionsIn(options, "registerBegin", OF_REGISTRATION);
+}
+
+export function signInOptionsIn(options) {
+  return optionsIn(options, "authenticateBegin", OF_SIGN_IN);
+}
 
 export function checkAttestation(value) {
   return checkOneOf(value, "attestation", ATTESTATIONS);
@@ -18,31 +41,24 @@ export function checkUserVerification(value) {
 }
 
 // What both kinds may have more: `timeout` in milliseconds, `hints`, and `extensions`, which are handed on.
-function more({ timeout, hints, extensions }) {
-  const made = {};
-  if (timeout !== undefined) {
-    if (!Number.isInteger(timeout) || timeout < 1 || timeout > 0xffffffff) throw new BadInput("timeout is milliseconds, from 1 to 2^32 - 1");
-    made.timeout = timeout;
-  }
+function more(how) {
+  const { timeout, hints, extensions } = ownOf(how), made = {};
+  if (timeout !== undefined) made.timeout = checkWhole(timeout, "timeout, in milliseconds,", 1, 0xffffffff);
   if (hints !== undefined) {
-    if (!Array.isArray(hints)) throw new BadInput("hints is an array");
+    if (!Array.isArray(hints)) throw new BadInput(`hints is ${shown(hints)}: write an array, as ["hybrid"]`);
     made.hints = hints.map((hint) => checkOneOf(hint, "a hint", HINTS));
   }
   if (extensions !== undefined) {
-    if (typeof extensions !== "object" || extensions === null || Array.isArray(extensions)) throw new BadInput("extensions is not an object");
+    if (typeof extensions !== "object" || extensions === null || Array.isArray(extensions))
+      throw new BadInput(`extensions is ${shown(extensions)}: write an object, as { credProps: true }`);
     made.extensions = extensions;
   }
   return made;
 }
 
-function checkName(value, what) {
-  if (typeof value !== "string") throw new BadInput(`${what} is not a text`);
-  return value;
-}
-
 /** The options of a registration. `session` is a `RegistrationSession`. */
 export function creationOptions(rp, session, userName, exclude, how) {
-  const { userVerification, residentKey, authenticatorAttachment, attestation = "none" } = how, displayName = how.displayName ?? userName;
+  const { userVerification, residentKey, authenticatorAttachment, attestation = "none", displayName } = ownOf(how);
   const authenticatorSelection = {
     residentKey: checkOneOf(residentKey, "residentKey", REQUIREMENTS),
     requireResidentKey: residentKey === "required",
@@ -52,7 +68,7 @@ export function creationOptions(rp, session, userName, exclude, how) {
     authenticatorSelection.authenticatorAttachment = checkOneOf(authenticatorAttachment, "authenticatorAttachment", ATTACHMENTS);
   return {
     rp,
-    user: { id: toText(session.user), name: checkName(userName, "the user's name"), displayName: checkName(displayName, "the display name") },
+    user: { id: toText(session.user), name: checkText(userName, "userName"), displayName: checkText(displayName ?? userName, "displayName") },
     challenge: toText(session.challenge),
     pubKeyCredParams: session.algorithms.map((alg) => ({ type: "public-key", alg })),
     excludeCredentials: exclude.map(descriptor),

@@ -35,7 +35,7 @@ function typesInCommonJs() {
 }
 
 const MODULES = ["errors", "forms", "http", "index", "layout", "limits", "module", "node_signatures", "options", "program", "records", "server",
-                 "sql", "stored", "verdicts", "workers"];
+                 "signouts", "sql", "stored", "verdicts", "workers"];
 rmSync(here("cjs"), { recursive: true, force: true });
 mkdirSync(here("cjs"));
 for (const name of MODULES) writeFileSync(here(`cjs/${name}.cjs`), inCommonJs(readFileSync(here(`${name}.js`), "utf8")));

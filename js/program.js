@@ -1,18 +1,27 @@
 // Runs of the proved program passkey-site, which answers lines of JSON in their order, and which keeps its file to itself.
 import { spawn } from "node:child_process";
 import { createInterface } from "node:readline";
-import { BadInput, StoreFailed } from "./errors.js";
+import { BadInput, StoreFailed, logTo } from "./errors.js";
+import { ownOf } from "./limits.js";
 
 /** The most bytes of a line that the program takes. */
 export const MAX_LINE = 65_536;
 const LINE_FEED = 10;
 
+const IN_USE = "the file is in use";
+const ONE_PROCESS = "one process has the file: make the StoredServer in the primary of node:cluster, or use a SqlServer";
+
 function because(text, said) {
-  return new StoreFailed(said === "" ? text : `${text}: ${said}`);
+  return new StoreFailed([text, said, said.includes(IN_USE) ? ONE_PROCESS : ""].filter((one) => one !== "").join(": "));
 }
 
-function isAnswer(value) {
-  return typeof value === "object" && value !== null && !Array.isArray(value);
+function answerIn(line) {
+  try {
+    const value = JSON.parse(line);
+    return typeof value === "object" && value !== null && !Array.isArray(value) ? ownOf(value) : null;
+  } catch {
+    return null;
+  }
 }
 
 /** One run. It keeps this process alive only while something is asked of it or its end is awaited; its input ends with this
@@ -62,7 +71,7 @@ class Run {
   #hear(line) {
     if (line.trim() === "") return;
     this.#said = line;
-    this.#log(line);
+    logTo(this.#log, line);
   }
 
   #read(piece) {
@@ -78,12 +87,8 @@ class Run {
   // ever another's.
   #answered(line) {
     if (this.#wrong !== null) return;
-    const [first] = this.#asked;
-    let answer = null;
-    try {
-      answer = JSON.parse(line);
-    } catch {}
-    if (first === undefined || !isAnswer(answer) || ![first.number, null].includes(answer.id ?? null)) {
+    const [first] = this.#asked, answer = answerIn(line);
+    if (first === undefined || answer === null || ![first.number, null].includes(answer.id ?? null)) {
       this.#wrong = "the program answered what is no answer";
       this.#kill();
       return;
@@ -160,7 +165,7 @@ export class Program {
   /** The answer to an act. Throws `BadInput` where the line would be too long, and `StoreFailed`. */
   async ask(act, members) {
     const run = await this.#running(), answer = await run.ask(act, members);
-    if (!("failed" in answer)) return answer;
+    if (!Object.hasOwn(answer, "failed")) return answer;
     await this.#ending(run);
     throw new StoreFailed(String(answer.failed));
   }

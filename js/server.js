@@ -1,9 +1,12 @@
 // A relying party over the proved steps. It keeps nothing: sessions and credentials are the site's.
 import { BadInput } from "./errors.js";
-import { REGISTRATION_MEMBERS, SIGN_IN_MEMBERS, bytesIn, toText } from "./forms.js";
-import { ALGORITHMS, checkBytes, checkCredential, checkIds, checkOneOf, checkParty, checkTopOrigins, checkUser, PROFILES, transportsIn } from "./limits.js";
-import { checkUserVerification, creationOptions, requestOptions } from "./options.js";
-import { Credential, RegistrationSession, SignInSession } from "./records.js";
+import { REGISTRATION_MEMBERS, SIGN_IN_MEMBERS, bytesIn, toText, transportsOf } from "./forms.js";
+import {
+  ALGORITHMS, PROFILES, checkBytes, checkCredential, checkFlag, checkFunction, checkIds, checkParty, checkText, checkUser, memberOf, optionsIn, shown,
+  transportsIn,
+} from "./limits.js";
+import { checkUserVerification, creationOptions, partyOptionsIn, registrationOptionsIn, requestOptions, signInOptionsIn } from "./options.js";
+import { Credential, RegistrationSession, SignInSession, credentialIn, ofRow, rowError } from "./records.js";
 import {
   ACCEPTED, BAD_SIGNATURE, BAD_STATEMENT, askedOfAssertion, askedOfRegistration, assertionImage, checkAnswer, handIn, isCanonical,
   judgeAssertion, judgeRegistration, keyFromCose, keyToCose, registrationImage,
@@ -25,61 +28,65 @@ function found(value) {
 
 // A session of its own class, or null where none is open.
 function sessionOf(session, kind) {
-  if (found(session) !== null && !(session instanceof kind)) throw new BadInput(`the session is not a ${kind.name}`);
-  return found(session);
+  if (found(session) === null || session instanceof kind) return found(session);
+  const [other] = [RegistrationSession, SignInSession].filter((one) => one !== kind && session instanceof one);
+  throw new BadInput(`the session is ${other === undefined ? shown(session) : `a ${other.name}`}, and no ${kind.name}: ${kind.name}.from(..) reads one that was kept as JSON`);
 }
 
 // A credential that was found, whose numbers are in their limits, or null.
 function credentialOf(credential) {
   if (found(credential) === null) return null;
-  const stored = credential instanceof Credential ? credential : new Credential(credential);
+  const stored = credentialIn(credential);
   checkCredential(stored);
   return stored;
 }
 
+// What the library says of a credential's key.
+const KEY_LIMITS = [104, 105, 106];
 /** The class `Server` over a module, random bytes and signatures: those of Node, or WebCrypto's. `moduleOf()` answers the
  *  `Module` whose calls are made. */
 export function serverOver(moduleOf, randomBytes, isValid) {
   return class Server {
     #party;
 
-    constructor(rpId, origins, {
-      rpName = rpId, acceptNone = true, acceptSelf = true, profile = "level3", topOrigins = [], verify = isValid,
-    } = {}) {
+    constructor(rpId, origins, options) {
       this.origins = checkParty(rpId, origins);
+      const { rpName, acceptNone, acceptSelf, profile, topOrigins, verify } = partyOptionsIn(options, "Server", { rpId, isValid });
       this.rpId = rpId;
       this.rpName = rpName;
       this.verify = verify;
-      this.profile = checkOneOf(profile, "profile", PROFILES);
-      this.topOrigins = checkTopOrigins(topOrigins);
+      this.profile = profile;
+      this.topOrigins = topOrigins;
       this.#party = { rpId: ofBytes(rpId), origins: this.origins.map(ofBytes), acceptNone, acceptSelf, profile: PROFILES.indexOf(profile),
                       topOrigins: this.topOrigins.map(ofBytes) };
     }
 
-    registerBegin(user, userName, { exclude = [], algorithms = ALGORITHMS, userVerification = "preferred", residentKey = "required",
-                                    attestation = "none", conditional = false, ...how } = {}) {
+    registerBegin(user, userName, options) {
+      const { exclude = [], algorithms = ALGORITHMS, userVerification = "preferred", residentKey = "required", attestation = "none", conditional = false, ...how } =
+        registrationOptionsIn(options);
       const session = new RegistrationSession({
         challenge: randomBytes(CHALLENGE), user: checkUser(user), algorithms,
-        userVerification: checkUserVerification(userVerification) === "required", conditional: conditional === true,
-        attestation: attestation !== "none",
+        userVerification: checkUserVerification(userVerification) === "required", conditional, attestation: attestation !== "none",
       });
       const rp = { id: this.rpId, name: this.rpName };
-      const options = creationOptions(rp, session, userName, checkIds(exclude), { ...how, userVerification, residentKey, attestation });
-      return { options, session };
+      return { options: creationOptions(rp, session, userName, checkIds(exclude), { ...how, userVerification, residentKey, attestation }), session };
     }
 
-    async registerComplete(session, response, { isRegistered, isFull = false }) {
-      const parts = bytesIn(response, REGISTRATION_MEMBERS), transports = transportsIn(response.response.transports);
-      const isTaken = await isRegistered(parts.rawId.slice());
+    async registerComplete(session, response, how) {
+      const { isRegistered, isFull = false } = optionsIn(how, "registerComplete", ["isRegistered", "isFull"]);
+      checkFunction(isRegistered, "isRegistered", "(id) => true or false");
+      const parts = bytesIn(response, REGISTRATION_MEMBERS), transports = transportsIn(transportsOf(response));
+      const isTaken = checkFlag(await isRegistered(parts.rawId.slice()), "what isRegistered answered");
       return this.#registered(session, { attestationObject: parts.attestationObject, clientData: parts.clientDataJSON },
-                              { freeId: isTaken ? null : parts.rawId, isFull, transports });
+                              { freeId: isTaken ? null : parts.rawId, isFull: checkFlag(isFull, "isFull"), transports });
     }
 
-    async registerCompleteParts(session, { attestationObject, clientData }, { freeId = null, isFull = false, transports = [] } = {}) {
+    async registerCompleteParts(session, parts, how) {
+      const { attestationObject, clientData } = optionsIn(parts, "registerCompleteParts", ["attestationObject", "clientData"]);
+      const { freeId = null, isFull = false, transports = [] } = optionsIn(how, "registerCompleteParts", ["freeId", "isFull", "transports"]);
       const response = { attestationObject: checkBytes(attestationObject, "attestationObject"),
                          clientData: checkBytes(clientData, "clientData") };
-      const how = { freeId: freeId === null ? null : checkBytes(freeId, "freeId"), isFull, transports };
-      return this.#registered(session, response, how);
+      return this.#registered(session, response, { freeId: freeId === null ? null : checkBytes(freeId, "freeId"), isFull: checkFlag(isFull, "isFull"), transports });
     }
 
     async #registered(session, response, { freeId, isFull, transports }) {
@@ -93,8 +100,8 @@ export function serverOver(moduleOf, randomBytes, isValid) {
       return Object.freeze({ credential, ...rest, extensions: last(response.attestationObject, extensionsSize) });
     }
 
-    authenticateBegin({ user = null, allow = [], userVerification = "preferred", ...how } = {}) {
-      const listed = checkIds(allow);
+    authenticateBegin(options) {
+      const { user = null, allow = [], userVerification = "preferred", ...how } = signInOptionsIn(options), listed = checkIds(allow);
       const session = new SignInSession({
         challenge: randomBytes(CHALLENGE), user: user === null ? null : checkUser(user), allow: listed.map(({ id }) => id),
         userVerification: checkUserVerification(userVerification) === "required",
@@ -102,24 +109,29 @@ export function serverOver(moduleOf, randomBytes, isValid) {
       return { options: requestOptions(this.rpId, session, listed, userVerification, how), session };
     }
 
-    async authenticateComplete(session, response, { credential }) {
-      const parts = bytesIn(response, SIGN_IN_MEMBERS, ["userHandle"]);
-      return this.#signedIn(session, await credential(parts.rawId.slice()), {
-        rawId: parts.rawId, user: found(parts.userHandle), authData: parts.authenticatorData, signature: parts.signature,
-        clientData: parts.clientDataJSON,
+    async authenticateComplete(session, response, how) {
+      const { credential } = optionsIn(how, "authenticateComplete", ["credential"]);
+      checkFunction(credential, "credential", "(id) => the credential of this id, or null");
+      const parts = bytesIn(response, SIGN_IN_MEMBERS, ["userHandle"]), { rawId } = parts;
+      const row = await credential(rawId.slice()), stored = ofRow(rawId, () => credentialOf(row));
+      const judged = this.#signedIn(session, stored, {
+        rawId, user: found(parts.userHandle), authData: parts.authenticatorData, signature: parts.signature, clientData: parts.clientDataJSON,
       });
+      return judged.catch((error) => Promise.reject(rowError(rawId, error, KEY_LIMITS)));
     }
 
-    async authenticateCompleteParts(session, credential, { rawId, user = null, authData, signature, clientData }) {
-      return this.#signedIn(session, credential, {
+    async authenticateCompleteParts(session, credential, parts) {
+      const { rawId, user = null, authData, signature, clientData } =
+        optionsIn(parts, "authenticateCompleteParts", ["rawId", "user", "authData", "signature", "clientData"]);
+      return this.#signedIn(session, credentialOf(credential), {
         rawId: checkBytes(rawId, "rawId"), user: user === null ? null : checkBytes(user, "user"),
         authData: checkBytes(authData, "authData"), signature: checkBytes(signature, "signature"),
         clientData: checkBytes(clientData, "clientData"),
       });
     }
 
-    async #signedIn(session, credential, response) {
-      const module = moduleOf(), begun = sessionOf(session, SignInSession), before = credentialOf(credential);
+    async #signedIn(session, before, response) {
+      const module = moduleOf(), begun = sessionOf(session, SignInSession);
       const image = assertionImage(this.#party, begun, before, response);
       const { told, answer } = await this.#judged(module, false, image, judgeAssertion, BAD_SIGNATURE,
                                                  (at) => askedOfAssertion(module, at, response));
@@ -138,12 +150,13 @@ export function serverOver(moduleOf, randomBytes, isValid) {
     }
 
     signalAllAccepted(user, credentials) {
-      const listed = checkIds(credentials.filter((one) => one?.retired !== true), Infinity);
+      const isListed = (one) => !checkFlag(memberOf(Object(one), "retired") ?? false, "retired");
+      const listed = checkIds(Array.isArray(credentials) ? credentials.filter(isListed) : credentials, Infinity);
       return { rpId: this.rpId, userId: toText(checkUser(user)), allAcceptedCredentialIds: listed.map(({ id }) => toText(id)) };
     }
 
     signalUserDetails(user, userName, displayName = userName) {
-      return { rpId: this.rpId, userId: toText(checkUser(user)), name: userName, displayName };
+      return { rpId: this.rpId, userId: toText(checkUser(user)), name: checkText(userName, "userName"), displayName: checkText(displayName, "displayName") };
     }
 
     // The last answer: where the first one is that of the signature's step, the signature is verified, and where it is valid the

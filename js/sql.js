@@ -1,10 +1,14 @@
 // A relying party whose sessions and credentials are rows of PostgreSQL, for sites of several machines. Each call is one transaction,
 // by the rules for rows of docs/OPERATING.md. Python's `garvoeng.sql` has the same tables.
 import { randomBytes } from "node:crypto";
+import { logTo } from "./errors.js";
+import { toText } from "./forms.js";
 import {
-  BadInput, MAX_LIST, Refused, RegistrationSession, SignInSession, StoreFailed, coseKeyOf, credentialFromCose,
+  BadInput, MAX_LIST, Refused, RegistrationSession, RowDamaged, SignInSession, StoreFailed, coseKeyOf, credentialFromCose,
 } from "./index.js";
-import { checkCredential, checkUser } from "./limits.js";
+import { checkBytes, checkCredential, checkFunction, checkIds, checkUser, checkWhole, optionsIn, shown } from "./limits.js";
+import { registrationOptionsIn, signInOptionsIn } from "./options.js";
+import { ofRow } from "./records.js";
 
 const VERSION = 1;
 const TABLES = [
@@ -26,12 +30,7 @@ const isDefined = (value) => value !== null && value !== undefined;
 const flagOf = (value) => (value === null ? null : Number(value));
 
 function sessionId(value) {
-  if (typeof value !== "string" || !/^[0-9a-f]{32}$/.test(value)) throw new BadInput("the session is not 32 hex digits");
-  return value;
-}
-
-function idOf(value, what) {
-  if (!(value instanceof Uint8Array)) throw new BadInput(`${what} is not a Uint8Array`);
+  if (typeof value !== "string" || !/^[0-9a-f]{32}$/.test(value)) throw new BadInput(`the session is ${shown(value)}: write the text of 32 hex digits that the begin gave`);
   return value;
 }
 
@@ -39,24 +38,27 @@ function now() {
   return Math.floor(Date.now() / 1000);
 }
 
-// What a row holds; one that no site writes is the database's failure, and not the visitor's.
-function ofRow(make) {
+// What a session's row holds; one that no site writes is the database's failure, and not the visitor's.
+function ofSession(make) {
   try {
     return make();
   } catch (error) {
     if (!(error instanceof BadInput || error instanceof SyntaxError)) throw error;
-    throw new StoreFailed(`a row is not one that a site writes: ${error.message}`, { cause: error });
+    throw new StoreFailed(`the row of a session is not one that a site writes: ${error.message}`, { cause: error });
   }
 }
 
+// The credential of a row. Throws `RowDamaged`.
 function credentialOf(row) {
-  return ofRow(() => {
+  return ofRow(new Uint8Array(row.id), () => {
     const credential = credentialFromCose({
       id: row.id, user: row.user_handle, coseKey: row.public_key, signCount: Number(row.sign_count),
       eligible: row.backup_eligible === null ? null : row.backup_eligible !== 0, retired: row.retired !== 0,
       transports: row.transports.split(",").filter((one) => one !== ""),
     });
     checkCredential(credential);
+    checkUser(credential.user);
+    checkIds([credential]);
     return credential;
   });
 }
@@ -66,13 +68,19 @@ export class SqlServer {
   #pool;
   #server;
   #lifetime;
+  #logger;
   #prepared = null;
 
-  constructor(server, pool, { lifetime = 300 } = {}) {
-    if (!Number.isSafeInteger(lifetime) || lifetime < 1) throw new BadInput("lifetime is seconds, from 1 on");
+  constructor(server, pool, options) {
+    const { lifetime = 300, logger = console.error } = optionsIn(options, "SqlServer", ["lifetime", "logger"]);
+    if (typeof server?.relatedOrigins !== "function") throw new BadInput("a SqlServer is over a Server: write new SqlServer(new Server(..), pool)");
+    if (typeof pool?.connect !== "function") throw new BadInput("a SqlServer is over a pool of pg: write new SqlServer(new Server(..), new Pool(..))");
     this.#server = server;
-    this.#lifetime = lifetime;
+    this.#lifetime = checkWhole(lifetime, "lifetime, in seconds,", 1);
+    this.#logger = checkFunction(logger, "logger", "(error) => console.error(error)");
     this.#pool = pool;
+    this.origins = server.origins;
+    this.signOuts = Object.freeze({ add: (number, until) => this.#addSignOut(number, until), has: (number) => this.#hasSignOut(number) });
     // An idle connection that ends would end the process where nobody listens; the pool makes another in its place.
     if (pool.listenerCount("error") === 0) pool.on("error", () => {});
   }
@@ -129,10 +137,35 @@ export class SqlServer {
     return { options, session: id };
   }
 
+  // The credentials of rows. One that is damaged is left out, and logged.
+  #listed(rows) {
+    return rows.flatMap((row) => {
+      try {
+        return [credentialOf(row)];
+      } catch (error) {
+        if (!(error instanceof RowDamaged)) throw error;
+        logTo(this.#logger, error);
+        return [];
+      }
+    });
+  }
+
   // The credentials of an account that sign in.
   async #ofAccount(run, user) {
     const { rows } = await run(`select ${COLUMNS} from garvoeng_credential where user_handle = $1 and retired = 0 order by created_at, id`, checkUser(user));
-    return rows.map(credentialOf);
+    return this.#listed(rows);
+  }
+
+  // Ends the open sessions of an account. Sessions go before credentials, in the order in which a sign-in takes them.
+  async #endSessions(run, user, isOfAll) {
+    const named = toText(user), forms = [`"user":"${named}"`, `"user": "${named}"`];
+    await run("delete from garvoeng_session where (strpos(data, $1) > 0 or strpos(data, $2) > 0) and ($3 or strpos(data, '\"algorithms\"') > 0)", ...forms, isOfAll);
+  }
+
+  // The account of a credential; null where there is none, or it is another's than is named.
+  async #accountOf(run, id, user) {
+    const { rows: [row] } = await run("select user_handle from garvoeng_credential where id = $1 and ($2::bytea is null or user_handle = $2)", id, user);
+    return row?.user_handle ?? null;
   }
 
   // The open session of this id, whose row goes with the transaction's commit; null where there is none of this kind.
@@ -140,13 +173,14 @@ export class SqlServer {
     if (!isDefined(session)) return null;
     const { rows } = await run("delete from garvoeng_session where id = $1 and expires_at > $2 returning data", session, now());
     if (rows.length === 0) return null;
-    return ofRow(() => {
+    return ofSession(() => {
       const kept = JSON.parse(rows[0].data);
       return kept?.[member] === undefined ? null : kind.from(kept);
     });
   }
 
-  async registerBegin(user, userName, { exclude, ...how } = {}) {
+  async registerBegin(user, userName, options) {
+    const { exclude, ...how } = registrationOptionsIn(options);
     return this.#call(async (run) => {
       const listed = exclude ?? (await this.#ofAccount(run, user)).slice(0, MAX_LIST);
       return this.#begun(run, this.#server.registerBegin(user, userName, { ...how, exclude: listed }));
@@ -168,7 +202,8 @@ export class SqlServer {
     });
   }
 
-  async authenticateBegin({ user = null, allow, ...how } = {}) {
+  async authenticateBegin(options) {
+    const { user = null, allow, ...how } = signInOptionsIn(options);
     return this.#call(async (run) => {
       const own = allow === undefined && user !== null ? await this.#ofAccount(run, user) : [];
       const listed = allow ?? (own.length <= MAX_LIST ? own : []);
@@ -195,21 +230,51 @@ export class SqlServer {
     });
   }
 
+  // Makes a change to the credential of an id, and of an account if one is named; whether there was something to change.
+  async #changed(id, user, isOfAll, statement) {
+    const asked = [checkBytes(id, "id"), user === null ? null : checkBytes(user, "user")];
+    return this.#call(async (run) => {
+      const account = await this.#accountOf(run, ...asked);
+      if (account === null) return false;
+      await this.#endSessions(run, account, isOfAll);
+      return (await run(statement, asked[0], account)).rowCount === 1;
+    });
+  }
+
   async retire(id, user = null) {
-    const written = await this.#call((run) => run(
-      "update garvoeng_credential set retired = 1 where id = $1 and retired = 0 and ($2::bytea is null or user_handle = $2)",
-      idOf(id, "id"), user === null ? null : idOf(user, "user")));
-    return written.rowCount === 1;
+    return this.#changed(id, user, false, "update garvoeng_credential set retired = 1 where id = $1 and user_handle = $2 and retired = 0");
+  }
+
+  async delete(id, user = null) {
+    return this.#changed(id, user, true, "delete from garvoeng_credential where id = $1 and user_handle = $2");
+  }
+
+  async deleteAccount(user) {
+    const account = checkUser(user);
+    return this.#call(async (run) => {
+      await this.#endSessions(run, account, true);
+      return (await run("delete from garvoeng_credential where user_handle = $1", account)).rowCount;
+    });
+  }
+
+  // A sign-in that ended stands among the sessions, by a name that no session has, until it would have ended by itself.
+  async #addSignOut(number, until) {
+    await this.#call((run) => run("insert into garvoeng_session values ($1, '{}', $2) on conflict do nothing", `ended ${number}`, Math.ceil(until / 1_000)));
+  }
+
+  async #hasSignOut(number) {
+    const { rowCount } = await this.#call((run) => run("select 1 from garvoeng_session where id = $1", `ended ${number}`));
+    return rowCount > 0;
   }
 
   async abandon(session) {
-    const deleted = await this.#call((run) => run("delete from garvoeng_session where id = $1 and expires_at > $2", sessionId(session), now()));
+    const id = sessionId(session), deleted = await this.#call((run) => run("delete from garvoeng_session where id = $1 and expires_at > $2", id, now()));
     return deleted.rowCount === 1;
   }
 
   async rows(user = null) {
-    const where = user === null ? "" : "where user_handle = $1", values = user === null ? [] : [idOf(user, "user")];
+    const where = user === null ? "" : "where user_handle = $1", values = user === null ? [] : [checkBytes(user, "user")];
     const { rows } = await this.#call((run) => run(`select ${COLUMNS} from garvoeng_credential ${where} order by created_at, id`, ...values));
-    return rows.map(credentialOf);
+    return this.#listed(rows);
   }
 }

@@ -2,41 +2,49 @@
 // this process, and answers lines of JSON.
 import cluster from "node:cluster";
 import { BadInput, Refused, StoreFailed } from "./errors.js";
-import { REGISTRATION_MEMBERS, SIGN_IN_MEMBERS, fromText, handedOn, toText } from "./forms.js";
+import { REGISTRATION_MEMBERS, SIGN_IN_MEMBERS, fromText, handedOn, toText, transportsOf } from "./forms.js";
 import {
-  ALGORITHMS, MAX_STORED_LIST, PROFILES, checkAlgorithms, checkBytes, checkIds, checkOneOf, checkParty, checkTopOrigins, checkUser, transportsIn,
+  ALGORITHMS, MAX_STORED_LIST, checkAlgorithms, checkBytes, checkFlag, checkFunction, checkIds, checkOneOf, checkParty, checkUser, checkWhole, ownOf, shown,
+  transportsIn,
 } from "./limits.js";
 import { isValid } from "./node_signatures.js";
-import { checkUserVerification, creationOptions, requestOptions } from "./options.js";
+import { checkUserVerification, creationOptions, partyOptionsIn, registrationOptionsIn, requestOptions, signInOptionsIn } from "./options.js";
 import { Program } from "./program.js";
 import { Credential } from "./records.js";
+import { Shared } from "./signouts.js";
 import { ProgramOfPrimary, serveWorkers } from "./workers.js";
 
 const LOGS = [false, true, "refusals", "all"];
 
-function numberIn(value, what, least) {
-  if (!Number.isSafeInteger(value) || value < least) throw new BadInput(`${what} is not a whole number from ${least} on`);
+const EXPIRE = 300;
+const OWN = ["maxOpen", "maxCredentials", "isExisting", "atLeast", "wary", "log", "expire", "timeout", "logger"];
+
+function textOf(value, what) {
+  if (typeof value !== "string" || value === "" || value.includes("\0")) throw new BadInput(`${what} is ${shown(value)}: write a text`);
   return value;
 }
 
-function textOf(value, what) {
-  if (typeof value !== "string" || value === "" || value.includes("\0")) throw new BadInput(`${what} is not a text`);
-  return value;
+function numbered(option, value, what, least) {
+  return value === undefined ? [] : [`--${option}=${checkWhole(value, what, least)}`];
 }
 
 function wordsOf(program, file, rpId, origins, how) {
-  const { rpName, acceptNone, acceptSelf, profile, topOrigins, maxOpen, maxCredentials, isExisting, atLeast, wary, log, expire } = how;
-  if (!acceptNone && !acceptSelf) throw new BadInput("no attestation is accepted");
+  const { rpName, acceptNone, acceptSelf, profile, topOrigins, maxOpen, maxCredentials, isExisting = false, atLeast, wary = false, log = false, expire } = how;
+  if (!acceptNone && !acceptSelf) throw new BadInput("acceptNone and acceptSelf are both false: then no attestation is accepted");
   checkOneOf(log, "log", LOGS);
   return [
     textOf(program, "the program's path"), `--rp-id=${rpId}`, `--rp-name=${textOf(rpName, "rpName")}`, ...origins.map((origin) => `--origin=${origin}`),
-    ...checkTopOrigins(topOrigins).map((origin) => `--top-origin=${origin}`), `--profile=${checkOneOf(profile, "profile", PROFILES)}`, `--attestation=${acceptNone && acceptSelf ? "any" : acceptNone ? "none" : "self"}`,
-    ...(maxOpen === undefined ? [] : [`--max-open=${numberIn(maxOpen, "maxOpen", 1)}`]),
-    ...(maxCredentials === undefined ? [] : [`--max-credentials=${numberIn(maxCredentials, "maxCredentials", 1)}`]), ...(isExisting ? ["--existing"] : []),
-    ...(atLeast === undefined ? [] : [`--at-least=${numberIn(atLeast, "atLeast", 0)}`]), ...(wary ? ["--wary"] : []),
-    ...(log === false ? [] : [`--log=${log === true ? "refusals" : log}`]),
-    ...(expire === undefined ? [] : [`--expire=${numberIn(expire, "expire", 1)}`]), "--", textOf(file, "the file's path"),
+    ...topOrigins.map((origin) => `--top-origin=${origin}`), `--profile=${profile}`, `--attestation=${acceptNone && acceptSelf ? "any" : acceptNone ? "none" : "self"}`,
+    ...numbered("max-open", maxOpen, "maxOpen", 1), ...numbered("max-credentials", maxCredentials, "maxCredentials", 1),
+    ...(checkFlag(isExisting, "isExisting") ? ["--existing"] : []), ...numbered("at-least", atLeast, "atLeast", 0), ...(checkFlag(wary, "wary") ? ["--wary"] : []),
+    ...(log === false ? [] : [`--log=${log === true ? "refusals" : log}`]), ...numbered("expire", expire, "expire", 1), "--", textOf(file, "the file's path"),
   ];
+}
+
+// A worker of PM2's cluster mode asks PM2's own process, which answers nobody.
+function checkPrimary() {
+  if (process.env.pm_id !== undefined)
+    throw new BadInput("a StoredServer does not run in PM2's cluster mode, whose primary process is PM2's own: run one instance in fork mode, or use a SqlServer");
 }
 
 function bytesOf(value, ...names) {
@@ -69,37 +77,39 @@ function toldOf(accepted) {
 export class StoredServer {
   #program;
 
-  constructor(program, file, rpId, origins, {
-    rpName = rpId, acceptNone = true, acceptSelf = true, profile = "level3", topOrigins = [], maxOpen, maxCredentials, isExisting = false, atLeast, wary = false, log = false, expire,
-    timeout = 30_000, logger = console.error, verify = isValid,
-  } = {}) {
+  constructor(program, file, rpId, origins, options) {
     this.origins = checkParty(rpId, origins);
+    const how = partyOptionsIn(options, "StoredServer", { rpId, isValid, more: OWN });
+    const { rpName, verify, expire = EXPIRE, timeout = 30_000, logger = console.error } = how, words = wordsOf(program, file, rpId, this.origins, how);
     this.rpId = rpId;
     this.rpName = rpName;
     this.verify = verify;
-    const words = wordsOf(program, file, rpId, this.origins, {
-      rpName, acceptNone, acceptSelf, profile, topOrigins, maxOpen, maxCredentials, isExisting, atLeast, wary, log, expire,
-    });
+    checkWhole(timeout, "timeout, in milliseconds,", 1);
+    checkFunction(logger, "logger", "(line) => console.error(line)");
     const key = JSON.stringify(words);
-    numberIn(timeout, "timeout", 1);
     if (cluster.isWorker) {
+      checkPrimary();
       this.#program = new ProgramOfPrimary(key, timeout);
     } else {
-      this.#program = new Program(words, timeout, logger);
+      this.#program = new Shared(new Program(words, timeout, logger), 1_000 * expire);
       serveWorkers(key, this.#program);
     }
+    this.signOuts = Object.freeze({
+      add: async (number, until) => void (await this.#ask("add_sign_out", { number, until })),
+      has: async (number, at) => (await this.#ask("has_sign_out", { number, at })).has,
+    });
   }
 
   async #ask(act, members = {}) {
     const answer = await this.#program.ask(act, members);
-    if (!("error" in answer)) return answer;
+    if (!Object.hasOwn(answer, "error")) return answer;
     throw new BadInput(String(answer.error));
   }
 
   // What was accepted. The program tells the signature that is asked for; where it is valid it is handed back, and else the program
   // is told that it is not, so that its log has the refusal.
   async #finish(act, session, response, more = {}) {
-    const members = { session: numberIn(session ?? 0, "the session", 0), response, ...more };
+    const members = { session: checkWhole(session ?? 0, "the session", 0), response, ...more };
     let answer = await this.#ask(act, members);
     if (answer.verify !== undefined) {
       const asked = answer.verify, valid = await this.verify(asked.algorithm, ...bytesOf(asked, "x", "y", "message", "signature"));
@@ -110,36 +120,46 @@ export class StoredServer {
     return answer.accepted;
   }
 
-  async registerBegin(user, userName, { exclude = [], algorithms = ALGORITHMS, userVerification = "preferred", residentKey = "required",
-                                        attestation = "none", conditional = false, ...how } = {}) {
-    const listed = checkIds(exclude, MAX_STORED_LIST), begun = { user: checkUser(user), algorithms: checkAlgorithms(algorithms) };
+  // The credentials of an account that sign in.
+  async #ofAccount(user) {
+    return (await this.rows(user)).filter(({ retired }) => !retired);
+  }
+
+  async registerBegin(user, userName, options) {
+    const { exclude, algorithms = ALGORITHMS, userVerification = "preferred", residentKey = "required", attestation = "none", conditional = false, ...how } =
+      registrationOptionsIn(options);
+    const begun = { user: checkUser(user), algorithms: checkAlgorithms(algorithms) };
     const optionsOf = (challenge, list) => creationOptions({ id: this.rpId, name: this.rpName }, { ...begun, challenge }, userName, list,
                                                      { ...how, userVerification: checkUserVerification(userVerification), residentKey, attestation });
-    optionsOf(new Uint8Array(0), listed);
-    const { session, options } = await this.#ask("begin_registration", {
-      user: toText(begun.user), user_name: userName, display_name: how.displayName, exclude: listed.map(({ id }) => toText(id)),
+    optionsOf(new Uint8Array(0), checkIds(exclude ?? [], MAX_STORED_LIST));
+    checkFlag(conditional, "conditional");
+    const listed = checkIds(exclude ?? (await this.#ofAccount(begun.user)).slice(0, MAX_STORED_LIST), MAX_STORED_LIST);
+    const { session, options: made } = await this.#ask("begin_registration", {
+      user: toText(begun.user), user_name: userName, display_name: ownOf(how).displayName, exclude: listed.map(({ id }) => toText(id)),
       user_verification: userVerification === "required", resident: residentKey !== "discouraged", algorithms: begun.algorithms,
-      conditional: conditional === true, attestation: attestation !== "none",
+      conditional, attestation: attestation !== "none",
     });
-    return { options: optionsOf(fromText(options.challenge, "challenge"), knownOf(listed, options.excludeCredentials)), session };
+    return { options: optionsOf(fromText(made.challenge, "challenge"), knownOf(listed, made.excludeCredentials)), session };
   }
 
   async registerComplete(session, response) {
-    const handed = handedOn(response, REGISTRATION_MEMBERS), transports = transportsIn(response.response.transports);
+    const handed = handedOn(response, REGISTRATION_MEMBERS), transports = transportsIn(transportsOf(response));
     const made = await this.#finish("finish_registration", session, handed, { transports });
     const [aaguid] = bytesOf(made, "aaguid");
     return Object.freeze({ credential: new Credential({ ...partsOf(made), transports }), aaguid, format: made.format, ...toldOf(made) });
   }
 
-  async authenticateBegin({ user = null, allow = [], userVerification = "preferred", ...how } = {}) {
-    const listed = checkIds(allow, MAX_STORED_LIST), handle = user === null ? null : checkUser(user);
+  async authenticateBegin(options) {
+    const { user = null, allow, userVerification = "preferred", ...how } = signInOptionsIn(options), handle = user === null ? null : checkUser(user);
     const optionsOf = (challenge, list) => requestOptions(this.rpId, { challenge }, list, checkUserVerification(userVerification), how);
-    optionsOf(new Uint8Array(0), listed);
-    const { session, options } = await this.#ask("begin_sign_in", {
+    optionsOf(new Uint8Array(0), checkIds(allow ?? [], MAX_STORED_LIST));
+    const own = allow === undefined && handle !== null ? await this.#ofAccount(handle) : [];
+    const listed = checkIds(allow ?? (own.length <= MAX_STORED_LIST ? own : []), MAX_STORED_LIST);
+    const { session, options: made } = await this.#ask("begin_sign_in", {
       user: handle === null ? undefined : toText(handle), allow: listed.map(({ id }) => toText(id)),
       user_verification: userVerification === "required",
     });
-    return { options: optionsOf(fromText(options.challenge, "challenge"), knownOf(listed, options.allowCredentials)), session };
+    return { options: optionsOf(fromText(made.challenge, "challenge"), knownOf(listed, made.allowCredentials)), session };
   }
 
   async authenticateComplete(session, response) {
@@ -148,24 +168,41 @@ export class StoredServer {
     return Object.freeze({ id, user, signCount: who.sign_count, ...toldOf(who) });
   }
 
-  async retire(id) {
-    return (await this.#ask("retire", { credential: toText(checkBytes(id, "id")) })).retired;
+  // What an act on a credential answers. Where an account is named the credential has to be its own, and its open registrations end.
+  async #changed(act, id, user) {
+    const credential = toText(checkBytes(id, "id"));
+    if (user !== null) {
+      if (!(await this.rows(user)).some((row) => toText(row.id) === credential)) return {};
+      await this.#ask("end_registrations", { user: toText(user) });
+    }
+    return this.#ask(act, { credential });
   }
 
-  async delete(id) {
-    return (await this.#ask("delete", { credential: toText(checkBytes(id, "id")) })).deleted;
+  async retire(id, user = null) {
+    return (await this.#changed("retire", id, user)).retired === true;
+  }
+
+  async delete(id, user = null) {
+    return (await this.#changed("delete", id, user)).deleted === true;
+  }
+
+  async deleteAccount(user) {
+    await this.#ask("end_registrations", { user: toText(checkUser(user)) });
+    const deleted = await Promise.all((await this.rows(user)).map(({ id }) => this.delete(id)));
+    return deleted.filter((is) => is).length;
   }
 
   async abandon(session) {
-    return (await this.#ask("abandon", { session: numberIn(session, "the session", 0) })).abandoned;
+    return (await this.#ask("abandon", { session: checkWhole(session, "the session", 0) })).abandoned;
   }
 
   async expire(olderThan) {
-    return (await this.#ask("expire", { older_than: numberIn(olderThan, "olderThan", 0) })).expired;
+    return (await this.#ask("expire", { older_than: checkWhole(olderThan, "olderThan", 0) })).expired;
   }
 
   async rows(user = null) {
     const { rows } = await this.#ask("rows", user === null ? {} : { user: toText(checkBytes(user, "user")) });
+    if (!Array.isArray(rows)) throw new StoreFailed("the program answered what is no list of rows");
     return rows.map(keptOf);
   }
 

@@ -12,7 +12,8 @@ export const ACCEPTED = 0;
 export const BAD_STATEMENT = 13;
 /** Of a sign-in. */
 export const BAD_SIGNATURE = 14;
-const LAST_STEP = 18;
+// What a host or a response may not hand in has the numbers from here on, up to that of want of memory; steps have those below.
+const FIRST_LIMIT = 100;
 const NO_MEMORY = 127;
 const MOST_OF_A_TEXT = 128;
 const MOST_OF_A_COSE_KEY = 13 + 512 + 4;
@@ -213,7 +214,7 @@ export function checkAnswer(module, isRegistration, answer) {
   if (answer === ACCEPTED) return;
   if (answer === NO_MEMORY) throw new NoMemory();
   const text = refusalText(module, isRegistration, answer);
-  if (answer <= LAST_STEP) throw new Refused(isRegistration, answer, text);
+  if (answer < FIRST_LIMIT) throw new Refused(isRegistration, answer, text);
   throw new BadInput(text, answer);
 }
 

@@ -1,9 +1,9 @@
 // The package where there is no Node. What `index.d.ts` has over it is Node's alone.
 
-/** Base64url without padding. */
+/** Base64url without padding. Throws `BadInput` where the value is not a Uint8Array. */
 export function toText(value: Uint8Array): string;
-/** The bytes of base64url without padding, in its one spelling. Throws `BadInput`. */
-export function fromText(text: string, what: string): Uint8Array;
+/** The bytes of base64url without padding, in its one spelling. Throws `BadInput`, which names `what`. */
+export function fromText(text: string, what?: string): Uint8Array;
 
 /** COSE numbers (RFC 9053, sections 2.1 and 2.2; RFC 8812, section 2). */
 export const ES256: -7;
@@ -175,17 +175,17 @@ export class Server {
   /** The options for the page, PublicKeyCredentialCreationOptionsJSON, and the session that the site keeps. `user` is the user
    *  handle: 1 to 64 bytes that name nobody. */
   registerBegin(user: Uint8Array, userName: string, options?: RegistrationOptions): { options: object; session: RegistrationSession };
-  /** What a RegistrationResponseJSON registers. `session` is null where none is open. `isRegistered(id)` tells whether a credential
-   *  has the id, to anyone, retired or not. Rejected by `Refused`, `BadInput` or `NoMemory`. */
+  /** What a RegistrationResponseJSON registers. `session` is null where none is open. `isRegistered(id)` tells, by true or false, whether
+   *  a credential has the id, to anyone, retired or not. Rejected by `Refused`, `BadInput` or `NoMemory`. */
   registerComplete(session: RegistrationSession | null, response: unknown,
-                   how: { isRegistered: (id: Uint8Array) => Awaitable<unknown>; isFull?: boolean }): Promise<Registered>;
+                   how: { isRegistered: (id: Uint8Array) => Awaitable<boolean>; isFull?: boolean }): Promise<Registered>;
   /** The same of the response's parts. `freeId` is an id that no credential has; each other one counts as registered. */
   registerCompleteParts(session: RegistrationSession | null, parts: { attestationObject: Uint8Array; clientData: Uint8Array },
                         how?: { freeId?: Uint8Array | null; isFull?: boolean; transports?: readonly string[] }): Promise<Registered>;
   /** The options for the page, PublicKeyCredentialRequestOptionsJSON, and the session that the site keeps. */
   authenticateBegin(options?: SignInOptions): { options: object; session: SignInSession };
-  /** Who signed in, of an AuthenticationResponseJSON. `credential(id)` answers the site's credential of the id, or null. Rejected by
-   *  `Refused`, `BadInput` or `NoMemory`. */
+  /** Who signed in, of an AuthenticationResponseJSON. `credential(id)` answers the site's credential of the id, or null; it may have
+   *  members of the site's own more. Rejected by `Refused`, `BadInput`, `NoMemory`, or `RowDamaged` where it is no credential. */
   authenticateComplete(session: SignInSession | null, response: unknown,
                        how: { credential: (id: Uint8Array) => Awaitable<CredentialMembers | null | undefined> }): Promise<SignedIn>;
   /** The same of the response's parts and the credential that was found. */
@@ -210,18 +210,20 @@ export class Server {
 export class Refused extends Error {
   constructor(isRegistration: boolean, number: number, text: string);
   readonly isRegistration: boolean;
-  /** 1 to 18. */
+  /** Below 100. */
   readonly number: number;
-  /** The name of the step. */
+  /** The name of the step; of one that has none, as `name`. */
   readonly step: string;
   /** G and the number for a registration, W for a sign-in. */
   readonly name: string;
+  readonly code: "GARVOENG_REFUSED";
   readonly text: string;
 }
 
 /** A value is out of its limits: of the site's own, or no response in the form of JSON. */
 export class BadInput extends Error {
   constructor(text: string, number?: number);
+  readonly code: "GARVOENG_BAD_INPUT";
   /** The number of the answer, 100 and up; 0 where the library was not asked. */
   readonly number: number;
   readonly text: string;
@@ -229,7 +231,16 @@ export class BadInput extends Error {
 
 /** Memory ran out. The next call finds all of it again. */
 export class NoMemory extends Error {
+  readonly code: "GARVOENG_NO_MEMORY";
   readonly number: 127;
+}
+
+/** The row of a credential is not one that a site writes, and the visitor can't help it. */
+export class RowDamaged extends Error {
+  constructor(id: Uint8Array, text: string, options?: { cause?: unknown });
+  readonly code: "GARVOENG_ROW_DAMAGED";
+  /** The credential's id. */
+  readonly id: Uint8Array;
 }
 
 /** Whether the bytes are one value of canonical CBOR (CTAP 2.1), and no more. */

@@ -1,5 +1,6 @@
 // The package where there is no Node: signatures by WebCrypto. `load` comes before all else.
 import { isValid } from "./web_signatures.js";
+import { isBytes } from "./limits.js";
 import { Module } from "./module.js";
 import { helpersOver, serverOver } from "./server.js";
 
@@ -12,7 +13,7 @@ function moduleOf() {
 
 async function compiled(source) {
   if (source instanceof WebAssembly.Module) return source;
-  if (source instanceof Uint8Array || source instanceof ArrayBuffer) return WebAssembly.compile(source);
+  if (isBytes(source) || source instanceof ArrayBuffer) return WebAssembly.compile(source);
   const answer = source instanceof Response ? source : await fetch(source);
   return WebAssembly.compile(await answer.arrayBuffer());
 }
@@ -28,7 +29,7 @@ function randomBytes(size) {
 
 export const Server = serverOver(moduleOf, randomBytes, isValid);
 export const { isCanonical, credentialFromCose, coseKeyOf } = helpersOver(moduleOf);
-export { BadInput, NoMemory, Refused } from "./errors.js";
+export { BadInput, NoMemory, Refused, RowDamaged } from "./errors.js";
 export { fromText, toText } from "./forms.js";
 export { EDDSA, ES256, MAX_LIST, RS256 } from "./limits.js";
 export { Credential, RegistrationSession, SignInSession } from "./records.js";

@@ -1,6 +1,7 @@
 // One program for the processes of node:cluster: the primary has it, and its workers ask the primary.
 import cluster from "node:cluster";
 import { BadInput, StoreFailed } from "./errors.js";
+import { ownOf } from "./limits.js";
 
 const FIELD = "garvoeng";
 const served = new Map();
@@ -39,7 +40,7 @@ function settle(number, settles) {
 
 function listen() {
   process.on("message", (message) => {
-    if (message?.[FIELD] !== undefined) settle(message[FIELD].number, ({ resolve }) => resolve(message[FIELD].answer));
+    if (message?.[FIELD] !== undefined) settle(message[FIELD].number, ({ resolve }) => resolve(ownOf(message[FIELD].answer)));
   });
   process.on("disconnect", () => {
     for (const number of [...asked.keys()]) settle(number, ({ reject }) => reject(new StoreFailed("the primary process has ended")));
@@ -60,12 +61,12 @@ export class ProgramOfPrimary {
   async ask(act, members) {
     const number = ++numbers, fail = (text) => settle(number, ({ reject }) => reject(new StoreFailed(text)));
     const answer = await new Promise((resolve, reject) => {
-      const timer = setTimeout(() => fail(`the primary process did not answer in ${this.#timeout / 1000} seconds`), this.#timeout);
+      const timer = setTimeout(() => fail(`the primary process did not answer in ${this.#timeout / 1000} seconds: make the same StoredServer there`), this.#timeout);
       asked.set(number, { resolve, reject, timer });
       if (!process.connected) return fail("the primary process has ended");
       process.send({ [FIELD]: { number, key: this.#key, act, members } }, (error) => error && fail(error.message));
     });
-    if ("failed" in answer) throw new StoreFailed(String(answer.failed));
+    if (Object.hasOwn(answer, "failed")) throw new StoreFailed(String(answer.failed));
     return answer;
   }
 

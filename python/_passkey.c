@@ -66,6 +66,21 @@ static int lend(held *all, PyObject *const *tuples, int tuple_count, Py_ssize_t 
     return 1;
 }
 
+/* Whether a verifier said True, and no other value that counts as true; -1 where it raised, or said neither True nor False. */
+static int is_true(PyObject *said)
+{
+    if (said == NULL || said == Py_True || said == Py_False) return said == NULL ? -1 : said == Py_True;
+    PyObject *module = PyImport_ImportModule("garvoeng.answers"), *name = module == NULL ? NULL : PyUnicode_InternFromString("refuse");
+    PyObject *refuse = name == NULL ? NULL : PyObject_GetAttr(module, name);
+    PyObject *none = refuse == NULL ? NULL : PyObject_CallFunction(refuse, "sOs", "verify", said, "True or False");
+    Py_XDECREF(none);
+    Py_XDECREF(refuse);
+    Py_XDECREF(name);
+    Py_XDECREF(module);
+    if (!PyErr_Occurred()) PyErr_SetString(PyExc_TypeError, "verify answered neither True nor False");
+    return -1;
+}
+
 /* Asks the host to verify the signature of a response whose parts have at most `size` bytes. Where it is valid `is_valid` is set, and
  * what was verified is lent; where that is not known `answer` tells why. 0 where it raised. */
 static int verify_by(PyObject *verify, const passkey_signature_call *call, size_t size, held *all, uint8_t *is_valid, passkey_verified *to,
@@ -82,10 +97,10 @@ static int verify_by(PyObject *verify, const passkey_signature_call *call, size_
         out->message_size > size + 32 || out->signature_size > size) return 1;
     PyObject *said = PyObject_CallFunction(verify, "iy#y#y#y#", (int)out->key.algorithm, out->key.x, (Py_ssize_t)out->key.x_size, out->key.y,
         (Py_ssize_t)out->key.y_size, message, (Py_ssize_t)out->message_size, signature, (Py_ssize_t)out->signature_size);
-    int is_true = said == NULL ? -1 : PyObject_IsTrue(said);
+    int answered = is_true(said);
     Py_XDECREF(said);
-    if (is_true < 0) return 0;
-    *is_valid = (uint8_t)is_true;
+    if (answered < 0) return 0;
+    *is_valid = (uint8_t)answered;
     *to = (passkey_verified){{out->key.algorithm, {out->key.x, out->key.x_size}, {out->key.y, out->key.y_size}}, {message, out->message_size},
         {signature, out->signature_size}};
     return 1;

@@ -281,6 +281,9 @@ def hostile_lines(tests):
     is_error("1,000,000 bytes", b"x" * 1_000_000)
     is_error("nested", b"[" * 30_000)
     is_error("nested", b'{"id":1,"act":' + b"[" * 200 + b"]" * 200 + b"}")
+    for depth, wanted in ((31, "the act has no such member"), (32, "the line nests too deep")):
+        told = client.raw(json.dumps({**good, "other": json.loads("[" * depth + "]" * depth)}).encode())
+        tests.check(f"nested {depth} deep in the object", told["text"], wanted)
     is_error("a lone surrogate", b'{"id":1,"act":"\\ud800"}')
     for number, wanted in ((-1, None), (2**64, None), (1.5, None), ("1", None), (None, None), ([], None)):
         is_error(f"id {number}", json.dumps({**good, "id": number}).encode(), wanted)

@@ -144,7 +144,7 @@ def settings(tests):
         server.authenticate_begin()
         tests.check("a bound on open sessions", server.abandon(session), False)
     tests.check("no attestation at all", raised(tests.server, "none.db", accept_none=False, accept_self=False)[0], BadInput)
-    tests.check("one origin in place of a list", raised(StoredServer, tests.program, "x", RP_ID, ORIGIN)[0], BadInput)
+    tests.check("one origin in place of a list", raised(StoredServer, tests.program, "x", RP_ID, ORIGIN)[0], TypeError)
 
 
 def start(tests):

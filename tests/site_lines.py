@@ -127,6 +127,14 @@ def told(tests):
     found = host.finish("finish_registration", begun["session"], made, is_right=lambda *_: False)
     tests.check("a self attestation that is called wrong", found["refused"]["name"], "G13")
     tests.check("which is registered afterwards", "accepted" in host.finish("finish_registration", begun["session"], made))
+    # A response that names another credential than it attests.
+    begun = host.ask("begin_registration", user=to_text(USER), user_name="name")
+    made = Device(ES256, credential=b"a third").register(begun["options"])
+    for other in (b"a thirc", b"a third ", b"a thir", device.id):
+        found = host.finish("finish_registration", begun["session"], {**made, "id": to_text(other), "rawId": to_text(other)})
+        tests.check(f"the id {other!r}", found, refused("G19", 19, "the response's id is not the attested credential's"))
+    tests.check("the refusals are counted", host.ask("status")["status"]["registrations_refused"], {"G13": 1, "G19": 4})
+    tests.check("with its own id", "accepted" in host.finish("finish_registration", begun["session"], made))
     # Where an earlier step refuses, that step is told.
     begun = host.ask("begin_sign_in", user=to_text(b"somebody else"))
     found = host.ask("finish_sign_in", session=begun["session"], response=device.sign_in(begun["options"]), verified=False)
@@ -165,6 +173,14 @@ def options(tests, host):
     host.ask("abandon", session=begun["session"])
 
 
+def words(tests):
+    """What the program prints of itself."""
+    version = (top / "VERSION").read_text().strip()
+    for word, wanted in (("--version", f"passkey-site {version}\n"), ("-V", f"passkey-site {version}\n"), ("--help", "A relying party over lines")):
+        done = subprocess.run([tests.program, word], capture_output=True, check=False, stdin=subprocess.DEVNULL, text=True)
+        tests.check(word, (done.returncode, done.stdout[:len(wanted)], done.stderr), (0, wanted, ""))
+
+
 def visits(tests):
     host = Host(tests.program, tests.file("visits.db"), *PARTY, "--rp-name", "A site", "--log")
     began = int(time.time())
@@ -198,13 +214,15 @@ def visits(tests):
 def logs(tests):
     """What `--log` tells, by its value, and that no line of it is long."""
     long = Device(EDDSA, credential=b"\xff" * 1023)
-    for words, kinds in (([], set()), (["--log"], {"W1", "failed begin"}), (["--log", "refusals"], {"W1", "failed begin"}),
-                         (["--log=all"], {"W1", "failed begin", "accepted", "error"}),
-                         (["--log", "all"], {"W1", "failed begin", "accepted", "error"})):
+    for words, kinds in (([], set()), (["--log"], {"W1", "G19", "failed begin"}), (["--log", "refusals"], {"W1", "G19", "failed begin"}),
+                         (["--log=all"], {"W1", "G19", "failed begin", "accepted", "error"}),
+                         (["--log", "all"], {"W1", "G19", "failed begin", "accepted", "error"})):
         host = Host(tests.program, *words, tests.file(f"log{len(kinds)}{len(words)}.db"), *PARTY)
         begun = host.ask("begin_registration", user=to_text(USER), user_name="name")
         host.ask("begin_sign_in", user=to_text(bytes(65)))
-        host.finish("finish_registration", begun["session"], long.register(begun["options"]))
+        made = long.register(begun["options"])
+        host.finish("finish_registration", begun["session"], {**made, "id": "AA", "rawId": "AA"})
+        host.finish("finish_registration", begun["session"], made)
         begun = host.ask("begin_sign_in")
         answered = long.sign_in(begun["options"], user=USER)
         host.finish("finish_sign_in", begun["session"], answered)
@@ -213,12 +231,12 @@ def logs(tests):
         status, rest, errors = host.end()
         lines = errors.splitlines()
         found = {kind for kind, text in (("W1", f" session {begun['session']} sign-in refused W1 credential "),
-                                         ("failed begin", " error: what is asked is not within its limits"), ("accepted", " accepted credential "),
+                                         ("G19", " registration refused G19 credential AA: "), ("failed begin", " error: what is asked is not within its limits"), ("accepted", " accepted credential "),
                                          ("error", " line 77 session - error: there is no such act")) if text in errors}
         tests.check(f"the log with {words}", (status, found), (0, kinds))
         tests.check(f"acceptances with {words}", sum(" accepted " in line for line in lines), 2 * ("accepted" in kinds))
         tests.check(f"no line is long with {words}", max(map(len, lines), default=0) <= 1000)
-        tests.check(f"a cut id with {words}", all("_" * 512 + ".." in line for line in lines if " credential " in line))
+        tests.check(f"a cut id with {words}", all("_" * 512 + ".." in line for line in lines if " credential " in line and " G19 " not in line))
     status = Host(tests.program, tests.file("log.db"), *PARTY, "--log=some").end()[0]
     tests.check("another value", status, 2)
     host = Host(tests.program, tests.file("log.db"), *PARTY, "--log")
@@ -254,12 +272,20 @@ def numbers(tests):
                 for _ in range(rng.randrange(4))}
         value = {"act": "rows", "user": user, "id": number}
         line = json.dumps(dict(rng.sample(list(value.items()), 3)), ensure_ascii=rng.random() < 0.5)
-        answer = host.raw(line.encode()[:-1] + rng.choice((b',"x":1e999}', b',"x":' + deep + b"}")))
-        if answer != {"error": "the line is no JSON object", "id": number}:
+        end, error = rng.choice(((b',"x":1e999}', "the line is no JSON object"), (b',"x":' + deep + b"}", "the line nests too deep")))
+        answer = host.raw(line.encode()[:-1] + end)
+        if answer != {"error": error, "id": number}:
             tests.check(f"a line of {line}", answer, number)
             break
     else:
         tests.check("500 lines that can't be read", True)
+    # The object of the line is the first of 32 levels; brackets in texts are none.
+    for what, value, wanted in (("31 lists", "[" * 31 + "]" * 31, "user is not in its form"), ("32 lists", "[" * 32 + "]" * 32, "the line nests too deep"),
+                                ("31 objects", '{"":' * 31 + "0" + "}" * 31, "user is not in its form"),
+                                ("32 objects", '{"":' * 32 + "0" + "}" * 32, "the line nests too deep"),
+                                ("lists one after another", "[" + "[]," * 60 + "0]", "user is not in its form"),
+                                ("brackets in a text", '"\\"' + "[{" * 60 + '"', "user is not in its form")):
+        tests.check(f"a line of {what}", host.raw(f'{{"id":1,"act":"rows","user":{value}}}'.encode()), {"id": 1, "error": wanted})
     tests.check("the end", host.end(), (0, b"", ""))
 
 
@@ -470,6 +496,7 @@ def read_by_sqlite(tests):
 
 def main():
     tests = Tests(str(Path(sys.argv[1]).resolve()))
+    words(tests)
     visits(tests)
     read_by_sqlite(tests)
     details(tests)

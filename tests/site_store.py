@@ -157,9 +157,30 @@ def backups(tests):
     tests.check("the end", host.end(), (0, b"", ""))
 
 
+def linked(tests):
+    """A backup of a file that is opened through a symbolic link has what stands in the log beside the file itself."""
+    path, link, copy = tests.file("linked.db"), tests.file("link.db"), tests.file("of-link.db")
+    tests.check("a file", Host(tests.program, path, *PARTY).end(), (0, b"", ""))
+    link.symlink_to(path)
+    host = Host(tests.program, link, *PARTY)
+    device = Device(ES256)
+    visit(tests, host, device)
+    visit(tests, host, Device(EDDSA, credential=b"later"))
+    host.ask("retire", credential=to_text(device.id))
+    rows = host.ask("rows")
+    tests.check("a backup through a link", host.ask("backup", path=str(copy)), {"backup": True})
+    following = host.ask("status")["status"]["next_session"]
+    host.process.kill()
+    host.process.wait()
+    host = Host(tests.program, copy, *PARTY, "--existing")
+    tests.check("its rows, one of them retired", (host.ask("rows"), [row["retired"] for row in rows["rows"]]), (rows, [True, False]))
+    tests.check("its numbers go on", host.ask("status")["status"]["next_session"] >= following)
+    tests.check("the end", host.end(), (0, b"", ""))
+
+
 def main():
     tests = Tests(str(Path(sys.argv[1]).resolve()))
-    for part in (fresh_words, ages, deleted, together, status, backups):
+    for part in (fresh_words, ages, deleted, together, status, backups, linked):
         part(tests)
     print(f"{tests.passed} passed, {tests.failed} failed")
     return tests.failed != 0

@@ -69,7 +69,7 @@ static napi_value judge(napi_env env, napi_callback_info info)
     passkey_bytes origin = part(env, words[0], "origin");
     passkey_assertion_out out = { .sign_count = 0 };
     passkey_assertion_call call = {
-        .party = { part(env, words[0], "rp_id"), &origin, 1, 1, NULL, 0 },
+        .party = { part(env, words[0], "rp_id"), &origin, 1, PASSKEY_PROFILE_LEVEL3, NULL, 0 },
         .has_session = 1,
         .session = { .challenge = part(env, words[0], "challenge") },
         .has_credential = 1,
@@ -126,6 +126,10 @@ static napi_value asked(napi_env env, napi_callback_info info)
 NAPI_MODULE_INIT()
 {
     napi_value function;
+    if (passkey_abi_version() != PASSKEY_ABI_VERSION) {
+        napi_throw_error(env, NULL, "libpasskey has another ABI than this addon");
+        return NULL;
+    }
     napi_create_function(env, "judge", NAPI_AUTO_LENGTH, judge, NULL, &function);
     napi_set_named_property(env, exports, "judge", function);
     napi_create_function(env, "asked", NAPI_AUTO_LENGTH, asked, NULL, &function);

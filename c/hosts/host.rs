@@ -1,10 +1,13 @@
 // A whole sign-in from Rust, of which Chromium made the response; OpenSSL verifies its signature. With recorded.txt and
-// libpasskey.so.4 in the folder:
+// libpasskey.so.5 in the folder:
 //
-//     rustc --edition 2024 host.rs -C link-arg=./libpasskey.so.4 -C link-arg=-lcrypto -C link-arg=-Wl,-rpath,.
+//     rustc --edition 2024 host.rs -C link-arg=./libpasskey.so.5 -C link-arg=-lcrypto -C link-arg=-Wl,-rpath,.
 use std::ffi::{c_int, c_long, c_void};
 use std::ptr::{null, null_mut};
 
+/// The ABI that the structs and names here are of.
+const ABI_VERSION: u32 = 5;
+const PROFILE_LEVEL3: u8 = 2;
 const ES256: i32 = -7;
 const ACCEPTED: u32 = 0;
 const BAD_SIGNATURE: u32 = 14;
@@ -143,12 +146,13 @@ struct SignatureOut {
 }
 
 unsafe extern "C" {
-    fn passkey_assertion(call: *const AssertionCall, out: *mut AssertionOut) -> u32;
-    fn passkey_signature_asked(
+    fn passkey_abi_version() -> u32;
+    fn passkey_assertion_5(call: *const AssertionCall, out: *mut AssertionOut) -> u32;
+    fn passkey_signature_asked_5(
         call: *const SignatureCall, message: *mut u8, message_room: usize, signature: *mut u8, signature_room: usize,
         out: *mut SignatureOut,
     ) -> u32;
-    fn passkey_refusal_text(is_registration: u32, answer: u32, text: *mut u8, room: usize) -> usize;
+    fn passkey_refusal_text_5(is_registration: u32, answer: u32, text: *mut u8, room: usize) -> usize;
 
     // of OpenSSL
     fn d2i_PUBKEY(key: *mut *mut c_void, bytes: *mut *const u8, size: c_long) -> *mut c_void;
@@ -165,7 +169,7 @@ unsafe extern "C" {
 /// The text of an answer to a sign-in.
 fn text(answer: u32) -> String {
     let mut room = [0; 128];
-    let size = unsafe { passkey_refusal_text(0, answer, room.as_mut_ptr(), room.len()) };
+    let size = unsafe { passkey_refusal_text_5(0, answer, room.as_mut_ptr(), room.len()) };
     String::from_utf8_lossy(&room[..size]).into_owned()
 }
 
@@ -188,7 +192,7 @@ fn is_valid(x: &[u8], y: &[u8], message: &[u8], signature: &[u8]) -> bool {
 
 /// Judges a sign-in, and verifies its signature where each step before it is passed.
 fn sign_in(call: &mut AssertionCall, out: &mut AssertionOut) -> u32 {
-    let answer = unsafe { passkey_assertion(call, out) };
+    let answer = unsafe { passkey_assertion_5(call, out) };
     if answer != BAD_SIGNATURE {
         return answer;
     }
@@ -209,7 +213,7 @@ fn sign_in(call: &mut AssertionCall, out: &mut AssertionOut) -> u32 {
         signature_size: 0,
     };
     let told_as = unsafe {
-        passkey_signature_asked(
+        passkey_signature_asked_5(
             &asked, message.as_mut_ptr(), message.len(), signature.as_mut_ptr(), signature.len(), &mut told,
         )
     };
@@ -224,10 +228,12 @@ fn sign_in(call: &mut AssertionCall, out: &mut AssertionOut) -> u32 {
         message: Bytes::of(message),
         signature: Bytes::of(signature),
     };
-    unsafe { passkey_assertion(call, out) }
+    unsafe { passkey_assertion_5(call, out) }
 }
 
 fn main() {
+    let abi = unsafe { passkey_abi_version() };
+    assert!(abi == ABI_VERSION, "libpasskey has ABI {abi}, and this program is for {ABI_VERSION}");
     let recorded = std::fs::read_to_string("recorded.txt").expect("recorded.txt");
     let part = |name: &str| -> Vec<u8> {
         let line = recorded.lines().find_map(|line| line.strip_prefix(name)?.strip_prefix(' ')).expect("a line");
@@ -242,7 +248,8 @@ fn main() {
         *signature.last_mut().expect("a byte") ^= u8::from(changed);
         let mut call = AssertionCall {
             party: Party {
-                rp_id: Bytes::of(&rp_id), origins: origins.as_ptr(), origin_count: 1, profile: 1, top_origins: null(), top_origin_count: 0,
+                rp_id: Bytes::of(&rp_id), origins: origins.as_ptr(), origin_count: 1, profile: PROFILE_LEVEL3,
+                top_origins: null(), top_origin_count: 0,
             },
             has_session: 1,
             session: Session {

@@ -1,9 +1,9 @@
 // A whole sign-in from Go, of which Chromium made the response; crypto/ecdsa verifies its signature. With recorded.txt,
-// passkey.h and libpasskey.so.4 in the folder: CGO_ENABLED=1 GO111MODULE=off go run main.go
+// passkey.h and libpasskey.so.5 in the folder: CGO_ENABLED=1 GO111MODULE=off go run main.go
 package main
 
 // #cgo CFLAGS: -I.
-// #cgo LDFLAGS: -L. -l:libpasskey.so.4 -Wl,-rpath,${SRCDIR}
+// #cgo LDFLAGS: -L. -l:libpasskey.so.5 -Wl,-rpath,${SRCDIR}
 // #include <stdlib.h>
 // #include "passkey.h"
 import "C"
@@ -103,6 +103,9 @@ func recorded() map[string][]byte {
 }
 
 func main() {
+	if abi := C.passkey_abi_version(); abi != C.PASSKEY_ABI_VERSION {
+		panic(fmt.Sprintf("libpasskey has ABI %d, and this program is for %d", abi, C.PASSKEY_ABI_VERSION))
+	}
 	parts := recorded()
 	for _, change := range []byte{0, 1} {
 		var l lender
@@ -110,7 +113,7 @@ func main() {
 		key := C.passkey_key{algorithm: C.PASSKEY_ES256, x: l.bytes(parts["x"]), y: l.bytes(parts["y"])}
 		call := C.passkey_assertion_call{
 			party: C.passkey_party{rp_id: l.bytes(parts["rp_id"]), origins: l.list(parts["origin"]), origin_count: 1,
-				profile: 1},
+				profile: C.PASSKEY_PROFILE_LEVEL3},
 			has_session:    1,
 			session:        C.passkey_sign_in_session{challenge: l.bytes(parts["challenge"])},
 			has_credential: 1,

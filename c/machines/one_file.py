@@ -30,6 +30,7 @@ static bool instantiate(Z_passkey_instance_t *instance)
 module = "\n".join(line for line in module.split("\n") if "w2c_T0" not in line)
 module = re.sub(r"\bw2c_(?:__(heap_base|stack_pointer)|(heap_end))\b", r"\1\2", module)
 module = re.sub(r"\bw2c_([ijlpBLdg]\d+|memory|Bfunc)\b", r"\1", module)
+module = re.sub(r"\b(w2c_passkey_[a-z_]+)_\d+\b", r"\1", module)  # portable.c calls these without the ABI's number
 module = re.sub(r"\bZ_passkey_instance_t\b", "instance_t", module)
 module = re.sub(r"^ +", "", module, flags=re.M)
 whole = (here / "portable.c").read_text()

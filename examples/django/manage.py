@@ -12,7 +12,8 @@ settings.configure(
     DEBUG=True, SECRET_KEY=os.environ.get("SECRET", "a secret of your own"), ALLOWED_HOSTS=["localhost"], ROOT_URLCONF="__main__",
     DATABASES={"default": {"ENGINE": "django.db.backends.sqlite3", "NAME": "site.sqlite"}},
     INSTALLED_APPS=["django.contrib.auth", "django.contrib.contenttypes", "django.contrib.sessions", "garvoeng.django"],
-    MIDDLEWARE=["django.contrib.sessions.middleware.SessionMiddleware", "django.contrib.auth.middleware.AuthenticationMiddleware"],
+    MIDDLEWARE=["django.contrib.sessions.middleware.SessionMiddleware", "django.contrib.auth.middleware.AuthenticationMiddleware",
+                "garvoeng.django.middleware.PasskeyMiddleware"],
     AUTHENTICATION_BACKENDS=["garvoeng.django.backends.PasskeyBackend"], GARVOENG={"rp_id": "localhost", "origins": ["http://localhost:8000"]})
 django.setup()
 home = "<p>{} <a href='/passkeys/'>passkeys</a></p>"

@@ -1,14 +1,11 @@
 """A site in Flask whose visitors sign in by passkeys: flask --app passkey_site run"""
-import os
 import sqlite3
-
-from flask import Flask
 from garvoeng import Server
-from garvoeng.flask import passkeys, signed_in
 from garvoeng.sql import SqlServer
+from garvoeng.flask import passkeys, signed_in
+from flask import Flask
 
 app = Flask(__name__)
-app.secret_key = os.environ.get("SECRET", "a secret of your own")
 server = SqlServer(Server("localhost", ["http://localhost:5000"]), lambda: sqlite3.connect("site.sqlite", timeout=30))
 server.prepare()
 app.register_blueprint(passkeys(server), url_prefix="/passkeys")

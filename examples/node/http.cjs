@@ -3,16 +3,16 @@ const { readFileSync } = require("node:fs");
 const { createServer } = require("node:http");
 const { toText } = require("garvoeng");
 const { passkeys } = require("garvoeng/http");
-const { port, secret, secure, server } = require("./party.cjs");
+const { port, secret, server } = require("./party.cjs");
 
-const page = readFileSync(`${__dirname}/page.html`), site = passkeys(server, { secret, secure });
+const page = readFileSync(`${__dirname}/page.html`), site = passkeys(server, { secret });
 
 createServer((request, response) => {
   const send = (status, type, body) => response.writeHead(status, { "Content-Type": type }).end(body);
   if (request.method === "GET" && request.url === "/") return send(200, "text/html", page);
   if (request.method === "GET" && request.url === "/account") {
-    const user = site.signedIn(request);
-    return user === null ? send(401, "text/plain", "nobody is signed in") : send(200, "text/plain", toText(user));
+    const answer = (user) => (user === null ? send(401, "text/plain", "nobody is signed in") : send(200, "text/plain", toText(user)));
+    return site.signedIn(request).then(answer, () => send(503, "text/plain", "try again"));
   }
   site(request, response);
 }).listen(port, "localhost");

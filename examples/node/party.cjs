@@ -7,7 +7,6 @@ const { DATABASE_URL, PORT = "8080", ORIGIN = `http://localhost:${PORT}`, PROGRA
 const party = [new URL(ORIGIN).hostname, [ORIGIN]];
 
 exports.port = Number(PORT);
-exports.secure = ORIGIN.startsWith("https:");
 // It signs the cookies. All processes of a site have the same; a new one signs everybody out.
 exports.secret = process.env.SECRET ??= randomBytes(32).toString("hex");
 exports.server = DATABASE_URL === undefined

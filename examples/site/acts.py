@@ -7,7 +7,7 @@ from pathlib import Path
 from typing import Any, Dict, List, Mapping, Optional, Tuple, Union
 
 from accounts import Accounts, Taken, connect_to
-from garvoeng import MAX_STORED_LIST, Credential, Server, SignedIn, StoredServer
+from garvoeng import Credential, Server, SignedIn, StoredServer
 from garvoeng.sql import SqlServer
 
 PROGRAM = os.environ.get("PROGRAM", str(Path(__file__).resolve().parents[2] / "dist" / "passkey-site"))
@@ -16,25 +16,28 @@ PROGRAM = os.environ.get("PROGRAM", str(Path(__file__).resolve().parents[2] / "d
 Session = Union[int, str, None]
 
 
-class ListingServer(StoredServer):
-    """The program, which is told the ids of an account's passkeys, as `SqlServer` finds them by itself. Where they are more than a list
-    may have any passkey answers that the browser finds, and the user handle has to be the account's."""
-
-    def _ids(self, user: bytes) -> List[bytes]:
-        return [row.id for row in self.rows(user) if not row.retired]
-
-    def register_begin(self, user: bytes, user_name: str, *more: Any, **how: Any) -> Tuple[Dict[str, Any], int]:
-        return super().register_begin(user, user_name, *more, exclude=self._ids(user)[:MAX_STORED_LIST], **how)
-
-    def authenticate_begin(self, *, user: Optional[bytes] = None, **how: Any) -> Tuple[Dict[str, Any], int]:
-        ids = [] if user is None else self._ids(user)
-        return super().authenticate_begin(user=user, allow=ids if len(ids) <= MAX_STORED_LIST else [], **how)
-
-
 class Acts:
-    def __init__(self, server: Union[SqlServer, ListingServer], accounts: Accounts) -> None:
+    def __init__(self, server: Union[SqlServer, StoredServer], accounts: Accounts) -> None:
         self.server: Any = server
         self.accounts = accounts
+        self.rows = accounts.rows
+        """What keeps who is signed in."""
+
+    def sign_in(self, user: bytes, passkey: bytes) -> str:
+        """The number of a sign-in, for the visitor's cookie. It ends with its passkey, or else with any that the account retires."""
+        return self.rows.keep_sign_in(user, passkey if self.server is self.rows else None)
+
+    def signed_in(self, number: Optional[str], fresh: Optional[int] = None) -> Optional[bytes]:
+        """The user handle of who is signed in, if it is at most `fresh` seconds ago."""
+        kept = self.rows.signed_in(number, fresh=fresh)
+        return None if kept is None else kept.user
+
+    def sign_out(self, number: Optional[str], *sessions: Session) -> None:
+        """The sign-in ends, and what has begun."""
+        self.rows.abandon(number)
+        for session in sessions:
+            if session is not None:
+                self.server.abandon(session)
 
     def register_begin(self, name: str, visitor: Optional[bytes], verified: bool, resident: bool) -> Tuple[Dict[str, Any], Session]:
         """The options and the session. A name that is another account's is taken."""
@@ -61,11 +64,12 @@ class Acts:
         begun: Tuple[Dict[str, Any], Session] = self.server.authenticate_begin(user=user, user_verification=verified)
         return begun
 
-    def sign_in_finish(self, session: Session, response: Mapping[str, Any]) -> Tuple[bytes, int]:
-        """The account's user handle, and the passkey's counter."""
+    def sign_in_finish(self, session: Session, response: Mapping[str, Any]) -> Tuple[bytes, bytes, int]:
+        """The account's user handle, the passkey's id and its counter."""
         said = self.server.authenticate_complete(session, response)
-        who = said.credential if isinstance(said, SignedIn) else said
-        return who.user, who.sign_count
+        if isinstance(said, SignedIn):
+            return said.credential.user, said.credential.id, said.credential.sign_count
+        return said.user, said.credential, said.sign_count
 
     def passkeys(self, user: bytes) -> List[Credential]:
         """The passkeys of a user, by their ids."""
@@ -76,6 +80,8 @@ class Acts:
         if id not in (row.id for row in self.server.rows(user)):
             return False
         self.server.retire(id)
+        if self.server is not self.rows:
+            self.rows.delete_account(user)
         return True
 
 
@@ -84,6 +90,6 @@ def acts_at(address: str, rp_id: str, origin: str, rp_name: str) -> Acts:
     server = Server(rp_id, [origin], rp_name)
     if address.startswith("program:"):
         file = address[len("program:"):]
-        return Acts(ListingServer(PROGRAM, file, rp_id, [origin], rp_name, shared=True), Accounts(SqlServer(server, connect_to(file + "-accounts"))))
+        return Acts(StoredServer(PROGRAM, file, rp_id, [origin], rp_name, shared=True), Accounts(SqlServer(server, connect_to(file + "-accounts"))))
     rows = SqlServer(server, connect_to(address))
     return Acts(rows, Accounts(rows))

@@ -16,6 +16,8 @@ from werkzeug.wrappers import Response as AnyResponse
 HERE = os.path.dirname(os.path.abspath(__file__))
 MAX_BODY = 64 * 1024
 """The most bytes of a visitor's request."""
+FRESH = 300
+"""How many seconds after a sign-in a passkey may be added to the account."""
 Answered = Union[Response, Tuple[Response, int]]
 
 
@@ -46,9 +48,12 @@ def site(address: str, origin: str, secret: bytes) -> Flask:
                       SESSION_COOKIE_SECURE=origin.startswith("https:"))
     acts = acts_at(address, origin.split("//")[1].split(":")[0], origin, "A small site")
 
-    def signed_in_user() -> Optional[bytes]:
-        user = cookie.get("user")
-        return None if user is None else from_text(user, "user")
+    def signed_in_user(fresh: Optional[int] = None) -> Optional[bytes]:
+        return acts.signed_in(cookie.get("signed-in"), fresh)
+
+    def begun_by() -> Optional[str]:
+        """The number of the visitor's sign-in, while it is one."""
+        return None if signed_in_user() is None else cookie["signed-in"]
 
     @app.get("/")
     def page() -> Response:
@@ -60,15 +65,18 @@ def site(address: str, origin: str, secret: bytes) -> Flask:
         name = name_in(said)
         if not name:
             raise BadInput("an account has a name")
-        options, number = acts.register_begin(name, signed_in_user(), bool(said.get("verified")), bool(said.get("resident", True)))
-        cookie["registration"], cookie["name"] = number, name
+        options, number = acts.register_begin(name, signed_in_user(FRESH), bool(said.get("verified")), bool(said.get("resident", True)))
+        cookie["registration"], cookie["name"], cookie["begun-by"] = number, name, begun_by()
         return jsonify(options)
 
     @app.post("/register/finish")
     def register_finish() -> Answered:
+        if cookie.get("begun-by") != begun_by():
+            return jsonify(error="the sign-in that began this has ended"), 403
         user, id = acts.register_finish(cookie.get("registration"), cookie.get("name", ""), body())
         cookie.pop("registration", None)
-        cookie["user"] = to_text(user)
+        if signed_in_user() != user:
+            cookie["signed-in"] = acts.sign_in(user, id)
         return jsonify(passkey=to_text(id))
 
     @app.post("/sign-in/begin")
@@ -82,9 +90,10 @@ def site(address: str, origin: str, secret: bytes) -> Flask:
 
     @app.post("/sign-in/finish")
     def sign_in_finish() -> Answered:
-        user, count = acts.sign_in_finish(cookie.get("sign-in"), body())
-        cookie["user"] = to_text(user)
-        return jsonify(user=cookie["user"], count=count)
+        user, id, count = acts.sign_in_finish(cookie.get("sign-in"), body())
+        acts.sign_out(cookie.get("signed-in"))
+        cookie["signed-in"] = acts.sign_in(user, id)
+        return jsonify(user=to_text(user), count=count)
 
     @app.get("/passkeys")
     def passkeys() -> Answered:
@@ -102,6 +111,7 @@ def site(address: str, origin: str, secret: bytes) -> Flask:
 
     @app.post("/sign-out")
     def sign_out() -> AnyResponse:
+        acts.sign_out(cookie.get("signed-in"), cookie.get("registration"), cookie.get("sign-in"))
         cookie.clear()
         return redirect("/", 303)
 

@@ -249,7 +249,7 @@ def visits_while_killed(opened, site, port, primary):
     opened.open(f"http://localhost:{port}/browser.js")
     key = opened.authenticator()
     run = lambda script: opened.run(VISIT.replace("SCRIPT", script))  # noqa: E731
-    made, killed, seconds = run("await visit('register')"), [], 4
+    made, killed, seconds = run("await visit('register')"), [], 10
     killing = threading.Thread(target=kills, args=(primary, time.monotonic() + seconds, killed))
     killing.start()
     counted = run(WITHOUT_END.replace("MILLISECONDS", str(1000 * seconds)))

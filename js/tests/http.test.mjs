@@ -1,57 +1,30 @@
 // `passkeys` by node:http and in Express, over the proved program (PROGRAM): visits, cookies, what no page sends, visitors beside hostile
 // ones, and programs that die or never answer.
 import assert from "node:assert/strict";
+import { createHmac } from "node:crypto";
 import { once } from "node:events";
-import { chmodSync, mkdtempSync, readFileSync, rmSync, writeFileSync } from "node:fs";
+import { chmodSync, readFileSync, writeFileSync } from "node:fs";
 import { createServer } from "node:http";
 import { createRequire } from "node:module";
 import { connect } from "node:net";
-import { tmpdir } from "node:os";
 import { join } from "node:path";
-import { after, test } from "node:test";
-import { BadInput, StoreFailed, StoredServer, fromText, toText } from "garvoeng";
+import { test } from "node:test";
+import { BadInput, StoreFailed, StoredServer, fromText } from "garvoeng";
 import { passkeys } from "garvoeng/http";
-import { Device, changed } from "./device.mjs";
+import { changed } from "./device.mjs";
+import { errors, folder, own, pair, secret, serving, stored, visit } from "./visits.mjs";
 
 const require = createRequire(import.meta.url), express = require("express"), common = require("garvoeng/http");
-const folder = mkdtempSync(join(tmpdir(), "http-")), secret = "s".repeat(32), errors = [];
-after(() => rmSync(folder, { recursive: true }));
-let files = 0;
-const stored = (how = {}) => new StoredServer(process.env.PROGRAM, join(folder, `${++files}.db`), "localhost", ["http://localhost"], { logger: () => {}, ...how });
 const children = () => readFileSync(`/proc/self/task/${process.pid}/children`, "utf8").trim().split(" ").filter((one) => one !== "").map(Number);
-
-// A site, whose listener `make` makes of what `passkeys` gives.
-async function serving(context, server, make = (site) => createServer(site), how = {}) {
-  const site = passkeys(server, { secret, logger: (error) => errors.push(error), ...how }), listening = make(site).listen(0, "localhost");
-  await once(listening, "listening");
-  context.after(async () => {
-    listening.closeAllConnections();
-    listening.close();
-    await server.close().catch(() => {});
-  });
-  const { port } = listening.address(), origin = `http://localhost:${port}`;
-  const post = async (path, body, cookie = "", type = "application/json") => {
-    const answer = await fetch(origin + path, { method: "POST", headers: { "Content-Type": type, cookie }, body });
-    const text = await answer.text();
-    return { status: answer.status, told: text.startsWith("{") ? JSON.parse(text) : text, cookie: answer.headers.getSetCookie()[0] ?? "" };
-  };
-  return { site, port, origin, post };
-}
-
-const pair = (cookie) => cookie.split(";")[0];
-
-async function visit({ post }, act, device, { user, before = "", change = (value) => value } = {}) {
-  const begun = await post(`/${act}/begin`, '{"name":"ada"}', before);
-  assert.equal(begun.status, 200, JSON.stringify(begun.told));
-  const made = act === "register" ? device.register(begun.told) : device.signIn(begun.told, { user });
-  return post(`/${act}/complete`, JSON.stringify(change(made)), pair(begun.cookie));
-}
-
-const own = (id) => new Device(undefined, { id: Buffer.from(id), rpId: "localhost", origin: "http://localhost" });
+const COOKIE = /^garvoeng_(user|registration|sign_in)=[\w-]+\.[\w-]{43}; Path=\/; HttpOnly; SameSite=Lax$/;
+const endedOf = (name) => `garvoeng_${name}=; Path=/; HttpOnly; SameSite=Lax; Max-Age=0`;
 const LISTENERS = {
   "node:http": (site) => createServer(site),
   Express: (site) => ({ listen: (...words) => express().use(site).get("/else", (_, response) => response.send("else")).listen(...words) }),
   "Express, which read the body": (site) => ({ listen: (...words) => express().use(express.json({ limit: "1mb" }), site).listen(...words) }),
+  "Express with parsers that pass JSON over": (site) => ({ listen: (...words) => express().use(express.urlencoded({ extended: true }), express.text(), express.raw(), site).listen(...words) }),
+  "Express, which read the body as text": (site) => ({ listen: (...words) => express().use(express.text({ type: "*/*", limit: "1mb" }), site).listen(...words) }),
+  "Express, which read the body as bytes": (site) => ({ listen: (...words) => express().use(express.raw({ type: "*/*", limit: "1mb" }), site).listen(...words) }),
 };
 
 for (const [name, make] of Object.entries(LISTENERS)) {
@@ -61,19 +34,22 @@ for (const [name, make] of Object.entries(LISTENERS)) {
     assert.deepEqual([made.status, user.length], [200, 32]);
     const signed = await visit(served, "sign-in", device, { user });
     assert.deepEqual([signed.status, signed.told], [200, made.told]);
-    assert.match(signed.cookie, /^garvoeng_user=[\w-]+\.[\w-]{43}; Path=\/; HttpOnly; SameSite=Strict; Secure$/);
+    assert.match(signed.cookie, COOKIE);
+    assert.deepEqual([made.cookies[1], signed.cookies[1]], [endedOf("registration"), endedOf("sign_in")]);
     const account = (cookie) => site.signedIn({ headers: { cookie } });
-    assert.deepEqual(account(pair(signed.cookie)), user);
-    assert.deepEqual(account(`a=b; ${pair(signed.cookie)}; c=d`), user);
-    assert.deepEqual([account(undefined), account(""), account("garvoeng_user=")], [null, null, null]);
+    assert.deepEqual(await account(pair(signed.cookie)), user);
+    assert.deepEqual(await account(`a=b; ${pair(signed.cookie)}; c=d`), user);
+    for (const none of [undefined, "", "garvoeng_user="]) assert.equal(await account(none), null);
     const more = await visit(served, "register", own("another"), { before: pair(signed.cookie) });
-    assert.deepEqual(more.told, made.told, "one who is signed in gets one more passkey");
+    assert.deepEqual([more.told, more.cookies], [made.told, [endedOf("registration")]], "one who is signed in gets one more passkey");
+    assert.equal((await site.signedIn({ headers: { cookie: pair(signed.cookie) } })).length, 32);
     assert.notDeepEqual((await visit(served, "register", own("a third"))).told, made.told);
     const refused = await visit(served, "sign-in", device, { user, change: (value) => changed(value, "signature", (bytes) => (bytes[9] ^= 1, bytes)) });
     assert.deepEqual([refused.status, refused.told.refusal, refused.cookie], [403, "W14", ""]);
     assert.match(refused.told.error, /^BadSignature: /);
     const out = await post("/sign-out", "{}", pair(signed.cookie));
-    assert.deepEqual([out.status, out.cookie], [200, "garvoeng_user=; Path=/; HttpOnly; SameSite=Strict; Secure; Max-Age=0"]);
+    assert.deepEqual([out.status, out.cookies], [200, ["user", "registration", "sign_in"].map(endedOf)]);
+    assert.equal(await account(pair(signed.cookie)), null);
     const browser = await fetch(`${origin}/browser.js?1`);
     assert.deepEqual([browser.headers.get("content-type"), await browser.text()],
                      ["text/javascript", readFileSync(require.resolve("garvoeng/browser"), "utf8")]);
@@ -108,18 +84,18 @@ for (const [name, make] of Object.entries(LISTENERS)) {
 test("a secret, and cookies that are not the site's", async (context) => {
   const server = stored(), served = await serving(context, server), { post } = served, device = own("key");
   for (const bad of [undefined, "", "s".repeat(31), Buffer.alloc(32), 7]) assert.throws(() => passkeys(server, { secret: bad }), BadInput);
-  assert.match((await (await serving(context, server, undefined, { secure: false })).post("/sign-in/begin", "{}")).cookie, /SameSite=Strict$/);
+  assert.match((await post("/sign-in/begin", "{}")).cookie, COOKIE);
   const made = await visit(served, "register", device), kept = pair(made.cookie), [name, sealed] = kept.split("="), [value, code] = sealed.split(".");
   const flipped = (text, at) => text.slice(0, at) + (text[at] === "A" ? "B" : "A") + text.slice(at + 1);
   const foreign = pair((await visit(await serving(context, stored(), undefined, { secret: "t".repeat(32) }), "register", own("other"))).cookie);
   const others = [foreign, `${name}=${value}`, `${name}=.${code}`, `${name}=${value}.`, `${name}=${value}.${code}A`, `${name}=${value}A.${code}`, `x${kept}`,
                   ...[...value].map((_, at) => `${name}=${flipped(value, at)}.${code}`), ...[...code].map((_, at) => `${name}=${value}.${flipped(code, at)}`)];
-  for (const cookie of others) assert.equal(served.site.signedIn({ headers: { cookie } }), null, cookie);
-  assert.equal(common.passkeys(server, { secret }).signedIn({ headers: { cookie: kept } }).length, 32);
+  for (const cookie of others) assert.equal(await served.site.signedIn({ headers: { cookie } }), null, cookie);
+  assert.equal((await common.passkeys(server, { secret }).signedIn({ headers: { cookie: kept } })).length, 32);
   // A session's cookie is of one ceremony, and says nobody.
   const { told, cookie } = await post("/sign-in/begin", "{}"), response = JSON.stringify(device.signIn(told, { user: fromText(made.told.user, "user") }));
   const moved = pair(cookie).replace("garvoeng_sign_in", "garvoeng_user");
-  assert.equal(served.site.signedIn({ headers: { cookie: moved } }), null);
+  assert.equal(await served.site.signedIn({ headers: { cookie: moved } }), null);
   for (const wrong of ["", moved, pair(cookie).replace("garvoeng_sign_in", "garvoeng_registration"), kept.replace(name, "garvoeng_sign_in")])
     assert.equal((await post("/sign-in/complete", response, wrong)).told.refusal, "W1", wrong);
   assert.equal((await post("/sign-in/complete", response, pair(cookie))).status, 200);
@@ -135,6 +111,90 @@ test("what no page sends", async (context) => {
   for (const name of ["ada", "Ada Lovelace", "\u00e9", "\u{1f511}".repeat(64), "x".repeat(64)]) assert.equal((await post("/register/begin", JSON.stringify({ name }))).status, 200, name);
   assert.deepEqual((await post("/sign-in/begin", `{"a":"${"A".repeat(131_064)}"}`)).status, 200);
   assert.deepEqual((await post("/sign-in/begin", `{"a":"${"A".repeat(131_065)}"}`)).told, { error: "the body is too long" });
+});
+
+// A listener that does something with a request before the site has it.
+const before = (work) => (site) => createServer(async (request, response) => {
+  await work(request);
+  await site(request, response);
+});
+const all = async (request) => {
+  const parts = [];
+  for await (const part of request) parts.push(part);
+  return Buffer.concat(parts);
+};
+
+test("a body that was read elsewhere is taken where it is handed on, and else is refused at once", async (context) => {
+  const handedOn = {
+    object: async (request) => (request.body = JSON.parse(await all(request))), text: async (request) => (request.body = (await all(request)).toString()),
+    bytes: async (request) => (request.body = await all(request)), rawBody: async (request) => (request.rawBody = await all(request)),
+    "rawBody beside an empty object": async (request) => Object.assign(request, { rawBody: await all(request), body: {} }),
+    "nothing read": async (request) => (request.body = {}), "an object that was not read": async (request) => (request.body = { name: "" }),
+  };
+  for (const [what, work] of Object.entries(handedOn)) {
+    const served = await serving(context, stored(), before(work)), device = own("key"), made = await visit(served, "register", device);
+    assert.deepEqual([made.status, (await visit(served, "sign-in", device, { user: fromText(made.told.user) })).told], [200, made.told], what);
+    if (what !== "object" && !what.includes("read")) {
+      assert.deepEqual((await served.post("/register/begin", "{")).told, { error: "the body is not JSON" }, what);
+      assert.deepEqual((await served.post("/register/begin", `{"name":"ada","a":"${"A".repeat(131_072)}"}`)).told, { error: "the body is too long" }, what);
+    }
+  }
+  const wrong = { error: "the body was read before: hand it on as request.body, or call passkeys before what reads it" };
+  for (const work of [all, async (request) => (await all(request), (request.body = null)), async (request) => (await all(request), (request.body = 7)), async (request) => (request.resume(), await once(request, "end"))]) {
+    const served = await serving(context, stored(), before(work));
+    errors.length = 0;
+    for (const path of ["/sign-in/begin", "/sign-in/complete", "/sign-out"]) {
+      const answer = await served.post(path, '{"a":1}');
+      assert.deepEqual([answer.status, answer.told, answer.cookies], [500, wrong, []]);
+    }
+    assert.equal(errors.length, 3, "the host is told");
+  }
+  const half = await serving(context, stored(), before((request) => once(request, "data")));
+  assert.deepEqual((await half.post("/sign-in/begin", '{"a":1}')).status, 500);
+});
+
+test("a request that has ended, of which nothing comes any more", async () => {
+  const server = stored(), site = passkeys(server, { secret, logger: () => {} });
+  for (const [more, status] of [[{ destroyed: true }, 400], [{ readableEnded: true }, 500], [{ readableDidRead: true }, 500], [{ readableEnded: true, body: {} }, 200]]) {
+    let answered = null;
+    const response = { headersSent: false, appendHeader() {}, writeHead: (code) => ((answered = code), { end() {} }) };
+    const call = site({ method: "POST", url: "/sign-in/begin", headers: { "content-type": "application/json" }, on() {}, ...more }, response);
+    await Promise.race([call, new Promise((resolve) => setTimeout(resolve, 5_000))]);
+    assert.equal(answered, status, JSON.stringify(more));
+  }
+  await server.close();
+});
+
+test("a logger that throws, and one that rejects, end nothing", async (context) => {
+  for (const logger of [() => { throw new Error("of the logger"); }, async () => { throw new Error("of the logger"); }]) {
+    const server = stored(), { post } = await serving(context, server, undefined, { logger });
+    server.authenticateBegin = async () => { throw new StoreFailed("none"); };
+    for (let time = 0; time < 3; time++) assert.deepEqual((await post("/sign-in/begin", "{}")).told, { error: "try again" });
+    assert.equal((await post("/register/begin", '{"name":"ada"}')).status, 200);
+  }
+});
+
+test("a site of ES modules over a server of CommonJS, and the other way round", async (context) => {
+  const Stored = require("garvoeng").StoredServer, here = (kind) => new kind(process.env.PROGRAM, join(folder, `copies ${kind === Stored}.db`), "localhost", ["http://localhost"], { logger: () => {} });
+  for (const [site, server] of [[passkeys, here(Stored)], [common.passkeys, here(StoredServer)]]) {
+    const listening = (made) => createServer(made), served = await serving(context, server, () => listening(site(server, { secret, logger: (error) => errors.push(error) }))), device = own("key");
+    errors.length = 0;
+    const made = await visit(served, "register", device), user = fromText(made.told.user);
+    const refused = await visit(served, "sign-in", device, { user, change: (value) => changed(value, "signature", (bytes) => (bytes[9] ^= 1, bytes)) });
+    assert.deepEqual([refused.status, refused.told.refusal], [403, "W14"]);
+    assert.equal((await served.post("/sign-in/complete", "{}")).status, 400);
+    assert.deepEqual(errors, []);
+  }
+});
+
+test("a cookie of an older form, and one with a code and no value of ours, is none", async (context) => {
+  const { site, post } = await serving(context, stored()), code = (text) => createHmac("sha256", secret).update(text).digest("base64url"), value = Buffer.from("YWNjb3VudA").toString("base64url");
+  for (const name of ["garvoeng_user", "garvoeng_registration", "garvoeng_sign_in"]) {
+    const old = `${name}=${value}.${code(`${name}=${value}`)}`;
+    assert.equal(await site.signedIn({ headers: { cookie: old } }), null);
+    assert.equal((await post("/sign-in/complete", JSON.stringify(own("nobody").signIn({ challenge: "AA" })), old)).told.refusal, "W1");
+    assert.equal((await post("/sign-out", "{}", old)).status, 200);
+  }
 });
 
 test("visitors who are slow, or leave", async (context) => {

@@ -14,9 +14,9 @@ const user = Buffer.from("account 7"), MEGABYTES_64 = 64 * 1024 * 1024;
 
 // The module's file with a limit of so many pages of 64 KiB on its memory, whose section has none.
 function limited(pages) {
-  const at = file.indexOf(Buffer.from([5, 3, 1, 0, 3]));
-  assert.ok(at > 0 && file.indexOf(Buffer.from([5, 3, 1, 0, 3]), at + 1) < 0 && pages < 128);
-  return Buffer.concat([file.subarray(0, at), Buffer.from([5, 4, 1, 1, 3, pages]), file.subarray(at + 5)]);
+  const at = file.indexOf(Buffer.from([5, 3, 1, 0, 2]));
+  assert.ok(at > 0 && file.indexOf(Buffer.from([5, 3, 1, 0, 2]), at + 1) < 0 && pages < 128);
+  return Buffer.concat([file.subarray(0, at), Buffer.from([5, 4, 1, 1, 2, pages]), file.subarray(at + 5)]);
 }
 
 function serving(bytes = file) {
@@ -116,15 +116,15 @@ test("a text that a visitor sent is nowhere in the memory", async () => {
 });
 
 test("a module that runs out of memory says so, and goes on", async () => {
-  const made = serving(limited(4));
+  const made = serving(limited(3));
   for (let round = 0; round < 3; round++) {
     await assert.rejects(visited(made, padded(40_000)), NoMemory);
     assert.equal((await visited(made)).credential.signCount, 1);
     assert.ok(isAsAtFirst(made));
   }
-  assert.ok(made.module.bytes().length <= 4 * 65_536);
+  assert.ok(made.module.bytes().length <= 3 * 65_536);
   // Where there is no room for the response itself.
-  const small = serving(limited(3));
+  const small = serving(limited(2));
   await assert.rejects(visited(small, padded(44_000)), NoMemory);
   assert.equal((await visited(small)).credential.signCount, 1);
   for (const call of [() => small.module.take(60_000), () => small.module.lend(new Uint8Array(60_000)), () => small.module.place(new Image(60_000), 8)])
@@ -158,7 +158,7 @@ test("64 MB at most", async () => {
       module.within = within;
     }
   }
-  assert.ok(most > 10_000_000 && most <= MEGABYTES_64, `${most}`);
+  assert.ok(most > 2 * MOST_LENT && most <= MEGABYTES_64, `${most}`);
   await assert.rejects(server.authenticateCompleteParts(session, credential, { ...parts, clientData: Buffer.alloc(1_000_000) }), { name: "W5" });
   assert.equal((await visited(made)).credential.signCount, 1);
   assert.equal(module.bytes().length, made.first.length, "a module that had grown was let go");

@@ -1,11 +1,17 @@
 // Registrations and sign-ins by `Server`: accepted, refused at each step, and what hosts hand in by mistake.
 import assert from "node:assert/strict";
+import { randomBytes } from "node:crypto";
+import { readFileSync } from "node:fs";
 import { test } from "node:test";
 import {
-  BadInput, Credential, EDDSA, ES256, RS256, Refused, RegistrationSession, Server, SignInSession, coseKeyOf, credentialFromCose, fromText,
+  BadInput, Credential, EDDSA, ES256, RS256, Refused, RegistrationSession, RowDamaged, Server, SignInSession, coseKeyOf, credentialFromCose, fromText,
   isCanonical, toText,
 } from "garvoeng";
 import { AT, BE, BS, Device, ED, UP, UV, changed } from "./device.mjs";
+
+const inner = (name) => import(new URL(`../node_modules/garvoeng/${name}`, import.meta.url));
+const { Module } = await inner("module.js"), { checkAnswer } = await inner("verdicts.js"), { serverOver } = await inner("server.js"), { isValid } = await inner("node_signatures.js");
+const file = readFileSync(new URL("../node_modules/garvoeng/passkey.wasm", import.meta.url));
 
 // In the open profile, which looks at each step of Level 2; level3.test.mjs has that of Level 3.
 class OpenServer extends Server {
@@ -18,6 +24,8 @@ const user = Buffer.from("account 7"), server = new OpenServer("example.com", ["
 const free = () => false;
 const outputs = "a16b6372656450726f7465637402";
 const of = (session, more) => Object.assign(Object.create(Object.getPrototypeOf(session)), session, more);
+const partsOf = ({ rawId, response: { authenticatorData, signature, clientDataJSON } }) =>
+  ({ rawId: fromText(rawId), authData: fromText(authenticatorData), signature: fromText(signature), clientData: fromText(clientDataJSON) });
 const withText = (response, name, text) => ({ ...response, response: { ...response.response, [name]: text } });
 
 async function registered(device, how, on = server) {
@@ -71,7 +79,7 @@ test("a registration is refused at each step", async () => {
     ["G13", complete(changed(packed, "clientDataJSON", (value) => Buffer.from(value.toString().replace("false", "true"))))],
     ["G14", complete(good, { on: new OpenServer("example.com", ["https://example.com"], { acceptNone: false }) })],
     ["G14", complete(packed, { on: new OpenServer("example.com", ["https://example.com"], { acceptSelf: false }) })],
-    ["G15", complete(good, { isRegistered: async () => true })], ["G15", complete(good, { isRegistered: () => "yes" })],
+    ["G15", complete(good, { isRegistered: async () => true })],
     ["G16", complete(good, { isFull: true })],
   ];
   for (const [name, asked] of rows) await assert.rejects(asked, { name, isRegistration: true });
@@ -194,6 +202,47 @@ test("sessions as JSON", () => {
   }
 });
 
+test("a session that was kept has all of its ids, and each of them signs in", async () => {
+  const devices = [EDDSA, ES256, EDDSA].map((algorithm, index) => new Device(algorithm, { id: Buffer.from(`key ${index}`) })), made = [];
+  for (const device of devices) made.push((await registered(device)).credential);
+  const { options, session } = server.authenticateBegin({ user, allow: made, userVerification: "required" }), kept = SignInSession.from(JSON.stringify(session));
+  assert.deepEqual(kept.allow, made.map(({ id }) => id));
+  for (const [index, device] of devices.entries())
+    assert.equal((await server.authenticateComplete(kept, device.signIn(options), { credential: () => made[index] })).credential.signCount, 1);
+  const other = new Device(EDDSA, { id: Buffer.from("key 3") }), { credential } = await registered(other);
+  await assert.rejects(server.authenticateComplete(kept, other.signIn(options), { credential: () => credential }), { name: "W2" });
+});
+
+test("a free id that is not the attested one", async () => {
+  const device = new Device(), { options, session } = server.registerBegin(user, "name"), response = device.register(options);
+  response.id = response.rawId = toText(Buffer.from("another id"));
+  const refused = await server.registerComplete(session, response, { isRegistered: free }).then(() => null, (error) => error);
+  assert.ok(refused instanceof Refused);
+  assert.deepEqual([refused.name, refused.number, refused.isRegistration], ["G19", 19, true]);
+  const made = new Refused(true, 19, "the response's id is not the attested credential's");
+  assert.deepEqual([made.name, made.step, made.message], ["G19", "OtherId", "OtherId: the response's id is not the attested credential's"]);
+});
+
+test("an answer of the module below 100 is a step, also one that has no name here", () => {
+  for (const [number, isRegistration, name] of [[18, true, "G18"], [19, true, "G19"], [19, false, "W19"], [99, true, "G99"]])
+    assert.throws(() => checkAnswer(new Module(new WebAssembly.Module(file)), isRegistration, number), (error) => error instanceof Refused && error.name === name && error.number === number);
+  for (const number of [100, 105, 126, 128]) assert.throws(() => checkAnswer(new Module(new WebAssembly.Module(file)), true, number), { name: "BadInput", number });
+});
+
+test("a module of another version is refused", () => {
+  const { exports } = new WebAssembly.Instance(new WebAssembly.Module(file), {}), { Instance } = WebAssembly;
+  for (const version of [4, 6]) {
+    WebAssembly.Instance = function () {
+      return { exports: { ...exports, passkey_abi_version: () => version } };
+    };
+    try {
+      assert.throws(() => new Module(new WebAssembly.Module(file)), /another version/);
+    } finally {
+      WebAssembly.Instance = Instance;
+    }
+  }
+});
+
 test("a session of another kind is none", async () => {
   const device = new Device(), { credential } = await registered(device);
   const { options, session } = server.authenticateBegin({ user });
@@ -218,10 +267,15 @@ test("what hosts hand in by mistake", async () => {
   const response = device.signIn(options);
   for (const bad of [{ signCount: -1 }, { signCount: 2 ** 32 }, { signCount: "1" }, { signCount: 1n }, { signCount: 0.5 }, { signCount: NaN },
                      { signCount: null }, { algorithm: -9 }, { algorithm: "-7" }, { algorithm: 2 ** 32 - 7 }, { x: "text" }, { id: null },
-                     { y: [1] }, { user: undefined }])
-    await assert.rejects(server.authenticateComplete(session, response, { credential: () => ({ ...credential, ...bad }) }), BadInput);
-  for (const bad of [[{ x: new Uint8Array(31) }, 105], [{ y: new Uint8Array(33) }, 106]])
-    await assert.rejects(server.authenticateComplete(session, response, { credential: () => ({ ...credential, ...bad[0] }) }), { number: bad[1], name: "BadInput" });
+                     { y: [1] }, { user: undefined }, { retired: 0 }, { retired: "false" }, { retired: null }, { eligible: 1 }, { eligible: "true" }]) {
+    const found = { ...credential, ...bad };
+    await assert.rejects(server.authenticateComplete(session, response, { credential: () => found }), (error) => error instanceof RowDamaged && toText(error.id) === toText(device.id));
+    await assert.rejects(server.authenticateCompleteParts(session, found, partsOf(response)), BadInput);
+  }
+  for (const [bad, number] of [[{ x: new Uint8Array(31) }, 105], [{ y: new Uint8Array(33) }, 106]]) {
+    await assert.rejects(server.authenticateComplete(session, response, { credential: () => ({ ...credential, ...bad }) }), ({ name, cause }) => name === "RowDamaged" && cause.number === number);
+    await assert.rejects(server.authenticateCompleteParts(session, { ...credential, ...bad }, partsOf(response)), { number, name: "BadInput" });
+  }
   await assert.rejects(server.authenticateComplete(of(session, { challenge: user }), response, { credential: () => credential }), { number: 103 });
   await assert.rejects(server.authenticateComplete(session, response, { credential: () => Promise.reject(new Error("no rows")) }), { message: "no rows" });
   for (const value of ["text", [1, 2], null, new ArrayBuffer(3), new Uint16Array(3)])
@@ -232,7 +286,7 @@ test("what hosts hand in by mistake", async () => {
     () => server.registerBegin(user, "name", { displayName: 7 }), () => server.registerBegin(user, "name", { exclude: user }),
     () => server.registerBegin(user, "name", { exclude: [new Uint8Array(0)] }), () => server.registerBegin(user, "name", { exclude: [new Uint8Array(1024)] }),
     () => server.registerBegin(user, "name", { exclude: Array(65).fill(user) }), () => server.registerBegin(user, "name", { exclude: ["b25l"] }),
-    () => server.registerBegin(user, "name", { exclude: [null] }), () => server.registerBegin(user, "name", { algorithms: [-258] }),
+    () => server.registerBegin(user, "name", { exclude: [null] }), () => server.registerBegin(user, "name", { algorithms: [-258] }), () => server.registerBegin(user, "name", { algorithms: [] }),
     () => server.registerBegin(user, "name", { algorithms: -7 }), () => server.registerBegin(user, "name", { residentKey: true }),
     () => server.registerBegin(user, "name", { userVerification: true }), () => server.registerBegin(user, "name", { userVerification: "yes" }),
     () => server.registerBegin(user, "name", { timeout: 0 }), () => server.registerBegin(user, "name", { timeout: "1" }),

@@ -12,7 +12,7 @@ const { Pool } = createRequire(import.meta.url)("pg"), user = Buffer.from("accou
 const pool = new Pool({ max: 16 }), other = new Pool({ max: 4 });
 after(() => Promise.all([pool.end(), other.end()]));
 const run = async (text, ...values) => (await pool.query(text, values)).rows;
-const serving = ({ verify, ...how } = {}, by = pool) => new SqlServer(new Server("example.com", ["https://example.com"], { verify }), by, how);
+const serving = ({ verify, ...how } = {}, by = pool) => new SqlServer(new Server("example.com", ["https://example.com"], { verify }), by, { logger: () => {}, ...how });
 const flipped = (value) => (value[value.length - 1] ^= 1, value);
 const settled = async (...calls) => (await Promise.allSettled(calls)).map(({ reason }) => reason?.name ?? "accepted").sort();
 
@@ -123,6 +123,54 @@ test("the account's own credentials are excluded and listed", async () => {
   assert.equal((await server.registerBegin(user, "name")).options.excludeCredentials.length, 64);
   const begun = await server.authenticateBegin({ user });
   assert.deepEqual([begun.options.allowCredentials, JSON.parse((await run("select data from garvoeng_session where id = $1", begun.session))[0].data).user], [[], toText(user)]);
+});
+
+test("retirement ends an account's registrations, deletion all that it has open", async () => {
+  const server = serving(), nobody = Buffer.from("nobody"), device = new Device(), more = (id) => new Device(ES256, { id: Buffer.from(id) });
+  await registered(server, device);
+  await registered(server, more("second"));
+  const begins = async () => [await server.registerBegin(user, "name"), await server.authenticateBegin({ user }), await server.registerBegin(nobody, "name"), await server.authenticateBegin()];
+  const open = async () => (await run("select id from garvoeng_session")).map(({ id }) => id).sort(), ids = (begun) => begun.map(({ session }) => session).sort();
+  const first = await begins();
+  // As Python writes it.
+  await run("update garvoeng_session set data = replace(replace(data, ':', ': '), ',', ', ') where id = $1", first[0].session);
+  assert.deepEqual([await server.retire(device.id, nobody), await server.delete(device.id, nobody)], [false, false]);
+  assert.deepEqual(await open(), ids(first));
+  assert.equal(await server.retire(device.id, user), true);
+  assert.deepEqual(await open(), ids(first.slice(1)));
+  await assert.rejects(server.registerComplete(first[0].session, more("third").register(first[0].options)), { name: "G1" });
+  assert.equal(await server.delete(Buffer.from("none")), false);
+  assert.deepEqual([await server.delete(device.id, user), await server.delete(device.id)], [true, false]);
+  assert.deepEqual(await open(), ids(first.slice(2)));
+  await server.registerComplete(first[2].session, more("nobody's").register(first[2].options));
+  await run("delete from garvoeng_session");
+  const second = await begins();
+  await registered(server, device);
+  assert.equal(await server.deleteAccount(user), 2);
+  assert.deepEqual(await open(), ids(second.slice(2)));
+  assert.deepEqual([await server.deleteAccount(user), (await server.rows()).map(({ id }) => Buffer.from(id).toString())], [0, ["nobody's"]]);
+  for (const bad of ["x", null, new Uint8Array(0), new Uint8Array(65)]) await assert.rejects(server.deleteAccount(bad), BadInput);
+  for (const bad of ["x", null, undefined]) await assert.rejects(server.delete(bad), BadInput);
+  // All of it is one transaction: a failure changes nothing.
+  const failing = serving({}, { listenerCount: () => 1, connect: async () => {
+    const client = await pool.connect(), query = (text, values) => (text.startsWith("delete from garvoeng_credential") ? Promise.reject(new Error("none")) : client.query(text, values));
+    return { query, on: client.on.bind(client), removeListener: client.removeListener.bind(client), release: client.release.bind(client) };
+  } });
+  for (const call of [() => failing.delete(Buffer.from("nobody's")), () => failing.deleteAccount(nobody)]) await assert.rejects(call(), { name: "StoreFailed" });
+  assert.deepEqual([await open(), (await server.rows()).length], [ids(second.slice(2)), 1]);
+});
+
+test("deletion and sign-ins of one account at once", async () => {
+  const server = serving(), second = serving({}, other);
+  for (let time = 0; time < 10; time++) {
+    const device = new Device();
+    await registered(server, device);
+    const { options, session } = await server.authenticateBegin({ user }), begun = await server.registerBegin(user, "name"), added = new Device(ES256, { id: Buffer.from(`added ${time}`) });
+    const [signIn, registration] = await Promise.allSettled([second.authenticateComplete(session, device.signIn(options, { user })), server.registerComplete(begun.session, added.register(begun.options)), second.deleteAccount(user)]);
+    for (const [{ status, reason }, names] of [[signIn, ["W1", "W3"]], [registration, ["G1"]]]) assert.ok(status === "fulfilled" || names.includes(reason.name), String(reason));
+    assert.ok((await server.rows()).length <= (registration.status === "fulfilled" ? 1 : 0));
+    await server.deleteAccount(user);
+  }
 });
 
 test("a session ends, is of one ceremony, and a refusal leaves it open", async () => {
@@ -237,7 +285,7 @@ test("rows that no site writes are the database's failure", async () => {
   for (const [column, value] of [["public_key", Buffer.from("a0", "hex")], ["public_key", Buffer.alloc(0)], ["sign_count", 2 ** 33], ["sign_count", -1]]) {
     const [{ kept }] = await run(`select ${column} as kept from garvoeng_credential`);
     await run(`update garvoeng_credential set ${column} = $1`, value);
-    await assert.rejects(server.authenticateComplete(session, response), { name: "StoreFailed" });
+    await assert.rejects(server.authenticateComplete(session, response), ({ name, id }) => name === "RowDamaged" && toText(id) === toText(device.id));
     await run(`update garvoeng_credential set ${column} = $1`, kept);
   }
   await server.authenticateComplete(session, response);
@@ -251,6 +299,11 @@ test("what hosts and visitors hand in", async () => {
   await assert.rejects(server.rows("x"), BadInput);
   await assert.rejects(server.registerBegin("account", "name"), BadInput);
   await assert.rejects(server.authenticateBegin({ allow: "x" }), BadInput);
+  for (const row of [{ id: Buffer.alloc(0) }, { id: Buffer.alloc(1_024) }, { user_handle: Buffer.alloc(0) }, { user_handle: Buffer.alloc(65) }]) {
+    await run("insert into garvoeng_credential values ($1, $2, $3, 0, 0, 0, 0, '', null, 0, null)", row.id ?? Buffer.from("odd"), row.user_handle ?? user, device.coseKey());
+    assert.deepEqual([(await server.rows()).length, (await server.registerBegin(user, "name")).options.excludeCredentials], [0, []]);
+    await run("delete from garvoeng_credential");
+  }
   for (const lifetime of [0, "1", 0.5, NaN]) assert.throws(() => serving({ lifetime }), BadInput);
   const asked = await server.authenticateBegin();
   await refusesHostileLines(server, { registration: session, signIn: asked.session });

@@ -1,13 +1,9 @@
-// `StoredServer` over the proved program (PROGRAM): visits, hostile responses (HOSTILE), programs that are broken, killed or hang,
-// and workers of node:cluster.
+// `StoredServer` over the proved program (PROGRAM): visits, hostile responses (HOSTILE), and programs that are broken, killed or hang.
 import assert from "node:assert/strict";
-import { spawn } from "node:child_process";
-import { once } from "node:events";
 import { chmodSync, existsSync, mkdtempSync, readFileSync, rmSync, writeFileSync } from "node:fs";
 import { tmpdir } from "node:os";
 import { join } from "node:path";
 import { after, test } from "node:test";
-import { fileURLToPath } from "node:url";
 import { BadInput, Credential, EDDSA, ES256, RS256, Server, StoreFailed, StoredServer, fromText, toText } from "garvoeng";
 import { AT, Device, ED, UP, UV, changed } from "./device.mjs";
 import { refusesHostileLines } from "./hostile_lines.mjs";
@@ -32,7 +28,7 @@ function script(name, body) {
   return path(name);
 }
 
-const broken = (name, body, how) => new StoredServer(script(name, body), path("none.db"), "example.com", ["https://example.com"], { timeout: 1_000, ...quiet, ...how });
+const broken = (name, body, how) => new StoredServer(script(name, body), path("none.db"), "example.com", ["https://example.com"], { timeout: 4_000, ...quiet, ...how });
 
 test("visits", async () => {
   const server = serving("visits.db");
@@ -110,6 +106,70 @@ test("options are those of Server, and the session is of what they ask", async (
   const others = await server.authenticateBegin({ user: Buffer.from("somebody else") });
   await assert.rejects(server.authenticateComplete(others.session, device.signIn(others.options)), { name: "W4" });
   await server.close();
+});
+
+test("the account's own credentials are excluded and listed", async () => {
+  const server = serving("own.db"), devices = Array.from({ length: 9 }, (_, index) => new Device(EDDSA, { id: Buffer.from(`${index}`) })), [first, second] = devices;
+  const listed = (list) => list.map(({ id }) => Buffer.from(id, "base64url").toString()), nobody = Buffer.from("nobody");
+  for (const device of devices.slice(0, 3)) {
+    const begun = await server.registerBegin(user, "name"), response = device.register(begun.options);
+    await server.registerComplete(begun.session, { ...response, response: { ...response.response, transports: ["usb"] } });
+  }
+  await server.retire(second.id);
+  assert.deepEqual((await server.registerBegin(user, "name")).options.excludeCredentials.map(({ id, transports }) => [id, transports]), [["MA", ["usb"]], ["Mg", ["usb"]]]);
+  assert.deepEqual(listed((await server.registerBegin(user, "name", { exclude: [second.id] })).options.excludeCredentials), ["1"]);
+  assert.deepEqual(listed((await server.registerBegin(user, "name", { exclude: [] })).options.excludeCredentials), []);
+  assert.deepEqual(listed((await server.registerBegin(nobody, "name")).options.excludeCredentials), []);
+  const begun = await server.authenticateBegin({ user });
+  assert.deepEqual(listed(begun.options.allowCredentials), ["0", "2"]);
+  assert.deepEqual(listed((await server.authenticateBegin({ user, allow: [] })).options.allowCredentials), []);
+  assert.deepEqual(listed((await server.authenticateBegin()).options.allowCredentials), []);
+  await assert.rejects(server.authenticateComplete(begun.session, second.signIn(begun.options)), { name: "W2" });
+  for (const device of devices.slice(3)) await registered(server, device);
+  assert.equal((await server.authenticateBegin({ user })).options.allowCredentials.length, 8);
+  await registered(server, new Device(EDDSA, { id: Buffer.from("a ninth") }));
+  assert.deepEqual([(await server.authenticateBegin({ user })).options.allowCredentials.length, (await server.registerBegin(user, "name")).options.excludeCredentials.length], [0, 8]);
+  // Retirement and the end of an account end its registrations, and no other's.
+  const begins = async (account) => ({ account, device: new Device(EDDSA, { id: Buffer.from(`more ${Math.random()}`) }), ...(await server.registerBegin(account, "name")) });
+  const ends = ({ session, options, device }) => server.registerComplete(session, device.register(options));
+  const [one, two, others] = [await begins(user), await begins(user), await begins(nobody)];
+  assert.deepEqual([await server.retire(first.id, nobody), await server.delete(first.id, nobody)], [false, false]);
+  await ends(one);
+  assert.equal(await server.retire(first.id, user), true);
+  await assert.rejects(ends(two), { name: "G1" });
+  const three = await begins(user);
+  assert.equal(await server.delete(second.id, user), true);
+  await assert.rejects(ends(three), { name: "G1" });
+  const four = await begins(user);
+  await ends(others);
+  assert.equal(await server.deleteAccount(user), 10);
+  await assert.rejects(ends(four), { name: "G1" });
+  assert.deepEqual([(await server.rows()).length, await server.deleteAccount(user), await server.deleteAccount(nobody)], [1, 0, 1]);
+  await server.close();
+});
+
+test("what another program added to Object.prototype is no answer", async () => {
+  const server = serving("polluted.db", { log: "all" }), device = new Device(EDDSA), added = { accepted: { user: "AA", credential: "AA", sign_count: 1 }, refused: {}, verify: {}, failed: "x", error: "x", conditional: true, rows: [] };
+  Object.assign(Object.prototype, added);
+  try {
+    await registered(server, device);
+    assert.equal(await server.signOuts.has("none", Date.now() + 60_000), false);
+    const { options, session } = await server.authenticateBegin({ user });
+    await assert.rejects(server.authenticateComplete(session + 9, device.signIn(options)), { name: "W1" });
+    assert.equal((await server.authenticateComplete(session, device.signIn(options))).signCount, 2);
+    await assert.rejects(registered(server, new Device(EDDSA, { id: user }), { flags: AT }), { name: "G9" }, "it is not conditional");
+  } finally {
+    for (const name of Object.keys(added)) delete Object.prototype[name];
+  }
+  await server.close();
+});
+
+test("a logger that throws, and one that rejects, end nothing", async () => {
+  for (const logger of [() => { throw new Error("of the logger"); }, async () => { throw new Error("of the logger"); }]) {
+    const server = serving("logger.db", { log: "all", logger });
+    await assert.rejects(server.authenticateComplete(5, new Device().signIn({ challenge: "AA" })), { name: "W1" });
+    await server.close();
+  }
 });
 
 test("Level 3: the second of two pages that may frame, conditional registrations, statements, the open profile", async () => {
@@ -195,7 +255,7 @@ test("what hosts hand in by mistake", async () => {
   for (const call of rows) await assert.rejects(call(), BadInput, `${call}`);
   await assert.rejects(server.registerBegin(user, "\u00e9".repeat(40_000)), { text: "the line is too long" });
   const spied = broken("spied", 'stdin.on("data", () => stdout.write("{}\\n")); stdin.on("end", () => process.exit(0));');
-  await assert.rejects(spied.registerBegin(user, "\u00e9".repeat(40_000)), { text: "the line is too long" }, "bytes are counted, and not characters");
+  await assert.rejects(spied.registerBegin(user, "\u00e9".repeat(40_000), { exclude: [] }), { text: "the line is too long" }, "bytes are counted, and not characters");
   assert.equal(children().length, 2, "it was not asked");
   await spied.close();
   assert.equal(children().length, 1);
@@ -256,7 +316,7 @@ test("programs that answer something else, or nothing", async () => {
   });`);
   await assert.rejects(pieces.rows(), { name: "BadInput", text: "\u00e9\u00e9" });
   await pieces.close();
-  const silent = broken("silent", "stdin.resume(); setTimeout(() => {}, 60_000);"), began = Date.now();
+  const silent = broken("silent", "stdin.resume(); setTimeout(() => {}, 60_000);", { timeout: 1_000 }), began = Date.now();
   const found = await Promise.allSettled(Array.from({ length: 20 }, () => silent.rows()));
   assert.ok(found.every(({ reason }) => reason instanceof StoreFailed) && Date.now() - began < 5_000);
   assert.match(found[0].reason.message, /did not answer in 1 seconds/);
@@ -269,6 +329,18 @@ test("programs that answer something else, or nothing", async () => {
   await idle.close();
 });
 
+test("an answer of another number is nobody's", async () => {
+  const lines = 'let rest = "", asked = []; stdin.setEncoding("utf8").on("data", (text) => { const all = (rest + text).split("\\n"); rest = all.pop(); for (const line of all) took(JSON.parse(line)); });';
+  const answer = '(id, rows) => stdout.write(JSON.stringify({ id, rows }) + "\\n")';
+  // Those of two lines change their places; one is of the line before; one of a line that is not asked yet.
+  for (const took of ["(line) => asked.push(line) === 2 && [asked[1], asked[0]].forEach(({ id }) => answer(id, []))", "({ id }) => answer(id - 1, [])", "({ id }) => answer(id + 1, [])", "({ id }) => answer(String(id), [])"]) {
+    const server = broken("numbers", `const answer = ${answer}, took = ${took}; ${lines}`);
+    for (const { status, reason } of await Promise.allSettled([server.rows(), server.rows()]))
+      assert.ok(status === "rejected" && reason instanceof StoreFailed && /what is no answer/.test(reason.message), `${took} ${status} ${reason}`);
+    await server.close().catch(() => {});
+  }
+});
+
 test("each answer goes to who asked, also where it has no number, by a program that reads slowly", async () => {
   // It answers each line by its own name, the second of three without a number, and takes one line in 5 milliseconds.
   const slow = broken("slow", `let rest = "", lines = [];
@@ -279,7 +351,7 @@ test("each answer goes to who asked, also where it has no number, by a program t
     stdout.write(JSON.stringify({ ...(id % 3 === 0 ? {} : { id: id % 3 === 1 ? id : null }), error: user_name }) + "\\n");
   }, 5);`, { timeout: 20_000 });
   const names = Array.from({ length: 60 }, (_, index) => `${index} ${"x".repeat(index % 7 === 0 ? 60_000 : 9)}`);
-  const found = await Promise.all(names.map((name) => slow.registerBegin(user, name).catch(({ text }) => text)));
+  const found = await Promise.all(names.map((name) => slow.registerBegin(user, name, { exclude: [] }).catch(({ text }) => text)));
   assert.deepEqual(found, names);
   await slow.close();
   // The proved program: lines that it can't read, among others.
@@ -299,7 +371,7 @@ test("each answer goes to who asked, also where it has no number, by a program t
 test("what could not be started says why", async () => {
   const one = serving("cause.db"), other = serving("cause.db", { rpName: "another" });
   await one.rows();
-  await assert.rejects(other.rows(), (error) => error instanceof StoreFailed && error.message.includes("the file is in use"));
+  await assert.rejects(other.rows(), (error) => error instanceof StoreFailed && /the file is in use.*: one process has the file: make the StoredServer in the primary of node:cluster, or use a SqlServer$/.test(error.message));
   await one.close();
   assert.deepEqual(await other.rows(), [], "the next call starts it");
   await other.close();
@@ -389,117 +461,4 @@ test("killed at random, no acceptance that was answered is lost", async (context
   const [row] = await server.rows();
   assert.ok(row.signCount >= accepted, `${row.signCount} of ${accepted}`);
   await server.close();
-});
-
-// A process that runs this, with `serving` and `Device` in it; what it prints, line by line.
-function apart(name, body) {
-  const file = fileURLToPath(new URL(`./made-${name}.mjs`, import.meta.url));
-  writeFileSync(file, `import cluster from "node:cluster";\nimport { StoredServer } from "garvoeng";\nimport { Device } from "./device.mjs";
-const serving = (how) => new StoredServer(${JSON.stringify(PROGRAM)}, ${JSON.stringify(path(`${name}.db`))}, "example.com", ["https://example.com"], { timeout: 5_000, logger: () => {}, ...how });
-${body}\n`);
-  const child = spawn(process.execPath, [file], { stdio: ["ignore", "pipe", "inherit"] });
-  const ended = once(child, "close").finally(() => rmSync(file)), said = [];
-  child.stdout.setEncoding("utf8").on("data", (text) => said.push(text));
-  return { child, ended, lines: () => said.join("").trim().split("\n").filter((line) => line !== "") };
-}
-
-const isAlive = (pid) => existsSync(`/proc/${pid}`) && !readFileSync(`/proc/${pid}/stat`, "utf8").includes(") Z ");
-const TELL = 'import { readFileSync } from "node:fs"; const tell = () => console.log(readFileSync(`/proc/self/task/${process.pid}/children`, "utf8").trim());';
-
-test("the program ends with its process, and keeps none alive", async () => {
-  const idle = apart("idle", `${TELL} const server = serving(); await server.rows(); tell();`);
-  assert.equal((await idle.ended)[0], 0);
-  const killed = apart("killed", `${TELL} const server = serving(); await server.rows(); tell(); setInterval(() => {}, 1_000);`);
-  while (killed.lines().length === 0) await sleep(50);
-  killed.child.kill("SIGKILL");
-  await killed.ended;
-  for (const [pid] of [idle.lines(), killed.lines()]) {
-    for (let time = 0; time < 100 && isAlive(Number(pid)); time++) await sleep(50);
-    assert.equal(isAlive(Number(pid)), false);
-  }
-});
-
-test("workers of node:cluster share one program", async () => {
-  const run = apart("cluster", `
-const server = serving(), user = Buffer.from("account 7"), times = 40;
-if (cluster.isPrimary) {
-  let left = 4;
-  for (let count = 0; count < 5; count++) cluster.fork({ COUNT: count });
-  cluster.on("exit", async (worker, status) => {
-    console.log(JSON.stringify({ status }));
-    if (status !== null && --left === 0) {
-      console.log(JSON.stringify({ rows: (await server.rows()).map((row) => [Buffer.from(row.id).toString(), row.signCount]).sort() }));
-      await server.close();
-    }
-  });
-} else if (process.env.COUNT === "4") {
-  for (;;) { server.authenticateBegin().catch(() => {}); if (Math.random() < 0.05) process.kill(process.pid, "SIGKILL"); await new Promise(setImmediate); }
-} else {
-  const device = new Device(undefined, { id: Buffer.from("key " + process.env.COUNT) }), begun = await server.registerBegin(user, "name");
-  await server.registerComplete(begun.session, device.register(begun.options));
-  for (let time = 0; time < times; time++) {
-    const { options, session } = await server.authenticateBegin({ allow: [device.id] }), response = device.signIn(options, { user });
-    const answers = await Promise.allSettled([1, 2].map(() => server.authenticateComplete(session, response)));
-    if (answers.filter((one) => one.status === "fulfilled").length !== 1) throw new Error(JSON.stringify(answers));
-  }
-  const tooLong = await server.registerBegin(user, "A".repeat(70_000)).catch((error) => error.name);
-  const other = await serving({ rpName: "another", timeout: 500 }).rows().catch((error) => error.name + ": " + error.message);
-  console.log(JSON.stringify({ tooLong, other }));
-  process.exit(0);
-}`);
-  await run.ended;
-  const lines = run.lines().map((line) => JSON.parse(line)), has = (wanted) => lines.filter((line) => JSON.stringify(line) === JSON.stringify(wanted)).length;
-  assert.equal(has({ status: 0 }), 4, run.lines().join("\n"));
-  assert.equal(has({ status: null }), 1);
-  assert.equal(has({ tooLong: "BadInput", other: "StoreFailed: the primary process has no StoredServer of these words" }), 4);
-  assert.deepEqual(lines.at(-1), { rows: [0, 1, 2, 3].map((count) => [`key ${count}`, 40]) });
-});
-
-test("a worker whose primary ended or whose program was killed", async () => {
-  const run = apart("orphan", `
-const server = serving({ timeout: 2_000 });
-if (cluster.isPrimary) {
-  const worker = cluster.fork();
-  ${TELL.replace("import { readFileSync } from \"node:fs\";", "const { readFileSync } = await import(\"node:fs\");")}
-  worker.on("message", (message) => {
-    if (message !== "kill") return;
-    for (const pid of readFileSync(\`/proc/self/task/\${process.pid}/children\`, "utf8").trim().split(" ").map(Number)) if (pid !== worker.process.pid) process.kill(pid, "SIGKILL");
-    worker.send("killed");
-  });
-  worker.on("message", (message) => message === "end" && process.exit(0));
-} else {
-  await server.rows();
-  process.send("kill");
-  await new Promise((resolve) => process.on("message", (message) => message === "killed" && resolve()));
-  const found = await Promise.allSettled(Array.from({ length: 5 }, () => server.rows()));
-  const again = await server.rows();
-  console.log(JSON.stringify([found.every((one) => one.status === "fulfilled" || one.reason.name === "StoreFailed"), again]));
-  process.removeAllListeners("disconnect");
-  process.on("disconnect", async () => {
-    console.log(JSON.stringify(await server.rows().catch((error) => error.name)));
-    process.exit(0);
-  });
-  process.send("end");
-}`);
-  await run.ended;
-  assert.deepEqual(run.lines().map((line) => JSON.parse(line)), [[true, []], "StoreFailed"]);
-});
-
-test("a worker whose primary does not answer in time", async () => {
-  const run = apart("deaf", `
-const server = serving({ timeout: 1_000 });
-if (cluster.isPrimary) {
-  cluster.fork().on("message", (message) => message === "wait" && Atomics.wait(new Int32Array(new SharedArrayBuffer(4)), 0, 0, 3_000)).on("exit", () => server.close());
-} else {
-  process.send("wait");
-  await new Promise((resolve) => setTimeout(resolve, 200));
-  const found = await Promise.allSettled([server.rows(), server.authenticateBegin()]);
-  let again = null;
-  while (again === null) again = await server.rows().catch(() => null);
-  console.log(JSON.stringify([found.map(({ reason }) => reason?.message), again]));
-  process.exit(0);
-}`);
-  await run.ended;
-  const said = "the primary process did not answer in 1 seconds";
-  assert.deepEqual(run.lines().map((line) => JSON.parse(line)), [[[said, said], []]]);
 });

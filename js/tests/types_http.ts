@@ -8,9 +8,12 @@ const site: Passkeys = passkeys(stored, { secret: "a text of thirty-two characte
 export async function answers(request: SiteRequest, response: SiteResponse): Promise<number> {
   await site(request, response);
   await site(request, response, () => undefined);
-  return site.signedIn(request)?.length ?? 0;
+  return (await site.signedIn(request))?.length ?? 0;
 }
 
+passkeys(stored, { secret: "a text of thirty-two characters or more", lifetime: 60, fresh: 60, signOuts: { add: async () => {}, has: () => false } });
+// @ts-expect-error: a sign-out is known or not
+passkeys(stored, { secret: "a text of thirty-two characters or more", signOuts: { add: () => {}, has: () => undefined } });
 // @ts-expect-error: cookies are signed
 passkeys(stored, {});
 // @ts-expect-error: a server that keeps nothing knows no session of a cookie

@@ -1,5 +1,5 @@
 // The same of the servers that store.
-import { BadInput, Credential, Refused, Server, StoreFailed, StoredServer, StoredSignIn } from "garvoeng";
+import { BadInput, Credential, Refused, RowDamaged, Server, StoreFailed, StoredServer, StoredSignIn } from "garvoeng";
 import { SqlPool, SqlServer } from "garvoeng/sql";
 
 const how = { rpName: "A site", profile: "strict" as const };
@@ -12,7 +12,7 @@ export async function visits(user: Uint8Array, page: (options: object) => Promis
   const made = await stored.registerComplete(begun.session, await page(begun.options));
   const { options, session } = await sql.authenticateBegin({ allow: [made.credential], userVerification: "required" });
   const told: StoredSignIn = await sql.authenticateComplete(session, await page(options));
-  await Promise.all([stored.retire(told.id), stored.abandon(begun.session), stored.expire(300), stored.delete(told.id), stored.backup("copy.db"), sql.abandon(session)]);
+  await Promise.all([stored.retire(told.id), stored.abandon(begun.session), stored.expire(300), stored.delete(told.id), stored.backup("copy.db"), sql.abandon(session), sql.delete(told.id), sql.deleteAccount(told.user), stored.deleteAccount(told.user)]);
   const counted: number | undefined = (await stored.status()).sign_ins_refused["W14"];
   if (counted === 0) throw new Error("0 is left out");
   await stored.close();
@@ -21,7 +21,7 @@ export async function visits(user: Uint8Array, page: (options: object) => Promis
 
 export function status(error: unknown): number {
   if (error instanceof Refused || error instanceof BadInput) return 400;
-  return error instanceof StoreFailed ? 503 : 500;
+  return error instanceof StoreFailed ? 503 : error instanceof RowDamaged ? error.id.length : 500;
 }
 
 // @ts-expect-error: a session of the program is a number

@@ -1,5 +1,5 @@
 // The same where there is no Node.
-import { canAutofill, register, signIn } from "garvoeng/browser";
+import { autofill, canAutofill, isSupported, register, signIn } from "garvoeng/browser";
 import { Server, load } from "garvoeng/web";
 
 export async function begins(): Promise<object> {
@@ -9,5 +9,6 @@ export async function begins(): Promise<object> {
 
 export async function visits(options: object): Promise<object[]> {
   const made = await register(options, { signal: new AbortController().signal });
+  if (!isSupported()) return [await register(options, { mediation: "conditional" }), await autofill(async () => options, { milliseconds: 9 })];
   return [made, await signIn(options, (await canAutofill()) ? { mediation: "conditional" } : {})];
 }

@@ -9,7 +9,7 @@ module calls. Signatures are verified by `cryptography`.
 
 `StoredServer` has the same four calls over the proved program, which keeps sessions and credentials in a file.
 """
-from .errors import BadInput, Refused
+from .errors import BadInput, Refused, RowDamaged, SessionDamaged
 from .library import EDDSA, ES256, RS256, is_canonical
 from .limits import MAX_LIST, MAX_STORED_LIST
 from .records import Credential, Registered, RegistrationSession, SignedIn, SignInSession
@@ -17,5 +17,5 @@ from .server import Server
 from .stored import KeptCredential, StoredServer, StoredSignIn, StoreFailed
 
 __all__ = ["EDDSA", "ES256", "MAX_LIST", "MAX_STORED_LIST", "RS256", "BadInput", "Credential", "KeptCredential",
-           "Refused", "Registered", "RegistrationSession", "Server", "SignInSession", "SignedIn", "StoreFailed", "StoredServer",
+           "Refused", "Registered", "RegistrationSession", "RowDamaged", "Server", "SessionDamaged", "SignInSession", "SignedIn", "StoreFailed", "StoredServer",
            "StoredSignIn", "is_canonical"]

@@ -1,16 +1,15 @@
-from typing import Any, Callable, Mapping, Optional, Sequence, Tuple, Type, Union
+from typing import Any, Mapping, Optional, Sequence, Tuple, Type, Union
 
+from .answers import Verify
 from .records import Credential, SignedIn
 
 ABI_VERSION: int
 
-_Verify = Callable[[int, bytes, bytes, bytes, bytes], bool]
-
-def assertion(credential_type: Type[Credential], type: Type[SignedIn], members: Tuple[str, ...], verify: _Verify,
+def assertion(credential_type: Type[Credential], type: Type[SignedIn], members: Tuple[str, ...], verify: Verify,
               before: Optional[Credential], transports: Sequence[str], eligible: Optional[bool],
               numbers: Tuple[int, bool, bool, bool, int, int, bool], parts: Tuple[Optional[bytes], ...], origins: Tuple[bytes, ...],
               top_origins: Tuple[bytes, ...], allow: Tuple[bytes, ...]) -> Union[SignedIn, int]: ...
-def registration(verify: _Verify, flags: Tuple[int, ...], parts: Tuple[Optional[bytes], ...],
+def registration(verify: Verify, flags: Tuple[int, ...], parts: Tuple[Optional[bytes], ...],
                  origins: Tuple[bytes, ...], top_origins: Tuple[bytes, ...]) -> Union[Tuple[Any, ...], int]: ...
 def parts(response: Mapping[str, Any], inner: Mapping[str, Any], names: Tuple[str, ...], required: int) -> Any: ...
 def refusal_text(is_registration: bool, answer: int) -> str: ...

@@ -18,10 +18,12 @@ from collections import deque
 from contextlib import contextmanager
 from pathlib import Path
 from queue import SimpleQueue
-from typing import Deque, Dict, Iterator, Optional, Sequence
+from typing import Deque, Dict, Generator, Iterator, Optional, Sequence
 
 MAX_LINE = 65_536
 """The most bytes of a line that the program takes."""
+MAX_PATH = 107
+"""The most bytes of a socket's path (unix(7))."""
 IDLE = 2.0
 """How many seconds a broker stays to which nobody is connected."""
 STUCK = 2.0
@@ -46,7 +48,10 @@ def _folder() -> Path:
 def path_of(words: Sequence[str]) -> Path:
     """The socket for a program with these words, the last of which is its file."""
     told = "\0".join([*words[:-1], os.path.realpath(words[-1])])
-    return _folder() / hashlib.sha256(told.encode("utf-8", "surrogateescape")).hexdigest()[:32]
+    path = _folder() / hashlib.sha256(told.encode("utf-8", "surrogateescape")).hexdigest()[:32]
+    if len(os.fsencode(path)) > MAX_PATH:
+        raise OSError(f"the path {path} is longer than a socket's, {MAX_PATH} bytes: name a shorter folder in XDG_RUNTIME_DIR")
+    return path
 
 
 @contextmanager
@@ -87,7 +92,7 @@ class Connection:
         self._notes: "SimpleQueue[Optional[bytes]]" = SimpleQueue()
         self._has_ended = False
         self.stdin = found.makefile("wb")
-        self.stdout = self._answers()
+        self.stdout: "Generator[bytes, None, None]" = self._answers()
         self.stderr: Iterator[bytes] = iter(self._notes.get, None)
 
     @staticmethod
@@ -104,7 +109,7 @@ class Connection:
             time.sleep(0.01)
         raise OSError("the broker did not start")
 
-    def _answers(self) -> Iterator[bytes]:
+    def _answers(self) -> "Generator[bytes, None, None]":
         try:
             for line in self._socket.makefile("rb"):
                 if line.startswith(_NOTE):
@@ -130,6 +135,12 @@ class Connection:
     def wait(self, timeout: Optional[float] = None) -> int:
         self.kill()
         return 0
+
+    def forget(self) -> None:
+        """In a child of the process that has it: closes the child's own handle, by which the parent's is not changed."""
+        handle = self._socket.detach()
+        if handle >= 0:
+            os.close(handle)
 
 
 class _Broker:

@@ -1,6 +1,7 @@
 """Why a response is refused, and what is no input."""
 from __future__ import annotations
 
+import base64
 from typing import Any, Tuple
 
 SIGN_IN_STEPS = (
@@ -11,7 +12,7 @@ SIGN_IN_STEPS = (
 REGISTRATION_STEPS = (
     "SessionNotOpen", "UnreadableClientData", "WrongType", "WrongChallenge", "WrongOrigin", "TokenBinding",
     "BadAttestationObject", "WrongRelyingParty", "UserNotPresent", "UserNotVerified", "AlgorithmNotOffered",
-    "UnknownFormat", "BadStatement", "AttestationNotAccepted", "CredentialRegistered", "TableFull", "CrossOrigin", "WrongTopOrigin",
+    "UnknownFormat", "BadStatement", "AttestationNotAccepted", "CredentialRegistered", "TableFull", "CrossOrigin", "WrongTopOrigin", "OtherId",
 )
 
 
@@ -22,8 +23,9 @@ class Refused(Exception):
     def __init__(self, is_registration: bool, number: int, text: str) -> None:
         self.is_registration = is_registration
         self.number = number
-        """1 to 18."""
-        self.step = (REGISTRATION_STEPS if is_registration else SIGN_IN_STEPS)[number - 1]
+        """1 to 18, and 19 of a registration."""
+        steps = REGISTRATION_STEPS if is_registration else SIGN_IN_STEPS
+        self.step = steps[number - 1] if number <= len(steps) else f"Step{number}"
         """The name of the step."""
         self.name = f"{'G' if is_registration else 'W'}{number}"
         """As the program prints it: G and the number for a registration, W for a sign-in."""
@@ -45,3 +47,32 @@ class BadInput(ValueError):
 
     def __reduce__(self) -> Tuple[Any, ...]:
         return type(self), (self.text, self.number)
+
+
+class RowDamaged(Exception):
+    """A credential's row is none that this package writes: the site's to mend, and no fault of the visitor's. The logger `garvoeng` has
+    it."""
+
+    def __init__(self, id: Any, text: str) -> None:
+        self.id = id
+        """The credential's id."""
+        self.text = text
+        name = base64.urlsafe_b64encode(id).rstrip(b"=").decode() if isinstance(id, bytes) else repr(id)
+        super().__init__(f"the row of the credential {name} is damaged: {text}")
+
+    def __reduce__(self) -> Tuple[Any, ...]:
+        return type(self), (self.id, self.text)
+
+
+class SessionDamaged(Exception):
+    """The same of a session's row."""
+
+    def __init__(self, session: str, text: str) -> None:
+        self.session = session
+        """The session's id."""
+        self.text = text
+        # Who has the whole id has what the visitor has, so a log has its front.
+        super().__init__(f"the row of the session {session[:8]} is damaged: {text}")
+
+    def __reduce__(self) -> Tuple[Any, ...]:
+        return type(self), (self.session, self.text)

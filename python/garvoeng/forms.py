@@ -91,6 +91,11 @@ def transports_in(value: Any) -> Tuple[str, ...]:
     return tuple(one for one in listed if isinstance(one, str) and _TRANSPORT.fullmatch(one))
 
 
+def transports_of(response: Mapping[str, Any]) -> Tuple[str, ...]:
+    """The transports that a RegistrationResponseJSON tells."""
+    return transports_in(response["response"].get("transports"))
+
+
 def descriptor(credential_id: bytes, transports: Sequence[str] = ()) -> Dict[str, Any]:
     """A PublicKeyCredentialDescriptorJSON."""
     made: Dict[str, Any] = {"type": "public-key", "id": to_text(credential_id)}

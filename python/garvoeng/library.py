@@ -5,14 +5,15 @@ from typing import Optional, Tuple
 
 from . import _passkey
 
-ABI_VERSION = 4
+ABI_VERSION = 5
 ES256 = -7
 EDDSA = -8
 RS256 = -257
 MAX_ID = 1023
 
 ACCEPTED = 0
-LAST_STEP = 18
+REGISTRATION_OTHER_ID = 19
+LAST_STEP = 99
 NO_MEMORY = 127
 
 PROFILES = ("strict", "open", "level3")

@@ -3,8 +3,10 @@ each visitor's response."""
 from __future__ import annotations
 
 import re
-from typing import Iterable, Sequence, Tuple
+from collections.abc import Iterable, Mapping
+from typing import Any, List, Sequence, Tuple
 
+from .answers import kind_of
 from .errors import BadInput
 from .library import EDDSA, ES256, MAX_ID, PROFILES, RS256
 
@@ -24,81 +26,118 @@ _ANDROID = re.compile(r"android:apk-key-hash:[A-Za-z0-9_-]+")
 _DEFAULT_PORTS = {"https": "443", "http": "80"}
 
 
+def check_flag(value: Any, what: str) -> bool:
+    if value is not True and value is not False:
+        raise TypeError(f"{what} is True or False, and not {kind_of(value)}")
+    return bool(value)
+
+
+def check_text(value: Any, what: str) -> str:
+    if not isinstance(value, str):
+        raise TypeError(f"{what} is a str, and not {kind_of(value)}")
+    return value
+
+
+def check_bytes(value: Any, what: str, advice: str = "") -> bytes:
+    """The bytes of a buffer. A number, which `bytes` takes for a length, is none."""
+    if not isinstance(value, (bytes, bytearray, memoryview)):
+        raise TypeError(f"{what} is bytes{advice}, and not {kind_of(value)}")
+    return bytes(value)
+
+
+def check_list(value: Any, what: str, of: str) -> List[Any]:
+    """The items of a list, or of what else is gone through. Bytes and a text are none: their items are numbers and characters."""
+    if isinstance(value, (str, bytes, bytearray, memoryview, Mapping)) or not isinstance(value, Iterable):
+        raise TypeError(f"{what} is a list of {of}, and not {kind_of(value)}")
+    return list(value)
+
+
 def _check_rp_id(rp_id: str) -> None:
     """A domain as browsers write it: 1 to 253 characters, and no IP address (WebAuthn Level 2, section 4)."""
-    if not isinstance(rp_id, str) or len(rp_id) > 253 or not _DOMAIN.fullmatch(rp_id):
-        raise BadInput("the rp id is not a domain in lower case, as example.com")
+    if len(check_text(rp_id, "rp_id")) > 253 or not _DOMAIN.fullmatch(rp_id):
+        raise BadInput(f"rp_id is a domain in lower case, as example.com: not {rp_id[:300]!r}")
     if rp_id.rsplit(".", 1)[-1].isdigit():
-        raise BadInput("the rp id is an IP address")
+        raise BadInput(f"rp_id is a domain, as example.com, and not the IP address {rp_id}")
 
 
-def _host_of(origin: str) -> str:
+def _host_of(origin: str, what: str) -> str:
     """The host of an origin as browsers write it (RFC 6454, section 6.2); empty of an app's."""
-    if not isinstance(origin, str):
-        raise BadInput("an origin is not a text")
-    if _ANDROID.fullmatch(origin):
+    if _ANDROID.fullmatch(check_text(origin, f"each of {what}")):
         return ""
     found = _ORIGIN.fullmatch(origin)
     if found is None:
-        raise BadInput(f"{origin!r} is not an origin in lower case and without a path, as https://example.com")
+        raise BadInput(f"each of {what} is an origin in lower case and without a path, as https://example.com: not {origin!r}")
     scheme, host, port = found.groups()
-    if port is not None and (int(port) > 65_535 or port == _DEFAULT_PORTS.get(scheme)):
-        raise BadInput(f"{origin!r} has a port that browsers do not write")
+    if port is not None and int(port) > 65_535:
+        raise BadInput(f"{origin!r} of {what} has a port above 65535")
+    if port is not None and port == _DEFAULT_PORTS.get(scheme):
+        raise BadInput(f"browsers leave out the port of {origin!r}: write {origin[:origin.rindex(':')]} in {what}")
     return host if scheme in _DEFAULT_PORTS else ""
 
 
 def check_party(rp_id: str, origins: Sequence[str]) -> Tuple[str, ...]:
     """The origins of a relying party. Where there are web origins, the host of one is the rp id or ends in it."""
     _check_rp_id(rp_id)
-    if isinstance(origins, (str, bytes)) or not origins:
-        raise BadInput("origins is a list of one text or more")
-    hosts = list(filter(None, map(_host_of, origins)))
+    listed = tuple(check_list(origins, "origins", "texts, as [\"https://example.com\"]"))
+    if not listed:
+        raise BadInput("origins is empty: write the origin of each page, as https://example.com")
+    hosts = list(filter(None, (_host_of(origin, "origins") for origin in listed)))
     if hosts and not any(host == rp_id or host.endswith("." + rp_id) for host in hosts):
-        raise BadInput("the rp id is not of an origin's host")
-    return tuple(origins)
+        raise BadInput(f"the host of an origin is {rp_id} or ends in .{rp_id}: not {', '.join(hosts)}")
+    return listed
 
 
 def check_top_origins(top_origins: Sequence[str]) -> Tuple[str, ...]:
     """The origins of the pages that may have the site's in a frame (WebAuthn Level 3, section 5.8.1, `topOrigin`)."""
-    if isinstance(top_origins, (str, bytes)):
-        raise BadInput("top_origins is a list of texts")
-    listed = tuple(top_origins)
+    listed = tuple(check_list(top_origins, "top_origins", "texts, as [\"https://example.com\"]"))
     for origin in listed:
-        _host_of(origin)
+        _host_of(origin, "top_origins")
     return listed
+
+
+def check_attestation(accept_none: bool, accept_self: bool) -> None:
+    if not check_flag(accept_none, "accept_none") | check_flag(accept_self, "accept_self"):
+        raise BadInput("accept_none and accept_self are both False: no registration could be accepted")
 
 
 def check_profile(profile: str) -> int:
     """The library's number of a profile."""
     if not isinstance(profile, str) or profile not in PROFILES:
-        raise BadInput(f"profile is one of {', '.join(PROFILES)}")
+        raise BadInput(f"profile is one of {', '.join(PROFILES)}: not {profile!r}")
     return PROFILES.index(profile)
 
 
 def check_user(user: bytes) -> bytes:
-    user = bytes(user)
-    if not 1 <= len(user) <= MAX_USER:
-        raise BadInput(f"a user handle has 1 to {MAX_USER} bytes")
-    return user
+    handle = check_bytes(user, "user", ", the user handle, as secrets.token_bytes(32)")
+    if not 1 <= len(handle) <= MAX_USER:
+        raise BadInput(f"user, the user handle, has 1 to {MAX_USER} bytes, and not {len(handle)}")
+    return handle
 
 
-def check_ids(ids: Iterable[bytes], most: int = MAX_LIST) -> Tuple[bytes, ...]:
-    listed = tuple(map(bytes, ids))
-    if len(listed) > most:
-        raise BadInput(f"a list has at most {most} credential ids")
-    if not all(1 <= len(credential_id) <= MAX_ID for credential_id in listed):
-        raise BadInput(f"a credential id has 1 to {MAX_ID} bytes")
-    return listed
+def check_id(value: bytes, what: str) -> bytes:
+    """A credential id."""
+    credential_id = check_bytes(value, what, ", a credential id")
+    if not 1 <= len(credential_id) <= MAX_ID:
+        raise BadInput(f"{what}, a credential id, has 1 to {MAX_ID} bytes, and not {len(credential_id)}")
+    return credential_id
+
+
+def check_ids(ids: Sequence[bytes], what: str, most: int = MAX_LIST) -> Tuple[bytes, ...]:
+    if len(ids) > most:
+        raise BadInput(f"{what} has at most {most} credential ids, and not {len(ids)}")
+    return tuple(check_id(one, f"each of {what}") for one in ids)
 
 
 def check_algorithms(algorithms: Sequence[int]) -> Tuple[int, ...]:
-    if not set(algorithms) <= {ES256, EDDSA, RS256}:
-        raise BadInput("algorithms are ES256 (-7), EDDSA (-8) and RS256 (-257)")
-    return tuple(algorithms)
+    listed = tuple(check_list(algorithms, "algorithms", "numbers, as [ES256]"))
+    if not listed or not all(type(number) is int and number in (ES256, EDDSA, RS256) for number in listed):
+        raise BadInput("algorithms has one or more of ES256 (-7), EDDSA (-8) and RS256 (-257), and no other")
+    return listed
 
 
 def check_credential(algorithm: int, sign_count: int) -> None:
     """What a stored credential says, before it is handed on in fewer bits."""
-    check_algorithms((algorithm,))
+    if algorithm not in (ES256, EDDSA, RS256):
+        raise BadInput("a credential's algorithm is ES256 (-7), EDDSA (-8) or RS256 (-257)")
     if not 0 <= sign_count <= MAX_COUNT:
         raise BadInput("a signature counter is from 0 to 2^32 - 1")

@@ -14,7 +14,7 @@ from typing import Any, Callable, Dict, Mapping, Optional, TextIO, Tuple
 
 from .errors import BadInput, Refused
 from .forms import from_text, transports_in
-from .limits import check_credential, check_ids, check_user
+from .limits import check_credential, check_id, check_user
 from .records import Credential
 from .server import Server
 from .sql import SqlServer
@@ -23,13 +23,16 @@ Moved = Tuple[Credential, Optional[bool], Optional[bytes]]
 
 
 def _bytes(row: Mapping[str, Any], name: str) -> bytes:
-    return from_text(row.get(name), name)
+    try:
+        return from_text(row.get(name), name)
+    except BadInput as error:
+        raise BadInput(f"{error}: it has - and _ in place of + and /, and no = and no line ends") from None
 
 
 def _count(row: Mapping[str, Any], name: str) -> int:
     count = row.get(name)
     if type(count) is not int:
-        raise BadInput(f"{name} is not a whole number")
+        raise BadInput(f"{name} is a whole number, and not {count!r}")
     check_credential(-7, count)
     return count
 
@@ -47,7 +50,7 @@ def of_py_webauthn(row: Mapping[str, Any]) -> Moved:
     """A row of py_webauthn."""
     kind, backed_up = row.get("credential_device_type"), row.get("credential_backed_up")
     if kind not in ("single_device", "multi_device", None) or not isinstance(backed_up, (bool, type(None))):
-        raise BadInput("credential_device_type or credential_backed_up is none of the library's")
+        raise BadInput("credential_device_type is single_device, multi_device or null, and credential_backed_up true, false or null")
     credential = Credential.from_cose(_bytes(row, "credential_id"), _bytes(row, "user"), _bytes(row, "credential_public_key"),
                                       _count(row, "sign_count"), None if kind is None else kind == "multi_device",
                                       transports=transports_in(row.get("transports")))
@@ -67,7 +70,7 @@ def moved(reader: Callable[[Mapping[str, Any]], Moved], server: SqlServer, lines
                 raise BadInput("the line is no JSON object")
             credential, backed_up, aaguid = reader(row)
             check_user(credential.user)
-            check_ids([credential.id])
+            check_id(credential.id, "the credential id")
             server.add(credential, backed_up=backed_up, aaguid=aaguid)
             counts["moved"] += 1
         except Refused:

@@ -2,9 +2,11 @@
 section 5.1)."""
 from __future__ import annotations
 
+import json
 from typing import Any, Dict, Iterable, Mapping, Optional, Sequence, Union
 
 from . import forms, limits
+from .answers import kind_of
 from .errors import BadInput
 from .records import Credential, RegistrationSession, SignInSession
 
@@ -19,36 +21,47 @@ Ids = Iterable[Union[bytes, Credential]]
 
 def _one_of(value: Any, what: str, texts: Sequence[str]) -> str:
     if not isinstance(value, str) or value not in texts:
-        raise BadInput(f"{what} is one of {', '.join(texts)}")
+        raise BadInput(f"{what} is one of {', '.join(texts)}: not {value!r}")
+    return value
+
+
+def _requirement_of(value: Requirement, what: str, if_false: str) -> str:
+    """True is `required`; a text is itself."""
+    if value is True or value is False:
+        return "required" if value else if_false
+    if not isinstance(value, str) or value not in REQUIREMENTS:
+        raise BadInput(f"{what} is True, False or one of {', '.join(REQUIREMENTS)}: not {value!r}")
     return value
 
 
 def user_verification_of(value: Requirement) -> str:
-    """True is `required` and false `preferred`; a text is itself."""
-    return _one_of({True: "required", False: "preferred"}.get(value, value) if isinstance(value, bool) else value,
-                   "user_verification", REQUIREMENTS)
+    """False is `preferred`."""
+    return _requirement_of(value, "user_verification", "preferred")
 
 
-def _resident_of(value: Requirement) -> str:
-    """True is `required` and false `discouraged`; a text is itself."""
-    return _one_of({True: "required", False: "discouraged"}.get(value, value) if isinstance(value, bool) else value,
-                   "resident", REQUIREMENTS)
+def _extensions(value: Mapping[str, Any]) -> Dict[str, Any]:
+    """Extensions as values of JSON."""
+    if not isinstance(value, Mapping):
+        raise BadInput(f"extensions is a dict, as {{\"credProps\": True}}, and not {kind_of(value)}")
+    extensions = dict(value)
+    try:
+        json.dumps(extensions, allow_nan=False)
+    except (TypeError, ValueError, RecursionError) as error:
+        raise BadInput(f"extensions has values of JSON alone, and bytes as texts of base64url: {error}") from None
+    return extensions
 
 
 def _more(timeout: Optional[int], hints: Sequence[str], extensions: Optional[Mapping[str, Any]]) -> Dict[str, Any]:
     made: Dict[str, Any] = {}
     if timeout is not None:
         if not isinstance(timeout, int) or isinstance(timeout, bool) or not 1 <= timeout < 2**32:
-            raise BadInput("timeout is milliseconds, from 1 to 2^32 - 1")
+            raise BadInput(f"timeout is a whole number of milliseconds, from 1 to 2^32 - 1: not {timeout!r}")
         made["timeout"] = timeout
-    if isinstance(hints, str):
-        raise BadInput("hints is a list of texts")
-    if hints:
-        made["hints"] = [_one_of(hint, "a hint", HINTS) for hint in hints]
+    listed = limits.check_list(hints, "hints", "texts, as [\"hybrid\"]")
+    if listed:
+        made["hints"] = [_one_of(hint, "each of hints", HINTS) for hint in listed]
     if extensions is not None:
-        if not isinstance(extensions, Mapping):
-            raise BadInput("extensions is not an object")
-        made["extensions"] = dict(extensions)
+        made["extensions"] = _extensions(extensions)
     return made
 
 
@@ -56,7 +69,7 @@ def of_creation(user_verification: str, resident: Requirement, attachment: Optio
                 hints: Sequence[str], extensions: Optional[Mapping[str, Any]]) -> Dict[str, Any]:
     """The members of creation options that no verdict looks at but by `user_verification` and `attestation` of the session (WebAuthn
     Level 2, section 5.4). Raises `BadInput`."""
-    resident_key = _resident_of(resident)
+    resident_key = _requirement_of(resident, "resident", "discouraged")
     selection: Dict[str, Any] = {"residentKey": resident_key, "requireResidentKey": resident_key == "required",
                                  "userVerification": user_verification}
     if attachment is not None:
@@ -71,9 +84,18 @@ def of_request(user_verification: str, timeout: Optional[int], hints: Sequence[s
     return {"userVerification": user_verification, **_more(timeout, hints, extensions)}
 
 
-def ids_of(ids: Ids, most: int = limits.MAX_LIST) -> "tuple[bytes, ...]":
+def ids_of(ids: Ids, what: str, most: int = limits.MAX_LIST) -> "tuple[bytes, ...]":
     """The ids of a list, so many at most."""
-    return limits.check_ids((one.id if isinstance(one, Credential) else one for one in ids), most)
+    listed = limits.check_list(ids, what, "credentials or their ids")
+    return limits.check_ids([one.id if isinstance(one, Credential) else one for one in listed], what, most)
+
+
+def user_entity(user: bytes, user_name: str, display_name: Optional[str]) -> Dict[str, str]:
+    """A PublicKeyCredentialUserEntityJSON. Without a display name that is the name."""
+    limits.check_text(user_name, "user_name")
+    if display_name is not None:
+        limits.check_text(display_name, "display_name")
+    return {"id": forms.to_text(user), "name": user_name, "displayName": display_name or user_name}
 
 
 def _descriptors(ids: Ids) -> "list[Dict[str, Any]]":
@@ -85,7 +107,7 @@ def creation_options(rp: Dict[str, str], session: RegistrationSession, user_name
     """The options of a registration, with the members of `of_creation`."""
     return {
         "rp": rp,
-        "user": {"id": forms.to_text(session.user), "name": user_name, "displayName": display_name or user_name},
+        "user": user_entity(session.user, user_name, display_name),
         "challenge": forms.to_text(session.challenge),
         "pubKeyCredParams": [{"type": "public-key", "alg": number} for number in session.algorithms],
         "excludeCredentials": _descriptors(exclude),

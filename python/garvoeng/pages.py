@@ -2,6 +2,7 @@
 from __future__ import annotations
 
 import json
+import re
 from pathlib import Path
 from typing import Any, Dict
 
@@ -10,6 +11,10 @@ from .forms import from_text
 
 MAX_BODY = 128 * 1024
 """The most bytes of a visitor's request."""
+FRESH = 300
+"""How many seconds after a sign-in a passkey may be added to the account, if not said."""
+SIGN_IN_AGAIN = "sign in again: a passkey is added right after a sign-in"
+DAMAGED = "what is stored is damaged"
 MAX_NAME = 64
 """The most characters of an account's name."""
 FILES = {"": ("passkeys.html", "text/html"), "passkeys.js": ("passkeys.js", "text/javascript"), "page.js": ("page.js", "text/javascript")}
@@ -20,11 +25,14 @@ def file(path: str) -> bytes:
     return Path(__file__).with_name(FILES[path][0]).read_bytes()
 
 
-def check_head(content_type: str, size: int) -> None:
-    """What is asked of a request before its body is read. Only JSON is taken: a form of another site can't send it."""
+def check_head(content_type: str, length: Any) -> None:
+    """What is asked of a request before its body is read; `length` is its Content-Length, if it has one. Only JSON is taken: a form of
+    another site can't send it."""
     if content_type.split(";")[0].strip().lower() != "application/json":
         raise BadInput("the body is not application/json")
-    if size > MAX_BODY:
+    if length and not re.fullmatch("[0-9]{1,18}", str(length)):
+        raise BadInput("Content-Length is not a number")
+    if int(length or 0) > MAX_BODY:
         raise BadInput("the body is too long")
 
 

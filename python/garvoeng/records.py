@@ -118,7 +118,7 @@ class Credential:
         `BadInput` where they are not those of a key of ES256, EdDSA or RS256 in canonical CBOR."""
         key = library.key_from_cose(bytes(cose_key))
         if key is None:
-            raise BadInput("the key is not a COSE_Key of ES256, EdDSA or RS256 in canonical CBOR")
+            raise BadInput("cose_key is not a COSE_Key of ES256, EdDSA or RS256 in canonical CBOR")
         return cls(bytes(id), bytes(user), *key, sign_count, eligible, retired, tuple(transports))
 
     @property

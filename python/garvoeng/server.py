@@ -3,15 +3,15 @@ from __future__ import annotations
 
 import secrets
 from dataclasses import fields
-from typing import Any, Awaitable, Callable, Dict, Mapping, Optional, Sequence, Tuple
+from typing import Any, Awaitable, Callable, Dict, Mapping, Optional, Sequence, Tuple, Union
 
-from . import _passkey, forms, library, limits, options
+from . import _passkey, answers, forms, library, limits, options
+from .answers import Verify
 from .errors import BadInput, Refused
 from .library import EDDSA, ES256, RS256
 from .options import Ids, Requirement
 from .records import Credential, Registered, RegistrationSession, SignedIn, SignInSession
 
-Verify = Callable[[int, bytes, bytes, bytes, bytes], bool]
 _MEMBERS = tuple(field.name for kind in (Credential, SignedIn) for field in fields(kind))
 _NO_REGISTRATION = RegistrationSession(b"", b"")
 _NO_SESSION = SignInSession(b"")
@@ -28,10 +28,26 @@ def _raised(is_registration: bool, answer: int) -> Exception:
     return BadInput(text, answer)
 
 
-def verify_by_cryptography() -> Verify:
-    """That of `garvoeng.signatures`. Who hands in another one needs no `cryptography`."""
-    from .signatures import is_valid
-    return is_valid
+def verify_of(verify: Optional[Verify]) -> Verify:
+    """What verifies: that of `garvoeng.signatures`, if not said. Who hands in another one needs no `cryptography`."""
+    if verify is None:
+        from .signatures import is_valid
+        return is_valid
+    if not callable(verify):
+        raise TypeError(f"verify is a function of algorithm, x, y, message and signature, and not {answers.kind_of(verify)}")
+    return verify
+
+
+def _free(raw_id: bytes, said: Any) -> Optional[bytes]:
+    """An id where a look-up answered that no credential has it."""
+    return None if answers.is_true("is_registered", said) else raw_id
+
+
+def _credential(found: Any) -> Optional[Credential]:
+    """What a look-up answered."""
+    if found is not None and not isinstance(found, Credential):
+        answers.refuse("credential", found, "a Credential or None")
+    return found
 
 
 class Server:
@@ -52,10 +68,11 @@ class Server:
         self._profile = limits.check_profile(profile)
         self._top_origins = limits.check_top_origins(top_origins)
         self._top_origins_bytes = tuple(origin.encode() for origin in self._top_origins)
-        self.rp_name = rp_name if rp_name is not None else rp_id
+        limits.check_attestation(accept_none, accept_self)
+        self.rp_name = limits.check_text(rp_name, "rp_name") if rp_name is not None else rp_id
         self.accept_none = accept_none
         self.accept_self = accept_self
-        self.verify = verify if verify is not None else verify_by_cryptography()
+        self.verify = verify_of(verify)
 
     @property
     def rp_id(self) -> str:
@@ -89,11 +106,13 @@ class Server:
         section 5.1.3, `mediation`): then nobody need be present. Both are looked at in the profile `level3`. `timeout` is milliseconds, `hints` a list of
         `security-key`, `client-device` and `hybrid`; `extensions` are handed on to the page. Raises `BadInput`.
         """
-        listed, verification = list(exclude), options.user_verification_of(user_verification)
-        options.ids_of(listed)
+        listed = limits.check_list(exclude, "exclude", "credentials or their ids")
+        verification = options.user_verification_of(user_verification)
+        options.ids_of(listed, "exclude")
         more = options.of_creation(verification, resident, attachment, attestation, timeout, hints, extensions)
         session = RegistrationSession(secrets.token_bytes(32), limits.check_user(user), verification == "required",
-                                      limits.check_algorithms(algorithms), bool(conditional), attestation != "none")
+                                      limits.check_algorithms(algorithms), limits.check_flag(conditional, "conditional"),
+                                      attestation != "none")
         return options.creation_options({"id": self.rp_id, "name": self.rp_name}, session, user_name, display_name, listed, more), session
 
     def register_complete(self, session: Optional[RegistrationSession], response: Mapping[str, Any], *,
@@ -104,30 +123,34 @@ class Server:
         retired or not. Raises `Refused` with the first step that is not passed, `BadInput` where the response is not
         in the form of JSON.
         """
-        raw_id, client_data, attestation_object = forms.registration_parts(response)
-        return self.register_complete_parts(session, attestation_object, client_data, is_full=is_full,
-                                            free_id=None if is_registered(raw_id) else raw_id,
-                                            transports=forms.transports_in(response["response"].get("transports")))
+        parts, transports = forms.registration_parts(response), forms.transports_of(response)
+        free_id = _free(parts[0], is_registered(parts[0]))
+        return self._registered(session, free_id, parts, is_full, transports, answers.waiting(self.verify))
 
     async def register_complete_async(self, session: Optional[RegistrationSession], response: Mapping[str, Any], *,
-                                      is_registered: Callable[[bytes], Awaitable[bool]], is_full: bool = False) -> Registered:
-        """The same, where the look-up is awaited."""
-        raw_id, client_data, attestation_object = forms.registration_parts(response)
-        is_taken = await is_registered(raw_id)
-        return self.register_complete_parts(session, attestation_object, client_data, is_full=is_full,
-                                            free_id=None if is_taken else raw_id,
-                                            transports=forms.transports_in(response["response"].get("transports")))
+                                      is_registered: Callable[[bytes], Union[bool, Awaitable[bool]]],
+                                      is_full: bool = False) -> Registered:
+        """The same, where what `is_registered` and `verify` give is awaited, if it can be."""
+        parts, transports = forms.registration_parts(response), forms.transports_of(response)
+        free_id = _free(parts[0], await answers.awaited(is_registered(parts[0])))
+        return await answers.judged(self.verify, lambda verify: self._registered(session, free_id, parts, is_full, transports, verify))
 
     def register_complete_parts(self, session: Optional[RegistrationSession], attestation_object: bytes, client_data: bytes, *,
                                 free_id: Optional[bytes], is_full: bool = False, transports: Sequence[str] = ()) -> Registered:
         """The same of the response's parts. `free_id` is an id that no credential has; each other counts as
         registered."""
+        return self._registered(session, free_id, (b"", client_data, attestation_object), is_full, transports,
+                                answers.waiting(self.verify))
+
+    def _registered(self, session: Optional[RegistrationSession], free_id: Optional[bytes], parts: forms.RegistrationParts, is_full: bool,
+                    transports: Sequence[str], verify: Verify) -> Registered:
+        _, client_data, attestation_object = parts
         begun = _NO_REGISTRATION if session is None else session
         said = _passkey.registration(
-            self.verify,
+            verify,
             (self._profile, self.accept_none, self.accept_self, session is not None, begun.user_verification,
              ES256 in begun.algorithms, EDDSA in begun.algorithms, RS256 in begun.algorithms, begun.conditional, begun.attestation,
-             is_full),
+             limits.check_flag(is_full, "is_full")),
             (free_id, self._rp_id_bytes, begun.challenge, begun.user, client_data, attestation_object), self._origins_bytes,
             self._top_origins_bytes)
         if isinstance(said, int):
@@ -147,9 +170,10 @@ class Server:
         `user` is the user handle of the account, where it is known; `allow` the credentials that may answer, or their ids, 64 at
         most, none for any. The others are as in `register_begin`.
         """
-        listed, verification = list(allow), options.user_verification_of(user_verification)
+        listed = limits.check_list(allow, "allow", "credentials or their ids")
+        verification = options.user_verification_of(user_verification)
         session = SignInSession(secrets.token_bytes(32), None if user is None else limits.check_user(user),
-                                options.ids_of(listed), verification == "required")
+                                options.ids_of(listed, "allow"), verification == "required")
         return options.request_options(self.rp_id, session, listed,
                                        options.of_request(verification, timeout, hints, extensions)), session
 
@@ -161,28 +185,31 @@ class Server:
         `Refused` with the first step that is not passed, `BadInput` where the response is not in the form of JSON.
         """
         parts = forms.sign_in_parts(response)
-        return self._signed_in(session, credential(parts[0]), parts)
+        return self._signed_in(session, _credential(credential(parts[0])), parts, answers.waiting(self.verify))
 
-    async def authenticate_complete_async(self, session: Optional[SignInSession], response: Mapping[str, Any], *,
-                                          credential: Callable[[bytes], Awaitable[Optional[Credential]]]) -> SignedIn:
-        """The same, where the look-up is awaited."""
+    async def authenticate_complete_async(
+            self, session: Optional[SignInSession], response: Mapping[str, Any], *,
+            credential: Callable[[bytes], Union[None, Credential, Awaitable[Optional[Credential]]]]) -> SignedIn:
+        """The same, where what `credential` and `verify` give is awaited, if it can be."""
         parts = forms.sign_in_parts(response)
-        return self._signed_in(session, await credential(parts[0]), parts)
+        found = _credential(await answers.awaited(credential(parts[0])))
+        return await answers.judged(self.verify, lambda verify: self._signed_in(session, found, parts, verify))
 
     def authenticate_complete_parts(self, session: Optional[SignInSession], credential: Optional[Credential],
                                     raw_id: bytes, user: Optional[bytes], auth_data: bytes, signature: bytes,
                                     client_data: bytes) -> SignedIn:
         """The same of the response's parts and the credential that was found."""
-        return self._signed_in(session, credential, (raw_id, client_data, auth_data, signature, user))
+        return self._signed_in(session, credential, (raw_id, client_data, auth_data, signature, user), answers.waiting(self.verify))
 
-    def _signed_in(self, session: Optional[SignInSession], credential: Optional[Credential], parts: forms.SignInParts) -> SignedIn:
+    def _signed_in(self, session: Optional[SignInSession], credential: Optional[Credential], parts: forms.SignInParts,
+                   verify: Verify) -> SignedIn:
         raw_id, client_data, auth_data, signature, user = parts
         begun = _NO_SESSION if session is None else session
         stored = _NO_CREDENTIAL if credential is None else credential
         allow = begun.allow
         try:
             said = _passkey.assertion(
-                Credential, SignedIn, _MEMBERS, self.verify, credential, stored.transports, stored.eligible,
+                Credential, SignedIn, _MEMBERS, verify, credential, stored.transports, stored.eligible,
                 (self._profile, session is not None, begun.user_verification, credential is not None, stored.algorithm,
                  stored.sign_count, stored.retired),
                 (begun.user, user, self._rp_id_bytes, begun.challenge, stored.id, stored.user, stored.x, stored.y, raw_id, client_data,
@@ -204,16 +231,17 @@ class Server:
     def signal_unknown_credential(self, credential_id: bytes) -> Dict[str, str]:
         """What the page hands to `PublicKeyCredential.signalUnknownCredential` after a sign-in was refused by W3 (WebAuthn Level 3,
         section 5.1.10)."""
-        return {"rpId": self._rp_id, "credentialId": forms.to_text(credential_id)}
+        return {"rpId": self._rp_id, "credentialId": forms.to_text(limits.check_id(credential_id, "credential_id"))}
 
     def signal_all_accepted(self, user: bytes, credentials: Ids) -> Dict[str, Any]:
         """What the page hands to `signalAllAcceptedCredentials`, of a user who is signed in: all of his credentials that may sign in, or
         their ids. A passkey that is left out is hidden or deleted."""
-        accepted = [one for one in credentials if not (isinstance(one, Credential) and one.retired)]
+        listed = limits.check_list(credentials, "credentials", "credentials or their ids")
+        accepted = [one for one in listed if not (isinstance(one, Credential) and one.retired)]
         return {"rpId": self._rp_id, "userId": forms.to_text(limits.check_user(user)),
-                "allAcceptedCredentialIds": [forms.to_text(one) for one in options.ids_of(accepted, len(accepted))]}
+                "allAcceptedCredentialIds": [forms.to_text(one) for one in options.ids_of(accepted, "credentials", len(accepted))]}
 
     def signal_user_details(self, user: bytes, user_name: str, display_name: Optional[str] = None) -> Dict[str, str]:
         """What the page hands to `signalCurrentUserDetails` where an account's names changed."""
-        return {"rpId": self._rp_id, "userId": forms.to_text(limits.check_user(user)), "name": user_name,
-                "displayName": display_name or user_name}
+        named = options.user_entity(limits.check_user(user), user_name, display_name)
+        return {"rpId": self._rp_id, "userId": named.pop("id"), **named}

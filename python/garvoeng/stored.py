@@ -2,27 +2,31 @@
 runs beside this process, and answers lines of JSON."""
 from __future__ import annotations
 
-import asyncio
 import itertools
 import json
 import logging
+import os
 import subprocess
 import threading
 from collections import deque
 from dataclasses import dataclass
 from subprocess import PIPE
 from typing import Any, Deque, Dict, List, Mapping, Optional, Sequence, Tuple, Union
+from weakref import WeakSet
 
-from . import forms, limits, options
+from . import answers, forms, limits, options
+from .answers import Verify, in_thread
 from .broker import MAX_LINE, Connection
 from .errors import BadInput, Refused
 from .library import EDDSA, ES256, RS256
 from .options import Ids, Requirement
 from .records import Credential, Registered
-from .server import Verify, verify_by_cryptography
+from .server import verify_of
 
 
 _log = logging.getLogger("garvoeng")
+_ENDING = 5.0
+"""How many seconds may pass until what a program that has ended told is read."""
 
 
 class StoreFailed(Exception):
@@ -79,8 +83,12 @@ def _kept(row: Mapping[str, Any]) -> KeptCredential:
                           None if aaguid is None else forms.from_text(aaguid, "aaguid"), row["created_at"], row["used_at"])
 
 
-def _listed(ids: Ids) -> List[str]:
-    return [forms.to_text(one) for one in options.ids_of(ids, limits.MAX_STORED_LIST)]
+def _listed(ids: Ids, what: str) -> List[str]:
+    return [forms.to_text(one) for one in options.ids_of(ids, what, limits.MAX_STORED_LIST)]
+
+
+def _named(credential: bytes) -> str:
+    return forms.to_text(limits.check_id(credential, "credential"))
 
 
 def _handed_on(raw_id: bytes, **parts: Optional[bytes]) -> Dict[str, Any]:
@@ -135,7 +143,9 @@ class _Process:
             _log.error("the program answered what is no answer")
         finally:
             self._kill()
-            self.hearing.join()
+            # Of a connection too, whose notes end by this.
+            self.process.stdout.close()
+            self.hearing.join(_ENDING)
             with self.changed:
                 self.has_ended = True
                 self.changed.notify_all()
@@ -193,6 +203,17 @@ class _Process:
     def is_running(self) -> bool:
         return not self.is_killed and self.process.poll() is None
 
+    def forget(self) -> None:
+        """In a child of the process that has it: lets go of what is the parent's."""
+        if isinstance(self.process, Connection):
+            self.process.forget()
+            return
+        self.process.returncode = 0
+        for pipe in (self.process.stdin, self.process.stdout, self.process.stderr):
+            assert pipe is not None
+            # The buffer may be locked by a thread that the child does not have.
+            getattr(pipe, "raw").close()
+
     def end(self, timeout: float) -> int:
         """Ends the input, by which the program closes its file; its status. One that has not ended in time is killed."""
         assert self.process.stdin is not None
@@ -203,13 +224,32 @@ class _Process:
                 pass
             finally:
                 self.writing.release()
-        try:
-            self.process.wait(timeout)
-        except subprocess.TimeoutExpired:
+        status = self._waited(timeout)
+        if status is None:
             self._kill()
-        status = self.process.wait()
-        self.reading.join()
-        return status
+            status = self._waited(timeout)
+        self.reading.join(timeout)
+        return -1 if status is None else status
+
+    def _waited(self, timeout: float) -> Optional[int]:
+        """The status, or None where it did not end in time."""
+        try:
+            return self.process.wait(timeout)
+        except subprocess.TimeoutExpired:
+            return None
+
+
+_servers: "WeakSet[StoredServer]" = WeakSet()
+
+
+def _forked() -> None:
+    """In a child: each server connects anew, or starts its own program."""
+    for server in list(_servers):
+        server._forked()
+
+
+if hasattr(os, "register_at_fork"):
+    os.register_at_fork(after_in_child=_forked)
 
 
 class StoredServer:
@@ -236,10 +276,12 @@ class StoredServer:
                  shared: bool = False, verify: Optional[Verify] = None) -> None:
         origins = limits.check_party(rp_id, origins)
         limits.check_profile(profile)
-        if not (accept_none or accept_self):
-            raise BadInput("no attestation is accepted")
+        limits.check_attestation(accept_none, accept_self)
+        for flag, what in ((existing, "existing"), (wary, "wary"), (shared, "shared")):
+            limits.check_flag(flag, what)
         if log not in (False, True, "refusals", "all"):
-            raise BadInput("log is true or false, refusals or all")
+            raise BadInput(f"log is True, False, \"refusals\" or \"all\": not {log!r}")
+        limits.check_text(rp_id if rp_name is None else rp_name, "rp_name")
         attestation = "any" if accept_none and accept_self else "none" if accept_none else "self"
         self._words = [program, f"--rp-id={rp_id}", f"--rp-name={rp_id if rp_name is None else rp_name}",
                        "--profile", profile, "--attestation", attestation,
@@ -251,13 +293,19 @@ class StoredServer:
                        *(["--wary"] if wary else []),
                        *([f"--log={'refusals' if log is True else log}"] if log else []),
                        "--", file]
-        self.verify = verify if verify is not None else verify_by_cryptography()
+        self.verify = verify_of(verify)
         self.timeout = timeout
         self.shared = shared
         self._starting = threading.Lock()
         self._process: Optional[_Process] = None
+        _servers.add(self)
 
     # ---- the program
+
+    def _forked(self) -> None:
+        process, self._process, self._starting = self._process, None, threading.Lock()
+        if process is not None:
+            process.forget()
 
     def _running(self) -> _Process:
         with self._starting:
@@ -304,8 +352,8 @@ class StoredServer:
         answer = self._ask(act, session=number, response=response, **more)
         if "verify" in answer:
             asked = answer["verify"]
-            is_valid = self.verify(asked["algorithm"], *(forms.from_text(asked[name], name) for name in (
-                "x", "y", "message", "signature")))
+            parts = (forms.from_text(asked[name], name) for name in ("x", "y", "message", "signature"))
+            is_valid = answers.is_true("verify", answers.waiting(self.verify)(asked["algorithm"], *parts))
             answer = self._ask(act, session=number, response=response, verified=asked if is_valid else False, **more)
         if "refused" in answer:
             raise Refused(act == "finish_registration", answer["refused"]["number"], answer["refused"]["text"])
@@ -314,28 +362,31 @@ class StoredServer:
 
     # ---- registration
 
-    def register_begin(self, user: bytes, user_name: str, display_name: Optional[str] = None, *, exclude: Ids = (),
+    def register_begin(self, user: bytes, user_name: str, display_name: Optional[str] = None, *, exclude: Optional[Ids] = None,
                        user_verification: Requirement = False, resident: Requirement = True,
                        algorithms: Sequence[int] = (ES256, EDDSA, RS256), attachment: Optional[str] = None,
                        attestation: str = "none", conditional: bool = False, timeout: Optional[int] = None, hints: Sequence[str] = (),
                        extensions: Optional[Mapping[str, Any]] = None) -> Tuple[Dict[str, Any], int]:
         """PublicKeyCredentialCreationOptionsJSON for the page, and the session's number, which only this visitor may have.
 
-        The parameters are as in `Server.register_begin`; `exclude` has 8 at most.
+        The parameters are as in `Server.register_begin`; `exclude` has 8 at most, and is the account's own, if not given.
         """
+        handle = limits.check_user(user)
+        named = options.user_entity(handle, user_name, display_name)
         verification = options.user_verification_of(user_verification)
         more = options.of_creation(verification, resident, attachment, attestation, timeout, hints, extensions)
-        answer = self._ask("begin_registration", user=forms.to_text(limits.check_user(user)), user_name=user_name,
-                           display_name=display_name, exclude=_listed(exclude), user_verification=verification == "required",
-                           algorithms=list(limits.check_algorithms(algorithms)), conditional=bool(conditional),
-                           attestation=attestation != "none")
+        how = {"algorithms": list(limits.check_algorithms(algorithms)), "conditional": limits.check_flag(conditional, "conditional"),
+               "attestation": attestation != "none"}
+        listed = self._own(handle)[:limits.MAX_STORED_LIST] if exclude is None else exclude
+        answer = self._ask("begin_registration", user=named["id"], user_name=user_name, display_name=display_name,
+                           exclude=_listed(listed, "exclude"), user_verification=verification == "required", **how)
         return {**answer["options"], **more}, answer["session"]
 
     async def register_begin_async(self, user: bytes, user_name: str, display_name: Optional[str] = None,
                                    **how: Any) -> Tuple[Dict[str, Any], int]:
         """The same, awaited: a thread of the loop waits for the program's answer. Where the wait is cancelled, what was asked is done or
         is not."""
-        return await asyncio.to_thread(self.register_begin, user, user_name, display_name, **how)
+        return await in_thread(self.register_begin, user, user_name, display_name, **how)
 
     def register_complete(self, session: Optional[int], response: Mapping[str, Any]) -> Registered:
         """What a RegistrationResponseJSON registers: the credential, which is in the file, and what is known of it. In the profile
@@ -350,26 +401,30 @@ class StoredServer:
 
     async def register_complete_async(self, session: Optional[int], response: Mapping[str, Any]) -> Registered:
         """The same, awaited as `register_begin_async`."""
-        return await asyncio.to_thread(self.register_complete, session, response)
+        return await in_thread(self.register_complete, session, response)
 
     # ---- sign-in
 
-    def authenticate_begin(self, *, user: Optional[bytes] = None, allow: Ids = (), user_verification: Requirement = False,
+    def authenticate_begin(self, *, user: Optional[bytes] = None, allow: Optional[Ids] = None, user_verification: Requirement = False,
                            timeout: Optional[int] = None, hints: Sequence[str] = (),
                            extensions: Optional[Mapping[str, Any]] = None) -> Tuple[Dict[str, Any], int]:
         """PublicKeyCredentialRequestOptionsJSON for the page, and the session's number, which only this visitor may have.
 
-        The parameters are as in `Server.authenticate_begin`; `allow` has 8 at most.
+        The parameters are as in `Server.authenticate_begin`; `allow` has 8 at most. If it is not given, and the account is known, its
+        passkeys are listed; where they are more, any that the browser finds may answer, and has to be the account's.
         """
+        handle = None if user is None else limits.check_user(user)
         verification = options.user_verification_of(user_verification)
         more = options.of_request(verification, timeout, hints, extensions)
-        answer = self._ask("begin_sign_in", user=None if user is None else forms.to_text(limits.check_user(user)),
-                           allow=_listed(allow), user_verification=verification == "required")
+        own = self._own(handle) if allow is None and handle is not None else []
+        listed = allow if allow is not None else own if len(own) <= limits.MAX_STORED_LIST else []
+        answer = self._ask("begin_sign_in", user=None if handle is None else forms.to_text(handle), allow=_listed(listed, "allow"),
+                           user_verification=verification == "required")
         return {**answer["options"], **more}, answer["session"]
 
     async def authenticate_begin_async(self, **how: Any) -> Tuple[Dict[str, Any], int]:
         """The same, awaited as `register_begin_async`."""
-        return await asyncio.to_thread(self.authenticate_begin, **how)
+        return await in_thread(self.authenticate_begin, **how)
 
     def authenticate_complete(self, session: Optional[int], response: Mapping[str, Any]) -> StoredSignIn:
         """Who signed in, of an AuthenticationResponseJSON; the counter is in the file, and the session closed. Raises as
@@ -382,17 +437,21 @@ class StoredServer:
 
     async def authenticate_complete_async(self, session: Optional[int], response: Mapping[str, Any]) -> StoredSignIn:
         """The same, awaited as `register_begin_async`."""
-        return await asyncio.to_thread(self.authenticate_complete, session, response)
+        return await in_thread(self.authenticate_complete, session, response)
 
     # ---- sessions and credentials
 
     def retire(self, credential: bytes) -> bool:
         """A credential signs in no more; whether it did until now."""
-        return bool(self._ask("retire", credential=forms.to_text(credential))["retired"])
+        return bool(self._ask("retire", credential=_named(credential))["retired"])
 
     def delete(self, credential: bytes) -> bool:
         """A credential is forgotten, with all that is known of it, and its id may be registered again; whether it was there."""
-        return bool(self._ask("delete", credential=forms.to_text(credential))["deleted"])
+        return bool(self._ask("delete", credential=_named(credential))["deleted"])
+
+    def delete_account(self, user: bytes) -> int:
+        """Each of a user's credentials is forgotten, one after another; how many they were."""
+        return sum(self.delete(row.id) for row in self.rows(limits.check_user(user)))
 
     def abandon(self, session: int) -> bool:
         """A session ends; whether it was open."""
@@ -404,8 +463,12 @@ class StoredServer:
 
     def rows(self, user: Optional[bytes] = None) -> List[KeptCredential]:
         """The credentials of a user, or all, in order of registration, with what is known of each."""
-        answer = self._ask("rows", user=None if user is None else forms.to_text(user))
+        answer = self._ask("rows", user=None if user is None else forms.to_text(limits.check_user(user)))
         return [_kept(row) for row in answer["rows"]]
+
+    def _own(self, user: bytes) -> List[KeptCredential]:
+        """A user's passkeys that may sign in."""
+        return [row for row in self.rows(user) if not row.retired]
 
     # ---- the program's own
 

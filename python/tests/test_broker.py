@@ -6,7 +6,13 @@ import random
 import signal
 import socket
 import stat
+import subprocess
+import sys
+import threading
 import time
+import urllib.error
+import urllib.request
+from concurrent.futures import ThreadPoolExecutor
 from pathlib import Path
 
 import pytest
@@ -267,8 +273,17 @@ def test_who_may_connect(folder, monkeypatch):
         broker.path_of(["program", "file"])
     monkeypatch.undo()
     monkeypatch.setenv("XDG_RUNTIME_DIR", str(folder))
-    (folder / "garvoeng").chmod(0o755)
-    with pytest.raises(StoreFailed, match="not this user's alone"):
+    for mode in (0o755, *(0o700 | 1 << bit for bit in range(6))):
+        (folder / "garvoeng").chmod(mode)
+        with pytest.raises(StoreFailed, match="not this user's alone"):
+            server(folder).rows()
+
+
+def test_a_folder_whose_path_is_too_long(folder, monkeypatch):
+    long = folder / ("x" * 100)
+    long.mkdir()
+    monkeypatch.setenv("XDG_RUNTIME_DIR", str(long))
+    with pytest.raises(StoreFailed, match="107 bytes: name a shorter folder in XDG_RUNTIME_DIR"):
         server(folder).rows()
 
 
@@ -361,3 +376,121 @@ while read line; do echo '{{"id":2,"failed":"disk I/O error"}}'; done
         one.rows()
     assert until(lambda: answers(one)) and one.rows() == []
     one.close()
+
+
+def answering(site, said):
+    """A broker that answers the first line by these bytes, and has gone then."""
+    path = broker.path_of(site._words)
+    listening = socket.socket(socket.AF_UNIX)
+    listening.bind(str(path))
+    listening.listen()
+
+    def answer():
+        peer, _ = listening.accept()
+        peer.recv(65_536)
+        path.unlink()
+        listening.close()
+        peer.sendall(said)
+        peer.close()
+
+    thread = threading.Thread(target=answer, daemon=True)
+    thread.start()
+    return thread
+
+
+@pytest.mark.parametrize("said", [b'{"id":1,"rows":[', b"", b'{"id":1,"rows":[]}\n{"id":2,"rows":[]}\n', b"[]\n", b"!a note\n{", b"\xff\n"])
+def test_an_answer_that_is_cut_off(folder, said):
+    """The call fails at once, and the next one, of whichever thread, goes on with another program."""
+    site = server(folder)
+    answering(site, said)
+    found, took = [], []
+
+    def call():
+        began = time.monotonic()
+        try:
+            found.append(site.rows())
+        except StoreFailed as failed:
+            found.append(str(failed))
+        took.append(time.monotonic() - began)
+
+    for wanted in ([StoreFailed, list] if b"}\n{" not in said else [list, list]):
+        calling = threading.Thread(target=call, daemon=True)
+        calling.start()
+        calling.join(20)
+        assert not calling.is_alive() and isinstance(found[-1], str if wanted is StoreFailed else wanted), found
+    assert took[0] < 3 and found[-1] == []
+    site.close()
+
+
+@pytest.mark.parametrize("shared", [True, False])
+def test_a_fork_after_a_call(folder, shared):
+    """Parent and child both go on, again and again; without `shared` the child has no program, and the parent's goes on."""
+    device = Device(EDDSA)
+    site = StoredServer(PROGRAM, str(folder / "site.db"), "example.com", ["https://example.com"], shared=shared, timeout=5)
+    registered(site, device)
+    for count in range(1, 21):
+        child = os.fork()
+        if child == 0:
+            signal.alarm(30)
+            try:
+                if shared:
+                    assert [row.id for row in site.rows()] == [device.id]
+                    site.close()
+            except BaseException:
+                os._exit(1)
+            os._exit(0)
+        calling = threading.Thread(target=lambda: signed_in(site, device), daemon=True)
+        calling.start()
+        calling.join(20)
+        assert not calling.is_alive() and site.rows()[0].sign_count == count
+        assert os.waitpid(child, 0)[1] == 0
+    # A child that lives holds nothing that the parent's program waits for.
+    child = os.fork()
+    if child == 0:
+        time.sleep(60)
+        os._exit(0)
+    began = time.monotonic()
+    site.close()
+    assert time.monotonic() - began < 4 and (shared or not running(folder / "site.db", "program"))
+    os.kill(child, signal.SIGKILL)
+    os.waitpid(child, 0)
+
+
+SITE = """
+import sys
+sys.path[:0] = {path!r}
+from garvoeng import StoredServer
+server = StoredServer({program!r}, {file!r}, "example.com", ["https://example.com"], shared=True, timeout=10)
+server.status()
+
+def app(environ, start):
+    start("200 OK", [("Content-Type", "text/plain")])
+    return [str(server.status()["credentials"]).encode()]
+"""
+
+
+def test_workers_of_a_loaded_site(folder):
+    """gunicorn with --preload and a call at the import: each worker answers each request."""
+    pytest.importorskip("gunicorn")
+    (folder / "loaded_site.py").write_text(SITE.format(path=sys.path, program=PROGRAM, file=str(folder / "site.db")))
+    with socket.socket() as free:
+        free.bind(("127.0.0.1", 0))
+        port = free.getsockname()[1]
+    site = subprocess.Popen([sys.executable, "-m", "gunicorn", "--preload", "-w", "3", "-b", f"127.0.0.1:{port}", "loaded_site:app"], cwd=folder,
+                            stdout=subprocess.DEVNULL, stderr=subprocess.DEVNULL)
+    try:
+        def ask(_=None):
+            try:
+                with urllib.request.urlopen(f"http://127.0.0.1:{port}/", timeout=20) as answer:
+                    return answer.status, answer.read()
+            except urllib.error.HTTPError as error:
+                return error.code, b""
+            except OSError:
+                return None
+
+        assert until(ask)
+        with ThreadPoolExecutor(6) as pool:
+            assert set(pool.map(ask, range(60))) == {(200, b"0")}
+    finally:
+        site.terminate()
+        site.wait()

@@ -442,14 +442,17 @@ class SoftkeyCable:
 
     def __init__(self, *words):
         self.key = Softkey(SOFTKEY, *words)
+        self.turn = threading.Lock()  # A line's answer is read by who said it; cancel is called in a thread of its own.
 
     def write(self, packet):
-        self.key.packet(packet)
+        with self.turn:
+            self.key.packet(packet)
 
     def read(self, timeout):
         if not self.key.packets:
             time.sleep(timeout)
-            self.key.line("wait")
+            with self.turn:
+                self.key.line("wait")
         if not self.key.packets:
             raise TimeoutError
         return self.key.packets.popleft()

@@ -412,7 +412,7 @@ fake = types.ModuleType("garvoeng")
 fake.__path__ = [{package}]
 sys.modules["garvoeng"] = fake
 from garvoeng import _passkey
-assert _passkey.ABI_VERSION == 4
+assert _passkey.ABI_VERSION == 5
 assert _passkey.parts({{"it": "AAEC"}}, {{}}, ("it",), 1) == (bytes([0, 1, 2]),)
 assert _passkey.refusal_text(False, 14) == "the signature is not valid"
 try:

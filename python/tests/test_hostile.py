@@ -176,9 +176,10 @@ def test_refused_in_a_pool():
 @pytest.mark.parametrize("rp_id", ["https://example.com", "example.com/", "Example.com", "", "example.com:443", "example..com", ".com",
                                    "127.0.0.1", "a" * 254, "ex\u00e4mple.com", "example.com.", None, b"example.com", "-a.com", "a b"])
 def test_rp_ids_that_are_none(rp_id):
-    with pytest.raises(BadInput):
+    error = BadInput if isinstance(rp_id, str) else TypeError
+    with pytest.raises(error, match="rp_id is a"):
         Server(rp_id, ["https://example.com"])
-    with pytest.raises(BadInput):
+    with pytest.raises(error, match="rp_id is a"):
         StoredServer("program", "file", rp_id, ["https://example.com"])
 
 
@@ -189,9 +190,11 @@ def test_rp_ids_that_are_none(rp_id):
     ["https://*.example.com"], ["https://other.com"], ["https://notexample.com"], ["https://example.com.evil.com"], ["https://com"],
     ["https://example.com", "https://example.com/"], ["https://ex\u00e4mple.com"], ["https://example.com "], [b"https://example.com"]])
 def test_origins_that_are_none(origins):
-    with pytest.raises(BadInput):
+    is_texts = isinstance(origins, list) and all(isinstance(origin, str) for origin in origins)
+    error, told = BadInput if is_texts else TypeError, "origins|origin is example.com or ends in"
+    with pytest.raises(error, match=told):
         Server("example.com", origins)
-    with pytest.raises(BadInput):
+    with pytest.raises(error, match=told):
         StoredServer("program", "file", "example.com", origins)
 
 

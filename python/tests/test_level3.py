@@ -159,7 +159,8 @@ def test_parameters():
         with pytest.raises(BadInput):
             server_of(bad)
     for bad in ("https://one.example", b"x", ["https://one.example/"], ["HTTPS://ONE.EXAMPLE"], [""], [7], [b"https://one.example"]):
-        with pytest.raises(BadInput):
+        is_texts = isinstance(bad, list) and all(isinstance(origin, str) for origin in bad)
+        with pytest.raises(BadInput if is_texts else TypeError, match="top_origins"):
             server_of(top_origins=bad)
     for bad in ("", "Direct", None, True):
         with pytest.raises(BadInput):

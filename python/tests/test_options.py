@@ -6,7 +6,7 @@ import pytest
 from hostile import VALUES
 from test_extension import USER, Broken, Ceremony, party
 
-from garvoeng import RS256, BadInput, Credential, Refused, RegistrationSession, SignInSession, forms
+from garvoeng import RS256, BadInput, Credential, Refused, RegistrationSession, Server, SignInSession, forms
 from garvoeng.forms import to_text
 
 
@@ -47,8 +47,9 @@ VALUES_OF_OPTIONS = [
     ("user_verification", REQUIREMENTS, (*NONE, None)), ("resident", REQUIREMENTS, (*NONE, None)),
     ("attachment", ("platform", "cross-platform", None), NONE),
     ("timeout", (1, 2**32 - 1, None), (0, -1, 2**32, 2**64 + 1, 1.0, "1", True)),
-    ("hints", ([], (), ["hybrid"], ["security-key", "client-device"]), ("hybrid", ["Hybrid"], [None], [7], ["hybrid", "other"])),
-    ("extensions", (None, {}, {"a": 1}), ([], "x", 7))]
+    ("hints", ([], (), ["hybrid"], ["security-key", "client-device"]), (["Hybrid"], [None], [7], ["hybrid", "other"])),
+    ("extensions", (None, {}, {"a": 1}, {"a": [1.5, None, True, {"b": "x"}]}),
+     ([], "x", 7, {"x": float("nan")}, {"x": [float("inf")]}, {"prf": {"eval": {"first": b"salt"}}}, {"x": object()}, {(): 1}))]
 """Of each parameter of options what is one of its values, and what is none."""
 
 
@@ -91,13 +92,16 @@ def test_awaited():
         await asyncio.sleep(0)
         return identity != one.device.id
 
+    async def is_taken(identity):
+        return True
+
     async def fail(_):
         raise Broken
 
     async def acts():
         assert await one.server.register_complete_async(one.begun, one.made, is_registered=is_registered) == one.register()
         assert await one.server.authenticate_complete_async(one.session, one.response, credential=find) == one.sign_in()
-        for wrong, name in ((find, "G15"),):
+        for wrong, name in ((is_taken, "G15"),):
             with pytest.raises(Refused) as caught:
                 await one.server.register_complete_async(one.begun, one.made, is_registered=wrong)
             assert caught.value.name == name
@@ -139,3 +143,62 @@ def test_sessions_in_json():
         for kind in (RegistrationSession, SignInSession):
             with pytest.raises(BadInput):
                 kind.from_json(hostile)
+
+
+NO_LISTS = (7, "ab", b"ab", None, {b"ab": 1}, bytearray(b"ab"))
+SLIPS = [
+    ("user", (5, [1, 2], "account", None, 1.0, True, [b"x"]), "user is bytes, the user handle, as secrets.token_bytes"),
+    ("user_name", (5, None, b"name", ["name"]), "user_name is a str, and not"), ("display_name", (5, b"name", []), "display_name is a str, and not"),
+    ("exclude", NO_LISTS, "exclude is a list of credentials or their ids, and not"),
+    ("exclude", ([5], [None], ["ab"], [[1, 2]], [b"x", 7]), "each of exclude is bytes, a credential id, and not"),
+    ("allow", NO_LISTS, "allow is a list of credentials or their ids, and not"),
+    ("allow", ([5], [None], ["ab"], [[1, 2]], [b"x", 7]), "each of allow is bytes, a credential id, and not"),
+    ("conditional", (0, 1, None, "yes", []), "conditional is True or False, and not"), ("hints", (7, "hybrid", None), "hints is a list of texts"),
+    ("algorithms", (-7, None, "ES256"), "algorithms is a list of numbers")]
+"""Of each parameter of the begins, what is a slip of the site's, and what tells it."""
+
+
+def slips(party, listed=True):
+    """Each slip is told by the parameter's name, in each begin that has it."""
+    registering = {"user": USER, "user_name": "name"}
+    for name, values, told in SLIPS:
+        for value in values:
+            if value is None and name in ("exclude", "allow") and not listed:
+                continue
+            if name != "allow":
+                with pytest.raises(TypeError, match=told):
+                    party.register_begin(**{**registering, name: value})
+            if name in ("allow", "hints", "user") and not (name == "user" and value is None):
+                with pytest.raises(TypeError, match=told):
+                    party.authenticate_begin(**{name: value})
+
+
+def test_slips_of_a_site():
+    slips(party())
+    for how in ({"accept_none": 1}, {"accept_self": None}, {"rp_name": 5}, {"verify": True}, {"top_origins": "https://example.com"},
+                {"top_origins": [7]}):
+        with pytest.raises(TypeError, match=f"{list(how)[0]}"):
+            party(**how)
+    with pytest.raises(BadInput, match="accept_none and accept_self are both False"):
+        party(accept_none=False, accept_self=False)
+    for origins in ("https://example.com", 7, None, b"x"):
+        with pytest.raises(TypeError, match="origins is a list of texts"):
+            Server("example.com", origins)
+    for origin, told in (("https://example.com:443", "write https://example.com in origins"), ("https://example.com/", "without a path"),
+                         ("https://example.com:70000", "a port above 65535"), ("https://other.com", "example.com or ends in .example.com")):
+        with pytest.raises(BadInput, match=told):
+            Server("example.com", [origin])
+    one = Ceremony()
+    with pytest.raises(TypeError, match="is_full is True or False"):
+        one.register(is_full=1)
+    for call in (lambda: party().signal_unknown_credential("text"), lambda: party().signal_all_accepted(USER, b"ab"),
+                 lambda: party().signal_user_details(USER, 5), lambda: party().signal_all_accepted(5, [])):
+        with pytest.raises(TypeError, match="credential_id|credentials|user_name|user"):
+            call()
+
+
+def test_halves_of_a_challenge():
+    """All 32 bytes are drawn: no half of one is in another, nor are its own the same."""
+    halves = [half for _ in range(20) for session in (party().register_begin(USER, "name")[1], party().authenticate_begin()[1])
+              for half in (session.challenge[:16], session.challenge[16:])]
+    assert len(set(halves)) == 80 and all(len(half) == 16 for half in halves)

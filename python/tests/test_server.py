@@ -1,4 +1,5 @@
 """Registrations and sign-ins by `Server`: accepted, and refused at each step."""
+import pickle
 import random
 from dataclasses import FrozenInstanceError, replace
 from hashlib import sha256
@@ -7,7 +8,7 @@ import pytest
 from device import AT, BE, BS, ED, UP, UV, Device, changed
 
 from garvoeng import (EDDSA, ES256, RS256, BadInput, Credential, Refused, Registered, RegistrationSession, Server, SignedIn,
-                      SignInSession, is_canonical, signatures)
+                      SignInSession, _passkey, is_canonical, library, signatures)
 from garvoeng.forms import to_text
 
 USER = b"account 7"
@@ -280,7 +281,7 @@ def test_algorithm_not_offered(algorithm, profile):
     server = OpenServer("example.com", ["https://example.com"], profile=profile)
     device = Device(algorithm)
     others = tuple({ES256, EDDSA, RS256} - {algorithm})
-    for algorithms in (others, others[:1], others[1:], ()):
+    for algorithms in (others, others[:1], others[1:]):
         options, session = server.register_begin(USER, "name", algorithms=algorithms)
         for packed in (False, True):
             response = device.register(options, packed=packed)
@@ -288,7 +289,7 @@ def test_algorithm_not_offered(algorithm, profile):
 
 
 def test_attestations_that_are_not_accepted():
-    for accept_none, accept_self in ((False, True), (True, False), (False, False)):
+    for accept_none, accept_self in ((False, True), (True, False)):
         server = OpenServer("example.com", ["https://example.com"], accept_none=accept_none, accept_self=accept_self)
         for packed, accepted in ((False, accept_none), (True, accept_self)):
             if accepted:
@@ -334,7 +335,8 @@ def test_registration_refused(server):
     assert refusal(complete(on=plain)) == "G14"
     assert refusal(complete(used=lambda _: True)) == "G15"
     another = to_text(b"another id")
-    assert refusal(complete({**good, "id": another, "rawId": another})) == "G15"
+    other_id = "G19"
+    assert refusal(complete({**good, "id": another, "rawId": another})) == other_id
     assert refusal(complete(is_full=True)) == "G16"
     assert complete()().credential.id == device.id
 
@@ -394,9 +396,6 @@ def test_none_without_a_signature(server):
 
     never = OpenServer("example.com", ["https://example.com"], verify=lambda *_: False)
     assert refusal(lambda: never.authenticate_complete(session, response, credential=lambda _: credential)) == "W14"
-    for wrong in (0, None, "", []):
-        no = OpenServer("example.com", ["https://example.com"], verify=lambda *_: wrong)
-        assert refusal(lambda: no.authenticate_complete(session, response, credential=lambda _: credential)) == "W14"
 
 
 def test_an_algorithm_that_is_none_is_not_valid():
@@ -419,11 +418,9 @@ def test_input(server):
     with pytest.raises(BadInput) as caught:
         server.register_complete(replace(session, challenge=b"short"), good, is_registered=free)
     assert caught.value.number == 103 and str(caught.value)
-    for other in ([-258], [-7, 7]):
+    for other in ([], [-258], [-7, 7], [-7.0], [True], [None], [[]]):
         with pytest.raises(BadInput):
             server.register_begin(USER, "name", algorithms=other)
-    with pytest.raises(BadInput):
-        OpenServer("example.com", "https://example.com")
 
 
 def test_small():
@@ -473,3 +470,28 @@ def test_kept_keys_are_their_own():
     signature = small.sign(b"message")
     for device, y in ((small, small.y), (small, large.y), (small, small.y), (large, large.y)):
         assert signatures.is_valid(RS256, device.x, y, b"message", signature) == (device is small and y == small.y)
+
+
+def test_each_answer_below_100_is_a_refusal(server, monkeypatch):
+    """With the library's own text, whether or not this package has a name for the step."""
+    device = Device()
+    options, session = server.register_begin(USER, "name")
+    good = device.register(options)
+    credential = registered(server, device)
+    asked, begun = server.authenticate_begin(user=USER)
+    response = device.sign_in(asked)
+    monkeypatch.setattr(library, "refusal_text", lambda is_registration, answer: f"text {is_registration} {answer}")
+    for number, step in ((18, "WrongTopOrigin"), (19, "OtherId"), (20, "Step20"), (99, "Step99")):
+        monkeypatch.setattr(_passkey, "registration", lambda *_: number)
+        with pytest.raises(Refused) as caught:
+            server.register_complete(session, good, is_registered=free)
+        assert (caught.value.name, caught.value.step, caught.value.text) == (f"G{number}", step, f"text True {number}")
+        assert str(pickle.loads(pickle.dumps(caught.value))) == str(caught.value)
+        monkeypatch.setattr(_passkey, "assertion", lambda *_: number)
+        with pytest.raises(Refused) as caught:
+            server.authenticate_complete(begun, response, credential=lambda _: credential)
+        assert (caught.value.name, caught.value.step) == (f"W{number}", step if number != 19 else "Step19")
+    for number, error in ((100, BadInput), (127, MemoryError)):
+        monkeypatch.setattr(_passkey, "registration", lambda *_: number)
+        with pytest.raises(error):
+            server.register_complete(session, good, is_registered=free)

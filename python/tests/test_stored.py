@@ -9,8 +9,8 @@ from contextlib import suppress
 from pathlib import Path
 
 import pytest
-from device import AT, ED, UP, UV, Device, changed
-from test_options import REQUIREMENTS, VALUES_OF_OPTIONS
+from device import AT, BE, BS, ED, UP, UV, Device, changed
+from test_options import REQUIREMENTS, VALUES_OF_OPTIONS, slips
 
 from garvoeng import BadInput, Credential, Refused, Server, StoredServer, StoreFailed
 from garvoeng.forms import to_text
@@ -232,6 +232,85 @@ def test_a_program_that_does_not_answer(tmp_path):
     asyncio.run(acts())
     with suppress(StoreFailed):
         server.close()
+
+
+def test_an_account_lists_its_own(site):
+    """As `SqlServer` does: neither list has another account's passkeys nor retired ones; a list that is given stands in their place."""
+    def registers(name, user=USER):
+        options, session = site.register_begin(user, "name")
+        site.register_complete(session, Device(credential=name).register(options))
+
+    def lists(user=USER, **how):
+        allow = {"allow": how["listed"]} if how else {}
+        exclude = {"exclude": how["listed"]} if how else {}
+        return ([row["id"] for row in site.register_begin(user, "name", **exclude)[0]["excludeCredentials"]],
+                [row["id"] for row in site.authenticate_begin(user=user, **allow)[0]["allowCredentials"]])
+
+    assert lists() == ([], [])
+    for name, user in ((b"mine", USER), (b"theirs", b"account 8"), (b"old", USER)):
+        registers(name, user)
+    assert site.retire(b"old") and lists() == ([to_text(b"mine")],) * 2 and lists(b"account 8") == ([to_text(b"theirs")],) * 2
+    assert lists(listed=[]) == ([], []) and lists(listed=[b"x"]) == ([to_text(b"x")],) * 2
+    assert site.authenticate_begin()[0]["allowCredentials"] == []
+    for number in range(7):
+        registers(b"%d" % number)
+    assert [len(listed) for listed in lists()] == [8, 8]
+    registers(b"7")
+    assert [len(listed) for listed in lists()] == [8, 0]
+    assert site.delete_account(USER) == 10 and site.delete_account(USER) == 0 and lists() == ([], []) and len(site.rows()) == 1
+
+
+def test_slips_of_a_site(site):
+    """Each is told by the parameter's name, and no session begins."""
+    slips(site, listed=False)
+    for call in (site.retire, site.delete):
+        for wrong in ("text", 5, None, [1]):
+            with pytest.raises(TypeError, match="credential is bytes"):
+                call(wrong)
+        with pytest.raises(BadInput, match="credential, a credential id, has 1 to"):
+            call(b"")
+    for call in (site.rows, site.delete_account):
+        for wrong in ("text", 5, [1]):
+            with pytest.raises(TypeError, match="user is bytes"):
+                call(wrong)
+    assert site.status()["sessions"] == 0
+    for how in ({"existing": 1}, {"wary": None}, {"shared": "yes"}, {"rp_name": 5}, {"accept_none": 0}, {"verify": 7}):
+        with pytest.raises(TypeError, match=list(how)[0]):
+            StoredServer("program", "file", "example.com", [ORIGIN], **how)
+    for how, told in (({"accept_none": False, "accept_self": False}, "both False"), ({"log": "some"}, "log is True, False")):
+        with pytest.raises(BadInput, match=told):
+            StoredServer("program", "file", "example.com", [ORIGIN], **how)
+
+
+def test_answers_in_another_order(tmp_path):
+    """Each call takes the answer of its own line's number: a program that answers two lines the other way round fails both."""
+    script = tmp_path / "reversed"
+    script.write_text(f"""#!{sys.executable}
+import json, sys
+lines = [json.loads(sys.stdin.readline()) for _ in range(2)]
+for line in reversed(lines):
+    print(json.dumps({{"id": line["id"], "rows": []}}), flush=True)
+sys.stdin.readline()
+""")
+    script.chmod(0o755)
+    server = StoredServer(str(script), str(tmp_path / "none.db"), "example.com", [ORIGIN], timeout=5)
+
+    async def acts():
+        return await asyncio.gather(*(asyncio.to_thread(server.rows) for _ in range(2)), return_exceptions=True)
+
+    assert [type(one) for one in asyncio.run(acts())] == [StoreFailed] * 2
+    with suppress(StoreFailed):
+        server.close()
+
+
+@pytest.mark.parametrize("flags, backed_up, user_verified", [(UP | UV | BE, False, True), (UP | BE | BS, True, False), (UP | UV | BE | BS, True, True)])
+def test_what_a_sign_in_says(site, flags, backed_up, user_verified):
+    device = Device()
+    options, session = site.register_begin(USER, "name")
+    site.register_complete(session, device.register(options, flags=UP | UV | BE | AT))
+    options, session = site.authenticate_begin()
+    said = site.authenticate_complete(session, device.sign_in(options, user=USER, flags=flags))
+    assert (said.backed_up, said.user_verified, said.flags) == (backed_up, user_verified, flags)
 
 
 def test_level_3_over_the_program(tmp_path):

@@ -41,6 +41,7 @@ REGISTRATION = [
     "there is no room for another credential",
     "the page is in another site's frame",
     "the page at the top is none that the relying party names",
+    "the response's id is not the attested credential's",
 ]
 
 LIMITS = [
@@ -62,9 +63,10 @@ LIMITS = [
 
 def test_texts():
     assert [library.refusal_text(False, number) for number in range(1, 19)] == SIGN_IN
-    assert [library.refusal_text(True, number) for number in range(1, 19)] == REGISTRATION
+    assert [library.refusal_text(True, number) for number in range(1, 20)] == REGISTRATION
     assert [library.refusal_text(False, 101 + place) for place in range(len(LIMITS))] == LIMITS
     assert [library.refusal_text(True, 101 + place) for place in range(len(LIMITS))] == LIMITS
     assert library.refusal_text(False, 0) == "accepted" and library.refusal_text(True, 127) == "out of memory"
-    others = [*range(19, 101), *range(101 + len(LIMITS), 127), 128, 256, 2**32 - 1]
+    others = [*range(20, 101), *range(101 + len(LIMITS), 127), 128, 256, 2**32 - 1]
     assert not any(library.refusal_text(which, number) for which in (False, True) for number in others)
+    assert not library.refusal_text(False, 19)

@@ -1,114 +1,15 @@
 """`garvoeng.flask` and `garvoeng.django`, by their own test clients: what visitors do, and what hostile ones send."""
-import json
-import sqlite3
+import logging
 
 import pytest
-from device import Device, changed
+from device import changed
 from hostile import VALUES, changes
+from web_sites import FlaskSite, Later, adds_nothing, device, opened, registered, signed_in, site
 
-from garvoeng import Refused, Server
 from garvoeng.forms import from_text, to_text
-from garvoeng.sql import SqlServer
 
-flask = pytest.importorskip("flask")
-django = pytest.importorskip("django")
-ORIGIN = "http://localhost:8000"
+__all__ = ["site"]
 
-
-class FlaskSite:
-    def __init__(self, folder):
-        from garvoeng.flask import passkeys, signed_in
-        file = str(folder / "site.sqlite")
-        self.server = SqlServer(Server("localhost", [ORIGIN]), lambda: sqlite3.connect(file, timeout=30))
-        self.server.prepare()
-        self.app = flask.Flask("site")
-        self.app.secret_key = "secret"
-        self.app.register_blueprint(passkeys(self.server), url_prefix="/passkeys")
-        self.app.get("/who")(lambda: flask.jsonify((signed_in() or b"").hex()))
-
-    def visitor(self):
-        client = self.app.test_client()
-
-        def ask(path, body=None, content_type="application/json", raw=None):
-            if body is None and raw is None:
-                said = client.get(f"/passkeys/{path}")
-            else:
-                said = client.post(f"/passkeys/{path}", data=json.dumps(body) if raw is None else raw, content_type=content_type)
-            return said.status_code, said.get_json() if said.is_json else said.get_data()
-
-        def kept():
-            with client.session_transaction() as cookie:
-                return {name for name in cookie if name.startswith("garvoeng")}
-
-        ask.kept = kept
-        return ask
-
-
-class DjangoSite:
-    def __init__(self, folder):
-        from garvoeng.django.server import server
-        from django.core.management import call_command
-        from django.db import connection
-        call_command("flush", interactive=False, verbosity=0)
-        with connection.cursor() as cursor:
-            for table in ("credential", "session"):
-                cursor.execute(f"delete from garvoeng_{table}")
-        self.server = server()
-
-    def visitor(self):
-        from django.test import Client
-        client = Client(enforce_csrf_checks=True)
-        client.get("/passkeys/")
-
-        def ask(path, body=None, content_type="application/json", raw=None):
-            if body is None and raw is None:
-                said = client.get(f"/passkeys/{path}")
-            else:
-                token = client.cookies["csrftoken"].value
-                said = client.post(f"/passkeys/{path}", json.dumps(body) if raw is None else raw, content_type=content_type,
-                                   HTTP_X_CSRFTOKEN=token)
-            is_json = said["Content-Type"] == "application/json"
-            return said.status_code, json.loads(said.content) if is_json else said.content
-
-        ask.kept = lambda: {name for name in client.session.keys() if name.startswith("garvoeng")}
-        return ask
-
-
-@pytest.fixture(scope="session", autouse=True)
-def settings(tmp_path_factory):
-    from django.conf import settings
-    settings.configure(
-        SECRET_KEY="secret", ALLOWED_HOSTS=["testserver"], ROOT_URLCONF="django_urls",
-        DATABASES={"default": {"ENGINE": "django.db.backends.sqlite3", "NAME": str(tmp_path_factory.mktemp("django") / "site.sqlite")}},
-        INSTALLED_APPS=["django.contrib.auth", "django.contrib.contenttypes", "django.contrib.sessions", "garvoeng.django"],
-        MIDDLEWARE=["django.contrib.sessions.middleware.SessionMiddleware", "django.contrib.auth.middleware.AuthenticationMiddleware"],
-        AUTHENTICATION_BACKENDS=["garvoeng.django.backends.PasskeyBackend"], GARVOENG={"rp_id": "localhost", "origins": [ORIGIN]})
-    django.setup()
-    from django.core.management import call_command
-    call_command("migrate", verbosity=0)
-
-
-@pytest.fixture(params=[FlaskSite, DjangoSite])
-def site(request, tmp_path):
-    return request.param(tmp_path)
-
-
-def device(identity=b"credential"):
-    return Device(credential=identity, rp_id="localhost", origin=ORIGIN)
-
-
-def registered(visitor, key, name="ada"):
-    status, options = visitor("register/begin", {"name": name})
-    assert status == 200, options
-    key.user = from_text(options["user"]["id"], "user")
-    return visitor("register/finish", key.register(options))
-
-
-def signed_in(visitor, key):
-    status, options = visitor("sign-in/begin", {})
-    assert status == 200, options
-    response = key.sign_in(options, user=key.user)
-    return response, visitor("sign-in/finish", response)
 
 
 def test_a_visit(site):
@@ -185,78 +86,10 @@ def test_hostile_responses(site):
     assert visitor("sign-in/finish", good)[0] == 200 and visitor("list")[0] == 200
 
 
-def test_a_body_without_a_length(tmp_path):
-    """No more of it is read than a request may have."""
-    site = FlaskSite(tmp_path)
-
-    class Endless:
-        taken = 0
-
-        def read(self, size=-1):
-            assert size >= 0 and self.taken < 1_000_000
-            self.taken += size
-            return b"[" * size
-
-        def readline(self, size=-1):
-            return self.read(size)
-
-    body = Endless()
-    said = site.app.test_client().open("/passkeys/sign-in/begin", method="POST", environ_overrides={
-        "wsgi.input": body, "wsgi.input_terminated": True, "CONTENT_TYPE": "application/json", "HTTP_TRANSFER_ENCODING": "chunked"})
-    assert said.status_code == 400 and said.get_json() == {"error": "the body is too long"}
-
-
-def test_csrf_and_users_of_django():
-    from django.contrib.auth import get_user_model
-    from django.test import Client
-    site = DjangoSite(None)
-    assert Client(enforce_csrf_checks=True).post("/passkeys/sign-out", "{}", content_type="application/json").status_code == 403
-    ada, key = site.visitor(), device()
-    registered(ada, key, "ada")
-    user = get_user_model().objects.get(username="ada")
-    assert not user.has_usable_password() and bytes(user.garvoeng_account.handle) == key.user
-    late, status = site.visitor(), site.visitor()("register/begin", {"name": "ada"})[0]
-    assert status == 409
-    _, options = late("register/begin", {"name": "bob"})
-    get_user_model().objects.create_user("bob")
-    assert late("register/finish", device(b"late").register(options))[0] == 409
-    assert site.server.rows(from_text(options["user"]["id"], "user")) == [] and late("list")[0] == 401
-    get_user_model().objects.filter(username="ada").update(is_active=False)
-    other = site.visitor()
-    assert signed_in(other, key)[1][0] == 403 and other("list")[0] == 401
-    get_user_model().objects.filter(username="ada").delete()
-    assert signed_in(other, key)[1][0] == 403 and other("list")[0] == 401
-
-
-def test_no_sign_up_in_django(settings):
-    from django.test import override_settings
-    site = DjangoSite(None)
-    with override_settings(GARVOENG={"rp_id": "localhost", "origins": [ORIGIN], "sign_up": False}):
-        assert site.visitor()("register/begin", {"name": "ada"})[0] == 401
-    with override_settings(GARVOENG={"rp_id": "other.com", "origins": ["https://other.com"], "rp_name": "Other"}):
-        assert site.visitor()("register/begin", {"name": "ada"})[1]["rp"] == {"id": "other.com", "name": "Other"}
-
-
-def test_a_call_of_django_is_of_its_transaction():
-    """What is rolled back around a call is rolled back with it."""
-    from django.db import transaction
-    site = DjangoSite(None)
-    key = device()
-    options, session = site.server.register_begin(b"account 7", "name")
-    with pytest.raises(KeyError), transaction.atomic():
-        site.server.register_complete(session, key.register(options))
-        raise KeyError
-    assert site.server.rows() == []
-    site.server.register_complete(session, key.register(options))
-    assert len(site.server.rows()) == 1
-    with pytest.raises(Refused):
-        site.server.register_complete(session, key.register(options))
-
-
 def test_what_a_visitor_keeps(site):
     """A session that was refused is kept, so that it may be answered again, and none that was closed."""
     visitor, key = site.visitor(), device()
-    account = {"garvoeng_user"} if isinstance(site, FlaskSite) else set()
+    account = {"garvoeng"} if isinstance(site, FlaskSite) else {"garvoeng_signed_in", "garvoeng_signed_in_at"}
     status, options = visitor("register/begin", {"name": "ada"})
     assert visitor.kept() == {"garvoeng_registration"}
     assert visitor("register/finish", changed(key.register(options), "clientDataJSON", lambda _: b"{"))[0] == 403
@@ -269,3 +102,102 @@ def test_what_a_visitor_keeps(site):
     assert visitor.kept() == account | {"garvoeng_sign_in"}
     assert visitor("sign-in/finish", response)[0] == 200 and visitor.kept() == account
     assert visitor("sign-out", {})[0] == 200 and visitor.kept() == set()
+
+
+def test_sign_out_ends_what_is_open(site):
+    """Whoever kept the cookies from before is not signed in, and finishes neither the registration nor the sign-in."""
+    visitor, key = site.visitor(), device()
+    registered(visitor, key)
+    made, response = opened(visitor, key)
+    thief = visitor.copied()
+    assert thief("list")[0] == 200 and thief.who() not in ("", "AnonymousUser")
+    assert visitor("sign-out", {}) == (200, {}) and visitor.kept() == set()
+    for kept in (thief, visitor):
+        adds_nothing(site, kept, key, made, 1)
+        assert kept("sign-in/finish", response)[1]["refusal"] == "W1"
+    assert site.run("select count(*) from garvoeng_session")[0][0] == 0
+
+
+@pytest.mark.parametrize("end", ["retire", "delete", "delete_account"])
+def test_a_cookie_does_not_outlive_its_passkey(site, end):
+    """Nor does a registration that was begun before; a visitor with another passkey of the account stays, and begins again."""
+    visitor, other, key, second = site.visitor(), site.visitor(), device(), device(b"second")
+    registered(visitor, key)
+    registered(visitor, second)
+    again = site.visitor()
+    assert signed_in(other, second)[1][0] == signed_in(again, key)[1][0] == 200
+    made, _ = opened(visitor, key)
+    theirs = device(b"theirs").register(other("register/begin", {"name": "ada"})[1])
+    eve = site.visitor()
+    registered(eve, device(b"eve"), "eve")
+    if end == "delete_account":
+        assert site.server.delete_account(key.user) == 2
+    else:
+        assert getattr(site.server, end)(key.id, user=key.user) and not getattr(site.server, end)(key.id, user=key.user)
+    left = {"retire": 2, "delete": 1, "delete_account": 0}[end]
+    adds_nothing(site, visitor, key, made, left)
+    assert again("list")[0] == 401 and again.who() in ("", "AnonymousUser")
+    assert other("register/finish", theirs)[1]["refusal"] == "G1" and len(site.server.rows(key.user)) == left
+    if end == "delete_account":
+        adds_nothing(site, other, key, theirs, 0)
+        assert other("sign-in/finish", second.sign_in(other("sign-in/begin", {})[1], user=key.user))[1]["refusal"] == "W3"
+    else:
+        assert registered(other, device(b"third"))[0] == 200 and len(other("list")[1]) == left + 1
+    assert eve("list")[0] == 200 and registered(eve, device(b"more"))[0] == 200
+
+
+def test_a_passkey_is_added_right_after_a_sign_in(site, monkeypatch):
+    visitor, key = site.visitor(), device()
+    registered(visitor, key)
+    _, options = visitor("register/begin", {"name": "ada"})
+    from garvoeng import sql
+    from garvoeng.django import sign_ins
+    for ahead, status in ((240, 200), (310, 401)):
+        monkeypatch.setattr(sql, "time", Later(ahead))
+        monkeypatch.setattr(sign_ins, "time", Later(ahead))
+        said = visitor("register/begin", {"name": "ada"})
+        assert said[0] == status and visitor("list")[0] == 200
+    assert said[1]["error"].startswith("sign in again")
+    assert signed_in(visitor, key)[1][0] == 200 and registered(visitor, device(b"second"))[0] == 200
+
+
+def test_a_registration_is_its_sign_ins(site):
+    """Finished neither after another sign-in in its place, nor by a second visitor of the account, nor by who signed in meanwhile."""
+    visitor, other, key = site.visitor(), site.visitor(), device()
+    registered(visitor, key)
+    made, _ = opened(visitor, key)
+    before = visitor.copied()
+    assert signed_in(visitor, key)[1][0] == 200
+    for one in (visitor, before):
+        assert one("register/finish", made)[1]["refusal"] == "G1"
+    assert visitor("list")[0] == 200
+    if isinstance(site, FlaskSite):
+        assert before("list")[0] == 401
+        made, _ = opened(visitor, key)
+        signed_in(other, key)
+        other.jar["garvoeng_registration"] = visitor.jar["garvoeng_registration"]
+        assert other("register/finish", made)[1]["refusal"] == "G1"
+    stranger = site.visitor()
+    _, options = stranger("register/begin", {"name": "bob"})
+    assert signed_in(stranger, key)[1][0] == 200
+    assert stranger("register/finish", device(b"bob").register(options))[1]["refusal"] == "G1"
+    assert len(site.server.rows()) == 1
+
+
+def test_damaged_rows(site, caplog):
+    """They are the site's fault, are logged, and are left out of lists."""
+    visitor, key, second = site.visitor(), device(), device(b"second")
+    registered(visitor, key)
+    registered(visitor, second)
+    site.run(f"update garvoeng_credential set public_key = user_handle where id = x'{key.id.hex()}'")
+    assert [row["id"] for row in visitor("list")[1]] == [to_text(second.id)]
+    assert visitor("register/begin", {"name": "ada"})[0] == 200
+    status, options = visitor("sign-in/begin", {})
+    with caplog.at_level(logging.ERROR, "garvoeng"):
+        caplog.clear()
+        assert visitor("sign-in/finish", key.sign_in(options, user=key.user)) == (500, {"error": "what is stored is damaged"})
+    assert any(to_text(key.id) in record.getMessage() and record.name == "garvoeng" for record in caplog.records)
+    status, options = visitor("sign-in/begin", {})
+    site.run("""update garvoeng_session set data = replace(data, '"challenge": "', '"challenge": "AAAA')""")
+    assert visitor("sign-in/finish", second.sign_in(options, user=key.user))[0] == 500
+    assert signed_in(visitor, second)[1][0] == 200

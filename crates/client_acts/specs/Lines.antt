@@ -2,6 +2,7 @@
 use Rattle.std.specs.Prelude.{◌≡◌, ◌≤◌, ◌⊎◌, ℕ, Bool, true, List, codes, length, IsUtf8, MatchOption, Option, Some, None, option_and_then, option_map, string_bytes}
 use Rattle.base64.specs.GeneralPurpose.{encode_of}
 use Rattle.base64.specs.Engines.{url_safe_no_pad}
+use Rattle.json_lines.specs.Nesting.{Nests}
 use Rattle.serde_json.specs.Data.{Data, null}
 use Rattle.serde_json.specs.Find.{as_bool, as_number, as_str, as_u64, get}
 use Rattle.serde_json.specs.Read.{read}
@@ -78,6 +79,6 @@ abbrev pub SaysAct : Data → Act → Type 0
 SaysAct d (acts.Begin begin) = SaysAim d begin.aim × HasBytes (codes "nonce") d begin.nonce × HasTruth (codes "built_in") d true begin.built_in
 SaysAct d (acts.Further further) = SaysFurther d further
 
--- The line is a JSON text of at most 65,536 bytes that asks for the act under this number.
+-- The line is a JSON text of at most 65,536 bytes, nested at most 32 deep, that asks for the act under this number.
 abbrev pub Reads : List ℕ → ℕ → Act → Type 0
-Reads line id act = (d : Data) × (length line ≤ 65536) × IsUtf8 line × (read line ≡ Some d) × HasNumber (codes "id") d id × SaysAct d act
+Reads line id act = (d : Data) × (length line ≤ 65536) × IsUtf8 line × Nests 32 line × (read line ≡ Some d) × HasNumber (codes "id") d id × SaysAct d act

@@ -11,7 +11,10 @@ pub enum LineError {
     /// The line is not UTF-8.
     #[error("the line is not UTF-8")]
     NotUtf8,
-    /// The line is no JSON object, or is nested too deep.
+    /// The line's objects and arrays nest deeper than [`MAX_NESTING`](json_lines::MAX_NESTING).
+    #[error("the line nests too deep")]
+    TooDeep,
+    /// The line is no JSON object.
     #[error("the line is no JSON object")]
     NotAnObject,
     /// The member `id` is no number from 0 to 2^64 - 1.

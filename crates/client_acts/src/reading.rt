@@ -1,6 +1,7 @@
 //! Reading a line.
 
 ghost use Rattle.std.specs.Prelude.{◌≡◌, ◌≤◌, IfOk, IsUtf8, Some, codes, length, string_bytes};
+ghost use Rattle.json_lines.specs.Nesting.{Nests};
 ghost use Rattle.serde_json.specs.Read.{read};
 ghost use Rattle.serde_json.specs.View.{view};
 ghost use Rattle.client_acts.specs.Kinds.{kind_name};
@@ -12,6 +13,7 @@ use crate::error::LineError;
 use crate::members::{bytes, number, sized_bytes, text, truth};
 use crate::options::{creation_options, request_options};
 use hidframe::Packet;
+use json_lines::nests_within;
 use serde_json::Value;
 use std::alloc::Global;
 
@@ -94,7 +96,7 @@ fn act_in(alloc: Global, line: &Value) -> Result<Act, LineError>
 
 /// The object that a line is.
 fn object_of(alloc: Global, line: &[u8]) -> Result<Value, LineError>
-    ensures { IfOk result (λ d. (length line.now ≤ 65536) × IsUtf8 line.now × (read line.now ≡ Some (view d))) }
+    ensures { IfOk result (λ d. (length line.now ≤ 65536) × IsUtf8 line.now × Nests 32 line.now × (read line.now ≡ Some (view d))) }
 {
     if line.len() > MAX_LINE {
         return Err(LineError::TooLong);
@@ -102,6 +104,9 @@ fn object_of(alloc: Global, line: &[u8]) -> Result<Value, LineError>
     let Ok(text) = str::from_utf8(line) else {
         return Err(LineError::NotUtf8);
     };
+    if !nests_within(line) {
+        return Err(LineError::TooDeep);
+    }
     match Value::from_str(alloc, text) {
         Ok(value) if value.is_object() => Ok(value),
         Err(error) if error.is_memory() => Err(LineError::Memory),

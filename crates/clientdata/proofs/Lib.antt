@@ -7,3 +7,7 @@ pub mod ReadBack
 pub mod Plain
 pub mod Whole
 pub mod Lists
+pub mod Turns
+pub mod Around
+pub mod Firsts
+pub mod Slots

@@ -7,6 +7,8 @@ mod digest;
 mod error;
 mod expected;
 mod law;
+mod members;
+mod passing;
 mod quoting;
 mod record;
 mod seen;

@@ -1,14 +1,14 @@
 //! Client data read.
 
-ghost use Rattle.std.specs.Prelude.{◌≡◌, IfOk, IsErr, IsErrOf, MatchOption, option_map, true, false};
+ghost use Rattle.std.specs.Prelude.{◌≡◌, IfOk, IsErr, IsErrOf, MatchOption, None, Some, option_and_then, true, false};
 ghost use Rattle.serde_json.specs.Read.{read as json_read};
-ghost use Rattle.serde_json.specs.View.{view};
-ghost use Rattle.clientdata.specs.Reading.{is_text, text_member, binding_in, cross_origin_in, seen_in, seen_of, top_origin_in};
+ghost use Rattle.clientdata.specs.Reading.{is_text, seen_in, seen_of};
 
 use crate::error::Error;
+use crate::members::find;
 use crate::text::Text;
-use serde_json::Value;
-use std::alloc::{AllocError, Global};
+use json::{Reader, Scratch};
+use std::alloc::Global;
 
 /// What client data say of token binding (WebAuthn Level 2, section 5.8.1, `tokenBinding`).
 #[derive(Clone, Copy, Debug, PartialEq, Eq)]
@@ -87,8 +87,22 @@ pub fn read(alloc: Global, bytes: &[u8]) -> Result<Seen, Error>
     let Some(json) = unmarked_text(bytes) else {
         return Err(Error::Unreadable);
     };
-    let value = json_value(alloc, json)?;
-    seen_from(alloc, &value)
+    read_text(alloc, json)
+}
+
+/// Reads client data of a text. Its stack does not grow with the nesting of what the text has.
+fn read_text(alloc: Global, json: &str) -> Result<Seen, Error>
+    ensures ok { IfOk result (λ seen. option_and_then seen_in (json_read json.now) ≡ Some seen) }
+    ensures unreadable { IsErrOf result Error.Unreadable → option_and_then seen_in (json_read json.now) ≡ None }
+{
+    let mut scratch = Scratch::new(alloc);
+    let Ok(mut reader) = Reader::new(json, &mut scratch) else {
+        return Err(Error::Memory);
+    };
+    match find(&mut reader) {
+        Ok(found) => found.copied(alloc),
+        Err(_) => Err(Error::Unreadable),
+    }
 }
 
 /// U+FEFF in UTF-8.
@@ -106,106 +120,4 @@ fn unmarked_text(bytes: &[u8]) -> Option<&str>
         Ok(text) => Some(text),
         Err(_) => None,
     }
-}
-
-/// The value of a JSON text.
-fn json_value(alloc: Global, json: &str) -> Result<Value, Error>
-    ensures ok { IfOk result (λ value. json_read json.now ≡ Some (view value)) }
-    ensures unreadable { IsErrOf result Error.Unreadable → json_read json.now ≡ None }
-{
-    match Value::from_str(alloc, json) {
-        Ok(value) => Ok(value),
-        Err(fault) if fault.is_memory() => Err(Error::Memory),
-        Err(_) => Err(Error::Unreadable),
-    }
-}
-
-/// A JSON value as client data.
-fn seen_from(alloc: Global, value: &Value) -> Result<Seen, Error>
-    ensures ok { IfOk result (λ seen. seen_in (view value.now) ≡ Some seen) }
-    ensures unreadable { IsErrOf result Error.Unreadable → seen_in (view value.now) ≡ None }
-{
-    let (Some(kind), Some(challenge), Some(origin)) = (
-        member_text(value, "type"),
-        member_text(value, "challenge"),
-        member_text(value, "origin"),
-    ) else {
-        return Err(Error::Unreadable);
-    };
-    Ok(copied(alloc, kind, challenge, origin, value)?)
-}
-
-/// The text of a member, if there is such a member and it is a text.
-fn member_text<'a>(value: &'a Value, name: &str) -> Option<&'a str>
-    ensures { option_map (λ text. text.now) result ≡ text_member name.now (view value.now) }
-{
-    value.get(name)?.as_str()
-}
-
-/// What the value says of token binding.
-fn token_binding(value: &Value) -> Binding
-    ensures { result ≡ binding_in (view value.now) }
-{
-    match value.get("tokenBinding") {
-        None => Binding::Absent,
-        Some(inner) => match member_text(inner, "status") {
-            Some("supported") => Binding::Supported,
-            Some("not-supported") => Binding::NotSupported,
-            _ => Binding::Other,
-        },
-    }
-}
-
-/// What the value says of `crossOrigin`.
-fn cross_origin(value: &Value) -> CrossOrigin
-    ensures { result ≡ cross_origin_in (view value.now) }
-{
-    match value.get("crossOrigin") {
-        None => CrossOrigin::Absent,
-        Some(member) => match member.as_bool() {
-            None => CrossOrigin::Other,
-            Some(false) => CrossOrigin::False,
-            Some(true) => CrossOrigin::True,
-        },
-    }
-}
-
-/// What the value says of `topOrigin`, in memory of its own.
-fn top_origin(alloc: Global, value: &Value) -> Result<TopOrigin, AllocError>
-    ensures { IfOk result (λ top. top ≡ top_origin_in (view value.now)) }
-{
-    match value.get("topOrigin") {
-        None => Ok(TopOrigin::Absent),
-        Some(member) => match member.as_str() {
-            None => Ok(TopOrigin::Other),
-            Some(text) => Ok(TopOrigin::Named(Text::from(String::from_str(alloc, text)?))),
-        },
-    }
-}
-
-/// What was read, in memory of its own: these texts, and the other members of the value.
-fn copied(
-    alloc: Global,
-    kind: &str,
-    challenge: &str,
-    origin: &str,
-    value: &Value,
-) -> Result<Seen, AllocError>
-    ensures { IfOk result (λ seen. seen ≡ record {
-      kind = kind.now;
-      challenge = challenge.now;
-      origin = origin.now;
-      binding = binding_in (view value.now);
-      cross_origin = cross_origin_in (view value.now);
-      top_origin = top_origin_in (view value.now);
-    }) }
-{
-    Ok(Seen {
-        kind: Text::from(String::from_str(alloc, kind)?),
-        challenge: Text::from(String::from_str(alloc, challenge)?),
-        origin: Text::from(String::from_str(alloc, origin)?),
-        binding: token_binding(value),
-        cross_origin: cross_origin(value),
-        top_origin: top_origin(alloc, value)?,
-    })
 }

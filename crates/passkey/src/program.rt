@@ -118,9 +118,20 @@ fn tell<O: Write, E: Write>(verified: bool, out: &mut O, err: &mut E) -> u8 {
     }
 }
 
+/// What `passkey --version` prints.
+const VERSION: &str = "passkey 0.1.0\n";
+
+/// Whether the arguments, after the program's name, ask for the version alone.
+fn asks_version(arguments: &[&str]) -> bool {
+    match arguments {
+        [_, word] => *word == "--version" || *word == "-V",
+        _ => false,
+    }
+}
+
 /// The program: arguments, the program's name first, and the standard streams; the answer is its status.
 ///
-/// 0 where all went well. Faults go to `err` and are found in this order: arguments that clap refuses (status
+/// 0 where all went well; `--version` alone prints the version. Faults go to `err` and are found in this order: arguments that clap refuses (status
 /// 2, also for help), input of more than `MAX_INPUT` bytes (`input too long`, 2), a read that fails (`read
 /// failed`, 4), then those of the subcommand. Want of memory is `out of memory`, 3; a write to `out` that
 /// fails is `write failed`, 5, and what went out is a beginning of the whole. Where `err` fails too, the
@@ -132,6 +143,12 @@ pub fn run<'a, R: Read, O: Write, E: Write>(
     out: &mut O,
     err: &mut E,
 ) -> u8 {
+    if asks_version(arguments) {
+        return match print(out, VERSION) {
+            Ok(()) => 0,
+            Err(_) => fail(err, "write failed", 5),
+        };
+    }
     let asked = match command(alloc, arguments) {
         Ok(asked) => asked,
         Err(error) => return refuse_words(err, &error),

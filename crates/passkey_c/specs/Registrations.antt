@@ -18,7 +18,7 @@ use Rattle.passkey_c.specs.declared.parts.RegistrationOut.{RegistrationOut}
 use Rattle.passkey_c.specs.declared.registration.Refusal.{Refusal}
 use Rattle.passkey_c.specs.declared.registration.Refusal.TheVariants as refusals
 use Rattle.passkey_c.specs.Limits.{IsFault, RegistrationKeeps, registration_limits}
-use Rattle.passkey_c.specs.Numbers.{fault_number}
+use Rattle.passkey_c.specs.Numbers.{fault_number, registration_answer}
 use Rattle.passkey_c.specs.Parts.{Fills, IsEnd, TellsKey, flag_of, given, offered, party_of, profile_of, verified_in}
 
 -- each id but the free one is registered
@@ -72,7 +72,7 @@ TellsRegistration call out =
 
 -- the numbers that are answered
 abbrev pub IsRegistrationAnswer : ℕ → Type 0
-IsRegistrationAnswer n = (n ≡ 0) ⊎ ((step : RegistrationRefusal) × (n ≡ registration_number step)) ⊎ ((fault : InputFault) × (n ≡ fault_number fault))
+IsRegistrationAnswer n = (n ≡ 0) ⊎ ((has_free_id : Bool) × (step : RegistrationRefusal) × (n ≡ registration_answer has_free_id step)) ⊎ ((fault : InputFault) × (n ≡ fault_number fault))
 
 -- why it is not accepted: with the first step that fails each limit is kept
 abbrev pub IsRefused : RegistrationCall → Refusal → Type 0

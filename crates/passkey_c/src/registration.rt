@@ -1,6 +1,6 @@
 //! Registrations (WebAuthn Level 2, section 7.1).
 
-ghost use Rattle.std.specs.Prelude.{◌≡◌, ◌≢◌, ◌<◌, IfErr, IfOk, OnOk, option_map};
+ghost use Rattle.std.specs.Prelude.{◌≡◌, ◌≢◌, ◌<◌, IfErr, IfOk, OnOk, false, option_map, true};
 ghost use Rattle.refusal_order.specs.Lines.{Each};
 ghost use Rattle.verification.specs.Numbers.{registration_number};
 ghost use Rattle.verification.specs.Registration.{IsFirstFailing, PassesRegistration, PassesRegistrationStep, response_steps};
@@ -10,7 +10,7 @@ ghost use Rattle.verification.specs.declared.refusal.RegistrationRefusal.{Regist
 ghost use Rattle.verification.specs.Signed.{lent_signature_view};
 ghost use Rattle.passkey_c.specs.declared.registration.Refusal.TheVariants as refusals;
 ghost use Rattle.passkey_c.specs.Limits.{IsFault, RegistrationKeeps, registration_limits};
-ghost use Rattle.passkey_c.specs.Numbers.{limit_number};
+ghost use Rattle.passkey_c.specs.Numbers.{limit_number, registration_answer};
 ghost use Rattle.passkey_c.specs.Parts.{flag_of, offered, party_of, verified_in};
 ghost use Rattle.passkey_c.specs.Seen.{IsAccepted};
 ghost use Rattle.passkey_c.specs.Registrations.{IsRefused, IsRegistrationAnswer, judged_registration, registration_validity, TellsRegistration};
@@ -181,10 +181,21 @@ fn accepted_credential<'a>(call: &RegistrationCall<'a>) -> SeenRegistration<'a>
     }
 }
 
+/// The answer where a step refuses: its number, or 19 in place of 15 where the host found an id free, since then the response
+/// attests another one.
+fn answer_of(has_free_id: bool, step: RegistrationRefusal) -> u32
+    ensures { result ≡ registration_answer has_free_id step }
+{
+    match step {
+        RegistrationRefusal::CredentialRegistered if has_free_id => 19,
+        _ => u32::from(step.number()),
+    }
+}
+
 /// Judges a registration: 0 where each step of section 7.1 is passed, the only valid signature being the one that the
 /// host verified and the only id that is not registered the one that it found to be free, and then what it attests is
-/// written; else 1 to 18 for the first step that is not passed, 100 and up for a member that is out of its limits, 127
-/// where there was no memory, and nothing is written.
+/// written; else 1 to 18 for the first step that is not passed, 19 in place of 15 where an id was found free, 100 and up for
+/// a member that is out of its limits, 127 where there was no memory, and nothing is written.
 pub fn passkey_registration(
     alloc: Global,
     call: &RegistrationCall<'_>,
@@ -194,6 +205,9 @@ pub fn passkey_registration(
     ensures told { result ≡ 0 → TellsRegistration call.now out.new }
     ensures refused { (step : RegistrationRefusal) → result ≡ registration_number step
         → IsFirstFailing (registration_validity call.now) (judged_registration call.now) step }
+    ensures other { result ≡ 19 → (flag_of call.now.has_free_id ≡ true)
+        × IsFirstFailing (registration_validity call.now) (judged_registration call.now) RegistrationRefusal.CredentialRegistered }
+    ensures registered { result ≡ 15 → flag_of call.now.has_free_id ≡ false }
     ensures limit { (limit : Limit) → result ≡ limit_number limit → RegistrationKeeps call.now limit → ⊥ }
     ensures within { result < 100 → Each (RegistrationKeeps call.now) registration_limits }
     ensures answer { IsRegistrationAnswer result }
@@ -204,7 +218,7 @@ pub fn passkey_registration(
             tell_registration(&accepted_credential(call), out);
             ACCEPTED
         }
-        Err(Refusal::Step(step)) => u32::from(step.number()),
+        Err(Refusal::Step(step)) => answer_of(call.has_free_id != 0, step),
         Err(Refusal::Input(fault)) => fault.number(),
     }
 }

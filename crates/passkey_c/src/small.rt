@@ -12,9 +12,9 @@ use clientdata::challenge_characters;
 
 /// The version of these calls.
 pub fn passkey_abi_version() -> u32
-    ensures { result ≡ 4 }
+    ensures { result ≡ 5 }
 {
-    4
+    5
 }
 
 /// Whether the bytes are one value of canonical CBOR, and no more.

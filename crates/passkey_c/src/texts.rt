@@ -74,6 +74,9 @@ fn step_text(is_registration: bool, number: u8) -> Option<&'static str>
         (λ text. IsStepText is_registration number text.now) }
 {
     if is_registration {
+        if number == 19 {
+            return Some("the response's id is not the attested credential's");
+        }
         match RegistrationRefusal::from_number(number) {
             Some(step) => Some(registration_text(step)),
             None => None,

@@ -50,7 +50,14 @@ pub enum Subcommand {
     Replay,
 }
 
-const PASSKEY_HELP: &str = "Example: passkey replay < examples/sign-in.txt";
+const PASSKEY_HELP: &str =
+    "Where the programs passkey-site and passkey-client are installed beside it, these words run them:
+  site    A relying party over lines of JSON; passkey site --help
+  client  A client of security keys over lines of JSON; passkey client --help
+
+passkey --version prints the version.
+
+Example: passkey replay < examples/sign-in.txt";
 
 const INSPECT_HELP: &str =
     "Standard input is hex, but for clientdata, whose bytes are taken as they are. Spaces, tabs and line

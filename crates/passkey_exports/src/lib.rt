@@ -1,4 +1,4 @@
-//! The calls of `passkey_c` as C has them: each is that crate's, under its name.
+//! The calls of `passkey_c` as C has them: each is that crate's, under its name and the number of the ABI.
 #![tactic(auto)]
 
 ghost use Rattle.std.specs.Prelude.{◌≡◌, ◌≢◌, ◌↔◌, ◌++◌, ◌<◌, IsTrue, List, Some, drop, false, length, true, ℕ};
@@ -31,7 +31,7 @@ use passkey_c::{asked, assertion, keys, registration, small, texts};
 use std::alloc::Global;
 
 #[unsafe(no_mangle)]
-pub extern "C" fn passkey_signature_asked(
+pub extern "C" fn passkey_signature_asked_5(
     alloc: Global,
     call: &SignatureCall<'_>,
     message: &mut [u8],
@@ -50,7 +50,7 @@ pub extern "C" fn passkey_signature_asked(
 }
 
 #[unsafe(no_mangle)]
-pub extern "C" fn passkey_assertion(
+pub extern "C" fn passkey_assertion_5(
     alloc: Global,
     call: &AssertionCall<'_>,
     out: &mut AssertionOut,
@@ -68,7 +68,7 @@ pub extern "C" fn passkey_assertion(
 }
 
 #[unsafe(no_mangle)]
-pub extern "C" fn passkey_registration(
+pub extern "C" fn passkey_registration_5(
     alloc: Global,
     call: &RegistrationCall<'_>,
     out: &mut RegistrationOut,
@@ -77,6 +77,9 @@ pub extern "C" fn passkey_registration(
     ensures told { result ≡ 0 → TellsRegistration call.now out.new }
     ensures refused { (step : RegistrationRefusal) → result ≡ registration_number step
         → IsFirstOfRegistration (registration_validity call.now) (judged_registration call.now) step }
+    ensures other { result ≡ 19 → (flag_of call.now.has_free_id ≡ true)
+        × IsFirstOfRegistration (registration_validity call.now) (judged_registration call.now) RegistrationRefusal.CredentialRegistered }
+    ensures registered { result ≡ 15 → flag_of call.now.has_free_id ≡ false }
     ensures limit { (limit : Limit) → result ≡ limit_number limit → RegistrationKeeps call.now limit → ⊥ }
     ensures within { result < 100 → Each (RegistrationKeeps call.now) registration_limits }
     ensures answer { IsRegistrationAnswer result }
@@ -86,7 +89,7 @@ pub extern "C" fn passkey_registration(
 }
 
 #[unsafe(no_mangle)]
-pub extern "C" fn passkey_key_from_cose(bytes: &[u8], out: &mut KeyOut) -> bool
+pub extern "C" fn passkey_key_from_cose_5(bytes: &[u8], out: &mut KeyOut) -> bool
     ensures is { IsTrue result ↔ ((key : CoseKey) × IsCoseKey key bytes.now) }
     ensures told { result ≡ true → (key : CoseKey) × IsCoseKey key bytes.now × TellsKey out.new key }
     ensures untouched { result ≡ false → out.new ≡ out.old }
@@ -95,7 +98,7 @@ pub extern "C" fn passkey_key_from_cose(bytes: &[u8], out: &mut KeyOut) -> bool
 }
 
 #[unsafe(no_mangle)]
-pub extern "C" fn passkey_key_to_cose(alloc: Global, key: &KeyParts<'_>, room: &mut [u8]) -> usize
+pub extern "C" fn passkey_key_to_cose_5(alloc: Global, key: &KeyParts<'_>, room: &mut [u8]) -> usize
     ensures kept { result ≢ 0 → Each (KeyKeeps key.now) key_order }
     ensures written { result ≢ 0 → (k : CoseKey) × (bytes : List ℕ) × (key_of key.now ≡ Some k) × IsCoseKey k bytes
         × (result ≡ length bytes) × (room.new ≡ bytes ++ drop result room.old) }
@@ -106,20 +109,20 @@ pub extern "C" fn passkey_key_to_cose(alloc: Global, key: &KeyParts<'_>, room: &
 
 #[unsafe(no_mangle)]
 pub extern "C" fn passkey_abi_version() -> u32
-    ensures { result ≡ 4 }
+    ensures { result ≡ 5 }
 {
     small::passkey_abi_version()
 }
 
 #[unsafe(no_mangle)]
-pub extern "C" fn passkey_is_canonical(bytes: &[u8]) -> bool
+pub extern "C" fn passkey_is_canonical_5(bytes: &[u8]) -> bool
     ensures { IsTrue result ↔ ((v : Item) × Canon v bytes.now) }
 {
     small::passkey_is_canonical(bytes)
 }
 
 #[unsafe(no_mangle)]
-pub extern "C" fn passkey_challenge(session: u64, words: &[u8], challenge: &mut [u8]) -> bool
+pub extern "C" fn passkey_challenge_5(session: u64, words: &[u8], challenge: &mut [u8]) -> bool
     ensures fits { IsTrue result ↔ ((length words.now ≡ 24) × (length challenge.old ≡ 32)) }
     ensures made { result ≡ true → challenge.new ≡ to_be_bytes w64 session ++ words.now }
     ensures untouched { result ≡ false → challenge.new ≡ challenge.old }
@@ -128,7 +131,7 @@ pub extern "C" fn passkey_challenge(session: u64, words: &[u8], challenge: &mut 
 }
 
 #[unsafe(no_mangle)]
-pub extern "C" fn passkey_challenge_text(challenge: &[u8], text: &mut [u8]) -> bool
+pub extern "C" fn passkey_challenge_text_5(challenge: &[u8], text: &mut [u8]) -> bool
     ensures fits { IsTrue result ↔ ((length challenge.now ≡ 32) × (length text.old ≡ 43)) }
     ensures written { result ≡ true → text.new ≡ challenge_text_of challenge.now }
     ensures untouched { result ≡ false → text.new ≡ text.old }
@@ -137,7 +140,11 @@ pub extern "C" fn passkey_challenge_text(challenge: &[u8], text: &mut [u8]) -> b
 }
 
 #[unsafe(no_mangle)]
-pub extern "C" fn passkey_refusal_text(is_registration: u32, answer: u32, room: &mut [u8]) -> usize
+pub extern "C" fn passkey_refusal_text_5(
+    is_registration: u32,
+    answer: u32,
+    room: &mut [u8],
+) -> usize
     ensures written { result ≢ 0 → (text : List ℕ) × IsText (flag_of is_registration) answer text
         × (result ≡ length text) × (room.new ≡ text ++ drop result room.old) }
     ensures none { result ≡ 0 → (text : List ℕ) → IsText (flag_of is_registration) answer text → length room.old < length text }

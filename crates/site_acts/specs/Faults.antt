@@ -2,6 +2,7 @@
 use Rattle.std.specs.Prelude.{◌≡◌, ◌≤◌, ◌<◌, ◌⊎◌, ℕ, ⊤, Bool, List, [], ◌∷◌, codes, length, IsUtf8, Option, Some, None, option_and_then, false}
 use Rattle.std.specs.List.{AllByRecursion}
 use Rattle.base64.specs.GeneralPurpose.{IsBytes}
+use Rattle.json_lines.specs.Nesting.{Nests}
 use Rattle.serde_json.specs.Data.{Data, Members, member as entry, no_members}
 use Rattle.serde_json.specs.Find.{as_array, as_bool, as_number, as_object, as_str, as_u64, get}
 use Rattle.serde_json.specs.Read.{read}
@@ -254,6 +255,7 @@ IsRefusedIn d e = IsAmiss (codes "act") IsText d e ⊎ (IsNoAct d e ⊎ IsOfAct 
 abbrev pub IsUnread : List ℕ → LineError → Type 0
 IsUnread line errors.TooLong = 65536 < length line
 IsUnread line errors.NotUtf8 = IsUtf8 line → ⊥
+IsUnread line errors.TooDeep = Nests 32 line → ⊥
 IsUnread line errors.NotAnObject = (d : Data) → read line ≡ Some d → as_object d ≡ None
 IsUnread line errors.Memory = ⊤
 IsUnread line _ = ⊥

@@ -2,6 +2,7 @@
 use Rattle.std.specs.Prelude.{◌≡◌, ◌≤◌, ◌⊎◌, ℕ, ⊤, Bool, false, true, List, [], ◌∷◌, codes, length, map, IsUtf8, Option, Some, None, option_and_then, option_map, string_bytes}
 use Rattle.base64.specs.GeneralPurpose.{encode_of}
 use Rattle.base64.specs.Engines.{url_safe_no_pad}
+use Rattle.json_lines.specs.Nesting.{Nests}
 use Rattle.serde_json.specs.Data.{Data, array, boolean, null, number, object, string}
 use Rattle.serde_json.specs.Find.{as_array, as_bool, as_i64, as_number, as_str, as_u64, get}
 use Rattle.serde_json.specs.Read.{read}
@@ -195,6 +196,6 @@ HasMembers d (acts.Backup path) = HasText (codes "path") d (string_bytes path)
 abbrev pub Says : Data → Act → Type 0
 Says d act = HasText (codes "act") d (name_of act) × HasMembers d act
 
--- a line is at most 65,536 bytes of UTF-8, and a JSON text with this number and this act
+-- a line is at most 65,536 bytes of UTF-8, nests at most 32 deep, and is a JSON text with this number and this act
 abbrev pub Reads : List ℕ → ℕ → Act → Type 0
-Reads line id act = (length line ≤ 65536) × IsUtf8 line × ((d : Data) × (read line ≡ Some d) × HasNumber (codes "id") d id × Says d act)
+Reads line id act = (length line ≤ 65536) × IsUtf8 line × Nests 32 line × ((d : Data) × (read line ≡ Some d) × HasNumber (codes "id") d id × Says d act)

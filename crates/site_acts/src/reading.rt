@@ -1,6 +1,7 @@
 //! Reading a line.
 
 ghost use Rattle.std.specs.Prelude.{◌≡◌, ◌≤◌, IfErr, IfOk, IsUtf8, Some, length};
+ghost use Rattle.json_lines.specs.Nesting.{Nests};
 ghost use Rattle.serde_json.specs.Read.{read};
 ghost use Rattle.serde_json.specs.View.{view};
 ghost use Rattle.site_acts.specs.Lines.{HasMembers, HasVerified, Reads, Says, SaysAsks, SaysBeginRegistration, SaysBeginSignIn, SaysFinishRegistration, SaysFinishSignIn, name_of};
@@ -18,6 +19,7 @@ use crate::members::{
 use crate::response::{assertion_response, credential_id, registration_response};
 use crate::transports::transports;
 use crate::verified::Verified;
+use json_lines::nests_within;
 use serde_json::Value;
 use site_state::Asks;
 use std::alloc::Global;
@@ -187,7 +189,7 @@ fn act_in(alloc: Global, line: &Value) -> Result<Act, LineError>
 
 /// The object that a line is.
 fn object_of(alloc: Global, line: &[u8]) -> Result<Value, LineError>
-    ensures found { IfOk result (λ d. (length line.now ≤ 65536) × IsUtf8 line.now × (read line.now ≡ Some (view d))) }
+    ensures found { IfOk result (λ d. (length line.now ≤ 65536) × IsUtf8 line.now × Nests 32 line.now × (read line.now ≡ Some (view d))) }
     ensures unread { IfErr result (IsUnread line.now) }
 {
     if line.len() > MAX_LINE {
@@ -196,6 +198,9 @@ fn object_of(alloc: Global, line: &[u8]) -> Result<Value, LineError>
     let Ok(text) = str::from_utf8(line) else {
         return Err(LineError::NotUtf8);
     };
+    if !nests_within(line) {
+        return Err(LineError::TooDeep);
+    }
     match Value::from_str(alloc, text) {
         Ok(value) if value.is_object() => Ok(value),
         Err(error) if error.is_memory() => Err(LineError::Memory),

@@ -1,6 +1,6 @@
 //! The files of a copy that is made.
 
-use std::alloc::AllocError;
+use crate::path::log_of;
 use std::fs::{self, File, OpenOptions};
 use std::io;
 
@@ -16,11 +16,11 @@ pub struct Names {
 }
 
 impl Names {
-    pub fn new(rt: &HostRuntime, path: &str, to: &str) -> Result<Names, AllocError> {
+    pub fn new(rt: &HostRuntime, path: &str, to: &str) -> io::Result<Names> {
         let alloc = rt.alloc();
         Ok(Names {
             file: String::from_str(alloc, path)?,
-            log: format!(in alloc; "{path}-wal")?,
+            log: log_of(rt, path)?,
             to: String::from_str(alloc, to)?,
             to_log: format!(in alloc; "{to}-wal")?,
             part: format!(in alloc; "{to}.part")?,

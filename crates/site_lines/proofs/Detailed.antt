@@ -1,7 +1,7 @@
 -- What is known of credentials, and what is told of it.
 use Rattle.std.specs.Prelude.{◌≤◌, ◌^◌, ◌+◌, Vec, string_bytes}
 use Rattle.std.specs.Global.{Global}
-use Rattle.std.proofs.Common.{◌≡◌, ◌++◌, ◌∷◌, [], ℕ, List, Option, Some, None, map, ap, sym, subst, ◌∙◌, false}
+use Rattle.std.proofs.Common.{◌≡◌, ◌++◌, ◌∷◌, [], ℕ, List, Option, Some, None, Bool, map, ap, sym, subst, ◌∙◌, true, false}
 use Rattle.std.specs.FinMap as finite
 use Rattle.std.specs.List.{AllByRecursion}
 use Rattle.sqlite_trees.specs.View.{IsClean, View}
@@ -38,7 +38,7 @@ use Rattle.site_lines.specs.Answers.{Begins, Keeps, TellsRegistrationBegun, Tell
 use Rattle.site_acts.specs.Joined.{joined}
 use Rattle.site_acts.proofs.Commas.{map_on}
 use Rattle.site_lines.specs.Details.{IsAaguid, IsAttestedAaguid, IsKnown, OfDetails, RegistersDetail, TellsAllowed, TellsDetails, TellsExcluded, TellsRowDetails, UsesDetail, second}
-use Rattle.site_lines.specs.Private.{BeginsNone, IsAaguidOf, IsAttestedIn, IsNotBegunAfter, IsRefusedRegistration, IsRefusedSignIn, IsUnknown, IsWithKnown, KeepsDetail, not_begun}
+use Rattle.site_lines.specs.Private.{BeginsNone, IfOther, IsAaguidOf, IsAttestedIn, IsNotBegunAfter, IsOtherIn, IsRefusedRegistration, IsRefusedSignIn, IsUnknown, IsWithKnown, KeepsDetail, not_begun}
 use Rattle.site_lines.specs.declared.knowing.Unknown.{Unknown}
 use Rattle.site_lines.specs.declared.knowing.Unknown.TheVariants as unknowns
 use Rattle.site_state.specs.declared.row.Row.{Row}
@@ -75,6 +75,36 @@ no_aaguid p bytes a read none b d other its =
   where
     no_credential : (x : AttestedCredential) → Some x ≡ None → ⊥
     no_credential x e = absurd cc
+
+-- ---- the credential that is named
+
+-- authenticator data that attest a credential are of no other one
+pub named_is : (p : Profile) (bytes id : List ℕ) (a : AuthenticatorData) (c : AttestedCredential) → AuthOf p a bytes → a.attested ≡ Some c → c.id ≡ id
+    → IsOtherIn p bytes id false
+named_is p bytes id a c read attested is b d other its =
+    let one = one_value p p a b bytes read other in
+    let same : c ≡ d = same_credential c d (sym attested ∙ ap (λ (x : AuthenticatorData). x.attested) one ∙ its) in
+    sym (ap (λ (x : AttestedCredential). x.id) same) ∙ is
+  where
+    same_credential : (x y : AttestedCredential) → Some x ≡ Some y → x ≡ y
+    same_credential x y e = cc
+
+pub nothing_named : (p : Profile) (bytes id : List ℕ) (a : AuthenticatorData) → AuthOf p a bytes → a.attested ≡ None → IsOtherIn p bytes id false
+nothing_named p bytes id a read none b d other its =
+    let one = one_value p p a b bytes read other in
+    absurd (no_credential d (sym its ∙ sym (ap (λ (x : AuthenticatorData). x.attested) one) ∙ none))
+  where
+    no_credential : (x : AttestedCredential) → Some x ≡ None → ⊥
+    no_credential x e = absurd cc
+
+pub other_in_object : (p : Profile) (f : FinishRegistration) (o : Attestation) (bytes : List ℕ) (other : Bool)
+    → ObjectOf o (registration_response_view f.response).object → bytes ≡ o.auth_data → IsOtherIn p bytes f.credential.items other → IfOther p f other
+other_in_object p f o bytes true spelled is h =
+    (o, h.0, h.1, record { object = spelled; auth_data = subst (AuthOf p h.0) is h.2; attested = h.3 }, h.4)
+other_in_object p f o bytes false spelled is of =
+    λ q a c attests.
+    let one = one_object q o (registration_response_view f.response).object attests.object spelled in
+    of a c (subst (AuthOf p a) (ap (λ (x : Attestation). x.auth_data) one ∙ sym is) attests.auth_data) attests.attested
 
 -- ---- one look after another
 
@@ -176,6 +206,7 @@ sign_in_leaves view f now old mid new step (answers.Registered x told asked) h =
 sign_in_leaves view f now old mid new step (answers.SignedIn x told) h = absurd h
 sign_in_leaves view f now old mid new step (answers.Verify t) h = tt
 sign_in_leaves view f now old mid new step (answers.RegistrationRefused told id) h = absurd h
+sign_in_leaves view f now old mid new step (answers.OtherCredential id) h = absurd h
 sign_in_leaves view f now old mid new step (answers.SignInRefused told id) h = tt
 sign_in_leaves view f now old mid new step (answers.Retired was) h = absurd h
 sign_in_leaves view f now old mid new step (answers.Deleted was) h = absurd h
@@ -196,6 +227,7 @@ registration_leaves view f p d old new step (answers.Registered x told asked) h 
 registration_leaves view f p d old new step (answers.SignedIn x told) h = absurd h
 registration_leaves view f p d old new step (answers.Verify t) h = tt
 registration_leaves view f p d old new step (answers.RegistrationRefused told id) h = tt
+registration_leaves view f p d old new step (answers.OtherCredential id) h = absurd h
 registration_leaves view f p d old new step (answers.SignInRefused told id) h = absurd h
 registration_leaves view f p d old new step (answers.Retired was) h = absurd h
 registration_leaves view f p d old new step (answers.Deleted was) h = absurd h
@@ -232,6 +264,7 @@ registers_detail view now f d aaguid old new (answers.Registered x response aske
 registers_detail view now f d aaguid old new (answers.SignedIn x response) its is h = tt
 registers_detail view now f d aaguid old new (answers.Verify t) its is h = tt
 registers_detail view now f d aaguid old new (answers.RegistrationRefused response id) its is h = tt
+registers_detail view now f d aaguid old new (answers.OtherCredential id) its is h = tt
 registers_detail view now f d aaguid old new (answers.SignInRefused response id) its is h = tt
 registers_detail view now f d aaguid old new (answers.Retired was) its is h = tt
 registers_detail view now f d aaguid old new (answers.Deleted was) its is h = tt
@@ -253,6 +286,7 @@ row_details_after view rows old mid new (answers.Registered x told asked) same h
 row_details_after view rows old mid new (answers.SignedIn x told) same h = absurd h
 row_details_after view rows old mid new (answers.Verify t) same h = absurd h
 row_details_after view rows old mid new (answers.RegistrationRefused told id) same h = absurd h
+row_details_after view rows old mid new (answers.OtherCredential id) same h = absurd h
 row_details_after view rows old mid new (answers.SignInRefused told id) same h = absurd h
 row_details_after view rows old mid new (answers.Retired was) same h = absurd h
 row_details_after view rows old mid new (answers.Deleted was) same h = absurd h

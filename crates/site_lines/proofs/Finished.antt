@@ -25,7 +25,7 @@ use Rattle.site_acts.specs.declared.act.FinishRegistration.{FinishRegistration}
 use Rattle.site_acts.specs.declared.act.FinishSignIn.{FinishSignIn}
 use Rattle.site_lines.specs.declared.answer.Answer.{Answer}
 use Rattle.site_lines.specs.declared.answer.Answer.TheVariants as answers
-use Rattle.site_lines.specs.Answers.{Becomes, Keeps, OfHeld, StopsRegistration, TellsRegistration, TellsSignIn}
+use Rattle.site_lines.specs.Answers.{AttestsNamed, Becomes, Keeps, OfHeld, StopsRegistration, TellsRegistration, TellsSignIn}
 use Rattle.site_lines.specs.Private.{IsRefusedRegistration, IsRefusedSignIn}
 use Rattle.site_lines.proofs.Kept.{failure_then, held_on, same_then}
 
@@ -79,6 +79,7 @@ sign_in_refused view f old mid new step (answers.Verify t) same stops h k = (
       ),
 )
 sign_in_refused view f old mid new step (answers.RegistrationRefused told id) same stops h k = absurd h
+sign_in_refused view f old mid new step (answers.OtherCredential id) same stops h k = absurd h
 sign_in_refused view f old mid new step (answers.SignInRefused told id) same stops h k = (
   h.1,
   λ clean placed held.
@@ -108,6 +109,7 @@ sign_in_left view f old mid new step (answers.Registered x told asked) live same
 sign_in_left view f old mid new step (answers.SignedIn x told) live same h k = absurd h
 sign_in_left view f old mid new step (answers.Verify t) live same h k = same_then view old mid new same k
 sign_in_left view f old mid new step (answers.RegistrationRefused told id) live same h k = absurd h
+sign_in_left view f old mid new step (answers.OtherCredential id) live same h k = absurd h
 sign_in_left view f old mid new step (answers.SignInRefused told id) live same h k = same_then view old mid new same k
 sign_in_left view f old mid new step (answers.Retired was) live same h k = absurd h
 sign_in_left view f old mid new step (answers.Deleted was) live same h k = absurd h
@@ -135,9 +137,9 @@ pub registration_accepted : {S : Type 0} (view : S → View) (f : FinishRegistra
     → IsSome (registration_at f.session old.timed.open_sessions)
     → ForSome (registration_at f.session old.timed.open_sessions) (λ e. asked ≡ e.attestation)
     → new.timed ≡ after_end old.timed f.session → IsOneSite old new
-    → Becomes view old new (λ placed after. Registers (only_verified v) placed old f.session r x after)
+    → Becomes view old new (λ placed after. Registers (only_verified v) placed old f.session r x after) → AttestsNamed old.rp.profile f
     → TellsRegistration view f old new (answers.Registered x f.response asked)
-registration_accepted view f old new r x asked v verified same there asks closed one becomes =
+registration_accepted view f old new r x asked v verified same there asks closed one becomes named =
     let of : Becomes view old new (λ placed after. Registers (is_valid f.verified) placed old f.session r x after) =
     subst (λ (w : Option Signed). Becomes view old new (λ placed after. Registers (only_verified w) placed old f.session r x after)) verified becomes in (
       refl,
@@ -146,6 +148,7 @@ registration_accepted view f old new r x asked v verified same there asks closed
       one,
       subst (λ (q : responses.AuthenticatorAttestationResponse). Becomes view old new
           (λ placed after. Registers (is_valid f.verified) placed old f.session q x after)) same of,
+      named,
     )
 
 -- the step that was not passed, of the parts that were judged
@@ -169,6 +172,7 @@ registration_refused view f old new step (answers.Registered x told asked) stops
 registration_refused view f old new step (answers.SignedIn x told) stops h = absurd h
 registration_refused view f old new step (answers.Verify t) stops h = (h.1, h.2, subst (StopsRegistration view f old new) h.0 stops)
 registration_refused view f old new step (answers.RegistrationRefused told id) stops h = (h.1, subst (StopsRegistration view f old new) (sym h.0) stops)
+registration_refused view f old new step (answers.OtherCredential id) stops h = absurd h
 registration_refused view f old new step (answers.SignInRefused told id) stops h = absurd h
 registration_refused view f old new step (answers.Retired was) stops h = absurd h
 registration_refused view f old new step (answers.Deleted was) stops h = absurd h
@@ -190,6 +194,7 @@ registration_left view f p old new step (answers.Registered x told asked) same h
 registration_left view f p old new step (answers.SignedIn x told) same h = absurd h
 registration_left view f p old new step (answers.Verify t) same h = same
 registration_left view f p old new step (answers.RegistrationRefused told id) same h = same
+registration_left view f p old new step (answers.OtherCredential id) same h = absurd h
 registration_left view f p old new step (answers.SignInRefused told id) same h = absurd h
 registration_left view f p old new step (answers.Retired was) same h = absurd h
 registration_left view f p old new step (answers.Deleted was) same h = absurd h

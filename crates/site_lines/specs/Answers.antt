@@ -1,10 +1,13 @@
 -- What an answer says of the site from before the line and of the site from after it. What it says of credentials is said of
 -- each map of credentials that the store holds, where the disk has returned what was written.
-use Rattle.std.specs.Prelude.{◌≡◌, ◌≤◌, ◌+◌, ◌-◌, ◌^◌, ◌++◌, ℕ, List, Bool, Option, Some, None, filter, map, option_map, is_some}
+use Rattle.std.specs.Prelude.{◌≡◌, ◌≢◌, ◌≤◌, ◌+◌, ◌-◌, ◌^◌, ◌++◌, ℕ, List, Bool, Option, Some, None, filter, map, option_map, is_some}
 use Rattle.std.specs.FinMap as finite
 use Rattle.std.specs.Str.{bytes_eq}
 use Rattle.sha2.specs.Sha256.{sha256}
 use Rattle.sqlite_trees.specs.View.{View, IsClean}
+use Rattle.authdata.specs.declared.profile.Profile.{Profile}
+use Rattle.authdata.specs.Layout.{AttestedCredential, AuthenticatorData}
+use Rattle.authdata.specs.Objects.{Attestation}
 use Rattle.authdata.specs.Responses.{AuthenticatorAssertionResponse, assertion_response_view, registration_response_view}
 use Rattle.site_state.specs.Sessions.{IsRefused, Opening, OpensRegistration, OpensSignIn, challenge_of, registration_at}
 use Rattle.site_state.specs.declared.error.BeginError.TheVariants as begins
@@ -40,6 +43,7 @@ abbrev pub Keeps : {S : Type 0} → (S → View) → KeptState S → KeptState S
 Keeps view old new (answers.Error why) = IsSame view old new
 Keeps view old new (answers.Verify t) = IsSame view old new
 Keeps view old new (answers.RegistrationRefused step id) = IsSame view old new
+Keeps view old new (answers.OtherCredential id) = IsSame view old new
 Keeps view old new (answers.SignInRefused step id) = IsSame view old new
 Keeps view old new (answers.Rows rows known) = IsSame view old new
 Keeps view old new (answers.Status counts) = IsSame view old new
@@ -94,15 +98,26 @@ StopsRegistration view f old new step =
     OfHeld view old new (λ placed. (is_registered : List ℕ → Bool) → TellsIds placed is_registered
     → registration.IsFirstFailing (is_valid f.verified) (judged_registration old f.session is_registered (registration_response_view f.response)) step)
 
+-- the response attests a credential of another id than the client names
+abbrev pub AttestsOther : Profile → FinishRegistration → Type 0
+AttestsOther profile f =
+    (o : Attestation) × (a : AuthenticatorData) × (c : AttestedCredential) × registration.Attests profile (registration_response_view f.response) o a c
+    × (c.id ≢ f.credential.items)
+
+-- none but of that id
+abbrev pub AttestsNamed : Profile → FinishRegistration → Type 0
+AttestsNamed profile f = registration.Attested profile (registration_response_view f.response) (λ o a c. c.id ≡ f.credential.items)
+
 -- the same of the answer to a registration's response, whose step is that of the attestation statement; an acceptance tells
--- whether the session, which was open, asked for an attestation
+-- whether the session, which was open, asked for an attestation, and is of the credential that the client names
 abbrev pub TellsRegistration : {S : Type 0} → (S → View) → FinishRegistration → KeptState S → KeptState S → Answer → Type 0
 TellsRegistration view f old new (answers.Registered x told asked) =
     let r = registration_response_view f.response in
     (told ≡ f.response) × ((e : ExpectedRegistration) × (registration_at f.session old.timed.open_sessions ≡ Some e) × (asked ≡ e.attestation))
     × (new.timed ≡ after_end old.timed f.session) × IsOneSite old new
-    × Becomes view old new (λ placed after. Registers (is_valid f.verified) placed old f.session r x after)
+    × Becomes view old new (λ placed after. Registers (is_valid f.verified) placed old f.session r x after) × AttestsNamed old.rp.profile f
 TellsRegistration view f old new (answers.RegistrationRefused step id) = (id.items ≡ f.credential.items) × StopsRegistration view f old new step
+TellsRegistration view f old new (answers.OtherCredential id) = (id.items ≡ f.credential.items) × AttestsOther old.rp.profile f
 TellsRegistration view f old new (answers.Verify t) =
     (f.verified ≡ found.Nothing) × RegistrationAsks old.rp.profile (registration_response_view f.response) t × StopsRegistration view f old new register.BadStatement
 TellsRegistration view f old new (answers.Error why) = why ≡ errors.Memory

@@ -1,5 +1,5 @@
 -- What private functions are proved against; no public clause cites it.
-use Rattle.std.specs.Prelude.{◌≡◌, ◌≤◌, ◌+◌, ◌^◌, ℕ, ⊤, List, [], ◌∷◌, Option, None, Some, Vec, map}
+use Rattle.std.specs.Prelude.{◌≡◌, ◌≢◌, ◌≤◌, ◌+◌, ◌^◌, ℕ, Bool, true, false, ⊤, List, [], ◌∷◌, Option, None, Some, Vec, map}
 use Rattle.serde_json.specs.Data.{Data, depth, string}
 use Rattle.sqlite_trees.specs.View.{View}
 use Rattle.authdata.specs.declared.profile.Profile.{Profile}
@@ -27,7 +27,7 @@ use Rattle.site_acts.specs.declared.verified.Verified.TheVariants as found
 use Rattle.site_lines.specs.Written.{answered, step, whole_row}
 use Rattle.site_acts.specs.declared.known.Known.{Known}
 use Rattle.site_acts.specs.Asked.{RegistrationAsks}
-use Rattle.site_lines.specs.Answers.{OfHeld, SignInAsks}
+use Rattle.site_lines.specs.Answers.{AttestsNamed, AttestsOther, OfHeld, SignInAsks}
 use Rattle.site_lines.specs.Details.{AreKnown, OfDetails}
 use Rattle.site_state.specs.Details.{Detail}
 use Rattle.credential_store.specs.Details.{HoldsDetails}
@@ -88,6 +88,16 @@ abbrev pub IsAttestedIn : Profile → List ℕ → Option (List ℕ) → Type 0
 IsAttestedIn profile bs None = ⊤
 IsAttestedIn profile bs (Some aaguid) = (a : AuthenticatorData) × (c : AttestedCredential) × AuthOf profile a bs × (a.attested ≡ Some c) × (aaguid ≡ c.aaguid)
 
+-- authenticator data attest a credential of another id, or none but of this one
+abbrev pub IsOtherIn : Profile → List ℕ → List ℕ → Bool → Type 0
+IsOtherIn profile bs id true = (a : AuthenticatorData) × (c : AttestedCredential) × AuthOf profile a bs × (a.attested ≡ Some c) × (c.id ≢ id)
+IsOtherIn profile bs id false = (a : AuthenticatorData) (c : AttestedCredential) → AuthOf profile a bs → a.attested ≡ Some c → c.id ≡ id
+
+-- the same of a registration's response and the id that the client names
+abbrev pub IfOther : Profile → FinishRegistration → Bool → Type 0
+IfOther profile f true = AttestsOther profile f
+IfOther profile f false = AttestsNamed profile f
+
 -- what is answered where nothing is told of credentials
 abbrev pub unknown : Unknown → Answer
 unknown unknowns.Memory = answers.Error errors.Memory
@@ -132,6 +142,7 @@ IsOther (answers.Registered x r asked) = ⊥
 IsOther (answers.SignedIn x r) = ⊥
 IsOther (answers.Verify t) = ⊥
 IsOther (answers.RegistrationRefused step id) = ⊥
+IsOther (answers.OtherCredential id) = ⊥
 IsOther (answers.SignInRefused step id) = ⊥
 IsOther _ = ⊤
 

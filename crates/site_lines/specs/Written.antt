@@ -183,6 +183,7 @@ Writes t id (answers.Registered x r asked) d = (row : Data) × (d ≡ answered i
 Writes t id (answers.SignedIn x r) d = (who : Data) × (d ≡ answered id (codes "accepted") who) × IsSignedIn t.party.now.profile x r who
 Writes t id (answers.Verify asked) d = d ≡ answered id (codes "verify") (to_verify asked)
 Writes t id (answers.RegistrationRefused why credential) d = (text : List ℕ) × (d ≡ answered id (codes "refused") (step (codes "G") (registration_number why) text))
+Writes t id (answers.OtherCredential credential) d = (text : List ℕ) × (d ≡ answered id (codes "refused") (step (codes "G") 19 text))
 Writes t id (answers.SignInRefused why credential) d = (text : List ℕ) × (d ≡ answered id (codes "refused") (step (codes "W") (sign_in_number why) text))
 Writes t id (answers.Retired was) d = d ≡ answered id (codes "retired") (boolean was)
 Writes t id (answers.Deleted was) d = d ≡ answered id (codes "deleted") (boolean was)

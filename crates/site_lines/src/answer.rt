@@ -32,6 +32,8 @@ pub enum Answer {
     Verify(VerifiedSignature),
     /// The first step that a registration does not pass, and the credential id that the client names. Nothing has changed.
     RegistrationRefused(RegistrationRefusal, Vec<u8>),
+    /// A registration's response attests a credential of another id than the client names, which is this. Nothing has changed.
+    OtherCredential(Vec<u8>),
     /// The first step that a sign-in does not pass, and the credential id. Nothing has changed.
     SignInRefused(SignInRefusal, Vec<u8>),
     /// Whether the credential is retired only now.

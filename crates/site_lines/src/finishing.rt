@@ -8,7 +8,7 @@ ghost use Rattle.kept_site.specs.Causes.{IsDamaged, RefusesRegistered, RefusesSi
 ghost use Rattle.authdata.specs.Responses.{assertion_response_view, registration_response_view};
 ghost use Rattle.verification.specs.Views.{assertion_parts_view, registration_parts_view};
 ghost use Rattle.site_state.specs.Sessions.{registration_at};
-ghost use Rattle.site_lines.specs.Answers.{Keeps, TellsRegistration, TellsSignIn};
+ghost use Rattle.site_lines.specs.Answers.{AttestsNamed, Keeps, TellsRegistration, TellsSignIn};
 ghost use Rattle.site_state.specs.Details.{detail_view};
 ghost use Rattle.site_lines.specs.Causes.{FailsBy, RefusesFinish};
 ghost use Rattle.site_lines.specs.Details.{RegistersDetail, UsesDetail, second as second_of};
@@ -16,6 +16,7 @@ ghost use Rattle.site_lines.specs.Private.{KeepsDetail, IsRefusedRegistration, I
 
 use crate::answer::Answer;
 use crate::knowing::{detail_of, second};
+use crate::naming::attests_other;
 use authdata::{AssertionResponse, Profile, RegistrationResponse};
 use kept_site::{FinishFailure, KeptSite};
 use site_acts::{FinishRegistration, FinishSignIn, LineError, registration_asks, sign_in_asks};
@@ -142,6 +143,7 @@ fn finish_with<S: Store>(
     detail: &Detail,
 ) -> Answer
     requires live { site.old.is_shut ≡ false }
+    requires named { AttestsNamed site.old.rp.profile finish }
     ensures told { TellsRegistration S.Store.view finish site.old site.new result }
     ensures details { KeepsDetail S.Store.view (detail_view detail.now) site.old site.new result }
     ensures kept { Keeps S.Store.view site.old site.new result }
@@ -163,8 +165,34 @@ fn finish_with<S: Store>(
     }
 }
 
-/// Finishes a registration, or asks for its signature.
+/// Finishes a registration whose response names the credential that it attests, or asks for its signature.
 #[tactic(auto, using(crate::proofs::Detailed::registers_detail, crate::proofs::Kept::same_site))]
+fn finish_named<S: Store>(
+    alloc: Global,
+    site: &mut KeptSite<S>,
+    now: u64,
+    finish: FinishRegistration,
+) -> Answer
+    requires live { site.old.is_shut ≡ false }
+    requires named { AttestsNamed site.old.rp.profile finish }
+    ensures told { TellsRegistration S.Store.view finish site.old site.new result }
+    ensures details { RegistersDetail S.Store.view now finish site.old site.new result }
+    ensures kept { Keeps S.Store.view site.old site.new result }
+    ensures cause { FailsBy S.Store.view S.Store.faults site.old site.new (RefusesFinish (S.Store.view site.old.store) site.old now finish) (IsDamaged (S.Store.view site.old.store).trees) result }
+    ensures counts { S.Store.faults site.old.store ≤ S.Store.faults site.new.store }
+    ensures crash { (db : Trees) → S.Store.recovers site.new.store db → S.Store.recovers site.old.store db }
+{
+    let profile = site.party().profile();
+    let transports = finish.transports.as_slice();
+    let Ok(detail) = detail_of(alloc, profile, now, transports, &finish.response) else {
+        return Answer::Error(LineError::Memory);
+    };
+    finish_with(alloc, site, finish, &detail)
+}
+
+/// Finishes a registration, or asks for its signature. A response that names another credential than it attests is refused
+/// before its steps.
+#[tactic(auto, using(crate::proofs::Kept::same_site))]
 pub(crate) fn finish_registration<S: Store>(
     alloc: Global,
     site: &mut KeptSite<S>,
@@ -179,10 +207,9 @@ pub(crate) fn finish_registration<S: Store>(
     ensures counts { S.Store.faults site.old.store ≤ S.Store.faults site.new.store }
     ensures crash { (db : Trees) → S.Store.recovers site.new.store db → S.Store.recovers site.old.store db }
 {
-    let profile = site.party().profile();
-    let transports = finish.transports.as_slice();
-    let Ok(detail) = detail_of(alloc, profile, now, transports, &finish.response) else {
-        return Answer::Error(LineError::Memory);
-    };
-    finish_with(alloc, site, finish, &detail)
+    match attests_other(alloc, site.party().profile(), &finish) {
+        Ok(false) => finish_named(alloc, site, now, finish),
+        Ok(true) => Answer::OtherCredential(finish.credential),
+        Err(_) => Answer::Error(LineError::Memory),
+    }
 }

@@ -8,6 +8,7 @@ mod finishing;
 mod knowing;
 mod line;
 mod log;
+mod naming;
 mod tally;
 mod values;
 mod writing;

@@ -2,6 +2,7 @@
 
 use crate::answer::Answer;
 use crate::line::Answered;
+use crate::naming::{OTHER_CREDENTIAL, OTHER_CREDENTIAL_TEXT};
 use base64::engine::general_purpose::URL_SAFE_NO_PAD;
 use site_acts::LineError;
 use std::alloc::{AllocError, Global};
@@ -52,6 +53,11 @@ fn verdict(alloc: Global, answer: &Answer, out: &mut String) -> Result<(), Alloc
             credential(alloc, id.as_slice(), out)?;
             writeln!(out, ": {step}")
         }
+        Answer::OtherCredential(id) => {
+            write!(out, " registration refused G{OTHER_CREDENTIAL}")?;
+            credential(alloc, id.as_slice(), out)?;
+            writeln!(out, ": {OTHER_CREDENTIAL_TEXT}")
+        }
         Answer::SignedIn(who, _) => {
             write!(out, " sign-in accepted")?;
             credential(alloc, who.credential.as_slice(), out)?;
@@ -72,7 +78,10 @@ fn verdict(alloc: Global, answer: &Answer, out: &mut String) -> Result<(), Alloc
 /// Whether an answer is logged.
 fn is_logged(which: Logged, answer: &Answer) -> bool {
     match answer {
-        Answer::SignInRefused(..) | Answer::RegistrationRefused(..) | Answer::Failed(_) => true,
+        Answer::SignInRefused(..)
+        | Answer::RegistrationRefused(..)
+        | Answer::OtherCredential(_)
+        | Answer::Failed(_) => true,
         Answer::Error(LineError::NotBegun(_) | LineError::NoNumber) | Answer::NotBackedUp(_) =>
             true,
         Answer::SignedIn(..) | Answer::Registered(..) | Answer::Error(_) => which == Logged::All,

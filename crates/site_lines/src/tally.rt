@@ -2,9 +2,10 @@
 
 use crate::answer::Answer;
 use crate::line::Answered;
+use crate::naming::OTHER_CREDENTIAL;
 
-/// One more than the highest number of a step: 18, of a sign-in as of a registration.
-pub(crate) const STEPS: usize = 19;
+/// One more than the highest number of a refusal: 19, of a registration whose response names another credential.
+pub(crate) const STEPS: usize = 20;
 
 /// What is counted since the start.
 #[derive(Clone, Copy, Debug, PartialEq, Eq, Drop)]
@@ -66,6 +67,9 @@ impl Tally {
             }
             Answer::RegistrationRefused(step, _) => {
                 note_step(&mut self.registration_refusals, step.number());
+            }
+            Answer::OtherCredential(_) => {
+                note_step(&mut self.registration_refusals, OTHER_CREDENTIAL);
             }
             _ => {}
         }

@@ -9,6 +9,7 @@ ghost use Rattle.site_lines.specs.Private.{IsOther, IsShallow, IsStep, IsText, S
 
 use crate::answer::{Answer, Counts};
 use crate::line::Answered;
+use crate::naming::{OTHER_CREDENTIAL, OTHER_CREDENTIAL_TEXT};
 use crate::tally::Tally;
 use crate::values::{registered, rows, signed_in, verify};
 use serde_json::{Map, Value, json, put};
@@ -47,6 +48,14 @@ fn registration_step(alloc: Global, why: RegistrationRefusal) -> Result<Value, A
 {
     let text = told(alloc, &why)?;
     step(alloc, "G", why.number(), text)
+}
+
+/// That a response names another credential than it attests.
+fn other_credential(alloc: Global) -> Result<Value, AllocError>
+    ensures { IfOk result (λ v. IsStep (codes "G") 19 (view v)) }
+{
+    let text = Value::try_from_str(alloc, OTHER_CREDENTIAL_TEXT)?;
+    step(alloc, "G", OTHER_CREDENTIAL, text)
 }
 
 /// The number of a line; null where it has none.
@@ -259,6 +268,10 @@ fn ceremony_value(
         }
         Answer::RegistrationRefused(step, _) => {
             let step = registration_step(alloc, *step)?;
+            answered(alloc, id, "refused", step)
+        }
+        Answer::OtherCredential(_) => {
+            let step = other_credential(alloc)?;
             answered(alloc, id, "refused", step)
         }
         Answer::SignInRefused(step, _) => {

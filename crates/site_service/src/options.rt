@@ -8,6 +8,9 @@ use clap::{Arg, ArgAction, ArgMatches, Command, Error};
 use std::alloc::{AllocError, Global};
 use verification::Policy;
 
+/// The program's version.
+pub(crate) const VERSION: &str = "0.1.0";
+
 /// The profiles.
 static PROFILES: [&str; 3] = ["level3", "open", "strict"];
 
@@ -85,8 +88,9 @@ fn switch<'a>(alloc: Global, name: &'a str, help: &'a str) -> Arg<'a> {
 
 /// The program's parser with the relying party's options.
 fn party_options<'a>(alloc: Global, help: &'a str) -> Result<Command<'a>, AllocError> {
-    Command::new(alloc, "site")
+    Command::new(alloc, "passkey-site")
         .about("A relying party over lines: one JSON object in, one out")
+        .version(VERSION)
         .after_help(help)
         .arg(
             Arg::new(alloc, "FILE")
@@ -369,7 +373,7 @@ fn options_of<'a>(
 pub(crate) struct Told {
     /// The text, with the end of its last line.
     pub text: String,
-    /// Whether it is the help, which was asked for, and no refusal.
+    /// Whether it is the help or the version, which was asked for, and no refusal.
     pub is_help: bool,
 }
 
@@ -377,7 +381,10 @@ pub(crate) struct Told {
 fn told_by(alloc: Global, error: &Error) -> Result<Told, AllocError> {
     Ok(Told {
         text: format!(in alloc; "{error}")?,
-        is_help: error.kind() == ErrorKind::DisplayHelp,
+        is_help: matches!(
+            error.kind(),
+            ErrorKind::DisplayHelp | ErrorKind::DisplayVersion
+        ),
     })
 }
 

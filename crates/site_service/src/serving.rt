@@ -3,7 +3,7 @@
 use crate::arriving::take_lines;
 use crate::fault::Fault;
 use crate::input::READ_AT_ONCE;
-use crate::options::{Log, Options};
+use crate::options::{Log, Options, VERSION};
 use site_files::{FileSite, Start, backup};
 use site_lines::{
     Answer, Answered, Arrived, Logged, Tally, Teller, answer_lines, log_line, write_answer,
@@ -11,9 +11,6 @@ use site_lines::{
 use std::fs::File;
 use std::io::{self, BufReader, Read, Write};
 use std::time::{SystemTime, UNIX_EPOCH};
-
-/// The program's version.
-const VERSION: &str = "0.1.0";
 
 /// The seconds of the system's clock since 1970. A clock that is set before is an error, which ends the program: sessions
 /// would have no moment in which they began.

@@ -10,6 +10,42 @@ use std::{env, io};
 /// The aaguid of this security key.
 const AAGUID: [u8; 16] = *b"garvoeng softkey";
 
+/// What `--help` prints.
+const HELP: &str =
+    "A security key over lines: packets, decisions and signatures in, packets and what is to be signed out
+
+Usage: softkey [WORD ..]
+
+Words:
+  no-uv             It does not verify its user
+  self-attestation  It attests by the credential's own key
+  pin               It takes PINs
+
+Options:
+  -h, --help     Print help
+  -V, --version  Print version
+
+docs/KEY.md has the lines.
+";
+
+/// What `--version` prints.
+const VERSION: &str = "softkey 0.1.0\n";
+
+/// What is told of words that there are not.
+const BAD_WORDS: &str =
+    "softkey: a word is none of no-uv, self-attestation and pin; softkey --help lists them\n";
+
+/// What the arguments ask for.
+#[derive(Drop)]
+enum Asked {
+    /// To serve a key of this configuration.
+    Serve(Configuration),
+    /// To print this.
+    Print(&'static str),
+    /// Nothing that there is.
+    Nothing,
+}
+
 /// How the security key is configured.
 #[derive(Clone, Copy, Drop)]
 struct Configuration {
@@ -18,9 +54,9 @@ struct Configuration {
     pin: bool,
 }
 
-/// What the arguments ask for: `no-uv`, not to verify its user; `self-attestation`; `pin`, to take PINs. Nothing where one is
-/// another word.
-fn configured(rt: &HostRuntime) -> io::Result<Option<Configuration>> {
+/// What the arguments ask for: `no-uv`, not to verify its user; `self-attestation`; `pin`, to take PINs. Help or the version is
+/// printed where it is the first word that is none of these.
+fn read_arguments(rt: &HostRuntime) -> io::Result<Asked> {
     let mut configuration = Configuration {
         uv: true,
         attest: AttestationType::None,
@@ -33,11 +69,15 @@ fn configured(rt: &HostRuntime) -> io::Result<Option<Configuration>> {
             configuration.attest = AttestationType::SelfSigned;
         } else if word.as_str() == "pin" {
             configuration.pin = true;
+        } else if word.as_str() == "--help" || word.as_str() == "-h" {
+            return Ok(Asked::Print(HELP));
+        } else if word.as_str() == "--version" || word.as_str() == "-V" {
+            return Ok(Asked::Print(VERSION));
         } else {
-            return Ok(None);
+            return Ok(Asked::Nothing);
         }
     }
-    Ok(Some(configuration))
+    Ok(Asked::Serve(configuration))
 }
 
 /// Answers each line, at once.
@@ -83,14 +123,35 @@ fn serve_lines(rt: &HostRuntime, configuration: Configuration) -> io::Result<()>
     answer_input(rt, &mut key)
 }
 
+/// Prints a text.
+fn print(rt: &HostRuntime, text: &str) -> io::Result<()> {
+    let mut out = rt.stdout();
+    out.write_all(text.as_bytes())?;
+    out.flush()
+}
+
+/// Does what the arguments ask for. The status, as [`run`] has it.
+fn carry_out(rt: &HostRuntime) -> io::Result<u8> {
+    match read_arguments(rt)? {
+        Asked::Serve(configuration) => {
+            serve_lines(rt, configuration)?;
+            Ok(0)
+        }
+        Asked::Print(text) => {
+            print(rt, text)?;
+            Ok(0)
+        }
+        Asked::Nothing => {
+            rt.stderr().write_all(BAD_WORDS.as_bytes())?;
+            Ok(2)
+        }
+    }
+}
+
 /// Runs the program on its arguments. Its status: 2 where they are wrong, 3 where the system failed.
 pub fn run(rt: &HostRuntime) -> u8 {
-    match configured(rt) {
-        Ok(Some(configuration)) => match serve_lines(rt, configuration) {
-            Ok(()) => 0,
-            Err(_) => 3,
-        },
-        Ok(None) => 2,
-        Err(_) => 2,
+    match carry_out(rt) {
+        Ok(status) => status,
+        Err(_) => 3,
     }
 }

@@ -17,6 +17,10 @@ class PasskeyBackend(ModelBackend):
                      **_: Any) -> Any:
         if passkey is None:
             return None
-        handle = server().authenticate_complete(passkey_session, passkey).credential.user
-        account = Account.objects.select_related("user").filter(handle=handle).first()
-        return account.user if account is not None and self.user_can_authenticate(account.user) else None
+        credential = server().authenticate_complete(passkey_session, passkey).credential
+        account = Account.objects.select_related("user").filter(handle=credential.user).first()
+        if account is None or not self.user_can_authenticate(account.user):
+            return None
+        # By it `login` knows with which passkey the sign-in ends.
+        account.user.garvoeng_credential = credential.id
+        return account.user

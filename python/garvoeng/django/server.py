@@ -23,10 +23,10 @@ class DjangoServer(SqlServer):
         super().__init__(server, lambda: connection, lifetime=lifetime)
 
     @contextmanager
-    def transaction(self) -> Iterator[Rows]:
+    def transaction(self, *, writes: bool = True) -> Iterator[Rows]:
         with transaction.atomic():
             rows = rows_of(connection)
-            if rows.is_sqlite:
+            if rows.is_sqlite and writes:
                 # The lock of SQLite is taken before anything is read, so that nobody writes between.
                 rows.run("update garvoeng_version set version = version")
             yield rows

@@ -7,10 +7,6 @@ pub returns-in_default-clause-unreadable : goal.returns-in_default-clause-unread
 unfolding seen_of
 returns-in_default-clause-unreadable c = search rules
 
-pub returns-in_err-value-clause-unreadable : goal.returns-in_err-value-clause-unreadable
-unfolding seen_of
-returns-in_err-value-clause-unreadable c = search rules
-
 pub returns-clause-ok : goal.returns-clause-ok
 unfolding seen_of
 returns-clause-ok c = search rules

@@ -11,7 +11,7 @@ use Rattle.site_lines.proofs.finishing.finish_with.Goals as goal
 pub returns-in-Ok-clause-told : goal.returns-in-Ok-clause-told
 returns-in-Ok-clause-told g c =
     registration_accepted g.S.Store.view c.args.finish c.args.site.now c.finish_registration_parts.new.self _ c.in-Ok.registered c.asks_attestation-asked.result _
-    c.verifier-verifier.ensures c.registration_parts-parts.ensures c.in-Ok.ensures.open c.asks_attestation-asked.ensures c.in-Ok.ensures.closed c.in-Ok.ensures.one.0 c.in-Ok.ensures.accepted
+    c.verifier-verifier.ensures c.registration_parts-parts.ensures c.in-Ok.ensures.open c.asks_attestation-asked.ensures c.in-Ok.ensures.closed c.in-Ok.ensures.one.0 c.in-Ok.ensures.accepted c.requires.named
 
 pub returns-in-Err-Site-Refused-clause-told : goal.returns-in-Err-Site-Refused-clause-told
 returns-in-Err-Site-Refused-clause-told g c =

@@ -1,4 +1,4 @@
--- What is owed of `finish_registration`.
+-- What is owed of `finish_named`.
 use Rattle.std.proofs.Common.{Some, None, ◌∙◌, ap, map, subst}
 use Rattle.std.specs.Prelude.{string_bytes}
 use Rattle.authdata.specs.Responses.{registration_response_view}
@@ -8,7 +8,7 @@ use Rattle.site_lines.specs.Details.{IsAaguid, IsAttestedAaguid, second}
 use Rattle.kept_site.specs.Causes.{RefusesRegistered}
 use Rattle.site_lines.proofs.Caused.{fails_as}
 use Rattle.site_lines.proofs.Detailed.{registers_detail}
-use Rattle.site_lines.proofs.finishing.finish_registration.Goals as goal
+use Rattle.site_lines.proofs.finishing.finish_named.Goals as goal
 
 pub returns-clause-details : goal.returns-clause-details
 returns-clause-details g c =

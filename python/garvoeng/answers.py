@@ -1,0 +1,89 @@
+"""What the functions that a host hands in answer: `verify`, `is_registered` and `credential`."""
+from __future__ import annotations
+
+import asyncio
+import inspect
+from contextvars import ContextVar
+from functools import partial
+from typing import Any, Awaitable, Callable, List, NoReturn, Optional, Tuple, TypeVar, Union
+
+Answered = TypeVar("Answered")
+Verify = Callable[[int, bytes, bytes, bytes, bytes], Union[bool, Awaitable[bool]]]
+
+_LOOP: "ContextVar[Optional[asyncio.AbstractEventLoop]]" = ContextVar("garvoeng_loop", default=None)
+
+
+def kind_of(value: Any) -> str:
+    """The kind of a value, with its article."""
+    name = type(value).__name__
+    return "None" if value is None else f"{'an' if name[:1].lower() in tuple('aeiou') else 'a'} {name}"
+
+
+def refuse(what: str, said: Any, wanted: str, awaited_in: str = "the call whose name ends in _async") -> NoReturn:
+    """Raises TypeError. A coroutine is closed, so that nobody is warned that it was never awaited."""
+    advice = f"; a function that is awaited belongs into {awaited_in}" if awaited_in and inspect.isawaitable(said) else ""
+    if inspect.iscoroutine(said):
+        said.close()
+    raise TypeError(f"{what} answered {kind_of(said)}, and not {wanted}{advice}")
+
+
+def is_true(what: str, said: Any) -> bool:
+    """True or False, and nothing that counts as one of them."""
+    if said is True or said is False:
+        return bool(said)
+    refuse(what, said, "True or False")
+
+
+async def awaited(said: Any) -> Any:
+    """What is awaited, if it can be."""
+    return await said if inspect.isawaitable(said) else said
+
+
+class _Asked(Exception):
+    """An answer has to be awaited before the verdict goes on."""
+
+
+async def judged(verify: Verify, judge: Callable[[Verify], Answered]) -> Answered:
+    """What `judge` says by `verify`, whose answer is awaited if it can be. Then `judge` is called again, with that answer for the same
+    signature."""
+    asked: List[Tuple[Tuple[Any, ...], Awaitable[Any]]] = []
+
+    def first(*words: Any) -> Any:
+        said = verify(*words)
+        if not inspect.isawaitable(said):
+            return said
+        asked.append((words, said))
+        raise _Asked
+
+    try:
+        return judge(first)
+    except _Asked:
+        [(words, said)] = asked
+    answer = await said
+    return judge(lambda *again: answer if again == words else False)
+
+
+# ---- calls that wait in a thread
+
+def _called(loop: asyncio.AbstractEventLoop, call: Callable[[], Answered]) -> Answered:
+    _LOOP.set(loop)
+    return call()
+
+
+async def in_thread(call: Callable[..., Answered], *words: Any, **named: Any) -> Answered:
+    """Makes a call in a thread of the loop. What `verify` gives there is awaited by the loop, if it can be."""
+    return await asyncio.to_thread(_called, asyncio.get_running_loop(), partial(call, *words, **named))
+
+
+def waiting(verify: Verify) -> Verify:
+    """`verify` as a call takes it: in a call of `in_thread` one that waits for the loop."""
+    loop = _LOOP.get()
+    if loop is None:
+        return verify
+    waits: Verify = partial(_waited, loop, verify)
+    return waits
+
+
+def _waited(loop: asyncio.AbstractEventLoop, verify: Verify, *words: Any) -> Any:
+    said = verify(*words)
+    return asyncio.run_coroutine_threadsafe(awaited(said), loop).result() if inspect.isawaitable(said) else said

@@ -1,0 +1,18 @@
+"""Sign-ins that end with their passkeys."""
+from __future__ import annotations
+
+from typing import Any
+
+from django.contrib.auth import logout
+from django.utils.deprecation import MiddlewareMixin
+
+from .sign_ins import is_signed_in
+
+
+class PasskeyMiddleware(MiddlewareMixin):
+    """Signs out who signed in by a passkey that is retired or deleted since, or whose sign-in was ended. It stands after
+    AuthenticationMiddleware."""
+
+    def process_request(self, request: Any) -> None:
+        if not is_signed_in(request):
+            logout(request)
