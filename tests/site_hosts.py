@@ -292,7 +292,7 @@ def served(tests, tool, words):
     party = [tests.program, path, "--rp-id", "localhost", "--origin", origin]
     process = subprocess.Popen([*words, str(port) if tool == "node" else f"localhost:{port}", *party])
     visitor, device = Visitor(origin), Device(ES256, rp_id="localhost", origin=origin)
-    for _ in range(100):
+    for _ in range(600):
         try:
             status, page = visitor.ask("/")
             break
@@ -332,10 +332,10 @@ def served(tests, tool, words):
     waiting = [threading.Thread(target=lambda: answers.append(visitor.ask("/begin", {"act": "sign_in"})[0])) for _ in range(8)]
     for thread in waiting:
         thread.start()
-    time.sleep(0.5)
+    time.sleep(2)
     os.kill(stopped, signal.SIGKILL)
     for thread in waiting:
-        thread.join(20)
+        thread.join(60)
     tests.check(f"{tool}: calls in flight are rejected", answers, [503] * 8)
     tests.check(f"{tool}: and the next is served", visitor.visit("sign_in", device, user)[0], 200)
     process.kill()
@@ -517,11 +517,11 @@ def lone_logs(tests):
 def no_input(tests):
     """Without standard input the program ends at once, and makes nothing."""
     path = tests.file("closed.db")
-    run = subprocess.run([tests.program, path, *PARTY], capture_output=True, timeout=20, preexec_fn=lambda: os.close(0))
+    run = subprocess.run([tests.program, path, *PARTY], capture_output=True, timeout=60, preexec_fn=lambda: os.close(0))
     tests.check("standard input is closed", (run.returncode, run.stderr.decode()),
                 (3, "standard input is closed, or can't be read\n"))
     tests.check("which makes no file", Path(path).exists(), False)
-    run = subprocess.run([tests.program, path, *PARTY], capture_output=True, timeout=20, stdin=subprocess.DEVNULL)
+    run = subprocess.run([tests.program, path, *PARTY], capture_output=True, timeout=60, stdin=subprocess.DEVNULL)
     tests.check("an empty input", (run.returncode, run.stdout), (0, b""))
 
 

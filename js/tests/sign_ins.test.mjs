@@ -15,7 +15,12 @@ beforeEach(async () => {
   for (const name of ["version", "credential", "session"]) await pool.query(`drop table if exists garvoeng_${name}`);
 });
 const sql = (origins = ["http://localhost"]) => new SqlServer(new Server("localhost", origins), pool, { logger: (error) => logged.push(error) });
-const sleep = (milliseconds) => new Promise((resolve) => setTimeout(resolve, milliseconds));
+const sleep = (milliseconds) => new Promise((resolve) => setTimeout(resolve, milliseconds)), { now } = Date;
+// Until the test ends the time of this process is so many seconds later.
+function later(context, seconds) {
+  context.after(() => (Date.now = now));
+  Date.now = () => now() + 1_000 * seconds;
+}
 
 // A visitor who registered: the device, the account, and the browser's cookie.
 async function registered(served, id) {
@@ -113,9 +118,9 @@ for (const [name, make] of [["the program", stored], ["PostgreSQL", sql]]) {
   });
 
   test(`${name}: sign-ins grow old`, async (context) => {
-    const server = make(), served = await serving(context, server, undefined, { fresh: 1, lifetime: 3 }), { device, user, told, cookie } = await registered(served, "key");
+    const server = make(), served = await serving(context, server, undefined, { fresh: 100, lifetime: 600 }), { device, user, told, cookie } = await registered(served, "key");
     const begun = await served.post("/register/begin", '{"name":"ada"}', cookie);
-    await sleep(1_200);
+    later(context, 120);
     const late = await served.post("/register/begin", '{"name":"ada"}', cookie);
     assert.deepEqual([late.status, late.cookies], [401, []]);
     assert.match(late.told.error, /^sign in again/);
@@ -123,7 +128,7 @@ for (const [name, make] of [["the program", stored], ["PostgreSQL", sql]]) {
     const again = await visit(served, "sign-in", device, { user, before: cookie });
     assert.deepEqual((await visit(served, "register", own("third"), { before: pair(again.cookie) })).told, told);
     assert.equal(await isSignedIn(served, pair(again.cookie)), true);
-    await sleep(3_100);
+    later(context, 120 + 610);
     assert.equal(await isSignedIn(served, pair(again.cookie)), false);
   });
 }
@@ -165,11 +170,9 @@ test("sign-outs of the host's own, and those of a process that begins anew", asy
 });
 
 test("how old a sign-in may be, if not said", async (context) => {
-  const { now } = Date, served = await serving(context, stored()), { cookie } = await registered(served, "key");
-  context.after(() => (Date.now = now));
-  const later = (seconds) => (Date.now = () => now() + 1_000 * seconds), begins = async () => (await served.post("/register/begin", '{"name":"ada"}', cookie)).status;
+  const served = await serving(context, stored()), { cookie } = await registered(served, "key"), begins = async () => (await served.post("/register/begin", '{"name":"ada"}', cookie)).status;
   for (const [seconds, status, isIn] of [[295, 200, true], [305, 401, true], [86_390, 401, true], [86_410, 200, false], [-86_410, 200, false], [-305, 401, true]]) {
-    later(seconds);
+    later(context, seconds);
     assert.deepEqual([await begins(), await isSignedIn(served, cookie)], [status, isIn], `${seconds}`);
   }
 });
@@ -181,12 +184,12 @@ test("a sign-out whose session can't be ended has failed", async (context) => {
   assert.deepEqual([out.status, out.cookies], [503, []]);
 });
 
-test("which registrations are open is forgotten with their time", async () => {
+test("which registrations are open is forgotten with their time", async (context) => {
   let session = 0;
-  const abandoned = [], shared = new Shared({ ask: async (act, members) => (act === "abandon" ? abandoned.push(members.session) && {} : { session: ++session }) }, 20);
+  const abandoned = [], shared = new Shared({ ask: async (act, members) => (act === "abandon" ? abandoned.push(members.session) && {} : { session: ++session }) }, 60_000);
   const begin = (user) => shared.ask("begin_registration", { user });
   await begin("one");
-  await sleep(40);
+  later(context, 61);
   await begin("one");
   await begin("two");
   assert.deepEqual([await shared.ask("end_registrations", { user: "one" }), abandoned], [{ ended: 1 }, [2]]);

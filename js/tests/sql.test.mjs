@@ -201,10 +201,11 @@ test("of responses at once one is accepted", async () => {
     const [two, again] = await signIn(second, device);
     assert.deepEqual(await settled(server.authenticateComplete(one, first), second.authenticateComplete(two, again)), ["W15", "accepted"], "a copied key");
   }
-  const patient = serving({ verify: () => new Promise((resolve) => setTimeout(resolve, 300, true)) });
+  let verifies;
+  const isVerifying = new Promise((resolve) => (verifies = resolve)), patient = serving({ verify: () => (verifies(), new Promise((resolve) => setTimeout(resolve, 300, true))) });
   const [one, first] = await signIn(patient, device), [two, next] = await signIn(server, device);
   const waits = patient.authenticateComplete(one, first);
-  await new Promise((resolve) => setTimeout(resolve, 100));
+  await isVerifying;
   assert.deepEqual(await settled(waits, second.authenticateComplete(two, next)), ["accepted", "accepted"], "the second waits for the first's counter");
   for (let time = 0; time < 10; time++) {
     const twin = new Device(ES256, { id: Buffer.from(`twin ${time}`) }), begun = await Promise.all([server, second].map((one) => one.registerBegin(user, "name")));
@@ -239,7 +240,7 @@ test("connections that end", async () => {
   await registered(server, device);
   const end = "select pg_terminate_backend(pid) from pg_stat_activity where pid <> pg_backend_pid() and datname = current_database()";
   await other.query(end);
-  await new Promise((resolve) => setTimeout(resolve, 100));
+  for (let time = 0; time < 600 && pool.totalCount > 0; time++) await new Promise((resolve) => setTimeout(resolve, 50));
   assert.equal((await server.rows()).length, 1, "idle ones are replaced");
   let failed = 0, accepted = 0;
   for (let time = 0; time < 30; time++) {

@@ -14,6 +14,7 @@ const path = (name) => join(folder, name), quiet = { logger: () => {} };
 const serving = (name, how) => new StoredServer(PROGRAM, path(name), "example.com", ["https://example.com"], { ...quiet, ...how });
 const children = () => readFileSync(`/proc/self/task/${process.pid}/children`, "utf8").trim().split(" ").filter((one) => one !== "").map(Number);
 const sleep = (milliseconds) => new Promise((resolve) => setTimeout(resolve, milliseconds));
+const until = async (call) => { for (let time = 0; time < 600 && !call(); time++) await sleep(50); };
 const flipped = (value) => (value[value.length - 1] ^= 1, value);
 
 async function registered(server, device, how) {
@@ -28,7 +29,7 @@ function script(name, body) {
   return path(name);
 }
 
-const broken = (name, body, how) => new StoredServer(script(name, body), path("none.db"), "example.com", ["https://example.com"], { timeout: 4_000, ...quiet, ...how });
+const broken = (name, body, how) => new StoredServer(script(name, body), path("none.db"), "example.com", ["https://example.com"], { timeout: 60_000, ...quiet, ...how });
 
 test("visits", async () => {
   const server = serving("visits.db");
@@ -303,12 +304,12 @@ test("programs that answer something else, or nothing", async () => {
   for (const [what, body] of Object.entries(answers)) {
     const server = broken("broken", `stdin.once("data", () => { ${body}; stdin.destroy(); });`), began = Date.now();
     await assert.rejects(server.rows(), StoreFailed, what);
-    assert.ok(Date.now() - began < 5_000, what);
+    assert.ok(Date.now() - began < 50_000, `${what} is not waited for`);
     await server.close().catch(() => {});
   }
   const two = broken("two", 'stdin.once("data", () => stdout.write("{\\"id\\":1,\\"rows\\":[]}\\n{\\"id\\":2,\\"rows\\":[]}\\n")); stdin.resume();');
   assert.deepEqual(await two.rows(), []);
-  await sleep(300);
+  await until(() => children().length === 0);
   assert.deepEqual(children(), [], "one that answers what was not asked is ended");
   const pieces = broken("pieces", `stdin.once("data", () => {
     const line = Buffer.from('{"id":1,"error":"\u00e9\u00e9"}\\n'), at = line.indexOf(0xc3) + 1;
@@ -318,7 +319,7 @@ test("programs that answer something else, or nothing", async () => {
   await pieces.close();
   const silent = broken("silent", "stdin.resume(); setTimeout(() => {}, 60_000);", { timeout: 1_000 }), began = Date.now();
   const found = await Promise.allSettled(Array.from({ length: 20 }, () => silent.rows()));
-  assert.ok(found.every(({ reason }) => reason instanceof StoreFailed) && Date.now() - began < 5_000);
+  assert.ok(found.every(({ reason }) => reason instanceof StoreFailed) && Date.now() - began < 50_000);
   assert.match(found[0].reason.message, /did not answer in 1 seconds/);
   const odd = broken("odd", 'stdin.on("data", () => stdout.write("{\\"id\\":1,\\"unknown\\":0}\\n"));');
   await assert.rejects(odd.authenticateComplete(1, new Device().signIn({ challenge: "AA" })), StoreFailed);
@@ -349,7 +350,7 @@ test("each answer goes to who asked, also where it has no number, by a program t
     if (lines.length === 0) return;
     const { id, user_name } = JSON.parse(lines.shift());
     stdout.write(JSON.stringify({ ...(id % 3 === 0 ? {} : { id: id % 3 === 1 ? id : null }), error: user_name }) + "\\n");
-  }, 5);`, { timeout: 20_000 });
+  }, 5);`);
   const names = Array.from({ length: 60 }, (_, index) => `${index} ${"x".repeat(index % 7 === 0 ? 60_000 : 9)}`);
   const found = await Promise.all(names.map((name) => slow.registerBegin(user, name, { exclude: [] }).catch(({ text }) => text)));
   assert.deepEqual(found, names);
@@ -401,9 +402,9 @@ test("what could not be started says why", async () => {
 });
 
 test("a program that is killed or hangs: what was in flight is rejected, the next call goes on", async () => {
-  const server = serving("killed.db", { timeout: 1_000 }), device = new Device();
+  const server = serving("killed.db", { timeout: 4_000 }), device = new Device();
   await registered(server, device);
-  for (const [signal, message] of [["SIGKILL", /ended before it answered/], ["SIGSTOP", /did not answer in 1 seconds|ended before/]]) {
+  for (const [signal, message] of [["SIGKILL", /ended before it answered/], ["SIGSTOP", /did not answer in 4 seconds|ended before/]]) {
     process.kill(children()[0], "SIGSTOP");
     const asked = Array.from({ length: 10 }, () => server.authenticateBegin());
     await sleep(200);
@@ -435,14 +436,20 @@ test("a program that is killed or hangs: what was in flight is rejected, the nex
 });
 
 test("killed at random, no acceptance that was answered is lost", async (context) => {
-  const server = serving("random.db"), device = new Device(), ends = Date.now() + 60_000;
+  const server = serving("random.db"), device = new Device(), ends = Date.now() + 120_000;
   await registered(server, device);
-  let accepted = 0, failed = 0;
-  const killing = setInterval(() => children().forEach((pid) => process.kill(pid, "SIGKILL")), 150);
+  let accepted = 0, failed = 0, begun = 0, begunAt = 0;
+  // Where some sign-ins have begun since the last: a slow machine gets on too.
+  const killing = setInterval(() => {
+    if (begun < begunAt + 3) return;
+    begunAt = begun;
+    children().forEach((pid) => process.kill(pid, "SIGKILL"));
+  }, 150);
   context.after(() => clearInterval(killing));
   while (Date.now() < ends && (accepted < 30 || failed < 3)) {
     try {
       const { options, session } = await server.authenticateBegin();
+      begun++;
       const response = device.signIn(options, { user });
       const answers = await Promise.allSettled([1, 2, 3].map(() => server.authenticateComplete(session, response)));
       accepted += answers.filter(({ status }) => status === "fulfilled").length;

@@ -28,7 +28,7 @@ export async function serving(context, server, make = (site) => createServer(sit
   });
   const { port } = listening.address(), origin = `http://localhost:${port}`;
   const post = async (path, body, cookie = "", type = "application/json") => {
-    const answer = await fetch(origin + path, { method: "POST", headers: { "Content-Type": type, cookie }, body, signal: AbortSignal.timeout(10_000) });
+    const answer = await fetch(origin + path, { method: "POST", headers: { "Content-Type": type, cookie }, body, signal: AbortSignal.timeout(60_000) });
     const text = await answer.text(), cookies = (answer.headers.get("set-cookie") ?? "").split(", ").filter((one) => one !== "");
     return { status: answer.status, told: text.startsWith("{") ? JSON.parse(text) : text, cookie: cookies[0] ?? "", cookies };
   };

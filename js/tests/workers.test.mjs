@@ -16,7 +16,7 @@ const path = (name) => join(folder, name), sleep = (milliseconds) => new Promise
 function apart(name, body) {
   const file = fileURLToPath(new URL(`./made-${name}.mjs`, import.meta.url));
   writeFileSync(file, `import cluster from "node:cluster";\nimport { StoredServer } from "garvoeng";\nimport { Device } from "./device.mjs";
-const serving = (how) => new StoredServer(${JSON.stringify(PROGRAM)}, ${JSON.stringify(path(`${name}.db`))}, "example.com", ["https://example.com"], { timeout: 5_000, logger: () => {}, ...how });
+const serving = (how) => new StoredServer(${JSON.stringify(PROGRAM)}, ${JSON.stringify(path(`${name}.db`))}, "example.com", ["https://example.com"], { timeout: 20_000, logger: () => {}, ...how });
 ${body}\n`);
   const child = spawn(process.execPath, [file], { stdio: ["ignore", "pipe", "inherit"] });
   const ended = once(child, "close").finally(() => rmSync(file)), said = [];
@@ -35,7 +35,7 @@ test("the program ends with its process, and keeps none alive", async () => {
   killed.child.kill("SIGKILL");
   await killed.ended;
   for (const [pid] of [idle.lines(), killed.lines()]) {
-    for (let time = 0; time < 100 && isAlive(Number(pid)); time++) await sleep(50);
+    for (let time = 0; time < 600 && isAlive(Number(pid)); time++) await sleep(50);
     assert.equal(isAlive(Number(pid)), false);
   }
 });
@@ -64,7 +64,7 @@ if (cluster.isPrimary) {
     if (answers.filter((one) => one.status === "fulfilled").length !== 1) throw new Error(JSON.stringify(answers));
   }
   const tooLong = await server.registerBegin(user, "A".repeat(70_000)).catch((error) => error.name);
-  const other = await serving({ rpName: "another", timeout: 500 }).rows().catch((error) => error.name + ": " + error.message);
+  const other = await serving({ rpName: "another" }).rows().catch((error) => error.name + ": " + error.message);
   console.log(JSON.stringify({ tooLong, other }));
   process.exit(0);
 }`);
@@ -89,7 +89,7 @@ if (cluster.isPrimary) {
   await server.signOuts.add("one", at);
   process.exit(0);
 } else {
-  for (let time = 0; time < 500 && !(await server.signOuts.has("one", at)); time++) await new Promise((resolve) => setTimeout(resolve, 20));
+  for (let time = 0; time < 3_000 && !(await server.signOuts.has("one", at)); time++) await new Promise((resolve) => setTimeout(resolve, 20));
   const answers = await Promise.all([server.rows(), server.registerBegin(Buffer.from("a"), "A".repeat(70_000), { exclude: [] }).catch(({ name }) => name), server.signOuts.has("one", at), server.signOuts.has("two", at), server.signOuts.has("two", 5)]);
   console.log(JSON.stringify(answers));
   process.env.pm_id = "0";
@@ -102,7 +102,7 @@ if (cluster.isPrimary) {
 
 test("a worker whose primary ended or whose program was killed", async () => {
   const run = apart("orphan", `
-const server = serving({ timeout: 2_000 });
+const server = serving();
 if (cluster.isPrimary) {
   const worker = cluster.fork();
   ${TELL.replace("import { readFileSync } from \"node:fs\";", "const { readFileSync } = await import(\"node:fs\");")}
@@ -134,10 +134,12 @@ test("a worker whose primary does not answer in time", async () => {
   const run = apart("deaf", `
 const server = serving({ timeout: 1_000 });
 if (cluster.isPrimary) {
-  cluster.fork().on("message", (message) => message === "wait" && Atomics.wait(new Int32Array(new SharedArrayBuffer(4)), 0, 0, 3_000)).on("exit", () => server.close());
+  const worker = cluster.fork(), waits = () => Atomics.wait(new Int32Array(new SharedArrayBuffer(4)), 0, 0, 4_000);
+  worker.on("message", (message) => message === "wait" && worker.send("waits", waits)).on("exit", () => server.close());
 } else {
+  const waits = new Promise((resolve) => process.on("message", (message) => message === "waits" && resolve()));
   process.send("wait");
-  await new Promise((resolve) => setTimeout(resolve, 200));
+  await waits;
   const found = await Promise.allSettled([server.rows(), server.authenticateBegin()]);
   let again = null;
   while (again === null) again = await server.rows().catch(() => null);

@@ -57,7 +57,7 @@ def running(file, name):
     return found
 
 
-def until(call, seconds=15):
+def until(call, seconds=60):
     for _ in range(int(seconds * 20)):
         if call():
             return True
@@ -74,11 +74,11 @@ def answers(site):
     return True
 
 
-def worker(folder, number, ends_at):
-    """Registers and signs in until it is time; what was accepted is told."""
+def worker(folder, number):
+    """Registers and signs in until `ends` is there; what was accepted is told."""
     site, device, made, count = server(folder), Device(EDDSA, credential=b"key of %d" % number), False, 0
     told = open(folder / f"told-{number}", "w")
-    while time.time() < ends_at:
+    while not (folder / "ends").exists():
         try:
             if not made:
                 registered(site, device)
@@ -101,14 +101,20 @@ def test_workers_that_are_killed(folder):
     """Four workers, of which one, the program or the broker is killed again and again: one program at a time, and no acceptance is
     lost or told twice."""
     context = multiprocessing.get_context("fork")
-    ends_at = time.time() + 8
-    workers = {number: context.Process(target=worker, args=(folder, number, ends_at)) for number in range(4)}
+    workers = {number: context.Process(target=worker, args=(folder, number)) for number in range(4)}
     for one in workers.values():
         one.start()
     draw, file, most, names = random.Random(1), folder / "site.db", 0, 3
     accepted = {}
-    while time.time() < ends_at - 1.5:
+
+    def signed():
+        return [len(path.read_text().splitlines()) for path in folder.glob("told-*")]
+
+    for _ in range(16):
+        # However slow the machine is, they sign in between.
+        before = sum(signed())
         time.sleep(0.4)
+        assert until(lambda: sum(signed()) >= before + 4)
         programs = running(file, "program")
         most = max(most, len(programs))
         choice = draw.randrange(3)
@@ -117,7 +123,7 @@ def test_workers_that_are_killed(folder):
             workers[number].kill()
             workers.pop(number).join()
             names += 1
-            workers[names] = context.Process(target=worker, args=(folder, names, ends_at))
+            workers[names] = context.Process(target=worker, args=(folder, names))
             workers[names].start()
         else:
             for pid in programs if choice == 1 else running(file, "broker"):
@@ -125,8 +131,10 @@ def test_workers_that_are_killed(folder):
                     os.kill(pid, signal.SIGKILL)
                 except ProcessLookupError:
                     pass
+    assert until(lambda: sum(count > 0 for count in signed()) >= 4)
+    (folder / "ends").touch()
     for one in workers.values():
-        one.join(30)
+        one.join(120)
         assert one.exitcode == 0
     for number in range(names + 1):
         told = folder / f"told-{number}"
@@ -234,7 +242,7 @@ def test_deep_lines_shift_no_answer(folder):
         registered(one, device)
         path = str(broker.path_of(one._words))
         with socket.socket(socket.AF_UNIX) as hostile:
-            hostile.settimeout(30)
+            hostile.settimeout(60)
             hostile.connect(path)
             answers = hostile.makefile("rb")
             for depth in (1, 100, 126, 127, 700, 5_000, 20_000):
@@ -314,7 +322,7 @@ def test_hostile_connections(folder):
         path = str(broker.path_of(site._words))
         for hostile in (b"\n", b"garbage\n", b"[]\n", b"\0" * 100 + b"\n", b"{" + b"x" * 70_000, b"{" + b"x" * 70_000 + b"\n", b'{"id":1}\n\n'):
             with socket.socket(socket.AF_UNIX) as stranger:
-                stranger.settimeout(10)
+                stranger.settimeout(60)
                 stranger.connect(path)
                 try:
                     stranger.sendall(hostile)
@@ -416,9 +424,9 @@ def test_an_answer_that_is_cut_off(folder, said):
     for wanted in ([StoreFailed, list] if b"}\n{" not in said else [list, list]):
         calling = threading.Thread(target=call, daemon=True)
         calling.start()
-        calling.join(20)
+        calling.join(60)
         assert not calling.is_alive() and isinstance(found[-1], str if wanted is StoreFailed else wanted), found
-    assert took[0] < 3 and found[-1] == []
+    assert took[0] < 15 and found[-1] == []
     site.close()
 
 
@@ -426,7 +434,7 @@ def test_an_answer_that_is_cut_off(folder, said):
 def test_a_fork_after_a_call(folder, shared):
     """Parent and child both go on, again and again; without `shared` the child has no program, and the parent's goes on."""
     device = Device(EDDSA)
-    site = StoredServer(PROGRAM, str(folder / "site.db"), "example.com", ["https://example.com"], shared=shared, timeout=5)
+    site = StoredServer(PROGRAM, str(folder / "site.db"), "example.com", ["https://example.com"], shared=shared, timeout=20)
     registered(site, device)
     for count in range(1, 21):
         child = os.fork()
@@ -441,7 +449,7 @@ def test_a_fork_after_a_call(folder, shared):
             os._exit(0)
         calling = threading.Thread(target=lambda: signed_in(site, device), daemon=True)
         calling.start()
-        calling.join(20)
+        calling.join(60)
         assert not calling.is_alive() and site.rows()[0].sign_count == count
         assert os.waitpid(child, 0)[1] == 0
     # A child that lives holds nothing that the parent's program waits for.
@@ -451,7 +459,7 @@ def test_a_fork_after_a_call(folder, shared):
         os._exit(0)
     began = time.monotonic()
     site.close()
-    assert time.monotonic() - began < 4 and (shared or not running(folder / "site.db", "program"))
+    assert time.monotonic() - began < 15 and (shared or not running(folder / "site.db", "program"))
     os.kill(child, signal.SIGKILL)
     os.waitpid(child, 0)
 

@@ -348,7 +348,7 @@ class User(threading.Thread):
         self.start()
 
     def run(self):
-        until = time.monotonic() + 10
+        until = time.monotonic() + 60
         while self.key.running is None and time.monotonic() < until:
             time.sleep(0.005)
         self.acts()
@@ -386,7 +386,7 @@ def test_time_is_up(monkeypatch):
         key.presence = None
         began = time.monotonic()
         assert refused(site.register, user_verification=False) == ("timeout", None)
-        assert key.working is None and 0.3 <= time.monotonic() - began < 1
+        assert key.working is None and 0.3 <= time.monotonic() - began < 10
         one.timeout = 60.0
         assert refused(site.register, user_verification=False, timeout=100) == ("timeout", None)
         cable.change = lambda number, packet: None
@@ -398,7 +398,7 @@ def test_time_is_up(monkeypatch):
 
 
 def test_what_the_user_takes_does_not_count():
-    _, _, site = plugged(how={"timeout": 0.4, "pin": lambda retries, wrong: time.sleep(0.5) or PIN})
+    _, _, site = plugged(how={"timeout": 2.0, "pin": lambda retries, wrong: time.sleep(2.1) or PIN})
     with site.client:
         assert site.register().user_verified
 

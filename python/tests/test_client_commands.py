@@ -70,7 +70,7 @@ class Terminal:
 
     def sees(self, text):
         """Waits for this on the terminal."""
-        until = time.monotonic() + 20
+        until = time.monotonic() + 60
         while text not in self.seen:
             ready, _, _ = select.select([self.own], [], [], max(until - time.monotonic(), 0))
             try:

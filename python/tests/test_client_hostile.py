@@ -179,7 +179,7 @@ def test_rubbish(soon):
         with client_of(Rubbish(sends), timeout=0.2) as one:
             began = time.monotonic()
             assert ended(lambda: one.information())[0] == name
-            assert time.monotonic() - began < 2
+            assert time.monotonic() - began < 20
 
 
 def test_rubbish_in_a_channel(soon):

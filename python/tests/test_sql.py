@@ -86,7 +86,7 @@ def test_rows(site, connect):
     options, session = site.authenticate_begin(user=USER)
     assert options["allowCredentials"] == [{"type": "public-key", "id": options["allowCredentials"][0]["id"], "transports": ["usb", "nfc"]}]
     [(number, data, expires_at)] = rows_of(connect, "session")
-    assert number == session and len(session) == 32 and 295 <= expires_at - time.time() <= 300
+    assert number == session and len(session) == 32 and 270 <= expires_at - time.time() <= 300
     assert set(json.loads(data)) == {"challenge", "user", "allow", "user_verification"}
     said = site.authenticate_complete(session, device.sign_in(options))
     [row] = rows_of(connect, "credential")
