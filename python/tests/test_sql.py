@@ -83,10 +83,11 @@ def test_rows(site, connect):
     assert row[:9] == (device.id, USER, device.cose_key(), 0, 0, 0, 0, "usb,nfc", device.aaguid)
     assert before <= row[9] <= time.time() and row[10] is None and rows_of(connect, "session") == []
     assert made.credential.transports == ("usb", "nfc") and rows_of(connect, "version") == [(1,)]
+    begun = int(time.time())
     options, session = site.authenticate_begin(user=USER)
     assert options["allowCredentials"] == [{"type": "public-key", "id": options["allowCredentials"][0]["id"], "transports": ["usb", "nfc"]}]
     [(number, data, expires_at)] = rows_of(connect, "session")
-    assert number == session and len(session) == 32 and 270 <= expires_at - time.time() <= 300
+    assert number == session and len(session) == 32 and begun + 300 <= expires_at <= time.time() + 300
     assert set(json.loads(data)) == {"challenge", "user", "allow", "user_verification"}
     said = site.authenticate_complete(session, device.sign_in(options))
     [row] = rows_of(connect, "credential")
