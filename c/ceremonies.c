@@ -104,8 +104,8 @@ static void registration(void)
         .has_session = true,
         .session = { .challenge = lent(&words[2]), .user = lent(&user), .user_verification = words[0].is_there },
         .response = { lent(&words[5]), lent(&words[6]) },
-        .has_free_id = true,
-        .free_id = lent(&id),
+        .is_free = true,
+        .raw_id = lent(&id),
     };
     for (size_t i = 0; i < words[1].size; i++) {
         enrol.session.offers_es256 |= words[1].data[i] == 7;

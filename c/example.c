@@ -262,8 +262,8 @@ int main(void)
         .accept_none = true,
         .has_session = true,
         .session = { .challenge = bytes(challenge, 32), .user = text("account 7"), .offers_es256 = true, .offers_eddsa = true, .offers_rs256 = true },
-        .has_free_id = true, /* the site looked rawId up in its table, and found none */
-        .free_id = bytes(device_id, sizeof device_id),
+        .is_free = true, /* the site looked rawId up in its table, and found none */
+        .raw_id = bytes(device_id, sizeof device_id),
     };
     registration.response.object = bytes(object, device_object(object));
     registration.response.client_data = bytes(client_data, device_client_data(client_data, "webauthn.create", challenge));

@@ -164,16 +164,18 @@ static void level3(passkey_registration_call call)
     }
 }
 
-/* A free id is handed in, and the response attests another: each that is not the same, and before a room that is full. */
+/* The response attests another id than is handed in: each that is not the same, found free or not, and before a room that is full. */
 static void other_ids(passkey_registration_call call)
 {
     static const char *const others[] = { "", "i", "ID", "id ", "di" };
     static uint8_t object[1024];
     call.response.object = lent(object, attestation_object(object, false, 0x41, id, &es256, lent(NULL, 0)));
     for (size_t i = 0; i < sizeof others / sizeof *others; i++) {
-        call.free_id = lent(others[i], strlen(others[i]));
-        for (call.is_full = 0; call.is_full < 2; call.is_full++)
+        call.raw_id = lent(others[i], strlen(others[i]));
+        for (int which = 0; which < 4; which++) {
+            call.is_full = which & 1, call.is_free = which >> 1;
             MUST(registration(&call, PASSKEY_FORMAT_NONE, 0) == PASSKEY_REGISTRATION_OTHER_ID);
+        }
     }
 }
 
@@ -192,8 +194,8 @@ static void registrations(void)
         .has_session = 1,
         .session = { .challenge = lent(challenge, 32), .user = user, .offers_es256 = 1, .offers_eddsa = 1, .offers_rs256 = 1 },
         .response = { .client_data = lent(client, client_data(client, "create", origin, 0)) },
-        .has_free_id = 1,
-        .free_id = id,
+        .is_free = 1,
+        .raw_id = id,
     };
     struct answers accepted_set = { 0, PASSKEY_ACCEPTED }, accepted_clear = { PASSKEY_ACCEPTED, 0 };
 #define SET(flag, is_packed, key, answer) \
@@ -208,7 +210,7 @@ static void registrations(void)
     SET(session.offers_es256, false, es256, PASSKEY_REGISTRATION_ALGORITHM_NOT_OFFERED);
     SET(session.offers_eddsa, false, eddsa, PASSKEY_REGISTRATION_ALGORITHM_NOT_OFFERED);
     SET(session.offers_rs256, false, rs256, PASSKEY_REGISTRATION_ALGORITHM_NOT_OFFERED);
-    SET(has_free_id, false, es256, PASSKEY_REGISTRATION_CREDENTIAL_REGISTERED);
+    SET(is_free, false, es256, PASSKEY_REGISTRATION_CREDENTIAL_REGISTERED);
     SET(has_verified, true, es256, PASSKEY_REGISTRATION_BAD_STATEMENT);
     CLEAR(session.user_verification, PASSKEY_REGISTRATION_USER_NOT_VERIFIED);
     CLEAR(is_full, PASSKEY_REGISTRATION_NO_ROOM);

@@ -161,7 +161,7 @@ static void flags_clear(void)
     MUST(assertion(&call) == PASSKEY_SESSION_NOT_OPEN);
     passkey_registration_call enrol;
     memset(&enrol, 0, sizeof enrol);
-    enrol.session.challenge = enrol.session.user = enrol.free_id = nowhere;
+    enrol.session.challenge = enrol.session.user = nowhere;
     enrol.party.origins = NULL;
     enrol.verified.key.x = enrol.verified.message = enrol.verified.signature = nowhere;
     MUST(registration(&enrol) == PASSKEY_REGISTRATION_SESSION_NOT_OPEN);

@@ -86,8 +86,8 @@ int main(void)
         .accept_none = true,
         .has_session = true,
         .session = { .challenge = bytes(challenge, 32), .user = text("account 7"), .offers_es256 = true },
-        .has_free_id = true,
-        .free_id = bytes(device_id, sizeof device_id),
+        .is_free = true,
+        .raw_id = bytes(device_id, sizeof device_id),
     };
     enrol.response.object = bytes(object, device_object(object));
     enrol.response.client_data = bytes(client_data, device_client_data(client_data, "webauthn.create", challenge));

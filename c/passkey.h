@@ -29,6 +29,9 @@
  * and new answers leave it as it is. The library's calls have it in their names (passkey_assertion_5), so that a program
  * built with the header of another ABI does not link, and in libpasskey.so.5. A host that does not read this header, and
  * names those symbols by itself, has to compare passkey_abi_version() with the number that it was written for.
+ *
+ * PASSKEY_VERSION is the version of this header, PASSKEY_VERSION_NUMBER the same as a number: major * 10,000 + minor * 100 +
+ * patch. A version before a release, as 1.0.0-rc1, has the release's number. passkey_version() is the library's.
  */
 #ifndef PASSKEY_H
 #define PASSKEY_H
@@ -41,6 +44,8 @@
 extern "C" {
 #endif
 
+#define PASSKEY_VERSION "0.1.0"
+#define PASSKEY_VERSION_NUMBER 100
 #define PASSKEY_ABI_VERSION 5
 #define passkey_assertion passkey_assertion_5
 #define passkey_registration passkey_registration_5
@@ -52,8 +57,10 @@ extern "C" {
 #define passkey_key_to_cose passkey_key_to_cose_5
 #define passkey_refusal_text passkey_refusal_text_5
 
-/* Each call takes at most so many bytes of its thread's stack, whatever it is handed. */
+/* A call takes at most so many bytes of its thread's stack, whatever it is handed: passkey_assertion and
+ * passkey_registration, and each other one. */
 #define PASSKEY_STACK_BYTES 32768
+#define PASSKEY_OTHER_STACK_BYTES 4096
 
 #define PASSKEY_ES256 (-7) /* ECDSA over P-256 with SHA-256 */
 #define PASSKEY_EDDSA (-8) /* EdDSA over Ed25519 */
@@ -127,8 +134,7 @@ enum {
     PASSKEY_REGISTRATION_NO_ROOM = 16,
     PASSKEY_REGISTRATION_CROSS_ORIGIN = 17,
     PASSKEY_REGISTRATION_WRONG_TOP_ORIGIN = 18,
-    PASSKEY_REGISTRATION_OTHER_ID = 19, /* free_id was handed in, and the response attests another id: its rawId is not
-                                           the attested credential's */
+    PASSKEY_REGISTRATION_OTHER_ID = 19, /* the response attests another id than raw_id */
 
     /* a member that is out of its limits */
     PASSKEY_LIMIT_RP_ID = 101,             /* party.rp_id: UTF-8 */
@@ -274,12 +280,10 @@ typedef struct passkey_registration_call {
     uint8_t has_session; /* a session is open for registration */
     passkey_registration_session session;
     passkey_registration_response response;
-    uint8_t has_free_id;   /* the host looked an id up, and no credential has it, retired or not */
-    passkey_bytes free_id; /* that id: rawId of the answer. A response that attests another is refused, by
-                              PASSKEY_REGISTRATION_OTHER_ID; where has_free_id is 0, by
-                              PASSKEY_REGISTRATION_CREDENTIAL_REGISTERED */
-    uint8_t is_full;       /* there is no room for another credential */
-    uint8_t has_verified;  /* the host verified a signature, of self attestation */
+    uint8_t is_free;      /* the host looked raw_id up, and no credential has it, retired or not */
+    passkey_bytes raw_id; /* rawId of the answer: a response that attests another id is refused */
+    uint8_t is_full;      /* there is no room for another credential */
+    uint8_t has_verified; /* the host verified a signature, of self attestation */
     passkey_verified verified;
 } passkey_registration_call;
 
@@ -357,6 +361,9 @@ size_t passkey_refusal_text(uint32_t is_registration, uint32_t answer, uint8_t *
 
 /* PASSKEY_ABI_VERSION of the library. */
 uint32_t passkey_abi_version(void);
+
+/* PASSKEY_VERSION_NUMBER of the library. Another one than the header's may be called where the ABI is the same. */
+uint32_t passkey_version(void);
 
 #ifdef __cplusplus
 }

@@ -51,8 +51,8 @@ static void registration(const struct sizes *sizes)
         .has_session = true,
         .session = { .challenge = lent(challenge, 32), .user = sizes->user, .offers_es256 = true },
         .response = { lent(object, size), lent(client, client_size) },
-        .has_free_id = true,
-        .free_id = sizes->id,
+        .is_free = true,
+        .raw_id = sizes->id,
     };
     MUST(sizes->client_data == 0 || client_size == sizes->client_data);
     MUST(passkey_registration(&call, &out) == PASSKEY_ACCEPTED);

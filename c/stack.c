@@ -1,8 +1,8 @@
 /* How much of its thread's stack each call of passkey.h takes: stack [BYTES]. Each call is made in a thread whose stack has so
  * many bytes (65,536, or the least that the system has), of responses whose client data nest objects and arrays, and of CBOR that
- * does; below the stack lie pages that can't be written. Prints the most that each call took, and fails where one took more than PASSKEY_STACK_BYTES or ended the
- * process. With PORTABLE, and PASSKEY_STATIC_MEMORY, passkey.c is a part of this file, and the same is asked of the
- * module's own stack. */
+ * does; below the stack lie pages that can't be written. Prints the most that each call took, and fails where one took more than
+ * PASSKEY_STACK_BYTES, or PASSKEY_OTHER_STACK_BYTES, or ended the process. With PORTABLE, and PASSKEY_STATIC_MEMORY, passkey.c is
+ * a part of this file, and the same is asked of the module's own stack. */
 #define _GNU_SOURCE
 #ifdef PORTABLE
 #include "passkey.c"
@@ -77,8 +77,8 @@ static void respond(size_t depth, bool are_objects, uint8_t profile, bool is_pac
         .session = { .challenge = lent(challenge, 32), .user = lent("user", 4), .offers_es256 = 1, .attestation = 1 },
         .response = { lent(object, attestation_object(object, is_packed, (uint8_t)(flags | PASSKEY_FLAG_AT), bytes, &es256, outputs)),
                       client_nested(client[1], "create", depth, are_objects) },
-        .has_free_id = 1,
-        .free_id = bytes,
+        .is_free = 1,
+        .raw_id = bytes,
     };
     verify_registration(&enrol);
     kept(&enrol.verified, is_packed);
@@ -168,6 +168,11 @@ static bool abi_version(void)
     return passkey_abi_version() == PASSKEY_ABI_VERSION;
 }
 
+static bool version(void)
+{
+    return passkey_version() == PASSKEY_VERSION_NUMBER;
+}
+
 static const struct {
     const char *name;
     bool (*call)(void);
@@ -183,6 +188,7 @@ static const struct {
     { "passkey_key_to_cose", key_to_cose },
     { "passkey_refusal_text", refusal_text },
     { "passkey_abi_version", abi_version },
+    { "passkey_version", version },
 };
 enum { CALLS = sizeof calls / sizeof calls[0] };
 
@@ -308,7 +314,8 @@ int main(int count, char **words)
             measure(call, true, "nothing", 0);
     bool is_good = true;
     for (size_t call = 0; call < CALLS; call++) {
-        is_bad[call] = is_bad[call] || most[call].c > PASSKEY_STACK_BYTES || most[call].module > PASSKEY_STACK_BYTES;
+        const size_t bytes = call < 2 ? PASSKEY_STACK_BYTES : PASSKEY_OTHER_STACK_BYTES;
+        is_bad[call] = is_bad[call] || most[call].c > bytes || most[call].module > bytes;
         is_good = is_good && !is_bad[call];
         printf("%s: %u bytes of stack, %u where nothing nests%s", calls[call].name, (unsigned)most[call].c, (unsigned)flat[call].c,
                is_bad[call] ? ", TOO MANY" : "");

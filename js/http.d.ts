@@ -7,6 +7,9 @@ export interface SiteRequest {
   readonly method?: string;
   readonly url?: string;
   readonly headers: { readonly "content-type"?: string; readonly cookie?: string };
+  /** The visitor's address as Express has it, by its `trust proxy`. */
+  readonly ip?: string;
+  readonly socket?: { readonly remoteAddress?: string };
   on(name: string, listener: (...told: any[]) => void): unknown;
   /** What the host has read of the body, if it has: an object, its text or its bytes. */
   readonly body?: unknown;
@@ -20,6 +23,18 @@ export interface SiteResponse {
   writeHead(status: number, headers: Record<string, string>): { end(body: any): unknown };
 }
 
+/** A token bucket for each address: `burst` requests at once, and `rate` a second from then on. An address of IPv6 counts by its first 64
+ *  bits, which one visitor has. This machine's own addresses are not limited: those are a proxy's, which has limits of its own. */
+export class RateLimit {
+  /** `rate` is 5, `burst` 50, and at most 10,000 `addresses` are kept, in this process; `clock` gives milliseconds. */
+  constructor(options?: { rate?: number; burst?: number; addresses?: number; clock?: () => number });
+  readonly rate: number;
+  readonly burst: number;
+  readonly addresses: number;
+  /** Counts a request: the seconds after which the address may ask again, 0 where it may ask now. */
+  wait(address: string | undefined): number;
+}
+
 export interface PasskeysOptions {
   /** What signs the cookies: a text of 32 characters or more, the same in all processes of a site. A new one signs everybody out. */
   secret: string;
@@ -31,6 +46,9 @@ export interface PasskeysOptions {
   fresh?: number;
   /** Where sign-ins that ended are kept: those of the server. */
   signOuts?: SignOuts;
+  /** What limits how often an address may post: a `RateLimit`, or what answers the seconds to wait; `false` for nothing. Of one that posts
+   *  too often the answer is 429, with Retry-After. */
+  rateLimit?: { wait(address: string | undefined): number | Promise<number> } | false;
   /** What gets each error that is not the visitor's: `console.error`. */
   logger?: (error: unknown) => void;
 }

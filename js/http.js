@@ -4,7 +4,10 @@ import { createHmac, randomBytes, timingSafeEqual } from "node:crypto";
 import { readFileSync } from "node:fs";
 import { BadInput, Refused, RowDamaged, logTo } from "./errors.js";
 import { fromText, toText } from "./forms.js";
+import { RateLimit } from "./rate_limit.js";
 import { checkFlag, checkFunction, checkWhole, isBytes, optionsIn, shown } from "./limits.js";
+
+export { RateLimit } from "./rate_limit.js";
 
 /** The most bytes of a request's body. */
 export const MAX_BODY = 128 * 1024;
@@ -15,6 +18,14 @@ const BROWSER = readFileSync(new URL("./browser.js", import.meta.url));
 
 // The visitor is to sign in first.
 class SignInFirst extends Error {}
+
+// The visitor's address asks too often, and may ask again after these seconds.
+class TooOften extends Error {
+  constructor(wait) {
+    super("too many requests: try again later");
+    this.wait = wait;
+  }
+}
 
 // The host has made it impossible to answer.
 class HostFault extends Error {}
@@ -161,7 +172,7 @@ class SignIns {
   }
 }
 
-const OPTIONS = ["secret", "secure", "logger", "lifetime", "fresh", "signOuts"];
+const OPTIONS = ["secret", "secure", "logger", "lifetime", "fresh", "signOuts", "rateLimit"];
 
 function optionsOf(server, options) {
   for (const name of ["registerBegin", "registerComplete", "authenticateBegin", "authenticateComplete", "rows", "abandon", "delete"])
@@ -169,13 +180,15 @@ function optionsOf(server, options) {
       throw new BadInput("passkeys is over a server that keeps rows, and this one does not: write a StoredServer, or new SqlServer(new Server(..), pool)");
   const own = optionsIn(options, "passkeys", OPTIONS);
   const { secure = !server.origins.every((origin) => origin.startsWith("http://")), signOuts = server.signOuts, logger = console.error, lifetime = 86_400, fresh = 300 } = own;
+  const { rateLimit = new RateLimit() } = own;
+  if (rateLimit !== false) checkFunction(rateLimit?.wait, "rateLimit.wait", "(address) => seconds");
   for (const [name, as] of [["add", "(number, until) => .."], ["has", "(number, at) => true or false"]]) checkFunction(signOuts?.[name], `signOuts.${name}`, as);
-  return { secret: own.secret, secure: checkFlag(secure, "secure"), signOuts, lifetime, fresh, logger: checkFunction(logger, "logger", "(error) => console.error(error)") };
+  return { secret: own.secret, secure: checkFlag(secure, "secure"), signOuts, lifetime, fresh, rateLimit, logger: checkFunction(logger, "logger", "(error) => console.error(error)") };
 }
 
 /** What answers the requests of pages, for `createServer` and for `app.use`. */
 export function passkeys(server, options) {
-  const { secret, secure, logger, ...how } = optionsOf(server, options), cookies = new Cookies(secret, secure), signIns = new SignIns(server, cookies, how);
+  const { secret, secure, logger, rateLimit, ...how } = optionsOf(server, options), cookies = new Cookies(secret, secure), signIns = new SignIns(server, cookies, how);
 
   async function beginsRegistration(request, body) {
     const name = nameIn(body), by = await signIns.standing(request);
@@ -220,13 +233,21 @@ export function passkeys(server, options) {
     "/register/begin": beginsRegistration, "/register/complete": registers, "/sign-in/begin": beginsSignIn, "/sign-in/complete": signsIn, "/sign-out": signsOut,
   }));
 
+  async function checkRate(request) {
+    const wait = rateLimit === false ? 0 : await rateLimit.wait(request.ip ?? request.socket?.remoteAddress);
+    if (!Number.isSafeInteger(wait) || wait < 0) throw new HostFault(`rateLimit.wait answered ${shown(wait)}: it answers whole seconds, 0 for none`);
+    if (wait > 0) throw new TooOften(wait);
+  }
+
   async function answerTo(act, request) {
     try {
+      await checkRate(request);
       const [told, ...set] = await act(request, await bodyOf(request));
       return [200, told, set];
     } catch (error) {
       if (error instanceof Refused) return [403, { error: error.message, refusal: error.name }, []];
       if (error instanceof BadInput) return [400, { error: error.message }, []];
+      if (error instanceof TooOften) return [429, { error: error.message }, [], { "Retry-After": String(error.wait) }];
       if (error instanceof SignInFirst) return [401, { error: error.message }, []];
       logTo(logger, error);
       if (error instanceof RowDamaged) return [500, { error: "the site's record of this passkey is damaged" }, []];
@@ -237,15 +258,15 @@ export function passkeys(server, options) {
   async function listener(request, response, next) {
     checkRequest(request);
     const { method } = request, [path] = request.url.split("?");
-    const send = (status, type, body, set = []) => {
+    const send = (status, type, body, set = [], more = {}) => {
       if (response.headersSent) return; // the host has answered meanwhile
       if (set.length > 0) response.appendHeader("Set-Cookie", set);
-      response.writeHead(status, { "Content-Type": type, "Cache-Control": "no-store" }).end(body);
+      response.writeHead(status, { "Content-Type": type, "Cache-Control": "no-store", ...more }).end(body);
     };
     if (method === "GET" && path === "/browser.js") return send(200, "text/javascript", BROWSER);
     if (method !== "POST" || !acts.has(path)) return void (next ? next() : send(404, "application/json", '{"error":"there is no such page"}'));
-    const [status, told, set] = await answerTo(acts.get(path), request);
-    send(status, "application/json", JSON.stringify(told), set);
+    const [status, told, set, more] = await answerTo(acts.get(path), request);
+    send(status, "application/json", JSON.stringify(told), set, more);
   }
 
   async function signedIn(request) {

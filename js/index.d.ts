@@ -51,7 +51,7 @@ export interface StoredServerOptions extends ServerOptions {
   maxCredentials?: number;
   /** Whether the file must be there: false. */
   isExisting?: boolean;
-  /** The number of a session that is known to have begun: an older copy of the file is refused, and none is made. */
+  /** What `known` was: each copy of the file that lacks that change is refused, and none is made. */
   atLeast?: number;
   /** Whether each commit flushes twice, for disks that may leave any bytes of a write that is cut off: false. */
   wary?: boolean;
@@ -71,12 +71,15 @@ export interface SiteStatus {
   readonly credentials: number;
   readonly sessions: number;
   readonly next_session: number;
+  readonly known: number;
   readonly commits: number;
   readonly last_commit_microseconds: number;
   readonly sign_ins: number;
   readonly registrations: number;
   readonly sign_ins_refused: Readonly<Record<string, number>>;
   readonly registrations_refused: Readonly<Record<string, number>>;
+  /** Lines of the log that could not be written. */
+  readonly lost_log_lines: number;
 }
 
 /** A relying party over the SQLite file of the proved program passkey-site, which runs beside this process and ends with it. One
@@ -118,6 +121,8 @@ export class StoredServer {
   rows(user?: Uint8Array | null): Promise<KeptCredential[]>;
   /** How the site is, for a health check and for metrics. */
   status(): Promise<SiteStatus>;
+  /** What tells copies of the file that lack the last change that this process was told, for `atLeast`. */
+  readonly known: number;
   /** Copies the file to a path of the program's machine at which nothing stands: a whole file of one moment, on the disk once this
    *  resolves. Calls wait meanwhile. Rejected by `BadInput` where it can't be made; then there is none. */
   backup(path: string): Promise<void>;

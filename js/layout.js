@@ -61,7 +61,7 @@ export const REGISTRATION_RESPONSE = struct({ object: BYTES, client_data: BYTES 
 
 export const REGISTRATION_CALL = struct({
   party: PARTY, accept_none: U8, accept_self: U8, has_session: U8, session: REGISTRATION_SESSION,
-  response: REGISTRATION_RESPONSE, has_free_id: U8, free_id: BYTES, is_full: U8, has_verified: U8, verified: VERIFIED,
+  response: REGISTRATION_RESPONSE, is_free: U8, raw_id: BYTES, is_full: U8, has_verified: U8, verified: VERIFIED,
 });
 
 export const REGISTRATION_OUT = struct({

@@ -78,20 +78,22 @@ export function serverOver(moduleOf, randomBytes, isValid) {
       const parts = bytesIn(response, REGISTRATION_MEMBERS), transports = transportsIn(transportsOf(response));
       const isTaken = checkFlag(await isRegistered(parts.rawId.slice()), "what isRegistered answered");
       return this.#registered(session, { attestationObject: parts.attestationObject, clientData: parts.clientDataJSON },
-                              { freeId: isTaken ? null : parts.rawId, isFull: checkFlag(isFull, "isFull"), transports });
+                              { rawId: parts.rawId, isRegistered: isTaken, isFull: checkFlag(isFull, "isFull"), transports });
     }
 
     async registerCompleteParts(session, parts, how) {
       const { attestationObject, clientData } = optionsIn(parts, "registerCompleteParts", ["attestationObject", "clientData"]);
-      const { freeId = null, isFull = false, transports = [] } = optionsIn(how, "registerCompleteParts", ["freeId", "isFull", "transports"]);
+      const { rawId, isRegistered, isFull = false, transports = [] } =
+        optionsIn(how, "registerCompleteParts", ["rawId", "isRegistered", "isFull", "transports"]);
       const response = { attestationObject: checkBytes(attestationObject, "attestationObject"),
                          clientData: checkBytes(clientData, "clientData") };
-      return this.#registered(session, response, { freeId: freeId === null ? null : checkBytes(freeId, "freeId"), isFull: checkFlag(isFull, "isFull"), transports });
+      return this.#registered(session, response, { rawId: checkBytes(rawId, "rawId"), isRegistered: checkFlag(isRegistered, "isRegistered"),
+                                                   isFull: checkFlag(isFull, "isFull"), transports });
     }
 
-    async #registered(session, response, { freeId, isFull, transports }) {
+    async #registered(session, response, { rawId, isRegistered, isFull, transports }) {
       const module = moduleOf(), begun = sessionOf(session, RegistrationSession), user = begun?.user.slice();
-      const image = registrationImage(this.#party, begun, response, { freeId, isFull });
+      const image = registrationImage(this.#party, begun, response, { rawId, isRegistered, isFull });
       const { told, answer } = await this.#judged(module, true, image, judgeRegistration, BAD_STATEMENT,
                                                  (at) => askedOfRegistration(module, at, this.#party, begun, response));
       checkAnswer(module, true, answer);

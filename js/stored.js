@@ -76,14 +76,16 @@ function toldOf(accepted) {
 /** A relying party over the file of the proved program. */
 export class StoredServer {
   #program;
+  #known;
 
   constructor(program, file, rpId, origins, options) {
     this.origins = checkParty(rpId, origins);
     const how = partyOptionsIn(options, "StoredServer", { rpId, isValid, more: OWN });
-    const { rpName, verify, expire = EXPIRE, timeout = 30_000, logger = console.error } = how, words = wordsOf(program, file, rpId, this.origins, how);
+    const { rpName, verify, expire = EXPIRE, timeout = 30_000, logger = console.error, atLeast = 0 } = how, words = wordsOf(program, file, rpId, this.origins, how);
     this.rpId = rpId;
     this.rpName = rpName;
     this.verify = verify;
+    this.#known = atLeast;
     checkWhole(timeout, "timeout, in milliseconds,", 1);
     checkFunction(logger, "logger", "(line) => console.error(line)");
     const key = JSON.stringify(words);
@@ -102,8 +104,13 @@ export class StoredServer {
 
   async #ask(act, members = {}) {
     const answer = await this.#program.ask(act, members);
-    if (!Object.hasOwn(answer, "error")) return answer;
-    throw new BadInput(String(answer.error));
+    if (Object.hasOwn(answer, "error")) throw new BadInput(String(answer.error));
+    this.#known = Math.max(this.#known, answer.known ?? 0);
+    return answer;
+  }
+
+  get known() {
+    return this.#known;
   }
 
   // What was accepted. The program tells the signature that is asked for; where it is valid it is handed back, and else the program
@@ -207,7 +214,8 @@ export class StoredServer {
   }
 
   async status() {
-    return (await this.#ask("status")).status;
+    const { status, known } = await this.#ask("status");
+    return { ...status, known };
   }
 
   async backup(path) {

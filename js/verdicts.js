@@ -54,7 +54,7 @@ function assertionResponse(image, at, { rawId, user, authData, signature, client
 }
 
 /** A registration to be judged, in the form of `passkey_registration_call`. */
-export function registrationImage(of, session, response, { freeId, isFull }) {
+export function registrationImage(of, session, response, { rawId, isRegistered, isFull }) {
   const image = new Image(REGISTRATION_CALL.sizeOf);
   party(image, REGISTRATION_CALL.party, of);
   image.flag(REGISTRATION_CALL.accept_none, of.acceptNone);
@@ -72,10 +72,8 @@ export function registrationImage(of, session, response, { freeId, isFull }) {
     image.flag(at + REGISTRATION_SESSION.attestation, session.attestation);
   }
   registrationResponse(image, REGISTRATION_CALL.response, response);
-  if (freeId !== null) {
-    image.flag(REGISTRATION_CALL.has_free_id, true);
-    image.lend(REGISTRATION_CALL.free_id, freeId);
-  }
+  image.flag(REGISTRATION_CALL.is_free, !isRegistered);
+  image.lend(REGISTRATION_CALL.raw_id, rawId);
   image.flag(REGISTRATION_CALL.is_full, isFull);
   return image;
 }

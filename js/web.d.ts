@@ -179,9 +179,9 @@ export class Server {
    *  a credential has the id, to anyone, retired or not. Rejected by `Refused`, `BadInput` or `NoMemory`. */
   registerComplete(session: RegistrationSession | null, response: unknown,
                    how: { isRegistered: (id: Uint8Array) => Awaitable<boolean>; isFull?: boolean }): Promise<Registered>;
-  /** The same of the response's parts. `freeId` is an id that no credential has; each other one counts as registered. */
+  /** The same of the response's parts. `rawId` is the response's, and `isRegistered` says whether a credential has it. */
   registerCompleteParts(session: RegistrationSession | null, parts: { attestationObject: Uint8Array; clientData: Uint8Array },
-                        how?: { freeId?: Uint8Array | null; isFull?: boolean; transports?: readonly string[] }): Promise<Registered>;
+                        how: { rawId: Uint8Array; isRegistered: boolean; isFull?: boolean; transports?: readonly string[] }): Promise<Registered>;
   /** The options for the page, PublicKeyCredentialRequestOptionsJSON, and the session that the site keeps. */
   authenticateBegin(options?: SignInOptions): { options: object; session: SignInSession };
   /** Who signed in, of an AuthenticationResponseJSON. `credential(id)` answers the site's credential of the id, or null; it may have

@@ -13,7 +13,7 @@ enum { MOST_CHARACTERS = 65536, COSE_ROOM = 1024, TEXT_ROOM = 128, FEW = 16, OF_
 
 /* What is lent of a sign-in, and of a registration. After it come origins, those of pages that may frame, then the ids of a list. */
 enum { ACCOUNT, HANDLE, MAY_BE_NONE, RP_ID = MAY_BE_NONE, CHALLENGE, ID, USER, X, Y, RAW_ID, CLIENT_DATA, AUTH_DATA, SIGNATURE, OF_ASSERTION };
-enum { FREE_ID, PARTY, NONCE, HOLDER, CREATED, ATTESTATION_OBJECT, OF_REGISTRATION };
+enum { NEW_ID, PARTY, NONCE, HOLDER, CREATED, ATTESTATION_OBJECT, OF_REGISTRATION };
 
 typedef struct {
     int8_t digits[256]; /* of base64url; -1 of each other byte */
@@ -173,9 +173,9 @@ static PyObject *registration(PyObject *Py_UNUSED(module), PyObject *words)
     held all = {0};
     passkey_registration_out out;
     PyObject *verify, *lists[3];
-    unsigned char profile; int accept_none, accept_self, has_session, verification, es256, eddsa, rs256, conditional, attestation, is_full;
-    if (!PyArg_ParseTuple(words, "O(bpppppppppp)OOO", &verify, &profile, &accept_none, &accept_self, &has_session, &verification, &es256, &eddsa,
-            &rs256, &conditional, &attestation, &is_full, &lists[0], &lists[1], &lists[2]) || !lend(&all, lists, 3, OF_REGISTRATION, FREE_ID + 1)) return released(&all, NULL);
+    unsigned char profile; int accept_none, accept_self, has_session, verification, es256, eddsa, rs256, conditional, attestation, is_full, is_free;
+    if (!PyArg_ParseTuple(words, "O(bppppppppppp)OOO", &verify, &profile, &accept_none, &accept_self, &has_session, &verification, &es256, &eddsa,
+            &rs256, &conditional, &attestation, &is_full, &is_free, &lists[0], &lists[1], &lists[2]) || !lend(&all, lists, 3, OF_REGISTRATION, 0)) return released(&all, NULL);
     size_t origins = (size_t)PyTuple_Size(lists[1]), pages = (size_t)PyTuple_Size(lists[2]);
     const passkey_bytes *part = all.items, *listed = part + OF_REGISTRATION;
     passkey_registration_call call = {
@@ -183,7 +183,7 @@ static PyObject *registration(PyObject *Py_UNUSED(module), PyObject *words)
         .accept_none = (uint8_t)accept_none, .accept_self = (uint8_t)accept_self, .has_session = (uint8_t)has_session,
         .session = {part[NONCE], part[HOLDER], (uint8_t)verification, (uint8_t)es256, (uint8_t)eddsa, (uint8_t)rs256, (uint8_t)conditional, (uint8_t)attestation},
         .response = {part[ATTESTATION_OBJECT], part[CREATED]},
-        .has_free_id = all.objects[FREE_ID] != Py_None, .free_id = part[FREE_ID], .is_full = (uint8_t)is_full};
+        .is_free = (uint8_t)is_free, .raw_id = part[NEW_ID], .is_full = (uint8_t)is_full};
     uint32_t answer;
     PROVED(answer = passkey_registration(&call, &out));
     if (answer == PASSKEY_REGISTRATION_BAD_STATEMENT) {
@@ -303,6 +303,7 @@ static int prepare(PyObject *module)
     const char *digits = "ABCDEFGHIJKLMNOPQRSTUVWXYZabcdefghijklmnopqrstuvwxyz0123456789-_";
     memset(state->digits, -1, sizeof state->digits);
     for (int8_t at = 0; at < 64; at++) state->digits[(uint8_t)digits[at]] = at;
+    if (PyModule_AddIntConstant(module, "VERSION_NUMBER", (long)passkey_version()) < 0) return -1;
     return PyModule_AddIntConstant(module, "ABI_VERSION", (long)passkey_abi_version());
 }
 

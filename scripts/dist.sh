@@ -1,5 +1,32 @@
 # What dist/ holds of a program that was built here. Sourced by ./test and ./dev release, after sources.sh.
 
+# Which version dist/ is of, as lines of dist/MANIFEST: that of the tag on HEAD, or one of development. release_lines [--development]
+# fails, and says why, where the tree isn't HEAD's, or a tag is another version's; --development allows both. What lies in dist/ doesn't
+# count: nothing of it is built from.
+release_lines() {
+    local version changes tags state="of development"
+    version=$(cat "$top/VERSION")
+    if [ "${1-}" != --development ]; then
+        changes=$(git -C "$top" status --porcelain -- . ':!dist') && tags=$(git -C "$top" tag --points-at HEAD) || return
+        if [ -n "$changes" ]; then
+            printf 'the tree has what HEAD has not; --development builds from it:\n%s\n' "$changes" >&2
+            return 1
+        fi
+        if [ -n "$tags" ] && [ "$tags" != "v$version" ]; then
+            echo "HEAD has the tag $(xargs <<< "$tags"), and VERSION is $version" >&2
+            return 1
+        fi
+        [ -z "$tags" ] || state="tag $tags"
+    fi
+    printf 'release version %s\nrelease state %s\n' "$version" "$state"
+}
+
+# Signs a file by a private key of OpenSSH, or by a public one whose private one an agent has, into FILE.sig: signed FILE KEY.
+signed() {
+    rm -f "$1.sig"
+    ssh-keygen -q -Y sign -n garvoeng -f "$2" "$1"
+}
+
 # The kit's own tools, by which programs are linked: tool NAME ARGUMENT..
 tool() {
     local name=$1
@@ -57,14 +84,21 @@ all_made_into() {
     done
 }
 
-# Packs the package for JavaScript into a folder, with this file as its passkey.wasm, and prints its lines of dist/MANIFEST: packed_into
-# FOLDER MODULE. Other versions of npm and Node may compress the same files to other bytes.
+# Writes the licences of what is linked into a folder, and prints their lines of dist/MANIFEST: notices_into FOLDER.
+notices_into() {
+    local name
+    "$top/scripts/notice" "$1" "${programs[@]/ /=}" libpasskey=passkey_exports || return
+    for name in NOTICE garvoeng.cdx.json; do echo "$name sha256 $(digest "$1/$name")"; done
+}
+
+# Packs the package for JavaScript into a folder, with these files as its passkey.wasm and NOTICE, and prints its lines of
+# dist/MANIFEST: packed_into FOLDER MODULE NOTICE. Other versions of npm and Node may compress the same files to other bytes.
 packed_into() {
     local copy name status=1
     copy=$(mktemp -d) || return
     name=garvoeng-$(cat "$top/VERSION").tgz
-    if mkdir -p "$copy/dist/portable" && cp "$2" "$copy/dist/portable/passkey.wasm" &&
-        tar -C "$top" --exclude=node_modules --exclude=js/cjs --exclude=js/LICENSE --exclude=js/passkey.wasm -cf - js LICENSE | tar -C "$copy" -xf - &&
+    if mkdir -p "$copy/dist/portable" && cp "$2" "$copy/dist/portable/passkey.wasm" && cp "$3" "$copy/dist/NOTICE" &&
+        tar -C "$top" --exclude=node_modules --exclude=js/cjs --exclude=js/LICENSE --exclude=js/NOTICE --exclude=js/passkey.wasm -cf - js LICENSE | tar -C "$copy" -xf - &&
         (cd "$copy/js" && umask 022 && HOME=$copy npm_config_cache=$copy/cache npm pack --offline --silent --pack-destination "$1" > /dev/null) && [ -f "$1/$name" ]; then
         echo "$name sha256 $(digest "$1/$name")"
         echo "$name size $(stat -c %s "$1/$name")"
@@ -73,4 +107,13 @@ packed_into() {
     fi
     rm -rf "$copy"
     return "$status"
+}
+
+# Makes the inspector into a folder, with this file as its module, and prints its lines of dist/MANIFEST: inspector_into FOLDER MODULE.
+# Another version of Node may pack the module to other bytes.
+inspector_into() {
+    node "$top/inspector/make.mjs" "$2" "$1/inspector.html" || return
+    echo "inspector.html sha256 $(digest "$1/inspector.html")"
+    echo "inspector.html size $(stat -c %s "$1/inspector.html")"
+    echo "inspector.html tools Node $(node --version)"
 }

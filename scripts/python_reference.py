@@ -8,7 +8,7 @@ HEAD = "<!-- ./dev pages writes this page from the sources. -->\n"
 MODULES = {
     "garvoeng": ("server", "stored", "records", "errors", "library", "limits"),
     "garvoeng.sql": ("sql",), "garvoeng.flask": ("flask",), "garvoeng.django": ("django/__init__", "django/backends", "django/models"),
-    "garvoeng.client": ("client", "client_program", "hid"), "garvoeng.forms": ("forms",), "garvoeng.move": ("move",), "garvoeng.signatures": ("signatures",),
+    "garvoeng.client": ("client", "client_program", "hid"), "garvoeng.explain": ("explain",), "garvoeng.forms": ("forms",), "garvoeng.move": ("move",), "garvoeng.signatures": ("signatures",),
 }
 
 

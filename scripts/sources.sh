@@ -2,7 +2,7 @@
 # $top is the tree.
 
 # The programs that are handed out: the name in dist/, and the crate.
-programs=("passkey passkey_app" "passkey-site site_program" "passkey-client client_program" "softkey softkey")
+programs=("passkey passkey_main" "passkey-site site_main" "passkey-client client_main" "softkey key_main")
 
 # The lines of crates.txt of a crate and of those that it stands on, lowest first: crates_of NAME.
 crates_of() {
@@ -35,7 +35,7 @@ machine_sources() {
     local program
     {
         for program in "${programs[@]}" "libpasskey passkey_exports"; do sources_of "${program#* }"; done
-        cat "$top"/c/{heap.c,library} "$top"/c/machines/{heap.c,system.c,portable.c,wasm.h,retarget.py,one_file.py} \
+        cat "$top"/c/{heap.c,library,passkey.h} "$top"/c/machines/{heap.c,system.c,portable.c,wasm.h,retarget.py,one_file.py} \
             "$top"/scripts/{machines,built.sh}
     } | digest
 }

@@ -175,7 +175,7 @@ static void get_key(run *run, passkey_key_out *key)
 /* Where the module's structs have a part whose place does not depend on the parts before it, and their sizes. */
 enum {
     SIGN_IN_SESSION = 64, SIGN_IN_CREDENTIAL = 120, SIGN_IN_RESPONSE = 208, SIGN_IN_VERIFIED = 296, SIGN_IN_SIZE = 376,
-    SESSION = 64, RESPONSE = 104, FREE_ID = 136, VERIFIED = 161, REGISTRATION_SIZE = 240,
+    SESSION = 64, RESPONSE = 104, RAW_ID = 136, VERIFIED = 161, REGISTRATION_SIZE = 240,
     ASKED_REGISTRATION = 8, ASKED_ASSERTION = 40, ASKED_KEY = 128, ASKED_ATTESTATION = 168, ASKED_SIZE = 176,
     SIGN_IN_OUT_SIZE = 16, REGISTRATION_OUT_SIZE = 1640, ASKED_OUT_SIZE = 592, KEY_OUT_SIZE = 568
 };
@@ -264,9 +264,9 @@ uint32_t passkey_registration(const passkey_registration_call *call, passkey_reg
         }
         run.cursor = from + RESPONSE;
         put_registration_response(&run, &call->response);
-        run.cursor = from + FREE_ID;
-        put(&run, call->has_free_id, 1);
-        put_bytes(&run, call->has_free_id != 0 ? call->free_id : (passkey_bytes){ NULL, 0 });
+        run.cursor = from + RAW_ID;
+        put(&run, call->is_free, 1);
+        put_bytes(&run, call->raw_id);
         put(&run, call->is_full, 1);
         run.cursor = from + VERIFIED;
         put_verified(&run, call->has_verified, &call->verified);
@@ -426,4 +426,10 @@ uint32_t passkey_abi_version(void)
 {
     instance_t none = { 0 };
     return w2c_passkey_abi_version(&none);
+}
+
+uint32_t passkey_version(void)
+{
+    instance_t none = { 0 };
+    return w2c_passkey_version(&none);
 }

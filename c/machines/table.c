@@ -145,8 +145,8 @@ static uint32_t registration(const record *from, const passkey_verified *verifie
         .session = { m[2], m[3], has(from, UV), has(from, 32), has(from, 64), has(from, 128), has(from, CONDITIONAL),
                      has(from, ASKED) },
         .response = { m[7], m[8] },
-        .has_free_id = has(from, 256),
-        .free_id = m[4],
+        .is_free = has(from, 256),
+        .raw_id = m[4],
         .is_full = has(from, 512),
         .has_verified = verified != NULL,
     };

@@ -1,5 +1,5 @@
 """Writes what c/machines/table.c judges, as C: table_data.py > table_data.h. The malformed responses of
-tests/site_tests/malformed.rt.txt, what Chromium and Firefox made (recorded.json, firefox.json), and RSA keys of Python's
+tests/crates/site_tests/malformed.rt.txt, what Chromium and Firefox made (recorded.json, firefox.json), and RSA keys of Python's
 `cryptography`.
 
 A record is its kind, flags (16 bits), the key's algorithm and the counter (32 bits each), and its members, each a size of 16
@@ -108,7 +108,7 @@ def bytes_of(word):
 
 def malformed():
     lines = re.findall(r'^(?:.*r#")?([a-z-]+)\|([a-z_]+)\|([a-z0-9]+)\|(.*?)(?:"#;)?$',
-                       (top / "tests" / "site_tests" / "malformed.rt.txt").read_text(), re.M)
+                       (top / "tests" / "crates" / "site_tests" / "malformed.rt.txt").read_text(), re.M)
     x, y, challenge, flags = b"\x11" * 32, b"\x33" * 32, bytes(7) + b"\1" + bytes(24), SESSION | VERIFIED
     members = {"sign-in": ("credential", "user", "auth_data", "signature", "client_data", "message", "verified"),
                "none": ("object", "client_data", "message", "verified"), "packed": ("object", "client_data", "message", "verified")}

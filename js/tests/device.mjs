@@ -1,5 +1,5 @@
 // A browser and its authenticator, played by node:crypto.
-import { createHash, generateKeyPairSync, sign } from "node:crypto";
+import { createHash, createPrivateKey, createPublicKey, generateKeyPairSync, sign } from "node:crypto";
 import { EDDSA, ES256, RS256, toText } from "garvoeng";
 
 export const UP = 1, UV = 4, BE = 8, BS = 16, AT = 64, ED = 128;
@@ -19,11 +19,18 @@ function byteString(value) {
   return bytes(head, value);
 }
 
+// A new key. It is read anew from DER, since Node 20 may hang for ever where the very key that was made is exported as a JWK: if the
+// garbage of its making is collected meanwhile, that waits for the key's lock.
+function keyPair(algorithm) {
+  const [kind, how] = KINDS[algorithm], spki = { type: "spki", format: "der" }, pkcs8 = { type: "pkcs8", format: "der" };
+  const { publicKey, privateKey } = generateKeyPairSync(kind, { ...how, publicKeyEncoding: spki, privateKeyEncoding: pkcs8 });
+  return { publicKey: createPublicKey({ key: publicKey, ...spki }), privateKey: createPrivateKey({ key: privateKey, ...pkcs8 }) };
+}
+
 export class Device {
   constructor(algorithm = ES256, { id = Buffer.from("credential of 22 bytes"), rpId = "example.com", origin = "https://example.com" } = {}) {
     Object.assign(this, { algorithm, id, rpId, origin, count: 0, aaguid: Buffer.from([...Array(16).keys()]), said: { crossOrigin: false } });
-    const [kind, how] = KINDS[algorithm], { publicKey, privateKey } = generateKeyPairSync(kind, how);
-    const { x, y, n, e } = publicKey.export({ format: "jwk" });
+    const { publicKey, privateKey } = keyPair(algorithm), { x, y, n, e } = publicKey.export({ format: "jwk" });
     this.key = privateKey;
     this.x = Buffer.from(x ?? n, "base64url");
     this.y = Buffer.from(y ?? e ?? "", "base64url");

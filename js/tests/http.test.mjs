@@ -10,7 +10,7 @@ import { connect } from "node:net";
 import { join } from "node:path";
 import { test } from "node:test";
 import { BadInput, StoreFailed, StoredServer, fromText } from "garvoeng";
-import { passkeys } from "garvoeng/http";
+import { RateLimit, passkeys } from "garvoeng/http";
 import { changed } from "./device.mjs";
 import { errors, folder, own, pair, secret, serving, stored, visit } from "./visits.mjs";
 
@@ -111,6 +111,51 @@ test("what no page sends", async (context) => {
   for (const name of ["ada", "Ada Lovelace", "\u00e9", "\u{1f511}".repeat(64), "x".repeat(64)]) assert.equal((await post("/register/begin", JSON.stringify({ name }))).status, 200, name);
   assert.deepEqual((await post("/sign-in/begin", `{"a":"${"A".repeat(131_064)}"}`)).status, 200);
   assert.deepEqual((await post("/sign-in/begin", `{"a":"${"A".repeat(131_065)}"}`)).told, { error: "the body is too long" });
+});
+
+test("the limit of requests: tokens by address", () => {
+  let now = 0;
+  const limit = new RateLimit({ rate: 2, burst: 3, addresses: 2, clock: () => now }), waits = (...addresses) => addresses.map((one) => limit.wait(one));
+  const times = (count, address) => waits(...Array(count).fill(address));
+  assert.deepEqual(times(5, "192.0.2.1"), [0, 0, 0, 1, 1]);
+  now = 400;
+  assert.deepEqual(times(1, "192.0.2.1"), [1]);
+  now = 500;
+  assert.deepEqual(times(2, "192.0.2.1"), [0, 1]);
+  now = 100_000;
+  assert.deepEqual(times(4, "192.0.2.1"), [0, 0, 0, 1], "no more than a burst");
+  now = 50_000;
+  assert.deepEqual(times(1, "192.0.2.1"), [1], "a clock that goes back gives nothing");
+  assert.deepEqual(waits("2001:db8::1", "2001:db8:0:0:1:2:3:4", "2001:0DB8::", "2001:db8::ffff:5%eth0", "2001:db8:0:1::1"), [0, 0, 0, 1, 0]);
+  assert.deepEqual(waits("::ffff:192.0.2.9", "192.0.2.9", "::FFFF:192.0.2.9", "192.0.2.9"), [0, 0, 0, 1]);
+  for (const own of ["127.0.0.1", "127.1.2.3", "::1", "::ffff:127.0.0.1", "", undefined, null]) assert.deepEqual(new Set(times(20, own)), new Set([0]), String(own));
+  assert.deepEqual(times(4, "visitor 7"), [0, 0, 0, 1], "a host's own word");
+  for (const wrong of [{ rate: 0 }, { burst: -1 }, { rate: "3" }, { addresses: 0 }, { rate: NaN }, { rate: Infinity }, { burst: null }])
+    assert.throws(() => new RateLimit(wrong), BadInput, JSON.stringify(wrong));
+});
+
+test("an address that posts too often is answered by 429, and no other", async (context) => {
+  const from = (address) => (site) => createServer((request, response) => site(Object.assign(request, { ip: address(request) }), response));
+  const byHeader = from((request) => request.headers.cookie.slice(2)), server = stored();
+  const asks = async ({ post }, address, count) => Promise.all(Array.from({ length: count }, () => post("/sign-in/begin", "{}", `a=${address}`)));
+  const still = new RateLimit({ clock: () => 0 });
+  assert.deepEqual([still.rate, still.burst, still.addresses], [5, 50, 10_000]);
+  const served = await serving(context, server, byHeader, { rateLimit: still }), statuses = (await asks(served, "192.0.2.1", 60)).map(({ status }) => status);
+  assert.deepEqual(statuses.sort(), [...Array(50).fill(200), ...Array(10).fill(429)]);
+  const answer = await fetch(`${served.origin}/sign-in/begin`, { method: "POST", headers: { "Content-Type": "application/json", cookie: "a=192.0.2.1" }, body: "{}" });
+  assert.deepEqual([answer.status, answer.headers.get("retry-after"), await answer.json()], [429, "1", { error: "too many requests: try again later" }]);
+  assert.equal((await asks(served, "192.0.2.2", 1))[0].status, 200);
+  assert.equal((await fetch(`${served.origin}/browser.js`, { headers: { cookie: "a=192.0.2.1" } })).status, 200);
+  const usual = await serving(context, server, byHeader);
+  let asked = 0;
+  while (asked < 40 && !(await asks(usual, "192.0.2.1", 50)).some(({ status }) => status === 429)) asked += 1;
+  assert.ok(asked < 40, "by default too");
+  const own = [[false, 200], [{ wait: () => 7 }, 429], [{ wait: async () => 0 }, 200], [new common.RateLimit({ rate: 1000, burst: 1000 }), 200]];
+  for (const [rateLimit, status] of own)
+    assert.deepEqual(new Set((await asks(await serving(context, server, byHeader, { rateLimit }), "192.0.2.1", 60)).map((one) => one.status)), new Set([status]));
+  for (const rateLimit of [5, true, null, {}, () => 0]) assert.throws(() => passkeys(server, { secret, rateLimit }), BadInput);
+  for (const wait of [() => undefined, () => true, () => -1, () => 1.5, async () => "1"])
+    assert.equal((await asks(await serving(context, server, byHeader, { rateLimit: { wait } }), "192.0.2.1", 1))[0].status, 500);
 });
 
 // A listener that does something with a request before the site has it.

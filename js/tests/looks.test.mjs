@@ -43,7 +43,8 @@ test("flags are true or false alone", async () => {
     ["conditional", (value) => new RegistrationSession({ challenge, user, conditional: value })], ["attestation", (value) => new RegistrationSession({ challenge, user, attestation: value })],
     ["userVerification", (value) => new RegistrationSession({ challenge, user, userVerification: value })], ["userVerification", (value) => new SignInSession({ challenge, userVerification: value })],
     ["isFull", (value) => server.registerComplete(begun.session, response, { isRegistered, isFull: value })],
-    ["isFull", (value) => server.registerCompleteParts(begun.session, { attestationObject: id, clientData: id }, { isFull: value })],
+    ["isFull", (value) => server.registerCompleteParts(begun.session, { attestationObject: id, clientData: id }, { rawId: id, isRegistered: false, isFull: value })],
+    ["isRegistered", (value) => server.registerCompleteParts(begun.session, { attestationObject: id, clientData: id }, { rawId: id, isRegistered: value })],
     ["what isRegistered answered", (value) => server.registerComplete(begun.session, response, { isRegistered: () => value })],
     ["what isRegistered answered", (value) => server.registerComplete(begun.session, response, { isRegistered: async () => value })],
     ["retired", (value) => new Credential({ ...members, retired: value })], ["eligible", (value) => value === null || new Credential({ ...members, eligible: value })],
@@ -90,8 +91,8 @@ test("an option that no call has is named", async () => {
     ["full", (how) => server.registerComplete(begun.session, response, { isRegistered: () => false, ...how })],
     ["credentials", (how) => server.authenticateComplete(session, device.signIn(options), { credential: () => null, ...how })],
     ["authenticatorData", (how) => server.authenticateCompleteParts(session, null, { rawId: id, authData: id, signature: id, clientData: id, ...how })],
-    ["clientDataJSON", (how) => server.registerCompleteParts(begun.session, { attestationObject: id, clientData: id, ...how })],
-    ["id", (how) => server.registerCompleteParts(begun.session, { attestationObject: id, clientData: id }, how)],
+    ["clientDataJSON", (how) => server.registerCompleteParts(begun.session, { attestationObject: id, clientData: id, ...how }, { rawId: id, isRegistered: false })],
+    ["freeId", (how) => server.registerCompleteParts(begun.session, { attestationObject: id, clientData: id }, { rawId: id, isRegistered: false, ...how })],
     ["presence", (how) => new RegistrationSession({ challenge, user, ...how })], ["allowed", (how) => new SignInSession({ challenge, ...how })],
     ["isRetired", (how) => new Credential({ ...members, ...how })], ["isRetired", (how) => credentialFromCose({ id, user, coseKey: device.coseKey(), signCount: 0, ...how })],
   ];
@@ -120,7 +121,7 @@ async function withPrototype(added, call) {
 test("what stands in Object.prototype is no option, no member, and ends no sign-in", async () => {
   const added = {
     conditional: true, profile: "open", userVerification: "required", acceptNone: false, isFull: true, retired: true, eligible: true, verify: () => true, exclude: [id], allow: [id],
-    timeout: 5, transports: ["usb"], clientExtensionResults: 7, authenticatorAttachment: 7, userHandle: "AAAA", freeId: id, error: "x", failed: "x", zzz: { enumerable: true }, attestation: "direct", displayName: "x", authenticatorSelection: 7,
+    timeout: 5, transports: ["usb"], clientExtensionResults: 7, authenticatorAttachment: 7, userHandle: "AAAA", rawId: id, isRegistered: false, error: "x", failed: "x", zzz: { enumerable: true }, attestation: "direct", displayName: "x", authenticatorSelection: 7,
     rpName: "x", expire: 5, maxOpen: 5, secret: "t".repeat(32), signOuts: {}, lifetime: 9, accepted: {}, data: "x", user: "AAAA", user_verification: true,
   };
   const { device } = await visitor(), other = new Device(undefined, { id: Buffer.from("other") });

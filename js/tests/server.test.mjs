@@ -213,12 +213,15 @@ test("a session that was kept has all of its ids, and each of them signs in", as
   await assert.rejects(server.authenticateComplete(kept, other.signIn(options), { credential: () => credential }), { name: "W2" });
 });
 
-test("a free id that is not the attested one", async () => {
+test("an id that is not the attested one", async () => {
   const device = new Device(), { options, session } = server.registerBegin(user, "name"), response = device.register(options);
   response.id = response.rawId = toText(Buffer.from("another id"));
   const refused = await server.registerComplete(session, response, { isRegistered: free }).then(() => null, (error) => error);
   assert.ok(refused instanceof Refused);
   assert.deepEqual([refused.name, refused.number, refused.isRegistration], ["G19", 19, true]);
+  const elsewhere = new Server("example.com", ["https://www.example.com"]);
+  for (const [name, of, how] of [["G5", elsewhere, { isRegistered: free }], ["G19", server, { isRegistered: () => true }], ["G19", server, { isRegistered: free, isFull: true }]])
+    await assert.rejects(of.registerComplete(session, response, how), { name });
   const made = new Refused(true, 19, "the response's id is not the attested credential's");
   assert.deepEqual([made.name, made.step, made.message], ["G19", "OtherId", "OtherId: the response's id is not the attested credential's"]);
 });

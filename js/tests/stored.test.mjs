@@ -229,7 +229,14 @@ test("what the server takes", async () => {
   assert.deepEqual([await one.delete(id), await one.delete(id), (await one.rows()).length], [true, false, 0]);
   const { credentials, registrations, registrations_refused: refused } = await one.status();
   assert.deepEqual([credentials, registrations, refused], [0, 1, { G16: 1 }]);
+  const { known } = one;
+  assert.deepEqual([(await one.status()).known, known > 0], [known, true]);
   await one.close();
+  const older = serving("copy.db", { atLeast: known }), same = serving("few.db", { atLeast: known });
+  await assert.rejects(older.rows(), StoreFailed, "the copy lacks the deletion");
+  await older.close().catch(() => {});
+  assert.deepEqual([await same.rows(), same.known], [[], known]);
+  await same.close();
   const restored = serving("copy.db");
   assert.deepEqual((await restored.rows()).map((row) => row.id), [id]);
   await restored.close();

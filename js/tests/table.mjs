@@ -41,7 +41,7 @@ async function step(form, kind, parts, accepted) {
         rawId: parts.credential, user: parts.user, authData: parts.auth_data, signature: parts.signature, clientData: parts.client_data });
     } else {
       const session = new form.RegistrationSession({ challenge, user, algorithms: [form.ES256, form.EDDSA] });
-      await server.registerCompleteParts(session, { attestationObject: parts.object, clientData: parts.client_data }, { freeId: Uint8Array.of(10, 11) });
+      await server.registerCompleteParts(session, { attestationObject: parts.object, clientData: parts.client_data }, { rawId: Uint8Array.of(10, 11), isRegistered: false });
     }
   } catch (error) {
     if (error instanceof form.Refused) return error.number;
@@ -50,14 +50,13 @@ async function step(form, kind, parts, accepted) {
   return 0;
 }
 
-/** The malformed responses of tests/site_tests/malformed.rt.txt, its text: each is refused by the step that its line says, as by
+/** The malformed responses of tests/crates/site_tests/malformed.rt.txt, its text: each is refused by the step that its line says, as by
  *  Rattle, C and Python. */
 export async function malformed(form, text) {
   const lines = text.split('r#"')[1].split('"#')[0].split("\n").map((line) => line.split("|")), wrong = [];
   let tried = 0;
   for (const [kind, name, how, answers] of lines.filter((line) => line.length === 4 && line[2] !== "is")) {
-    // The id that was found free is not the one that is attested: 19 in place of 15.
-    const accepted = partsOf(lines, kind), wanted = repeated(answers).map((word) => (kind !== "sign-in" && word === "15" ? 19 : Number(word)));
+    const accepted = partsOf(lines, kind), wanted = repeated(answers).map(Number);
     if ((await step(form, kind, accepted, accepted)) !== 0 || wanted.length !== accepted[name].length) wrong.push([kind, name, how, "as it is"]);
     for (let at = 0; at < accepted[name].length; at++, tried++) {
       const found = await step(form, kind, { ...accepted, [name]: altered(accepted[name], how, at) }, accepted);

@@ -12,10 +12,13 @@ module calls. Signatures are verified by `cryptography`.
 from .errors import BadInput, Refused, RowDamaged, SessionDamaged
 from .library import EDDSA, ES256, RS256, is_canonical
 from .limits import MAX_LIST, MAX_STORED_LIST
+from .rate_limit import RateLimit
 from .records import Credential, Registered, RegistrationSession, SignedIn, SignInSession
 from .server import Server
 from .stored import KeptCredential, StoredServer, StoredSignIn, StoreFailed
 
+__version__ = "0.1.0"
+
 __all__ = ["EDDSA", "ES256", "MAX_LIST", "MAX_STORED_LIST", "RS256", "BadInput", "Credential", "KeptCredential",
-           "Refused", "Registered", "RegistrationSession", "RowDamaged", "Server", "SessionDamaged", "SignInSession", "SignedIn", "StoreFailed", "StoredServer",
+           "RateLimit", "Refused", "Registered", "RegistrationSession", "RowDamaged", "Server", "SessionDamaged", "SignInSession", "SignedIn", "StoreFailed", "StoredServer",
            "StoredSignIn", "is_canonical"]

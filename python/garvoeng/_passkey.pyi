@@ -4,6 +4,7 @@ from .answers import Verify
 from .records import Credential, SignedIn
 
 ABI_VERSION: int
+VERSION_NUMBER: int
 
 def assertion(credential_type: Type[Credential], type: Type[SignedIn], members: Tuple[str, ...], verify: Verify,
               before: Optional[Credential], transports: Sequence[str], eligible: Optional[bool],

@@ -1,7 +1,6 @@
 """Why a response is refused, and what is no input."""
 from __future__ import annotations
 
-import base64
 from typing import Any, Tuple
 
 SIGN_IN_STEPS = (
@@ -57,7 +56,8 @@ class RowDamaged(Exception):
         self.id = id
         """The credential's id."""
         self.text = text
-        name = base64.urlsafe_b64encode(id).rstrip(b"=").decode() if isinstance(id, bytes) else repr(id)
+        from .forms import to_text  # which has the errors of this module
+        name = to_text(id) if isinstance(id, bytes) else repr(id)
         super().__init__(f"the row of the credential {name} is damaged: {text}")
 
     def __reduce__(self) -> Tuple[Any, ...]:

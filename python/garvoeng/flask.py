@@ -84,7 +84,8 @@ def _said() -> Any:
     return pages.object_in(request.stream.read(pages.MAX_BODY + 1) or request.get_data())
 
 
-def passkeys(server: SqlServer, name: str = "passkeys", *, fresh: int = pages.FRESH, signed_in_for: int = SIGNED_IN) -> Blueprint:
+def passkeys(server: SqlServer, name: str = "passkeys", *, fresh: int = pages.FRESH, signed_in_for: int = SIGNED_IN,
+             rate_limit: Union[pages.Limit, bool, None] = None) -> Blueprint:
     """The blueprint, one to an application: a page at its root, `passkeys.js` for pages of the site, and `register/begin`,
     `register/finish`, `sign-in/begin`, `sign-in/finish`, `list`, `retire` and `sign-out`. Who registers is a new account, and one who is
     signed in, for `fresh` seconds at most, gets one more passkey. A refusal is answered by 403, what is no input by 400, what wants an
@@ -92,13 +93,25 @@ def passkeys(server: SqlServer, name: str = "passkeys", *, fresh: int = pages.FR
 
     A sign-in ends after `signed_in_for` seconds, by `sign-out`, and where its passkey is retired or deleted. Its cookie is HttpOnly and
     SameSite=Lax, and where an origin of the server is https also Secure, with `__Host-` before its name.
+
+    An address that posts too often is answered by 429, with Retry-After: by a `RateLimit()` if not said, never where `rate_limit` is
+    False. Behind a proxy the address is that of `X-Forwarded-For` where the site has werkzeug's `ProxyFix`.
     """
-    blueprint, visitor = Blueprint(name, __name__), _Visitor(server)
+    blueprint, visitor, limit = Blueprint(name, __name__), _Visitor(server), pages.limit_of(rate_limit)
 
     @blueprint.record_once
     def recorded(state: Any) -> None:
         if state.app.extensions.setdefault("garvoeng", visitor) is not visitor:
             raise RuntimeError("an application has one blueprint of garvoeng.flask")
+
+    @blueprint.before_request
+    def limited() -> Optional[Answered]:
+        wait = pages.wait_of(limit, request.remote_addr) if request.method == "POST" else 0
+        if wait == 0:
+            return None
+        response = jsonify(error=pages.TOO_OFTEN)
+        response.headers["Retry-After"] = str(wait)
+        return response, 429
 
     def nobody(text: str = "nobody is signed in") -> Answered:
         return jsonify(error=text), 401

@@ -4,21 +4,45 @@ from __future__ import annotations
 import json
 import re
 from pathlib import Path
-from typing import Any, Dict
+from typing import Any, Callable, Dict, Optional, Union
 
+from .answers import refuse
 from .errors import BadInput
 from .forms import from_text
+from .rate_limit import RateLimit
 
+Limit = Callable[[Optional[str]], int]
+"""What tells how many seconds an address has to wait."""
 MAX_BODY = 128 * 1024
 """The most bytes of a visitor's request."""
 FRESH = 300
 """How many seconds after a sign-in a passkey may be added to the account, if not said."""
 SIGN_IN_AGAIN = "sign in again: a passkey is added right after a sign-in"
 DAMAGED = "what is stored is damaged"
+TOO_OFTEN = "too many requests: try again later"
 MAX_NAME = 64
 """The most characters of an account's name."""
 FILES = {"": ("passkeys.html", "text/html"), "passkeys.js": ("passkeys.js", "text/javascript"), "page.js": ("page.js", "text/javascript")}
 """The files and their types, by their paths."""
+
+
+def limit_of(said: Union[Limit, bool, None]) -> Limit:
+    """The limit that a site has: a `RateLimit` of its own, if not said, and none where it says False."""
+    if said is None:
+        return RateLimit()
+    if said is False:
+        return lambda _: 0
+    if not callable(said):
+        raise BadInput(f"rate_limit is a RateLimit, or False for none: not {said!r}")
+    return said
+
+
+def wait_of(limit: Limit, address: Optional[str]) -> int:
+    """The seconds that an address has to wait."""
+    wait = limit(address)
+    if not isinstance(wait, int) or isinstance(wait, bool) or wait < 0:
+        refuse("rate_limit", wait, "whole seconds, 0 for none", awaited_in="")
+    return wait
 
 
 def file(path: str) -> bytes:

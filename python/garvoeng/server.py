@@ -38,11 +38,6 @@ def verify_of(verify: Optional[Verify]) -> Verify:
     return verify
 
 
-def _free(raw_id: bytes, said: Any) -> Optional[bytes]:
-    """An id where a look-up answered that no credential has it."""
-    return None if answers.is_true("is_registered", said) else raw_id
-
-
 def _credential(found: Any) -> Optional[Credential]:
     """What a look-up answered."""
     if found is not None and not isinstance(found, Credential):
@@ -124,34 +119,33 @@ class Server:
         in the form of JSON.
         """
         parts, transports = forms.registration_parts(response), forms.transports_of(response)
-        free_id = _free(parts[0], is_registered(parts[0]))
-        return self._registered(session, free_id, parts, is_full, transports, answers.waiting(self.verify))
+        is_taken = answers.is_true("is_registered", is_registered(parts[0]))
+        return self._registered(session, is_taken, parts, is_full, transports, answers.waiting(self.verify))
 
     async def register_complete_async(self, session: Optional[RegistrationSession], response: Mapping[str, Any], *,
                                       is_registered: Callable[[bytes], Union[bool, Awaitable[bool]]],
                                       is_full: bool = False) -> Registered:
         """The same, where what `is_registered` and `verify` give is awaited, if it can be."""
         parts, transports = forms.registration_parts(response), forms.transports_of(response)
-        free_id = _free(parts[0], await answers.awaited(is_registered(parts[0])))
-        return await answers.judged(self.verify, lambda verify: self._registered(session, free_id, parts, is_full, transports, verify))
+        is_taken = answers.is_true("is_registered", await answers.awaited(is_registered(parts[0])))
+        return await answers.judged(self.verify, lambda verify: self._registered(session, is_taken, parts, is_full, transports, verify))
 
     def register_complete_parts(self, session: Optional[RegistrationSession], attestation_object: bytes, client_data: bytes, *,
-                                free_id: Optional[bytes], is_full: bool = False, transports: Sequence[str] = ()) -> Registered:
-        """The same of the response's parts. `free_id` is an id that no credential has; each other counts as
-        registered."""
-        return self._registered(session, free_id, (b"", client_data, attestation_object), is_full, transports,
-                                answers.waiting(self.verify))
+                                raw_id: bytes, is_registered: bool, is_full: bool = False, transports: Sequence[str] = ()) -> Registered:
+        """The same of the response's parts. `raw_id` is the response's `rawId`, and `is_registered` says whether a credential has it."""
+        return self._registered(session, limits.check_flag(is_registered, "is_registered"), (raw_id, client_data, attestation_object), is_full,
+                                transports, answers.waiting(self.verify))
 
-    def _registered(self, session: Optional[RegistrationSession], free_id: Optional[bytes], parts: forms.RegistrationParts, is_full: bool,
+    def _registered(self, session: Optional[RegistrationSession], is_taken: bool, parts: forms.RegistrationParts, is_full: bool,
                     transports: Sequence[str], verify: Verify) -> Registered:
-        _, client_data, attestation_object = parts
+        raw_id, client_data, attestation_object = parts
         begun = _NO_REGISTRATION if session is None else session
         said = _passkey.registration(
             verify,
             (self._profile, self.accept_none, self.accept_self, session is not None, begun.user_verification,
              ES256 in begun.algorithms, EDDSA in begun.algorithms, RS256 in begun.algorithms, begun.conditional, begun.attestation,
-             limits.check_flag(is_full, "is_full")),
-            (free_id, self._rp_id_bytes, begun.challenge, begun.user, client_data, attestation_object), self._origins_bytes,
+             limits.check_flag(is_full, "is_full"), not is_taken),
+            (raw_id, self._rp_id_bytes, begun.challenge, begun.user, client_data, attestation_object), self._origins_bytes,
             self._top_origins_bytes)
         if isinstance(said, int):
             raise _raised(True, said)

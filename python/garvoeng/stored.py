@@ -256,7 +256,7 @@ class StoredServer:
     """A relying party over the file of the proved program, which one process may have at a time.
 
     `program` is the path of the program, `file` that of the SQLite file, which is made where there is none unless
-    `existing`. With `at_least`, the number of a session that is known to have begun, an older copy of the file is refused.
+    `existing`. `known` is to be kept elsewhere: with it as `at_least` each copy of the file that lacks the last change is refused.
     With `wary` each commit flushes twice, for disks that may leave any bytes of a write that is cut off. Calls come from any
     thread. Where the program has ended, the next call starts it again; one that does not answer in `timeout` seconds is
     ended. Open sessions are in the program's memory: one ends by itself `expire` seconds after it began, where `max_open`
@@ -298,12 +298,14 @@ class StoredServer:
         self.shared = shared
         self._starting = threading.Lock()
         self._process: Optional[_Process] = None
+        self._telling = threading.Lock()
+        self._known = at_least
         _servers.add(self)
 
     # ---- the program
 
     def _forked(self) -> None:
-        process, self._process, self._starting = self._process, None, threading.Lock()
+        process, self._process, self._starting, self._telling = self._process, None, threading.Lock(), threading.Lock()
         if process is not None:
             process.forget()
 
@@ -324,7 +326,14 @@ class StoredServer:
         if "failed" in answer:
             process.end(self.timeout)
             raise StoreFailed(answer["failed"])
+        with self._telling:
+            self._known = max(self._known, answer.get("known", 0))
         return answer
+
+    @property
+    def known(self) -> int:
+        """What tells copies of the file that lack the last change that this process was told, for `at_least`. `status` tells it too."""
+        return self._known
 
     def close(self) -> None:
         """Ends the program, which closes its file. A call that comes later starts it again."""
@@ -475,9 +484,9 @@ class StoredServer:
     def status(self) -> Dict[str, Any]:
         """How the site is, for a health check and for metrics: `version`, `credentials`, `sessions` that are open, `next_session`,
         and since the program's start `commits`, `last_commit_microseconds`, `sign_ins` and `registrations` that were accepted, and
-        by step `sign_ins_refused` and `registrations_refused`."""
-        status: Dict[str, Any] = self._ask("status")["status"]
-        return status
+        by step `sign_ins_refused` and `registrations_refused`, and the `lost_log_lines` that could not be written. `known` is as of `StoredServer.known`."""
+        answer = self._ask("status")
+        return {**answer["status"], "known": answer["known"]}
 
     def backup(self, path: str) -> None:
         """Copies the file to a path of the program's machine at which nothing stands: the copy is a whole file of one moment, on

@@ -101,7 +101,7 @@ def test_workers_that_are_killed(folder):
     """Four workers, of which one, the program or the broker is killed again and again: one program at a time, and no acceptance is
     lost or told twice."""
     context = multiprocessing.get_context("fork")
-    workers = {number: context.Process(target=worker, args=(folder, number)) for number in range(4)}
+    workers = {number: context.Process(target=worker, args=(folder, number), daemon=True) for number in range(4)}
     for one in workers.values():
         one.start()
     draw, file, most, names = random.Random(1), folder / "site.db", 0, 3
@@ -123,7 +123,7 @@ def test_workers_that_are_killed(folder):
             workers[number].kill()
             workers.pop(number).join()
             names += 1
-            workers[names] = context.Process(target=worker, args=(folder, names))
+            workers[names] = context.Process(target=worker, args=(folder, names), daemon=True)
             workers[names].start()
         else:
             for pid in programs if choice == 1 else running(file, "broker"):
@@ -167,7 +167,7 @@ def test_a_rolling_restart(folder):
 
     def started(number):
         begun, ends = context.Event(), context.Event()
-        process = context.Process(target=serving, args=(folder, number, begun, ends))
+        process = context.Process(target=serving, args=(folder, number, begun, ends), daemon=True)
         process.start()
         assert begun.wait(60)
         programs.update(running(folder / "site.db", "program"))
@@ -210,7 +210,7 @@ def test_brokers_that_race(folder):
             path.unlink(missing_ok=True)
             left.bind(str(path))
         together = context.Barrier(6)
-        starting = [context.Process(target=one_call, args=(folder, 10 * turn + number, together)) for number in range(6)]
+        starting = [context.Process(target=one_call, args=(folder, 10 * turn + number, together), daemon=True) for number in range(6)]
         for process in starting:
             process.start()
         for process in starting:
@@ -501,4 +501,7 @@ def test_workers_of_a_loaded_site(folder):
             assert set(pool.map(ask, range(60))) == {(200, b"0")}
     finally:
         site.terminate()
-        site.wait()
+        try:
+            site.wait(60)
+        finally:
+            site.kill()

@@ -2,7 +2,7 @@
 import pytest
 from web_sites import MIDDLEWARE, ORIGIN, DjangoSite, Later, adds_nothing, device, opened, registered, signed_in
 
-from garvoeng import Refused
+from garvoeng import RateLimit, Refused
 from garvoeng.forms import from_text
 
 
@@ -28,6 +28,28 @@ def test_csrf_and_users_of_django():
     assert signed_in(other, key)[1][0] == 403 and other("list")[0] == 401
     get_user_model().objects.filter(username="ada").delete()
     assert signed_in(other, key)[1][0] == 403 and other("list")[0] == 401
+
+
+def test_django_limits_requests():
+    """By default, by the address that Django has; never where the setting says False."""
+    from django.test import override_settings
+
+    from garvoeng.django.server import rate_limit
+    site = DjangoSite(None)
+    ask = site.visitor()
+    rate_limit.cache_clear()
+    assert (rate_limit().rate, rate_limit().burst) == (5, 50)
+    rate_limit()._clock = lambda: 0.0
+    assert [ask("sign-in/begin", {}, REMOTE_ADDR="192.0.2.1")[0] for _ in range(60)] == [200] * 50 + [429] * 10
+    said = ask.client.post("/passkeys/sign-in/begin", "{}", content_type="application/json", HTTP_X_CSRFTOKEN=ask.client.cookies["csrftoken"].value,
+                           REMOTE_ADDR="192.0.2.1")
+    assert (said.status_code, said["Retry-After"], said.json()) == (429, "1", {"error": "too many requests: try again later"})
+    assert ask("sign-in/begin", {}, REMOTE_ADDR="192.0.2.2")[0] == ask("sign-in/begin", {})[0] == 200
+    with override_settings(GARVOENG={"rp_id": "localhost", "origins": [ORIGIN], "rate_limit": False}):
+        assert {ask("sign-in/begin", {}, REMOTE_ADDR="192.0.2.1")[0] for _ in range(60)} == {200}
+    with override_settings(GARVOENG={"rp_id": "localhost", "origins": [ORIGIN], "rate_limit": RateLimit(1e-9, 1)}):
+        assert [ask("sign-in/begin", {}, REMOTE_ADDR="192.0.2.1")[0] for _ in range(2)] == [200, 429]
+    rate_limit.cache_clear()
 
 
 def test_no_sign_up_in_django():

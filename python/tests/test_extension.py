@@ -1,4 +1,4 @@
-"""The extension module: what it holds and gives back, threads, interpreters beside the first, and objects that lie. tests/python runs
+"""The extension module: what it holds and gives back, threads, interpreters beside the first, and objects that lie. tests/packages/python runs
 these by Debian's debug build of Python with the address sanitizer too."""
 import gc
 import json
@@ -260,13 +260,13 @@ def test_words_that_the_package_never_hands_in():
             else:
                 assert isinstance(call(), int)
     told = (b"id", b"example.com", bytes(32), USER, b"{}", b"x")
-    for lent, origins, wrong in ((told, (b"x",), None), ((None, *told[1:]), (), None), (told[:-1], (), TypeError), ((*told, b"x"), (), TypeError),
+    for lent, origins, wrong in ((told, (b"x",), None), ((None, *told[1:]), (), TypeError), (told[:-1], (), TypeError), ((*told, b"x"), (), TypeError),
                                  ((told[0], None, *told[2:]), (), TypeError), (told, (None,), TypeError)):
         if wrong:
             with pytest.raises(wrong):
-                _passkey.registration(lambda *_: True, (1, *(True,) * 10), lent, origins, ())
+                _passkey.registration(lambda *_: True, (1, *(True,) * 11), lent, origins, ())
         else:
-            assert isinstance(_passkey.registration(lambda *_: True, (1, *(True,) * 10), lent, origins, ()), int)
+            assert isinstance(_passkey.registration(lambda *_: True, (1, *(True,) * 11), lent, origins, ()), int)
 
 
 def test_kinds_and_names_that_are_none():
@@ -387,7 +387,7 @@ def test_others_run_in_a_call():
     created = changed(one.made, "clientDataJSON", lambda value: value[:-1] + b',"more":"' + b"x" * 20_000 + b'"}')
     raw_id, client_data, attestation_object = forms.registration_parts(created)
     for call in (lambda: rejecting.authenticate_complete_parts(*parts),
-                 lambda: rejecting.register_complete_parts(one.begun, attestation_object, client_data, free_id=raw_id)):
+                 lambda: rejecting.register_complete_parts(one.begun, attestation_object, client_data, raw_id=raw_id, is_registered=False)):
         waits, ran = threading.Lock(), []
         waits.acquire()
         other = threading.Thread(target=lambda: ran.append(waits.acquire()))
@@ -456,7 +456,7 @@ def test_each_allocation_that_fails(frozen, forget):
     copied = [bytearray(part) if part and index > 1 else part for index, part in enumerate(parts)]
     calls = [lambda: one.server.authenticate_complete_parts(*parts), lambda: one.server.authenticate_complete_parts(*copied),
              lambda: one.server.authenticate_complete_parts(many, *parts[1:]),
-             lambda: one.server.register_complete_parts(one.begun, registration[2], registration[1], free_id=registration[0]),
+             lambda: one.server.register_complete_parts(one.begun, registration[2], registration[1], raw_id=registration[0], is_registered=False),
              lambda: forms.sign_in_parts(one.response), lambda: forms.registration_parts(one.made), lambda: _passkey.refusal_text(False, 14),
              lambda: _passkey.key_from_cose(one.device.cose_key()), lambda: _passkey.key_to_cose(ES256, (one.device.x, one.device.y)),
              lambda: _passkey.is_canonical(bytearray(one.device.cose_key()))]

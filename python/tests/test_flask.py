@@ -1,8 +1,11 @@
-"""`garvoeng.flask`: its cookies, and what a site does around it."""
+"""`garvoeng.flask`: its cookies, how often it is asked, and what a site does around it."""
+import threading
+
 import pytest
 from device import Device
 from web_sites import ORIGIN, FlaskSite, Later, device, flask, posted, registered, signed_in
 
+from garvoeng import BadInput, RateLimit, pages
 from garvoeng.forms import to_text
 
 
@@ -102,3 +105,80 @@ def test_one_blueprint(tmp_path):
         site.app.register_blueprint(passkeys(site.server, "other"), url_prefix="/other")
     with flask.Flask("other").test_request_context(), pytest.raises(RuntimeError, match="no blueprint"):
         signed_in()
+
+
+class Clock:
+    now = 0.0
+
+    def __call__(self):
+        return self.now
+
+
+def test_the_limit_of_requests():
+    """Tokens by address: a burst, then the rate; by 64 bits of IPv6; none for this machine, and for a host's own words."""
+    clock = Clock()
+    limit = RateLimit(2.0, 3, addresses=2, clock=clock)
+    assert [limit("192.0.2.1") for _ in range(5)] == [0, 0, 0, 1, 1]
+    clock.now = 0.4
+    assert limit("192.0.2.1") == 1
+    clock.now = 0.5
+    assert [limit("192.0.2.1"), limit("192.0.2.1")] == [0, 1]
+    clock.now = 100.0
+    assert [limit("192.0.2.1") for _ in range(4)] == [0, 0, 0, 1], "no more than a burst"
+    clock.now = 50.0
+    assert limit("192.0.2.1") == 1, "a clock that goes back gives nothing"
+    assert [limit(f"2001:db8::{number:x}") for number in range(4)] == [0, 0, 0, 1]
+    assert limit("2001:db8:0:0:ffff::1") == 1 and limit("2001:db8:0:1::1") == 0
+    assert [limit("::ffff:192.0.2.9"), limit("192.0.2.9"), limit("::ffff:192.0.2.9"), limit("192.0.2.9")] == [0, 0, 0, 1]
+    for own in ("127.0.0.1", "127.1.2.3", "::1", "::ffff:127.0.0.1", "", None):
+        assert {limit(own) for _ in range(20)} == {0}
+    assert [limit("visitor 7") for _ in range(4)] == [0, 0, 0, 1]
+    for wrong in ({"rate": 0}, {"burst": -1}, {"rate": True}, {"burst": "3"}, {"addresses": 0}, {"rate": float("nan")}, {"rate": float("inf")}):
+        with pytest.raises(BadInput):
+            RateLimit(**wrong)
+
+
+def test_the_limit_under_threads():
+    """No more are let through than there are tokens."""
+    limit, passed = RateLimit(1e-9, 100), []
+    threads = [threading.Thread(target=lambda: passed.extend(limit("192.0.2.1") for _ in range(50))) for _ in range(8)]
+    for thread in threads:
+        thread.start()
+    for thread in threads:
+        thread.join()
+    assert passed.count(0) == 100 and len(passed) == 400
+
+
+def test_flask_limits_requests(tmp_path):
+    """By default; an address of another visitor's is not concerned, nor is what is only read."""
+    limit = pages.limit_of(None)
+    assert (limit.rate, limit.burst, limit.addresses) == (5, 50, 10_000)
+    limit._clock = Clock()
+    site = FlaskSite(tmp_path, rate_limit=limit)
+    ask = site.visitor()
+    one, two = {"environ_overrides": {"REMOTE_ADDR": "192.0.2.1"}}, {"environ_overrides": {"REMOTE_ADDR": "192.0.2.2"}}
+    assert [ask("sign-in/begin", {}, **one)[0] for _ in range(60)] == [200] * 50 + [429] * 10
+    said = posted(site.app.test_client(use_cookies=False), {}, "/passkeys/sign-in/begin", "{}", **one)
+    assert said.status_code == 429 and int(said.headers["Retry-After"]) == 1 and said.get_json() == {"error": "too many requests: try again later"}
+    assert ask("sign-in/begin", {}, **two)[0] == 200 and ask("list", None, **one)[0] == 401
+    (tmp_path / "default").mkdir()
+    ask = FlaskSite(tmp_path / "default").visitor()
+    assert 429 in (ask("sign-in/begin", {}, **one)[0] for _ in range(2_000))
+
+
+def test_what_limits(tmp_path):
+    """None where the site says so, or the site's own; what is none is told."""
+    for number, (limit, wanted) in enumerate(((False, [200] * 60), (lambda address: 7, [429] * 60), (lambda address: 0, [200] * 60))):
+        (tmp_path / str(number)).mkdir()
+        ask = FlaskSite(tmp_path / str(number), rate_limit=limit).visitor()
+        assert [ask("sign-in/begin", {}, environ_overrides={"REMOTE_ADDR": "192.0.2.1"})[0] for _ in range(60)] == wanted
+    with pytest.raises(BadInput):
+        FlaskSite(tmp_path, rate_limit=5)
+
+    async def later(address):
+        return 0
+
+    for number, wrong in enumerate((lambda address: None, lambda address: True, lambda address: -1, lambda address: 1.5, later)):
+        (tmp_path / f"wrong {number}").mkdir()
+        site = FlaskSite(tmp_path / f"wrong {number}", rate_limit=wrong)
+        assert site.visitor()("sign-in/begin", {})[0] == 500

@@ -19,9 +19,6 @@ def steps(kind, front):
 def test_steps():
     assert steps("sign-in", "") == errors.SIGN_IN_STEPS
     named = steps("registration", "REGISTRATION_")
-    if not library.refusal_text(True, library.REGISTRATION_OTHER_ID):
-        # The library that is loaded has no nineteenth step yet.
-        named += ("OtherId",)
     assert named[15] == "NoRoom" and named[:15] + ("TableFull",) + named[16:] == errors.REGISTRATION_STEPS
 
 

@@ -1,4 +1,5 @@
 """What hosts, visitors and other processes do to the package."""
+import multiprocessing
 import pickle
 from collections import UserDict
 from collections.abc import Mapping
@@ -166,7 +167,8 @@ def test_errors_between_processes(error):
 
 
 def test_refused_in_a_pool():
-    with ProcessPoolExecutor(1) as pool:
+    # A process that is forked while another thread holds a lock may wait for it for ever.
+    with ProcessPoolExecutor(1, mp_context=multiprocessing.get_context("spawn")) as pool:
         with pytest.raises(Refused) as caught:
             pool.submit(refused, False, 7).result(60)
         assert caught.value.name == "W7"

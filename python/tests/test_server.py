@@ -335,8 +335,11 @@ def test_registration_refused(server):
     assert refusal(complete(on=plain)) == "G14"
     assert refusal(complete(used=lambda _: True)) == "G15"
     another = to_text(b"another id")
-    other_id = "G19"
-    assert refusal(complete({**good, "id": another, "rawId": another})) == other_id
+    named = {**good, "id": another, "rawId": another}
+    assert refusal(complete(named)) == "G19"
+    for step, how in (("G5", {"on": OpenServer("example.com", ["https://www.example.com"])}), ("G11", {"open_session": replace(session, algorithms=(EDDSA,))}),
+                      ("G19", {"on": plain}), ("G19", {"used": lambda _: True}), ("G19", {"is_full": True})):
+        assert refusal(complete(named, **how)) == step
     assert refusal(complete(is_full=True)) == "G16"
     assert complete()().credential.id == device.id
 

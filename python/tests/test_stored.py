@@ -123,6 +123,27 @@ def test_the_format_is_that_of_what_counts(tmp_path, profile, attestation, wante
         assert site.register_complete(session, Device().register(options, packed=True)).format == wanted
 
 
+def test_a_copy_without_the_last_change(tmp_path):
+    """It is refused by what was known then; the file itself is not."""
+    with stored(tmp_path) as site:
+        options, session = site.register_begin(USER, "name")
+        site.register_complete(session, Device(credential=b"one").register(options))
+        site.backup(str(tmp_path / "copy.db"))
+        assert site.retire(b"one")
+        known = site.known
+        assert known == site.status()["known"] > 0
+    with stored(tmp_path, at_least=known) as site:
+        assert [row.retired for row in site.rows()] == [True] and site.known == known
+    (tmp_path / "copy.db").rename(tmp_path / "site.db")
+    site = stored(tmp_path, at_least=known)
+    with pytest.raises(StoreFailed, match="older copy"):
+        site.rows()
+    with suppress(StoreFailed):
+        site.close()
+    with stored(tmp_path) as site:
+        assert [row.retired for row in site.rows()] == [False]
+
+
 def test_what_is_known_of_a_credential(tmp_path):
     """It is kept with the credential, given back in options, told by rows, and gone with the credential."""
     began, (one, two, three) = int(time.time()), (Device(credential=name) for name in (b"one", b"two", b"three"))

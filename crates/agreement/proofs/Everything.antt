@@ -15,7 +15,7 @@ use Rattle.site_state.specs.Table.{retired, row_of, signed_in as counted_row}
 use Rattle.site_state.specs.Sessions.{Expected, for_registration}
 use Rattle.authdata.specs.Flags.{is_set, BE}
 use Rattle.site.proofs.Kept.{row_changed}
-use Rattle.saved_table.specs.Saved.{TableOf, version_of}
+use Rattle.site.specs.Saved.{TableOf, version_of}
 use Rattle.site.specs.State as site
 use Rattle.site.specs.State.{saved_of}
 use Rattle.site.specs.Laws.{after_abandon, after_retire}

@@ -56,7 +56,7 @@ module _ (narrow wide : Validity) (within : IsWithin narrow wide) where
 
   pub registers : (x : JudgedRegistration) → PassesRegistration narrow x → PassesRegistration wide x
   registers x h =
-      each_weaker (PassesRegistrationStep narrow x) (PassesRegistrationStep wide x) (registration_step x h.1.1.1.1.1.1.1.1.1.1.1.1.1.1.0) registration.steps h
+      each_weaker (PassesRegistrationStep narrow x) (PassesRegistrationStep wide x) (registration_step x h.1.1.1.1.1.1.1.1.1.1.1.1.1.1.1.0) registration.steps h
 
   acts : (s t : SiteState) (e : SiteEvent) → SiteActs narrow s e t → SiteActs wide s e t
   acts s t (SignsIn n r) h = (signs_in (judged_sign_in s n r) h.0, h.1)

@@ -22,7 +22,7 @@ use Rattle.verification.specs.Records as expects
 use Rattle.site_state.specs.Table.{signed_in as counted_row, with_row}
 use Rattle.site_state.specs.Sessions.{Opening, OpenSessions, OpensRegistration, OpensSignIn, begun, challenge_of, closed, expected_of, usual}
 use Rattle.site_state.specs.Sessions.{for_registration, for_sign_in}
-use Rattle.saved_table.specs.Saved.{TableOf, table_item, version_of}
+use Rattle.site.specs.Saved.{TableOf, table_item, version_of}
 use Rattle.site.specs.State.{SiteState, idle, party_of, registered, saved_of}
 use Rattle.authenticator.specs.Saved.{SavedOf, authenticator_item}
 use Rattle.site.specs.Laws.{after_begin}

@@ -62,7 +62,7 @@ module _ (valid : Validity) (public : Keys) (b : Below valid public) where
         verified = x.passes.1.1.1.1.1.1.1.1.1.1.1.0 e after.4 after.1 a c after.5;
         offered = x.passes.1.1.1.1.1.1.1.1.1.1.1.1.0 e after.4 after.1 a c after.5;
         statement = as_shown valid old.rp.profile e.attestation after.1 c.key (sha256 r.client_data)
-            (x.passes.1.1.1.1.1.1.1.1.1.1.1.1.1.1.0 e after.4 after.1 a c after.5);
+            (x.passes.1.1.1.1.1.1.1.1.1.1.1.1.1.1.1.0 e after.4 after.1 a c after.5);
         new = absent;
         row = registered e a c;
         stored = ap (row_of c.id) rows ∙ row_last old.rows (registered e a c) absent;

@@ -196,6 +196,7 @@ module _ (valid : Validity) (public : Keys) (b : Below valid public) (keeps : Ke
     present = ap (λ f. is_set f UP) flags_are ∙ (creation_bits x.options.uv).present;
     verified = λ is. ap (λ f. is_set f UV) flags_are ∙ (creation_bits x.options.uv).verified (h.verified ∙ is);
     offered = offered;
+    named = λ raw_id is. absurd cc;
     known = says_how.known;
     statement = says_how.statement;
     accepted = says_how.accepted;

@@ -13,6 +13,7 @@ use Rattle.verification.specs.Records.{ExpectedRegistration}
 use Rattle.verification.specs.Registration.{Attested, Attests, IsAccepted, IsStated, JudgedRegistration, PassesRegistrationStep, PassesRegistration, counted, hash_in, steps}
 use Rattle.verification.specs.declared.refusal.RegistrationRefusal.{RegistrationRefusal}
 use Rattle.verification.specs.declared.refusal.RegistrationRefusal.TheVariants as step
+use Rattle.std.specs.Option.{ForSome}
 use Rattle.std.proofs.lemmas.List.Elements.{recursion_from_All}
 use Rattle.cose.specs.Schemes.{Validity}
 use Rattle.verification.specs.Shared.{IsFor, IsPresent, IsVerifiedAs}
@@ -52,6 +53,7 @@ module _ (readings : Readings) (valid : Validity) (x : JudgedRegistration) (e : 
     pub present : IsPresent a
     pub verified : IsVerifiedAs e.uv a
     pub offered : Contains e.algorithms (alg_of c.key)
+    pub named : ForSome x.response.raw_id (λ raw_id. raw_id ≡ c.id)
     pub known : IsKnownFormat (counted x.rp.profile e.attestation o).fmt
     pub statement : IsStated valid (counted x.rp.profile e.attestation o) c.key (hash_in x.response)
     pub accepted : IsAccepted valid x.policy (counted x.rp.profile e.attestation o) c.key (hash_in x.response)
@@ -72,6 +74,7 @@ module _ (readings : Readings) (valid : Validity) (x : JudgedRegistration) (e : 
   passed h step.UserNotPresent = of_some _ x.session e h.is_open (all _ h.attests (inl h.present))
   passed h step.UserNotVerified = of_some _ x.session e h.is_open (all _ h.attests h.verified)
   passed h step.AlgorithmNotOffered = of_some _ x.session e h.is_open (all _ h.attests h.offered)
+  passed h step.OtherId = λ raw_id is. all _ h.attests (h.named raw_id is)
   passed h step.UnknownFormat = of_some _ x.session e h.is_open (all _ h.attests h.known)
   passed h step.BadStatement = of_some _ x.session e h.is_open (all _ h.attests h.statement)
   passed h step.AttestationNotAccepted = of_some _ x.session e h.is_open (all _ h.attests h.accepted)

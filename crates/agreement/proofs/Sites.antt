@@ -21,7 +21,7 @@ use Rattle.authdata.specs.Flags.{is_set, BE}
 use Rattle.site_state.specs.Table.{row_of, retired, signed_in}
 use Rattle.site_state.proofs.RowLemmas.{found_id}
 use Rattle.site_state.specs.Sessions.{Expected, Opening, OpensRegistration, OpensSignIn, challenge_in, closed, expected_of}
-use Rattle.saved_table.specs.Saved.{version_of}
+use Rattle.site.specs.Saved.{version_of}
 use Rattle.site.specs.State.{IsAfterRegistration, IsAfterSignIn, SiteState, judged_sign_in, judged_registration, none_open, registered}
 use Rattle.verification.specs.Records.{Credential}
 use Rattle.site.specs.Laws.{IsFresh, IsGone, IsKept, IsNumbered, Keeps, Takes, after_begin, after_restart, GoesOn}
@@ -390,7 +390,7 @@ module _ (valid : Validity) (public : Keys) (b : Below valid public) where
   -- no id that has a credential is registered
   pub unregistered : (s t : SiteState) (n : ℕ) (r : responses.AuthenticatorAttestationResponse) (x : Registered s n r t)
       → row_of x.after.3.id s.rows ≡ None
-  unregistered s t n r x = no_row (row_of x.after.3.id s.rows) (x.passes.1.1.1.1.1.1.1.1.1.1.1.1.1.1.1.1.0 x.after.1 x.after.2 x.after.3 x.after.5)
+  unregistered s t n r x = no_row (row_of x.after.3.id s.rows) (x.passes.1.1.1.1.1.1.1.1.1.1.1.1.1.1.1.1.1.0 x.after.1 x.after.2 x.after.3 x.after.5)
 
   -- ---- an id that none has
 

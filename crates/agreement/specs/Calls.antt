@@ -10,7 +10,7 @@ use Rattle.authdata.specs.Responses as responses
 use Rattle.ctap_replies.specs.Replies as replies
 use Rattle.verification.specs.SignIn as authentication
 use Rattle.verification.specs.Registration as registration
-use Rattle.saved_table.specs.Saved.{TableOf, version_of}
+use Rattle.site.specs.Saved.{TableOf, version_of}
 use Rattle.site_state.specs.Sessions.{Expected, Opening, begun, closed}
 use Rattle.site_state.specs.Table.{retired, with_row}
 use Rattle.site.specs.State as site

@@ -14,7 +14,7 @@ use Rattle.ctap_replies.specs.Replies.{ReplyOf, creation_reply}
 use Rattle.verification.specs.SignIn as authentication
 use Rattle.verification.specs.Registration as registration
 use Rattle.verification.specs.Registration.{JudgedRegistration}
-use Rattle.saved_table.specs.Saved.{TableOf, version_of}
+use Rattle.site.specs.Saved.{TableOf, version_of}
 use Rattle.site_state.specs.Sessions.{Opening, OpensRegistration, OpensSignIn}
 use Rattle.site.specs.State as site
 use Rattle.site.specs.State.{IsAfterRegistration, IsAfterSignIn, judged_sign_in, judged_registration, none_open, saved_of}

@@ -1,16 +1,19 @@
 -- The members of an attestation object's value.
-use Rattle.std.proofs.Common.{◌≡◌, ℕ, List, [], ◌∷◌, Option, Some, None, MatchOption, length, take, sym, refl, subst, arith, ap, ◌∙◌}
+use Rattle.std.proofs.Common.{◌≡◌, ℕ, true, List, [], ◌∷◌, Option, Some, None, MatchOption, length, take, sym, refl, subst, arith, ap, ◌∙◌}
 use Rattle.std.specs.Prelude.{codes}
 use Rattle.std.proofs.lemmas.List.{take_all}
 use Rattle.refusal_order.proofs.Laws.{first_at}
-use Rattle.ccbor.specs.Item.{Item, map, pair, no_pairs, text}
+use Rattle.ccbor.specs.Access.{is_end, pairs_in, split_key}
+use Rattle.ccbor.specs.Item.{Item, Pairs, map, pair, no_pairs, text}
+use Rattle.ccbor.proofs.AccessLemmas.{end_is, pairs_in_is, split_key_takes}
 use Rattle.ccbor.proofs.Decoding.{same_item}
 use Rattle.ccbor.specs.Canon.{Canon}
 use Rattle.ccbor.specs.View.{pairs_view}
 use Rattle.ccbor.specs.declared.value.Value.{Value}
 use Rattle.authdata.specs.declared.error.Error.TheVariants as errors
 use Rattle.authdata.specs.declared.object.AttestationObject.{AttestationObject}
-use Rattle.authdata.specs.Objects.{Attestation, ObjectOf, ObjectRefused, object_item, object_view}
+use Rattle.authdata.specs.declared.object.AttestationView.{AttestationView}
+use Rattle.authdata.specs.Objects.{Attestation, ObjectOf, ObjectRefused, lent_object_view, object_item, object_view}
 use Rattle.authdata.specs.Private.{HasThree, ObjectItem, PartsOf}
 
 pub three_long : (l : List (Value × Value)) → HasThree (map (pairs_view l)) → length l ≡ 3
@@ -51,6 +54,30 @@ object_is v a f b s d g (Some o) is keys parts =
 object_is v a f b s d g None is keys none = λ o h.
     let e = h.1 in
     none o (h.0, (cc), (cc), (cc))
+
+-- the object of a map whose members stand one after the other
+pub members_are : (v f s d : Item) (ps qs rs ts : Pairs) (r : Option AttestationView) → pairs_in v ≡ Some ps
+    → split_key (text (codes "fmt")) ps ≡ Some (f, qs) → split_key (text (codes "attStmt")) qs ≡ Some (s, rs)
+    → split_key (text (codes "authData")) rs ≡ Some (d, ts) → is_end ts ≡ true
+    → MatchOption r ((o : Attestation) → PartsOf o f s d → ⊥) (λ o. PartsOf (lent_object_view o) f s d)
+    → MatchOption r ((o : Attestation) → ObjectItem o v → ⊥) (λ o. ObjectItem (lent_object_view o) v)
+members_are v f s d ps qs rs ts r is first second third end parts =
+    let e1 = pairs_in_is v ps is in
+    let e2 = split_key_takes (text (codes "fmt")) ps (f, qs) first in
+    let e3 = split_key_takes (text (codes "attStmt")) qs (s, rs) second in
+    let e4 = split_key_takes (text (codes "authData")) rs (d, ts) third in
+    let e5 = end_is ts end in
+    of r e1 e2 e3 e4 e5 parts where
+      of : (r : Option AttestationView) → v ≡ map ps → ps ≡ pair (text (codes "fmt")) f qs → qs ≡ pair (text (codes "attStmt")) s rs
+          → rs ≡ pair (text (codes "authData")) d ts → ts ≡ no_pairs
+          → MatchOption r ((o : Attestation) → PartsOf o f s d → ⊥) (λ o. PartsOf (lent_object_view o) f s d)
+          → MatchOption r ((o : Attestation) → ObjectItem o v → ⊥) (λ o. ObjectItem (lent_object_view o) v)
+      of (Some o) e1 e2 e3 e4 e5 parts =
+          let p1 = parts.1 in let p2 = parts.2 in let p3 = parts.3 in
+          (parts.0, (cc))
+      of None e1 e2 e3 e4 e5 none = λ o h.
+          let e = h.1 in
+          none o (h.0, (cc), (cc), (cc))
 
 object_from : List ℕ → Item → List ℕ → Attestation
 object_from fmt statement auth_data = record { fmt = fmt; statement = statement; auth_data = auth_data }

@@ -4,9 +4,11 @@ use Rattle.refusal_order.specs.Lines.{First}
 use Rattle.ccbor.specs.Item.{Item, map, text, bytes, Pairs, no_pairs, pair}
 use Rattle.ccbor.specs.Canon.{Canon}
 use Rattle.ccbor.specs.View.{view}
+use Rattle.ccbor.specs.Viewing.{shown}
 use Rattle.authdata.specs.declared.error.Error.{Error}
 use Rattle.authdata.specs.declared.error.Error.TheVariants as errors
 use Rattle.authdata.specs.declared.object.AttestationObject.{AttestationObject}
+use Rattle.authdata.specs.declared.object.AttestationView.{AttestationView}
 
 -- an attestation object without where it lies in memory: fmt, attStmt, authData
 pub record Attestation : Type 0 where
@@ -35,6 +37,9 @@ object_view o = record {
   statement = view o.statement;
   auth_data = o.auth_data.items;
 }
+
+abbrev pub lent_object_view : AttestationView → Attestation
+lent_object_view o = record { fmt = o.fmt.now; statement = shown o.statement; auth_data = o.auth_data.now }
 
 -- why bytes are no attestation object: the first of these that applies
 abbrev pub ObjectApplies : List ℕ → Error → Type 0

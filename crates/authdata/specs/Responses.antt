@@ -1,5 +1,5 @@
 -- What a client hands to a relying party, without where it lies in memory: WebAuthn, section 5.2.
-use Rattle.std.specs.Prelude.{ℕ, List, Option, option_map}
+use Rattle.std.specs.Prelude.{ℕ, List, Option, None, option_map}
 use Rattle.authdata.specs.declared.response.AssertionResponse.{AssertionResponse}
 use Rattle.authdata.specs.declared.response.RegistrationResponse.{RegistrationResponse}
 
@@ -11,10 +11,11 @@ pub record AuthenticatorAssertionResponse : Type 0 where
   pub signature : List ℕ
   pub client_data : List ℕ
 
--- 5.2.1: attestationObject, clientDataJSON
+-- 5.2.1: attestationObject, clientDataJSON; and the credential's id as the client names it (5.1, rawId), where it is handed in
 pub record AuthenticatorAttestationResponse : Type 0 where
   pub object : List ℕ
   pub client_data : List ℕ
+  pub raw_id : Option (List ℕ)
 
 abbrev pub assertion_response_view : AssertionResponse → AuthenticatorAssertionResponse
 assertion_response_view r = record {
@@ -26,4 +27,4 @@ assertion_response_view r = record {
 }
 
 abbrev pub registration_response_view : RegistrationResponse → AuthenticatorAttestationResponse
-registration_response_view r = record { object = r.object.items; client_data = r.client_data.items }
+registration_response_view r = record { object = r.object.items; client_data = r.client_data.items; raw_id = None }

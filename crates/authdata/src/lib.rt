@@ -19,9 +19,9 @@ pub use error::Error;
 pub use law::{
     flag_bits, key_inside, one_object, one_reading, one_refusal, one_statement, profiles, sizes,
 };
-pub use object::AttestationObject;
+pub use object::{AttestationObject, AttestationView};
 pub use profile::Profile;
 pub use reading::{read, read_view};
 pub use response::{AssertionResponse, RegistrationResponse};
-pub use statement::{AttestationType, check_statement, self_signature};
+pub use statement::{AttestationType, check_statement};
 pub use writing::write;

@@ -1,5 +1,5 @@
 -- A message's verdict at the site.
-use Rattle.std.proofs.Common.{◌≡◌, ℕ, List, refl, ◌∙◌, ap, subst}
+use Rattle.std.proofs.Common.{◌≡◌, ℕ, List, None, refl, ◌∙◌, ap, subst}
 use Rattle.refusal_order.specs.Lines.{Each, FirstFailing}
 use Rattle.refusal_order.proofs.Laws.{none_first}
 use Rattle.ctap_replies.specs.Replies.{Assertion, Creation, IsReply, ReplyOf, assertion_reply, creation_reply}
@@ -47,5 +47,5 @@ registration_step valid x e w is h = subst (λ (k : VerificationError Registrati
 
 -- the response that is judged is the one of the object's encoding
 pub response_is : (r : Creation) (object bytes t : List ℕ) → object ≡ bytes → ObjectOf (object_of r) bytes
-    → record { object = object; client_data = t } ≡ ceremony.response r t
-response_is r object bytes t e h = ap (λ (o : List ℕ). record { object = o; client_data = t }) (e ∙ h.1.1)
+    → record { object = object; client_data = t; raw_id = None } ≡ ceremony.response r t
+response_is r object bytes t e h = ap (λ (o : List ℕ). record { object = o; client_data = t; raw_id = None }) (e ∙ h.1.1)

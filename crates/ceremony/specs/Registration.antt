@@ -1,5 +1,5 @@
 -- A registration (WebAuthn Level 2, section 7.1) by packets.
-use Rattle.std.specs.Prelude.{ℕ, List}
+use Rattle.std.specs.Prelude.{ℕ, List, None}
 use Rattle.hidframe.specs.declared.Packet.{Packet}
 use Rattle.ccbor.specs.Canon.{spelling}
 use Rattle.ctap_replies.specs.declared.reply.Kind.TheVariants.{MakeCredential}
@@ -18,7 +18,7 @@ use Rattle.ceremony.specs.declared.registration.Enrolled.{Enrolled}
 -- the response that a reply to makeCredential (CTAP 2.1, section 6.1.2) makes with client data: the one encoding of
 -- its attestation object
 abbrev pub response : Creation → List ℕ → responses.AuthenticatorAttestationResponse
-response r t = record { object = spelling (object_item (object_of r)); client_data = t }
+response r t = record { object = spelling (object_item (object_of r)); client_data = t; raw_id = None }
 
 -- in a session of a site, with client data t: the message is a reply to makeCredential, whose response is judged
 abbrev pub registration : Validity → SiteState → ℕ → List ℕ → Ceremony Creation RegistrationRefusal

@@ -1,12 +1,13 @@
 //! Registration, from packets to the site's verdict.
 
-ghost use Rattle.std.specs.Prelude.{◌≡◌, List, ℕ, IfErr, IfOk, MatchResult, OnErr, OnOk};
+ghost use Rattle.std.specs.Prelude.{◌≡◌, List, None, ℕ, IfErr, IfOk, MatchResult, OnErr, OnOk};
 ghost use Rattle.hidframe.specs.declared.Packet.{Packet};
 ghost use Rattle.ctap_replies.specs.Replies.{Creation, ReplyOf, creation_reply};
 ghost use Rattle.ctap_replies.specs.ReplyView.{creation_reply_view};
 ghost use Rattle.authdata.specs.Objects.{ObjectOf};
 ghost use Rattle.client.specs.Responses.{object_of};
 ghost use Rattle.verification.specs.Registration.{PassesRegistration};
+ghost use Rattle.verification.specs.Views.{registration_parts_view};
 ghost use Rattle.site.specs.Answers.{IsRegistered};
 ghost use Rattle.site.specs.State.{IsAfterRegistration, judged_registration};
 ghost use Rattle.ceremony.specs.Packets.{HasGot};
@@ -48,6 +49,17 @@ fn object(alloc: Global, reply: CreationReply) -> Result<Vec<u8>, AllocError>
     }
 }
 
+/// A response of this object and these client data, whose id is not handed in.
+fn parts<'a>(object: &'a [u8], client_data: &'a [u8]) -> RegistrationParts<'a>
+    ensures { registration_parts_view result ≡ record { object = object.now; client_data = client_data.now; raw_id = None } }
+{
+    RegistrationParts {
+        object,
+        client_data,
+        raw_id: None,
+    }
+}
+
 /// Registers by a message.
 fn judge<V: Verifier>(
     alloc: Global,
@@ -74,10 +86,7 @@ fn judge<V: Verifier>(
         },
     };
     let object = object(alloc, reply)?;
-    let response = RegistrationParts {
-        object: &object,
-        client_data,
-    };
+    let response = parts(&object, client_data);
     match site.finish_registration_parts(verifier, session, &response) {
         Ok(registered) => Ok(registered),
         Err(VerificationError::Refused(step)) => Err(Error::Refused(step)),

@@ -6,7 +6,7 @@ use Rattle.authdata.specs.declared.profile.Profile.TheVariants as profiles
 use Rattle.ctap_replies.specs.Replies.{Assertion, Creation, IsReply, ReplyRefused, assertion_reply, creation_reply}
 use Rattle.ctap_replies.specs.declared.reply.Kind.TheVariants as kinds
 use Rattle.ctap_encoding.specs.declared.error.Error.{Error}
-use Rattle.key_replies.specs.Replies as key
+use Rattle.ctap_open_replies.specs.Replies as key
 
 -- what of a key's reply goes to the relying party: of a user the id, and none of the keys for large blobs
 abbrev pub assertion_of_key : key.Assertion → Assertion

@@ -8,6 +8,7 @@ ghost use Rattle.ctap_requests.specs.RequestView.{request_view};
 ghost use Rattle.client.specs.Steps.{IsFramed, IsNotFramed, IsNotSent};
 
 use crate::error::RequestError;
+use ctap_encoding::command::GET_NEXT_ASSERTION;
 use ctap_requests::{Request, write_request};
 use hidframe::ctaphid::CTAPHID_CBOR;
 use hidframe::{Packet, frame, packet_at};
@@ -21,9 +22,6 @@ pub struct Outgoing {
     /// The packets of the request, which go to the authenticator in this order: 1 to 129.
     pub packets: Vec<Packet>,
 }
-
-/// The command byte of getNextAssertion (CTAP 2.1, section 6.3).
-const GET_NEXT_ASSERTION: u8 = 0x08;
 
 /// The packets of a message of CBOR.
 fn framed(alloc: Global, cid: u32, message: &[u8]) -> Result<Vec<Packet>, RequestError>

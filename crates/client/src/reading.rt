@@ -7,12 +7,12 @@ ghost use Rattle.ctap_replies.specs.ReplyView.{creation_reply_view, lent_asserti
 ghost use Rattle.ctap_replies.specs.declared.reply.Kind.TheVariants as kinds;
 ghost use Rattle.ctap_encoding.specs.declared.error.Error.TheVariants as errors;
 ghost use Rattle.client.specs.Replies.{IsAssertionBy, IsCreationBy, IsNoAssertionBy, IsNoCreationBy, assertion_of_key, creation_of_key};
-ghost use Rattle.key_replies.specs.ReplyView.{assertion_view, creation_view};
+ghost use Rattle.ctap_open_replies.specs.ReplyView.{assertion_view, creation_view};
 
 use authdata::Profile;
 use ctap_encoding::Error;
+use ctap_open_replies::{KeyAssertion, KeyCreation};
 use ctap_replies::{AssertionView, CreationReply};
-use key_replies::{KeyAssertion, KeyCreation};
 use std::alloc::Global;
 
 /// What of a key's assertion goes to the relying party.
@@ -32,7 +32,7 @@ fn assertion_of_key<'a>(reply: &KeyAssertion<'a>) -> AssertionView<'a>
     }
 }
 
-/// The same of a reply to makeCredential.
+/// A reply of a key on sale to makeCredential, as the strict profile has it.
 fn creation_of_key(reply: KeyCreation) -> CreationReply
     ensures { creation_reply_view result ≡ creation_of_key (creation_view reply) }
 {
@@ -52,7 +52,7 @@ fn open_assertion<'a>(
     ensures refused { IfErr result (λ e. IsNoAssertionBy Open (option_map (λ b. b.now) listed.entry) message.now e) }
     ensures no_memory { IfErr result (λ e. e ≢ errors.Memory) }
 {
-    match key_replies::read_assertion(message, listed) {
+    match ctap_open_replies::read_assertion(message, listed) {
         Ok(reply) => Ok(assertion_of_key(&reply)),
         Err(e) => Err(e),
     }
@@ -63,7 +63,7 @@ fn open_creation(alloc: Global, message: &[u8]) -> Result<CreationReply, Error>
     ensures found { IfOk result (λ r. IsCreationBy Open (creation_reply_view r) message.now) }
     ensures refused { IfErr result (λ e. IsNoCreationBy Open message.now e) }
 {
-    match key_replies::read_creation(alloc, message) {
+    match ctap_open_replies::read_creation(alloc, message) {
         Ok(reply) => Ok(creation_of_key(reply)),
         Err(e) => Err(e),
     }
@@ -72,7 +72,7 @@ fn open_creation(alloc: Global, message: &[u8]) -> Result<CreationReply, Error>
 /// The assertion of a reply to getAssertion, and by the open profile of one to getNextAssertion (CTAP 2.1, sections
 /// 6.2.2 and 6.3). Its members lie in the message, and no memory is taken.
 ///
-/// The strict profile reads as [`ctap_replies::read_assertion`]. The others read as [`key_replies::read_assertion`]:
+/// The strict profile reads as [`ctap_replies::read_assertion`]. The others read as [`ctap_open_replies::read_assertion`]:
 /// members that are not listed are passed over, and the credential may be left out where `listed` is the id of the one
 /// credential of the request's allow list. Refused as these are, never for want of memory.
 pub fn read_assertion<'a>(
@@ -92,7 +92,7 @@ pub fn read_assertion<'a>(
 
 /// The reply to makeCredential (CTAP 2.1, section 6.1.2) that a message is, in memory of its own.
 ///
-/// The strict profile reads as [`ctap_replies::read_creation`], the others as [`key_replies::read_creation`], and each
+/// The strict profile reads as [`ctap_replies::read_creation`], the others as [`ctap_open_replies::read_creation`], and each
 /// is refused as these are.
 pub fn read_creation(
     alloc: Global,

@@ -1,11 +1,8 @@
 -- What a line says: the act that it names and the act's members, over the reading of JSON that `serde_json` states.
-use Rattle.std.specs.Prelude.{◌≡◌, ◌≤◌, ◌⊎◌, ℕ, Bool, true, List, codes, length, IsUtf8, MatchOption, Option, Some, None, option_and_then, option_map, string_bytes}
-use Rattle.base64.specs.GeneralPurpose.{encode_of}
-use Rattle.base64.specs.Engines.{url_safe_no_pad}
-use Rattle.json_lines.specs.Nesting.{Nests}
-use Rattle.serde_json.specs.Data.{Data, null}
-use Rattle.serde_json.specs.Find.{as_bool, as_number, as_str, as_u64, get}
-use Rattle.serde_json.specs.Read.{read}
+use Rattle.std.specs.Prelude.{◌≡◌, ℕ, true, List, codes, Some, option_map, string_bytes}
+use Rattle.json_lines.specs.Lines.{IsLine}
+use Rattle.json_lines.specs.Members.{HasBytes, HasFlag, HasNumber, HasText, MayHaveText, member}
+use Rattle.serde_json.specs.Data.{Data}
 use Rattle.client_acts.specs.declared.act.Act.{Act}
 use Rattle.client_acts.specs.declared.act.Act.TheVariants as acts
 use Rattle.client_acts.specs.declared.act.Aim.{Aim}
@@ -15,40 +12,15 @@ use Rattle.client_acts.specs.declared.act.Further.TheVariants as furthers
 use Rattle.client_acts.specs.declared.options.CreationOptions.{CreationOptions}
 use Rattle.client_acts.specs.declared.options.RequestOptions.{RequestOptions}
 
--- ---- members of an object
-
--- there is no value under a name; null counts as none
-abbrev pub IsAbsent : List ℕ → Data → Type 0
-IsAbsent name d = (get name d ≡ None) ⊎ (get name d ≡ Some null)
-
-abbrev pub HasText : List ℕ → Data → List ℕ → Type 0
-HasText name d text = option_and_then as_str (get name d) ≡ Some text
-
-abbrev pub MayHaveText : List ℕ → Data → Option (List ℕ) → Type 0
-MayHaveText name d text = MatchOption text (IsAbsent name d) (HasText name d)
-
-abbrev pub HasNumber : List ℕ → Data → ℕ → Type 0
-HasNumber name d n = option_and_then as_u64 (option_and_then as_number (get name d)) ≡ Some n
-
--- bytes, as a text in base64url without padding (RFC 4648, section 5)
-abbrev pub HasBytes : List ℕ → Data → List ℕ → Type 0
-HasBytes name d bytes = HasText name d (encode_of url_safe_no_pad bytes)
-
--- true or false, which it is where it is absent
-abbrev pub HasTruth : List ℕ → Data → Bool → Bool → Type 0
-HasTruth name d absent truth = (option_and_then as_bool (get name d) ≡ Some truth) ⊎ (IsAbsent name d × (truth ≡ absent))
-
--- ---- the acts
-
 -- the options of a registration (WebAuthn Level 3, section 5.1.8)
 pub record SaysCreation (d : Data) (o : CreationOptions) : Type 0 where
   pub options : Data
   pub rp : Data
   pub user : Data
   pub origin : HasText (codes "origin") d (string_bytes o.origin)
-  pub has_options : get (codes "options") d ≡ Some options
-  pub has_rp : get (codes "rp") options ≡ Some rp
-  pub has_user : get (codes "user") options ≡ Some user
+  pub has_options : member (codes "options") d ≡ Some options
+  pub has_rp : member (codes "rp") options ≡ Some rp
+  pub has_user : member (codes "user") options ≡ Some user
   pub rp_id : MayHaveText (codes "id") rp (option_map string_bytes o.rp_id)
   pub user_id : HasBytes (codes "id") user o.user.id.items
   pub challenge : HasBytes (codes "challenge") options o.challenge.items
@@ -57,7 +29,7 @@ pub record SaysCreation (d : Data) (o : CreationOptions) : Type 0 where
 pub record SaysRequest (d : Data) (o : RequestOptions) : Type 0 where
   pub options : Data
   pub origin : HasText (codes "origin") d (string_bytes o.origin)
-  pub has_options : get (codes "options") d ≡ Some options
+  pub has_options : member (codes "options") d ≡ Some options
   pub rp_id : MayHaveText (codes "rpId") options (option_map string_bytes o.rp_id)
   pub challenge : HasBytes (codes "challenge") options o.challenge.items
 
@@ -76,9 +48,9 @@ SaysFurther d (furthers.Choose number) = HasText (codes "act") d (codes "choose"
 SaysFurther d furthers.Cancel = HasText (codes "act") d (codes "cancel")
 
 abbrev pub SaysAct : Data → Act → Type 0
-SaysAct d (acts.Begin begin) = SaysAim d begin.aim × HasBytes (codes "nonce") d begin.nonce × HasTruth (codes "built_in") d true begin.built_in
+SaysAct d (acts.Begin begin) = SaysAim d begin.aim × HasBytes (codes "nonce") d begin.nonce × HasFlag (codes "built_in") d true begin.built_in
 SaysAct d (acts.Further further) = SaysFurther d further
 
--- The line is a JSON text of at most 65,536 bytes, nested at most 32 deep, that asks for the act under this number.
+-- a line is one that is read, and asks for the act under this number
 abbrev pub Reads : List ℕ → ℕ → Act → Type 0
-Reads line id act = (d : Data) × (length line ≤ 65536) × IsUtf8 line × Nests 32 line × (read line ≡ Some d) × HasNumber (codes "id") d id × SaysAct d act
+Reads line id act = (d : Data) × IsLine line d × HasNumber (codes "id") d id × SaysAct d act

@@ -1,10 +1,9 @@
 //! The acts by name, the members that each takes, and what the help shows of them.
 
-ghost use Rattle.std.specs.Prelude.{◌≡◌, IfSome};
-ghost use Rattle.client_acts.specs.Kinds.{kind_name};
+ghost use Rattle.std.specs.Prelude.{◌≡◌, MatchOption, map};
+ghost use Rattle.client_acts.specs.Kinds.{kind_name, names_for};
+ghost use Rattle.client_acts.specs.declared.acts.Kind.{Kind as ActKind};
 
-use crate::error::LineError;
-use serde_json::Value;
 use std::alloc::{AllocError, Global};
 
 /// The kind of an act.
@@ -24,7 +23,7 @@ pub(crate) enum Kind {
 
 /// The kind of an act of this name.
 pub(crate) fn kind_named(name: &str) -> Option<Kind>
-    ensures { IfSome result (λ kind. name.now ≡ kind_name kind) }
+    ensures { MatchOption result ((kind : ActKind) → name.now ≡ kind_name kind → ⊥) (λ kind. name.now ≡ kind_name kind) }
 {
     match name {
         "register" => Some(Kind::Register),
@@ -41,37 +40,20 @@ pub(crate) fn kind_named(name: &str) -> Option<Kind>
     }
 }
 
-/// Whether a line of this kind may have a member of this name.
-fn takes(kind: Kind, name: &str) -> bool {
-    if name == "id" || name == "act" {
-        return true;
-    }
+/// The names of the members of lines of this kind, beside `id` and `act`.
+pub(crate) fn names_of(kind: Kind) -> &'static [&'static str]
+    ensures { map (λ n. n.now) result.now ≡ names_for kind }
+{
     match kind {
-        Kind::Register | Kind::SignIn => match name {
-            "origin" | "options" | "nonce" | "built_in" => true,
-            _ => false,
-        },
-        Kind::Information => name == "nonce",
-        Kind::SetPin | Kind::ChangePin => name == "new_pin" || name == "nonce",
-        Kind::Packet => name == "packet",
-        Kind::Pin => name == "pin",
-        Kind::Computed => name == "bytes",
-        Kind::Choose => name == "number",
-        Kind::Cancel => false,
+        Kind::Register | Kind::SignIn => &["origin", "options", "nonce", "built_in"],
+        Kind::Information => &["nonce"],
+        Kind::SetPin | Kind::ChangePin => &["new_pin", "nonce"],
+        Kind::Packet => &["packet"],
+        Kind::Pin => &["pin"],
+        Kind::Computed => &["bytes"],
+        Kind::Choose => &["number"],
+        Kind::Cancel => &[],
     }
-}
-
-/// That a line has no member that its act does not take.
-pub(crate) fn check_members(kind: Kind, line: &Value) -> Result<(), LineError> {
-    let Some(members) = line.as_object() else {
-        return Ok(());
-    };
-    for (name, _) in members {
-        if !takes(kind, name.as_str()) {
-            return Err(LineError::UnknownMember);
-        }
-    }
-    Ok(())
 }
 
 /// Each act with its members, and each state, as the help shows them.

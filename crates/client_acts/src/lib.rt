@@ -3,13 +3,11 @@
 
 mod act;
 mod acts;
-mod error;
 mod members;
 mod options;
 mod reading;
 
 pub use act::{Act, Aim, Begin, Further};
 pub use acts::acts_help;
-pub use error::LineError;
 pub use options::{Account, CreationOptions, Extensions, RequestOptions};
-pub use reading::{Line, LineFault, MAX_LINE, read_line};
+pub use reading::{Line, read_line};

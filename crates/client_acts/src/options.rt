@@ -1,17 +1,16 @@
 //! Options as a relying party gives them: `PublicKeyCredentialCreationOptionsJSON` and
 //! `PublicKeyCredentialRequestOptionsJSON` (WebAuthn Level 3, sections 5.1.8 and 5.1.9).
 
-ghost use Rattle.std.specs.Prelude.{IfOk, codes};
+ghost use Rattle.std.specs.Prelude.{IfErr, IfOk, codes};
 ghost use Rattle.serde_json.specs.View.{view};
-ghost use Rattle.client_acts.specs.Lines.{HasBytes, SaysCreation, SaysRequest};
+ghost use Rattle.json_lines.specs.Members.{HasBytes};
+ghost use Rattle.client_acts.specs.Faults.{IsInOptions, OfOptions};
+ghost use Rattle.client_acts.specs.Lines.{SaysCreation, SaysRequest};
 
-use crate::error::LineError;
-use crate::members::{
-    bytes, list, object, optional, optional_object, optional_text, owned_text, required, text,
-    truth,
-};
+use crate::members::{object, optional_object, optional_owned_text, owned_text};
+use client_ceremony::Requirement;
 use cose::Alg;
-use key_client::Requirement;
+use json_lines::{LineError, bytes, flag, items, member, needed, optional_text};
 use serde_json::Value;
 use std::alloc::Global;
 
@@ -91,15 +90,19 @@ fn requirement(word: Option<&str>) -> Option<Requirement> {
 }
 
 /// Whether the user is to be verified: preferred where the word is absent or unknown (WebAuthn Level 2, section 5.8.6).
-fn verification(options: &Value) -> Result<Requirement, LineError> {
+fn verification(options: &Value) -> Result<Requirement, LineError>
+    ensures { IfErr result IsInOptions }
+{
     let word = optional_text(options, "userVerification")?;
     Ok(requirement(word).unwrap_or(Requirement::Preferred))
 }
 
 /// Whether the credential is to be discoverable (section 5.4.6): where the word is absent or unknown, `requireResidentKey`
 /// decides.
-fn resident(selection: &Value) -> Result<Requirement, LineError> {
-    let is_required = truth(selection, "requireResidentKey", false)?;
+fn resident(selection: &Value) -> Result<Requirement, LineError>
+    ensures { IfErr result IsInOptions }
+{
+    let is_required = flag(selection, "requireResidentKey", false)?;
     let absent = if is_required {
         Requirement::Required
     } else {
@@ -118,11 +121,13 @@ fn is_public_key(item: &Value) -> bool {
 }
 
 /// Adds the number of a parameter, where it is of an algorithm that can be read.
-fn push_algorithm(item: &Value, algorithms: &mut Vec<i64>) -> Result<(), LineError> {
+fn push_algorithm(item: &Value, algorithms: &mut Vec<i64>) -> Result<(), LineError>
+    ensures { IfErr result IsInOptions }
+{
     if !is_public_key(item) {
         return Ok(());
     }
-    match required(item, "alg")?.as_i64() {
+    match needed(item, "alg")?.as_i64() {
         Some(number) if Alg::from_number(number).is_some() => Ok(algorithms.push(number)?),
         Some(_) => Ok(()),
         None => Err(LineError::BadForm("alg")),
@@ -131,8 +136,10 @@ fn push_algorithm(item: &Value, algorithms: &mut Vec<i64>) -> Result<(), LineErr
 
 /// The algorithms of `pubKeyCredParams` that can be read; ES256 and RS256 where the list is empty (WebAuthn Level 2,
 /// section 5.1.3, step 10).
-fn algorithms(alloc: Global, options: &Value) -> Result<Vec<i64>, LineError> {
-    let items = list(options, "pubKeyCredParams")?;
+fn algorithms(alloc: Global, options: &Value) -> Result<Vec<i64>, LineError>
+    ensures { IfErr result IsInOptions }
+{
+    let items = items(options, "pubKeyCredParams")?;
     if items.is_empty() {
         return Ok(Vec::from_slice(alloc, &[-7, -257])?);
     }
@@ -144,7 +151,9 @@ fn algorithms(alloc: Global, options: &Value) -> Result<Vec<i64>, LineError> {
 }
 
 /// The ids of descriptors of public keys; others are passed over.
-fn ids(alloc: Global, items: &[Value]) -> Result<Vec<Vec<u8>>, LineError> {
+fn ids(alloc: Global, items: &[Value]) -> Result<Vec<Vec<u8>>, LineError>
+    ensures { IfErr result IsInOptions }
+{
     let mut ids = Vec::new(alloc);
     for item in items {
         if is_public_key(item) {
@@ -165,7 +174,9 @@ fn policy_number(name: &str) -> Option<u64> {
 }
 
 /// A policy of protection, by number or by name.
-fn policy(value: &Value, name: &'static str) -> Result<u64, LineError> {
+fn policy(value: &Value, name: &'static str) -> Result<u64, LineError>
+    ensures { IfErr result IsInOptions }
+{
     let number = match value.as_str() {
         Some(word) => policy_number(word),
         None => value.as_u64(),
@@ -177,24 +188,28 @@ fn policy(value: &Value, name: &'static str) -> Result<u64, LineError> {
 }
 
 /// The policy of protection that is asked for.
-fn cred_protect(inputs: &Value) -> Result<Option<u64>, LineError> {
-    if let Some(value) = optional(inputs, "credentialProtectionPolicy") {
+fn cred_protect(inputs: &Value) -> Result<Option<u64>, LineError>
+    ensures { IfErr result IsInOptions }
+{
+    if let Some(value) = member(inputs, "credentialProtectionPolicy") {
         return Ok(Some(policy(value, "credentialProtectionPolicy")?));
     }
-    match optional(inputs, "credProtect") {
+    match member(inputs, "credProtect") {
         Some(value) => Ok(Some(policy(value, "credProtect")?)),
         None => Ok(None),
     }
 }
 
 /// The inputs of extensions; those that are not known are passed over.
-fn extension_inputs(options: &Value) -> Result<Extensions, LineError> {
+fn extension_inputs(options: &Value) -> Result<Extensions, LineError>
+    ensures { IfErr result IsInOptions }
+{
     match optional_object(options, "extensions")? {
         Some(inputs) => Ok(Extensions {
-            cred_props: truth(inputs, "credProps", false)?,
+            cred_props: flag(inputs, "credProps", false)?,
             cred_protect: cred_protect(inputs)?,
-            hmac_secret: truth(inputs, "hmacCreateSecret", false)?,
-            min_pin_length: truth(inputs, "minPinLength", false)?,
+            hmac_secret: flag(inputs, "hmacCreateSecret", false)?,
+            min_pin_length: flag(inputs, "minPinLength", false)?,
         }),
         None => Ok(Extensions {
             cred_props: false,
@@ -207,17 +222,20 @@ fn extension_inputs(options: &Value) -> Result<Extensions, LineError> {
 
 /// The account of `user`.
 fn account_of(alloc: Global, user: &Value) -> Result<Account, LineError>
-    ensures { IfOk result (λ a. HasBytes (codes "id") (view user.now) a.id.items) }
+    ensures found { IfOk result (λ a. HasBytes (codes "id") (view user.now) a.id.items) }
+    ensures amiss { IfErr result IsInOptions }
 {
     Ok(Account {
         id: bytes(alloc, user, "id")?,
-        name: owned_text(alloc, user, "name")?,
-        display_name: owned_text(alloc, user, "displayName")?,
+        name: optional_owned_text(alloc, user, "name")?,
+        display_name: optional_owned_text(alloc, user, "displayName")?,
     })
 }
 
 /// The requirements of `authenticatorSelection`: on discoverability, and on verification.
-fn selection(options: &Value) -> Result<(Requirement, Requirement), LineError> {
+fn selection(options: &Value) -> Result<(Requirement, Requirement), LineError>
+    ensures { IfErr result IsInOptions }
+{
     match optional_object(options, "authenticatorSelection")? {
         Some(selection) => Ok((resident(selection)?, verification(selection)?)),
         None => Ok((Requirement::Discouraged, Requirement::Preferred)),
@@ -226,20 +244,21 @@ fn selection(options: &Value) -> Result<(Requirement, Requirement), LineError> {
 
 /// The options of a line's registration.
 pub(crate) fn creation_options(alloc: Global, line: &Value) -> Result<CreationOptions, LineError>
-    ensures { IfOk result (SaysCreation (view line.now)) }
+    ensures found { IfOk result (SaysCreation (view line.now)) }
+    ensures amiss { IfErr result (OfOptions (view line.now)) }
 {
     let options = object(line, "options")?;
     let rp = object(options, "rp")?;
     let user = object(options, "user")?;
     let (resident, verification) = selection(options)?;
     Ok(CreationOptions {
-        origin: String::from_str(alloc, text(line, "origin")?)?,
-        rp_id: owned_text(alloc, rp, "id")?,
-        rp_name: owned_text(alloc, rp, "name")?,
+        origin: owned_text(alloc, line, "origin")?,
+        rp_id: optional_owned_text(alloc, rp, "id")?,
+        rp_name: optional_owned_text(alloc, rp, "name")?,
         user: account_of(alloc, user)?,
         challenge: bytes(alloc, options, "challenge")?,
         algorithms: algorithms(alloc, options)?,
-        exclude: ids(alloc, list(options, "excludeCredentials")?)?,
+        exclude: ids(alloc, items(options, "excludeCredentials")?)?,
         resident,
         verification,
         attestation: optional_text(options, "attestation")? == Some("direct"),
@@ -249,8 +268,10 @@ pub(crate) fn creation_options(alloc: Global, line: &Value) -> Result<CreationOp
 
 /// The ids of `allowCredentials`: a list that is not empty has one that is of a public key (WebAuthn Level 2, section
 /// 5.1.4.1).
-fn allowed(alloc: Global, options: &Value) -> Result<Vec<Vec<u8>>, LineError> {
-    let items = list(options, "allowCredentials")?;
+fn allowed(alloc: Global, options: &Value) -> Result<Vec<Vec<u8>>, LineError>
+    ensures { IfErr result IsInOptions }
+{
+    let items = items(options, "allowCredentials")?;
     let allow = ids(alloc, items)?;
     if allow.is_empty() && !items.is_empty() {
         return Err(LineError::BadForm("allowCredentials"));
@@ -260,12 +281,13 @@ fn allowed(alloc: Global, options: &Value) -> Result<Vec<Vec<u8>>, LineError> {
 
 /// The options of a line's sign-in.
 pub(crate) fn request_options(alloc: Global, line: &Value) -> Result<RequestOptions, LineError>
-    ensures { IfOk result (SaysRequest (view line.now)) }
+    ensures found { IfOk result (SaysRequest (view line.now)) }
+    ensures amiss { IfErr result (OfOptions (view line.now)) }
 {
     let options = object(line, "options")?;
     Ok(RequestOptions {
-        origin: String::from_str(alloc, text(line, "origin")?)?,
-        rp_id: owned_text(alloc, options, "rpId")?,
+        origin: owned_text(alloc, line, "origin")?,
+        rp_id: optional_owned_text(alloc, options, "rpId")?,
         challenge: bytes(alloc, options, "challenge")?,
         allow: allowed(alloc, options)?,
         verification: verification(options)?,

@@ -1,2 +1,3 @@
 mod Packets
 mod Taken
+pub mod Depths

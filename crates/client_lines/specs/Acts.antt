@@ -1,14 +1,18 @@
 -- What a line does to the act that is under way.
-use Rattle.std.specs.Prelude.{◌≡◌, ◌⊎◌, ℕ, List, [], ◌∷◌, ◌++◌, None, Some, Result, Ok, Err, string_bytes}
+use Rattle.std.specs.Prelude.{◌≡◌, ◌⊎◌, ℕ, List, [], ◌∷◌, ◌++◌, None, Option, Some, Result, Ok, Err, string_bytes}
 use Rattle.hidframe.specs.Frames.{TheZeroFrames}
 use Rattle.hidframe.specs.Pieces.{frame_list}
 use Rattle.hidframe.specs.declared.Packet.{Packet}
 use Rattle.hidframe.specs.declared.ctaphid.TheConstants.{CTAPHID_BROADCAST_CID, CTAPHID_CANCEL, CTAPHID_CBOR, CTAPHID_INIT}
 use Rattle.hidlink.specs.Wire.{Carries, Got}
-use Rattle.key_client.specs.Facts.{Facts}
+use Rattle.client_ceremony.specs.Facts.{Facts}
 use Rattle.pin_protocols.specs.Asks.{ask_view}
 use Rattle.client_lines.specs.Knowing.{forgotten, knowledge_facts}
+use Rattle.client_acts.specs.Faults.{IsRefused}
 use Rattle.client_acts.specs.Lines.{Reads}
+use Rattle.client_lines.specs.Written.{Writes, asked_in}
+use Rattle.json_lines.specs.Written.{IsTextOf}
+use Rattle.serde_json.specs.Data.{Data}
 use Rattle.client_lines.specs.Purposes.{IsPurposeOf}
 use Rattle.client_lines.specs.Steps.{IsDone, IsNextOf}
 use Rattle.client_acts.specs.declared.act.Act.{Act}
@@ -20,7 +24,8 @@ use Rattle.client_lines.specs.declared.answer.Told.{Told}
 use Rattle.client_lines.specs.declared.ceremony.Ceremony.{Ceremony}
 use Rattle.client_lines.specs.declared.ceremony.Link.{Link}
 use Rattle.client_lines.specs.declared.ceremony.Link.TheVariants.{Opening, Open}
-use Rattle.client_acts.specs.declared.error.LineError.{LineError}
+use Rattle.client_lines.specs.declared.fault.Fault.{Fault}
+use Rattle.client_lines.specs.declared.fault.Fault.TheVariants as faults
 use Rattle.client_lines.specs.declared.knowing.Knowledge.{Knowledge}
 use Rattle.client_lines.specs.declared.machine.Client.{Client}
 use Rattle.client_lines.specs.declared.stepping.Awaits.{Awaits}
@@ -89,7 +94,13 @@ CarriesOut old (acts.Begin begin) told new =
 CarriesOut old (acts.Further further) told new = (c : Ceremony) × (old.ceremony ≡ Some c) × (d : Ceremony) × TakesFurther c further told d
     × ((new.ceremony ≡ Some d) ⊎ (new.ceremony ≡ None))
 
--- What a line asks for is carried out; and one that is answered by an error changes nothing.
-abbrev pub Answers : Client → List ℕ → Result Told LineError → Client → Type 0
-Answers old line (Ok told) new = (id : ℕ) × (act : Act) × Reads line id act × CarriesOut old act told new
-Answers old line (Err error) new = new ≡ old
+-- What a line asks for is carried out, and told under its number; and one that is answered by an error changes nothing: it is
+-- refused for the cause that is named, or asks for what is not waited for.
+abbrev pub Answers : Client → List ℕ → Option ℕ → Result Told Fault → Client → Type 0
+Answers old line id (Ok told) new = (n : ℕ) × (act : Act) × Reads line n act × (id ≡ Some n) × CarriesOut old act told new
+Answers old line id (Err (faults.Line why)) new = IsRefused line id why × (new ≡ old)
+Answers old line id (Err (faults.Act why)) new = (n : ℕ) × (act : Act) × Reads line n act × (id ≡ Some n) × (new ≡ old)
+
+-- a text is the line of this answer, with its end
+abbrev pub IsWritten : Client → Option ℕ → Result Told Fault → List ℕ → Type 0
+IsWritten new id told text = (d : Data) × (body : List ℕ) × Writes (asked_in new.ceremony) id told d × IsTextOf d body × (text ≡ body ++ 10 ∷ [])

@@ -1,10 +1,10 @@
 -- What an act knows, and what it wishes for.
 use Rattle.std.specs.Prelude.{◌≡◌, ℕ, List, [], map, None, option_map, string_bytes, take, true}
-use Rattle.key_client.specs.Facts.{Facts}
-use Rattle.key_client.specs.declared.wish.Asserting.{Asserting}
-use Rattle.key_client.specs.declared.wish.Creating.{Creating}
-use Rattle.key_client.specs.declared.wish.Wish.{Wish}
-use Rattle.key_client.specs.declared.wish.Wish.TheVariants as wishes
+use Rattle.client_ceremony.specs.Facts.{Facts}
+use Rattle.client_ceremony.specs.declared.wish.Asserting.{Asserting}
+use Rattle.client_ceremony.specs.declared.wish.Creating.{Creating}
+use Rattle.client_ceremony.specs.declared.wish.Wish.{Wish}
+use Rattle.client_ceremony.specs.declared.wish.Wish.TheVariants as wishes
 use Rattle.pin_protocols.specs.Asks.{entries}
 use Rattle.client_lines.specs.declared.knowing.Knowledge.{Knowledge}
 use Rattle.client_lines.specs.declared.purpose.Purpose.{Purpose}

@@ -2,10 +2,10 @@
 use Rattle.std.specs.Prelude.{◌≡◌, ◌⊎◌, ℕ, [], ◌∷◌, length}
 use Rattle.hidframe.specs.declared.ctaphid.TheConstants.{CTAPHID_CBOR}
 use Rattle.hidframe.specs.Frames.{TheZeroFrames}
-use Rattle.key_client.specs.Ceremonies.{IsNext}
-use Rattle.key_client.specs.declared.step.Step.{Step}
-use Rattle.key_client.specs.declared.step.Step.TheVariants as steps
-use Rattle.key_client.specs.declared.wish.Wish.{Wish}
+use Rattle.client_ceremony.specs.Ceremonies.{IsNext}
+use Rattle.client_ceremony.specs.declared.step.Step.{Step}
+use Rattle.client_ceremony.specs.declared.step.Step.TheVariants as steps
+use Rattle.client_ceremony.specs.declared.wish.Wish.{Wish}
 use Rattle.client_lines.specs.Knowing.{IsWishOf, knowledge_facts, replies_of}
 use Rattle.client_lines.specs.declared.answer.Answer.TheVariants as answers
 use Rattle.client_lines.specs.declared.answer.Told.{Told}

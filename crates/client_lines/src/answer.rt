@@ -3,8 +3,8 @@
 ghost use Rattle.std.specs.Prelude.{◌≡◌, []};
 
 use crate::refused::Refused;
+use crate::shallow::{ShallowMembers, ShallowValue};
 use hidframe::Packet;
-use serde_json::{Map, Value};
 use std::alloc::Global;
 
 /// What an act is answered.
@@ -21,13 +21,13 @@ pub(crate) enum Answer {
     /// The host is to compute what the act waits for.
     Asks,
     /// The user is to choose one of these credentials.
-    Chooses(Value),
+    Chooses(ShallowValue),
     /// A credential is registered, by this response.
-    Registered(Value),
+    Registered(ShallowValue),
     /// The user signs in, by this response.
-    SignedIn(Value),
+    SignedIn(ShallowValue),
     /// What the key tells of itself.
-    Informs(Map<String, Value>),
+    Informs(ShallowMembers),
     /// The PIN is set, or changed.
     PinIsSet,
     /// The act is over without having done what it was to do.

@@ -1,24 +1,26 @@
 //! An act that is under way.
 
-ghost use Rattle.std.specs.Prelude.{◌≡◌, ◌++◌, [], ◌∷◌, IfOk, List, OnErr};
+ghost use Rattle.std.specs.Prelude.{◌≡◌, ◌++◌, [], ◌∷◌, IfOk, List, OnErr, option_map};
 ghost use Rattle.hidframe.specs.declared.Packet.{Packet};
 ghost use Rattle.hidlink.specs.Wire.{Got};
 ghost use Rattle.client_lines.specs.Acts.{Begins, Knows, Receives, ReceivesBy, SendsBy, SendsOn, TakesFurther};
 ghost use Rattle.client_lines.specs.Knowing.{knowledge_facts};
 ghost use Rattle.client_lines.specs.Purposes.{IsPurposeOf};
+ghost use Rattle.client_lines.specs.Written.{awaited};
 ghost use Rattle.client_acts.specs.declared.act.Further.TheVariants as furthers;
 
 use crate::answer::{Answer, Told};
 use crate::channel::{Channel, Fed};
+use crate::fault::NotTaken;
 use crate::knowing::Knowledge;
 use crate::purpose::{Purpose, checked_registration, checked_sign_in};
 use crate::refused::Refused;
 use crate::stepping::{Awaits, go_on};
-use client_acts::{Aim, Begin, Further, LineError};
+use client_acts::{Aim, Begin, Further};
+use client_ceremony::Refusal;
 use hidframe::ctaphid::{CAPABILITY_CBOR, CTAPHID_BROADCAST_CID, CTAPHID_INIT, ERR_INVALID_CMD};
 use hidframe::{Head, Packet};
 use hidlink::{Opener, Opening};
-use key_client::Refusal;
 use pin_protocols::Ask;
 use std::alloc::Global;
 use std::mem;
@@ -122,7 +124,9 @@ impl Ceremony {
     }
 
     /// What the host is asked to compute.
-    pub(crate) fn asked(&self) -> Option<&Ask> {
+    pub(crate) fn asked(&self) -> Option<&Ask>
+        ensures { option_map (λ a. a.now) result ≡ awaited self.now.awaits }
+    {
         match &self.awaits {
             Awaits::Computed(ask) => Some(ask),
             _ => None,
@@ -181,24 +185,24 @@ impl Ceremony {
     }
 
     /// A packet came from the key.
-    fn packet(&mut self, alloc: Global, packet: &Packet) -> Result<Told, LineError>
+    fn packet(&mut self, alloc: Global, packet: &Packet) -> Result<Told, NotTaken>
         ensures taken { IfOk result (λ told. TakesFurther self.old (furthers.Packet packet.now) told self.new) }
         ensures unchanged { OnErr result (self.new ≡ self.old) }
     {
         if !matches!(self.awaits, Awaits::Packet) {
-            return Err(LineError::NotAwaited);
+            return Err(NotTaken::NotAwaited);
         }
         let came = self.open(alloc, packet);
         Ok(self.settle(alloc, came))
     }
 
     /// The user entered a PIN.
-    fn pin(&mut self, alloc: Global, pin: String) -> Result<Told, LineError>
+    fn pin(&mut self, alloc: Global, pin: String) -> Result<Told, NotTaken>
         ensures taken { IfOk result (λ told. TakesFurther self.old (furthers.Pin pin) told self.new) }
         ensures unchanged { OnErr result (self.new ≡ self.old) }
     {
         if !matches!(self.awaits, Awaits::Pin) {
-            return Err(LineError::NotAwaited);
+            return Err(NotTaken::NotAwaited);
         }
         self.knowledge.pin = Some(pin);
         self.knowledge.is_wrong = false;
@@ -206,7 +210,7 @@ impl Ceremony {
     }
 
     /// The host computed what was asked for.
-    fn computed(&mut self, alloc: Global, bytes: Vec<u8>) -> Result<Told, LineError>
+    fn computed(&mut self, alloc: Global, bytes: Vec<u8>) -> Result<Told, NotTaken>
         ensures taken { IfOk result (λ told. TakesFurther self.old (furthers.Computed bytes) told self.new) }
         ensures unchanged { OnErr result (self.new ≡ self.old) }
     {
@@ -220,25 +224,25 @@ impl Ceremony {
             }
             other => {
                 self.awaits = other;
-                Err(LineError::NotAwaited)
+                Err(NotTaken::NotAwaited)
             }
         }
     }
 
     /// The user chose a credential.
-    fn choose(&mut self, alloc: Global, number: u64) -> Result<Told, LineError>
+    fn choose(&mut self, alloc: Global, number: u64) -> Result<Told, NotTaken>
         ensures taken { IfOk result (λ told. TakesFurther self.old (furthers.Choose number) told self.new) }
         ensures unchanged { OnErr result (self.new ≡ self.old) }
     {
         let Awaits::Choice(count) = self.awaits else {
-            return Err(LineError::NotAwaited);
+            return Err(NotTaken::NotAwaited);
         };
         match usize::try_from(number) {
             Ok(number) if number < count => {
                 self.knowledge.chosen = Some(number);
                 Ok(self.go_on(alloc))
             }
-            _ => Err(LineError::NoSuchCredential),
+            _ => Err(NotTaken::NoSuchCredential),
         }
     }
 
@@ -260,7 +264,7 @@ impl Ceremony {
     }
 
     /// Takes what takes the act further; an error changes nothing.
-    pub(crate) fn take(&mut self, alloc: Global, further: Further) -> Result<Told, LineError>
+    pub(crate) fn take(&mut self, alloc: Global, further: Further) -> Result<Told, NotTaken>
         ensures taken { IfOk result (λ told. TakesFurther self.old further told self.new) }
         ensures unchanged { OnErr result (self.new ≡ self.old) }
     {

@@ -1,14 +1,14 @@
 //! What an act knows, and what it wishes for.
 
 ghost use Rattle.std.specs.Prelude.{◌≡◌, [], IfOk, None, map, option_map, string_bytes};
-ghost use Rattle.key_client.specs.Facts.{facts};
+ghost use Rattle.client_ceremony.specs.Facts.{facts};
 ghost use Rattle.client_lines.specs.Knowing.{Forgets, IsWishOf, knowledge_facts};
 ghost use Rattle.client_lines.specs.declared.purpose.Purpose.TheVariants as purposes;
 
 use crate::purpose::{Purpose, Registration, SignIn};
 use client_acts::Extensions;
-use key_client::{Asserting, Creating, Known, Wish};
-use key_requests::{CreationExtensions, RelyingParty, User};
+use client_ceremony::{Asserting, Creating, Known, Wish};
+use ctap_open_requests::{CreationExtensions, RelyingParty, User};
 use pin_protocols::Answers;
 use std::alloc::{AllocError, Global};
 

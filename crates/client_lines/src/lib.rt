@@ -5,6 +5,7 @@
 mod answer;
 mod ceremony;
 mod channel;
+mod fault;
 mod information;
 mod knowing;
 mod line;
@@ -12,9 +13,11 @@ mod machine;
 mod purpose;
 mod refused;
 mod responses;
+mod shallow;
 mod stepping;
 mod values;
 mod writing;
 
+pub use fault::{Fault, NotTaken};
 pub use line::answer_line;
 pub use machine::Client;

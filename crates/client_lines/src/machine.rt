@@ -1,12 +1,14 @@
 //! The client: at most one act is under way.
 
-ghost use Rattle.std.specs.Prelude.{◌≡◌, ◌⊎◌, None, IfOk, OnErr};
+ghost use Rattle.std.specs.Prelude.{◌≡◌, ◌⊎◌, None, IfOk, OnErr, option_map};
 ghost use Rattle.client_lines.specs.Acts.{CarriesOut, Takes};
+ghost use Rattle.client_lines.specs.Written.{asked_in};
 ghost use Rattle.client_acts.specs.declared.act.Act.TheVariants as acts;
 
 use crate::answer::{Answer, Told};
 use crate::ceremony::Ceremony;
-use client_acts::{Act, Begin, Further, LineError};
+use crate::fault::NotTaken;
+use client_acts::{Act, Begin, Further};
 use pin_protocols::Ask;
 use std::alloc::Global;
 
@@ -25,7 +27,9 @@ impl Client {
     }
 
     /// What the host is asked to compute.
-    pub(crate) fn asked(&self) -> Option<&Ask> {
+    pub(crate) fn asked(&self) -> Option<&Ask>
+        ensures { option_map (λ a. a.now) result ≡ asked_in self.now.ceremony }
+    {
         match &self.ceremony {
             Some(ceremony) => ceremony.asked(),
             None => None,
@@ -49,13 +53,13 @@ impl Client {
     }
 
     /// Takes the act that is under way further.
-    fn take(&mut self, alloc: Global, further: Further) -> Result<Told, LineError>
+    fn take(&mut self, alloc: Global, further: Further) -> Result<Told, NotTaken>
         ensures told { IfOk result (λ told. Takes self.old further told self.new) }
         ensures unchanged { OnErr result (self.new ≡ self.old) }
     {
         match &mut self.ceremony {
             Some(ceremony) => ceremony.take(alloc, further),
-            None => Err(LineError::NothingBegun),
+            None => Err(NotTaken::NothingBegun),
         }
     }
 
@@ -69,7 +73,7 @@ impl Client {
     }
 
     /// The same, and ends it where it is over.
-    fn further(&mut self, alloc: Global, further: Further) -> Result<Told, LineError>
+    fn further(&mut self, alloc: Global, further: Further) -> Result<Told, NotTaken>
         ensures told { IfOk result (λ told. CarriesOut self.old (acts.Further further) told self.new) }
         ensures unchanged { OnErr result (self.new ≡ self.old) }
     {
@@ -79,7 +83,7 @@ impl Client {
     }
 
     /// Carries out what a line asks for.
-    pub(crate) fn carry_out(&mut self, alloc: Global, act: Act) -> Result<Told, LineError>
+    pub(crate) fn carry_out(&mut self, alloc: Global, act: Act) -> Result<Told, NotTaken>
         ensures told { IfOk result (λ told. CarriesOut self.old act told self.new) }
         ensures unchanged { OnErr result (self.new ≡ self.old) }
     {

@@ -8,8 +8,8 @@ ghost use Rattle.client_lines.specs.Purposes.{IsRegistrationOf, IsSignInOf};
 use crate::refused::Refused;
 use client::{RequestError, check_origin};
 use client_acts::{Account, CreationOptions, Extensions, RequestOptions};
+use client_ceremony::{Refusal, Requirement};
 use clientdata::{CeremonyType, ClientData, hash, serialise};
-use key_client::{Refusal, Requirement};
 use std::alloc::{AllocError, Global};
 
 /// The most bytes of a user handle (WebAuthn Level 2, section 4).

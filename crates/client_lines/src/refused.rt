@@ -1,10 +1,11 @@
 //! Why an act is over without having done what it was to do.
 
-use key_client::Refusal;
-use std::alloc::{AllocError, AllocFailed};
+ghost use Rattle.std.specs.Prelude.{◌≡◌};
+ghost use Rattle.client_lines.specs.Written.{code_of, refused_name, status_of};
 
-/// The status of a request that was cancelled (CTAP 2.1, section 8.2).
-const KEEPALIVE_CANCEL: u8 = 0x2D;
+use client_ceremony::Refusal;
+use ctap_encoding::status::KEEPALIVE_CANCEL;
+use std::alloc::{AllocError, AllocFailed};
 
 /// Why an act is over without having done what it was to do.
 #[derive(Debug, Drop, thiserror::Error)]
@@ -27,14 +28,16 @@ pub enum Refused {
     /// A packet of the key fits no reply.
     #[error("the key's packets are no reply")]
     ChannelDead,
-    /// Each other cause (`key_client`).
+    /// Each other cause (`client_ceremony`).
     #[error("{0}")]
     Client(Refusal),
 }
 
 impl Refused {
     /// Its name in a line.
-    pub(crate) fn name(&self) -> &'static str {
+    pub(crate) fn name(&self) -> &'static str
+        ensures { result.now ≡ refused_name self.now }
+    {
         match self {
             Refused::BadOrigin => "bad_origin",
             Refused::RpIdNotOfOrigin => "rp_id_not_of_origin",
@@ -47,7 +50,9 @@ impl Refused {
     }
 
     /// The key's status byte, where it refused by one that has no name.
-    pub(crate) fn status(&self) -> Option<u8> {
+    pub(crate) fn status(&self) -> Option<u8>
+        ensures { result ≡ status_of self.now }
+    {
         match self {
             Refused::Cancelled => Some(KEEPALIVE_CANCEL),
             Refused::Client(Refusal::Status(status)) => Some(*status),
@@ -56,7 +61,9 @@ impl Refused {
     }
 
     /// The code of the error of CTAPHID.
-    pub(crate) fn code(&self) -> Option<u8> {
+    pub(crate) fn code(&self) -> Option<u8>
+        ensures { result ≡ code_of self.now }
+    {
         match self {
             Refused::DeviceError(code) => Some(*code),
             _ => None,

@@ -1,16 +1,23 @@
 //! Responses as a relying party takes them: `RegistrationResponseJSON` and `AuthenticationResponseJSON` (WebAuthn Level 3,
 //! section 5.1), each value of bytes in base64url without padding.
 
+ghost use Rattle.std.specs.Prelude.{◌≤◌, IfOk, OnOk};
+ghost use Rattle.serde_json.specs.Data.{depth, items_depth};
+ghost use Rattle.serde_json.specs.View.{items_view, members_view, view};
+ghost use Rattle.client_lines.specs.Shallow.{AreFlat, IsFlat};
+
 use crate::information::key_info;
 use crate::knowing::Knowledge;
 use crate::purpose::{Purpose, Registration};
 use crate::refused::Refused;
-use crate::values::{base64_text, text_or_null, texts};
+use crate::shallow::ShallowValue;
+use crate::values::{put_flat, text_or_null, texts};
 use authdata::{AttestationObject, AuthView, Profile, read_view};
+use client_ceremony::{Refusal, is_discoverable};
 use cose::KeyView;
-use key_client::{Refusal, is_discoverable};
-use key_replies::{KeyAssertion, KeyCreation, KeyInfo, UserView};
-use serde_json::{Map, Value, json, put};
+use ctap_open_replies::{KeyAssertion, KeyCreation, KeyInfo, UserView};
+use json_lines::base64_text;
+use serde_json::{Map, Value, json};
 use std::alloc::{AllocError, Global};
 
 /// What stands before the point of an ES256 key in a SubjectPublicKeyInfo (RFC 5480, section 2), with the byte of its form.
@@ -29,15 +36,18 @@ fn put_user(
     alloc: Global,
     user: &Option<UserView<'_>>,
     out: &mut Map<String, Value>,
-) -> Result<(), AllocError> {
+) -> Result<(), AllocError>
+    requires { AreFlat (members_view out.old.entries) }
+    ensures { OnOk result (AreFlat (members_view out.new.entries)) }
+{
     let Some(user) = user else {
-        put(out, alloc, "user_id", Value::Null)?;
-        put(out, alloc, "user_name", Value::Null)?;
-        return put(out, alloc, "display_name", Value::Null);
+        put_flat(out, alloc, "user_id", Value::Null)?;
+        put_flat(out, alloc, "user_name", Value::Null)?;
+        return put_flat(out, alloc, "display_name", Value::Null);
     };
-    put(out, alloc, "user_id", base64_text(alloc, user.id)?)?;
-    put(out, alloc, "user_name", text_or_null(alloc, user.name)?)?;
-    put(
+    put_flat(out, alloc, "user_id", base64_text(alloc, user.id)?)?;
+    put_flat(out, alloc, "user_name", text_or_null(alloc, user.name)?)?;
+    put_flat(
         out,
         alloc,
         "display_name",
@@ -46,9 +56,11 @@ fn put_user(
 }
 
 /// A credential that may be chosen.
-fn choice(alloc: Global, assertion: &KeyAssertion<'_>) -> Result<Value, AllocError> {
+fn choice(alloc: Global, assertion: &KeyAssertion<'_>) -> Result<Value, AllocError>
+    ensures { IfOk result (λ v. depth (view v) ≤ 3) }
+{
     let mut members = Map::new(alloc);
-    put(
+    put_flat(
         &mut members,
         alloc,
         "id",
@@ -58,13 +70,27 @@ fn choice(alloc: Global, assertion: &KeyAssertion<'_>) -> Result<Value, AllocErr
     Ok(Value::Object(members))
 }
 
-/// The credentials that may be chosen.
-pub(crate) fn choices(alloc: Global, list: &[KeyAssertion<'_>]) -> Result<Value, AllocError> {
+/// The credentials that may be chosen, as a list.
+#[tactic(auto, using(crate::proofs::Depths::items_more))]
+fn choice_list(alloc: Global, list: &[KeyAssertion<'_>]) -> Result<Vec<Value>, AllocError>
+    ensures { IfOk result (λ told. items_depth (items_view told.items) ≤ 3) }
+{
     let mut told = Vec::with_capacity(alloc, list.len())?;
     for assertion in list {
         told.push(choice(alloc, assertion)?)?;
     }
-    Ok(Value::Array(told))
+    Ok(told)
+}
+
+/// The credentials that may be chosen.
+pub(crate) fn choices(
+    alloc: Global,
+    list: &[KeyAssertion<'_>],
+) -> Result<ShallowValue, AllocError> {
+    let told = choice_list(alloc, list)?;
+    Ok(ShallowValue {
+        value: Value::Array(told),
+    })
 }
 
 /// A public key credential of these parts.
@@ -73,13 +99,17 @@ fn credential(
     id: &[u8],
     response: Value,
     results: Value,
-) -> Result<Value, AllocError> {
+) -> Result<ShallowValue, AllocError>
+    requires response { depth (view response) ≤ 3 }
+    requires results { IsFlat (view results) }
+{
     let raw_id = base64_text(alloc, id)?;
     let id = base64_text(alloc, id)?;
-    json!(in alloc; {
+    let value = json!(in alloc; {
         "id": id, "rawId": raw_id, "type": "public-key", "authenticatorAttachment": "cross-platform",
         "clientExtensionResults": results, "response": response
-    })
+    })?;
+    Ok(ShallowValue { value })
 }
 
 /// The SubjectPublicKeyInfo of a key; nothing of an RSA key.
@@ -101,19 +131,18 @@ fn public_key(alloc: Global, key: &KeyView<'_>) -> Result<Option<Vec<u8>>, Alloc
 }
 
 /// Adds a key: its algorithm, and the key itself where it is no RSA key.
-fn put_key(
-    alloc: Global,
-    key: &KeyView<'_>,
-    out: &mut Map<String, Value>,
-) -> Result<(), AllocError> {
-    put(
+fn put_key(alloc: Global, key: &KeyView<'_>, out: &mut Map<String, Value>) -> Result<(), AllocError>
+    requires { AreFlat (members_view out.old.entries) }
+    ensures { OnOk result (AreFlat (members_view out.new.entries)) }
+{
+    put_flat(
         out,
         alloc,
         "publicKeyAlgorithm",
         Value::from(key.alg().number()),
     )?;
     match public_key(alloc, key)? {
-        Some(bytes) => put(
+        Some(bytes) => put_flat(
             out,
             alloc,
             "publicKey",
@@ -165,7 +194,9 @@ fn told(alloc: Global, replies: &[Vec<u8>]) -> Result<KeyInfo<'_>, Refused> {
 }
 
 /// The transports that the key told; USB where it told none.
-fn transports(alloc: Global, info: &KeyInfo<'_>) -> Result<Value, AllocError> {
+fn transports(alloc: Global, info: &KeyInfo<'_>) -> Result<Value, AllocError>
+    ensures { IfOk result (λ v. IsFlat (view v)) }
+{
     match &info.transports {
         Some(list) => texts(alloc, list.as_slice()),
         None => texts(alloc, &["usb"]),
@@ -177,7 +208,9 @@ fn results(
     alloc: Global,
     registration: &Registration,
     info: &KeyInfo<'_>,
-) -> Result<Value, AllocError> {
+) -> Result<Value, AllocError>
+    ensures { IfOk result (λ v. IsFlat (view v)) }
+{
     if !registration.extensions.cred_props {
         return Ok(Value::Object(Map::new(alloc)));
     }
@@ -191,15 +224,17 @@ fn told_parts(
     key: &KeyView<'_>,
     info: &KeyInfo<'_>,
     auth_data: &[u8],
-) -> Result<Map<String, Value>, AllocError> {
+) -> Result<Map<String, Value>, AllocError>
+    ensures { IfOk result (λ m. AreFlat (members_view m.entries)) }
+{
     let mut parts = Map::new(alloc);
-    put(
+    put_flat(
         &mut parts,
         alloc,
         "authenticatorData",
         base64_text(alloc, auth_data)?,
     )?;
-    put(&mut parts, alloc, "transports", transports(alloc, info)?)?;
+    put_flat(&mut parts, alloc, "transports", transports(alloc, info)?)?;
     put_key(alloc, key, &mut parts)?;
     Ok(parts)
 }
@@ -223,19 +258,19 @@ fn registered(
     registration: &Registration,
     info: &KeyInfo<'_>,
     creation: KeyCreation,
-) -> Result<Value, Refused> {
+) -> Result<ShallowValue, Refused> {
     let (id, key) = attested(creation.auth_data.as_slice())?;
     let id = Vec::from_slice(alloc, id)?;
     let mut parts = told_parts(alloc, &key, info, creation.auth_data.as_slice())?;
     let object = attestation_object(alloc, creation, registration.attestation)?;
     let client_data = registration.client_data.as_bytes();
-    put(
+    put_flat(
         &mut parts,
         alloc,
         "attestationObject",
         base64_text(alloc, object.as_slice())?,
     )?;
-    put(
+    put_flat(
         &mut parts,
         alloc,
         "clientDataJSON",
@@ -250,7 +285,7 @@ pub(crate) fn creation_response(
     alloc: Global,
     knowledge: &Knowledge,
     creation: KeyCreation,
-) -> Result<Value, Refused> {
+) -> Result<ShallowValue, Refused> {
     let Purpose::Registers(registration) = &knowledge.purpose else {
         return Err(Refused::Client(Refusal::NotReadable));
     };
@@ -258,39 +293,49 @@ pub(crate) fn creation_response(
     registered(alloc, registration, &info, creation)
 }
 
+/// Adds the user handle, where the key told it.
+fn put_user_handle(
+    alloc: Global,
+    user: &Option<UserView<'_>>,
+    out: &mut Map<String, Value>,
+) -> Result<(), AllocError>
+    requires { AreFlat (members_view out.old.entries) }
+    ensures { OnOk result (AreFlat (members_view out.new.entries)) }
+{
+    match user {
+        Some(user) => put_flat(out, alloc, "userHandle", base64_text(alloc, user.id)?),
+        None => Ok(()),
+    }
+}
+
 /// The parts of a sign-in's response.
 fn assertion_parts(
     alloc: Global,
     client_data: &[u8],
     assertion: &KeyAssertion<'_>,
-) -> Result<Value, AllocError> {
+) -> Result<Value, AllocError>
+    ensures { IfOk result (λ v. depth (view v) ≤ 3) }
+{
     let mut parts = Map::new(alloc);
-    put(
+    put_flat(
         &mut parts,
         alloc,
         "clientDataJSON",
         base64_text(alloc, client_data)?,
     )?;
-    put(
+    put_flat(
         &mut parts,
         alloc,
         "authenticatorData",
         base64_text(alloc, assertion.auth_data)?,
     )?;
-    put(
+    put_flat(
         &mut parts,
         alloc,
         "signature",
         base64_text(alloc, assertion.signature)?,
     )?;
-    if let Some(user) = &assertion.user {
-        put(
-            &mut parts,
-            alloc,
-            "userHandle",
-            base64_text(alloc, user.id)?,
-        )?;
-    }
+    put_user_handle(alloc, &assertion.user, &mut parts)?;
     Ok(Value::Object(parts))
 }
 
@@ -299,7 +344,7 @@ pub(crate) fn assertion_response(
     alloc: Global,
     knowledge: &Knowledge,
     assertion: &KeyAssertion<'_>,
-) -> Result<Value, Refused> {
+) -> Result<ShallowValue, Refused> {
     let Purpose::SignsIn(sign_in) = &knowledge.purpose else {
         return Err(Refused::Client(Refusal::NotReadable));
     };

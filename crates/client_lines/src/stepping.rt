@@ -1,8 +1,8 @@
 //! From a step of the client's machine to what is done.
 
 ghost use Rattle.std.specs.Prelude.{◌≡◌, ◌⊎◌, [], IfOk};
-ghost use Rattle.key_client.specs.Ceremonies.{IsNext};
-ghost use Rattle.key_client.specs.declared.step.Step.{Step};
+ghost use Rattle.client_ceremony.specs.Ceremonies.{IsNext};
+ghost use Rattle.client_ceremony.specs.declared.step.Step.{Step};
 ghost use Rattle.client_lines.specs.Knowing.{Forgets, knowledge_facts, replies_of};
 ghost use Rattle.client_lines.specs.Steps.{Asks, Informs, IsDone, IsNextBy, IsNextOf};
 ghost use Rattle.client_lines.specs.declared.stepping.Next.{Next};
@@ -14,8 +14,8 @@ use crate::knowing::{Knowledge, asserting, creating, lent};
 use crate::purpose::Purpose;
 use crate::refused::Refused;
 use crate::responses::{assertion_response, choices, creation_response};
-use key_client::{Refusal, Step, Wish, next_step};
-use key_requests::GET_INFO;
+use client_ceremony::{Refusal, Step, Wish, next_step};
+use ctap_encoding::command::GET_INFO;
 use pin_protocols::Ask;
 use std::alloc::Global;
 

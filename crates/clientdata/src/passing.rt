@@ -88,7 +88,7 @@ fn has_minus(bytes: &[u8]) -> bool
     !bytes.is_empty() && bytes[0] == b'-'
 }
 
-/// The same of a number's text.
+/// Whether a number's text is of a value that is taken.
 fn is_taken(text: &str) -> bool
     ensures { result ≡ is_some (number_of text.now) }
 {
@@ -168,7 +168,7 @@ fn next_item<'a>(reader: &mut Reader<'a>) -> Result<Option<Token<'a>>, Invalid>
     }
 }
 
-/// The same of an object or an array.
+/// The token with which the next value of an object or an array begins; none where it ended.
 fn next_value<'a>(is_object: bool, reader: &mut Reader<'a>) -> Result<Option<Token<'a>>, Invalid>
     ensures left { (depth : ℕ) → MatchResult result
         (λ token. GoesOn is_object depth (option_map token_of token) reader.old reader.new)

@@ -1,5 +1,5 @@
 -- The numbers of this product's refusals. Want of memory is none, and a request's status is a byte of CTAP.
-use Rattle.std.specs.Prelude.{ℕ, Option, Some, None}
+use Rattle.std.specs.Prelude.{◌≡◌, ◌⊎◌, ℕ, Option, Some, None}
 use Rattle.ctap_encoding.specs.declared.error.Error.{Error}
 use Rattle.ctap_encoding.specs.declared.error.Error.TheVariants as errors
 use Rattle.ctap_encoding.specs.declared.map_error.MapError.{MapError}
@@ -18,3 +18,7 @@ refusal_number (errors.Status s) = None
 abbrev pub of_map : MapError → Error
 of_map refusals.Memory = errors.Memory
 of_map refusals.Shape = errors.Shape
+
+-- why a message is not written
+abbrev pub IsWritingError : Error → Type 0
+IsWritingError e = (e ≡ errors.Unfit) ⊎ (e ≡ errors.Memory)

@@ -1,6 +1,6 @@
 //! Writing the reply to a getAssertion or getNextAssertion, member by member.
 
-ghost use Rattle.std.specs.Prelude.{◌≡◌, ◌<◌, ◌≤◌, ◌^◌, ◌∷◌, ◌++◌, ℕ, List, ◌⊎◌, IfOk, IfErr, IfSome, IsErrOf, IsTrue, ◌↔◌, OnOk, option_map};
+ghost use Rattle.std.specs.Prelude.{◌≡◌, ◌<◌, ◌≤◌, ◌^◌, ◌∷◌, ◌++◌, ℕ, List, IfOk, IfErr, IfSome, IsErrOf, IsTrue, ◌↔◌, OnOk, option_map};
 ghost use Rattle.ccbor.specs.Canon.{spelling};
 ghost use Rattle.ctap_encoding.specs.Content.{item_of};
 ghost use Rattle.ctap_encoding.specs.Table.{record_of};
@@ -8,6 +8,7 @@ ghost use Rattle.ctap_replies.specs.Pieces.{HasSizes, IsIdSize, member_count, nu
 ghost use Rattle.ctap_replies.specs.Replies.{credential_members, credential_content, reply_user_members, reply_user_content, assertion_reply};
 ghost use Rattle.ctap_replies.specs.Replies.{assertion_reply_item, next_reply, ReplyOf};
 ghost use Rattle.ctap_replies.specs.ReplyView.{assertion_reply_view, lent_assertion_view};
+ghost use Rattle.ctap_encoding.specs.Numbers.{IsWritingError};
 ghost use Rattle.ctap_encoding.specs.declared.error.Error.TheVariants as errors;
 
 use crate::reply::{AssertionReply, AssertionView};
@@ -172,7 +173,7 @@ pub fn write_assertion(alloc: Global, reply: &AssertionView<'_>) -> Result<Vec<u
         → (bs : List ℕ) → ReplyOf (assertion_reply (lent_assertion_view reply.now)) bs → ⊥ }
     ensures unfit_next { IsErrOf result errors.Unfit
         → (bs : List ℕ) → ReplyOf (next_reply (lent_assertion_view reply.now)) bs → ⊥ }
-    ensures errors { IfErr result (λ e. (e ≡ errors.Unfit) ⊎ (e ≡ errors.Memory)) }
+    ensures errors { IfErr result IsWritingError }
 {
     if !has_sizes(reply) {
         return Err(Error::Unfit);

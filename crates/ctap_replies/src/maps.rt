@@ -11,6 +11,7 @@ ghost use Rattle.ctap_replies.specs.ReplyView.{creation_reply_view, lent_asserti
 
 use crate::reply::{AssertionView, CreationReply, InfoReply};
 use ccbor::{MapKey, View};
+use ctap_encoding::member::{get_assertion_reply, get_info_reply, make_credential_reply};
 use ctap_encoding::{
     MapError, Shape, any_map, bytes, end, items, members, optional, required, sized, text,
     that_text, truth, unsigned,
@@ -59,18 +60,18 @@ pub fn assertion_reply<'a>(value: &View<'a>) -> Result<AssertionView<'a>, Shape>
         (read_in (record_of assertion_reply_members) (shown value.now)) }
 {
     let rest = members(value)?;
-    let (held, rest) = required(&rest, MapKey::Uint(1))?;
+    let (held, rest) = required(&rest, get_assertion_reply::CREDENTIAL)?;
     let credential = credential(&held)?;
-    let (held, rest) = required(&rest, MapKey::Uint(2))?;
+    let (held, rest) = required(&rest, get_assertion_reply::AUTH_DATA)?;
     let auth_data = bytes(&held)?;
-    let (held, rest) = required(&rest, MapKey::Uint(3))?;
+    let (held, rest) = required(&rest, get_assertion_reply::SIGNATURE)?;
     let signature = bytes(&held)?;
-    let (held, rest) = optional(rest, MapKey::Uint(4));
+    let (held, rest) = optional(rest, get_assertion_reply::USER);
     let user = match held {
         Some(held) => Some(user(&held)?),
         None => None,
     };
-    let (held, rest) = optional(rest, MapKey::Uint(5));
+    let (held, rest) = optional(rest, get_assertion_reply::NUMBER_OF_CREDENTIALS);
     let number = match held {
         Some(held) => Some(unsigned(&held, 2)?),
         None => None,
@@ -91,11 +92,11 @@ pub fn creation_reply(alloc: Global, value: &View<'_>) -> Result<CreationReply, 
         (read_in (record_of creation_reply_members) (shown value.now)) }
 {
     let rest = members(value)?;
-    let (held, rest) = required(&rest, MapKey::Uint(1))?;
+    let (held, rest) = required(&rest, make_credential_reply::FMT)?;
     let fmt = text(alloc, &held)?;
-    let (held, rest) = required(&rest, MapKey::Uint(2))?;
+    let (held, rest) = required(&rest, make_credential_reply::AUTH_DATA)?;
     let auth_data = bytes(&held)?;
-    let (held, rest) = required(&rest, MapKey::Uint(3))?;
+    let (held, rest) = required(&rest, make_credential_reply::ATT_STMT)?;
     any_map(&held)?;
     end(&rest)?;
     Ok(CreationReply {
@@ -145,18 +146,18 @@ pub fn info(alloc: Global, value: &View<'_>) -> Result<InfoReply, MapError>
         (read_in (record_of info_members) (shown value.now)) }
 {
     let rest = members(value)?;
-    let (held, rest) = required(&rest, MapKey::Uint(1))?;
+    let (held, rest) = required(&rest, get_info_reply::VERSIONS)?;
     let versions = texts(alloc, &held)?;
-    let (held, rest) = required(&rest, MapKey::Uint(3))?;
+    let (held, rest) = required(&rest, get_info_reply::AAGUID)?;
     sized(&held, 16, 16)?;
     let aaguid = bytes(&held)?;
-    let (held, rest) = required(&rest, MapKey::Uint(4))?;
+    let (held, rest) = required(&rest, get_info_reply::OPTIONS)?;
     let options = truths(alloc, &held)?;
-    let (held, rest) = required(&rest, MapKey::Uint(5))?;
+    let (held, rest) = required(&rest, get_info_reply::MAX_MSG_SIZE)?;
     let max_msg_size = unsigned(&held, 0)?;
-    let (held, rest) = required(&rest, MapKey::Uint(7))?;
+    let (held, rest) = required(&rest, get_info_reply::MAX_CREDENTIAL_COUNT_IN_LIST)?;
     let max_credential_count_in_list = unsigned(&held, 0)?;
-    let (held, rest) = required(&rest, MapKey::Uint(8))?;
+    let (held, rest) = required(&rest, get_info_reply::MAX_CREDENTIAL_ID_LENGTH)?;
     let max_credential_id_length = unsigned(&held, 0)?;
     end(&rest)?;
     Ok(InfoReply {

@@ -5,26 +5,35 @@ ghost use Rattle.ccbor.specs.View.{view};
 ghost use Rattle.ctap_encoding.specs.Table.{gravest, record_of};
 ghost use Rattle.ctap_replies.specs.Replies.{creation_reply_members, info_members};
 
-use ccbor::{MapKey, Value};
+use ccbor::Value;
+use ctap_encoding::member::{get_info_reply, make_credential_reply};
 use ctap_encoding::{Fault, Holds, gravest};
 
 const CREATION_REPLY: Holds = Holds::Record(&[
-    (MapKey::Uint(1), true, Holds::Text),
-    (MapKey::Uint(2), true, Holds::Bytes),
-    (MapKey::Uint(3), true, Holds::AnyMap),
+    (make_credential_reply::FMT, true, Holds::Text),
+    (make_credential_reply::AUTH_DATA, true, Holds::Bytes),
+    (make_credential_reply::ATT_STMT, true, Holds::AnyMap),
 ]);
 
 const INFO: Holds = Holds::Record(&[
-    (MapKey::Uint(1), true, Holds::List(&Holds::Text)),
+    (get_info_reply::VERSIONS, true, Holds::List(&Holds::Text)),
     (
-        MapKey::Uint(3),
+        get_info_reply::AAGUID,
         true,
         Holds::Sized(16, 16, Fault::OverLimit, &Holds::Bytes),
     ),
-    (MapKey::Uint(4), true, Holds::Truths),
-    (MapKey::Uint(5), true, Holds::Unsigned(0)),
-    (MapKey::Uint(7), true, Holds::Unsigned(0)),
-    (MapKey::Uint(8), true, Holds::Unsigned(0)),
+    (get_info_reply::OPTIONS, true, Holds::Truths),
+    (get_info_reply::MAX_MSG_SIZE, true, Holds::Unsigned(0)),
+    (
+        get_info_reply::MAX_CREDENTIAL_COUNT_IN_LIST,
+        true,
+        Holds::Unsigned(0),
+    ),
+    (
+        get_info_reply::MAX_CREDENTIAL_ID_LENGTH,
+        true,
+        Holds::Unsigned(0),
+    ),
 ]);
 
 /// The gravest fault in a makeCredential reply's map.

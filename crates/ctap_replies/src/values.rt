@@ -9,6 +9,7 @@ ghost use Rattle.ctap_replies.specs.ReplyView.{creation_reply_view, info_view};
 
 use crate::reply::{CreationReply, InfoReply};
 use ccbor::{MapKey, Value};
+use ctap_encoding::member::{get_info_reply, make_credential_reply};
 use ctap_encoding::{bytes_value, push_member, text_value};
 use std::alloc::{AllocError, Global};
 
@@ -22,9 +23,24 @@ pub fn creation_reply_value(alloc: Global, reply: CreationReply) -> Result<Value
         statement,
     } = reply;
     let mut pairs = Vec::new(alloc);
-    push_member(alloc, &mut pairs, MapKey::Uint(1), Value::Text(fmt))?;
-    push_member(alloc, &mut pairs, MapKey::Uint(2), Value::Bytes(auth_data))?;
-    push_member(alloc, &mut pairs, MapKey::Uint(3), statement)?;
+    push_member(
+        alloc,
+        &mut pairs,
+        make_credential_reply::FMT,
+        Value::Text(fmt),
+    )?;
+    push_member(
+        alloc,
+        &mut pairs,
+        make_credential_reply::AUTH_DATA,
+        Value::Bytes(auth_data),
+    )?;
+    push_member(
+        alloc,
+        &mut pairs,
+        make_credential_reply::ATT_STMT,
+        statement,
+    )?;
     Ok(Value::Map(pairs))
 }
 
@@ -55,16 +71,26 @@ pub fn info_value(alloc: Global, reply: &InfoReply) -> Result<Value, AllocError>
 {
     let mut pairs = Vec::new(alloc);
     let versions = texts_value(alloc, &reply.versions)?;
-    push_member(alloc, &mut pairs, MapKey::Uint(1), versions)?;
+    push_member(alloc, &mut pairs, get_info_reply::VERSIONS, versions)?;
     let aaguid = bytes_value(alloc, &reply.aaguid)?;
-    push_member(alloc, &mut pairs, MapKey::Uint(3), aaguid)?;
+    push_member(alloc, &mut pairs, get_info_reply::AAGUID, aaguid)?;
     let options = truths_value(alloc, &reply.options)?;
-    push_member(alloc, &mut pairs, MapKey::Uint(4), options)?;
+    push_member(alloc, &mut pairs, get_info_reply::OPTIONS, options)?;
     let size = Value::Uint(reply.max_msg_size);
-    push_member(alloc, &mut pairs, MapKey::Uint(5), size)?;
+    push_member(alloc, &mut pairs, get_info_reply::MAX_MSG_SIZE, size)?;
     let count = Value::Uint(reply.max_credential_count_in_list);
-    push_member(alloc, &mut pairs, MapKey::Uint(7), count)?;
+    push_member(
+        alloc,
+        &mut pairs,
+        get_info_reply::MAX_CREDENTIAL_COUNT_IN_LIST,
+        count,
+    )?;
     let length = Value::Uint(reply.max_credential_id_length);
-    push_member(alloc, &mut pairs, MapKey::Uint(8), length)?;
+    push_member(
+        alloc,
+        &mut pairs,
+        get_info_reply::MAX_CREDENTIAL_ID_LENGTH,
+        length,
+    )?;
     Ok(Value::Map(pairs))
 }

@@ -1,10 +1,11 @@
 //! Writing a reply.
 
-ghost use Rattle.std.specs.Prelude.{◌≡◌, ◌∷◌, [], ℕ, List, ◌⊎◌, IfOk, IfErr, IsErrOf};
+ghost use Rattle.std.specs.Prelude.{◌≡◌, ◌∷◌, [], ℕ, List, IfOk, IfErr, IsErrOf};
 ghost use Rattle.ccbor.specs.View.{view};
 ghost use Rattle.ctap_replies.specs.Pieces.{WrittenValue, WrittenMap};
 ghost use Rattle.ctap_replies.specs.Replies.{creation_reply_members, info_members, creation_reply_item, info_item, next_reply, ReplyOf};
 ghost use Rattle.ctap_replies.specs.ReplyView.{creation_reply_view, info_view, lent_assertion_view, reply_view};
+ghost use Rattle.ctap_encoding.specs.Numbers.{IsWritingError};
 ghost use Rattle.ctap_encoding.specs.declared.error.Error.TheVariants as errors;
 
 use crate::assertions::{lent, write_assertion};
@@ -44,7 +45,7 @@ fn next_reply_bytes(alloc: Global, reply: &AssertionView<'_>) -> Result<Vec<u8>,
     ensures spelled { IfOk result (λ bytes. ReplyOf (next_reply (lent_assertion_view reply.now)) bytes.items) }
     ensures unfit { IsErrOf result errors.Unfit
         → (bs : List ℕ) → ReplyOf (next_reply (lent_assertion_view reply.now)) bs → ⊥ }
-    ensures errors { IfErr result (λ e. (e ≡ errors.Unfit) ⊎ (e ≡ errors.Memory)) }
+    ensures errors { IfErr result IsWritingError }
 {
     match reply.number {
         None => write_assertion(alloc, reply),
@@ -84,7 +85,7 @@ pub fn write_reply(alloc: Global, reply: Reply) -> Result<Vec<u8>, Error>
     // It is called unfit only if no bytes are this reply.
     ensures unfit { IsErrOf result errors.Unfit
         → (bs : List ℕ) → ReplyOf (reply_view reply) bs → ⊥ }
-    ensures errors { IfErr result (λ e. (e ≡ errors.Unfit) ⊎ (e ≡ errors.Memory)) }
+    ensures errors { IfErr result IsWritingError }
 {
     match reply {
         Reply::MakeCredential(reply) => creation_reply_bytes(alloc, reply),

@@ -14,8 +14,7 @@ mod writing;
 pub use law::one_rank;
 pub use reading::{read_request, view_request};
 pub use request::{
-    AssertionOptions, CreationOptions, Descriptor, DescriptorView, GET_ASSERTION, GET_INFO,
-    GET_NEXT_ASSERTION, GetAssertion, GetAssertionView, MAKE_CREDENTIAL, MakeCredential,
-    Parameters, RESET, RelyingParty, Request, RequestView, User,
+    AssertionOptions, CreationOptions, Descriptor, DescriptorView, GetAssertion, GetAssertionView,
+    MakeCredential, Parameters, RelyingParty, Request, RequestView, User,
 };
 pub use writing::write_request;

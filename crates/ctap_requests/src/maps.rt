@@ -21,7 +21,8 @@ use crate::owned::owned_descriptors;
 use crate::request::{
     AssertionOptions, CreationOptions, Descriptor, DescriptorView, GetAssertionView, MakeCredential,
 };
-use ccbor::{MapKey, View};
+use ccbor::View;
+use ctap_encoding::member::{get_assertion, make_credential};
 use ctap_encoding::{
     MapError, Shape, any_map, bytes, end, members, not_empty, optional, required, sized,
 };
@@ -93,20 +94,20 @@ pub fn creation(alloc: Global, value: &View<'_>) -> Result<MakeCredential, MapEr
         (option_map forget_creation (read_in (record_of creation_members) (shown value.now))) }
 {
     let rest = members(value)?;
-    let (held, rest) = required(&rest, MapKey::Uint(1))?;
+    let (held, rest) = required(&rest, make_credential::CLIENT_DATA_HASH)?;
     sized(&held, 32, 32)?;
     let hash = bytes(&held)?;
-    let (held, rest) = required(&rest, MapKey::Uint(2))?;
+    let (held, rest) = required(&rest, make_credential::RP)?;
     let rp = relying_party(alloc, &held)?;
-    let (held, rest) = required(&rest, MapKey::Uint(3))?;
+    let (held, rest) = required(&rest, make_credential::USER)?;
     let user = user(alloc, &held)?;
-    let (held, rest) = required(&rest, MapKey::Uint(4))?;
+    let (held, rest) = required(&rest, make_credential::PUB_KEY_CRED_PARAMS)?;
     let pub_key_cred_params = parameter_list(alloc, &held)?;
-    let (held, rest) = optional(rest, MapKey::Uint(5));
+    let (held, rest) = optional(rest, make_credential::EXCLUDE_LIST);
     let exclude_list = exclude_list(alloc, held)?;
-    let (held, rest) = optional(rest, MapKey::Uint(6));
+    let (held, rest) = optional(rest, make_credential::EXTENSIONS);
     extensions(&held)?;
-    let (held, rest) = optional(rest, MapKey::Uint(7));
+    let (held, rest) = optional(rest, make_credential::OPTIONS);
     let options = creation_options_if_there(held)?;
     end(&rest)?;
     Ok(MakeCredential {
@@ -125,17 +126,17 @@ pub fn assertion<'a>(alloc: Global, value: &View<'a>) -> Result<GetAssertionView
         (option_map forget_assertion (read_in (record_of assertion_members) (shown value.now))) }
 {
     let rest = members(value)?;
-    let (held, rest) = required(&rest, MapKey::Uint(1))?;
+    let (held, rest) = required(&rest, get_assertion::RP_ID)?;
     sized(&held, 1, 253)?;
     let rp_id = lent_text(&held)?;
-    let (held, rest) = required(&rest, MapKey::Uint(2))?;
+    let (held, rest) = required(&rest, get_assertion::CLIENT_DATA_HASH)?;
     sized(&held, 32, 32)?;
     let client_data_hash = bytes(&held)?;
-    let (held, rest) = optional(rest, MapKey::Uint(3));
+    let (held, rest) = optional(rest, get_assertion::ALLOW_LIST);
     let allow_list = allow_list(alloc, held)?;
-    let (held, rest) = optional(rest, MapKey::Uint(4));
+    let (held, rest) = optional(rest, get_assertion::EXTENSIONS);
     extensions(&held)?;
-    let (held, rest) = optional(rest, MapKey::Uint(5));
+    let (held, rest) = optional(rest, get_assertion::OPTIONS);
     let options = assertion_options_if_there(held)?;
     end(&rest)?;
     Ok(GetAssertionView {

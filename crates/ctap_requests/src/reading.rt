@@ -14,12 +14,10 @@ ghost use Rattle.ctap_requests.specs.Status.{status_of, Refused, IsRequest};
 
 use crate::maps::{assertion, creation};
 use crate::owned::owned_request;
-use crate::request::{
-    GET_ASSERTION, GET_INFO, GET_NEXT_ASSERTION, GetAssertionView, MAKE_CREDENTIAL, MakeCredential,
-    RESET, Request, RequestView,
-};
+use crate::request::{GetAssertionView, MakeCredential, Request, RequestView};
 use crate::tables::map_fault;
 use ccbor::View;
+use ctap_encoding::command::{GET_ASSERTION, GET_INFO, GET_NEXT_ASSERTION, MAKE_CREDENTIAL, RESET};
 use ctap_encoding::status::{
     CBOR_UNEXPECTED_TYPE, INVALID_CBOR, INVALID_COMMAND, INVALID_PARAMETER, LIMIT_EXCEEDED,
     MISSING_PARAMETER,

@@ -140,18 +140,3 @@ pub enum RequestView<'a> {
     /// Removes all credentials (section 6.6).
     Reset,
 }
-
-/// The command byte of authenticatorMakeCredential (CTAP 2.1, section 6).
-pub const MAKE_CREDENTIAL: u8 = 0x01;
-
-/// The command byte of authenticatorGetAssertion.
-pub const GET_ASSERTION: u8 = 0x02;
-
-/// The command byte of authenticatorGetInfo.
-pub const GET_INFO: u8 = 0x04;
-
-/// The command byte of authenticatorReset.
-pub const RESET: u8 = 0x07;
-
-/// The command byte of authenticatorGetNextAssertion.
-pub const GET_NEXT_ASSERTION: u8 = 0x08;

@@ -5,8 +5,9 @@ ghost use Rattle.ccbor.specs.View.{view};
 ghost use Rattle.ctap_encoding.specs.Table.{gravest, record_of};
 ghost use Rattle.ctap_requests.specs.Requests.{creation_members, assertion_members, map_of};
 
-use crate::request::MAKE_CREDENTIAL;
 use ccbor::{MapKey, Value};
+use ctap_encoding::command::MAKE_CREDENTIAL;
+use ctap_encoding::member::{get_assertion, make_credential};
 use ctap_encoding::{Fault, Holds, gravest};
 
 const DESCRIPTOR: Holds = Holds::Record(&[
@@ -55,43 +56,47 @@ const ASSERTION_OPTIONS: Holds = Holds::Record(&[
 
 const CREATION: Holds = Holds::Record(&[
     (
-        MapKey::Uint(1),
+        make_credential::CLIENT_DATA_HASH,
         true,
         Holds::Sized(32, 32, Fault::InvalidSize, &Holds::Bytes),
     ),
-    (MapKey::Uint(2), true, RELYING_PARTY),
-    (MapKey::Uint(3), true, USER),
-    (MapKey::Uint(4), true, Holds::List(&PARAMETERS)),
+    (make_credential::RP, true, RELYING_PARTY),
+    (make_credential::USER, true, USER),
     (
-        MapKey::Uint(5),
+        make_credential::PUB_KEY_CRED_PARAMS,
+        true,
+        Holds::List(&PARAMETERS),
+    ),
+    (
+        make_credential::EXCLUDE_LIST,
         false,
         Holds::Sized(0, 8, Fault::OverLimit, &Holds::List(&DESCRIPTOR)),
     ),
-    (MapKey::Uint(6), false, Holds::AnyMap),
-    (MapKey::Uint(7), false, CREATION_OPTIONS),
+    (make_credential::EXTENSIONS, false, Holds::AnyMap),
+    (make_credential::OPTIONS, false, CREATION_OPTIONS),
 ]);
 
 const ASSERTION: Holds = Holds::Record(&[
     (
-        MapKey::Uint(1),
+        get_assertion::RP_ID,
         true,
         Holds::Sized(1, 253, Fault::OverLimit, &Holds::Text),
     ),
     (
-        MapKey::Uint(2),
+        get_assertion::CLIENT_DATA_HASH,
         true,
         Holds::Sized(32, 32, Fault::InvalidSize, &Holds::Bytes),
     ),
     (
-        MapKey::Uint(3),
+        get_assertion::ALLOW_LIST,
         false,
         Holds::NotEmpty(
             Fault::InvalidSize,
             &Holds::Sized(0, 8, Fault::OverLimit, &Holds::List(&DESCRIPTOR)),
         ),
     ),
-    (MapKey::Uint(4), false, Holds::AnyMap),
-    (MapKey::Uint(5), false, ASSERTION_OPTIONS),
+    (get_assertion::EXTENSIONS, false, Holds::AnyMap),
+    (get_assertion::OPTIONS, false, ASSERTION_OPTIONS),
 ]);
 
 /// The gravest fault in a makeCredential request's map.

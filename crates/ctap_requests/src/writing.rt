@@ -1,6 +1,6 @@
 //! Writing a request.
 
-ghost use Rattle.std.specs.Prelude.{◌≡◌, ◌++◌, ◌∷◌, ℕ, List, [], ◌⊎◌, IfOk, IfErr, IsErrOf, None, map};
+ghost use Rattle.std.specs.Prelude.{◌≡◌, ◌∷◌, ℕ, List, [], IfOk, IfErr, IsErrOf, None, map};
 ghost use Rattle.ccbor.specs.Canon.{Canon};
 ghost use Rattle.ccbor.specs.View.{view};
 ghost use Rattle.ctap_requests.specs.Pieces.{all_numbers, Builds, Written};
@@ -8,18 +8,18 @@ ghost use Rattle.ctap_encoding.specs.Table.{gravest};
 ghost use Rattle.ctap_requests.specs.Requests.{map_of, creation_item, assertion_item, make_credential, get_assertion, RequestOf};
 ghost use Rattle.ctap_requests.specs.RequestView.{parameters_view, creation_view, assertion_view, request_view};
 ghost use Rattle.ctap_requests.specs.Status.{NoStatus};
+ghost use Rattle.ctap_encoding.specs.Numbers.{IsWritingError};
 ghost use Rattle.ctap_encoding.specs.declared.error.Error.TheVariants as errors;
 
-use crate::request::{
-    GET_ASSERTION, GET_INFO, GET_NEXT_ASSERTION, GetAssertion, MAKE_CREDENTIAL, MakeCredential,
-    RESET, Request,
-};
+use crate::request::{GetAssertion, MakeCredential, Request};
 use crate::tables::map_fault;
 use crate::values::{
     assertion_options_if_there, creation_options_if_there, descriptors_if_there,
     parameter_list_value, rp_value, user_value,
 };
-use ccbor::{MapKey, Value, encode};
+use ccbor::{Value, encode};
+use ctap_encoding::command::{GET_ASSERTION, GET_INFO, GET_NEXT_ASSERTION, MAKE_CREDENTIAL, RESET};
+use ctap_encoding::member::{get_assertion, make_credential};
 use ctap_encoding::{Error, bytes_value, push_if_there, push_member, text_value};
 use std::alloc::{AllocError, Global};
 
@@ -31,16 +31,26 @@ fn creation_value(alloc: Global, request: &MakeCredential) -> Result<Value, Erro
     let mut pairs = Vec::new(alloc);
     let exclude_list = descriptors_if_there(alloc, &request.exclude_list)?;
     let hash = bytes_value(alloc, &request.client_data_hash)?;
-    push_member(alloc, &mut pairs, MapKey::Uint(1), hash)?;
+    push_member(alloc, &mut pairs, make_credential::CLIENT_DATA_HASH, hash)?;
     let rp = rp_value(alloc, &request.rp)?;
-    push_member(alloc, &mut pairs, MapKey::Uint(2), rp)?;
+    push_member(alloc, &mut pairs, make_credential::RP, rp)?;
     let user = user_value(alloc, &request.user)?;
-    push_member(alloc, &mut pairs, MapKey::Uint(3), user)?;
+    push_member(alloc, &mut pairs, make_credential::USER, user)?;
     let parameters = parameter_list_value(alloc, &request.pub_key_cred_params)?;
-    push_member(alloc, &mut pairs, MapKey::Uint(4), parameters)?;
-    push_if_there(alloc, &mut pairs, MapKey::Uint(5), exclude_list)?;
+    push_member(
+        alloc,
+        &mut pairs,
+        make_credential::PUB_KEY_CRED_PARAMS,
+        parameters,
+    )?;
+    push_if_there(
+        alloc,
+        &mut pairs,
+        make_credential::EXCLUDE_LIST,
+        exclude_list,
+    )?;
     let options = creation_options_if_there(alloc, &request.options)?;
-    push_if_there(alloc, &mut pairs, MapKey::Uint(7), options)?;
+    push_if_there(alloc, &mut pairs, make_credential::OPTIONS, options)?;
     Ok(Value::Map(pairs))
 }
 
@@ -50,13 +60,13 @@ fn assertion_value(alloc: Global, request: &GetAssertion) -> Result<Value, Alloc
 {
     let mut pairs = Vec::new(alloc);
     let rp_id = text_value(alloc, &request.rp_id)?;
-    push_member(alloc, &mut pairs, MapKey::Uint(1), rp_id)?;
+    push_member(alloc, &mut pairs, get_assertion::RP_ID, rp_id)?;
     let hash = bytes_value(alloc, &request.client_data_hash)?;
-    push_member(alloc, &mut pairs, MapKey::Uint(2), hash)?;
+    push_member(alloc, &mut pairs, get_assertion::CLIENT_DATA_HASH, hash)?;
     let allow_list = descriptors_if_there(alloc, &request.allow_list)?;
-    push_if_there(alloc, &mut pairs, MapKey::Uint(3), allow_list)?;
+    push_if_there(alloc, &mut pairs, get_assertion::ALLOW_LIST, allow_list)?;
     let options = assertion_options_if_there(alloc, &request.options)?;
-    push_if_there(alloc, &mut pairs, MapKey::Uint(5), options)?;
+    push_if_there(alloc, &mut pairs, get_assertion::OPTIONS, options)?;
     Ok(Value::Map(pairs))
 }
 
@@ -65,7 +75,7 @@ fn with_value(alloc: Global, command: u8, value: &Value) -> Result<Vec<u8>, Erro
     ensures written { IfOk result (λ bytes. (rest : List ℕ) × (bytes.items ≡ command ∷ rest)
         × Canon (view value.now) rest) }
     ensures unfit { IsErrOf result errors.Unfit → (rest : List ℕ) → Canon (view value.now) rest → ⊥ }
-    ensures errors { IfErr result (λ e. (e ≡ errors.Unfit) ⊎ (e ≡ errors.Memory)) }
+    ensures errors { IfErr result IsWritingError }
 {
     let mut out = command_alone(alloc, command)?;
     match encode(value, &mut out) {
@@ -81,7 +91,7 @@ fn with_map(alloc: Global, command: u8, value: &Value) -> Result<Vec<u8>, Error>
         × Canon (view value.now) rest × (gravest (map_of command) (view value.now) ≡ None)) }
     ensures unfit { IsErrOf result errors.Unfit → gravest (map_of command) (view value.now) ≡ None
         → (rest : List ℕ) → Canon (view value.now) rest → ⊥ }
-    ensures errors { IfErr result (λ e. (e ≡ errors.Unfit) ⊎ (e ≡ errors.Memory)) }
+    ensures errors { IfErr result IsWritingError }
 {
     match map_fault(command, value) {
         None => with_value(alloc, command, value),
@@ -126,7 +136,7 @@ pub fn write_request(alloc: Global, request: &Request) -> Result<Vec<u8>, Error>
     // It is called unfit only if each of its spellings is refused with a status.
     ensures unfit { IsErrOf result errors.Unfit
         → (bs : List ℕ) → RequestOf (request_view request.now) None bs → NoStatus bs → ⊥ }
-    ensures errors { IfErr result (λ e. (e ≡ errors.Unfit) ⊎ (e ≡ errors.Memory)) }
+    ensures errors { IfErr result IsWritingError }
 {
     match request {
         Request::MakeCredential(request) => creation_bytes(alloc, request),

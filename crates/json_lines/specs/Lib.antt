@@ -1,1 +1,5 @@
 pub mod Nesting
+pub mod Members
+pub mod Faults
+pub mod Lines
+pub mod Written

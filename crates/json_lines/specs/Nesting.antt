@@ -1,8 +1,8 @@
 -- How deep a JSON text nests: the brackets that are open, of those that stand in no text (RFC 8259, sections 2 and 7).
 use Rattle.std.specs.Prelude.{ℕ, ◌+◌, ◌-◌, ◌≤◌, ◌==◌, ◌||◌, List, if◌then◌else◌, fold, take}
-use Rattle.json_lines.specs.declared.Place.{Place}
-use Rattle.json_lines.specs.declared.Within.{Within}
-use Rattle.json_lines.specs.declared.Within.TheVariants.{Outside, Text, Escape}
+use Rattle.json_lines.specs.declared.nesting.Place.{Place}
+use Rattle.json_lines.specs.declared.nesting.Within.{Within}
+use Rattle.json_lines.specs.declared.nesting.Within.TheVariants.{Outside, Text, Escape}
 
 -- a text begins and ends with a quotation mark (34), and what stands after a backslash (92) in it ends nothing
 abbrev pub next_within : Within → ℕ → Within

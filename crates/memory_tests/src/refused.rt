@@ -1,6 +1,6 @@
 //! A registration, a sign-in and a restart, each call made with two sites and two security keys alike. Where a call of the
 //! first has no memory, it says so and nothing has changed: the site saves to the same bytes and the authenticator answers as
-//! the other one, and the same call made again is done. `tests/allocations` refuses each allocation in turn.
+//! the other one, and the same call made again is done. `tests/programs/allocations` refuses each allocation in turn.
 
 use crate::{CONSENT, End, HERE, POLICY, USER, WORDS, packet, saved, site_of};
 use ceremony::{register, sign_in};
@@ -287,7 +287,7 @@ fn refused(alloc: Global, first: &mut Ceremony, second: &mut Ceremony) -> &'stat
     }
 }
 
-/// The same of two new ones.
+/// The call of two new ceremonies that had no memory, if one had none.
 fn refused_anew(alloc: Global) -> &'static str {
     let Some(mut first) = Ceremony::new(alloc) else {
         return "elsewhere";

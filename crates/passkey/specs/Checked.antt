@@ -3,7 +3,7 @@ use Rattle.std.specs.Prelude.{◌↔◌, ℕ, List, Bool, IsTrue, Some, None}
 use Rattle.clientdata.specs.Serialised.{client_data_front}
 use Rattle.clientdata.specs.Verified.{IsVerified}
 use Rattle.clientdata.specs.declared.record.CeremonyType.{CeremonyType}
-use Rattle.passkey_command_line.specs.HexText.{IsRead}
+use Rattle.passkey.specs.HexText.{IsRead}
 use Rattle.passkey.specs.declared.check.CheckFault.{CheckFault}
 use Rattle.passkey.specs.declared.check.CheckFault.TheVariants.{BadHex, Memory}
 

@@ -1,1 +1,4 @@
+pub mod HexText
+pub mod CommandLine
+pub mod Private
 pub mod Checked

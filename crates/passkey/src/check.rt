@@ -4,8 +4,8 @@ ghost use Rattle.std.specs.Prelude.{◌≡◌, IfErr, IfOk, string_bytes};
 ghost use Rattle.passkey.specs.Checked.{IsChecked, IsUnchecked};
 ghost use Rattle.passkey.specs.declared.check.CheckFault.TheVariants as faults;
 
+use crate::hex_text::unhex;
 use clientdata::{CeremonyType, ClientData, limited_verify};
-use passkey_command_line::unhex;
 use std::alloc::{AllocError, Global};
 
 /// Why nothing is checked.

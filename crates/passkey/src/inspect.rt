@@ -3,12 +3,13 @@
 ghost use Rattle.std.specs.Prelude.{◌≡◌};
 ghost use Rattle.passkey.specs.declared.inspect.InspectFault.TheVariants as faults;
 
+use crate::arguments::Inspection;
+use crate::hex_text::unhex;
 use authdata::{Attested, AuthData};
 use ccbor::{Value, decode_all};
 use clientdata::{Binding, Seen, quoted_text};
 use cose::Alg;
 use hidframe::{Head, Packet};
-use passkey_command_line::{Inspection, unhex};
 use std::alloc::{AllocError, Global};
 use std::fmt::{Debug, Write};
 use std::str;

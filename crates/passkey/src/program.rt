@@ -2,12 +2,13 @@
 
 ghost use Rattle.std.specs.Prelude.{◌≤◌, length, IfOk};
 
+use crate::arguments::{Inspection, Subcommand, command};
 use crate::check::{CheckFault, check};
 use crate::inspect::{InspectFault, inspect};
 use crate::replay::{ScriptEnd, run_script};
 use crate::script::Fault;
 use clap::error::ErrorKind;
-use passkey_command_line::{Inspection, Subcommand, command};
+use json_lines::VERSION;
 use std::alloc::Global;
 use std::io;
 use std::io::{Read, Write};
@@ -118,8 +119,11 @@ fn tell<O: Write, E: Write>(verified: bool, out: &mut O, err: &mut E) -> u8 {
     }
 }
 
-/// What `passkey --version` prints.
-const VERSION: &str = "passkey 0.1.0\n";
+/// Prints the program's name and version.
+fn print_version<O: Write>(out: &mut O) -> io::Result<()> {
+    writeln!(out, "passkey {VERSION}")?;
+    out.flush()
+}
 
 /// Whether the arguments, after the program's name, ask for the version alone.
 fn asks_version(arguments: &[&str]) -> bool {
@@ -144,7 +148,7 @@ pub fn run<'a, R: Read, O: Write, E: Write>(
     err: &mut E,
 ) -> u8 {
     if asks_version(arguments) {
-        return match print(out, VERSION) {
+        return match print_version(out) {
             Ok(()) => 0,
             Err(_) => fail(err, "write failed", 5),
         };

@@ -3,10 +3,11 @@
 ghost use Rattle.std.specs.Prelude.{◌≡◌};
 ghost use Rattle.passkey.specs.declared.script.Fault.TheVariants as faults;
 
+use crate::hex_text::unhex;
+use crate::script_lines::{LineKind, line_kind};
 use ccbor::View;
 use cose::{CoseKey, KeyView};
 use hidframe::Packet;
-use passkey_command_line::{LineKind, line_kind, unhex};
 use site::Row;
 use std::alloc::{AllocError, AllocFailed, Global};
 

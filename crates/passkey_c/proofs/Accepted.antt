@@ -1,28 +1,32 @@
 -- What an accepted response says: the data that are told are those that its bytes spell.
-use Rattle.std.proofs.Common.{◌≡◌, ◌++◌, ◌∷◌, ◌∙◌, ◌⊎◌, inl, inr, ℕ, Bool, true, false, List, [], Some, ap, refl, subst, sym}
-use Rattle.std.specs.Prelude.{◌↔◌, IsSome, IsTrue, codes, if◌then◌else◌, length}
+use Rattle.std.proofs.Common.{◌≡◌, ◌++◌, ◌∷◌, ◌∙◌, ◌⊎◌, inl, inr, ℕ, Bool, true, false, List, [], Some, ap, arith, refl, subst, sym}
+use Rattle.std.specs.Prelude.{◌≢◌, ◌≤◌, IsSome, codes, length}
 use Rattle.ccbor.specs.Canon.{head, spelling}
 use Rattle.ccbor.specs.Item.{text}
 use Rattle.cose.specs.Schemes.{Validity}
 use Rattle.cose.specs.declared.key.CoseKey.{CoseKey}
 use Rattle.std.specs.Int.{to_be_bytes, w32}
 use Rattle.std.proofs.lemmas.List.{append_assoc, append-nil}
-use Rattle.authdata.specs.Layout.{AttestedCredential, AuthenticatorData, AuthOf, attested_bytes, data_bytes, extension_bytes}
-use Rattle.authdata.specs.Layout.{lent_attested_view, lent_auth_view}
+use Rattle.authdata.specs.Layout.{AuthenticatorData, AuthOf, attested_bytes, data_bytes, extension_bytes}
+use Rattle.authdata.specs.Layout.{lent_auth_view}
 use Rattle.authdata.specs.Objects.{Attestation, ObjectOf}
 use Rattle.authdata.specs.Statements.{IsNone, IsSelfSigned}
 use Rattle.authdata.specs.declared.auth.AuthView.{AuthView}
 use Rattle.authdata.specs.declared.profile.Profile.{Profile}
-use Rattle.verification.specs.Registration.{Attests, PassesRegistration, hash_in}
-use Rattle.passkey_c.specs.Parts.{EndsIn, flag_of, given, profile_of}
-use Rattle.passkey_c.specs.Seen.{IsAccepted, IsSeen, TellsSeen, TellsView}
+use Rattle.authdata.proofs.Unique.{is_credential}
+use Rattle.authdata.specs.Layout.{IsAttestedCredential}
+use Rattle.authdata.specs.declared.profile.Profile.TheVariants.{Level3, Open, Strict}
+use Rattle.verification.specs.Records.{AttestedRegistration}
+use Rattle.verification.specs.Registration.{JudgedRegistration, PassesRegistration, hash_in}
+use Rattle.verification.specs.RegistrationAnswers.{IsVerifiedRegistration}
+use Rattle.passkey_c.specs.Parts.{EndsIn, flag_of, given}
+use Rattle.passkey_c.specs.Seen.{TellsSeen, TellsView}
 use Rattle.passkey_c.specs.Registrations.{IsFormat, TellsRegistration, counted_in, judged_registration}
 use Rattle.passkey_c.specs.SignIns.{TellsSignIn, judged_sign_in}
 use Rattle.passkey_c.specs.declared.parts.AssertionCall.{AssertionCall}
 use Rattle.passkey_c.specs.declared.parts.AssertionOut.{AssertionOut}
 use Rattle.passkey_c.specs.declared.parts.RegistrationCall.{RegistrationCall}
 use Rattle.passkey_c.specs.declared.parts.RegistrationOut.{RegistrationOut}
-use Rattle.passkey_c.specs.declared.seen.SeenRegistration.{SeenRegistration}
 
 -- what stands before does not change how bytes end
 behind : (front whole end : List ℕ) → EndsIn whole end → EndsIn (front ++ whole) end
@@ -41,30 +45,13 @@ object_end o bytes h =
     subst (λ (l : List ℕ). EndsIn l o.auth_data) (sym h.1.1) (behind (head 5 3) _ _ pairs)
 
 -- the format is told as the statement shows it
-pub format_of : (is_none : Bool) (o : Attestation) (key : CoseKey) (valid : Validity) (hash : List ℕ) → (IsTrue is_none ↔ (o.fmt ≡ codes "none"))
-    → IsNone o ⊎ IsSelfSigned valid o key hash → IsFormat (if is_none then 0 else 1) o key
-format_of true o key valid hash is (inl none) = inl (refl, none)
-format_of true o key valid hash is (inr signed) = let other : codes "none" ≡ codes "packed" = sym (is.0 refl) ∙ signed.0 in absurd cc
-format_of false o key valid hash is (inl none) = let shown : false ≡ true = is.1 none.0 in absurd cc
-format_of false o key valid hash is (inr signed) = inr (refl, (signed.1.0, (signed.0, signed.1.1)))
-
--- what is told of an accepted registration is what it attests
-pub tells_registration : (call : RegistrationCall) (out : RegistrationOut) (seen : SeenRegistration) → IsAccepted call seen → TellsSeen out seen
-    → TellsRegistration call out
-tells_registration call out seen accepted told =
-    let o = accepted.0 in
-    let spelled = accepted.2.0 in
-    let at_end = object_end o _ accepted.1 in
-    let rest : EndsIn o.auth_data (extension_bytes (lent_auth_view seen.data).extensions) =
-    subst (λ (l : List ℕ). EndsIn l (extension_bytes (lent_auth_view seen.data).extensions)) (sym spelled.1) (data_end (lent_auth_view seen.data)) in
-    let end : EndsIn call.response.object.now (extension_bytes (lent_auth_view seen.data).extensions) =
-    subst (λ (l : List ℕ). EndsIn l (extension_bytes (lent_auth_view seen.data).extensions)) (sym at_end.1) (behind at_end.0 _ _ rest) in (
-      o,
-      lent_auth_view seen.data,
-      lent_attested_view seen.credential,
-      record { object = accepted.1; auth_data = spelled; attested = accepted.2.1 },
-      (told.0, told.1, told.2, told.3, told.4, told.5, told.6, told.7, rw told.8 accepted.3, (told.9, end)),
-    )
+format_of : (format : List ℕ) (n : ℕ) (o : Attestation) (key : CoseKey) (valid : Validity) (hash : List ℕ) → format ≡ o.fmt
+    → (format ≡ codes "none" → n ≡ 0) × (format ≢ codes "none" → n ≡ 1) → IsNone o ⊎ IsSelfSigned valid o key hash → IsFormat n o key
+format_of format n o key valid hash is told (inl none) = inl (told.0 (is ∙ none.0), none)
+format_of format n o key valid hash is told (inr signed) = inr (
+  told.1 (λ none. let other : codes "none" ≡ codes "packed" = sym none ∙ (is ∙ signed.0) in absurd cc),
+  (signed.1.0, (signed.0, signed.1.1)),
+)
 
 -- the view's members are those of its bytes
 pub tells_sign_in : (call : AssertionCall) (out : AssertionOut) (view : AuthView)
@@ -79,23 +66,33 @@ is_given : {T : Type 0} (there : Bool) (x : T) → IsSome (given there x) → gi
 is_given true x some = refl
 is_given false x none = absurd cc
 
--- what was read of an accepted registration is what it attests
-pub accepted_as : (call : RegistrationCall) (seen : SeenRegistration) (profile : Profile) (asked : Bool) (valid : Validity)
-    → profile ≡ profile_of call.party.profile → asked ≡ flag_of call.session.attestation → PassesRegistration valid (judged_registration call)
-    → ((o : Attestation) (a : AuthenticatorData) (c : AttestedCredential) → ObjectOf o call.response.object.now → AuthOf profile a o.auth_data
-    → a.attested ≡ Some c → IsSeen profile asked o seen)
-    → IsAccepted call seen
-accepted_as call seen profile asked valid same flag passes sees =
-    let found = passes.1.1.1.1.1.1.1.1.0 in
-    let o = found.0 in
-    let a = found.1 in
-    let attests = found.3 in
-    let auth = subst (λ (p : Profile). AuthOf p a o.auth_data) (sym same) attests.auth_data in
-    let read = subst (λ (b : Bool). IsSeen (profile_of call.party.profile) b o seen) flag
-    (subst (λ (p : Profile). IsSeen p asked o seen) same (sees o a found.2 attests.object auth attests.attested)) in
-    let view : Attests (judged_registration call).rp.profile (judged_registration call).response o (lent_auth_view seen.data)
-    (lent_attested_view seen.credential) = record { object = attests.object; auth_data = read.0; attested = read.1 } in
-    let statement = passes.1.1.1.1.1.1.1.1.1.1.1.1.1.1.0 _ (is_given (flag_of call.has_session) _ passes.0) o (lent_auth_view seen.data)
-    (lent_attested_view seen.credential) view in
+-- what is told of an accepted registration is what it attests
+pub tells_registration : (call : RegistrationCall) (out : RegistrationOut) (v : AttestedRegistration) (valid : Validity)
+    → IsVerifiedRegistration (judged_registration call) v → PassesRegistration valid (judged_registration call) → TellsSeen out v
+    → TellsRegistration call out
+tells_registration call out v valid verified passes told =
+    let o = verified.0 in
+    let attests = verified.1 in
+    let session = is_given (flag_of call.has_session) _ passes.0 in
+    let at_end = object_end o _ attests.object in
+    let rest : EndsIn o.auth_data (extension_bytes v.auth_data.extensions) =
+    subst (λ (l : List ℕ). EndsIn l (extension_bytes v.auth_data.extensions)) (sym attests.auth_data.1) (data_end v.auth_data) in
+    let end : EndsIn call.response.object.now (extension_bytes v.auth_data.extensions) =
+    subst (λ (l : List ℕ). EndsIn l (extension_bytes v.auth_data.extensions)) (sym at_end.1) (behind at_end.0 _ _ rest) in
+    let statement = passes.1.1.1.1.1.1.1.1.1.1.1.1.1.1.1.0 _ session o v.auth_data v.credential attests in
     let hash = hash_in (judged_registration call).response in
-    (o, attests.object, read, format_of seen.is_none (counted_in call o) (lent_attested_view seen.credential).key valid hash read.2 statement)
+    let format = format_of v.format out.format (counted_in call o) v.credential.key valid hash (verified.2 _ session) told.8 statement in (
+      o,
+      v.auth_data,
+      v.credential,
+      attests,
+      (told.0, told.1, told.2, told.3, told.4, told.5, told.6, told.7, format, (told.9, end)),
+    )
+
+-- an attested id has at most 1,023 bytes
+pub id_fits : (x : JudgedRegistration) (v : AttestedRegistration) → IsVerifiedRegistration x v → length v.credential.id ≤ 1023
+id_fits x v verified = fits x.rp.profile (is_credential v.auth_data v.credential verified.1.auth_data.0 verified.1.attested) where
+  fits : (p : Profile) → IsAttestedCredential p v.credential → length v.credential.id ≤ 1023
+  fits Strict is = omega (arith, is.id_high)
+  fits Open is = omega (arith, is.id_high)
+  fits Level3 is = omega (arith, is.id_high)

@@ -7,18 +7,14 @@ one_limit_text : (n : ℕ) (s t : List ℕ) → IsLimitText n s → IsLimitText 
 one_limit_text n s t a b = a.2 ∙ (ap limit_text (same_limit a.0 b.0 (a.1 ∙ sym b.1)) ∙ sym b.2)
 
 one_step_text : (r : Bool) (n : ℕ) (s t : List ℕ) → IsStepText r n s → IsStepText r n t → s ≡ t
-one_step_text true n s t (inl a) (inl b) = a.1 ∙ sym b.1
-one_step_text true n s t (inl a) (inr b) = let range = registration_range b.0 in let e = a.0 in let f = b.1 in absurd (omega (arith, range.1))
-one_step_text true n s t (inr a) (inl b) = let range = registration_range a.0 in let e = b.0 in let f = a.1 in absurd (omega (arith, range.1))
-one_step_text true n s t (inr a) (inr b) = a.2 ∙ (ap registration_text (same_registration_step a.0 b.0 (a.1 ∙ sym b.1)) ∙ sym b.2)
+one_step_text true n s t a b = a.2 ∙ (ap registration_text (same_registration_step a.0 b.0 (a.1 ∙ sym b.1)) ∙ sym b.2)
 one_step_text false n s t a b = a.2 ∙ (ap sign_in_text (same_step a.0 b.0 (a.1 ∙ sym b.1)) ∙ sym b.2)
 
 limit_numbers : (n : ℕ) (t : List ℕ) → IsLimitText n t → (100 ≤ n) × (n ≤ 126)
 limit_numbers n t a = let range = limit_range a.0 in rw (sym a.1) range
 
 step_numbers : (r : Bool) (n : ℕ) (t : List ℕ) → IsStepText r n t → (1 ≤ n) × (n ≤ 19)
-step_numbers true n t (inl a) = let e = a.0 in (omega arith, omega arith)
-step_numbers true n t (inr a) = let range = registration_range a.0 in let e = a.1 in (omega arith, omega arith)
+step_numbers true n t a = let range = registration_range a.0 in rw (sym a.1) range
 step_numbers false n t a = let range = step_range a.0 in let e = a.1 in (omega arith, omega arith)
 
 pub one_text : (r : Bool) (n : ℕ) (s t : List ℕ) → IsText r n s → IsText r n t → s ≡ t

@@ -1,6 +1,6 @@
 -- Which signature a host is to verify: of a sign-in the response's own (WebAuthn Level 2, section 7.2, step 20), of a
 -- registration that of self attestation (section 8.2).
-use Rattle.std.specs.Prelude.{◌≡◌, ◌++◌, ◌<◌, ℕ, Bool, true, false, List, Some, length}
+use Rattle.std.specs.Prelude.{◌≡◌, ◌++◌, ◌<◌, ℕ, Bool, true, false, List, None, Some, length}
 use Rattle.sha2.specs.Sha256.{sha256}
 use Rattle.refusal_order.specs.Lines.{Each}
 use Rattle.cose.specs.Keys.{lent_key_view}
@@ -24,7 +24,7 @@ use Rattle.passkey_c.specs.Limits.{KeyKeeps, key_order}
 use Rattle.passkey_c.specs.Parts.{Fills, IsProfile, TellsKey, flag_of, key_of, profile_of}
 
 abbrev pub response_of : AttestationParts → AuthenticatorAttestationResponse
-response_of parts = record { object = parts.object.now; client_data = parts.client_data.now }
+response_of parts = record { object = parts.object.now; client_data = parts.client_data.now; raw_id = None }
 
 abbrev pub IsNotSelfSigned : Attestation → CoseKey → Type 0
 IsNotSelfSigned o key = (signature : List ℕ) → IsSelfSignedBy o key signature → ⊥
@@ -83,11 +83,10 @@ abbrev pub AskKeeps : Bool → SignatureCall → Type 0
 AskKeeps true call = IsProfile call.profile
 AskKeeps false call = Each (KeyKeeps call.key) key_order
 
--- why nothing is told: a registration attests nothing, or a limit is not kept; want of memory says nothing
+-- why nothing is told: a registration attests nothing, or a limit is not kept
 abbrev pub IsUntold : SignatureCall → ℕ → ℕ → AskError → Type 0
 IsUntold call m s errors.Unreadable = (flag_of call.is_registration ≡ true) × IsUnread (profile_of call.profile) (response_of call.registration)
 IsUntold call m s (errors.Limit limit) = IsBroken call m s limit
-IsUntold call m s errors.Memory = Unit {0}
 
 -- what private functions are proved against
 

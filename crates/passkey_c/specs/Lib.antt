@@ -6,4 +6,5 @@ pub mod Registrations
 pub mod Asked
 pub mod Texts
 pub mod Cose
+pub mod Answers
 pub mod Seen

@@ -1,9 +1,6 @@
--- The answers as numbers: 0 accepted, 1 to 18 the step that refuses, 19 in place of 15 where the host named a free id, 100 and up a member that is out of its limits,
+-- The answers as numbers: 0 accepted, 1 to 19 the step that refuses, 100 and up a member that is out of its limits,
 -- 127 no memory.
-use Rattle.std.specs.Prelude.{◌≡◌, ◌⊎◌, ℕ, Bool, true}
-use Rattle.verification.specs.Numbers.{registration_number}
-use Rattle.verification.specs.declared.refusal.RegistrationRefusal.{RegistrationRefusal}
-use Rattle.verification.specs.declared.refusal.RegistrationRefusal.TheVariants as registration
+use Rattle.std.specs.Prelude.{◌≡◌, ◌⊎◌, ℕ}
 use Rattle.passkey_c.specs.declared.answers.Limit.{Limit}
 use Rattle.passkey_c.specs.declared.answers.Limit.TheVariants as limits
 use Rattle.passkey_c.specs.declared.answers.InputFault.{InputFault}
@@ -30,17 +27,10 @@ abbrev pub fault_number : InputFault → ℕ
 fault_number (faults.Limit limit) = limit_number limit
 fault_number faults.Memory = 127
 
--- a registration's step; where the host found an id free, only another one can count as registered: the response's id is then
--- not that of the credential that it attests
-abbrev pub registration_answer : Bool → RegistrationRefusal → ℕ
-registration_answer true registration.CredentialRegistered = 19
-registration_answer has_free_id step = registration_number step
-
 -- a signature that is asked can't be told: 7 where a registration attests nothing
 abbrev pub ask_number : AskError → ℕ
 ask_number errors.Unreadable = 7
 ask_number (errors.Limit limit) = limit_number limit
-ask_number errors.Memory = 127
 
 -- the numbers that are answered to who asks for a signature
 abbrev pub IsAskAnswer : ℕ → Type 0

@@ -1,6 +1,5 @@
 -- What a host's registration stands for, and what is answered of it.
-use Rattle.std.specs.Prelude.{◌≡◌, ◌⊎◌, ◌&&◌, ℕ, Bool, not, List, nat_eq}
-use Rattle.std.specs.Cmp.Lexicographic.{pointwise}
+use Rattle.std.specs.Prelude.{◌≡◌, ◌⊎◌, ℕ, Bool, not, List, Some}
 use Rattle.refusal_order.specs.Lines.{Each}
 use Rattle.cose.specs.Schemes.{Validity}
 use Rattle.cose.specs.declared.key.CoseKey.{CoseKey}
@@ -18,12 +17,12 @@ use Rattle.passkey_c.specs.declared.parts.RegistrationOut.{RegistrationOut}
 use Rattle.passkey_c.specs.declared.registration.Refusal.{Refusal}
 use Rattle.passkey_c.specs.declared.registration.Refusal.TheVariants as refusals
 use Rattle.passkey_c.specs.Limits.{IsFault, RegistrationKeeps, registration_limits}
-use Rattle.passkey_c.specs.Numbers.{fault_number, registration_answer}
+use Rattle.passkey_c.specs.Numbers.{fault_number}
 use Rattle.passkey_c.specs.Parts.{Fills, IsEnd, TellsKey, flag_of, given, offered, party_of, profile_of, verified_in}
 
--- each id but the free one is registered
-abbrev pub registered_but : Bool → List ℕ → List ℕ → Bool
-registered_but has_free free id = not (has_free && pointwise nat_eq free id)
+-- each id counts as registered where the host did not find the one that the client names to be free
+abbrev pub registered_unless : Bool → List ℕ → Bool
+registered_unless is_free id = not is_free
 
 abbrev pub judged_registration : RegistrationCall → JudgedRegistration
 judged_registration call = record {
@@ -37,8 +36,8 @@ judged_registration call = record {
     conditional = flag_of call.session.conditional;
     attestation = flag_of call.session.attestation;
   });
-  response = record { object = call.response.object.now; client_data = call.response.client_data.now };
-  is_registered = registered_but (flag_of call.has_free_id) call.free_id.now;
+  response = record { object = call.response.object.now; client_data = call.response.client_data.now; raw_id = Some call.raw_id.now };
+  is_registered = registered_unless (flag_of call.is_free);
   is_full = flag_of call.is_full;
 }
 
@@ -72,7 +71,7 @@ TellsRegistration call out =
 
 -- the numbers that are answered
 abbrev pub IsRegistrationAnswer : ℕ → Type 0
-IsRegistrationAnswer n = (n ≡ 0) ⊎ ((has_free_id : Bool) × (step : RegistrationRefusal) × (n ≡ registration_answer has_free_id step)) ⊎ ((fault : InputFault) × (n ≡ fault_number fault))
+IsRegistrationAnswer n = (n ≡ 0) ⊎ ((step : RegistrationRefusal) × (n ≡ registration_number step)) ⊎ ((fault : InputFault) × (n ≡ fault_number fault))
 
 -- why it is not accepted: with the first step that fails each limit is kept
 abbrev pub IsRefused : RegistrationCall → Refusal → Type 0

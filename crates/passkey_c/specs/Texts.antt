@@ -48,6 +48,7 @@ registration_text registration.BadStatement = codes "the attestation statement i
 registration_text registration.AttestationNotAccepted = codes "the attestation is not accepted"
 registration_text registration.CredentialRegistered = codes "the credential is registered"
 registration_text registration.TableFull = codes "there is no room for another credential"
+registration_text registration.OtherId = codes "the response's id is not the attested credential's"
 
 abbrev pub limit_text : Limit → List ℕ
 limit_text limits.RpId = codes "the rp id is not UTF-8"
@@ -64,9 +65,9 @@ limit_text limits.SignatureRoom = codes "the room for the signature is too small
 limit_text limits.Profile = codes "the profile is not known"
 limit_text limits.TopOrigin = codes "a top origin is not UTF-8"
 
--- the text is that of a step, of a registration or a sign-in; or that the response's id is another than the attested one
+-- the text is that of a step, of a registration or a sign-in
 abbrev pub IsStepText : Bool → ℕ → List ℕ → Type 0
-IsStepText true n text = ((n ≡ 19) × (text ≡ codes "the response's id is not the attested credential's")) ⊎ ((step : RegistrationRefusal) × (registration_number step ≡ n) × (text ≡ registration_text step))
+IsStepText true n text = (step : RegistrationRefusal) × (registration_number step ≡ n) × (text ≡ registration_text step)
 IsStepText false n text = (step : SignInRefusal) × (sign_in_number step ≡ n) × (text ≡ sign_in_text step)
 
 -- the text is that of a limit

@@ -1,23 +1,21 @@
 //! Which signature a host is to verify.
 
-ghost use Rattle.std.specs.Prelude.{◌≡◌, ◌≢◌, ◌+◌, ◌++◌, ◌≤◌, ◌<◌, IfErr, MatchOption, OnErr, OnOk, false, length, true};
-ghost use Rattle.authdata.specs.Objects.{ObjectOf, object_view};
+ghost use Rattle.std.specs.Prelude.{◌≡◌, ◌+◌, ◌++◌, ◌≤◌, IfErr, MatchOption, OnErr, OnOk, false, length, true};
+ghost use Rattle.authdata.specs.Objects.{ObjectOf, lent_object_view};
 ghost use Rattle.authdata.specs.Statements.{IsSelfSignedBy};
 ghost use Rattle.cose.specs.Keys.{lent_key_view};
 ghost use Rattle.verification.specs.Registration.{counted};
-ghost use Rattle.passkey_c.specs.Asked.{AskKeeps, IsBroken, IsNotSelfSigned, IsSmall, IsUnread, IsUntold, Tells, TellsAs};
-ghost use Rattle.passkey_c.specs.Asked.{response_of};
-ghost use Rattle.passkey_c.specs.Numbers.{IsAskAnswer, ask_number, limit_number};
-ghost use Rattle.passkey_c.specs.Parts.{Fills, flag_of, profile_of};
-ghost use Rattle.passkey_c.specs.declared.answers.Limit.{Limit};
+ghost use Rattle.passkey_c.specs.Answers.{IsSignatureAsked};
+ghost use Rattle.passkey_c.specs.Asked.{AskKeeps, IsBroken, IsNotSelfSigned, IsSmall, IsUntold, Tells, TellsAs};
+ghost use Rattle.passkey_c.specs.Numbers.{ask_number};
+ghost use Rattle.passkey_c.specs.Parts.{Fills, flag_of};
 
 use crate::answers::{ACCEPTED, Limit};
 use crate::input::{KeyLimit, is_profile, key_from, profile_from, write_front, write_key};
 use crate::parts::{SignatureCall, SignatureOut};
-use authdata::{AttestationObject, Profile, self_signature};
+use authdata::{AttestationView, Profile};
 use clientdata::hash;
 use cose::KeyView;
-use std::alloc::Global;
 use verification::{attested_key, counts_as_none};
 
 /// A signature that is to be verified, of the authenticator data and then the hash of the client data.
@@ -34,7 +32,6 @@ pub struct AskedSignature<'a> {
 pub enum AskError {
     Unreadable,
     Limit(Limit),
-    Memory,
 }
 
 impl AskError {
@@ -45,7 +42,6 @@ impl AskError {
         match self {
             AskError::Unreadable => 7,
             AskError::Limit(limit) => limit.number(),
-            AskError::Memory => 127,
         }
     }
 }
@@ -92,35 +88,35 @@ fn tell(
 fn counted_signature<'a>(
     profile: Profile,
     asked: bool,
-    object: &'a AttestationObject,
+    object: &AttestationView<'a>,
     key: &KeyView<'_>,
 ) -> Option<&'a [u8]>
     ensures { MatchOption result
-        (IsNotSelfSigned (counted profile asked (object_view object.now)) (lent_key_view key.now))
-        (λ sig. IsSelfSignedBy (counted profile asked (object_view object.now)) (lent_key_view key.now) sig.now) }
+        (IsNotSelfSigned (counted profile asked (lent_object_view object.now)) (lent_key_view key.now))
+        (λ sig. IsSelfSignedBy (counted profile asked (lent_object_view object.now)) (lent_key_view key.now) sig.now) }
 {
     if counts_as_none(profile, asked) {
         return None;
     }
-    self_signature(object, key)
+    object.self_signature(key)
 }
 
 /// Tells the signature that an object asks for, or that it asks for none.
 fn tell_object(
     call: &SignatureCall<'_>,
-    object: &AttestationObject,
+    object: &AttestationView<'_>,
     message: &mut [u8],
     signature: &mut [u8],
     out: &mut SignatureOut,
 ) -> Result<(), AskError>
     requires registration { flag_of call.now.is_registration ≡ true }
-    requires object { ObjectOf (object_view object.now) call.now.registration.object.now }
+    requires object { ObjectOf (lent_object_view object.now) call.now.registration.object.now }
     ensures told { OnOk result (Tells call.now out.new message.new signature.new out.new.is_asked) }
     ensures refused { IfErr result (IsUntold call.now (length message.old) (length signature.old)) }
     ensures untouched { OnErr result ((out.new ≡ out.old) × (message.new ≡ message.old) × (signature.new ≡ signature.old)) }
 {
     let profile = profile_from(call.profile);
-    let Some(key) = attested_key(profile, &object.auth_data) else {
+    let Some(key) = attested_key(profile, object.auth_data) else {
         return Err(AskError::Unreadable);
     };
     let asked = call.attestation != 0;
@@ -130,7 +126,7 @@ fn tell_object(
     };
     let asked = AskedSignature {
         key,
-        auth_data: &object.auth_data,
+        auth_data: object.auth_data,
         hash: hash(call.registration.client_data),
         signature: self_signature,
     };
@@ -142,7 +138,6 @@ fn tell_object(
 
 /// Tells the signature that a registration asks for, or that it asks for none.
 fn tell_registration(
-    alloc: Global,
     call: &SignatureCall<'_>,
     message: &mut [u8],
     signature: &mut [u8],
@@ -153,10 +148,9 @@ fn tell_registration(
     ensures refused { IfErr result (IsUntold call.now (length message.old) (length signature.old)) }
     ensures untouched { OnErr result ((out.new ≡ out.old) × (message.new ≡ message.old) × (signature.new ≡ signature.old)) }
 {
-    match AttestationObject::read(alloc, call.registration.object) {
-        Ok(object) => tell_object(call, &object, message, signature, out),
-        Err(authdata::Error::Memory) => Err(AskError::Memory),
-        Err(_) => Err(AskError::Unreadable),
+    match AttestationView::read(call.registration.object) {
+        Some(object) => tell_object(call, &object, message, signature, out),
+        None => Err(AskError::Unreadable),
     }
 }
 
@@ -194,21 +188,15 @@ fn tell_sign_in(
 
 /// Tells which signature the host is to verify: 0 where it is told, or that there is none; 7 where a registration attests
 /// nothing; 104 to 106 where a sign-in's key is out of its limits; 110 or 111 where a room is too small; 112 where a
-/// registration's profile is not known; 127 where there was no memory.
+/// registration's profile is not known. It takes no memory.
 pub fn passkey_signature_asked(
-    alloc: Global,
     call: &SignatureCall<'_>,
     message: &mut [u8],
     signature: &mut [u8],
     out: &mut SignatureOut,
 ) -> u32
-    ensures told { result ≡ 0 → Tells call.now out.new message.new signature.new out.new.is_asked }
-    ensures unread { result ≡ 7 → (flag_of call.now.is_registration ≡ true) × IsUnread (profile_of call.now.profile) (response_of call.now.registration) }
-    ensures limit { (limit : Limit) → result ≡ limit_number limit → IsBroken call.now (length message.old) (length signature.old) limit }
-    ensures within { result < 100 → AskKeeps (flag_of call.now.is_registration) call.now }
-    ensures memory { result ≡ 127 → flag_of call.now.is_registration ≡ true }
-    ensures answer { IsAskAnswer result }
-    ensures untouched { result ≢ 0 → (out.new ≡ out.old) × (message.new ≡ message.old) × (signature.new ≡ signature.old) }
+    ensures { IsSignatureAsked call.now (record { out = out.old; message = message.old; signature = signature.old })
+        (record { out = out.new; message = message.new; signature = signature.new }) result }
 {
     let told = if call.is_registration == 0 {
         match tell_sign_in(call, message, signature, out) {
@@ -216,7 +204,7 @@ pub fn passkey_signature_asked(
             Err(limit) => Err(AskError::Limit(limit)),
         }
     } else if is_profile(call.profile) {
-        tell_registration(alloc, call, message, signature, out)
+        tell_registration(call, message, signature, out)
     } else {
         Err(AskError::Limit(Limit::Profile))
     };

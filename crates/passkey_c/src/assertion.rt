@@ -1,31 +1,28 @@
 //! Sign-ins (WebAuthn Level 2, section 7.2).
 
-ghost use Rattle.std.specs.Prelude.{◌≡◌, ◌≢◌, ◌<◌, IfErr, IfOk, OnOk, option_map};
+ghost use Rattle.std.specs.Prelude.{◌≡◌, IfErr, IfOk, OnOk, option_map};
 ghost use Rattle.refusal_order.specs.Lines.{Each};
 ghost use Rattle.cose.specs.Keys.{lent_key_view};
-ghost use Rattle.verification.specs.Numbers.{sign_in_number};
-ghost use Rattle.verification.specs.SignIn.{IsFirstFailing, PassesSignIn};
-ghost use Rattle.authdata.specs.Layout.{AuthOf, lent_auth_view};
-ghost use Rattle.verification.specs.Views.{assertion_parts_view, credential_view, judged_sign_in_view, sign_in_view};
-ghost use Rattle.verification.specs.declared.refusal.SignInRefusal.{SignInRefusal};
+ghost use Rattle.verification.specs.SignIn.{PassesSignIn};
+ghost use Rattle.verification.specs.SignInAnswers.{IsVerifiedSignIn};
+ghost use Rattle.verification.specs.Views.{assertion_parts_view, credential_view, sign_in_view};
 ghost use Rattle.verification.specs.Signed.{lent_signature_view};
+ghost use Rattle.passkey_c.specs.Answers.{IsAssertion};
 ghost use Rattle.passkey_c.specs.declared.assertion.Refusal.TheVariants as refusals;
 ghost use Rattle.passkey_c.specs.Limits.{IsFault, SignInKeeps, sign_in_limits};
-ghost use Rattle.passkey_c.specs.Numbers.{limit_number};
 ghost use Rattle.passkey_c.specs.Parts.{flag_of, given_some, key_of, party_of, verified_in};
-ghost use Rattle.passkey_c.specs.SignIns.{IsRefused, IsSignInAnswer, judged_sign_in, sign_in_validity, TellsSignIn};
+ghost use Rattle.passkey_c.specs.SignIns.{IsRefused, judged_sign_in, sign_in_validity};
 
 use crate::answers::{ACCEPTED, InputFault, Limit};
-use crate::input::{KeyLimit, copies, copy_of, exactly_32, key_from, party_from, profile_from};
+use crate::input::{KeyLimit, copies, copy_of, exactly_32, key_from, party_from};
 use crate::parts::{AnswerParts, AssertionCall, AssertionOut};
 use crate::seen::tell_data;
 use crate::signature::verifier_from;
-use authdata::{AuthView, read_view};
 use cose::KeyView;
 use std::alloc::Global;
 use verification::{
     AssertionParts, HostVerifier, RelyingParty, RowView, SignInAttempt, SignInRefusal,
-    SignInSession, VerificationError, verify_assertion,
+    SignInSession, VerificationError, VerifiedAssertion, verify_assertion,
 };
 
 /// Why a sign-in is not accepted.
@@ -143,20 +140,21 @@ fn response<'a, 'b: 'a>(call: &AssertionCall<'b>) -> AssertionParts<'a>
 }
 
 /// Judges a sign-in by what was handed in.
-fn verified(
+fn verified<'a>(
     alloc: Global,
-    call: &AssertionCall<'_>,
+    call: &AssertionCall<'a>,
     party: &RelyingParty,
     session: Option<&SignInSession>,
     key: Option<KeyView<'_>>,
     verifier: &HostVerifier<'_>,
-) -> Result<(), Refusal>
+) -> Result<VerifiedAssertion<'a>, Refusal>
     requires party { party.now ≡ party_of call.now.party }
     requires session { option_map (λ s. sign_in_view s.now) session ≡ (judged_sign_in call.now).session }
     requires key { option_map lent_key_view key ≡ given_some (flag_of call.now.has_credential) (key_of call.now.credential.key) }
     requires verified { option_map lent_signature_view verifier.now.verified ≡ verified_in (flag_of call.now.has_verified) call.now.verified }
     requires limits { Each (SignInKeeps call.now) sign_in_limits }
     ensures accepted { OnOk result (PassesSignIn (sign_in_validity call.now) (judged_sign_in call.now)) }
+    ensures read { IfOk result (IsVerifiedSignIn (judged_sign_in call.now)) }
     ensures refused { IfErr result (IsRefused call.now) }
 {
     let attempt = SignInAttempt {
@@ -166,15 +164,16 @@ fn verified(
         response: response(call),
     };
     match verify_assertion(alloc, verifier, &attempt) {
-        Ok(_) => Ok(()),
+        Ok(verified) => Ok(verified),
         Err(VerificationError::Refused(step)) => Err(Refusal::Step(step)),
         Err(VerificationError::Memory) => Err(Refusal::Input(InputFault::Memory)),
     }
 }
 
 /// Judges a sign-in.
-fn judge(alloc: Global, call: &AssertionCall<'_>) -> Result<(), Refusal>
+fn judge<'a>(alloc: Global, call: &AssertionCall<'a>) -> Result<VerifiedAssertion<'a>, Refusal>
     ensures accepted { OnOk result (PassesSignIn (sign_in_validity call.now) (judged_sign_in call.now)) }
+    ensures read { IfOk result (IsVerifiedSignIn (judged_sign_in call.now)) }
     ensures limits { OnOk result (Each (SignInKeeps call.now) sign_in_limits) }
     ensures refused { IfErr result (IsRefused call.now) }
 {
@@ -185,33 +184,15 @@ fn judge(alloc: Global, call: &AssertionCall<'_>) -> Result<(), Refusal>
     verified(alloc, call, &party, session.as_ref(), key, &verifier)
 }
 
-/// The authenticator data of a sign-in that passes each step.
-fn accepted_data<'a>(call: &AssertionCall<'a>) -> AuthView<'a>
-    requires { PassesSignIn (sign_in_validity call.now) (judged_sign_in call.now) }
-    ensures { AuthOf (judged_sign_in call.now).rp.profile (lent_auth_view result) call.now.response.auth_data.now }
-{
-    match read_view(profile_from(call.party.profile), call.response.auth_data) {
-        Ok(data) => data,
-        Err(_) => unreachable!("the data were read for their step"),
-    }
-}
-
 /// Judges a sign-in: 0 where each step of section 7.2 is passed, the only valid signature being the one that the host
 /// verified, and then what it says is written; else 1 to 18 for the first step that is not passed, 100 and up for a
 /// member that is out of its limits, 127 where there was no memory, and nothing is written.
 pub fn passkey_assertion(alloc: Global, call: &AssertionCall<'_>, out: &mut AssertionOut) -> u32
-    ensures accepted { result ≡ 0 → PassesSignIn (sign_in_validity call.now) (judged_sign_in call.now) }
-    ensures told { result ≡ 0 → TellsSignIn call.now out.new }
-    ensures refused { (step : SignInRefusal) → result ≡ sign_in_number step
-        → IsFirstFailing (sign_in_validity call.now) (judged_sign_in call.now) step }
-    ensures limit { (limit : Limit) → result ≡ limit_number limit → SignInKeeps call.now limit → ⊥ }
-    ensures within { result < 100 → Each (SignInKeeps call.now) sign_in_limits }
-    ensures answer { IsSignInAnswer result }
-    ensures untouched { result ≢ 0 → out.new ≡ out.old }
+    ensures { IsAssertion call.now out.old out.new result }
 {
     match judge(alloc, call) {
-        Ok(()) => {
-            tell_data(&accepted_data(call), out);
+        Ok(verified) => {
+            tell_data(&verified.auth_data, out);
             ACCEPTED
         }
         Err(Refusal::Step(step)) => u32::from(step.number()),

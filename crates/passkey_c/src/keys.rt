@@ -1,12 +1,10 @@
 //! Keys as COSE_Key bytes (RFC 9052, section 7).
 
-ghost use Rattle.std.specs.Prelude.{◌≡◌, ◌≢◌, ◌↔◌, ◌++◌, IfSome, IsTrue, List, MatchOption, Some, drop, false, length, true, ℕ};
-ghost use Rattle.refusal_order.specs.Lines.{Each};
+ghost use Rattle.std.specs.Prelude.{IfSome, MatchOption};
 ghost use Rattle.cose.specs.Keys.{IsKey, lent_key_view};
 ghost use Rattle.cose.specs.declared.key.CoseKey.{CoseKey};
+ghost use Rattle.passkey_c.specs.Answers.{IsKeyFromCose, IsKeyToCose};
 ghost use Rattle.passkey_c.specs.Cose.{IsCoseKey};
-ghost use Rattle.passkey_c.specs.Limits.{KeyKeeps, key_order};
-ghost use Rattle.passkey_c.specs.Parts.{TellsKey, key_of};
 
 use crate::input::{key_from, write_key};
 use crate::parts::{KeyOut, KeyParts};
@@ -30,9 +28,7 @@ fn key_in(bytes: &[u8]) -> Option<KeyView<'_>>
 /// Tells the key whose COSE_Key bytes (RFC 9052, section 7) these are, in canonical CBOR, of ES256, EdDSA or RS256: true
 /// exactly if they are, and then it is written; else nothing is. No test is made that a point lies on its curve.
 pub fn passkey_key_from_cose(bytes: &[u8], out: &mut KeyOut) -> bool
-    ensures is { IsTrue result ↔ ((key : CoseKey) × IsCoseKey key bytes.now) }
-    ensures told { result ≡ true → (key : CoseKey) × IsCoseKey key bytes.now × TellsKey out.new key }
-    ensures untouched { result ≡ false → out.new ≡ out.old }
+    ensures { IsKeyFromCose bytes.now out.old out.new result }
 {
     match key_in(bytes) {
         Some(key) => {
@@ -61,10 +57,7 @@ fn cose_of(alloc: Global, key: &KeyView<'_>) -> Option<Vec<u8>>
 /// 42 of EdDSA, 13 more than x and y have of RS256. 0 where the key is out of its limits, the room is too small, or there was
 /// no memory, and then nothing is written.
 pub fn passkey_key_to_cose(alloc: Global, key: &KeyParts<'_>, room: &mut [u8]) -> usize
-    ensures kept { result ≢ 0 → Each (KeyKeeps key.now) key_order }
-    ensures written { result ≢ 0 → (k : CoseKey) × (bytes : List ℕ) × (key_of key.now ≡ Some k) × IsCoseKey k bytes
-        × (result ≡ length bytes) × (room.new ≡ bytes ++ drop result room.old) }
-    ensures untouched { result ≡ 0 → room.new ≡ room.old }
+    ensures { IsKeyToCose key.now room.old room.new result }
 {
     let Ok(key) = key_from(key) else {
         return 0;

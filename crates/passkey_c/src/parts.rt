@@ -192,9 +192,9 @@ pub struct RegistrationCall<'a> {
     /// The client's answer.
     pub response: AttestationParts<'a>,
     /// Whether the host found that no credential has the id that follows, retired or not.
-    pub has_free_id: u8,
-    /// The id of which it found that. Each other id counts as registered.
-    pub free_id: &'a [u8],
+    pub is_free: u8,
+    /// The credential id as the client names it (`rawId`).
+    pub raw_id: &'a [u8],
     /// Whether there is no room for another credential.
     pub is_full: u8,
     /// Whether the host verified a signature.

@@ -1,24 +1,21 @@
 //! Registrations (WebAuthn Level 2, section 7.1).
 
-ghost use Rattle.std.specs.Prelude.{◌≡◌, ◌≢◌, ◌<◌, IfErr, IfOk, OnOk, false, option_map, true};
+ghost use Rattle.std.specs.Prelude.{◌≡◌, IfErr, IfOk, OnOk, option_map};
 ghost use Rattle.refusal_order.specs.Lines.{Each};
-ghost use Rattle.verification.specs.Numbers.{registration_number};
-ghost use Rattle.verification.specs.Registration.{IsFirstFailing, PassesRegistration, PassesRegistrationStep, response_steps};
+ghost use Rattle.verification.specs.Registration.{PassesRegistration, PassesRegistrationStep, response_steps};
 ghost use Rattle.verification.specs.RegistrationAnswers.{IsVerifiedRegistration};
-ghost use Rattle.verification.specs.Views.{registration_parts_view, registration_view};
-ghost use Rattle.verification.specs.declared.refusal.RegistrationRefusal.{RegistrationRefusal};
+ghost use Rattle.verification.specs.Views.{registration_view};
 ghost use Rattle.verification.specs.Signed.{lent_signature_view};
+ghost use Rattle.passkey_c.specs.Answers.{IsRegistration};
 ghost use Rattle.passkey_c.specs.declared.registration.Refusal.TheVariants as refusals;
 ghost use Rattle.passkey_c.specs.Limits.{IsFault, RegistrationKeeps, registration_limits};
-ghost use Rattle.passkey_c.specs.Numbers.{limit_number, registration_answer};
 ghost use Rattle.passkey_c.specs.Parts.{flag_of, offered, party_of, verified_in};
-ghost use Rattle.passkey_c.specs.Seen.{IsAccepted};
-ghost use Rattle.passkey_c.specs.Registrations.{IsRefused, IsRegistrationAnswer, judged_registration, registration_validity, TellsRegistration};
+ghost use Rattle.passkey_c.specs.Registrations.{IsRefused, judged_registration, registration_validity};
 
 use crate::answers::{ACCEPTED, InputFault, Limit};
-use crate::input::{KeyLimit, exactly_32, party_from, profile_from};
+use crate::input::{KeyLimit, exactly_32, party_from};
 use crate::parts::{RegistrationCall, RegistrationOut};
-use crate::seen::{SeenRegistration, seen_in, tell_registration};
+use crate::seen::tell_registration;
 use crate::signature::verifier_from;
 use cose::Alg;
 use std::alloc::{AllocError, Global};
@@ -108,13 +105,13 @@ fn registration_verifier<'a>(call: &RegistrationCall<'a>) -> Result<HostVerifier
 }
 
 /// Judges a registration by its response.
-fn verified(
+fn verified<'a>(
     alloc: Global,
-    call: &RegistrationCall<'_>,
+    call: &RegistrationCall<'a>,
     party: &RelyingParty,
     session: Option<&RegistrationSession>,
     verifier: &HostVerifier<'_>,
-) -> Result<VerifiedRegistration, Refusal>
+) -> Result<VerifiedRegistration<'a>, Refusal>
     requires party { party.now ≡ party_of call.now.party }
     requires session { option_map (λ s. registration_view s.now) session ≡ (judged_registration call.now).session }
     requires verified { option_map lent_signature_view verifier.now.verified ≡ verified_in (flag_of call.now.has_verified) call.now.verified }
@@ -133,6 +130,7 @@ fn verified(
         response: RegistrationParts {
             object: call.response.object,
             client_data: call.response.client_data,
+            raw_id: Some(call.raw_id),
         },
     };
     match verify_registration(alloc, verifier, &attempt) {
@@ -142,15 +140,12 @@ fn verified(
     }
 }
 
-/// Whether a credential of this id counts as registered.
-fn is_registered(call: &RegistrationCall<'_>, id: &[u8]) -> bool
-    ensures { (judged_registration call.now).is_registered id.now ≡ result }
-{
-    !(call.has_free_id != 0 && call.free_id == id)
-}
-
 /// Judges a registration.
-fn judge(alloc: Global, call: &RegistrationCall<'_>) -> Result<(), Refusal>
+fn judge<'a>(
+    alloc: Global,
+    call: &RegistrationCall<'a>,
+) -> Result<VerifiedRegistration<'a>, Refusal>
+    ensures attested { IfOk result (IsVerifiedRegistration (judged_registration call.now)) }
     ensures accepted { OnOk result (PassesRegistration (registration_validity call.now) (judged_registration call.now)) }
     ensures limits { OnOk result (Each (RegistrationKeeps call.now) registration_limits) }
     ensures refused { IfErr result (IsRefused call.now) }
@@ -159,66 +154,28 @@ fn judge(alloc: Global, call: &RegistrationCall<'_>) -> Result<(), Refusal>
     let session = expected(alloc, call)?;
     let verifier = registration_verifier(call)?;
     let verified = verified(alloc, call, &party, session.as_ref(), &verifier)?;
-    let is_registered = is_registered(call, verified.id());
-    match verified.admit(is_registered, call.is_full != 0) {
-        Ok(_) => Ok(()),
+    match verified.admit(call.is_free == 0, call.is_full != 0) {
+        Ok(_) => Ok(verified),
         Err(step) => Err(Refusal::Step(step)),
     }
 }
 
-/// What a registration that passes each step attests.
-fn accepted_credential<'a>(call: &RegistrationCall<'a>) -> SeenRegistration<'a>
-    requires { PassesRegistration (registration_validity call.now) (judged_registration call.now) }
-    ensures { IsAccepted call.now result }
-{
-    match seen_in(
-        profile_from(call.party.profile),
-        call.session.attestation != 0,
-        call.response.object,
-    ) {
-        Some(seen) => seen,
-        None => unreachable!("the object was read for its step"),
-    }
-}
-
-/// The answer where a step refuses: its number, or 19 in place of 15 where the host found an id free, since then the response
-/// attests another one.
-fn answer_of(has_free_id: bool, step: RegistrationRefusal) -> u32
-    ensures { result ≡ registration_answer has_free_id step }
-{
-    match step {
-        RegistrationRefusal::CredentialRegistered if has_free_id => 19,
-        _ => u32::from(step.number()),
-    }
-}
-
 /// Judges a registration: 0 where each step of section 7.1 is passed, the only valid signature being the one that the
-/// host verified and the only id that is not registered the one that it found to be free, and then what it attests is
-/// written; else 1 to 18 for the first step that is not passed, 19 in place of 15 where an id was found free, 100 and up for
+/// host verified, and then what it attests is written; else 1 to 19 for the first step that is not passed, 100 and up for
 /// a member that is out of its limits, 127 where there was no memory, and nothing is written.
 pub fn passkey_registration(
     alloc: Global,
     call: &RegistrationCall<'_>,
     out: &mut RegistrationOut,
 ) -> u32
-    ensures accepted { result ≡ 0 → PassesRegistration (registration_validity call.now) (judged_registration call.now) }
-    ensures told { result ≡ 0 → TellsRegistration call.now out.new }
-    ensures refused { (step : RegistrationRefusal) → result ≡ registration_number step
-        → IsFirstFailing (registration_validity call.now) (judged_registration call.now) step }
-    ensures other { result ≡ 19 → (flag_of call.now.has_free_id ≡ true)
-        × IsFirstFailing (registration_validity call.now) (judged_registration call.now) RegistrationRefusal.CredentialRegistered }
-    ensures registered { result ≡ 15 → flag_of call.now.has_free_id ≡ false }
-    ensures limit { (limit : Limit) → result ≡ limit_number limit → RegistrationKeeps call.now limit → ⊥ }
-    ensures within { result < 100 → Each (RegistrationKeeps call.now) registration_limits }
-    ensures answer { IsRegistrationAnswer result }
-    ensures untouched { result ≢ 0 → out.new ≡ out.old }
+    ensures { IsRegistration call.now out.old out.new result }
 {
     match judge(alloc, call) {
-        Ok(()) => {
-            tell_registration(&accepted_credential(call), out);
+        Ok(verified) => {
+            tell_registration(&verified, out);
             ACCEPTED
         }
-        Err(Refusal::Step(step)) => answer_of(call.has_free_id != 0, step),
+        Err(Refusal::Step(step)) => u32::from(step.number()),
         Err(Refusal::Input(fault)) => fault.number(),
     }
 }

@@ -1,6 +1,7 @@
 //! The texts of answers.
 
-ghost use Rattle.std.specs.Prelude.{◌≡◌, ◌≢◌, ◌<◌, ◌++◌, List, MatchOption, drop, length, take, ℕ};
+ghost use Rattle.std.specs.Prelude.{◌≡◌, List, MatchOption, ℕ};
+ghost use Rattle.passkey_c.specs.Answers.{IsRefusalText};
 ghost use Rattle.passkey_c.specs.Parts.{flag_of};
 ghost use Rattle.passkey_c.specs.Texts.{IsStepText, IsText, registration_text, sign_in_text};
 
@@ -65,6 +66,7 @@ fn registration_text(step: RegistrationRefusal) -> &'static str
         RegistrationRefusal::AttestationNotAccepted => "the attestation is not accepted",
         RegistrationRefusal::CredentialRegistered => "the credential is registered",
         RegistrationRefusal::TableFull => "there is no room for another credential",
+        RegistrationRefusal::OtherId => "the response's id is not the attested credential's",
     }
 }
 
@@ -74,9 +76,6 @@ fn step_text(is_registration: bool, number: u8) -> Option<&'static str>
         (λ text. IsStepText is_registration number text.now) }
 {
     if is_registration {
-        if number == 19 {
-            return Some("the response's id is not the attested credential's");
-        }
         match RegistrationRefusal::from_number(number) {
             Some(step) => Some(registration_text(step)),
             None => None,
@@ -112,10 +111,7 @@ fn text_of(is_registration: bool, answer: u32) -> Option<&'static str>
 /// Writes the text of an answer, of a registration where the flag is not 0, and tells how many bytes it has: 0 where the
 /// answer has no text or the room is too small, and then nothing is written. It takes no memory.
 pub fn passkey_refusal_text(is_registration: u32, answer: u32, room: &mut [u8]) -> usize
-    ensures written { result ≢ 0 → (text : List ℕ) × IsText (flag_of is_registration) answer text
-        × (result ≡ length text) × (room.new ≡ text ++ drop result room.old) }
-    ensures none { result ≡ 0 → (text : List ℕ) → IsText (flag_of is_registration) answer text → length room.old < length text }
-    ensures untouched { result ≡ 0 → room.new ≡ room.old }
+    ensures { IsRefusalText (flag_of is_registration) answer room.old room.new result }
 {
     let Some(text) = text_of(is_registration != 0, answer) else {
         return 0;

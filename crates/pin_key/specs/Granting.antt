@@ -8,7 +8,7 @@ use Rattle.authenticator.specs.declared.pending.Begun.{Begun}
 use Rattle.authenticator.specs.declared.pending.Begun.TheVariants as begun
 use Rattle.ctap_requests.specs.Requests.{RequestMessage, RequestOf}
 use Rattle.ctap_requests.specs.Status.{IsRequest}
-use Rattle.pin_requests.specs.Protected.{IsUnprotected, verified}
+use Rattle.pin_key_messages.specs.Protected.{IsUnprotected, verified}
 use Rattle.pin_key.specs.declared.computing.Step.{Step}
 use Rattle.pin_key.specs.declared.computing.Step.TheVariants as step
 

@@ -4,7 +4,7 @@ use Rattle.hidlink.specs.Ranks.{DeviceState, Idle}
 use Rattle.authdata.specs.declared.statement.AttestationType.{AttestationType}
 use Rattle.authenticator.specs.State.{AuthenticatorState, new_state}
 use Rattle.authenticator.specs.declared.pending.Pending.{Pending}
-use Rattle.client_pin.specs.State.{PinState, new_pin_state}
+use Rattle.key_pin.specs.State.{PinState, new_pin_state}
 use Rattle.pin_key.specs.declared.stage.Stage.{Stage}
 use Rattle.pin_key.specs.declared.stage.Stage.TheVariants as stage
 

@@ -1,7 +1,7 @@
 -- How a request is answered, where a PIN is set or not: CTAP 2.1, sections 6.1.2 and 6.2.2, and 6.5.
 use Rattle.std.specs.Prelude.{◌≡◌, ◌≢◌, ◌⊎◌, ℕ, List, [], ◌∷◌, Bool, false, Option, Some, None, if◌then◌else◌}
 use Rattle.ctap_encoding.specs.declared.error.Error.TheVariants as errors
-use Rattle.pin_requests.specs.Protected.{Flags, IsProtection, Protection, RefusedProtection}
+use Rattle.pin_key_messages.specs.Protected.{Flags, IsProtection, Protection, RefusedProtection}
 use Rattle.pin_key.specs.declared.looking.Look.{Look}
 use Rattle.pin_key.specs.declared.looking.Look.TheVariants as look
 

@@ -1,20 +1,20 @@
 //! What the PIN makes of a request.
 
 ghost use Rattle.std.specs.Prelude.{◌≡◌, ◌∷◌, [], IfOk, Ok, OnErr};
-ghost use Rattle.client_pin.specs.Grants.{claim, granted};
-ghost use Rattle.client_pin.specs.State.{pin_view};
+ghost use Rattle.key_pin.specs.Grants.{claim, granted};
+ghost use Rattle.key_pin.specs.State.{pin_view};
 ghost use Rattle.pin_protocols.specs.Asks.{entries};
-ghost use Rattle.pin_requests.specs.Protected.{client_data_hash, permission, rp_id};
-ghost use Rattle.pin_requests.specs.ProtectedView.{message_of};
+ghost use Rattle.pin_key_messages.specs.Protected.{client_data_hash, permission, rp_id};
+ghost use Rattle.pin_key_messages.specs.ProtectedView.{message_of};
 ghost use Rattle.pin_key.specs.Granting.{IsGranted};
 
 use crate::looking::command_of;
-use client_pin::{ClientPin, Grant, PinStep, PinWords};
 use ctap_encoding::Error;
+use ctap_encoding::command::CLIENT_PIN;
 use ctap_encoding::status::OTHER;
-use pin_messages::CLIENT_PIN;
+use key_pin::{ClientPin, Grant, PinStep, PinWords};
+use pin_key_messages::{ProtectedRequest, protected_request, read_param, read_pin};
 use pin_protocols::{Answers, Ask};
-use pin_requests::{ProtectedRequest, protected_request, read_param, read_pin};
 use std::alloc::{AllocError, Global};
 
 /// What a request comes to by the answers so far.

@@ -8,11 +8,11 @@ ghost use Rattle.pin_key.specs.Granting.{HandsGranted, IsBare};
 use crate::computing::status_alone;
 use crate::looking::{Look, command_of, look_at};
 use authenticator::{Authenticator, Begun, Consent, NO_KEYS, PublicKeys, Words};
-use client_pin::ClientPin;
 use ctap_encoding::Error;
+use ctap_encoding::command::{GET_INFO, RESET};
 use ctap_encoding::status::{OK, OPERATION_DENIED, OTHER, PIN_INVALID, PIN_NOT_SET};
-use ctap_requests::{GET_INFO, RESET};
-use pin_requests::{bare_request, protected_request, read_param, write_key_info};
+use key_pin::ClientPin;
+use pin_key_messages::{bare_request, protected_request, read_param, write_key_info};
 use std::alloc::{AllocError, Global};
 
 /// A request that the user decided on.

@@ -1,7 +1,7 @@
 //! The security key.
 
 ghost use Rattle.std.specs.Prelude.{◌≡◌, ◌≤◌, length, IfOk};
-ghost use Rattle.client_pin.specs.State.{without_token};
+ghost use Rattle.key_pin.specs.State.{without_token};
 ghost use Rattle.hidlink.specs.Ranks.{IsWorking};
 ghost use Rattle.pin_key.specs.Key.{IsNew};
 
@@ -15,9 +15,9 @@ use authdata::AttestationType;
 use authenticator::{
     Authenticator, Begun, Consent, LoadError, NO_KEYS, Pending, PublicKeys, Words,
 };
-use client_pin::{ClientPin, PinLoadError, PinWords};
 use hidframe::Packet;
 use hidlink::{Device, DeviceEvent};
+use key_pin::{ClientPin, PinLoadError, PinWords};
 use pin_protocols::{Answers, Ask};
 use security_key::{Act, Served, begin_serving, finish_serving};
 use std::alloc::{AllocError, Global};
@@ -34,7 +34,7 @@ pub struct PinKey {
 }
 
 impl Model for PinKey {
-    ghost use Rattle.client_pin.specs.State.{pin_view};
+    ghost use Rattle.key_pin.specs.State.{pin_view};
     ghost use Rattle.pin_key.specs.Key.{IsSound, PinKeyState};
 
     ghost Value = { PinKeyState };

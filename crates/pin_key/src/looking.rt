@@ -1,14 +1,13 @@
 //! How a request that is complete is answered.
 
 ghost use Rattle.std.specs.Prelude.{◌≡◌, option_map};
-ghost use Rattle.pin_requests.specs.ProtectedView.{flags_view, protection_view};
+ghost use Rattle.pin_key_messages.specs.ProtectedView.{flags_view, protection_view};
 ghost use Rattle.pin_key.specs.Looking.{IsLook, LooksAtParam, asks_verification, command_of, look_of};
 
 use ctap_encoding::Error;
+use ctap_encoding::command::{CLIENT_PIN, GET_ASSERTION, MAKE_CREDENTIAL};
 use ctap_encoding::status::{INVALID_OPTION, OTHER, PUAT_REQUIRED};
-use ctap_requests::{GET_ASSERTION, MAKE_CREDENTIAL};
-use pin_messages::CLIENT_PIN;
-use pin_requests::{OptionsAsked, ParamView, read_param};
+use pin_key_messages::{OptionsAsked, ParamView, read_param};
 
 /// How a request is answered.
 #[derive(Clone, Copy, Debug, PartialEq, Eq, Drop)]

@@ -1,7 +1,7 @@
 //! What the request that the device works on waits for.
 
-use client_pin::PinWords;
 use hidlink::DeviceEvent;
+use key_pin::PinWords;
 use pin_protocols::{Answers, Ask};
 use std::mem;
 

@@ -1,7 +1,7 @@
 -- What stops a part stops the whole.
 use Rattle.std.proofs.Common.{◌≡◌, ℕ, List, refl, inl, inr, ◌⊎◌, Result, Ok, Err, IfOk, IfErr}
 use Rattle.std.specs.Prelude.{IsErrOf}
-use Rattle.pin_messages.specs.Commands.{PublicPoint, PinRequest, Subcommand}
+use Rattle.pin_client_messages.specs.Commands.{PublicPoint, PinRequest, Subcommand}
 use Rattle.pin_protocols.specs.declared.pin.PinFault.{PinFault}
 use Rattle.pin_protocols.specs.declared.protocol.Protocol.{Protocol}
 use Rattle.pin_protocols.specs.declared.stop.Stop.{Stop}

@@ -1,5 +1,5 @@
 -- What a host is asked to compute, and what it answered.
-use Rattle.std.specs.Prelude.{◌≡◌, ◌≢◌, ℕ, ◌+◌, ◌==◌, List, length, map, find, Bool, ◌&&◌, Option, Some, None, option_map, Vec}
+use Rattle.std.specs.Prelude.{◌≡◌, ◌≢◌, ℕ, ◌+◌, ◌==◌, List, length, map, find, Bool, ◌&&◌, Option, Some, None, option_map, codes, Vec}
 use Rattle.std.specs.Global.{Global}
 use Rattle.std.specs.Str.{bytes_eq}
 use Rattle.pin_protocols.specs.declared.ask.Ask.{Ask}
@@ -34,6 +34,15 @@ place operations.Seal = 2
 place operations.Encrypt = 3
 place operations.Decrypt = 4
 place operations.Authenticate = 5
+
+-- an operation's name, in lines
+abbrev pub operation_name : Operation → List ℕ
+operation_name operations.Agree = codes "agree"
+operation_name operations.Derive = codes "derive"
+operation_name operations.Seal = codes "seal"
+operation_name operations.Encrypt = codes "encrypt"
+operation_name operations.Decrypt = codes "decrypt"
+operation_name operations.Authenticate = codes "authenticate"
 
 abbrev pub is_asked : Asked → Asked → Bool
 is_asked a b = ((place b.operation == place a.operation) && bytes_eq b.key a.key) && bytes_eq b.iv a.iv && bytes_eq b.text a.text

@@ -1,7 +1,7 @@
 -- The requests of clientPIN that a client makes of a PIN, and what it makes of a token (CTAP 2.1, sections 6.5.5.5 to
 -- 6.5.5.7, 6.1 and 6.2). A PIN is in no message but as its hash or padded, and both encrypted.
 use Rattle.std.specs.Prelude.{◌≡◌, ℕ, List, ◌++◌, length, true, false, Option, Some, None, ◌⊎◌}
-use Rattle.pin_messages.specs.Commands.{PublicPoint, PinRequest, Subcommand, set_pin, change_pin, pin_token, token_by_pin, token_by_uv}
+use Rattle.pin_client_messages.specs.Commands.{PublicPoint, PinRequest, Subcommand, set_pin, change_pin, pin_token, token_by_pin, token_by_uv}
 use Rattle.pin_protocols.specs.declared.pin.PinFault.{PinFault}
 use Rattle.pin_protocols.specs.declared.protocol.Protocol.{Protocol}
 use Rattle.pin_protocols.specs.declared.stop.Stop.{Stop}

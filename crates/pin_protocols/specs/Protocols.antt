@@ -1,7 +1,7 @@
 -- PIN/UV auth protocols one (CTAP 2.1, section 6.5.6) and two (6.5.7): which bytes are computed of what.
 use Rattle.std.specs.Prelude.{◌≡◌, ℕ, ◌==◌, ◌||◌, true, nat_le, List, [], ◌++◌, take, drop, replicate, Bool, Option, Some, None, codes, ◌⊎◌, if◌then◌else◌}
 use Rattle.sha2.specs.Sha256.{sha256}
-use Rattle.pin_messages.specs.Commands.{PublicPoint}
+use Rattle.pin_client_messages.specs.Commands.{PublicPoint}
 use Rattle.pin_protocols.specs.declared.ask.Operation.TheVariants as operations
 use Rattle.pin_protocols.specs.declared.protocol.Protocol.{Protocol}
 use Rattle.pin_protocols.specs.declared.protocol.Protocol.TheVariants as protocols

@@ -1,7 +1,7 @@
 //! What a host is asked to compute.
 
 ghost use Rattle.std.specs.Prelude.{◌≡◌, IfOk, length};
-ghost use Rattle.pin_protocols.specs.Asks.{answer_size, ask_view, asked, is_asked, place};
+ghost use Rattle.pin_protocols.specs.Asks.{answer_size, ask_view, asked, is_asked, operation_name, place};
 
 use std::alloc::{AllocError, Global};
 
@@ -37,6 +37,20 @@ impl Operation {
             Operation::Encrypt => 3,
             Operation::Decrypt => 4,
             Operation::Authenticate => 5,
+        }
+    }
+
+    /// Its name, by which a program's line asks its host for it.
+    pub fn name(self) -> &'static str
+        ensures { result.now ≡ operation_name self }
+    {
+        match self {
+            Operation::Agree => "agree",
+            Operation::Derive => "derive",
+            Operation::Seal => "seal",
+            Operation::Encrypt => "encrypt",
+            Operation::Decrypt => "decrypt",
+            Operation::Authenticate => "authenticate",
         }
     }
 }

@@ -1,8 +1,8 @@
 //! The requests of clientPIN that are made of a PIN or of the key's own verification.
 
 ghost use Rattle.std.specs.Prelude.{◌≡◌, ◌⊎◌, ◌++◌, ℕ, List, IfErr, IfOk, IsErrOf, None, Some, option_map};
-ghost use Rattle.pin_messages.specs.CommandView.{command_view, point_view};
-ghost use Rattle.pin_messages.specs.Commands.{PinRequest};
+ghost use Rattle.pin_client_messages.specs.CommandView.{command_view, point_view};
+ghost use Rattle.pin_client_messages.specs.Commands.{PinRequest};
 ghost use Rattle.pin_protocols.specs.Asks.{Answered, Stops, entries};
 ghost use Rattle.pin_protocols.specs.Flows.{by_pin, IsChangePin, IsChangePinAsk, IsSessionAsk, IsSetPin, IsSetPinAsk, IsTokenAsk, IsTokenByPin, IsTokenByUv, NoRequest, Requests};
 ghost use Rattle.pin_protocols.specs.FlowView.{scope_view};
@@ -15,7 +15,7 @@ use crate::pin::{padded, pin_fault, pin_hash};
 use crate::protocol::Protocol;
 use crate::session::{Secret, authenticated, begun, joined, sealed};
 use crate::stop::Stop;
-use pin_messages::{PinCommand, Point, write_pin};
+use pin_client_messages::{PinCommand, Point, write_pin};
 use std::alloc::Global;
 
 /// What a token is for (CTAP 2.1, section 6.5.5.7).

@@ -1,7 +1,7 @@
 //! What is agreed with a key, and what is computed by the shared secret.
 
 ghost use Rattle.std.specs.Prelude.{◌≡◌, ◌≤◌, ◌++◌, true, IfErr, IfOk, length, replicate};
-ghost use Rattle.pin_messages.specs.CommandView.{point_view};
+ghost use Rattle.pin_client_messages.specs.CommandView.{point_view};
 ghost use Rattle.pin_protocols.specs.Asks.{Answered, Stops, entries};
 ghost use Rattle.pin_protocols.specs.Flows.{IsSession, IsSessionAsk};
 ghost use Rattle.pin_protocols.specs.declared.protocol.Protocol.TheVariants.{Two};
@@ -12,7 +12,7 @@ use crate::answers::{Answers, answered};
 use crate::ask::Operation;
 use crate::protocol::Protocol;
 use crate::stop::Stop;
-use pin_messages::Point;
+use pin_client_messages::Point;
 use sha2::{Digest, Sha256};
 use std::alloc::{AllocError, Global};
 

@@ -1,7 +1,7 @@
 //! A token that a key gave, and what is made of it.
 
 ghost use Rattle.std.specs.Prelude.{◌≡◌, IfErr, IfOk, length};
-ghost use Rattle.pin_messages.specs.CommandView.{point_view};
+ghost use Rattle.pin_client_messages.specs.CommandView.{point_view};
 ghost use Rattle.pin_protocols.specs.Asks.{Stops, entries};
 ghost use Rattle.pin_protocols.specs.Flows.{IsToken, NoToken};
 ghost use Rattle.pin_protocols.specs.Protocols.{Authenticates, authentication, is_token_size};
@@ -10,7 +10,7 @@ use crate::answers::Answers;
 use crate::protocol::Protocol;
 use crate::session::{authenticated, begun, opened};
 use crate::stop::Stop;
-use pin_messages::Point;
+use pin_client_messages::Point;
 use std::alloc::Global;
 
 fn is_token_size(protocol: Protocol, told: &[u8]) -> bool

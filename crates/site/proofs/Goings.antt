@@ -18,8 +18,8 @@ use Rattle.verification.specs.SignIn.{IsCounted}
 use Rattle.verification.specs.Registration as registration
 use Rattle.site_state.specs.Table.{row_of, with_row, signed_in, retired}
 use Rattle.site_state.proofs.RowLemmas.{found_id}
-use Rattle.saved_table.specs.Saved.{TableOf}
-use Rattle.saved_table.proofs.Tables.{one_saved}
+use Rattle.site.specs.Saved.{TableOf}
+use Rattle.site.proofs.Tables.{one_saved}
 use Rattle.site_state.specs.Sessions.{Expected, ForRegistration, ForSignIn, Opening, OpensSignIn, OpensRegistration, begun, challenge_in, challenge_of, closed, expected_of}
 use Rattle.site_state.specs.Sessions.{for_registration, for_sign_in, sign_in_at}
 use Rattle.site.specs.State.{SiteState, IsAfterRegistration, IsAfterSignIn, judged_sign_in, judged_registration, registered, saved_of}
@@ -229,7 +229,7 @@ retired_refused valid s n r row there is passes = let no : row.retired ≡ false
 registered_refused : (valid : Validity) (s : SiteState) (n : ℕ) (r : responses.AuthenticatorAttestationResponse)
     → registration.PassesRegistration valid (judged_registration s n r)
     → registration.Attested s.rp.profile r (λ o a c. row_of c.id s.rows ≡ None)
-registered_refused valid s n r passes o a c attests = no_row (row_of c.id s.rows) (passes.1.1.1.1.1.1.1.1.1.1.1.1.1.1.1.1.0 o a c attests)
+registered_refused valid s n r passes o a c attests = no_row (row_of c.id s.rows) (passes.1.1.1.1.1.1.1.1.1.1.1.1.1.1.1.1.1.0 o a c attests)
 
 one_table : (s t : SiteState) (v w : ℕ) (bs : List ℕ) → TableOf v (saved_of s) bs → TableOf w (saved_of t) bs → (t.rows ≡ s.rows)
     × (t.sessions.next ≡ s.sessions.next)

@@ -10,7 +10,7 @@ use Rattle.cose.specs.Schemes.{Validity}
 use Rattle.verification.specs.SignIn as authentication
 use Rattle.verification.specs.Registration as registration
 use Rattle.site_state.specs.Table.{row_of, with_row, signed_in, retired}
-use Rattle.saved_table.specs.Saved.{TableOf}
+use Rattle.site.specs.Saved.{TableOf}
 use Rattle.site_state.specs.Sessions.{Expected, ForRegistration, ForSignIn, Opening, begun, challenge_in, challenge_of, closed, registration_at, sign_in_at}
 use Rattle.site.specs.State.{SiteState, judged_sign_in, judged_registration, IsAfterSignIn, IsAfterRegistration, none_open, saved_of}
 

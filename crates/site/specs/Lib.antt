@@ -1,3 +1,6 @@
+pub mod Saved
+pub mod Private
+pub mod Views
 pub mod State
 pub mod Answers
 pub mod Laws

@@ -12,7 +12,7 @@ use Rattle.verification.specs.SignIn.{JudgedSignIn}
 use Rattle.verification.specs.Registration.{JudgedRegistration, Attests}
 use Rattle.verification.specs.declared.party.Policy.{Policy}
 use Rattle.site_state.specs.Table.{row_of, with_row, signed_in, IsTable, IsWithin}
-use Rattle.saved_table.specs.Saved.{Saved, TableOf}
+use Rattle.site.specs.Saved.{Saved, TableOf}
 use Rattle.site_state.specs.Sessions.{OpenSessions, closed, registration_at, sign_in_at}
 
 -- the relying party; the attestations that it accepts; its credentials in order of registration; its sessions

@@ -31,6 +31,7 @@ fn parts(response: &RegistrationResponse) -> RegistrationParts<'_>
     RegistrationParts {
         object: &response.object,
         client_data: &response.client_data,
+        raw_id: None,
     }
 }
 
@@ -39,7 +40,7 @@ impl Site {
     /// user's, and the session is closed.
     ///
     /// `Refused` with the first step of section 7.1 that the response does not pass in this session; `Memory` where
-    /// there was none to read the response or for the credential. Then nothing has changed: the session is open.
+    /// there was none to read the client data or for the credential. Then nothing has changed: the session is open.
     pub fn finish_registration_parts<V: Verifier>(
         &mut self,
         verifier: &V,
@@ -70,11 +71,13 @@ impl Site {
         let is_registered = self.table.has(verified.id());
         let admitted = verified.admit(is_registered, self.table.is_full())?;
         let user = Vec::from_slice(alloc, &expected.unwrap().user)?;
-        let credential = Vec::from_slice(alloc, &admitted.id)?;
+        let id = Vec::from_slice(alloc, admitted.id)?;
+        let key = admitted.key.to_key(alloc)?;
+        let credential = Vec::from_slice(alloc, admitted.id)?;
         self.table.push(Row {
-            id: admitted.id,
+            id,
             user,
-            key: admitted.key,
+            key,
             sign_count: admitted.sign_count,
             eligible: Some(admitted.eligible),
             retired: false,
@@ -83,7 +86,7 @@ impl Site {
         Ok(Registered { credential })
     }
 
-    /// The same of a response that is owned.
+    /// Finishes a registration with a response that is owned: `finish_registration_parts` of what it holds.
     pub fn finish_registration<V: Verifier>(
         &mut self,
         verifier: &V,

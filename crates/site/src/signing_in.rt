@@ -102,15 +102,15 @@ impl Site {
             self.alloc,
             credential.user,
             response.credential,
-            verified.backed_up,
+            verified.backed_up(),
         )?;
         self.table
-            .store(place, verified.sign_count, verified.eligible);
+            .store(place, verified.auth_data.sign_count, verified.eligible());
         self.sessions.close(session);
         Ok(signed_in)
     }
 
-    /// The same of a response that is owned.
+    /// Finishes a sign-in with a response that is owned: `finish_parts` of what it holds.
     pub fn finish_sign_in<V: Verifier>(
         &mut self,
         verifier: &V,

@@ -10,14 +10,16 @@ ghost use Rattle.site_state.specs.Table.{IsTable, IsWithin, retired, row_of, wit
 ghost use Rattle.site_state.specs.RowViews.{rows_view, stored_row_view};
 ghost use Rattle.site_state.specs.Sessions.{IsRefused, OpensRegistration, OpensSignIn, PassesOpening, begun, challenge_of, closed, usual};
 ghost use Rattle.site_state.specs.SessionViews.{session_view};
-ghost use Rattle.saved_table.specs.Saved.{AppendsTable};
+ghost use Rattle.site.specs.Saved.{AppendsTable};
 ghost use Rattle.site.specs.State.{IsLoaded, IsNoTable, IsParty, framed_party, idle, party_of, saved_of};
 ghost use Rattle.site.specs.declared.error.Error.TheVariants as errors;
 
 use crate::error::Error;
+use crate::loading::{Loaded, load};
+use crate::saving::save;
+use crate::table_error::TableError;
 use authdata::Profile;
 use cose::Alg;
-use saved_table::{Loaded, save};
 use site_state::{Asks, Row, Rows, Session, Sessions, Started, Table, is_within};
 use std::alloc::{AllocError, Global};
 use std::marker::Model;
@@ -248,13 +250,13 @@ impl Site {
         if !is_party(rp_id, origins) {
             return Err(Error::BadInput);
         }
-        match saved_table::load(alloc, profile, bytes, rp_id) {
+        match load(alloc, profile, bytes, rp_id) {
             Ok(Loaded { table, next }) => {
                 let party = RelyingParty::framed_by(alloc, profile, rp_id, origins, top_origins)?;
                 Ok(site_with(alloc, party, policy, table, next))
             }
-            Err(saved_table::Error::BadTable) => Err(Error::BadTable),
-            Err(saved_table::Error::Memory) => Err(Error::Memory),
+            Err(TableError::BadTable) => Err(Error::BadTable),
+            Err(TableError::Memory) => Err(Error::Memory),
         }
     }
 

@@ -5,7 +5,8 @@ use Rattle.cose.specs.declared.key.Alg.TheVariants as algs
 use Rattle.cose.specs.declared.key.CoseKey.{CoseKey}
 use Rattle.serde_json.specs.Data.{Data}
 use Rattle.verification.specs.Coordinates.{key_with}
-use Rattle.site_acts.specs.Lines.{HasBytes, HasKey}
+use Rattle.json_lines.specs.Members.{HasBytes}
+use Rattle.site_acts.specs.Lines.{HasKey}
 use Rattle.site_acts.specs.Faults.{HasYOf, IsAlgorithmOf}
 
 has_key : (d : Data) (alg : Alg) (x y : List ℕ) → IsAlgorithmOf d alg → HasBytes (codes "x") d x → HasYOf alg d y → HasKey d (key_with alg x y)

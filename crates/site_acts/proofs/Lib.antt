@@ -1,6 +1,5 @@
 pub mod Keyed
 pub mod Lists
 pub mod Amiss
-pub mod Named
 pub mod Asked
 pub mod Commas

@@ -1,41 +1,26 @@
 -- Why a line is refused: what an error names is so of the line.
-use Rattle.std.specs.Prelude.{◌≡◌, ◌≤◌, ◌<◌, ◌⊎◌, ℕ, ⊤, Bool, List, [], ◌∷◌, codes, length, IsUtf8, Option, Some, None, option_and_then, false}
+use Rattle.std.specs.Prelude.{◌≡◌, ◌≤◌, ◌⊎◌, ℕ, ⊤, List, [], ◌∷◌, codes, length, Option, Some, false, None}
 use Rattle.std.specs.List.{AllByRecursion}
-use Rattle.base64.specs.GeneralPurpose.{IsBytes}
-use Rattle.json_lines.specs.Nesting.{Nests}
-use Rattle.serde_json.specs.Data.{Data, Members, member as entry, no_members}
-use Rattle.serde_json.specs.Find.{as_array, as_bool, as_number, as_object, as_str, as_u64, get}
-use Rattle.serde_json.specs.Read.{read}
+use Rattle.json_lines.specs.Faults.{AreBytes, HasItems, HasUnknown, IsAmiss, IsBadForm, IsFlag, IsIllFormed, IsMissing, IsNumber, IsText}
+use Rattle.json_lines.specs.Lines as lines
+use Rattle.json_lines.specs.Members.{HasBytes, HasText, member}
+use Rattle.json_lines.specs.declared.error.LineError.{LineError}
+use Rattle.json_lines.specs.declared.error.LineError.TheVariants as errors
+use Rattle.serde_json.specs.Data.{Data}
+use Rattle.serde_json.specs.Find.{as_array, as_bool, as_object, as_str, get}
 use Rattle.serde_json.specs.View.{items_of}
 use Rattle.cose.specs.declared.key.Alg.{Alg}
 use Rattle.cose.specs.declared.key.Alg.TheVariants as algs
 use Rattle.verification.specs.Coordinates.{IsX, IsY}
-use Rattle.site_acts.specs.Lines.{HasBytes, HasNumber, HasText, IsAlgorithm, IsBase64url, member}
+use Rattle.site_acts.specs.Lines.{IsAlgorithm}
 use Rattle.site_acts.specs.declared.acts.ActKind.{ActKind}
 use Rattle.site_acts.specs.declared.acts.ActKind.TheVariants as kinds
-use Rattle.site_acts.specs.declared.error.LineError.{LineError}
-use Rattle.site_acts.specs.declared.error.LineError.TheVariants as errors
 
 -- ---- the forms of members
-
-abbrev pub IsText : Data → Type 0
-IsText d = (text : List ℕ) × (as_str d ≡ Some text)
-
-abbrev pub IsNumber : Data → Type 0
-IsNumber d = (n : ℕ) × (option_and_then as_u64 (as_number d) ≡ Some n)
-
-abbrev pub IsFlag : Data → Type 0
-IsFlag d = (b : Bool) × (as_bool d ≡ Some b)
-
-abbrev pub AreBytes : Data → Type 0
-AreBytes d = (bytes : List ℕ) × IsBytes bytes × IsBase64url d bytes
 
 -- the COSE number of an algorithm that is known
 abbrev pub IsKnownAlgorithm : Data → Type 0
 IsKnownAlgorithm d = (alg : Alg) × IsAlgorithm d alg
-
-abbrev pub HasItems : (Data → Type 0) → Data → Type 0
-HasItems Is d = (ds : List Data) × (as_array d ≡ Some (items_of ds)) × AllByRecursion Is ds
 
 -- a transport (WebAuthn Level 2, section 5.8.4): 1 to 32 lower-case letters, digits and hyphens; a list has at most 16
 abbrev pub IsPlain : ℕ → Type 0
@@ -52,30 +37,6 @@ AreTransports d = (ds : List Data) × (as_array d ≡ Some (items_of ds)) × (le
 
 abbrev pub IsPublicKey : Data → Type 0
 IsPublicKey d = as_str d ≡ Some (codes "public-key")
-
--- ---- what an error says of a member
-
--- it is there, and not in its form; want of memory says nothing
-abbrev pub IsIllFormed : List ℕ → (Data → Type 0) → Data → LineError → Type 0
-IsIllFormed name Is d (errors.BadForm n) = (n.now ≡ name) × ((m : Data) × (member name d ≡ Some m) × (Is m → ⊥))
-IsIllFormed name Is d errors.Memory = ⊤
-IsIllFormed name Is d _ = ⊥
-
--- it is missing, or it is there and not in its form
-abbrev pub IsAmiss : List ℕ → (Data → Type 0) → Data → LineError → Type 0
-IsAmiss name Is d (errors.Missing n) = (n.now ≡ name) × (member name d ≡ None)
-IsAmiss name Is d (errors.BadForm n) = (n.now ≡ name) × ((m : Data) × (member name d ≡ Some m) × (Is m → ⊥))
-IsAmiss name Is d errors.Memory = ⊤
-IsAmiss name Is d _ = ⊥
-
--- a member is not in its form, which is named
-abbrev pub IsBadForm : List ℕ → LineError → Type 0
-IsBadForm name (errors.BadForm n) = n.now ≡ name
-IsBadForm name _ = ⊥
-
-abbrev pub IsMissing : List ℕ → Data → LineError → Type 0
-IsMissing name d (errors.Missing n) = (n.now ≡ name) × (member name d ≡ None)
-IsMissing name d _ = ⊥
 
 -- ---- what it says of a response (WebAuthn Level 3, section 5.1)
 
@@ -168,7 +129,7 @@ OfBeginSignIn d e =
 abbrev pub OfFinishRegistration : Data → LineError → Type 0
 OfFinishRegistration d e =
     IsAmiss (codes "session") IsNumber d e ⊎ (OfParts OfCredentialId d e ⊎ (OfParts (OfParts OfAttestation) d e
-    ⊎ (IsIllFormed (codes "transports") AreTransports d e ⊎ OfVerified d e)))
+    ⊎ (IsIllFormed (codes "transports") AreTransports d e ⊎ (OfParts (OfParts (IsIllFormed (codes "transports") AreTransports)) d e ⊎ OfVerified d e))))
 
 abbrev pub OfFinishSignIn : Data → LineError → Type 0
 OfFinishSignIn d e =
@@ -219,53 +180,17 @@ names_for kinds.Rows = codes "user" ∷ []
 names_for kinds.Status = []
 names_for kinds.Backup = codes "path" ∷ []
 
--- a name is one of these
-abbrev pub IsOneOf : List (List ℕ) → List ℕ → Type 0
-IsOneOf [] name = ⊥
-IsOneOf (n ∷ ns) name = (name ≡ n) ⊎ IsOneOf ns name
-
--- the names of an object's members
-abbrev pub names_in : Members → List (List ℕ)
-names_in no_members = []
-names_in (entry k d ms) = k ∷ names_in ms
-
--- members of which an act does not take one
-abbrev pub HasUnknownIn : ActKind → Members → LineError → Type 0
-HasUnknownIn kind ms e =
-    (e ≡ errors.UnknownMember) × ((name : List ℕ) × IsOneOf (names_in ms) name × (IsOneOf (codes "id" ∷ codes "act" ∷ names_for kind) name → ⊥))
-
--- a line is an object that has a member which its act does not take
-abbrev pub HasUnknown : ActKind → Data → LineError → Type 0
-HasUnknown kind d e =
-    (e ≡ errors.UnknownMember)
-    × ((ms : Members) × (name : List ℕ) × (as_object d ≡ Some ms) × IsOneOf (names_in ms) name × (IsOneOf (codes "id" ∷ codes "act" ∷ names_for kind) name → ⊥))
-
 -- its `act` is a text, and names no act
 abbrev pub IsNoAct : Data → LineError → Type 0
 IsNoAct d e = (e ≡ errors.UnknownAct) × ((name : List ℕ) × HasText (codes "act") d name × ((kind : ActKind) → name ≡ kind_name kind → ⊥))
 
 abbrev pub IsOfAct : Data → LineError → Type 0
-IsOfAct d e = (kind : ActKind) × HasText (codes "act") d (kind_name kind) × (HasUnknown kind d e ⊎ OfAct kind d e)
+IsOfAct d e = (kind : ActKind) × HasText (codes "act") d (kind_name kind) × (HasUnknown (names_for kind) d e ⊎ OfAct kind d e)
 
 -- what is refused of an object that has a number
 abbrev pub IsRefusedIn : Data → LineError → Type 0
 IsRefusedIn d e = IsAmiss (codes "act") IsText d e ⊎ (IsNoAct d e ⊎ IsOfAct d e)
 
--- a line is no object, or not looked at
-abbrev pub IsUnread : List ℕ → LineError → Type 0
-IsUnread line errors.TooLong = 65536 < length line
-IsUnread line errors.NotUtf8 = IsUtf8 line → ⊥
-IsUnread line errors.TooDeep = Nests 32 line → ⊥
-IsUnread line errors.NotAnObject = (d : Data) → read line ≡ Some d → as_object d ≡ None
-IsUnread line errors.Memory = ⊤
-IsUnread line _ = ⊥
-
--- an object has no number; or it has one, which is told, and something else is amiss
-abbrev pub IsAmissIn : Data → Option ℕ → LineError → Type 0
-IsAmissIn d id e =
-    ((e ≡ errors.BadId) × (id ≡ None) × ((n : ℕ) → HasNumber (codes "id") d n → ⊥))
-    ⊎ ((n : ℕ) × (id ≡ Some n) × HasNumber (codes "id") d n × IsRefusedIn d e)
-
 -- why a line is refused, and the number that is told of it
 abbrev pub IsRefused : List ℕ → Option ℕ → LineError → Type 0
-IsRefused line id e = IsUnread line e ⊎ ((d : Data) × (read line ≡ Some d) × IsAmissIn d id e)
+IsRefused = lines.IsRefused IsRefusedIn

@@ -1,11 +1,9 @@
 -- What a line says: the act that it names and each of the act's members, over the reading of JSON that `serde_json` states.
-use Rattle.std.specs.Prelude.{◌≡◌, ◌≤◌, ◌⊎◌, ℕ, ⊤, Bool, false, true, List, [], ◌∷◌, codes, length, map, IsUtf8, Option, Some, None, option_and_then, option_map, string_bytes}
-use Rattle.base64.specs.GeneralPurpose.{encode_of}
-use Rattle.base64.specs.Engines.{url_safe_no_pad}
-use Rattle.json_lines.specs.Nesting.{Nests}
-use Rattle.serde_json.specs.Data.{Data, array, boolean, null, number, object, string}
-use Rattle.serde_json.specs.Find.{as_array, as_bool, as_i64, as_number, as_str, as_u64, get}
-use Rattle.serde_json.specs.Read.{read}
+use Rattle.std.specs.Prelude.{◌≡◌, ◌⊎◌, ℕ, ⊤, false, true, List, [], ◌∷◌, codes, map, Some, None, option_and_then, option_map, string_bytes}
+use Rattle.json_lines.specs.Lines.{IsLine}
+use Rattle.json_lines.specs.Members.{HasBytes, HasFlag, HasList, HasNumber, HasText, MayHaveBytes, member}
+use Rattle.serde_json.specs.Data.{Data}
+use Rattle.serde_json.specs.Find.{as_array, as_bool, as_i64, as_number, as_str}
 use Rattle.serde_json.specs.View.{items_of}
 use Rattle.cose.specs.declared.key.Alg.{Alg}
 use Rattle.cose.specs.declared.key.Alg.TheVariants.{Es256, EdDsa, Rs256}
@@ -25,49 +23,6 @@ use Rattle.site_acts.specs.declared.act.FinishRegistration.{FinishRegistration}
 use Rattle.site_acts.specs.declared.act.FinishSignIn.{FinishSignIn}
 
 -- ---- members of an object
-
-abbrev pub not_null : Data → Option Data
-not_null null = None
-not_null (boolean b) = Some (boolean b)
-not_null (number n) = Some (number n)
-not_null (string s) = Some (string s)
-not_null (array ds) = Some (array ds)
-not_null (object ms) = Some (object ms)
-
--- the member of a name; none where it is absent or null
-abbrev pub member : List ℕ → Data → Option Data
-member name d = option_and_then not_null (get name d)
-
-abbrev pub HasText : List ℕ → Data → List ℕ → Type 0
-HasText name d text = option_and_then as_str (member name d) ≡ Some text
-
-abbrev pub HasNumber : List ℕ → Data → ℕ → Type 0
-HasNumber name d n = option_and_then as_u64 (option_and_then as_number (member name d)) ≡ Some n
-
--- bytes, as a text in base64url without padding (RFC 4648, section 5)
-abbrev pub IsBase64url : Data → List ℕ → Type 0
-IsBase64url d bytes = as_str d ≡ Some (encode_of url_safe_no_pad bytes)
-
-abbrev pub HasBytes : List ℕ → Data → List ℕ → Type 0
-HasBytes name d bytes = (m : Data) × (member name d ≡ Some m) × IsBase64url m bytes
-
-abbrev pub MayHaveBytes : List ℕ → Data → Option (List ℕ) → Type 0
-MayHaveBytes name d None = member name d ≡ None
-MayHaveBytes name d (Some bytes) = HasBytes name d bytes
-
--- true or false, which it is where it is absent
-abbrev pub HasFlag : List ℕ → Data → Bool → Bool → Type 0
-HasFlag name d absent flag = (option_and_then as_bool (member name d) ≡ Some flag) ⊎ ((member name d ≡ None) × (flag ≡ absent))
-
--- each value is the bytes beside it
-abbrev pub AreBase64url : List Data → List (List ℕ) → Type 0
-AreBase64url ds list = map as_str ds ≡ map (λ bytes. Some (encode_of url_safe_no_pad bytes)) list
-
--- a list of bytes, which is empty where it is absent
-abbrev pub HasList : List ℕ → Data → List (List ℕ) → Type 0
-HasList name d list =
-    ((ds : List Data) × (option_and_then as_array (member name d) ≡ Some (items_of ds)) × AreBase64url ds list)
-    ⊎ ((member name d ≡ None) × (list ≡ []))
 
 -- each value is the text beside it
 abbrev pub AreTexts : List Data → List (List ℕ) → Type 0
@@ -153,11 +108,18 @@ pub record IsAssertionResponse (d : Data) (r : AssertionResponse) : Type 0 where
   pub signature : HasBytes (codes "signature") response r.signature.items
   pub client_data : HasBytes (codes "clientDataJSON") response r.client_data.items
 
+-- the transports of a line, or where it has none those of the response
+abbrev pub TellsTransports : Data → Data → List (List ℕ) → Type 0
+TellsTransports line response list =
+    ((m : Data) × (member (codes "transports") line ≡ Some m) × HasTexts (codes "transports") line list)
+    ⊎ ((member (codes "transports") line ≡ None)
+    × ((parts : Data) × (member (codes "response") response ≡ Some parts) × HasTexts (codes "transports") parts list))
+
 -- a registration that is to be finished
 pub record SaysFinishRegistration (d : Data) (f : FinishRegistration) : Type 0 where
   pub session : HasNumber (codes "session") d f.session
   pub response : (m : Data) × (member (codes "response") d ≡ Some m) × IsRegistrationResponse m f.credential.items f.response
-  pub transports : HasTexts (codes "transports") d (map string_bytes f.transports.items)
+      × TellsTransports d m (map string_bytes f.transports.items)
   pub verified : HasVerified d f.verified
 
 -- a sign-in that is to be finished
@@ -196,6 +158,6 @@ HasMembers d (acts.Backup path) = HasText (codes "path") d (string_bytes path)
 abbrev pub Says : Data → Act → Type 0
 Says d act = HasText (codes "act") d (name_of act) × HasMembers d act
 
--- a line is at most 65,536 bytes of UTF-8, nests at most 32 deep, and is a JSON text with this number and this act
+-- a line is one that is read, with this number and this act
 abbrev pub Reads : List ℕ → ℕ → Act → Type 0
-Reads line id act = (length line ≤ 65536) × IsUtf8 line × Nests 32 line × ((d : Data) × (read line ≡ Some d) × HasNumber (codes "id") d id × Says d act)
+Reads line id act = (d : Data) × IsLine line d × HasNumber (codes "id") d id × Says d act

@@ -1,19 +1,14 @@
 -- What the page is given (WebAuthn Level 3, sections 5.1.8 and 5.1.9), as JSON; the members are in the order of their names.
 use Rattle.std.specs.Prelude.{◌==◌, ℕ, Bool, true, false, List, codes, if◌then◌else◌, length, map, string_bytes}
-use Rattle.base64.specs.GeneralPurpose.{encode_of}
-use Rattle.base64.specs.Engines.{url_safe_no_pad}
 use Rattle.serde_json.specs.Data.{Data, array, boolean, member, no_members, number, object, string}
 use Rattle.serde_json.specs.Find.{of_integer}
 use Rattle.serde_json.specs.View.{items_of}
+use Rattle.json_lines.specs.Written.{base64url}
 use Rattle.cose.specs.declared.key.Alg.{Alg}
 use Rattle.cose.specs.Keys.{number_of}
 use Rattle.site_acts.specs.declared.act.BeginRegistration.{BeginRegistration}
 use Rattle.site_acts.specs.declared.act.BeginSignIn.{BeginSignIn}
 use Rattle.site_acts.specs.declared.known.Known.{Known}
-
--- bytes, as a text in base64url without padding (RFC 4648, section 5)
-abbrev pub base64url : List ℕ → Data
-base64url bytes = string (encode_of url_safe_no_pad bytes)
 
 -- a credential, with its transports where they are known
 abbrev pub descriptor : Known → Data

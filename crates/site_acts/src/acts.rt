@@ -1,12 +1,9 @@
 //! The acts, what each takes, and what the help shows of it.
 
-ghost use Rattle.std.specs.Prelude.{◌≡◌, ◌↔◌, ◌∷◌, IfErr, IsTrue, MatchOption, codes};
-ghost use Rattle.serde_json.specs.View.{members_view, view};
-ghost use Rattle.site_acts.specs.Faults.{HasUnknown, HasUnknownIn, IsOneOf, kind_name, names_for};
+ghost use Rattle.std.specs.Prelude.{◌≡◌, MatchOption, map};
+ghost use Rattle.site_acts.specs.Faults.{kind_name, names_for};
 ghost use Rattle.site_acts.specs.declared.acts.ActKind.{ActKind as Kind};
 
-use crate::error::LineError;
-use serde_json::{Map, Value};
 use std::alloc::{AllocError, Global};
 use std::fmt::Write;
 
@@ -193,7 +190,7 @@ static MEMBERS: [Member; 25] = [
         act: ActKind::FinishRegistration,
         name: "transports",
         is_needed: false,
-        meaning: "the texts of the browser's getTransports()",
+        meaning: "the texts of getTransports(); those of the response",
     },
     Member {
         act: ActKind::FinishRegistration,
@@ -295,98 +292,31 @@ pub(crate) fn act_named(name: &str) -> Option<ActKind>
     }
 }
 
-/// Whether a line that begins a registration has a member of this name.
-fn begins_registration(name: &str) -> bool
-    ensures { IsTrue result ↔ IsOneOf (names_for Kind.BeginRegistration) name.now }
-{
-    match name {
-        "user"
-        | "user_name"
-        | "display_name"
-        | "exclude"
-        | "user_verification"
-        | "resident"
-        | "algorithms"
-        | "conditional"
-        | "attestation" => true,
-        _ => false,
-    }
-}
-
-/// Whether a line that finishes a registration has a member of this name.
-fn finishes_registration(name: &str) -> bool
-    ensures { IsTrue result ↔ IsOneOf (names_for Kind.FinishRegistration) name.now }
-{
-    match name {
-        "session" | "response" | "transports" | "verified" => true,
-        _ => false,
-    }
-}
-
-/// Whether a line that begins a sign-in has a member of this name.
-fn begins_sign_in(name: &str) -> bool
-    ensures { IsTrue result ↔ IsOneOf (names_for Kind.BeginSignIn) name.now }
-{
-    match name {
-        "user" | "allow" | "user_verification" => true,
-        _ => false,
-    }
-}
-
-/// Whether a line that finishes a sign-in has a member of this name.
-fn finishes_sign_in(name: &str) -> bool
-    ensures { IsTrue result ↔ IsOneOf (names_for Kind.FinishSignIn) name.now }
-{
-    match name {
-        "session" | "response" | "verified" => true,
-        _ => false,
-    }
-}
-
-/// Whether lines of this act have a member of this name, beside `id` and `act`.
-fn has(act: ActKind, name: &str) -> bool
-    ensures { IsTrue result ↔ IsOneOf (names_for act) name.now }
+/// The names of the members of an act's lines, beside `id` and `act`.
+pub(crate) fn names_of(act: ActKind) -> &'static [&'static str]
+    ensures { map (λ n. n.now) result.now ≡ names_for act }
 {
     match act {
-        ActKind::BeginRegistration => begins_registration(name),
-        ActKind::FinishRegistration => finishes_registration(name),
-        ActKind::BeginSignIn => begins_sign_in(name),
-        ActKind::FinishSignIn => finishes_sign_in(name),
-        ActKind::Retire | ActKind::Delete => name == "credential",
-        ActKind::Abandon => name == "session",
-        ActKind::Expire => name == "older_than",
-        ActKind::Rows => name == "user",
-        ActKind::Status => false,
-        ActKind::Backup => name == "path",
-    }
-}
-
-/// Whether a line of this act may have a member of this name.
-fn takes(act: ActKind, name: &str) -> bool
-    ensures { IsTrue result ↔ IsOneOf (codes "id" ∷ codes "act" ∷ names_for act) name.now }
-{
-    name == "id" || name == "act" || has(act, name)
-}
-
-/// That a line has no member that its act does not take.
-fn check_names(act: ActKind, members: &Map<String, Value>) -> Result<(), LineError>
-    ensures { IfErr result (HasUnknownIn act (members_view members.now.entries)) }
-{
-    for (name, _) in members {
-        if !takes(act, name.as_str()) {
-            return Err(LineError::UnknownMember);
-        }
-    }
-    Ok(())
-}
-
-/// That an object has no member that its act does not take.
-pub(crate) fn check_members(act: ActKind, line: &Value) -> Result<(), LineError>
-    ensures { IfErr result (HasUnknown act (view line.now)) }
-{
-    match line.as_object() {
-        Some(members) => check_names(act, members),
-        None => Ok(()),
+        ActKind::BeginRegistration => &[
+            "user",
+            "user_name",
+            "display_name",
+            "exclude",
+            "user_verification",
+            "resident",
+            "algorithms",
+            "conditional",
+            "attestation",
+        ],
+        ActKind::FinishRegistration => &["session", "response", "transports", "verified"],
+        ActKind::BeginSignIn => &["user", "allow", "user_verification"],
+        ActKind::FinishSignIn => &["session", "response", "verified"],
+        ActKind::Retire | ActKind::Delete => &["credential"],
+        ActKind::Abandon => &["session"],
+        ActKind::Expire => &["older_than"],
+        ActKind::Rows => &["user"],
+        ActKind::Status => &[],
+        ActKind::Backup => &["path"],
     }
 }
 

@@ -2,14 +2,12 @@
 
 ghost use Rattle.std.specs.Prelude.{◌≡◌, ◌++◌, IfErr, IfOk, IfSome};
 ghost use Rattle.sha2.specs.Sha256.{sha256};
-ghost use Rattle.authdata.specs.Objects.{ObjectOf, object_view};
+ghost use Rattle.authdata.specs.Objects.{ObjectOf, lent_object_view};
 ghost use Rattle.authdata.specs.Responses.{registration_response_view};
 ghost use Rattle.site_state.specs.RowViews.{row_view};
 ghost use Rattle.site_acts.specs.Asked.{RegistrationAsks};
 
-use authdata::{
-    AssertionResponse, AttestationObject, Profile, RegistrationResponse, self_signature,
-};
+use authdata::{AssertionResponse, AttestationView, Profile, RegistrationResponse};
 use site_state::Row;
 use std::alloc::{AllocError, Global};
 use verification::{VerifiedSignature, attested_key};
@@ -37,22 +35,22 @@ pub fn sign_in_asks(
 fn self_asks(
     alloc: Global,
     profile: Profile,
-    object: &AttestationObject,
+    object: &AttestationView<'_>,
     response: &RegistrationResponse,
 ) -> Result<Option<VerifiedSignature>, AllocError>
-    requires { ObjectOf (object_view object.now) response.now.object.items }
+    requires { ObjectOf (lent_object_view object.now) response.now.object.items }
     ensures { IfOk result (λ asked. IfSome asked (RegistrationAsks profile (registration_response_view response.now))) }
 {
-    let Some(key) = attested_key(profile, object.auth_data.as_slice()) else {
+    let Some(key) = attested_key(profile, object.auth_data) else {
         return Ok(None);
     };
-    let Some(signature) = self_signature(object, &key) else {
+    let Some(signature) = object.self_signature(&key) else {
         return Ok(None);
     };
     Ok(Some(VerifiedSignature::of_response(
         alloc,
         &key,
-        object.auth_data.as_slice(),
+        object.auth_data,
         response.client_data.as_slice(),
         signature,
     )?))
@@ -66,9 +64,8 @@ pub fn registration_asks(
 ) -> Result<Option<VerifiedSignature>, AllocError>
     ensures { IfOk result (λ asked. IfSome asked (RegistrationAsks profile (registration_response_view response.now))) }
 {
-    match AttestationObject::read(alloc, response.object.as_slice()) {
-        Ok(object) => self_asks(alloc, profile, &object, response),
-        Err(authdata::Error::Memory) => Err(AllocError),
-        Err(_) => Ok(None),
+    match AttestationView::read(response.object.as_slice()) {
+        Some(object) => self_asks(alloc, profile, &object, response),
+        None => Ok(None),
     }
 }

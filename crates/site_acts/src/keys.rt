@@ -4,11 +4,12 @@
 ghost use Rattle.std.specs.Prelude.{IfErr, IfOk, codes};
 ghost use Rattle.serde_json.specs.View.{view};
 ghost use Rattle.site_acts.specs.Lines.{HasKey};
-ghost use Rattle.site_acts.specs.Faults.{AreBytes, HasYOf, IsAlgorithmOf, IsAmiss, IsKnownAlgorithm, OfKey};
+ghost use Rattle.json_lines.specs.Faults.{AreBytes, IsAmiss};
+ghost use Rattle.site_acts.specs.Faults.{HasYOf, IsAlgorithmOf, IsKnownAlgorithm, OfKey};
 
-use crate::error::LineError;
-use crate::members::{algorithm, bytes, needed};
+use crate::algorithms::algorithm;
 use cose::{Alg, CoseKey};
+use json_lines::{LineError, bytes, needed};
 use serde_json::Value;
 use std::alloc::Global;
 use verification::{Coordinate, key_from};

@@ -4,22 +4,15 @@
 ghost use Rattle.std.specs.Prelude.{◌≡◌, IfOk, OnOk, map, string_bytes};
 ghost use Rattle.serde_json.specs.Data.{array, no_members, object, string};
 ghost use Rattle.serde_json.specs.View.{items_of, members_view, view};
-ghost use Rattle.site_acts.specs.Options.{account, base64url, conveyance as conveyance_of, creation_of, creation_options as creation_options_of, descriptor as descriptor_of, parameter as parameter_of, request_options as request_options_of, resident_key as resident_key_of, selection as selection_of, verification as verification_of};
+ghost use Rattle.site_acts.specs.Options.{account, conveyance as conveyance_of, creation_of, creation_options as creation_options_of, descriptor as descriptor_of, parameter as parameter_of, request_options as request_options_of, resident_key as resident_key_of, selection as selection_of, verification as verification_of};
 
 use crate::act::{BeginRegistration, BeginSignIn};
 use crate::known::Known;
-use base64::engine::general_purpose::URL_SAFE_NO_PAD;
 use cose::Alg;
+use json_lines::base64_text;
 use serde_json::{Map, Value, json, put};
 use site_state::Started;
 use std::alloc::{AllocError, Global};
-
-/// Bytes as a text.
-pub fn base64_text(alloc: Global, bytes: &[u8]) -> Result<Value, AllocError>
-    ensures { IfOk result (λ v. view v ≡ base64url bytes.now) }
-{
-    Ok(Value::String(URL_SAFE_NO_PAD.encode(alloc, bytes)?))
-}
 
 /// Texts, as a list.
 fn text_list(alloc: Global, texts: &[String]) -> Result<Vec<Value>, AllocError>

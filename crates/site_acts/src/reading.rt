@@ -1,32 +1,26 @@
 //! Reading a line.
 
-ghost use Rattle.std.specs.Prelude.{◌≡◌, ◌≤◌, IfErr, IfOk, IsUtf8, Some, length};
-ghost use Rattle.json_lines.specs.Nesting.{Nests};
-ghost use Rattle.serde_json.specs.Read.{read};
+ghost use Rattle.std.specs.Prelude.{◌≡◌, IfErr, IfOk};
 ghost use Rattle.serde_json.specs.View.{view};
 ghost use Rattle.site_acts.specs.Lines.{HasMembers, HasVerified, Reads, Says, SaysAsks, SaysBeginRegistration, SaysBeginSignIn, SaysFinishRegistration, SaysFinishSignIn, name_of};
-ghost use Rattle.site_acts.specs.Faults.{IsRefused, IsRefusedIn, IsUnread, OfAct, OfAsks, OfBeginRegistration, OfBeginSignIn, OfFinishRegistration, OfFinishSignIn, OfFive, OfSignature, OfVerified, kind_name};
+ghost use Rattle.site_acts.specs.Faults.{IsRefused, IsRefusedIn, OfAct, OfAsks, OfBeginRegistration, OfBeginSignIn, OfFinishRegistration, OfFinishSignIn, OfFive, OfSignature, OfVerified, kind_name};
 ghost use Rattle.site_acts.specs.Private.{IsSaid, IsSignature};
 
 use crate::act::{Act, BeginRegistration, BeginSignIn, FinishRegistration, FinishSignIn};
-use crate::acts::{ActKind, act_named, check_members};
-use crate::error::LineError;
+use crate::acts::{ActKind, act_named, names_of};
+use crate::algorithms::algorithms;
 use crate::keys::key;
-use crate::line_id::id_of;
-use crate::members::{
-    algorithms, bytes, flag, list_of_bytes, member, needed, number, optional_bytes, text, text_or,
-};
 use crate::response::{assertion_response, credential_id, registration_response};
-use crate::transports::transports;
+use crate::transports::told_transports;
 use crate::verified::Verified;
-use json_lines::nests_within;
+use json_lines::{
+    LineError, LineFault, Numbered, bytes, check_names, flag, list_of_bytes, member, needed,
+    number, optional_bytes, read_object, text, text_or,
+};
 use serde_json::Value;
 use site_state::Asks;
 use std::alloc::Global;
 use verification::VerifiedSignature;
-
-/// The most bytes of a line.
-pub const MAX_LINE: usize = 65_536;
 
 /// What a line says.
 #[derive(Debug, Drop)]
@@ -35,13 +29,6 @@ pub struct Line {
     pub id: u64,
     /// What it asks for.
     pub act: Act,
-}
-
-/// Why a line is refused, and its number, where it has one.
-#[derive(Clone, Copy, Debug, Drop)]
-pub struct LineFault {
-    pub id: Option<u64>,
-    pub error: LineError,
 }
 
 /// The signature of the five members of `verify`.
@@ -137,7 +124,7 @@ fn finish_registration(alloc: Global, line: &Value) -> Result<FinishRegistration
         session,
         credential: credential_id(alloc, response)?,
         response: registration_response(alloc, response)?,
-        transports: transports(alloc, line)?,
+        transports: told_transports(alloc, line, response)?,
         verified: verified(alloc, line)?,
     })
 }
@@ -183,58 +170,20 @@ fn act_in(alloc: Global, line: &Value) -> Result<Act, LineError>
     let Some(kind) = act_named(text(line, "act")?) else {
         return Err(LineError::UnknownAct);
     };
-    check_members(kind, line)?;
+    check_names(names_of(kind), line)?;
     act_of(alloc, kind, line)
 }
 
-/// The object that a line is.
-fn object_of(alloc: Global, line: &[u8]) -> Result<Value, LineError>
-    ensures found { IfOk result (λ d. (length line.now ≤ 65536) × IsUtf8 line.now × Nests 32 line.now × (read line.now ≡ Some (view d))) }
-    ensures unread { IfErr result (IsUnread line.now) }
-{
-    if line.len() > MAX_LINE {
-        return Err(LineError::TooLong);
-    }
-    let Ok(text) = str::from_utf8(line) else {
-        return Err(LineError::NotUtf8);
-    };
-    if !nests_within(line) {
-        return Err(LineError::TooDeep);
-    }
-    match Value::from_str(alloc, text) {
-        Ok(value) if value.is_object() => Ok(value),
-        Err(error) if error.is_memory() => Err(LineError::Memory),
-        _ => Err(LineError::NotAnObject),
-    }
-}
-
-/// Reads a line: at most `MAX_LINE` bytes of UTF-8, a JSON object that nests at most 127 deep, with a number `id`, the name
-/// of an `act`, and the members that the act takes. A member that it does not take is refused: so a misspelled one is not
-/// passed over. Of members with one name the last stands.
-///
-/// Of a line that is refused the number is told too, where it can be read: of one that is no such object, by what stands
-/// before the first `MAX_LINE` + 1 bytes end.
+/// Reads a line: an object with a number, the name of an `act`, and the members that the act takes. A member that it does not
+/// take is refused: so a misspelled one is not passed over. Of a line that is refused the number is told too, where it can be
+/// read.
 pub fn read_line(alloc: Global, line: &[u8]) -> Result<Line, LineFault>
     // What is read is what the line says,
     ensures found { IfOk result (λ read. Reads line.now read.id read.act) }
     // and what is not read is refused for the cause that is named, with its number where it has one.
     ensures refused { IfErr result (λ fault. IsRefused line.now fault.id fault.error) }
 {
-    let object = match object_of(alloc, line) {
-        Ok(object) => object,
-        Err(error) => {
-            return Err(LineFault {
-                id: id_of(line),
-                error,
-            });
-        }
-    };
-    let Ok(id) = number(&object, "id") else {
-        return Err(LineFault {
-            id: None,
-            error: LineError::BadId,
-        });
-    };
+    let Numbered { id, object } = read_object(alloc, line)?;
     match act_in(alloc, &object) {
         Ok(act) => Ok(Line { id, act }),
         Err(error) => Err(LineFault {

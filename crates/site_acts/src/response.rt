@@ -3,13 +3,14 @@
 
 ghost use Rattle.std.specs.Prelude.{◌⊎◌, IfErr, IfOk, codes};
 ghost use Rattle.serde_json.specs.View.{view};
-ghost use Rattle.site_acts.specs.Lines.{HasBytes, IsAssertionResponse};
-ghost use Rattle.site_acts.specs.Faults.{AreNoResults, IsIllFormed, IsText, OfAssertion, OfAttestation, OfCredentialId, OfEnvelope, OfIds, OfParts, OfType};
+ghost use Rattle.json_lines.specs.Members.{HasBytes};
+ghost use Rattle.json_lines.specs.Faults.{IsIllFormed, IsText};
+ghost use Rattle.site_acts.specs.Lines.{IsAssertionResponse};
+ghost use Rattle.site_acts.specs.Faults.{AreNoResults, OfAssertion, OfAttestation, OfCredentialId, OfEnvelope, OfIds, OfParts, OfType};
 ghost use Rattle.site_acts.specs.Private.{HasParts};
 
-use crate::error::LineError;
-use crate::members::{bytes, needed, optional_bytes, text, text_or};
 use authdata::{AssertionResponse, RegistrationResponse};
+use json_lines::{LineError, bytes, needed, optional_bytes, text, text_or};
 use serde_json::Value;
 use std::alloc::Global;
 

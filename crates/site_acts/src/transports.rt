@@ -1,15 +1,14 @@
-//! Transports, as clients tell them (WebAuthn Level 2, section 5.8.4).
+//! Transports, as clients tell them (WebAuthn Level 2, section 5.8.4; Level 3, section 5.1).
 
-ghost use Rattle.std.specs.Prelude.{◌≡◌, ◌↔◌, IfErr, IfOk, IsTrue, Some, codes, map, string_bytes};
+ghost use Rattle.std.specs.Prelude.{◌≡◌, ◌↔◌, ◌⊎◌, IfErr, IfOk, IsTrue, Some, codes, map, string_bytes};
 ghost use Rattle.serde_json.specs.Find.{as_str};
 ghost use Rattle.serde_json.specs.View.{view};
 ghost use Rattle.std.specs.List.{AllByRecursion};
-ghost use Rattle.site_acts.specs.Lines.{HasTexts};
-ghost use Rattle.site_acts.specs.Faults.{AreTransports, IsIllFormed, IsPlain, IsTransport, IsTransportText};
-ghost use Rattle.site_acts.specs.Private.{IsRefusedAs};
+ghost use Rattle.site_acts.specs.Lines.{HasTexts, TellsTransports};
+ghost use Rattle.json_lines.specs.Faults.{IsIllFormed, IsRefusedAs};
+ghost use Rattle.site_acts.specs.Faults.{AreTransports, IsPlain, IsTransport, IsTransportText, OfParts};
 
-use crate::error::LineError;
-use crate::members::items;
+use json_lines::{LineError, items, member, needed};
 use serde_json::Value;
 use std::alloc::Global;
 
@@ -77,7 +76,7 @@ fn transports_of(
 }
 
 /// The member `transports`: at most 16; none where it is absent.
-pub(crate) fn transports(alloc: Global, line: &Value) -> Result<Vec<String>, LineError>
+fn transports(alloc: Global, line: &Value) -> Result<Vec<String>, LineError>
     ensures found { IfOk result (λ list. HasTexts (codes "transports") (view line.now) (map string_bytes list.items)) }
     ensures amiss { IfErr result (IsIllFormed (codes "transports") AreTransports (view line.now)) }
 {
@@ -87,4 +86,21 @@ pub(crate) fn transports(alloc: Global, line: &Value) -> Result<Vec<String>, Lin
     }
     let list = transports_of(alloc, items, "transports")?;
     Ok(list)
+}
+
+/// The transports of a registration: those of its line, or where it has none those of the response.
+pub(crate) fn told_transports(
+    alloc: Global,
+    line: &Value,
+    response: &Value,
+) -> Result<Vec<String>, LineError>
+    ensures found { IfOk result (λ list. TellsTransports (view line.now) (view response.now) (map string_bytes list.items)) }
+    ensures amiss { IfErr result (λ e. IsIllFormed (codes "transports") AreTransports (view line.now) e
+        ⊎ OfParts (IsIllFormed (codes "transports") AreTransports) (view response.now) e) }
+{
+    if member(line, "transports").is_some() {
+        return transports(alloc, line);
+    }
+    let parts = needed(response, "response")?;
+    transports(alloc, parts)
 }

@@ -1,7 +1,7 @@
 //! How much a site may have.
 
 use crate::error::FileError;
-use kept_site::Bounds;
+use site_stored::Bounds;
 
 /// The most open sessions, and the most credentials.
 const MOST: u32 = 1_000_000;

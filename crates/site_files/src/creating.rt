@@ -1,10 +1,10 @@
 //! Making a site's file.
 
-ghost use Rattle.std.specs.Prelude.{◌≡◌, IfOk, IsTrue, false};
-ghost use Rattle.std.specs.FinMap as finite;
-ghost use Rattle.sqlite_trees.specs.View.{IsClean};
+ghost use Rattle.std.specs.Prelude.{IfOk};
 ghost use Rattle.sqlite_store.specs.FileStore.{view};
-ghost use Rattle.kept_site.specs.State.{IsHeld};
+ghost use Rattle.site_rows.specs.Calls.{IfClean};
+ghost use Rattle.site_files.specs.Files.{IsNumbered};
+ghost use Rattle.site_stored.specs.Starts.{IsMade};
 
 use crate::FileSite;
 use crate::bounds::check_bounds;
@@ -15,8 +15,8 @@ use crate::looking::{NO_MARK, looked_at, outcome_of, unless_in_use};
 use crate::opening::same_party;
 use crate::stores::{connected, latest_at, list_at, random};
 use crate::tables::{Earlier, Listed, list_of, made, upgraded};
-use kept_site::{Bounds, KeptSite};
 use site_disk::{Found, SiteFile, found_at};
+use site_stored::{Bounds, StoredSite};
 use sqlite::{Alter, FileStore, Start};
 use sqlite_disk::Disk;
 use std::alloc::Global;
@@ -28,7 +28,7 @@ fn taken_up<S: Alter + Drop>(
     version: Earlier,
     mut store: S,
 ) -> Result<S, (FileError, S)>
-    requires numbered { IsClean (S.Store.view store) → IsTrue (S.Store.view store).is_numbered }
+    requires numbered { IfClean (S.Store.view store) IsNumbered }
 {
     match check_empty(alloc, version, &mut store) {
         Ok(()) => upgraded(alloc, version, store),
@@ -39,7 +39,7 @@ fn taken_up<S: Alter + Drop>(
 /// The store with the tables of a site: they are made where it lists nothing, and taken as they are where a creation was cut off
 /// after their commit. `Exists` where it lists others, or rows stand in those of an earlier version.
 fn with_tables<S: Alter + Drop>(alloc: Global, store: S) -> Result<S, (FileError, S)>
-    requires numbered { IsClean (S.Store.view store) → IsTrue (S.Store.view store).is_numbered }
+    requires numbered { IfClean (S.Store.view store) IsNumbered }
 {
     match list_of(alloc, &store) {
         Ok(Listed::Nothing) => made(alloc, store),
@@ -58,17 +58,15 @@ fn site_over<S: Alter + Drop>(
     bounds: Bounds,
     life: u64,
     store: S,
-) -> Result<KeptSite<S>, (FileError, S)>
-    ensures made { IfOk result (λ s. (s.rp ≡ party) × (s.policy ≡ policy) × (s.most ≡ bounds.credentials) × (s.is_shut ≡ false) × (s.is_pending ≡ false)) }
-    ensures sessions { IfOk result (λ s. (s.timed.open_sessions.expected ≡ finite.empty) × (s.timed.open_sessions.next ≡ 1)) }
-    ensures held { IfOk result (λ s. IsClean (S.Store.view s.store) → IsHeld finite.empty s (S.Store.view s.store).trees) }
+) -> Result<StoredSite<S>, (FileError, S)>
+    ensures made { IfOk result (IsMade S.Store.view party policy bounds) }
 {
     match list_of(alloc, &store) {
         Ok(Listed::Latest) => {}
         Ok(_) => return Err((FileError::Exists, store)),
         Err(e) => return Err((e, store)),
     }
-    match KeptSite::create(alloc, party, policy, bounds, life, store) {
+    match StoredSite::create(alloc, party, policy, bounds, life, store) {
         Ok(site) => Ok(site),
         Err((e, store)) => Err((e.into(), store)),
     }
@@ -83,11 +81,9 @@ pub fn create_over<S: Alter + Drop>(
     bounds: Bounds,
     life: u64,
     store: S,
-) -> Result<KeptSite<S>, (FileError, S)>
-    requires numbered { IsClean (S.Store.view store) → IsTrue (S.Store.view store).is_numbered }
-    ensures made { IfOk result (λ s. (s.rp ≡ party) × (s.policy ≡ policy) × (s.most ≡ bounds.credentials) × (s.is_shut ≡ false) × (s.is_pending ≡ false)) }
-    ensures sessions { IfOk result (λ s. (s.timed.open_sessions.expected ≡ finite.empty) × (s.timed.open_sessions.next ≡ 1)) }
-    ensures held { IfOk result (λ s. IsClean (S.Store.view s.store) → IsHeld finite.empty s (S.Store.view s.store).trees) }
+) -> Result<StoredSite<S>, (FileError, S)>
+    requires numbered { IfClean (S.Store.view store) IsNumbered }
+    ensures made { IfOk result (IsMade S.Store.view party policy bounds) }
 {
     if let Err(e) = check_bounds(bounds) {
         return Err((e, store));
@@ -106,7 +102,7 @@ fn written<D: Disk + Drop>(mut store: FileStore<D>) -> Result<FileStore<D>, File
 
 /// The same store with the tables of a site.
 fn tabled<D: Disk + Drop>(alloc: Global, store: FileStore<D>) -> Result<FileStore<D>, FileError>
-    requires { IsClean (view store) → IsTrue (view store).is_numbered }
+    requires { IfClean (view store) IsNumbered }
 {
     match with_tables(alloc, store) {
         Ok(store) => written(store),
@@ -207,10 +203,8 @@ fn site_in<D: Disk + Drop>(
     bounds: Bounds,
     life: u64,
     store: FileStore<D>,
-) -> Result<KeptSite<FileStore<D>>, FileError>
-    ensures made { IfOk result (λ s. (s.rp ≡ party) × (s.policy ≡ policy) × (s.most ≡ bounds.credentials) × (s.is_shut ≡ false) × (s.is_pending ≡ false)) }
-    ensures sessions { IfOk result (λ s. (s.timed.open_sessions.expected ≡ finite.empty) × (s.timed.open_sessions.next ≡ 1)) }
-    ensures held { IfOk result (λ s. IsClean (view s.store) → IsHeld finite.empty s (view s.store).trees) }
+) -> Result<StoredSite<FileStore<D>>, FileError>
+    ensures made { IfOk result (IsMade view party policy bounds) }
 {
     match site_over(alloc, party, policy, bounds, life, store) {
         Ok(site) => Ok(site),
@@ -240,9 +234,7 @@ pub fn create<S: Start>(
     wary: bool,
     start: S,
 ) -> Result<FileSite<S>, FileError>
-    ensures made { IfOk result (λ s. (s.rp ≡ party) × (s.policy ≡ policy) × (s.most ≡ bounds.credentials) × (s.is_shut ≡ false) × (s.is_pending ≡ false)) }
-    ensures sessions { IfOk result (λ s. (s.timed.open_sessions.expected ≡ finite.empty) × (s.timed.open_sessions.next ≡ 1)) }
-    ensures held { IfOk result (λ s. IsClean (view s.store) → IsHeld finite.empty s (view s.store).trees) }
+    ensures made { IfOk result (IsMade view party policy bounds) }
 {
     check_bounds(bounds)?;
     let life = random(rt)?;

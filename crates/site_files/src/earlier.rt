@@ -1,19 +1,21 @@
 //! A file of version 1 or 2.
 
-ghost use Rattle.std.specs.Prelude.{◌≡◌, ◌≤◌, ℕ, IsSome, OnOk};
-ghost use Rattle.sqlite_trees.specs.View.{IsClean};
-ghost use Rattle.credential_store.specs.Held.{IsSameView};
-ghost use Rattle.kept_site.specs.State.{site_row_of};
-ghost use Rattle.site_files.specs.Earlier.{IsEarlier};
+ghost use Rattle.std.specs.Prelude.{◌≡◌, ◌≤◌, ℕ, OnOk};
+ghost use Rattle.site_stored.specs.State.{site_row_of};
+ghost use Rattle.site_rows.specs.Calls.{HasCursor, Reads};
+ghost use Rattle.site_files.specs.Files.{FindsEarlier};
 
 use crate::error::FileError;
 use crate::tables::Earlier;
-use credential_store::{RowError, int_at, read_credential};
-use kept_site::site_row_of;
+use site_rows::{CREDENTIAL_TREE, DETAIL_TREE, RowError, int_at, read_credential};
+use site_stored::{SITE_TREE, site_row_of};
 use sqlite_trees::error::StoreError;
 use sqlite_trees::store::{Direction, Shape, Store};
 use sqlite_value::row::Row;
 use std::alloc::Global;
+
+/// The table of open sessions, in a file of version 1.
+const SESSION_TREE: u32 = 1;
 
 /// The number of an earlier version.
 fn number_of(version: Earlier) -> u64
@@ -53,21 +55,21 @@ fn check_row(alloc: Global, version: u64, rp_id: &str, row: &Row) -> Result<(), 
     Ok(())
 }
 
-/// That the row in tree 2 is this relying party's, of this version.
+/// That the row of the relying party is this relying party's, of this version.
 fn check_party<S: Store>(
     alloc: Global,
     version: Earlier,
     rp_id: &str,
     store: &mut S,
 ) -> Result<(), FileError>
-    ensures earlier { OnOk result (IsClean (S.Store.view store.new) → IsEarlier rp_id.now (S.Store.view store.old).trees) }
-    ensures same { OnOk result (IsSameView (S.Store.view store.old) (S.Store.view store.new)) }
+    ensures earlier { OnOk result (FindsEarlier rp_id.now (S.Store.view store.old) (S.Store.view store.new)) }
+    ensures reads { Reads S.Store store.old store.new result }
 {
-    if store.shape(2) != Shape::Table {
+    if store.shape(SITE_TREE) != Shape::Table {
         return Err(FileError::OtherTables);
     }
     let mut row = Row::new(alloc);
-    if !store.get(2, 1, &mut row)? {
+    if !store.get(SITE_TREE, 1, &mut row)? {
         return Err(FileError::NoSite);
     }
     check_row(alloc, number_of(version), rp_id, &row)
@@ -90,8 +92,8 @@ fn check_credential(alloc: Global, row: &Row) -> Result<(), FileError> {
 
 /// Places a cursor at the first row of a tree.
 fn begin<S: Store>(alloc: Global, store: &mut S, tree: u32) -> Result<(), StoreError>
-    ensures live { OnOk result (IsSome ((S.Store.view store.new).cursors 0)) }
-    ensures same { OnOk result (IsSameView (S.Store.view store.old) (S.Store.view store.new)) }
+    ensures live { OnOk result (HasCursor (S.Store.view store.new)) }
+    ensures reads { Reads S.Store store.old store.new result }
 {
     let key = Row::new(alloc);
     store.seek(0, tree, &key, Direction::Forward)?;
@@ -104,9 +106,9 @@ fn next_is_credential<S: Store>(
     store: &mut S,
     row: &mut Row,
 ) -> Result<bool, FileError>
-    requires live { IsSome ((S.Store.view store.old).cursors 0) }
-    ensures live { OnOk result (IsSome ((S.Store.view store.new).cursors 0)) }
-    ensures same { OnOk result (IsSameView (S.Store.view store.old) (S.Store.view store.new)) }
+    requires live { HasCursor (S.Store.view store.old) }
+    ensures live { OnOk result (HasCursor (S.Store.view store.new)) }
+    ensures reads { Reads S.Store store.old store.new result }
 {
     if !store.next(0, row)? {
         return Ok(false);
@@ -115,11 +117,11 @@ fn next_is_credential<S: Store>(
     Ok(true)
 }
 
-/// That each row of tree 0 is a credential's.
+/// That each row of the table of credentials is one's.
 fn check_credentials<S: Store>(alloc: Global, store: &mut S) -> Result<(), FileError>
-    ensures same { OnOk result (IsSameView (S.Store.view store.old) (S.Store.view store.new)) }
+    ensures reads { Reads S.Store store.old store.new result }
 {
-    begin(alloc, store, 0)?;
+    begin(alloc, store, CREDENTIAL_TREE)?;
     let mut row = Row::new(alloc);
     for _ in 0..u32::MAX {
         if !next_is_credential(alloc, store, &mut row)? {
@@ -137,8 +139,8 @@ pub fn check_earlier<S: Store>(
     rp_id: &str,
     store: &mut S,
 ) -> Result<(), FileError>
-    ensures earlier { OnOk result (IsClean (S.Store.view store.new) → IsEarlier rp_id.now (S.Store.view store.old).trees) }
-    ensures same { OnOk result (IsSameView (S.Store.view store.old) (S.Store.view store.new)) }
+    ensures earlier { OnOk result (FindsEarlier rp_id.now (S.Store.view store.old) (S.Store.view store.new)) }
+    ensures reads { Reads S.Store store.old store.new result }
 {
     check_party(alloc, version, rp_id, store)?;
     check_credentials(alloc, store)
@@ -146,7 +148,7 @@ pub fn check_earlier<S: Store>(
 
 /// Whether a tree has no row.
 fn is_empty<S: Store>(alloc: Global, store: &mut S, tree: u32) -> Result<bool, StoreError>
-    ensures same { OnOk result (IsSameView (S.Store.view store.old) (S.Store.view store.new)) }
+    ensures reads { Reads S.Store store.old store.new result }
 {
     begin(alloc, store, tree)?;
     let mut row = Row::new(alloc);
@@ -160,15 +162,15 @@ pub fn check_empty<S: Store>(
     version: Earlier,
     store: &mut S,
 ) -> Result<(), FileError>
-    ensures same { OnOk result (IsSameView (S.Store.view store.old) (S.Store.view store.new)) }
+    ensures reads { Reads S.Store store.old store.new result }
 {
     // Open sessions, or details.
     let more = match version {
-        Earlier::First => 1,
-        Earlier::Second => 5,
+        Earlier::First => SESSION_TREE,
+        Earlier::Second => DETAIL_TREE,
     };
-    let credentials = is_empty(alloc, store, 0)?;
-    let site = is_empty(alloc, store, 2)?;
+    let credentials = is_empty(alloc, store, CREDENTIAL_TREE)?;
+    let site = is_empty(alloc, store, SITE_TREE)?;
     let rest = is_empty(alloc, store, more)?;
     if !(credentials && site && rest) {
         return Err(FileError::Exists);
@@ -176,13 +178,13 @@ pub fn check_empty<S: Store>(
     Ok(())
 }
 
-/// Why a store with other tables is refused: `Newer` where they are those of a later version, whose tree 2 says so.
+/// Why a store with other tables is refused: `Newer` where they are those of a later version, whose row says so.
 pub fn why_other<S: Store>(alloc: Global, store: &mut S) -> FileError {
-    if store.shape(2) != Shape::Table {
+    if store.shape(SITE_TREE) != Shape::Table {
         return FileError::OtherTables;
     }
     let mut row = Row::new(alloc);
-    let found = match store.get(2, 1, &mut row) {
+    let found = match store.get(SITE_TREE, 1, &mut row) {
         Ok(found) => found,
         Err(e) => return e.into(),
     };

@@ -1,6 +1,6 @@
 //! Why a file is not made or opened as a site's.
 
-use kept_site::{CreateFailure, OpenFailure};
+use site_stored::{CreateFailure, OpenFailure};
 use sqlite::{Error, ErrorCode};
 use sqlite_std_file::OpenError;
 use sqlite_trees::error::StoreError;

@@ -16,10 +16,10 @@ pub use backing_up::backup;
 pub use closing::close;
 pub use creating::{create, create_over};
 pub use error::FileError;
-use kept_site::KeptSite;
 pub use opening::{open, open_over};
 pub use site_disk::{SiteDisk, SiteFile, WaryStart};
+use site_stored::StoredSite;
 pub use sqlite::{FileFrom, FileStore, Start, Unknown};
 
 /// A site over a file and its log.
-pub type FileSite<S> = KeptSite<FileStore<SiteFile<S>>>;
+pub type FileSite<S> = StoredSite<FileStore<SiteFile<S>>>;

@@ -1,9 +1,10 @@
 //! What an open would find in the files at a path, looked at before one of them is changed.
 
-ghost use Rattle.std.specs.Prelude.{IfOk, IsTrue, OnOk};
-ghost use Rattle.sqlite_trees.specs.View.{IsClean};
+ghost use Rattle.std.specs.Prelude.{IfOk, OnOk};
 ghost use Rattle.sqlite_store.specs.FileStore.{view};
 ghost use Rattle.sqlite_store.specs.Unopened.{AreUsable};
+ghost use Rattle.site_rows.specs.Calls.{IfClean};
+ghost use Rattle.site_files.specs.Files.{IsNumbered};
 
 use crate::error::FileError;
 use crate::stores::{Catalog, by_sql, left, list_of_files, listed_in, opened, options, unopened};
@@ -77,7 +78,7 @@ fn seen_at(rt: &HostRuntime, path: &str, log: &[u8]) -> Result<Unopened<Seen>, F
 
 /// The store of the same, which SQL opens.
 fn seen_by_sql(rt: &HostRuntime, path: &str, log: &[u8]) -> Result<FileStore<Seen>, FileError>
-    ensures numbered { IfOk result (λ store. IsClean (view store) → IsTrue (view store).is_numbered) }
+    ensures numbered { IfOk result (λ store. IfClean (view store) IsNumbered) }
 {
     let options = options_without_checkpoint(rt)?;
     match seen_files(rt, path, log) {
@@ -89,7 +90,7 @@ fn seen_by_sql(rt: &HostRuntime, path: &str, log: &[u8]) -> Result<FileStore<See
 /// The store of the files at a path, whose writes are kept in memory. `DamagedLog` where the header of the log is damaged, `OtherLog`
 /// where it does not go on from the file, and else as an open refuses them.
 pub fn looked_at(rt: &HostRuntime, path: &str) -> Result<FileStore<Seen>, FileError>
-    ensures numbered { IfOk result (λ store. IsClean (view store) → IsTrue (view store).is_numbered) }
+    ensures numbered { IfOk result (λ store. IfClean (view store) IsNumbered) }
 {
     let log = log_beside(rt, path)?;
     let mut it = seen_at(rt, path, log.as_slice())?;

@@ -1,15 +1,13 @@
 //! Opening a site's file.
 
-ghost use Rattle.std.specs.Prelude.{◌≡◌, ◌<◌, ◌⊎◌, ℕ, IfOk, IsTrue, false};
-ghost use Rattle.std.specs.FinMap as finite;
+ghost use Rattle.std.specs.Prelude.{◌≡◌, ◌⊎◌, IfOk};
 ghost use Rattle.sqlite_wal.specs.Files.{image_at};
-ghost use Rattle.sqlite_trees.specs.Tree.{Trees};
 ghost use Rattle.sqlite_trees.specs.View.{IsClean};
 ghost use Rattle.sqlite_store.specs.FileStore.{view};
-ghost use Rattle.credential_store.specs.Held.{Placed};
-ghost use Rattle.kept_site.specs.State.{HasParty, HoldsSite, IsHeld};
-ghost use Rattle.site_files.specs.Files.{IsHeldIn};
 ghost use Rattle.site_files.specs.Earlier.{IsEarlier};
+ghost use Rattle.site_rows.specs.Calls.{IfClean};
+ghost use Rattle.site_files.specs.Files.{IsNumbered, RestsNumbered, ShowsHeld, TakesFrom, TakesOver};
+ghost use Rattle.site_stored.specs.Starts.{IsOpened};
 
 use crate::FileSite;
 use crate::bounds::check_bounds;
@@ -19,13 +17,13 @@ use crate::error::FileError;
 use crate::looking::{NO_MARK, looked_at, outcome_of, plain_log, unless_in_use};
 use crate::stores::{connected, latest_at, list_at, random};
 use crate::tables::{Earlier, Listed, list_of, upgraded};
-use kept_site::{Bounds, KeptSite};
 use site_disk::{Found, ShortLog, SiteFile, found_at, mend_log, put_back};
+use site_stored::{Opening, StoredSite};
 use sqlite::{Alter, FileStore, Start};
 use sqlite_disk::Disk;
 use sqlite_trees::error::StoreError;
 use std::alloc::Global;
-use verification::{Policy, RelyingParty};
+use verification::RelyingParty;
 
 /// That a file stands at a path that may be a SQLite file's.
 fn check_sqlite(rt: &HostRuntime, path: &str) -> Result<(), FileError> {
@@ -46,9 +44,8 @@ fn store_at<S: Start>(
     wary: bool,
     start: S,
 ) -> Result<FileStore<SiteFile<S>>, FileError>
-    ensures numbered { IfOk result (λ store. IsClean (view store) → IsTrue (view store).is_numbered) }
-    ensures rests { IfOk result (λ store. IsClean (view store) → IsTrue (view store).is_open → (view store).committed ≡ (view store).trees) }
-    ensures found { IfOk result (λ store. IsClean (view store) → IsTrue (view store).is_open → IsHeldIn (image_at S.Start) (view store).trees) }
+    ensures rests { IfOk result (λ store. RestsNumbered (view store)) }
+    ensures found { IfOk result (λ store. ShowsHeld (image_at S.Start) (view store)) }
 {
     match list_at(rt, path) {
         Ok(Listed::Latest) => latest_at(rt, path, wary, start),
@@ -63,7 +60,7 @@ fn taken_over<S: Alter + Drop>(
     rp_id: &str,
     mut store: S,
 ) -> Result<S, (FileError, S)>
-    requires numbered { IsClean (S.Store.view store) → IsTrue (S.Store.view store).is_numbered }
+    requires numbered { IfClean (S.Store.view store) IsNumbered }
     ensures earlier { IfOk result (λ new. IsClean (S.Store.view new) → IsClean (S.Store.view store) × IsEarlier rp_id.now (S.Store.view store).trees) }
 {
     match check_earlier(alloc, version, rp_id, &mut store) {
@@ -74,7 +71,7 @@ fn taken_over<S: Alter + Drop>(
 
 /// The store with the tables of version 3: as it is, or taken over from an earlier one.
 fn newest<S: Alter + Drop>(alloc: Global, rp_id: &str, mut store: S) -> Result<S, (FileError, S)>
-    requires numbered { IsClean (S.Store.view store) → IsTrue (S.Store.view store).is_numbered }
+    requires numbered { IfClean (S.Store.view store) IsNumbered }
     ensures found { IfOk result (λ new. (new ≡ store) ⊎ (IsClean (S.Store.view new) → IsClean (S.Store.view store) × IsEarlier rp_id.now (S.Store.view store).trees)) }
 {
     match list_of(alloc, &store) {
@@ -90,32 +87,23 @@ fn newest<S: Alter + Drop>(alloc: Global, rp_id: &str, mut store: S) -> Result<S
 /// transaction. `life` is a random number, the first mark of a commit. Refusals as `open`; the store is handed back.
 pub fn open_over<S: Alter + Drop>(
     alloc: Global,
-    party: RelyingParty,
-    policy: Policy,
-    bounds: Bounds,
-    at_least: u64,
+    opening: Opening,
     life: u64,
     store: S,
-) -> Result<KeptSite<S>, (FileError, S)>
-    requires numbered { IsClean (S.Store.view store) → IsTrue (S.Store.view store).is_numbered }
-    ensures made { IfOk result (λ s. (s.rp ≡ party) × (s.policy ≡ policy) × (s.most ≡ bounds.credentials) × (s.is_shut ≡ false) × (s.is_pending ≡ false)) }
-    ensures sessions { IfOk result (λ s. (s.timed.open_sessions.expected ≡ finite.empty) × (s.timed.open_sessions.next ≡ s.reserved)) }
-    ensures party { IfOk result (λ s. IsClean (S.Store.view s.store) → HasParty party.rp_id s.reserved (S.Store.view s.store).trees) }
-    ensures held { IfOk result (λ s. IsClean (S.Store.view s.store) → (placed : Placed) (next : ℕ)
-        → HoldsSite placed party.rp_id next (S.Store.view s.store).trees → IsHeld placed s (S.Store.view s.store).trees) }
-    ensures newer { IfOk result (λ s. at_least < s.reserved) }
+) -> Result<StoredSite<S>, (FileError, S)>
+    requires numbered { IfClean (S.Store.view store) IsNumbered }
+    ensures opened { IfOk result (IsOpened S.Store.view opening) }
     // What it holds is what the store held, which was of this version or of an earlier one.
-    ensures found { IfOk result (λ s. IsClean (S.Store.view s.store) → IsClean (S.Store.view store) × IsTrue (S.Store.view store).is_open
-        × (((S.Store.view s.store).trees ≡ (S.Store.view store).committed) ⊎ IsEarlier party.rp_id (S.Store.view store).trees)) }
+    ensures found { IfOk result (λ s. TakesOver opening.party.rp_id (S.Store.view store) (S.Store.view s.store)) }
 {
-    if let Err(e) = check_bounds(bounds) {
+    if let Err(e) = check_bounds(opening.bounds) {
         return Err((e, store));
     }
     if store.is_broken() {
         return Err((FileError::Failed(StoreError::Broken), store));
     }
-    let store = newest(alloc, party.rp_id(), store)?;
-    match KeptSite::open(alloc, party, policy, bounds, at_least, life, store) {
+    let store = newest(alloc, opening.party.rp_id(), store)?;
+    match StoredSite::open(alloc, opening, life, store) {
         Ok(site) => Ok(site),
         Err((e, store)) => Err((e.into(), store)),
     }
@@ -126,21 +114,24 @@ pub fn same_party(alloc: Global, party: &RelyingParty) -> Result<RelyingParty, F
     Ok(RelyingParty::with_profile(alloc, party.profile(), party.rp_id(), &[])?)
 }
 
+/// The same, of a relying party without origins.
+fn same_opening(alloc: Global, opening: &Opening) -> Result<Opening, FileError> {
+    Ok(Opening {
+        party: same_party(alloc, &opening.party)?,
+        policy: opening.policy,
+        bounds: opening.bounds,
+        at_least: opening.at_least,
+    })
+}
+
 /// That the files at a path are opened as they stand. All that an open does is done over what is read of them, so that nothing is
 /// written where it refuses them.
-fn check_open(
-    rt: &HostRuntime,
-    path: &str,
-    party: &RelyingParty,
-    policy: Policy,
-    bounds: Bounds,
-    at_least: u64,
-) -> Result<(), FileError> {
+fn check_open(rt: &HostRuntime, path: &str, opening: &Opening) -> Result<(), FileError> {
     check_sqlite(rt, path)?;
     let alloc = rt.alloc();
-    let party = same_party(alloc, party)?;
+    let opening = same_opening(alloc, opening)?;
     match looked_at(rt, path) {
-        Ok(store) => outcome_of(open_over(alloc, party, policy, bounds, at_least, NO_MARK, store)),
+        Ok(store) => outcome_of(open_over(alloc, opening, NO_MARK, store)),
         Err(e) => Err(e),
     }
 }
@@ -156,24 +147,15 @@ fn with_log(rt: &HostRuntime, path: &str, log: Option<ShortLog>, e: FileError) -
 /// The site that the store of a file holds, which is closed where it is refused. Clauses as of `open_over`.
 fn site_in<D: Disk + Drop>(
     alloc: Global,
-    party: RelyingParty,
-    policy: Policy,
-    bounds: Bounds,
-    at_least: u64,
+    opening: Opening,
     life: u64,
     store: FileStore<D>,
-) -> Result<KeptSite<FileStore<D>>, FileError>
-    requires numbered { IsClean (view store) → IsTrue (view store).is_numbered }
-    ensures made { IfOk result (λ s. (s.rp ≡ party) × (s.policy ≡ policy) × (s.most ≡ bounds.credentials) × (s.is_shut ≡ false) × (s.is_pending ≡ false)) }
-    ensures sessions { IfOk result (λ s. (s.timed.open_sessions.expected ≡ finite.empty) × (s.timed.open_sessions.next ≡ s.reserved)) }
-    ensures party { IfOk result (λ s. IsClean (view s.store) → HasParty party.rp_id s.reserved (view s.store).trees) }
-    ensures held { IfOk result (λ s. IsClean (view s.store) → (placed : Placed) (next : ℕ)
-        → HoldsSite placed party.rp_id next (view s.store).trees → IsHeld placed s (view s.store).trees) }
-    ensures newer { IfOk result (λ s. at_least < s.reserved) }
-    ensures found { IfOk result (λ s. IsClean (view s.store) → IsClean (view store) × IsTrue (view store).is_open
-        × (((view s.store).trees ≡ (view store).committed) ⊎ IsEarlier party.rp_id (view store).trees)) }
+) -> Result<StoredSite<FileStore<D>>, FileError>
+    requires numbered { IfClean (view store) IsNumbered }
+    ensures opened { IfOk result (IsOpened view opening) }
+    ensures found { IfOk result (λ s. TakesOver opening.party.rp_id (view store) (view s.store)) }
 {
-    match open_over(alloc, party, policy, bounds, at_least, life, store) {
+    match open_over(alloc, opening, life, store) {
         Ok(site) => Ok(site),
         Err(refused) => Err(closed(refused)),
     }
@@ -183,25 +165,16 @@ fn site_in<D: Disk + Drop>(
 fn opened<S: Start>(
     rt: &HostRuntime,
     path: &str,
-    party: RelyingParty,
-    policy: Policy,
-    bounds: Bounds,
-    at_least: u64,
+    opening: Opening,
     wary: bool,
     start: S,
 ) -> Result<FileSite<S>, FileError>
-    ensures made { IfOk result (λ s. (s.rp ≡ party) × (s.policy ≡ policy) × (s.most ≡ bounds.credentials) × (s.is_shut ≡ false) × (s.is_pending ≡ false)) }
-    ensures sessions { IfOk result (λ s. (s.timed.open_sessions.expected ≡ finite.empty) × (s.timed.open_sessions.next ≡ s.reserved)) }
-    ensures party { IfOk result (λ s. IsClean (view s.store) → HasParty party.rp_id s.reserved (view s.store).trees) }
-    ensures held { IfOk result (λ s. IsClean (view s.store) → (placed : Placed) (next : ℕ)
-        → HoldsSite placed party.rp_id next (view s.store).trees → IsHeld placed s (view s.store).trees) }
-    ensures newer { IfOk result (λ s. at_least < s.reserved) }
-    ensures found { IfOk result (λ s. IsClean (view s.store) → (was : Trees) × IsHeldIn (image_at S.Start) was
-        × (((view s.store).trees ≡ was) ⊎ IsEarlier party.rp_id was)) }
+    ensures opened { IfOk result (IsOpened view opening) }
+    ensures found { IfOk result (λ s. TakesFrom (image_at S.Start) opening.party.rp_id (view s.store)) }
 {
     let life = random(rt)?;
     match store_at(rt, path, wary, start) {
-        Ok(store) => site_in(rt.alloc(), party, policy, bounds, at_least, life, store),
+        Ok(store) => site_in(rt.alloc(), opening, life, store),
         Err(e) => Err(e),
     }
 }
@@ -211,15 +184,12 @@ fn opened<S: Start>(
 fn looked_through(
     rt: &HostRuntime,
     path: &str,
-    party: &RelyingParty,
-    policy: Policy,
-    bounds: Bounds,
-    at_least: u64,
+    opening: &Opening,
 ) -> Result<Option<ShortLog>, FileError> {
     if let Ok(Some(log)) = plain_log(rt, path) {
         return Ok(Some(log));
     }
-    if let Err(e) = check_open(rt, path, party, policy, bounds, at_least) {
+    if let Err(e) = check_open(rt, path, opening) {
         return Err(unless_in_use(rt, path, e));
     }
     mend_log(rt, path)?;
@@ -231,8 +201,7 @@ fn looked_through(
 ///
 /// A file of version 1 or 2 is upgraded, in one commit. The open sessions of version 1 end.
 ///
-/// `at_least` is the number of a session that is known to have been begun, as the last that was told, and 0 where none is known. A
-/// copy of the file from before the last commit that was told before it is `Older`.
+/// A copy of the file from before the last commit that was told before the session `at_least` is `Older`.
 ///
 /// With `wary` each commit flushes twice, and nothing is supposed of a write that is cut off. Without it each byte of
 /// such a write is old or new, below the flushed end of the log.
@@ -247,29 +216,17 @@ fn looked_through(
 pub fn open<S: Start>(
     rt: &HostRuntime,
     path: &str,
-    party: RelyingParty,
-    policy: Policy,
-    bounds: Bounds,
-    at_least: u64,
+    opening: Opening,
     wary: bool,
     start: S,
 ) -> Result<FileSite<S>, FileError>
-    ensures made { IfOk result (λ s. (s.rp ≡ party) × (s.policy ≡ policy) × (s.most ≡ bounds.credentials) × (s.is_shut ≡ false) × (s.is_pending ≡ false)) }
-    ensures sessions { IfOk result (λ s. (s.timed.open_sessions.expected ≡ finite.empty) × (s.timed.open_sessions.next ≡ s.reserved)) }
-    // It is of this relying party,
-    ensures party { IfOk result (λ s. IsClean (view s.store) → HasParty party.rp_id s.reserved (view s.store).trees) }
-    // where its rows are a site's, this is it,
-    ensures held { IfOk result (λ s. IsClean (view s.store) → (placed : Placed) (next : ℕ)
-        → HoldsSite placed party.rp_id next (view s.store).trees → IsHeld placed s (view s.store).trees) }
-    // no older one than is known,
-    ensures newer { IfOk result (λ s. at_least < s.reserved) }
-    // and the rows are those that the file held, unless it was of an earlier version.
-    ensures found { IfOk result (λ s. IsClean (view s.store) → (was : Trees) × IsHeldIn (image_at S.Start) was
-        × (((view s.store).trees ≡ was) ⊎ IsEarlier party.rp_id was)) }
+    ensures opened { IfOk result (IsOpened view opening) }
+    // Its rows are those that the file held, unless it was of an earlier version.
+    ensures found { IfOk result (λ s. TakesFrom (image_at S.Start) opening.party.rp_id (view s.store)) }
 {
-    check_bounds(bounds)?;
-    let log = looked_through(rt, path, &party, policy, bounds, at_least)?;
-    match opened(rt, path, party, policy, bounds, at_least, wary, start) {
+    check_bounds(opening.bounds)?;
+    let log = looked_through(rt, path, &opening)?;
+    match opened(rt, path, opening, wary, start) {
         Ok(site) => Ok(site),
         Err(e) => Err(with_log(rt, path, log, e)),
     }

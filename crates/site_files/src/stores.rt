@@ -8,7 +8,7 @@ ghost use Rattle.sqlite_trees.specs.View.{IsClean};
 ghost use Rattle.sqlite_store.specs.FileStore.{view};
 ghost use Rattle.sqlite.specs.Files.{HoldsDatabase, image_of};
 ghost use Rattle.sqlite_store.specs.Unopened.{AreUsable, files_of, image, state_of};
-ghost use Rattle.site_files.specs.Files.{IsFoundIn, IsHeldIn};
+ghost use Rattle.site_files.specs.Files.{IsFoundIn, RestsNumbered, ShowsHeld};
 
 use crate::error::FileError;
 use crate::tables::{Listed, latest, list_in};
@@ -169,8 +169,7 @@ pub fn by_sql<D: Disk + Drop>(
     options: Options,
     has_sums: bool,
 ) -> Result<FileStore<D>, FileError>
-    ensures numbered { IfOk result (λ store. IsClean (view store) → IsTrue (view store).is_numbered) }
-    ensures rests { IfOk result (λ store. IsClean (view store) → IsTrue (view store).is_open → (view store).committed ≡ (view store).trees) }
+    ensures rests { IfOk result (λ store. RestsNumbered (view store)) }
     ensures found { IfOk result (λ store. IsClean (view store) → IsTrue (view store).is_open → (db : Trees)
         → HoldsDatabase (image_of D.Disk files) db → (view store).trees ≡ db) }
 {
@@ -183,7 +182,7 @@ pub fn by_sql<D: Disk + Drop>(
     }
 }
 
-/// The same of the files at a path, each of whose rows is read and tested with its entries in the indices. `CannotOpen` where
+/// The store of the files at a path, each of whose rows is read and tested with its entries in the indices. `CannotOpen` where
 /// SQLite takes the path for no file's name.
 pub fn connected<S: Start>(
     rt: &HostRuntime,
@@ -192,9 +191,8 @@ pub fn connected<S: Start>(
     wary: bool,
     start: S,
 ) -> Result<FileStore<SiteFile<S>>, FileError>
-    ensures numbered { IfOk result (λ store. IsClean (view store) → IsTrue (view store).is_numbered) }
-    ensures rests { IfOk result (λ store. IsClean (view store) → IsTrue (view store).is_open → (view store).committed ≡ (view store).trees) }
-    ensures found { IfOk result (λ store. IsClean (view store) → IsTrue (view store).is_open → IsHeldIn (image_at S.Start) (view store).trees) }
+    ensures rests { IfOk result (λ store. RestsNumbered (view store)) }
+    ensures found { IfOk result (λ store. ShowsHeld (image_at S.Start) (view store)) }
 {
     if path == ":memory:" || path.starts_with("file:") {
         return Err(FileError::CannotOpen);
@@ -213,8 +211,7 @@ fn latest_of<D: Disk + Drop>(
     options: Options,
     has_sums: bool,
 ) -> Result<FileStore<D>, FileError>
-    ensures numbered { IfOk result (λ store. IsClean (view store) → IsTrue (view store).is_numbered) }
-    ensures rests { IfOk result (λ store. IsClean (view store) → IsTrue (view store).is_open → (view store).committed ≡ (view store).trees) }
+    ensures rests { IfOk result (λ store. RestsNumbered (view store)) }
     ensures found { IfOk result (λ store. IsClean (view store) → IsFoundIn (image_of D.Disk files) (view store).trees) }
 {
     let it = unopened(alloc, files, options, has_sums)?;
@@ -230,9 +227,8 @@ pub fn latest_at<S: Start>(
     wary: bool,
     start: S,
 ) -> Result<FileStore<SiteFile<S>>, FileError>
-    ensures numbered { IfOk result (λ store. IsClean (view store) → IsTrue (view store).is_numbered) }
-    ensures rests { IfOk result (λ store. IsClean (view store) → IsTrue (view store).is_open → (view store).committed ≡ (view store).trees) }
-    ensures found { IfOk result (λ store. IsClean (view store) → IsTrue (view store).is_open → IsHeldIn (image_at S.Start) (view store).trees) }
+    ensures rests { IfOk result (λ store. RestsNumbered (view store)) }
+    ensures found { IfOk result (λ store. ShowsHeld (image_at S.Start) (view store)) }
 {
     let has_sums = has_sums_at(rt, path)?;
     let options = options(rt)?;

@@ -1,8 +1,10 @@
 //! The tables of a site's file.
 
-ghost use Rattle.std.specs.Prelude.{◌≤◌, IfOk, IsTrue, OnOk};
-ghost use Rattle.sqlite_trees.specs.View.{IsClean, doubt};
+ghost use Rattle.std.specs.Prelude.{◌≤◌, IfOk, OnOk};
+ghost use Rattle.sqlite_trees.specs.View.{doubt};
 ghost use Rattle.sqlite.specs.Held.{state};
+ghost use Rattle.site_rows.specs.Calls.{IfClean};
+ghost use Rattle.site_files.specs.Files.{IsNumbered, WasClean};
 
 use crate::error::FileError;
 use sqlite::{Alter, Connection};
@@ -102,9 +104,9 @@ fn changed<S: Alter + Drop>(
     mut store: S,
     texts: &[&str],
 ) -> Result<S, (FileError, S)>
-    requires numbered { IsClean (S.Store.view store) → IsTrue (S.Store.view store).is_numbered }
-    ensures clean { IfOk result (λ new. IsClean (S.Store.view new) → IsClean (S.Store.view store)) }
-    ensures numbered { IfOk result (λ new. IsClean (S.Store.view new) → IsTrue (S.Store.view new).is_numbered) }
+    requires numbered { IfClean (S.Store.view store) IsNumbered }
+    ensures clean { IfOk result (λ new. WasClean (S.Store.view store) (S.Store.view new)) }
+    ensures numbered { IfOk result (λ new. IfClean (S.Store.view new) IsNumbered) }
 {
     store.rollback();
     if store.is_broken() {
@@ -124,7 +126,7 @@ fn changed<S: Alter + Drop>(
 
 /// Makes the tables of a site in a store that lists nothing.
 pub fn made<S: Alter + Drop>(alloc: Global, store: S) -> Result<S, (FileError, S)>
-    requires numbered { IsClean (S.Store.view store) → IsTrue (S.Store.view store).is_numbered }
+    requires numbered { IfClean (S.Store.view store) IsNumbered }
 {
     changed(alloc, store, &NEW)
 }
@@ -142,8 +144,8 @@ pub fn upgraded<S: Alter + Drop>(
     version: Earlier,
     store: S,
 ) -> Result<S, (FileError, S)>
-    requires numbered { IsClean (S.Store.view store) → IsTrue (S.Store.view store).is_numbered }
-    ensures clean { IfOk result (λ new. IsClean (S.Store.view new) → IsClean (S.Store.view store)) }
+    requires numbered { IfClean (S.Store.view store) IsNumbered }
+    ensures clean { IfOk result (λ new. WasClean (S.Store.view store) (S.Store.view new)) }
 {
     match version {
         Earlier::First => changed(alloc, store, &NEW[3..]),

@@ -4,15 +4,15 @@ use Rattle.std.specs.Prelude.{◌≤◌, ◌+◌, ◌-◌, ◌^◌, min}
 use Rattle.sqlite_trees.specs.View.{HasCause, IsClean, IsStorableRow, View}
 use Rattle.sqlite_trees.specs.declared.error.StoreError.{StoreError}
 use Rattle.sqlite_trees.specs.declared.error.StoreError.TheVariants.{OutOfMemory, Io, Corrupt, Full, Broken, Unstorable}
-use Rattle.kept_site.specs.Calls.{IsSame}
-use Rattle.kept_site.specs.Causes.{IfBeginStore, IfFinishStore, IsCaused, IsDamaged, RefusesRegistered, RefusesSignedIn}
-use Rattle.kept_site.specs.State.{KeptState, site_row}
-use Rattle.kept_site.specs.declared.failure.Failure.{Failure}
-use Rattle.kept_site.specs.declared.failure.Failure.TheVariants as failures
-use Rattle.kept_site.specs.declared.failure.BeginFailure.{BeginFailure}
-use Rattle.kept_site.specs.declared.failure.BeginFailure.TheVariants as begins
-use Rattle.kept_site.specs.declared.failure.FinishFailure.{FinishFailure}
-use Rattle.kept_site.specs.declared.failure.FinishFailure.TheVariants as finishes
+use Rattle.site_stored.specs.Calls.{IsSame}
+use Rattle.site_stored.specs.Causes.{IfBeginStore, IfFinishStore, IsCaused, IsDamaged, RefusesRegistered, RefusesSignedIn}
+use Rattle.site_stored.specs.State.{StoredState, site_row}
+use Rattle.site_stored.specs.declared.failure.Failure.{Failure}
+use Rattle.site_stored.specs.declared.failure.Failure.TheVariants as failures
+use Rattle.site_stored.specs.declared.failure.BeginFailure.{BeginFailure}
+use Rattle.site_stored.specs.declared.failure.BeginFailure.TheVariants as begins
+use Rattle.site_stored.specs.declared.failure.FinishFailure.{FinishFailure}
+use Rattle.site_stored.specs.declared.failure.FinishFailure.TheVariants as finishes
 use Rattle.authdata.specs.Responses.{AuthenticatorAssertionResponse}
 use Rattle.authdata.specs.Responses as responses
 use Rattle.site_state.specs.Details.{Detail}
@@ -52,11 +52,10 @@ caused_since old mid a b c U V D E (failures.Failed e) up f g (never, inr bad) =
 pub if_failed : (P Q : Failure → Type 0) (a : Answer) → ((why : Failure) → P why → Q why) → IfFailed P a → IfFailed Q a
 if_failed P Q (answers.RegistrationBegun started b known) f h = tt
 if_failed P Q (answers.SignInBegun started b known) f h = tt
-if_failed P Q (answers.Registered x told asked) f h = tt
-if_failed P Q (answers.SignedIn x told) f h = tt
+if_failed P Q (answers.Registered x) f h = tt
+if_failed P Q (answers.SignedIn x) f h = tt
 if_failed P Q (answers.Verify t) f h = tt
 if_failed P Q (answers.RegistrationRefused told id) f h = tt
-if_failed P Q (answers.OtherCredential id) f h = tt
 if_failed P Q (answers.SignInRefused told id) f h = tt
 if_failed P Q (answers.Retired was) f h = tt
 if_failed P Q (answers.Deleted was) f h = tt
@@ -66,6 +65,7 @@ if_failed P Q (answers.Rows rows known) f h = tt
 if_failed P Q (answers.Status counts) f h = tt
 if_failed P Q (answers.Backup path) f h = tt
 if_failed P Q (answers.NotBackedUp why) f h = tt
+if_failed P Q (answers.NotBegun why) f h = tt
 if_failed P Q (answers.Error why) f h = tt
 if_failed P Q (answers.Failed why) f h = f why h
 
@@ -81,17 +81,17 @@ if_unknown P Q (unknowns.Failed why) f h = f why h
 -- ---- after a look
 
 -- damage that is found in a site that has not changed was there before
-pub damaged_on : {S : Type 0} (view : S → View) (old mid : KeptState S) → IsSame view old mid → IsClean (view mid.store)
+pub damaged_on : {S : Type 0} (view : S → View) (old mid : StoredState S) → IsSame view old mid → IsClean (view mid.store)
     → IsDamaged (view mid.store).trees → IsDamaged (view old.store).trees
 damaged_on view old mid same clean damage = subst IsDamaged (ap (λ v. v.trees) (same.store clean)) damage
 
-pub begin_refused_on : {S : Type 0} (view : S → View) (old mid : KeptState S) → IsSame view old mid → IsClean (view mid.store)
+pub begin_refused_on : {S : Type 0} (view : S → View) (old mid : StoredState S) → IsSame view old mid → IsClean (view mid.store)
     → RefusesBegin (view mid.store) mid → RefusesBegin (view old.store) old
 begin_refused_on view old mid same clean refused =
-    let of_old = subst (λ (s : KeptState _). RefusesBegin (view mid.store) s) same.is refused in
+    let of_old = subst (λ (s : StoredState _). RefusesBegin (view mid.store) s) same.is refused in
     subst (λ (reals : ℕ → ℕ). ¬ IsStorableRow (reals 2) (site_row old.rp.rp_id (old.timed.open_sessions.next + 1000))) (ap (λ v. v.reals) (same.store clean)) of_old
 
-pub unknown_since : {S : Type 0} (view : S → View) (faults : S → ℕ) (old mid new : KeptState S) (e : Unknown) → IsSame view old mid
+pub unknown_since : {S : Type 0} (view : S → View) (faults : S → ℕ) (old mid new : StoredState S) (e : Unknown) → IsSame view old mid
     → (IsClean (view new.store) → IsClean (view mid.store)) → faults old.store ≤ faults mid.store
     → (IsClean (view new.store) → IfUnknown (IsCausedIn view faults mid new ⊥ (IsDamaged (view mid.store).trees)) e)
     → IsClean (view new.store) → IfUnknown (IsCausedIn view faults old new ⊥ (IsDamaged (view old.store).trees)) e
@@ -99,7 +99,7 @@ unknown_since view faults old mid new e same back up h clean =
     if_unknown _ _ e (λ why. caused_since (view old.store) (view mid.store) _ _ _ _ _ _ _ why up (λ no. no) (damaged_on view old mid same (back clean))) (h clean)
 
 -- a session begins after a look
-pub begin_since : {S : Type 0} (view : S → View) (faults : S → ℕ) (old mid new : KeptState S) (e : BeginFailure) → IsSame view old mid
+pub begin_since : {S : Type 0} (view : S → View) (faults : S → ℕ) (old mid new : StoredState S) (e : BeginFailure) → IsSame view old mid
     → (IsClean (view new.store) → IsClean (view mid.store)) → faults old.store ≤ faults mid.store
     → (IsClean (view new.store) → IfBeginStore (IsCausedIn view faults mid new (RefusesBegin (view mid.store) mid) ⊥) e)
     → IsClean (view new.store) → IfBeginStore (IsCausedIn view faults old new (RefusesBegin (view old.store) old) (IsDamaged (view old.store).trees)) e
@@ -108,21 +108,21 @@ begin_since view faults old mid new e same back up h clean =
     (begin_refused_on view old mid same (back clean)) (λ no. absurd no)) (h clean)
 
 -- it is looked for the credentials that are named alone
-pub look_fails : {S : Type 0} (view : S → View) (faults : S → ℕ) (old new : KeptState S) (V D : Type 0) (e : BeginFailure)
+pub look_fails : {S : Type 0} (view : S → View) (faults : S → ℕ) (old new : StoredState S) (V D : Type 0) (e : BeginFailure)
     → (IsClean (view new.store) → IfBeginStore (IsCausedIn view faults old new ⊥ D) e)
     → IsClean (view new.store) → IfBeginStore (IsCausedIn view faults old new V D) e
 look_fails view faults old new V D e h clean =
     if_begin_store _ _ e (λ why. caused_since (view old.store) (view old.store) _ _ _ _ _ _ _ why (omega arith) (λ no. absurd no) (λ d. d)) (h clean)
 
 -- an answer after a part
-pub fails_after : {S : Type 0} (view : S → View) (faults : S → ℕ) (old mid new : KeptState S) (U V D E : Type 0) (a : Answer)
+pub fails_after : {S : Type 0} (view : S → View) (faults : S → ℕ) (old mid new : StoredState S) (U V D E : Type 0) (a : Answer)
     → (IsClean (view new.store) → IsClean (view mid.store)) → faults old.store ≤ faults mid.store
     → (IsClean (view mid.store) → U → V) → (IsClean (view mid.store) → D → E) → FailsBy view faults mid new U D a → FailsBy view faults old new V E a
 fails_after view faults old mid new U V D E a back up f g h =
     λ clean. if_failed _ _ a (λ why. caused_since (view old.store) (view mid.store) _ _ _ _ _ _ _ why up (f (back clean)) (g (back clean))) (h clean)
 
 -- what else may be told of it
-pub fails_as : {S : Type 0} (view : S → View) (faults : S → ℕ) (old new : KeptState S) (U V D : Type 0) (a : Answer) → (U → V)
+pub fails_as : {S : Type 0} (view : S → View) (faults : S → ℕ) (old new : StoredState S) (U V D : Type 0) (a : Answer) → (U → V)
     → FailsBy view faults old new U D a → FailsBy view faults old new V D a
 fails_as view faults old new U V D a f h =
     λ clean. if_failed _ _ a (λ why. caused_since (view old.store) (view old.store) _ _ _ _ _ _ _ why (omega arith) f (λ d. d)) (h clean)
@@ -130,7 +130,7 @@ fails_as view faults old new U V D a f h =
 -- ---- an act
 
 -- a site that was shut
-pub shut_fails : {S : Type 0} (view : S → View) (faults : S → ℕ) (now : ℕ) (act : Act) (old new : KeptState S) → FailsIn view faults now act old new (answers.Failed failures.Shut)
+pub shut_fails : {S : Type 0} (view : S → View) (faults : S → ℕ) (now : ℕ) (act : Act) (old new : StoredState S) → FailsIn view faults now act old new (answers.Failed failures.Shut)
 shut_fails view faults now (acts.BeginRegistration b) old new = λ clean. tt
 shut_fails view faults now (acts.FinishRegistration f) old new = λ clean. tt
 shut_fails view faults now (acts.BeginSignIn b) old new = λ clean. tt
@@ -146,7 +146,7 @@ shut_fails view faults now (acts.Backup path) old new = refl
 -- ---- a ceremony that is not finished
 
 -- the store fails
-pub store_fails : {S W : Type 0} (view : S → View) (faults : S → ℕ) (old new : KeptState S) (U V D : Type 0) (e : FinishFailure W) (why : Failure) → e ≡ finishes.Store why
+pub store_fails : {S W : Type 0} (view : S → View) (faults : S → ℕ) (old new : StoredState S) (U V D : Type 0) (e : FinishFailure W) (why : Failure) → e ≡ finishes.Store why
     → (IsClean (view new.store) → IfFinishStore (IsCausedIn view faults old new U D) e) → (U → V) → FailsBy view faults old new V D (answers.Failed why)
 store_fails view faults old new U V D e why is h f =
     λ clean. caused_since (view old.store) (view old.store) _ _ _ U V D D why (omega arith) f (λ d. d) (subst (IfFinishStore (IsCausedIn view faults old new U D)) is (h clean))
@@ -155,11 +155,10 @@ store_fails view faults old new U V D e why is h f =
 pub refused_registration_fails : (P : Failure → Type 0) (p : Profile) (step : RegistrationRefusal) (f : FinishRegistration) (a : Answer) → IsRefusedRegistration p step f a → IfFailed P a
 refused_registration_fails P p step f (answers.RegistrationBegun started b known) h = tt
 refused_registration_fails P p step f (answers.SignInBegun started b known) h = tt
-refused_registration_fails P p step f (answers.Registered x told asked) h = tt
-refused_registration_fails P p step f (answers.SignedIn x told) h = tt
+refused_registration_fails P p step f (answers.Registered x) h = tt
+refused_registration_fails P p step f (answers.SignedIn x) h = tt
 refused_registration_fails P p step f (answers.Verify t) h = tt
 refused_registration_fails P p step f (answers.RegistrationRefused told id) h = tt
-refused_registration_fails P p step f (answers.OtherCredential id) h = tt
 refused_registration_fails P p step f (answers.SignInRefused told id) h = tt
 refused_registration_fails P p step f (answers.Retired was) h = tt
 refused_registration_fails P p step f (answers.Deleted was) h = tt
@@ -169,6 +168,7 @@ refused_registration_fails P p step f (answers.Rows rows known) h = tt
 refused_registration_fails P p step f (answers.Status counts) h = tt
 refused_registration_fails P p step f (answers.Backup path) h = tt
 refused_registration_fails P p step f (answers.NotBackedUp why) h = tt
+refused_registration_fails P p step f (answers.NotBegun why) h = tt
 refused_registration_fails P p step f (answers.Error why) h = tt
 refused_registration_fails P p step f (answers.Failed why) h = absurd h
 
@@ -177,7 +177,7 @@ refused_registration_fails P p step f (answers.Failed why) h = absurd h
 pub refuses_signed_in_as : (v : View) (p : Profile) (r q : AuthenticatorAssertionResponse) (m n : ℤ) → r ≡ q → m ≡ n → RefusesSignedIn v p r m → RefusesSignedIn v p q n
 refuses_signed_in_as v p r q m n same second h = subst (λ (x : AuthenticatorAssertionResponse). RefusesSignedIn v p x n) same (subst (RefusesSignedIn v p r) second h)
 
-pub refuses_registered_as : {S : Type 0} (v : View) (s : KeptState S) (n : ℕ) (r q : responses.AuthenticatorAttestationResponse) (d e : Detail) → r ≡ q → d ≡ e
+pub refuses_registered_as : {S : Type 0} (v : View) (s : StoredState S) (n : ℕ) (r q : responses.AuthenticatorAttestationResponse) (d e : Detail) → r ≡ q → d ≡ e
     → RefusesRegistered v s n r d → RefusesRegistered v s n q e
 refuses_registered_as v s n r q d e same detail h =
     subst (λ (x : responses.AuthenticatorAttestationResponse). RefusesRegistered v s n x e) same (subst (λ (x : Detail). RefusesRegistered v s n r x) detail h)

@@ -1,28 +1,21 @@
 -- What is known of credentials, and what is told of it.
-use Rattle.std.specs.Prelude.{◌≤◌, ◌^◌, ◌+◌, Vec, string_bytes}
+use Rattle.std.specs.Prelude.{◌≤◌, ◌^◌, ◌+◌, Vec}
 use Rattle.std.specs.Global.{Global}
-use Rattle.std.proofs.Common.{◌≡◌, ◌++◌, ◌∷◌, [], ℕ, List, Option, Some, None, Bool, map, ap, sym, subst, ◌∙◌, true, false}
-use Rattle.std.specs.FinMap as finite
+use Rattle.std.proofs.Common.{◌≡◌, ◌++◌, ◌∷◌, [], ℕ, List, Option, Some, None, map, ap, sym, subst, ◌∙◌, false}
 use Rattle.std.specs.List.{AllByRecursion}
 use Rattle.sqlite_trees.specs.View.{IsClean, View}
 use Rattle.authdata.specs.declared.profile.Profile.{Profile}
-use Rattle.authdata.specs.Layout.{AttestedCredential, AuthenticatorData, AuthOf}
-use Rattle.authdata.specs.Objects.{Attestation, ObjectOf}
-use Rattle.authdata.specs.Responses.{registration_response_view}
-use Rattle.authdata.specs.Responses as responses
-use Rattle.authdata.proofs.Objects.{one_object}
-use Rattle.authdata.proofs.Unique.{one_value}
 use Rattle.site_state.specs.Sessions.{IsRefused, Opening, challenge_of}
 use Rattle.site_state.specs.declared.error.BeginError.TheVariants as full
 use Rattle.site_state.specs.Timed.{IsTrimmed, Timed, after_begin}
-use Rattle.credential_store.specs.Held.{Placed}
-use Rattle.site_state.specs.Details.{Detail, told}
-use Rattle.credential_store.specs.Details.{Details, HoldsDetails}
-use Rattle.kept_site.specs.State.{KeptState}
-use Rattle.kept_site.specs.Calls.{IsSame}
-use Rattle.kept_site.specs.declared.failure.Failure.{Failure}
-use Rattle.kept_site.specs.declared.failure.BeginFailure.{BeginFailure}
-use Rattle.kept_site.specs.declared.failure.BeginFailure.TheVariants as begins
+use Rattle.site_rows.specs.Held.{Placed}
+use Rattle.site_state.specs.Details.{Detail}
+use Rattle.site_rows.specs.Details.{Details, HoldsDetails}
+use Rattle.site_stored.specs.State.{StoredState}
+use Rattle.site_stored.specs.Calls.{IsSame}
+use Rattle.site_stored.specs.declared.failure.Failure.{Failure}
+use Rattle.site_stored.specs.declared.failure.BeginFailure.{BeginFailure}
+use Rattle.site_stored.specs.declared.failure.BeginFailure.TheVariants as begins
 use Rattle.site_acts.specs.declared.act.Act.{Act}
 use Rattle.site_acts.specs.declared.act.Act.TheVariants as acts
 use Rattle.site_acts.specs.declared.act.BeginRegistration.{BeginRegistration}
@@ -35,91 +28,28 @@ use Rattle.site_acts.specs.declared.known.Known.{Known}
 use Rattle.verification.specs.declared.refusal.SignInRefusal.{SignInRefusal}
 use Rattle.verification.specs.declared.refusal.RegistrationRefusal.{RegistrationRefusal}
 use Rattle.site_lines.specs.Answers.{Begins, Keeps, TellsRegistrationBegun, TellsSignInBegun, opens_registration, opens_sign_in}
-use Rattle.site_acts.specs.Joined.{joined}
 use Rattle.site_acts.proofs.Commas.{map_on}
-use Rattle.site_lines.specs.Details.{IsAaguid, IsAttestedAaguid, IsKnown, OfDetails, RegistersDetail, TellsAllowed, TellsDetails, TellsExcluded, TellsRowDetails, UsesDetail, second}
-use Rattle.site_lines.specs.Private.{BeginsNone, IfOther, IsAaguidOf, IsAttestedIn, IsNotBegunAfter, IsOtherIn, IsRefusedRegistration, IsRefusedSignIn, IsUnknown, IsWithKnown, KeepsDetail, not_begun}
+use Rattle.site_lines.specs.Details.{IsKnown, OfDetails, RegistersDetail, TellsAllowed, TellsDetails, TellsExcluded, TellsRowDetails, UsesDetail}
+use Rattle.site_lines.specs.Private.{BeginsNone, IsNotBegunAfter, IsRefusedRegistration, IsRefusedSignIn, IsUnknown, IsWithKnown, not_begun}
 use Rattle.site_lines.specs.declared.knowing.Unknown.{Unknown}
 use Rattle.site_lines.specs.declared.knowing.Unknown.TheVariants as unknowns
 use Rattle.site_state.specs.declared.row.Row.{Row}
 use Rattle.site_lines.proofs.Kept.{failure_then, held_on, same_site, same_then}
 
--- ---- the aaguid
-
-pub aaguid_in_object : (p : Profile) (r : responses.AuthenticatorAttestationResponse) (o : Attestation) (bytes : List ℕ) (found : Option (List ℕ)) → ObjectOf o r.object
-    → bytes ≡ o.auth_data → IsAaguidOf p bytes found → IsAaguid p r found
-aaguid_in_object p r o bytes found spelled is of q a c attests =
-    let one = one_object q o r.object attests.object spelled in
-    of a c (subst (AuthOf p a) (ap (λ (x : Attestation). x.auth_data) one ∙ sym is) attests.auth_data) attests.attested
-
-pub aaguid_is : (p : Profile) (bytes : List ℕ) (a : AuthenticatorData) (c : AttestedCredential) (found : Option (List ℕ)) → AuthOf p a bytes → a.attested ≡ Some c
-    → found ≡ Some c.aaguid → IsAaguidOf p bytes found
-aaguid_is p bytes a c found read attested is b d other its =
-    let one = one_value p p a b bytes read other in
-    let same : c ≡ d = same_credential c d (sym attested ∙ ap (λ (x : AuthenticatorData). x.attested) one ∙ its) in
-    is ∙ ap (λ (x : AttestedCredential). Some x.aaguid) same
-  where
-    same_credential : (x y : AttestedCredential) → Some x ≡ Some y → x ≡ y
-    same_credential x y e = cc
-
-pub attested_in_object : (p : Profile) (r : responses.AuthenticatorAttestationResponse) (o : Attestation) (bytes : List ℕ) (found : Option (List ℕ)) → ObjectOf o r.object
-    → bytes ≡ o.auth_data → IsAttestedIn p bytes found → IsAttestedAaguid p r found
-attested_in_object p r o bytes None spelled is h = tt
-attested_in_object p r o bytes (Some x) spelled is h =
-    (o, h.0, h.1, record { object = spelled; auth_data = subst (AuthOf p h.0) is h.2; attested = h.3 }, h.4)
-
-pub no_aaguid : (p : Profile) (bytes : List ℕ) (a : AuthenticatorData) → AuthOf p a bytes → a.attested ≡ None → IsAaguidOf p bytes None
-no_aaguid p bytes a read none b d other its =
-    let one = one_value p p a b bytes read other in
-    absurd (no_credential d (sym its ∙ sym (ap (λ (x : AuthenticatorData). x.attested) one) ∙ none))
-  where
-    no_credential : (x : AttestedCredential) → Some x ≡ None → ⊥
-    no_credential x e = absurd cc
-
--- ---- the credential that is named
-
--- authenticator data that attest a credential are of no other one
-pub named_is : (p : Profile) (bytes id : List ℕ) (a : AuthenticatorData) (c : AttestedCredential) → AuthOf p a bytes → a.attested ≡ Some c → c.id ≡ id
-    → IsOtherIn p bytes id false
-named_is p bytes id a c read attested is b d other its =
-    let one = one_value p p a b bytes read other in
-    let same : c ≡ d = same_credential c d (sym attested ∙ ap (λ (x : AuthenticatorData). x.attested) one ∙ its) in
-    sym (ap (λ (x : AttestedCredential). x.id) same) ∙ is
-  where
-    same_credential : (x y : AttestedCredential) → Some x ≡ Some y → x ≡ y
-    same_credential x y e = cc
-
-pub nothing_named : (p : Profile) (bytes id : List ℕ) (a : AuthenticatorData) → AuthOf p a bytes → a.attested ≡ None → IsOtherIn p bytes id false
-nothing_named p bytes id a read none b d other its =
-    let one = one_value p p a b bytes read other in
-    absurd (no_credential d (sym its ∙ sym (ap (λ (x : AuthenticatorData). x.attested) one) ∙ none))
-  where
-    no_credential : (x : AttestedCredential) → Some x ≡ None → ⊥
-    no_credential x e = absurd cc
-
-pub other_in_object : (p : Profile) (f : FinishRegistration) (o : Attestation) (bytes : List ℕ) (other : Bool)
-    → ObjectOf o (registration_response_view f.response).object → bytes ≡ o.auth_data → IsOtherIn p bytes f.credential.items other → IfOther p f other
-other_in_object p f o bytes true spelled is h =
-    (o, h.0, h.1, record { object = spelled; auth_data = subst (AuthOf p h.0) is h.2; attested = h.3 }, h.4)
-other_in_object p f o bytes false spelled is of =
-    λ q a c attests.
-    let one = one_object q o (registration_response_view f.response).object attests.object spelled in
-    of a c (subst (AuthOf p a) (ap (λ (x : Attestation). x.auth_data) one ∙ sym is) attests.auth_data) attests.attested
-
 -- ---- one look after another
 
-details_on : {S : Type 0} (view : S → View) (old mid : KeptState S) (details : Details) → IsSame view old mid → IsClean (view mid.store)
+details_on : {S : Type 0} (view : S → View) (old mid : StoredState S) (details : Details) → IsSame view old mid → IsClean (view mid.store)
     → HoldsDetails details (view old.store).trees → HoldsDetails details (view mid.store).trees
 details_on view old mid details same clean h = ap (λ v. v.trees 5) (same.store clean) ∙ h
 
 -- what is told of a site that has not changed, after a look
-pub of_details_on : {S : Type 0} (view : S → View) (old mid new : KeptState S) (Of : Placed → Details → Type 0) → IsSame view old mid
+pub of_details_on : {S : Type 0} (view : S → View) (old mid new : StoredState S) (Of : Placed → Details → Type 0) → IsSame view old mid
     → (IsClean (view new.store) → IsClean (view mid.store)) → OfDetails view mid new Of → OfDetails view old new Of
 of_details_on view old mid new Of same back of clean placed held details d =
     of clean placed (held_on view placed old mid same (back clean) held) details (details_on view old mid details same (back clean) d)
 
 -- what is told of it holds when it has changed
-pub of_details_then : {S : Type 0} (view : S → View) (old mid new : KeptState S) (Of : Placed → Details → Type 0)
+pub of_details_then : {S : Type 0} (view : S → View) (old mid new : StoredState S) (Of : Placed → Details → Type 0)
     → (IsClean (view new.store) → IsClean (view mid.store)) → OfDetails view old mid Of → OfDetails view old new Of
 of_details_then view old mid new Of back of clean placed held details d = of (back clean) placed held details d
 
@@ -127,7 +57,7 @@ pub all_on : {X : Type 0} (P : X → Type 0) (xs : List X) (x : X) → AllByRecu
 all_on P [] x all p = (p, tt)
 all_on P (y ∷ xs) x all p = (all.0, all_on P xs x all.1 p)
 
-pub known_on : {S : Type 0} (view : S → View) (old mid new : KeptState S) (ks : List Known) (k : Known) → IsSame view old mid → IsSame view mid new
+pub known_on : {S : Type 0} (view : S → View) (old mid new : StoredState S) (ks : List Known) (k : Known) → IsSame view old mid → IsSame view mid new
     → OfDetails view old mid (λ placed details. AllByRecursion (IsKnown placed details) ks)
     → OfDetails view mid new (λ placed details. IsKnown placed details k)
     → OfDetails view old new (λ placed details. AllByRecursion (IsKnown placed details) (ks ++ k ∷ []))
@@ -140,56 +70,56 @@ ids_on f g xs ys a b same one = map_on f xs a ∙ ap (λ l. l ++ f a ∷ []) sam
 
 -- ---- a session that begins after a look
 
-pub begins_after : {S : Type 0} (view : S → View) (o : Opening) (words : List ℕ) (moment session : ℕ) (challenge : List ℕ) (old mid new : KeptState S)
+pub begins_after : {S : Type 0} (view : S → View) (o : Opening) (words : List ℕ) (moment session : ℕ) (challenge : List ℕ) (old mid new : StoredState S)
     → IsSame view old mid → (IsClean (view new.store) → IsClean (view mid.store)) → Begins view o words moment session challenge mid new
     → Begins view o words moment session challenge old new
 begins_after view o words moment session challenge old mid new same back b =
-    let timed : mid.timed ≡ old.timed = ap (λ (s : KeptState _). s.timed) same.is in (
+    let timed : mid.timed ≡ old.timed = ap (λ (s : StoredState _). s.timed) same.is in (
       b.0 ∙ ap (λ (t : Timed). t.open_sessions.next) timed,
       b.1 ∙ ap (λ (t : Timed). challenge_of t.open_sessions.next words) timed,
       subst (λ (t : Timed). IsTrimmed (after_begin t o moment) new.timed) timed b.2,
       record {
-        rp = b.3.rp ∙ ap (λ (s : KeptState _). s.rp) same.is;
-        policy = b.3.policy ∙ ap (λ (s : KeptState _). s.policy) same.is;
-        most = b.3.most ∙ ap (λ (s : KeptState _). s.most) same.is;
-        durable = b.3.durable ∙ ap (λ (s : KeptState _). s.durable) same.is;
-        mark = b.3.mark ∙ ap (λ (s : KeptState _). s.mark) same.is;
-        next_mark = b.3.next_mark ∙ ap (λ (s : KeptState _). s.next_mark) same.is;
+        rp = b.3.rp ∙ ap (λ (s : StoredState _). s.rp) same.is;
+        policy = b.3.policy ∙ ap (λ (s : StoredState _). s.policy) same.is;
+        most = b.3.most ∙ ap (λ (s : StoredState _). s.most) same.is;
+        durable = b.3.durable ∙ ap (λ (s : StoredState _). s.durable) same.is;
+        mark = b.3.mark ∙ ap (λ (s : StoredState _). s.mark) same.is;
+        next_mark = b.3.next_mark ∙ ap (λ (s : StoredState _). s.next_mark) same.is;
       },
       λ clean placed held. b.4 clean placed (held_on view placed old mid same (back clean) held),
     )
 
-pub not_begun_after : {S : Type 0} (view : S → View) (o : Opening) (old mid new : KeptState S) (why : BeginFailure) → old.is_shut ≡ false → IsSame view old mid
+pub not_begun_after : {S : Type 0} (view : S → View) (o : Opening) (old mid new : StoredState S) (why : BeginFailure) → old.is_shut ≡ false → IsSame view old mid
     → BeginsNone mid new o why → IsNotBegunAfter view old new o why
 not_begun_after view o old mid new (begins.Site w) live same h = (
   same_then view old mid new same (same_site view mid new h.0.0),
-  subst (λ (s : KeptState _). IsRefused s.rp.profile s.timed.open_sessions o w) same.is h.0.1,
+  subst (λ (s : StoredState _). IsRefused s.rp.profile s.timed.open_sessions o w) same.is h.0.1,
   λ is. h.1 (ap begins.Site is),
 )
 not_begun_after view o old mid new begins.NoNumber live same h = (
   same_then view old mid new same (same_site view mid new h.0.0),
-  subst (λ (s : KeptState _). 2 ^ 63 ≤ s.timed.open_sessions.next + 1001) same.is h.0.1,
+  subst (λ (s : StoredState _). 2 ^ 63 ≤ s.timed.open_sessions.next + 1001) same.is h.0.1,
 )
 not_begun_after view o old mid new (begins.Store w) live same h = failure_then view old mid new w live same h.0
 
-pub no_memory_after : {S : Type 0} (view : S → View) (o : Opening) (old new : KeptState S) → IsSame view old new
+pub no_memory_after : {S : Type 0} (view : S → View) (o : Opening) (old new : StoredState S) → IsSame view old new
     → IsNotBegunAfter view old new o (begins.Site full.Memory)
 no_memory_after view o old new same = (same, tt, λ is. absurd cc)
 
-pub keeps_after : {S : Type 0} (view : S → View) (o : Opening) (old new : KeptState S) (why : BeginFailure) → IsNotBegunAfter view old new o why
+pub keeps_after : {S : Type 0} (view : S → View) (o : Opening) (old new : StoredState S) (why : BeginFailure) → IsNotBegunAfter view old new o why
     → Keeps view old new (not_begun why)
 keeps_after view o old new (begins.Site w) h = h.0
 keeps_after view o old new begins.NoNumber h = h.0
 keeps_after view o old new (begins.Store w) h = h
 
-pub sign_in_after : {S : Type 0} (view : S → View) (b : BeginSignIn) (words : List ℕ) (now : ℕ) (old new : KeptState S) (why : BeginFailure)
+pub sign_in_after : {S : Type 0} (view : S → View) (b : BeginSignIn) (words : List ℕ) (now : ℕ) (old new : StoredState S) (why : BeginFailure)
     → IsNotBegunAfter view old new (opens_sign_in b words) why
     → TellsSignInBegun view b words now old new (not_begun why) × TellsAllowed view b old new (not_begun why)
 sign_in_after view b words now old new (begins.Site w) h = ((h.2, h.1), tt)
 sign_in_after view b words now old new begins.NoNumber h = (h.1, tt)
 sign_in_after view b words now old new (begins.Store w) h = (tt, tt)
 
-pub registration_after : {S : Type 0} (view : S → View) (b : BeginRegistration) (words : List ℕ) (now : ℕ) (old new : KeptState S) (why : BeginFailure)
+pub registration_after : {S : Type 0} (view : S → View) (b : BeginRegistration) (words : List ℕ) (now : ℕ) (old new : StoredState S) (why : BeginFailure)
     → IsNotBegunAfter view old new (opens_registration b words) why
     → TellsRegistrationBegun view b words now old new (not_begun why) × TellsExcluded view b old new (not_begun why)
 registration_after view b words now old new (begins.Site w) h = ((h.2, h.1), tt)
@@ -198,15 +128,14 @@ registration_after view b words now old new (begins.Store w) h = (tt, tt)
 
 -- ---- a ceremony that is not finished
 
-pub sign_in_leaves : {S : Type 0} (view : S → View) (f : FinishSignIn) (now : ℕ) (old mid new : KeptState S) (step : SignInRefusal) (a : Answer)
+pub sign_in_leaves : {S : Type 0} (view : S → View) (f : FinishSignIn) (now : ℕ) (old mid new : StoredState S) (step : SignInRefusal) (a : Answer)
     → IsRefusedSignIn view step f mid new a → UsesDetail view now f old new a
 sign_in_leaves view f now old mid new step (answers.RegistrationBegun started b known) h = absurd h
 sign_in_leaves view f now old mid new step (answers.SignInBegun started b known) h = absurd h
-sign_in_leaves view f now old mid new step (answers.Registered x told asked) h = absurd h
-sign_in_leaves view f now old mid new step (answers.SignedIn x told) h = absurd h
+sign_in_leaves view f now old mid new step (answers.Registered x) h = absurd h
+sign_in_leaves view f now old mid new step (answers.SignedIn x) h = absurd h
 sign_in_leaves view f now old mid new step (answers.Verify t) h = tt
 sign_in_leaves view f now old mid new step (answers.RegistrationRefused told id) h = absurd h
-sign_in_leaves view f now old mid new step (answers.OtherCredential id) h = absurd h
 sign_in_leaves view f now old mid new step (answers.SignInRefused told id) h = tt
 sign_in_leaves view f now old mid new step (answers.Retired was) h = absurd h
 sign_in_leaves view f now old mid new step (answers.Deleted was) h = absurd h
@@ -216,18 +145,18 @@ sign_in_leaves view f now old mid new step (answers.Rows rows known) h = absurd 
 sign_in_leaves view f now old mid new step (answers.Status counts) h = absurd h
 sign_in_leaves view f now old mid new step (answers.Backup path) h = absurd h
 sign_in_leaves view f now old mid new step (answers.NotBackedUp why) h = absurd h
+sign_in_leaves view f now old mid new step (answers.NotBegun why) h = absurd h
 sign_in_leaves view f now old mid new step (answers.Error why) h = tt
 sign_in_leaves view f now old mid new step (answers.Failed why) h = tt
 
-pub registration_leaves : {S : Type 0} (view : S → View) (f : FinishRegistration) (p : Profile) (d : Detail) (old new : KeptState S) (step : RegistrationRefusal) (a : Answer)
-    → IsRefusedRegistration p step f a → KeepsDetail view d old new a
+pub registration_leaves : {S : Type 0} (view : S → View) (f : FinishRegistration) (p : Profile) (d : Detail) (old new : StoredState S) (step : RegistrationRefusal) (a : Answer)
+    → IsRefusedRegistration p step f a → RegistersDetail view d old new a
 registration_leaves view f p d old new step (answers.RegistrationBegun started b known) h = absurd h
 registration_leaves view f p d old new step (answers.SignInBegun started b known) h = absurd h
-registration_leaves view f p d old new step (answers.Registered x told asked) h = absurd h
-registration_leaves view f p d old new step (answers.SignedIn x told) h = absurd h
+registration_leaves view f p d old new step (answers.Registered x) h = absurd h
+registration_leaves view f p d old new step (answers.SignedIn x) h = absurd h
 registration_leaves view f p d old new step (answers.Verify t) h = tt
 registration_leaves view f p d old new step (answers.RegistrationRefused told id) h = tt
-registration_leaves view f p d old new step (answers.OtherCredential id) h = absurd h
 registration_leaves view f p d old new step (answers.SignInRefused told id) h = absurd h
 registration_leaves view f p d old new step (answers.Retired was) h = absurd h
 registration_leaves view f p d old new step (answers.Deleted was) h = absurd h
@@ -237,11 +166,12 @@ registration_leaves view f p d old new step (answers.Rows rows known) h = absurd
 registration_leaves view f p d old new step (answers.Status counts) h = absurd h
 registration_leaves view f p d old new step (answers.Backup path) h = absurd h
 registration_leaves view f p d old new step (answers.NotBackedUp why) h = absurd h
+registration_leaves view f p d old new step (answers.NotBegun why) h = absurd h
 registration_leaves view f p d old new step (answers.Error why) h = tt
 registration_leaves view f p d old new step (answers.Failed why) h = absurd h
 
 -- a failure says nothing of details
-pub fails : {S : Type 0} (view : S → View) (now : ℕ) (act : Act) (old new : KeptState S) (why : Failure) → TellsDetails view now act old new (answers.Failed why)
+pub fails : {S : Type 0} (view : S → View) (now : ℕ) (act : Act) (old new : StoredState S) (why : Failure) → TellsDetails view now act old new (answers.Failed why)
 fails view now (acts.BeginRegistration b) old new why = tt
 fails view now (acts.FinishRegistration f) old new why = tt
 fails view now (acts.BeginSignIn b) old new why = tt
@@ -254,39 +184,15 @@ fails view now (acts.Rows user) old new why = tt
 fails view now acts.Status old new why = tt
 fails view now (acts.Backup path) old new why = tt
 
--- the detail that is kept is the line's
-pub registers_detail : {S : Type 0} (view : S → View) (now : ℕ) (f : FinishRegistration) (d : Detail) (aaguid : Option (List ℕ)) (old new : KeptState S) (a : Answer)
-    → IsAaguid old.rp.profile (registration_response_view f.response) aaguid → d ≡ told (Some (second now)) None (joined (map string_bytes f.transports.items)) aaguid
-    → KeepsDetail view d old new a → RegistersDetail view now f old new a
-registers_detail view now f d aaguid old new (answers.RegistrationBegun started b known) its is h = tt
-registers_detail view now f d aaguid old new (answers.SignInBegun started b known) its is h = tt
-registers_detail view now f d aaguid old new (answers.Registered x response asked) its is h = (aaguid, its, λ clean placed held details h0. subst (λ x. HoldsDetails (finite.insert details (old.last + 1) x) (view new.store).trees) is (h clean placed held details h0))
-registers_detail view now f d aaguid old new (answers.SignedIn x response) its is h = tt
-registers_detail view now f d aaguid old new (answers.Verify t) its is h = tt
-registers_detail view now f d aaguid old new (answers.RegistrationRefused response id) its is h = tt
-registers_detail view now f d aaguid old new (answers.OtherCredential id) its is h = tt
-registers_detail view now f d aaguid old new (answers.SignInRefused response id) its is h = tt
-registers_detail view now f d aaguid old new (answers.Retired was) its is h = tt
-registers_detail view now f d aaguid old new (answers.Deleted was) its is h = tt
-registers_detail view now f d aaguid old new (answers.Abandoned was) its is h = tt
-registers_detail view now f d aaguid old new (answers.Expired count) its is h = tt
-registers_detail view now f d aaguid old new (answers.Rows rows known) its is h = tt
-registers_detail view now f d aaguid old new (answers.Status counts) its is h = tt
-registers_detail view now f d aaguid old new (answers.Backup path) its is h = tt
-registers_detail view now f d aaguid old new (answers.NotBackedUp why) its is h = tt
-registers_detail view now f d aaguid old new (answers.Error why) its is h = tt
-registers_detail view now f d aaguid old new (answers.Failed why) its is h = tt
-
 -- rows are told with what is known of each, after a look
-pub row_details_after : {S : Type 0} (view : S → View) (rows : Vec Row Global) (old mid new : KeptState S) (a : Answer) → IsSame view old mid
+pub row_details_after : {S : Type 0} (view : S → View) (rows : Vec Row Global) (old mid new : StoredState S) (a : Answer) → IsSame view old mid
     → IsWithKnown view rows mid new a → TellsRowDetails view old new a
 row_details_after view rows old mid new (answers.RegistrationBegun started b known) same h = absurd h
 row_details_after view rows old mid new (answers.SignInBegun started b known) same h = absurd h
-row_details_after view rows old mid new (answers.Registered x told asked) same h = absurd h
-row_details_after view rows old mid new (answers.SignedIn x told) same h = absurd h
+row_details_after view rows old mid new (answers.Registered x) same h = absurd h
+row_details_after view rows old mid new (answers.SignedIn x) same h = absurd h
 row_details_after view rows old mid new (answers.Verify t) same h = absurd h
 row_details_after view rows old mid new (answers.RegistrationRefused told id) same h = absurd h
-row_details_after view rows old mid new (answers.OtherCredential id) same h = absurd h
 row_details_after view rows old mid new (answers.SignInRefused told id) same h = absurd h
 row_details_after view rows old mid new (answers.Retired was) same h = absurd h
 row_details_after view rows old mid new (answers.Deleted was) same h = absurd h
@@ -296,13 +202,14 @@ row_details_after view rows old mid new (answers.Rows told known) same h = (h.1.
 row_details_after view rows old mid new (answers.Status counts) same h = absurd h
 row_details_after view rows old mid new (answers.Backup path) same h = absurd h
 row_details_after view rows old mid new (answers.NotBackedUp why) same h = absurd h
+row_details_after view rows old mid new (answers.NotBegun why) same h = absurd h
 row_details_after view rows old mid new (answers.Error why) same h = tt
 row_details_after view rows old mid new (answers.Failed why) same h = tt
 
-pub live_on : {S : Type 0} (view : S → View) (old mid : KeptState S) → IsSame view old mid → old.is_shut ≡ false → mid.is_shut ≡ false
-live_on view old mid same live = ap (λ (s : KeptState _). s.is_shut) same.is ∙ live
+pub live_on : {S : Type 0} (view : S → View) (old mid : StoredState S) → IsSame view old mid → old.is_shut ≡ false → mid.is_shut ≡ false
+live_on view old mid same live = ap (λ (s : StoredState _). s.is_shut) same.is ∙ live
 
-pub unknown_after : {S : Type 0} (view : S → View) (old mid new : KeptState S) (why : Unknown) → old.is_shut ≡ false → IsSame view old mid → IsUnknown view mid new why
+pub unknown_after : {S : Type 0} (view : S → View) (old mid new : StoredState S) (why : Unknown) → old.is_shut ≡ false → IsSame view old mid → IsUnknown view mid new why
     → IsUnknown view old new why
 unknown_after view old mid new unknowns.Memory live same h = same_then view old mid new same h
 unknown_after view old mid new (unknowns.Failed why) live same h = failure_then view old mid new why live same h

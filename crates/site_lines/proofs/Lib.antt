@@ -4,5 +4,4 @@ pub mod Detailed
 pub mod Caused
 pub mod Batched
 pub mod Shallow
-pub mod Accepted
 pub mod Counted

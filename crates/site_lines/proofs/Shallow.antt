@@ -1,20 +1,18 @@
 -- What is written nests no deeper than what is read.
-use Rattle.std.proofs.Common.{◌≡◌, ◌≤◌, ◌+◌, ◌==◌, ℕ, ℤ, Bool, true, false, List, [], ◌∷◌, length, map, Option, Some, None, Ordering, Less, Equal, Greater, String, Global, string_bytes, codes, if◌then◌else◌, sym, subst, arith}
+use Rattle.std.proofs.Common.{◌≡◌, ◌≤◌, ◌+◌, ◌==◌, ℕ, ℤ, Bool, true, false, List, [], ◌∷◌, length, map, Option, Some, None, String, Global, string_bytes, codes, if◌then◌else◌, sym, subst, arith}
 use Rattle.std.specs.Prelude.{option_and_then, option_map}
-use Rattle.std.specs.Ordering.{match_ordering, nat_cmp}
-use Rattle.std.specs.Cmp.Lexicographic.{slice_cmp}
 use Rattle.serde_json.specs.Data.{Data, Members, depth, items_depth, member, members_depth, no_members, null, object, put, string}
 use Rattle.serde_json.specs.Read.{max_depth}
 use Rattle.serde_json.specs.View.{items_of}
 use Rattle.cose.specs.declared.key.Alg.{Alg}
-use Rattle.authdata.specs.Layout.{AttestedCredential, AuthenticatorData}
-use Rattle.verification.specs.Records.{Credential}
-use Rattle.kept_site.specs.declared.finish.SignedIn.{SignedIn}
+use Rattle.site_stored.specs.declared.finish.SignedIn.{SignedIn}
+use Rattle.site_stored.specs.declared.registration.Registered.{Registered}
 use Rattle.site_state.specs.declared.row.Row.{Row}
 use Rattle.site_state.specs.Details.{Detail, detail_view}
-use Rattle.site_acts.specs.Options.{base64url, creation_options, descriptor, parameter, request_options}
-use Rattle.site_lines.specs.Private.{IsShallow}
-use Rattle.site_lines.specs.Written.{Writes, aaguid_or_null, answered, attested_members, begun, by_step, bytes_or_null, counts_from, data_members, flag_or_null, integer_or_null, line_number, natural, row_members, status, step_name, who_members, whole_row, whole_rows, with_count}
+use Rattle.site_acts.specs.Options.{creation_options, descriptor, parameter, request_options}
+use Rattle.json_lines.proofs.Depths.{put_within}
+use Rattle.json_lines.specs.Written.{base64url, natural, number_or_null}
+use Rattle.site_lines.specs.Written.{Writes, aaguid_or_null, answered, begun, by_step, bytes_or_null, counts_from, flag_or_null, integer_or_null, registered, signed_in, status, step_name, whole_row, whole_rows, with_count}
 use Rattle.site_acts.specs.declared.act.BeginRegistration.{BeginRegistration}
 use Rattle.site_acts.specs.declared.act.BeginSignIn.{BeginSignIn}
 use Rattle.site_lines.specs.declared.answer.Answer.{Answer}
@@ -25,16 +23,6 @@ use Rattle.site_lines.specs.declared.tally.Tally.{Tally}
 use Rattle.site_lines.specs.declared.writing.Teller.{Teller}
 
 -- ---- members
-
-choice : (o : Ordering) (a b c : Members) (n : ℕ) → members_depth a ≤ n → members_depth b ≤ n → members_depth c ≤ n → members_depth (match_ordering o a b c) ≤ n
-choice Less a b c n p q r = p
-choice Equal a b c n p q r = q
-choice Greater a b c n p q r = r
-
-put_within : (k : List ℕ) (d : Data) (ms : Members) (n : ℕ) → depth d ≤ n → members_depth ms ≤ n → members_depth (put k d ms) ≤ n
-put_within k d no_members n p q = omega arith
-put_within k d (member l e ms) n p q =
-    choice (slice_cmp nat_cmp k l) (member k d (member l e ms)) (member l d ms) (member l e (put k d ms)) n (omega arith) (omega arith) (omega (arith, put_within k d ms n p (omega arith)))
 
 flag_flat : (o : Option Bool) → depth (flag_or_null o) ≤ 0
 flag_flat None = omega arith
@@ -48,7 +36,7 @@ bytes_flat : (o : Option (List ℕ)) → depth (bytes_or_null o) ≤ 0
 bytes_flat None = omega arith
 bytes_flat (Some b) = omega arith
 
-number_flat : (o : Option ℕ) → depth (line_number o) ≤ 0
+number_flat : (o : Option ℕ) → depth (number_or_null o) ≤ 0
 number_flat None = omega arith
 number_flat (Some b) = omega arith
 
@@ -83,19 +71,12 @@ rows_within [] ks = omega arith
 rows_within (row ∷ rows) [] = omega arith
 rows_within (row ∷ rows) (k ∷ ks) = omega (arith, known_flat row k, rows_within rows ks)
 
--- a row, with what its object says or without
-pub row_flat : (c : Credential) → depth (object (row_members c no_members)) ≤ 1
-row_flat c = omega (arith, flag_flat c.eligible)
+-- what is told of an acceptance
+registered_flat : (x : Registered) → depth (registered x) ≤ 1
+registered_flat x = omega (arith, flag_flat x.credential.eligible, bytes_flat (option_map (λ e. e.items) x.summary.extensions))
 
-pub attested_flat : (a : AuthenticatorData) (format : List ℕ) (c : Credential) → depth (object (attested_members a format (row_members c no_members))) ≤ 1
-attested_flat a format c =
-    omega (arith, flag_flat c.eligible, bytes_flat a.extensions, bytes_flat (option_map (λ (x : AttestedCredential). x.aaguid) a.attested))
-
-pub who_flat : (x : SignedIn) → depth (object (who_members x)) ≤ 1
-who_flat x = omega arith
-
-pub signed_flat : (a : AuthenticatorData) (x : SignedIn) → depth (object (data_members a (put (codes "sign_count") (natural a.sign_count) (who_members x)))) ≤ 1
-signed_flat a x = omega (arith, bytes_flat a.extensions)
+signed_flat : (x : SignedIn) → depth (signed_in x) ≤ 1
+signed_flat x = omega (arith, bytes_flat (option_map (λ e. e.items) x.summary.extensions))
 
 -- ---- counts
 
@@ -142,29 +123,25 @@ request_within rp_id challenge b ks = omega (arith, descriptors_within ks)
 begun_within : (id : Option ℕ) (session : ℕ) (options : Data) → depth options ≤ 4 → depth (begun id session options) ≤ 5
 begun_within id session options h = omega (arith, h, number_flat id)
 
--- an acceptance, of what nests no deeper than one object
-pub accepted_within : (id : Option ℕ) (d : Data) → depth d ≤ 1 → depth (answered id (codes "accepted") d) ≤ 2
-accepted_within id d h = omega (arith, h, number_flat id)
-
 one : (d e : Data) (n : ℕ) → d ≡ e → depth e ≤ n → n ≤ max_depth → depth d ≤ max_depth
 one d e n is h below = subst (λ x. depth x ≤ max_depth) (sym is) (omega (arith, h, below))
 
-pub shallow : (t : Teller) (id : Option ℕ) (a : Answer) (d : Data) → Writes t id a d → IsShallow a d → depth d ≤ max_depth
-shallow t id (answers.RegistrationBegun started b known) d w h = one d _ 5 w (begun_within id started.session (creation_options t.party.now.rp_id t.rp_name.now started.challenge b known.items) (creation_within t.party.now.rp_id t.rp_name.now started.challenge b known.items)) (omega arith)
-shallow t id (answers.SignInBegun started b known) d w h = one d _ 5 w (begun_within id started.session (request_options t.party.now.rp_id started.challenge b known.items) (request_within t.party.now.rp_id started.challenge b known.items)) (omega arith)
-shallow t id (answers.Registered x r asked) d w h = omega (arith, h)
-shallow t id (answers.SignedIn x r) d w h = omega (arith, h)
-shallow t id (answers.Verify asked) d w h = one d _ 2 w (omega (arith, number_flat id)) (omega arith)
-shallow t id (answers.RegistrationRefused why credential) d w h = one d _ 2 w.1 (omega (arith, number_flat id)) (omega arith)
-shallow t id (answers.OtherCredential credential) d w h = one d _ 2 w.1 (omega (arith, number_flat id)) (omega arith)
-shallow t id (answers.SignInRefused why credential) d w h = one d _ 2 w.1 (omega (arith, number_flat id)) (omega arith)
-shallow t id (answers.Retired was) d w h = one d _ 1 w (omega (arith, number_flat id)) (omega arith)
-shallow t id (answers.Deleted was) d w h = one d _ 1 w (omega (arith, number_flat id)) (omega arith)
-shallow t id (answers.Abandoned was) d w h = one d _ 1 w (omega (arith, number_flat id)) (omega arith)
-shallow t id (answers.Expired count) d w h = one d _ 1 w (omega (arith, number_flat id)) (omega arith)
-shallow t id (answers.Rows rows known) d w h = one d _ 4 w (omega (arith, number_flat id, rows_within rows.items known.items)) (omega arith)
-shallow t id (answers.Status counts) d w h = one d _ 3 w (omega (arith, number_flat id, status_within t.version.now t.tally.now counts)) (omega arith)
-shallow t id (answers.Backup path) d w h = one d _ 1 w (omega (arith, number_flat id)) (omega arith)
-shallow t id (answers.NotBackedUp why) d w h = one d _ 1 w (omega (arith, number_flat id)) (omega arith)
-shallow t id (answers.Error why) d w h = one d _ 1 w.1 (omega (arith, number_flat id)) (omega arith)
-shallow t id (answers.Failed why) d w h = one d _ 1 w.1 (omega (arith, number_flat id)) (omega arith)
+pub shallow : (t : Teller) (id : Option ℕ) (a : Answer) (d : Data) → Writes t id a d → depth d ≤ max_depth
+shallow t id (answers.RegistrationBegun started b known) d w = one d _ 5 w (begun_within id started.session (creation_options t.party.now.rp_id t.rp_name.now started.challenge b known.items) (creation_within t.party.now.rp_id t.rp_name.now started.challenge b known.items)) (omega arith)
+shallow t id (answers.SignInBegun started b known) d w = one d _ 5 w (begun_within id started.session (request_options t.party.now.rp_id started.challenge b known.items) (request_within t.party.now.rp_id started.challenge b known.items)) (omega arith)
+shallow t id (answers.Registered x) d w = one d _ 2 w (omega (arith, registered_flat x, number_flat id)) (omega arith)
+shallow t id (answers.SignedIn x) d w = one d _ 2 w (omega (arith, signed_flat x, number_flat id)) (omega arith)
+shallow t id (answers.Verify asked) d w = one d _ 2 w (omega (arith, number_flat id)) (omega arith)
+shallow t id (answers.RegistrationRefused why credential) d w = one d _ 2 w.1 (omega (arith, number_flat id)) (omega arith)
+shallow t id (answers.SignInRefused why credential) d w = one d _ 2 w.1 (omega (arith, number_flat id)) (omega arith)
+shallow t id (answers.Retired was) d w = one d _ 1 w (omega (arith, number_flat id)) (omega arith)
+shallow t id (answers.Deleted was) d w = one d _ 1 w (omega (arith, number_flat id)) (omega arith)
+shallow t id (answers.Abandoned was) d w = one d _ 1 w (omega (arith, number_flat id)) (omega arith)
+shallow t id (answers.Expired count) d w = one d _ 1 w (omega (arith, number_flat id)) (omega arith)
+shallow t id (answers.Rows rows known) d w = one d _ 4 w (omega (arith, number_flat id, rows_within rows.items known.items)) (omega arith)
+shallow t id (answers.Status counts) d w = one d _ 3 w (omega (arith, number_flat id, status_within t.version.now t.tally.now counts)) (omega arith)
+shallow t id (answers.Backup path) d w = one d _ 1 w (omega (arith, number_flat id)) (omega arith)
+shallow t id (answers.NotBackedUp why) d w = one d _ 1 w (omega (arith, number_flat id)) (omega arith)
+shallow t id (answers.NotBegun why) d w = one d _ 1 w.1 (omega (arith, number_flat id)) (omega arith)
+shallow t id (answers.Error why) d w = one d _ 1 w.1 (omega (arith, number_flat id)) (omega arith)
+shallow t id (answers.Failed why) d w = one d _ 1 w.1 (omega (arith, number_flat id)) (omega arith)

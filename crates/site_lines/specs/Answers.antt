@@ -1,28 +1,25 @@
 -- What an answer says of the site from before the line and of the site from after it. What it says of credentials is said of
 -- each map of credentials that the store holds, where the disk has returned what was written.
-use Rattle.std.specs.Prelude.{◌≡◌, ◌≢◌, ◌≤◌, ◌+◌, ◌-◌, ◌^◌, ◌++◌, ℕ, List, Bool, Option, Some, None, filter, map, option_map, is_some}
+use Rattle.std.specs.Prelude.{◌≡◌, ◌≤◌, ◌+◌, ◌-◌, ◌^◌, ◌++◌, ℕ, List, Bool, Option, Some, None, filter, map, option_map, is_some}
 use Rattle.std.specs.FinMap as finite
 use Rattle.std.specs.Str.{bytes_eq}
 use Rattle.sha2.specs.Sha256.{sha256}
 use Rattle.sqlite_trees.specs.View.{View, IsClean}
-use Rattle.authdata.specs.declared.profile.Profile.{Profile}
-use Rattle.authdata.specs.Layout.{AttestedCredential, AuthenticatorData}
-use Rattle.authdata.specs.Objects.{Attestation}
 use Rattle.authdata.specs.Responses.{AuthenticatorAssertionResponse, assertion_response_view, registration_response_view}
-use Rattle.site_state.specs.Sessions.{IsRefused, Opening, OpensRegistration, OpensSignIn, challenge_of, registration_at}
+use Rattle.site_state.specs.Sessions.{IsRefused, Opening, OpensRegistration, OpensSignIn, challenge_of}
 use Rattle.site_state.specs.declared.error.BeginError.TheVariants as begins
-use Rattle.verification.specs.Records.{Credential, ExpectedRegistration}
+use Rattle.verification.specs.Records.{Credential}
 use Rattle.verification.specs.Registration as registration
 use Rattle.verification.specs.SignIn.{IsFirstFailing}
 use Rattle.verification.specs.declared.refusal.SignInRefusal.TheVariants as sign_in
 use Rattle.verification.specs.declared.refusal.RegistrationRefusal.{RegistrationRefusal}
 use Rattle.verification.specs.declared.refusal.RegistrationRefusal.TheVariants as register
 use Rattle.site_state.specs.RowViews.{rows_view}
-use Rattle.credential_store.specs.Held.{IsAt, Placed, rows_of}
+use Rattle.site_rows.specs.Held.{IsAt, Placed, rows_of}
 use Rattle.site_state.specs.Timed.{IsTrimmed, after_begin, after_end, since}
-use Rattle.kept_site.specs.State.{IsHeld, KeptState}
-use Rattle.kept_site.specs.Calls.{IsFailure, IsFound, IsOneSite, IsSame, Registers, SignsIn, TellsIds, judged_registration, judged_sign_in}
-use Rattle.kept_site.specs.Calls as calls
+use Rattle.site_stored.specs.State.{IsHeld, StoredState}
+use Rattle.site_stored.specs.Calls.{IsFailure, IsFound, IsOneSite, IsSame, Registers, SignsIn, TellsIds, judged_registration, judged_sign_in}
+use Rattle.site_stored.specs.Calls as calls
 use Rattle.verification.specs.declared.signature.VerifiedSignature.{VerifiedSignature}
 use Rattle.site_acts.specs.Asked.{RegistrationAsks}
 use Rattle.site_acts.specs.VerifiedSignatures.{is_valid}
@@ -34,16 +31,18 @@ use Rattle.site_acts.specs.declared.act.BeginSignIn.{BeginSignIn}
 use Rattle.site_acts.specs.declared.act.FinishRegistration.{FinishRegistration}
 use Rattle.site_acts.specs.declared.act.FinishSignIn.{FinishSignIn}
 use Rattle.site_lines.specs.declared.answer.Answer.{Answer}
-use Rattle.site_acts.specs.declared.error.LineError.{LineError}
-use Rattle.site_acts.specs.declared.error.LineError.TheVariants as errors
+use Rattle.site_lines.specs.Named.{named_response}
+use Rattle.json_lines.specs.declared.error.LineError.TheVariants as errors
+use Rattle.site_lines.specs.declared.answer.NotBegun.{NotBegun}
+use Rattle.site_lines.specs.declared.answer.NotBegun.TheVariants as none
 use Rattle.site_lines.specs.declared.answer.Answer.TheVariants as answers
 
 -- a line that is refused, a refusal, a question and a look leave the site as it was; a failure is one
-abbrev pub Keeps : {S : Type 0} → (S → View) → KeptState S → KeptState S → Answer → Type 0
+abbrev pub Keeps : {S : Type 0} → (S → View) → StoredState S → StoredState S → Answer → Type 0
+Keeps view old new (answers.NotBegun why) = IsSame view old new
 Keeps view old new (answers.Error why) = IsSame view old new
 Keeps view old new (answers.Verify t) = IsSame view old new
 Keeps view old new (answers.RegistrationRefused step id) = IsSame view old new
-Keeps view old new (answers.OtherCredential id) = IsSame view old new
 Keeps view old new (answers.SignInRefused step id) = IsSame view old new
 Keeps view old new (answers.Rows rows known) = IsSame view old new
 Keeps view old new (answers.Status counts) = IsSame view old new
@@ -52,11 +51,11 @@ Keeps view old new (answers.Failed why) = IsFailure old new why
 Keeps view old new _ = Unit {0}
 
 -- of each map of credentials that the store held before it
-abbrev pub OfHeld : {S : Type 0} → (S → View) → KeptState S → KeptState S → (Placed → Type 0) → Type 0
+abbrev pub OfHeld : {S : Type 0} → (S → View) → StoredState S → StoredState S → (Placed → Type 0) → Type 0
 OfHeld view old new Of = IsClean (view new.store) → (placed : Placed) → IsHeld placed old (view old.store).trees → Of placed
 
 -- it holds another now
-abbrev pub Becomes : {S : Type 0} → (S → View) → KeptState S → KeptState S → (Placed → Placed → Type 0) → Type 0
+abbrev pub Becomes : {S : Type 0} → (S → View) → StoredState S → StoredState S → (Placed → Placed → Type 0) → Type 0
 Becomes view old new To = OfHeld view old new (λ placed. (after : Placed) × To placed after × IsHeld after new (view new.store).trees)
 
 -- ---- sign-in
@@ -72,11 +71,10 @@ SignInAsks placed r t =
 -- verified, the session is closed, that credential alone has changed, and what is told is of this response; or the first step
 -- that it does not pass; or, only where the host has verified nothing yet and this step is the signature's, which signature it
 -- is to verify. So where the host found it invalid, the step is told.
-abbrev pub TellsSignIn : {S : Type 0} → (S → View) → FinishSignIn → KeptState S → KeptState S → Answer → Type 0
-TellsSignIn view f old new (answers.SignedIn x told) =
-    let r = assertion_response_view f.response in
-    (told ≡ f.response) × (new.timed ≡ after_end old.timed f.session) × IsOneSite old new
-    × Becomes view old new (λ placed after. SignsIn (is_valid f.verified) placed old f.session r x after)
+abbrev pub TellsSignIn : {S : Type 0} → (S → View) → FinishSignIn → StoredState S → StoredState S → Answer → Type 0
+TellsSignIn view f old new (answers.SignedIn x) =
+    (new.timed ≡ after_end old.timed f.session) × IsOneSite old new
+    × Becomes view old new (λ placed after. SignsIn (is_valid f.verified) placed old f.session (assertion_response_view f.response) x after)
 TellsSignIn view f old new (answers.SignInRefused step id) =
     let r = assertion_response_view f.response in
     (id.items ≡ r.credential)
@@ -93,31 +91,17 @@ TellsSignIn view f old new _ = ⊥
 -- ---- registration
 
 -- a step is the first that a response does not pass, by whichever test tells the ids
-abbrev pub StopsRegistration : {S : Type 0} → (S → View) → FinishRegistration → KeptState S → KeptState S → RegistrationRefusal → Type 0
+abbrev pub StopsRegistration : {S : Type 0} → (S → View) → FinishRegistration → StoredState S → StoredState S → RegistrationRefusal → Type 0
 StopsRegistration view f old new step =
     OfHeld view old new (λ placed. (is_registered : List ℕ → Bool) → TellsIds placed is_registered
-    → registration.IsFirstFailing (is_valid f.verified) (judged_registration old f.session is_registered (registration_response_view f.response)) step)
+    → registration.IsFirstFailing (is_valid f.verified) (judged_registration old f.session is_registered (named_response f)) step)
 
--- the response attests a credential of another id than the client names
-abbrev pub AttestsOther : Profile → FinishRegistration → Type 0
-AttestsOther profile f =
-    (o : Attestation) × (a : AuthenticatorData) × (c : AttestedCredential) × registration.Attests profile (registration_response_view f.response) o a c
-    × (c.id ≢ f.credential.items)
-
--- none but of that id
-abbrev pub AttestsNamed : Profile → FinishRegistration → Type 0
-AttestsNamed profile f = registration.Attested profile (registration_response_view f.response) (λ o a c. c.id ≡ f.credential.items)
-
--- the same of the answer to a registration's response, whose step is that of the attestation statement; an acceptance tells
--- whether the session, which was open, asked for an attestation, and is of the credential that the client names
-abbrev pub TellsRegistration : {S : Type 0} → (S → View) → FinishRegistration → KeptState S → KeptState S → Answer → Type 0
-TellsRegistration view f old new (answers.Registered x told asked) =
-    let r = registration_response_view f.response in
-    (told ≡ f.response) × ((e : ExpectedRegistration) × (registration_at f.session old.timed.open_sessions ≡ Some e) × (asked ≡ e.attestation))
-    × (new.timed ≡ after_end old.timed f.session) × IsOneSite old new
-    × Becomes view old new (λ placed after. Registers (is_valid f.verified) placed old f.session r x after) × AttestsNamed old.rp.profile f
+-- so it is with the answer to a registration's response, whose step is that of the attestation statement
+abbrev pub TellsRegistration : {S : Type 0} → (S → View) → FinishRegistration → StoredState S → StoredState S → Answer → Type 0
+TellsRegistration view f old new (answers.Registered x) =
+    (new.timed ≡ after_end old.timed f.session) × IsOneSite old new
+    × Becomes view old new (λ placed after. Registers (is_valid f.verified) placed old f.session (named_response f) x after)
 TellsRegistration view f old new (answers.RegistrationRefused step id) = (id.items ≡ f.credential.items) × StopsRegistration view f old new step
-TellsRegistration view f old new (answers.OtherCredential id) = (id.items ≡ f.credential.items) × AttestsOther old.rp.profile f
 TellsRegistration view f old new (answers.Verify t) =
     (f.verified ≡ found.Nothing) × RegistrationAsks old.rp.profile (registration_response_view f.response) t × StopsRegistration view f old new register.BadStatement
 TellsRegistration view f old new (answers.Error why) = why ≡ errors.Memory
@@ -134,48 +118,47 @@ opens_registration b words = OpensRegistration b.user.items b.algorithms.items b
 
 -- why none begins: what is asked is out of its limits, of which the first is named, and never that too many are open; or no
 -- number is left; want of memory says nothing
-abbrev pub IsNotBegun : {S : Type 0} → KeptState S → Opening → LineError → Type 0
-IsNotBegun old o (errors.NotBegun why) = (why ≡ begins.SessionsFull → ⊥) × IsRefused old.rp.profile old.timed.open_sessions o why
-IsNotBegun old o errors.NoNumber = 2 ^ 63 ≤ old.timed.open_sessions.next + 1001
-IsNotBegun old o _ = ⊥
+abbrev pub IsNotBegun : {S : Type 0} → StoredState S → Opening → NotBegun → Type 0
+IsNotBegun old o (none.Refused why) = (why ≡ begins.SessionsFull → ⊥) × IsRefused old.rp.profile old.timed.open_sessions o why
+IsNotBegun old o none.NoNumber = 2 ^ 63 ≤ old.timed.open_sessions.next + 1001
 
 -- a session has begun, as it was asked for, at this second; where the most were open the oldest has ended; and the credentials
 -- are as they were
-abbrev pub Begins : {S : Type 0} → (S → View) → Opening → List ℕ → ℕ → ℕ → List ℕ → KeptState S → KeptState S → Type 0
+abbrev pub Begins : {S : Type 0} → (S → View) → Opening → List ℕ → ℕ → ℕ → List ℕ → StoredState S → StoredState S → Type 0
 Begins view opening words now session challenge old new =
     (session ≡ old.timed.open_sessions.next) × (challenge ≡ challenge_of old.timed.open_sessions.next words)
     × IsTrimmed (after_begin old.timed opening now) new.timed × IsOneSite old new × Becomes view old new (λ placed after. after ≡ placed)
 
-abbrev pub TellsSignInBegun : {S : Type 0} → (S → View) → BeginSignIn → List ℕ → ℕ → KeptState S → KeptState S → Answer → Type 0
+abbrev pub TellsSignInBegun : {S : Type 0} → (S → View) → BeginSignIn → List ℕ → ℕ → StoredState S → StoredState S → Answer → Type 0
 TellsSignInBegun view b words now old new (answers.SignInBegun started asked known) =
     (asked ≡ b) × Begins view (opens_sign_in b words) words now started.session started.challenge old new
-TellsSignInBegun view b words now old new (answers.Error why) = IsNotBegun old (opens_sign_in b words) why
+TellsSignInBegun view b words now old new (answers.NotBegun why) = IsNotBegun old (opens_sign_in b words) why
 TellsSignInBegun view b words now old new (answers.Failed why) = Unit {0}
 TellsSignInBegun view b words now old new _ = ⊥
 
-abbrev pub TellsRegistrationBegun : {S : Type 0} → (S → View) → BeginRegistration → List ℕ → ℕ → KeptState S → KeptState S → Answer → Type 0
+abbrev pub TellsRegistrationBegun : {S : Type 0} → (S → View) → BeginRegistration → List ℕ → ℕ → StoredState S → StoredState S → Answer → Type 0
 TellsRegistrationBegun view b words now old new (answers.RegistrationBegun started asked known) =
     (asked ≡ b) × Begins view (opens_registration b words) words now started.session started.challenge old new
-TellsRegistrationBegun view b words now old new (answers.Error why) = IsNotBegun old (opens_registration b words) why
+TellsRegistrationBegun view b words now old new (answers.NotBegun why) = IsNotBegun old (opens_registration b words) why
 TellsRegistrationBegun view b words now old new (answers.Failed why) = Unit {0}
 TellsRegistrationBegun view b words now old new _ = ⊥
 
 -- what is told of a credential that is to be retired: it signs in no more; no session changes
-abbrev pub TellsRetired : {S : Type 0} → (S → View) → List ℕ → KeptState S → KeptState S → Answer → Type 0
+abbrev pub TellsRetired : {S : Type 0} → (S → View) → List ℕ → StoredState S → StoredState S → Answer → Type 0
 TellsRetired view id old new (answers.Retired was) =
     (new.timed ≡ old.timed) × IsOneSite old new × Becomes view old new (λ placed after. calls.TellsRetired placed id was after)
 TellsRetired view id old new (answers.Failed why) = Unit {0}
 TellsRetired view id old new _ = ⊥
 
 -- what is told of a credential that is to be deleted: it is gone; no session changes
-abbrev pub TellsDeleted : {S : Type 0} → (S → View) → List ℕ → KeptState S → KeptState S → Answer → Type 0
+abbrev pub TellsDeleted : {S : Type 0} → (S → View) → List ℕ → StoredState S → StoredState S → Answer → Type 0
 TellsDeleted view id old new (answers.Deleted was) =
     (new.timed ≡ old.timed) × IsOneSite old new × Becomes view old new (λ placed after. calls.TellsDeleted placed id was after)
 TellsDeleted view id old new (answers.Failed why) = Unit {0}
 TellsDeleted view id old new _ = ⊥
 
 -- what is told of a session that is to be closed: whether it was open; nothing else changes
-abbrev pub TellsAbandoned : {S : Type 0} → ℕ → KeptState S → KeptState S → Answer → Type 0
+abbrev pub TellsAbandoned : {S : Type 0} → ℕ → StoredState S → StoredState S → Answer → Type 0
 TellsAbandoned session old new (answers.Abandoned was) =
     (was ≡ is_some (finite.get old.timed.open_sessions.expected session)) × (new ≡ record old { timed = after_end old.timed session })
 TellsAbandoned session old new (answers.Failed why) = Unit {0}
@@ -183,7 +166,7 @@ TellsAbandoned session old new _ = ⊥
 
 -- what is told of sessions that are to end by their age: those that are left began no earlier, and are as they were; nothing
 -- else changes
-abbrev pub TellsExpired : {S : Type 0} → ℕ → ℕ → KeptState S → KeptState S → Answer → Type 0
+abbrev pub TellsExpired : {S : Type 0} → ℕ → ℕ → StoredState S → StoredState S → Answer → Type 0
 TellsExpired age now old new (answers.Expired count) =
     (count + finite.len new.timed.open_sessions.expected ≡ finite.len old.timed.open_sessions.expected)
     × (new ≡ record old { timed = since (now - age) old.timed })
@@ -197,14 +180,14 @@ asked_rows None placed = rows_of placed
 asked_rows (Some user) placed = filter (λ c. bytes_eq c.user user) (rows_of placed)
 
 -- these are told
-abbrev pub TellsRows : {S : Type 0} → (S → View) → Option (List ℕ) → KeptState S → KeptState S → Answer → Type 0
+abbrev pub TellsRows : {S : Type 0} → (S → View) → Option (List ℕ) → StoredState S → StoredState S → Answer → Type 0
 TellsRows view user old new (answers.Rows rows known) = OfHeld view old new (λ placed. rows_view rows.items ≡ asked_rows user placed)
 TellsRows view user old new (answers.Error why) = why ≡ errors.Memory
 TellsRows view user old new (answers.Failed why) = Unit {0}
 TellsRows view user old new _ = ⊥
 
 -- how many credentials there are, and which number the next session has
-abbrev pub TellsStatus : {S : Type 0} → KeptState S → KeptState S → Answer → Type 0
+abbrev pub TellsStatus : {S : Type 0} → StoredState S → StoredState S → Answer → Type 0
 TellsStatus old new (answers.Status counts) =
     (counts.credentials ≡ old.count) × (counts.next_session ≡ old.timed.open_sessions.next)
 TellsStatus old new (answers.Failed why) = Unit {0}
@@ -217,7 +200,7 @@ TellsBackup act (answers.Failed why) = Unit {0}
 TellsBackup _ _ = ⊥
 
 -- what the answer to an act says
-abbrev pub Tells : {S : Type 0} → (S → View) → List ℕ → ℕ → Act → KeptState S → KeptState S → Answer → Type 0
+abbrev pub Tells : {S : Type 0} → (S → View) → List ℕ → ℕ → Act → StoredState S → StoredState S → Answer → Type 0
 Tells view words now (acts.BeginRegistration b) old new answer = TellsRegistrationBegun view b words now old new answer
 Tells view words now (acts.FinishRegistration f) old new answer = TellsRegistration view f old new answer
 Tells view words now (acts.BeginSignIn b) old new answer = TellsSignInBegun view b words now old new answer

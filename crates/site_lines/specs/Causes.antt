@@ -1,20 +1,19 @@
 -- Why an act is answered by a failure.
-use Rattle.std.specs.Prelude.{◌≡◌, ◌≤◌, ◌+◌, ◌-◌, ◌^◌, ℕ, List, Option, None, Some, length, map, option_map, string_bytes, ⊤}
+use Rattle.std.specs.Prelude.{◌≡◌, ◌≤◌, ◌+◌, ◌-◌, ◌^◌, ℕ, List, Option, length, map, option_map, ⊤}
 use Rattle.sqlite_trees.specs.View.{View, IsClean}
-use Rattle.authdata.specs.Responses.{assertion_response_view, registration_response_view}
+use Rattle.authdata.specs.Responses.{assertion_response_view}
+use Rattle.site_lines.specs.Named.{named_response}
 use Rattle.site_state.specs.Table.{retired}
-use Rattle.site_state.specs.Details.{told}
-use Rattle.credential_store.specs.Held.{Holds, Placed}
-use Rattle.kept_site.specs.State.{KeptState}
-use Rattle.kept_site.specs.Causes.{IsCaused, IsDamaged, RefusesChange, RefusesNumber, RefusesRegistered, RefusesSignedIn}
-use Rattle.kept_site.specs.declared.failure.Failure.{Failure}
-use Rattle.kept_site.specs.declared.failure.Failure.TheVariants as failures
+use Rattle.site_rows.specs.Held.{Holds, Placed}
+use Rattle.site_stored.specs.State.{StoredState}
+use Rattle.site_stored.specs.Causes.{IsCaused, IsDamaged, RefusesChange, RefusesNumber, RefusesRegistered, RefusesSignedIn}
+use Rattle.site_stored.specs.declared.failure.Failure.{Failure}
+use Rattle.site_stored.specs.declared.failure.Failure.TheVariants as failures
 use Rattle.site_acts.specs.declared.act.Act.{Act}
 use Rattle.site_acts.specs.declared.act.Act.TheVariants as acts
 use Rattle.site_acts.specs.declared.act.FinishRegistration.{FinishRegistration}
 use Rattle.site_lines.specs.Answers.{asked_rows}
-use Rattle.site_acts.specs.Joined.{joined}
-use Rattle.site_lines.specs.Details.{IsAaguid, IsAttestedAaguid, second}
+use Rattle.site_lines.specs.Details.{new_detail, second}
 use Rattle.site_lines.specs.declared.answer.Answer.{Answer}
 use Rattle.site_lines.specs.declared.answer.Answer.TheVariants as answers
 
@@ -25,29 +24,25 @@ IfFailed P _ = ⊤
 
 -- a failure has its cause between an old site and a new one: want of memory, a fault of the disk that the store counted in between, a row that
 -- no store takes, or damage
-abbrev pub IsCausedIn : {S : Type 0} → (S → View) → (S → ℕ) → KeptState S → KeptState S → Type 0 → Type 0 → Failure → Type 0
+abbrev pub IsCausedIn : {S : Type 0} → (S → View) → (S → ℕ) → StoredState S → StoredState S → Type 0 → Type 0 → Failure → Type 0
 IsCausedIn view faults old new refused damage why = IsCaused (view old.store) (faults old.store) (faults new.store) refused damage why
 
 -- so it is with an answer, where it is one
-abbrev pub FailsBy : {S : Type 0} → (S → View) → (S → ℕ) → KeptState S → KeptState S → Type 0 → Type 0 → Answer → Type 0
+abbrev pub FailsBy : {S : Type 0} → (S → View) → (S → ℕ) → StoredState S → StoredState S → Type 0 → Type 0 → Answer → Type 0
 FailsBy view faults old new refused damage answer = IsClean (view new.store) → IfFailed (IsCausedIn view faults old new refused damage) answer
 
 -- ---- rows that no store takes
 
 -- the row of the relying party, with the numbers that a session that begins may reserve
-abbrev pub RefusesBegin : {S : Type 0} → View → KeptState S → Type 0
+abbrev pub RefusesBegin : {S : Type 0} → View → StoredState S → Type 0
 RefusesBegin old s = RefusesNumber old.reals s.rp.rp_id (s.timed.open_sessions.next + 1000)
 
--- what is written of the credential that a line's response attests, and of its detail: this second, the transports that the line tells, and its
--- aaguid, or none where it attests none
-abbrev pub RefusesFinish : {S : Type 0} → View → KeptState S → ℕ → FinishRegistration → Type 0
-RefusesFinish old s now f =
-    let r = registration_response_view f.response in
-    (aaguid : Option (List ℕ)) × IsAaguid s.rp.profile r aaguid × IsAttestedAaguid s.rp.profile r aaguid
-    × RefusesRegistered old s f.session r (told (Some (second now)) None (joined (map string_bytes f.transports.items)) aaguid)
+-- what is written of the credential that a line's response attests, and of its detail
+abbrev pub RefusesFinish : {S : Type 0} → View → StoredState S → ℕ → FinishRegistration → Type 0
+RefusesFinish old s now f = RefusesRegistered old s f.session (named_response f) (new_detail now f)
 
 -- what an act may write
-abbrev pub RefusesAct : {S : Type 0} → View → KeptState S → ℕ → Act → Type 0
+abbrev pub RefusesAct : {S : Type 0} → View → StoredState S → ℕ → Act → Type 0
 RefusesAct old s now (acts.BeginRegistration b) = RefusesBegin old s
 RefusesAct old s now (acts.BeginSignIn b) = RefusesBegin old s
 RefusesAct old s now (acts.FinishRegistration f) = RefusesFinish old s now f
@@ -73,7 +68,7 @@ abbrev pub FailsShut : Answer → Type 0
 FailsShut answer = IfFailed (λ why. why ≡ failures.Shut) answer
 
 -- a failure of an act has its cause in it; one that asks nothing of the store fails only where the site was shut before
-abbrev pub FailsIn : {S : Type 0} → (S → View) → (S → ℕ) → ℕ → Act → KeptState S → KeptState S → Answer → Type 0
+abbrev pub FailsIn : {S : Type 0} → (S → View) → (S → ℕ) → ℕ → Act → StoredState S → StoredState S → Answer → Type 0
 FailsIn view faults now (acts.Abandon session) old new answer = FailsShut answer
 FailsIn view faults now (acts.Expire age) old new answer = FailsShut answer
 FailsIn view faults now acts.Status old new answer = FailsShut answer

@@ -1,3 +1,4 @@
+pub mod Named
 pub mod Answers
 pub mod Details
 pub mod Causes

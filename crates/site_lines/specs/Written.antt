@@ -1,29 +1,23 @@
 -- What the text of an answer says: a JSON object with the number of the line and what is answered, each member whole.
 use Rattle.std.specs.Prelude.{◌≡◌, ◌==◌, ◌++◌, ◌+◌, ℕ, ℤ, Bool, true, List, [], ◌∷◌, Option, Some, None, codes, decimal, if◌then◌else◌, length, map, option_and_then, option_map, string_bytes}
-use Rattle.json.specs.Lex.{tokens}
-use Rattle.json.specs.Print.{print}
-use Rattle.serde_json.specs.Data.{Data, Members, array, boolean, member, no_members, null, number, object, put, string, unsigned}
+use Rattle.json_lines.specs.Written.{base64url, natural, number_or_null}
+use Rattle.serde_json.specs.Data.{Data, Members, array, boolean, member, no_members, null, number, object, put, string}
 use Rattle.serde_json.specs.Find.{of_integer}
-use Rattle.serde_json.specs.Read.{read}
 use Rattle.serde_json.specs.View.{items_of}
 use Rattle.cose.specs.declared.key.CoseKey.{CoseKey}
 use Rattle.cose.specs.declared.key.CoseKey.TheVariants as keys
 use Rattle.cose.specs.Keys.{alg_of, number_of, x_of}
-use Rattle.authdata.specs.declared.profile.Profile.{Profile}
-use Rattle.authdata.specs.declared.response.AssertionResponse.{AssertionResponse}
-use Rattle.authdata.specs.declared.response.RegistrationResponse.{RegistrationResponse}
 use Rattle.authdata.specs.Flags.{is_set, BS, UV}
-use Rattle.authdata.specs.Layout.{AuthOf, AuthenticatorData}
-use Rattle.authdata.specs.Objects.{Attestation, ObjectOf}
 use Rattle.verification.specs.Numbers.{registration_number, sign_in_number}
 use Rattle.verification.specs.Records.{Credential}
-use Rattle.verification.specs.Registration.{counted}
 use Rattle.verification.specs.declared.signature.VerifiedSignature.{VerifiedSignature}
 use Rattle.site_state.specs.RowViews.{row_view}
 use Rattle.site_state.specs.declared.row.Row.{Row}
 use Rattle.site_state.specs.Details.{detail_view}
-use Rattle.kept_site.specs.declared.finish.SignedIn.{SignedIn}
-use Rattle.site_acts.specs.Options.{base64url, creation_options, request_options}
+use Rattle.site_stored.specs.declared.finish.SignedIn.{SignedIn}
+use Rattle.site_stored.specs.declared.registration.Registered.{Registered}
+use Rattle.site_stored.specs.declared.summary.Summary.{Summary}
+use Rattle.site_acts.specs.Options.{creation_options, request_options}
 use Rattle.site_lines.specs.declared.answer.Answer.{Answer}
 use Rattle.site_lines.specs.declared.answer.Answer.TheVariants as answers
 use Rattle.site_lines.specs.declared.answer.Counts.{Counts}
@@ -49,9 +43,6 @@ bytes_or_null (Some bs) = base64url bs
 abbrev pub aaguid_or_null : Option (List ℕ) → Data
 aaguid_or_null None = null
 aaguid_or_null (Some bs) = if length bs == 16 then base64url bs else null
-
-abbrev pub natural : ℕ → Data
-natural n = number (unsigned n)
 
 -- ---- credentials
 
@@ -92,32 +83,30 @@ whole_rows (row ∷ rows) (k ∷ ks) = whole_row row k ∷ whole_rows rows ks
 
 -- ---- acceptances
 
--- what authenticator data say, whole (WebAuthn Level 3, section 6.1)
-abbrev pub data_members : AuthenticatorData → Members → Members
-data_members a ms =
-    put (codes "extensions") (bytes_or_null a.extensions) (put (codes "flags") (natural a.flags) (put (codes "user_verified") (boolean (is_set a.flags UV)) ms))
+-- what authenticator data say (WebAuthn Level 3, section 6.1)
+abbrev pub data_members : Summary → Members → Members
+data_members s ms =
+    put (codes "extensions") (bytes_or_null (option_map (λ e. e.items) s.extensions))
+    (put (codes "flags") (natural s.flags) (put (codes "user_verified") (boolean (is_set s.flags UV)) ms))
 
 -- and those of a registration, with the format of what counts as their object
-abbrev pub attested_members : AuthenticatorData → List ℕ → Members → Members
-attested_members a format ms =
-    data_members a (put (codes "backed_up") (boolean (is_set a.flags BS)) (put (codes "format") (string format)
-    (put (codes "aaguid") (bytes_or_null (option_map (λ c. c.aaguid) a.attested)) ms)))
+abbrev pub attested_members : Registered → Members → Members
+attested_members x ms =
+    data_members x.summary (put (codes "backed_up") (boolean (is_set x.summary.flags BS)) (put (codes "format") (string (string_bytes x.format))
+    (put (codes "aaguid") (base64url x.aaguid) ms)))
 
--- a credential that was registered: its row, and what its response says; the format is that of what counts as the attestation
--- object, by whether an attestation was asked for
-abbrev pub IsRegistered : Profile → Bool → Row → RegistrationResponse → Data → Type 0
-IsRegistered profile asked row r d =
-    (o : Attestation) (a : AuthenticatorData) → ObjectOf o r.object.items → AuthOf profile a o.auth_data
-    → d ≡ object (attested_members a (counted profile asked o).fmt (row_members (row_view row) no_members))
+-- a credential that was registered: its row, and what its response says
+abbrev pub registered : Registered → Data
+registered x = object (attested_members x (row_members (row_view x.credential) no_members))
 
 abbrev pub who_members : SignedIn → Members
 who_members x =
-    put (codes "backed_up") (boolean x.backed_up) (put (codes "user") (base64url x.user.items) (put (codes "credential") (base64url x.credential.items) no_members))
+    put (codes "backed_up") (boolean (is_set x.summary.flags BS))
+    (put (codes "user") (base64url x.user.items) (put (codes "credential") (base64url x.credential.items) no_members))
 
 -- who signed in, and what the response says
-abbrev pub IsSignedIn : Profile → SignedIn → AssertionResponse → Data → Type 0
-IsSignedIn profile x r d =
-    (a : AuthenticatorData) → AuthOf profile a r.auth_data.items → d ≡ object (data_members a (put (codes "sign_count") (natural a.sign_count) (who_members x)))
+abbrev pub signed_in : SignedIn → Data
+signed_in x = object (data_members x.summary (put (codes "sign_count") (natural x.summary.sign_count) (who_members x)))
 
 -- ---- other answers
 
@@ -147,7 +136,8 @@ by_step letter counts = object (counts_from letter 0 counts no_members)
 -- how the site is, and what has been counted since the start
 abbrev pub status : List ℕ → Tally → Counts → Data
 status version t counts =
-    object (put (codes "registrations_refused") (by_step (codes "G") t.registration_refusals)
+    object (put (codes "lost_log_lines") (natural t.lost_log_lines)
+    (put (codes "registrations_refused") (by_step (codes "G") t.registration_refusals)
     (put (codes "sign_ins_refused") (by_step (codes "W") t.sign_in_refusals)
     (put (codes "registrations") (natural t.registrations)
     (put (codes "sign_ins") (natural t.sign_ins)
@@ -156,46 +146,41 @@ status version t counts =
     (put (codes "next_session") (natural counts.next_session)
     (put (codes "sessions") (natural counts.sessions)
     (put (codes "credentials") (natural counts.credentials)
-    (put (codes "version") (string version) no_members))))))))))
+    (put (codes "version") (string version) no_members)))))))))))
 
 -- ---- lines out
 
--- the number of the line; null where it has none
-abbrev pub line_number : Option ℕ → Data
-line_number None = null
-line_number (Some id) = natural id
-
 -- an answer of one member beside the number
 abbrev pub answered : Option ℕ → List ℕ → Data → Data
-answered id name d = object (put name d (member (codes "id") (line_number id) no_members))
+answered id name d = object (put name d (member (codes "id") (number_or_null id) no_members))
+
+-- one that is committed, with what tells copies that lack the commit from the file
+abbrev pub committed : Option ℕ → List ℕ → Data → ℕ → Data
+committed id name d known = object (put (codes "known") (natural known) (put name d (member (codes "id") (number_or_null id) no_members)))
 
 -- a session that has begun, and the options for the page
 abbrev pub begun : Option ℕ → ℕ → Data → Data
 begun id session options =
-    object (member (codes "id") (line_number id) (member (codes "options") options (member (codes "session") (natural session) no_members)))
+    object (member (codes "id") (number_or_null id) (member (codes "options") options (member (codes "session") (natural session) no_members)))
 
 -- what is written of an answer; of a text that says why, some text
 abbrev pub Writes : Teller → Option ℕ → Answer → Data → Type 0
 Writes t id (answers.RegistrationBegun started b known) d =
     d ≡ begun id started.session (creation_options t.party.now.rp_id t.rp_name.now started.challenge b known.items)
 Writes t id (answers.SignInBegun started b known) d = d ≡ begun id started.session (request_options t.party.now.rp_id started.challenge b known.items)
-Writes t id (answers.Registered x r asked) d = (row : Data) × (d ≡ answered id (codes "accepted") row) × IsRegistered t.party.now.profile asked x.credential r row
-Writes t id (answers.SignedIn x r) d = (who : Data) × (d ≡ answered id (codes "accepted") who) × IsSignedIn t.party.now.profile x r who
+Writes t id (answers.Registered x) d = d ≡ committed id (codes "accepted") (registered x) t.known
+Writes t id (answers.SignedIn x) d = d ≡ committed id (codes "accepted") (signed_in x) t.known
 Writes t id (answers.Verify asked) d = d ≡ answered id (codes "verify") (to_verify asked)
 Writes t id (answers.RegistrationRefused why credential) d = (text : List ℕ) × (d ≡ answered id (codes "refused") (step (codes "G") (registration_number why) text))
-Writes t id (answers.OtherCredential credential) d = (text : List ℕ) × (d ≡ answered id (codes "refused") (step (codes "G") 19 text))
 Writes t id (answers.SignInRefused why credential) d = (text : List ℕ) × (d ≡ answered id (codes "refused") (step (codes "W") (sign_in_number why) text))
-Writes t id (answers.Retired was) d = d ≡ answered id (codes "retired") (boolean was)
-Writes t id (answers.Deleted was) d = d ≡ answered id (codes "deleted") (boolean was)
+Writes t id (answers.Retired was) d = d ≡ committed id (codes "retired") (boolean was) t.known
+Writes t id (answers.Deleted was) d = d ≡ committed id (codes "deleted") (boolean was) t.known
 Writes t id (answers.Abandoned was) d = d ≡ answered id (codes "abandoned") (boolean was)
 Writes t id (answers.Expired count) d = d ≡ answered id (codes "expired") (natural count)
 Writes t id (answers.Rows rows known) d = d ≡ answered id (codes "rows") (array (items_of (whole_rows rows.items known.items)))
-Writes t id (answers.Status counts) d = d ≡ answered id (codes "status") (status t.version.now t.tally.now counts)
+Writes t id (answers.Status counts) d = d ≡ committed id (codes "status") (status t.version.now t.tally.now counts) t.known
 Writes t id (answers.Backup path) d = d ≡ answered id (codes "backup") (boolean true)
 Writes t id (answers.NotBackedUp why) d = d ≡ answered id (codes "error") (string (string_bytes why))
+Writes t id (answers.NotBegun why) d = (text : List ℕ) × (d ≡ answered id (codes "error") (string text))
 Writes t id (answers.Error why) d = (text : List ℕ) × (d ≡ answered id (codes "error") (string text))
 Writes t id (answers.Failed why) d = (text : List ℕ) × (d ≡ answered id (codes "failed") (string text))
-
--- a text is this value's, with no space
-abbrev pub IsTextOf : Data → List ℕ → Type 0
-IsTextOf d text = (read text ≡ Some d) × (print (tokens text) ≡ text)

@@ -8,21 +8,22 @@ ghost use Rattle.site_lines.specs.Answers.{Keeps, Tells, TellsAbandoned, TellsDe
 ghost use Rattle.site_lines.specs.Details.{AreKnown, ForgetsDetail, TellsDetails, TellsRowDetails};
 ghost use Rattle.site_lines.specs.Causes.{AreTooMany, FailsBy, FailsIn, FailsShut, IsCausedIn};
 ghost use Rattle.site_lines.specs.Private.{IfUnknown, IsUnknown, IsWithKnown, unknown as unknown_of};
-ghost use Rattle.kept_site.specs.Calls.{IsSame};
-ghost use Rattle.kept_site.specs.Causes.{IsDamaged, RefusesChange};
+ghost use Rattle.site_stored.specs.Calls.{IsSame};
+ghost use Rattle.site_stored.specs.Causes.{IsDamaged, RefusesChange};
 
 use crate::answer::{Answer, Counts};
 use crate::beginning::{begin_registration, begin_sign_in};
 use crate::finishing::{finish_registration, finish_sign_in};
 use crate::knowing::{Unknown, all_known};
-use kept_site::{Failure, KeptSite};
-use site_acts::{Act, Known, LineError};
+use json_lines::LineError;
+use site_acts::{Act, Known};
 use site_state::Row;
+use site_stored::{Failure, StoredSite};
 use sqlite_trees::store::Store;
 use std::alloc::{AllocError, Global};
 
 /// Retires the credential of an id.
-fn retire<S: Store>(site: &mut KeptSite<S>, credential: &[u8]) -> Answer
+fn retire<S: Store>(site: &mut StoredSite<S>, credential: &[u8]) -> Answer
     ensures told { TellsRetired S.Store.view credential.now site.old site.new result }
     ensures kept { Keeps S.Store.view site.old site.new result }
     ensures cause { FailsBy S.Store.view S.Store.faults site.old site.new (RefusesChange (S.Store.view site.old.store) credential.now table.retired) (IsDamaged (S.Store.view site.old.store).trees) result }
@@ -36,7 +37,7 @@ fn retire<S: Store>(site: &mut KeptSite<S>, credential: &[u8]) -> Answer
 }
 
 /// Deletes the credential of an id.
-fn delete<S: Store>(site: &mut KeptSite<S>, credential: &[u8]) -> Answer
+fn delete<S: Store>(site: &mut StoredSite<S>, credential: &[u8]) -> Answer
     ensures told { TellsDeleted S.Store.view credential.now site.old site.new result }
     ensures details { ForgetsDetail S.Store.view credential.now site.old site.new result }
     ensures kept { Keeps S.Store.view site.old site.new result }
@@ -51,7 +52,7 @@ fn delete<S: Store>(site: &mut KeptSite<S>, credential: &[u8]) -> Answer
 }
 
 /// Closes the session of a number.
-fn abandon<S: Store>(site: &mut KeptSite<S>, session: u64) -> Answer
+fn abandon<S: Store>(site: &mut StoredSite<S>, session: u64) -> Answer
     ensures told { TellsAbandoned session site.old site.new result }
     ensures kept { Keeps S.Store.view site.old site.new result }
     ensures cause { FailsShut result }
@@ -62,7 +63,7 @@ fn abandon<S: Store>(site: &mut KeptSite<S>, session: u64) -> Answer
 }
 
 /// Ends the sessions that began more than this many seconds ago.
-fn expire<S: Store>(site: &mut KeptSite<S>, now: u64, age: u64) -> Answer
+fn expire<S: Store>(site: &mut StoredSite<S>, now: u64, age: u64) -> Answer
     ensures told { TellsExpired age now site.old site.new result }
     ensures kept { Keeps S.Store.view site.old site.new result }
     ensures cause { FailsShut result }
@@ -89,7 +90,7 @@ fn ids_of<'a>(alloc: Global, rows: &'a [Row]) -> Result<Vec<&'a [u8]>, AllocErro
 /// What is known of the credentials of rows.
 fn known_of<S: Store>(
     alloc: Global,
-    site: &mut KeptSite<S>,
+    site: &mut StoredSite<S>,
     rows: &[Row],
 ) -> Result<Vec<Known>, Unknown>
     requires live { site.old.is_shut ≡ false }
@@ -116,7 +117,7 @@ fn unknown(why: Unknown) -> Answer
 }
 
 /// Rows, with what is known of each.
-fn with_known<S: Store>(alloc: Global, site: &mut KeptSite<S>, rows: Vec<Row>) -> Answer
+fn with_known<S: Store>(alloc: Global, site: &mut StoredSite<S>, rows: Vec<Row>) -> Answer
     requires live { site.old.is_shut ≡ false }
     ensures told { IsWithKnown S.Store.view rows site.old site.new result }
     ensures clean { IsClean (S.Store.view site.new.store) → IsClean (S.Store.view site.old.store) }
@@ -131,7 +132,7 @@ fn with_known<S: Store>(alloc: Global, site: &mut KeptSite<S>, rows: Vec<Row>) -
 }
 
 /// The credentials of a user.
-fn rows_of<S: Store>(alloc: Global, site: &mut KeptSite<S>, user: &[u8]) -> Answer
+fn rows_of<S: Store>(alloc: Global, site: &mut StoredSite<S>, user: &[u8]) -> Answer
     requires live { site.old.is_shut ≡ false }
     ensures details { TellsRowDetails S.Store.view site.old site.new result }
     ensures told { TellsRows S.Store.view (Some user.now) site.old site.new result }
@@ -147,7 +148,7 @@ fn rows_of<S: Store>(alloc: Global, site: &mut KeptSite<S>, user: &[u8]) -> Answ
 }
 
 /// All credentials.
-fn all_rows<S: Store>(alloc: Global, site: &mut KeptSite<S>) -> Answer
+fn all_rows<S: Store>(alloc: Global, site: &mut StoredSite<S>) -> Answer
     requires live { site.old.is_shut ≡ false }
     ensures details { TellsRowDetails S.Store.view site.old site.new result }
     ensures told { TellsRows S.Store.view None site.old site.new result }
@@ -163,7 +164,7 @@ fn all_rows<S: Store>(alloc: Global, site: &mut KeptSite<S>) -> Answer
 }
 
 /// The credentials of a user, or all.
-fn rows<S: Store>(alloc: Global, site: &mut KeptSite<S>, user: Option<&[u8]>) -> Answer
+fn rows<S: Store>(alloc: Global, site: &mut StoredSite<S>, user: Option<&[u8]>) -> Answer
     requires live { site.old.is_shut ≡ false }
     ensures details { TellsRowDetails S.Store.view site.old site.new result }
     ensures told { TellsRows S.Store.view (option_map (λ u. u.now) user.entry) site.old site.new result }
@@ -179,7 +180,7 @@ fn rows<S: Store>(alloc: Global, site: &mut KeptSite<S>, user: Option<&[u8]>) ->
 }
 
 /// How many there are.
-fn status<S: Store>(site: &KeptSite<S>) -> Answer
+fn status<S: Store>(site: &StoredSite<S>) -> Answer
     ensures told { TellsStatus site.now site.now result }
     ensures kept { Keeps S.Store.view site.now site.now result }
     ensures cause { FailsShut result }
@@ -195,7 +196,7 @@ fn status<S: Store>(site: &KeptSite<S>) -> Answer
 #[tactic(auto, using(crate::proofs::Detailed::fails, crate::proofs::Caused::shut_fails))]
 pub fn carry_out<S: Store>(
     alloc: Global,
-    site: &mut KeptSite<S>,
+    site: &mut StoredSite<S>,
     words: [u8; 24],
     now: u64,
     act: Act,

@@ -1,9 +1,9 @@
 //! What a line is answered.
 
-use authdata::{AssertionResponse, RegistrationResponse};
-use kept_site::{Failure, Registered, SignedIn};
-use site_acts::{BeginRegistration, BeginSignIn, Known, LineError};
-use site_state::{Row, Started};
+use json_lines::LineError;
+use site_acts::{BeginRegistration, BeginSignIn, Known};
+use site_state::{BeginError, Row, Started};
+use site_stored::{Failure, Registered, SignedIn};
 use verification::{RegistrationRefusal, SignInRefusal, VerifiedSignature};
 
 /// How many there are.
@@ -17,6 +17,17 @@ pub struct Counts {
     pub next_session: u64,
 }
 
+/// Why no session begins. Nothing has changed.
+#[derive(Clone, Copy, Debug, Drop, thiserror::Error)]
+pub enum NotBegun {
+    /// The site begins no such session.
+    #[error("{0}")]
+    Refused(BeginError),
+    /// The next session's number fits no column.
+    #[error("there is no number for another session")]
+    NoNumber,
+}
+
 /// What a line is answered.
 #[derive(Debug, Drop)]
 pub enum Answer {
@@ -24,16 +35,14 @@ pub enum Answer {
     RegistrationBegun(Started, BeginRegistration, Vec<Known>),
     /// A sign-in has begun, what it was asked for, and what is known of the credentials that may answer.
     SignInBegun(Started, BeginSignIn, Vec<Known>),
-    /// A credential is registered, by this response, and whether its session asked for an attestation.
-    Registered(Registered, RegistrationResponse, bool),
-    /// A user signed in, by this response.
-    SignedIn(SignedIn, AssertionResponse),
+    /// A credential is registered.
+    Registered(Registered),
+    /// A user signed in.
+    SignedIn(SignedIn),
     /// The host is to verify a signature, and to ask again. Nothing has changed.
     Verify(VerifiedSignature),
     /// The first step that a registration does not pass, and the credential id that the client names. Nothing has changed.
     RegistrationRefused(RegistrationRefusal, Vec<u8>),
-    /// A registration's response attests a credential of another id than the client names, which is this. Nothing has changed.
-    OtherCredential(Vec<u8>),
     /// The first step that a sign-in does not pass, and the credential id. Nothing has changed.
     SignInRefused(SignInRefusal, Vec<u8>),
     /// Whether the credential is retired only now.
@@ -52,6 +61,8 @@ pub enum Answer {
     Backup(String),
     /// Why the site's file was not copied.
     NotBackedUp(String),
+    /// No session begins. Nothing has changed.
+    NotBegun(NotBegun),
     /// The line is refused. Nothing has changed.
     Error(LineError),
     /// The disk or memory failed, now or earlier. The site is shut.

@@ -3,19 +3,19 @@
 ghost use Rattle.std.specs.Prelude.{◌≡◌, ◌≤◌, IfErr, IfOk, OnOk, false, map};
 ghost use Rattle.sqlite_trees.specs.Tree.{Trees};
 ghost use Rattle.sqlite_trees.specs.View.{IsClean};
-ghost use Rattle.kept_site.specs.Calls.{IsSame};
-ghost use Rattle.kept_site.specs.Causes.{IfBeginStore, IsDamaged};
+ghost use Rattle.site_stored.specs.Calls.{IsSame};
+ghost use Rattle.site_stored.specs.Causes.{IfBeginStore, IsDamaged};
 ghost use Rattle.site_state.specs.Sessions.{Opening};
 ghost use Rattle.site_lines.specs.Answers.{Begins, Keeps, TellsRegistrationBegun, TellsSignInBegun, opens_registration, opens_sign_in};
 ghost use Rattle.site_lines.specs.Causes.{FailsBy, IsCausedIn, RefusesBegin};
 ghost use Rattle.site_lines.specs.Details.{AreKnown, TellsAllowed, TellsExcluded};
 ghost use Rattle.site_lines.specs.Private.{BeginsNone, IsNotBegunAfter, not_begun as not_begun_of};
 
-use crate::answer::Answer;
+use crate::answer::{Answer, NotBegun};
 use crate::knowing::{Unknown, all_known};
-use kept_site::{BeginFailure, KeptSite};
-use site_acts::{BeginRegistration, BeginSignIn, Known, LineError};
+use site_acts::{BeginRegistration, BeginSignIn, Known};
 use site_state::{BeginError, Started};
+use site_stored::{BeginFailure, StoredSite};
 use sqlite_trees::store::Store;
 use std::alloc::{AllocError, Global};
 
@@ -40,7 +40,7 @@ fn lent<'a>(alloc: Global, ids: &'a [Vec<u8>]) -> Result<Vec<&'a [u8]>, AllocErr
 /// What is known of the credentials that are named.
 fn named<S: Store>(
     alloc: Global,
-    site: &mut KeptSite<S>,
+    site: &mut StoredSite<S>,
     ids: &[Vec<u8>],
 ) -> Result<Vec<Known>, BeginFailure>
     requires live { site.old.is_shut ≡ false }
@@ -65,7 +65,7 @@ fn named<S: Store>(
 /// Begins a sign-in.
 fn started_sign_in<S: Store>(
     alloc: Global,
-    site: &mut KeptSite<S>,
+    site: &mut StoredSite<S>,
     words: [u8; 24],
     now: u64,
     begin: &BeginSignIn,
@@ -95,8 +95,8 @@ fn not_begun(why: BeginFailure) -> Answer
     ensures { result ≡ not_begun_of why }
 {
     match why {
-        BeginFailure::Site(why) => Answer::Error(LineError::NotBegun(why)),
-        BeginFailure::NoNumber => Answer::Error(LineError::NoNumber),
+        BeginFailure::Site(why) => Answer::NotBegun(NotBegun::Refused(why)),
+        BeginFailure::NoNumber => Answer::NotBegun(NotBegun::NoNumber),
         BeginFailure::Store(why) => Answer::Failed(why),
     }
 }
@@ -105,7 +105,7 @@ fn not_begun(why: BeginFailure) -> Answer
 #[tactic(auto, using(crate::proofs::Detailed::begins_after, crate::proofs::Detailed::not_begun_after, crate::proofs::Detailed::of_details_then))]
 fn known_sign_in<S: Store>(
     alloc: Global,
-    site: &mut KeptSite<S>,
+    site: &mut StoredSite<S>,
     words: [u8; 24],
     now: u64,
     begin: &BeginSignIn,
@@ -133,7 +133,7 @@ fn known_sign_in<S: Store>(
 #[tactic(auto, using(crate::proofs::Detailed::sign_in_after, crate::proofs::Detailed::keeps_after))]
 pub(crate) fn begin_sign_in<S: Store>(
     alloc: Global,
-    site: &mut KeptSite<S>,
+    site: &mut StoredSite<S>,
     words: [u8; 24],
     now: u64,
     begin: BeginSignIn,
@@ -154,7 +154,7 @@ pub(crate) fn begin_sign_in<S: Store>(
 
 /// Begins a registration.
 fn started_registration<S: Store>(
-    site: &mut KeptSite<S>,
+    site: &mut StoredSite<S>,
     words: [u8; 24],
     now: u64,
     begin: &BeginRegistration,
@@ -181,7 +181,7 @@ fn started_registration<S: Store>(
 #[tactic(auto, using(crate::proofs::Detailed::begins_after, crate::proofs::Detailed::not_begun_after, crate::proofs::Detailed::of_details_then))]
 fn known_registration<S: Store>(
     alloc: Global,
-    site: &mut KeptSite<S>,
+    site: &mut StoredSite<S>,
     words: [u8; 24],
     now: u64,
     begin: &BeginRegistration,
@@ -209,7 +209,7 @@ fn known_registration<S: Store>(
 #[tactic(auto, using(crate::proofs::Detailed::registration_after, crate::proofs::Detailed::keeps_after))]
 pub(crate) fn begin_registration<S: Store>(
     alloc: Global,
-    site: &mut KeptSite<S>,
+    site: &mut StoredSite<S>,
     words: [u8; 24],
     now: u64,
     begin: BeginRegistration,

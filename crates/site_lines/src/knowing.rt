@@ -4,20 +4,17 @@ ghost use Rattle.std.specs.Prelude.{◌≡◌, ◌≤◌, ◌++◌, ◌∷◌, [
 ghost use Rattle.std.specs.List.{AllByRecursion};
 ghost use Rattle.sqlite_trees.specs.Tree.{Trees};
 ghost use Rattle.sqlite_trees.specs.View.{IsClean};
-ghost use Rattle.authdata.specs.Responses.{registration_response_view};
-ghost use Rattle.site_state.specs.Details.{detail_view, told};
-ghost use Rattle.kept_site.specs.Calls.{IsSame};
-ghost use Rattle.kept_site.specs.Causes.{IsDamaged};
+ghost use Rattle.site_state.specs.Details.{detail_view};
+ghost use Rattle.site_stored.specs.Calls.{IsSame};
+ghost use Rattle.site_stored.specs.Causes.{IsDamaged};
 ghost use Rattle.site_lines.specs.Causes.{IsCausedIn};
-ghost use Rattle.site_acts.specs.Joined.{joined as joined_of};
-ghost use Rattle.site_lines.specs.Details.{AreTransports, IsAaguid, IsAttestedAaguid, IsKnown, OfDetails, second as second_of};
-ghost use Rattle.site_lines.specs.Private.{IfUnknown, IsAaguidOf, IsAttestedIn, IsUnknown};
+ghost use Rattle.site_lines.specs.Details.{AreTransports, IsKnown, OfDetails, new_detail, second as second_of};
+ghost use Rattle.site_lines.specs.Private.{IfUnknown, IsUnknown};
 ghost use Rattle.site_lines.specs.declared.knowing.Unknown.TheVariants as unknowns;
 
-use authdata::{AttestationObject, Profile, RegistrationResponse, read_view};
-use kept_site::{Failure, KeptSite};
-use site_acts::{Known, joined, separate};
+use site_acts::{FinishRegistration, Known, joined, separate};
 use site_state::Detail;
+use site_stored::{Failure, StoredSite};
 use sqlite_trees::store::Store;
 use std::alloc::{AllocError, Global};
 
@@ -65,7 +62,7 @@ fn transports_in(alloc: Global, detail: &Option<Detail>) -> Result<Vec<String>, 
 
 /// What is known of the credential of an id.
 #[tactic(auto, using(crate::proofs::Kept::same_site))]
-fn known<S: Store>(alloc: Global, site: &mut KeptSite<S>, id: &[u8]) -> Result<Known, Unknown>
+fn known<S: Store>(alloc: Global, site: &mut StoredSite<S>, id: &[u8]) -> Result<Known, Unknown>
     requires live { site.old.is_shut ≡ false }
     ensures id { IfOk result (λ k. k.id.items ≡ id.now) }
     ensures known { IfOk result (λ k. OfDetails S.Store.view site.old site.new (λ placed details. IsKnown placed details k)) }
@@ -98,7 +95,7 @@ fn add(list: &mut Vec<Known>, known: Known) -> Result<(), AllocError>
 #[tactic(auto, using(crate::proofs::Detailed::live_on, crate::proofs::Detailed::unknown_after, crate::proofs::Kept::same_then, crate::proofs::Kept::same_site))]
 pub(crate) fn all_known<S: Store>(
     alloc: Global,
-    site: &mut KeptSite<S>,
+    site: &mut StoredSite<S>,
     ids: &[&[u8]],
 ) -> Result<Vec<Known>, Unknown>
     requires live { site.old.is_shut ≡ false }
@@ -119,51 +116,18 @@ pub(crate) fn all_known<S: Store>(
     Ok(list)
 }
 
-/// The aaguid in authenticator data.
-fn aaguid_of(alloc: Global, profile: Profile, bytes: &[u8]) -> Result<Option<Vec<u8>>, AllocError>
-    ensures { IfOk result (λ found. IsAaguidOf profile bytes.now (option_map (λ a. a.items) found) × IsAttestedIn profile bytes.now (option_map (λ a. a.items) found)) }
-{
-    let Ok(data) = read_view(profile, bytes) else {
-        return Ok(None);
-    };
-    match &data.attested {
-        Some(attested) => Ok(Some(Vec::from_slice(alloc, &attested.aaguid)?)),
-        None => Ok(None),
-    }
-}
-
-/// The aaguid of the credential that a response attests; none where it attests none.
-fn aaguid_in(
-    alloc: Global,
-    profile: Profile,
-    response: &RegistrationResponse,
-) -> Result<Option<Vec<u8>>, AllocError>
-    ensures { IfOk result (λ found. IsAaguid profile (registration_response_view response.now) (option_map (λ a. a.items) found)
-        × IsAttestedAaguid profile (registration_response_view response.now) (option_map (λ a. a.items) found)) }
-{
-    match AttestationObject::read(alloc, response.object.as_slice()) {
-        Ok(object) => aaguid_of(alloc, profile, object.auth_data.as_slice()),
-        Err(authdata::Error::Memory) => Err(AllocError),
-        Err(_) => Ok(None),
-    }
-}
-
-/// The detail of a credential that is registered by a response.
+/// The detail of a credential that a line registers, but for the aaguid.
 pub(crate) fn detail_of(
     alloc: Global,
-    profile: Profile,
     now: u64,
-    transports: &[String],
-    response: &RegistrationResponse,
+    finish: &FinishRegistration,
 ) -> Result<Detail, AllocError>
-    ensures { IfOk result (λ d. (aaguid : Option (List ℕ)) × IsAaguid profile (registration_response_view response.now) aaguid
-        × (detail_view d ≡ told (Some (second_of now)) None (joined_of (map string_bytes transports.now)) aaguid)
-        × IsAttestedAaguid profile (registration_response_view response.now) aaguid) }
+    ensures { IfOk result (λ d. detail_view d ≡ new_detail now finish.now) }
 {
     Ok(Detail {
         created_at: Some(second(now)),
         used_at: None,
-        transports: joined(alloc, transports)?,
-        aaguid: aaguid_in(alloc, profile, response)?,
+        transports: joined(alloc, finish.transports.as_slice())?,
+        aaguid: None,
     })
 }

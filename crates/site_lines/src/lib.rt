@@ -8,13 +8,12 @@ mod finishing;
 mod knowing;
 mod line;
 mod log;
-mod naming;
 mod tally;
 mod values;
 mod writing;
 
 pub use acting::carry_out;
-pub use answer::{Answer, Counts};
+pub use answer::{Answer, Counts, NotBegun};
 pub use line::{Answered, Arrived, answer_lines};
 pub use log::{Logged, log_line};
 pub use tally::Tally;

@@ -2,7 +2,7 @@
 
 ghost use Rattle.std.specs.Prelude.{◌≡◌, ◌≤◌, ◌⊎◌, IfErr, IfOk, OnErr, OnOk, Some, map, true};
 ghost use Rattle.sqlite_trees.specs.Tree.{Trees};
-ghost use Rattle.kept_site.specs.State.{committed_as};
+ghost use Rattle.site_stored.specs.State.{committed_as};
 ghost use Rattle.site_lines.specs.declared.answer.Answer.TheVariants as answers;
 ghost use Rattle.site_lines.specs.Answers.{Keeps, Tells};
 ghost use Rattle.site_lines.specs.Details.{TellsDetails};
@@ -12,8 +12,9 @@ ghost use Rattle.site_lines.specs.Batches.{Answers, IsAnswered, IsCommitted, IsN
 use crate::acting::carry_out;
 use crate::answer::Answer;
 use crate::tally::Tally;
-use kept_site::{Failure, KeptSite};
-use site_acts::{Act, Line, LineFault, read_line};
+use json_lines::LineFault;
+use site_acts::{Act, Line, read_line};
+use site_stored::{Failure, StoredSite};
 use sqlite_trees::store::Store;
 use std::alloc::{AllocError, Global};
 use std::io;
@@ -61,7 +62,7 @@ fn session_of(named: Option<u64>, answer: &Answer) -> Option<u64> {
 /// Carries out what a line that was read asks for.
 fn carried_out<S: Store>(
     alloc: Global,
-    site: &mut KeptSite<S>,
+    site: &mut StoredSite<S>,
     words: [u8; 24],
     now: u64,
     line: Line,
@@ -98,7 +99,7 @@ fn refused(fault: LineFault) -> Answered
 /// Carries out what a line asks for, or tells why it is not read.
 fn answer_one<S: Store>(
     alloc: Global,
-    site: &mut KeptSite<S>,
+    site: &mut StoredSite<S>,
     now: u64,
     arrived: &Arrived,
 ) -> Answered
@@ -116,7 +117,7 @@ fn answer_one<S: Store>(
 /// Carries out each line, in order.
 fn carry_all<S: Store>(
     alloc: Global,
-    site: &mut KeptSite<S>,
+    site: &mut StoredSite<S>,
     now: u64,
     arrived: &[Arrived],
 ) -> Result<Vec<Answered>, AllocError>
@@ -161,7 +162,7 @@ fn since(clock: &impl Clock, began: io::Result<Instant>) -> u64 {
 /// Commits what the lines have done, and counts it where something was written.
 fn commit<S: Store>(
     clock: &impl Clock,
-    site: &mut KeptSite<S>,
+    site: &mut StoredSite<S>,
     tally: &mut Tally,
 ) -> Result<(), Failure>
     ensures committed { OnOk result (IsCommitted S.Store.view S.Store.recovers site.old site.new) }
@@ -188,7 +189,7 @@ fn commit<S: Store>(
 pub fn answer_lines<S: Store>(
     alloc: Global,
     clock: &impl Clock,
-    site: &mut KeptSite<S>,
+    site: &mut StoredSite<S>,
     tally: &mut Tally,
     now: u64,
     arrived: &[Arrived],

@@ -2,9 +2,7 @@
 
 use crate::answer::Answer;
 use crate::line::Answered;
-use crate::naming::{OTHER_CREDENTIAL, OTHER_CREDENTIAL_TEXT};
 use base64::engine::general_purpose::URL_SAFE_NO_PAD;
-use site_acts::LineError;
 use std::alloc::{AllocError, Global};
 use std::fmt::Write;
 
@@ -53,23 +51,19 @@ fn verdict(alloc: Global, answer: &Answer, out: &mut String) -> Result<(), Alloc
             credential(alloc, id.as_slice(), out)?;
             writeln!(out, ": {step}")
         }
-        Answer::OtherCredential(id) => {
-            write!(out, " registration refused G{OTHER_CREDENTIAL}")?;
-            credential(alloc, id.as_slice(), out)?;
-            writeln!(out, ": {OTHER_CREDENTIAL_TEXT}")
-        }
-        Answer::SignedIn(who, _) => {
+        Answer::SignedIn(who) => {
             write!(out, " sign-in accepted")?;
             credential(alloc, who.credential.as_slice(), out)?;
             writeln!(out)
         }
-        Answer::Registered(registered, ..) => {
+        Answer::Registered(registered) => {
             write!(out, " registration accepted")?;
             credential(alloc, registered.credential.id.as_slice(), out)?;
             writeln!(out)
         }
         Answer::Failed(failure) => writeln!(out, " failed: {failure}"),
         Answer::NotBackedUp(why) => writeln!(out, " error: {why}"),
+        Answer::NotBegun(why) => writeln!(out, " error: {why}"),
         Answer::Error(error) => writeln!(out, " error: {error}"),
         _ => writeln!(out),
     }
@@ -78,12 +72,8 @@ fn verdict(alloc: Global, answer: &Answer, out: &mut String) -> Result<(), Alloc
 /// Whether an answer is logged.
 fn is_logged(which: Logged, answer: &Answer) -> bool {
     match answer {
-        Answer::SignInRefused(..)
-        | Answer::RegistrationRefused(..)
-        | Answer::OtherCredential(_)
-        | Answer::Failed(_) => true,
-        Answer::Error(LineError::NotBegun(_) | LineError::NoNumber) | Answer::NotBackedUp(_) =>
-            true,
+        Answer::SignInRefused(..) | Answer::RegistrationRefused(..) | Answer::Failed(_) => true,
+        Answer::NotBegun(_) | Answer::NotBackedUp(_) => true,
         Answer::SignedIn(..) | Answer::Registered(..) | Answer::Error(_) => which == Logged::All,
         _ => false,
     }

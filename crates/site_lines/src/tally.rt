@@ -2,9 +2,8 @@
 
 use crate::answer::Answer;
 use crate::line::Answered;
-use crate::naming::OTHER_CREDENTIAL;
 
-/// One more than the highest number of a refusal: 19, of a registration whose response names another credential.
+/// One more than the highest number of a step: 18 of a sign-in, 19 of a registration.
 pub(crate) const STEPS: usize = 20;
 
 /// What is counted since the start.
@@ -22,6 +21,8 @@ pub struct Tally {
     pub sign_in_refusals: [u64; STEPS],
     /// Registrations that a step refused, by the step's number; 0 is not used.
     pub registration_refusals: [u64; STEPS],
+    /// Lines of the log that could not be written.
+    pub lost_log_lines: u64,
 }
 
 /// One more at a step's number.
@@ -41,7 +42,13 @@ impl Tally {
             registrations: 0,
             sign_in_refusals: [0; STEPS],
             registration_refusals: [0; STEPS],
+            lost_log_lines: 0,
         }
+    }
+
+    /// Counts lines of the log that could not be written.
+    pub fn note_lost(&mut self, lines: u64) {
+        self.lost_log_lines = self.lost_log_lines.saturating_add(lines);
     }
 
     /// Counts a commit that took this many microseconds.
@@ -67,9 +74,6 @@ impl Tally {
             }
             Answer::RegistrationRefused(step, _) => {
                 note_step(&mut self.registration_refusals, step.number());
-            }
-            Answer::OtherCredential(_) => {
-                note_step(&mut self.registration_refusals, OTHER_CREDENTIAL);
             }
             _ => {}
         }

@@ -1,28 +1,24 @@
 //! What answers say of credentials and signatures, as values of JSON.
 
-ghost use Rattle.std.specs.Prelude.{◌≡◌, ◌≤◌, ◌++◌, IfOk, OnOk, codes, map, option_and_then, option_map};
-ghost use Rattle.serde_json.specs.Data.{array, depth, no_members, object, put as insert};
+ghost use Rattle.std.specs.Prelude.{◌≡◌, ◌++◌, IfOk, OnOk, map, option_and_then, option_map};
+ghost use Rattle.serde_json.specs.Data.{array, no_members, object};
 ghost use Rattle.serde_json.specs.View.{items_of, members_view, view};
 ghost use Rattle.cose.specs.Keys.{lent_key_view, x_of as x_in};
-ghost use Rattle.authdata.specs.Layout.{AuthOf, AuthenticatorData, lent_auth_view};
-ghost use Rattle.authdata.specs.Objects.{object_view};
-ghost use Rattle.verification.specs.Registration.{counted};
 ghost use Rattle.site_state.specs.Details.{detail_view};
 ghost use Rattle.site_state.specs.RowViews.{row_view};
-ghost use Rattle.site_lines.specs.Written.{IsRegistered, IsSignedIn, aaguid_or_null as aaguid_or_null_of, attested_members, bytes_or_null as bytes_or_null_of, data_members, flag_or_null as flag_or_null_of, integer_or_null as integer_or_null_of, key_members, known_members, natural, row_members, to_verify, who_members, whole_row as whole_row_of, whole_rows, y_of as y_in};
+ghost use Rattle.json_lines.specs.Written.{natural};
+ghost use Rattle.site_lines.specs.Written.{aaguid_or_null as aaguid_or_null_of, attested_members, bytes_or_null as bytes_or_null_of, data_members, flag_or_null as flag_or_null_of, integer_or_null as integer_or_null_of, key_members, known_members, registered as registered_of, row_members, signed_in as signed_in_of, to_verify, who_members, whole_row as whole_row_of, whole_rows, y_of as y_in};
 ghost use Rattle.site_lines.specs.Private.{row_at};
 
 use authdata::flags::{BS, UV, is_set};
-use authdata::{
-    AssertionResponse, AttestationObject, AuthView, Profile, RegistrationResponse, read_view,
-};
 use cose::{CoseKey, KeyView};
-use kept_site::SignedIn;
+use json_lines::base64_text;
 use serde_json::{Map, Value, put};
-use site_acts::{Known, base64_text, texts};
+use site_acts::{Known, texts};
 use site_state::Row;
+use site_stored::{Registered, SignedIn, Summary};
 use std::alloc::{AllocError, Global};
-use verification::{VerifiedSignature, counts_as_none};
+use verification::VerifiedSignature;
 
 /// The coordinate x of a key, of an RSA key its modulus.
 fn x_of<'a>(key: &'a KeyView<'_>) -> &'a [u8]
@@ -228,133 +224,50 @@ pub(crate) fn rows(alloc: Global, rows: &[Row], known: &[Known]) -> Result<Value
 /// Adds what authenticator data say.
 fn put_data(
     alloc: Global,
-    auth_data: &AuthView<'_>,
+    summary: &Summary,
     out: &mut Map<String, Value>,
 ) -> Result<(), AllocError>
-    ensures { OnOk result (members_view out.new.entries ≡ data_members (lent_auth_view auth_data.now) (members_view out.old.entries)) }
+    ensures { OnOk result (members_view out.new.entries ≡ data_members summary.now (members_view out.old.entries)) }
 {
-    put(
-        out,
-        alloc,
-        "user_verified",
-        Value::Bool(is_set(auth_data.flags, UV)),
-    )?;
-    put(out, alloc, "flags", Value::from(auth_data.flags))?;
+    let verified = is_set(summary.flags, UV);
+    put(out, alloc, "user_verified", Value::Bool(verified))?;
+    put(out, alloc, "flags", Value::from(summary.flags))?;
     put(
         out,
         alloc,
         "extensions",
-        bytes_or_null(alloc, auth_data.extensions)?,
+        bytes_or_null(alloc, summary.extensions.as_deref())?,
     )
-}
-
-/// The aaguid of the attested credential.
-fn attested_aaguid<'a>(auth_data: &'a AuthView<'_>) -> Option<&'a [u8]>
-    ensures { option_map (λ bytes. bytes.now) result ≡ option_map (λ c. c.aaguid) (lent_auth_view auth_data.now).attested }
-{
-    match &auth_data.attested {
-        Some(attested) => Some(&attested.aaguid),
-        None => None,
-    }
 }
 
 /// Adds what the authenticator data of a registration say, and the format of their object.
 fn put_attested(
     alloc: Global,
-    auth_data: &AuthView<'_>,
-    format: &str,
+    told: &Registered,
     out: &mut Map<String, Value>,
 ) -> Result<(), AllocError>
-    ensures { OnOk result (members_view out.new.entries ≡ attested_members (lent_auth_view auth_data.now) format.now (members_view out.old.entries)) }
+    ensures { OnOk result (members_view out.new.entries ≡ attested_members told.now (members_view out.old.entries)) }
 {
+    put(out, alloc, "aaguid", base64_text(alloc, &told.aaguid)?)?;
     put(
         out,
         alloc,
-        "aaguid",
-        bytes_or_null(alloc, attested_aaguid(auth_data))?,
+        "format",
+        Value::try_from_str(alloc, told.format.as_str())?,
     )?;
-    put(out, alloc, "format", Value::try_from_str(alloc, format)?)?;
-    put(
-        out,
-        alloc,
-        "backed_up",
-        Value::Bool(is_set(auth_data.flags, BS)),
-    )?;
-    put_data(alloc, auth_data, out)
-}
-
-/// A credential, with what these data and this format say.
-fn row_with(
-    alloc: Global,
-    row: &Row,
-    auth_data: &AuthView<'_>,
-    format: &str,
-) -> Result<Value, AllocError>
-    ensures { IfOk result (λ v. view v ≡ object (attested_members (lent_auth_view auth_data.now) format.now (row_members (row_view row.now) no_members))) }
-{
-    let mut members = Map::new(alloc);
-    put_row(alloc, row, &mut members)?;
-    put_attested(alloc, auth_data, format, &mut members)?;
-    Ok(Value::Object(members))
-}
-
-/// A credential, as its row has it.
-fn plain_row(alloc: Global, row: &Row) -> Result<Value, AllocError>
-    ensures { IfOk result (λ v. view v ≡ object (row_members (row_view row.now) no_members)) }
-{
-    let mut members = Map::new(alloc);
-    put_row(alloc, row, &mut members)?;
-    Ok(Value::Object(members))
-}
-
-/// The format of what counts as this object: none in Level 3 where no attestation was asked for, else its own.
-#[tactic(auto, using(crate::proofs::Accepted::format_none, crate::proofs::Accepted::format_whole))]
-fn counted_format<'a>(profile: Profile, asked: bool, attested: &'a AttestationObject) -> &'a str
-    ensures { result.now ≡ (counted profile asked (object_view attested.now)).fmt }
-{
-    if counts_as_none(profile, asked) {
-        "none"
-    } else {
-        attested.fmt.as_str()
-    }
-}
-
-/// A credential, with what this object says.
-#[tactic(auto, using(crate::proofs::Accepted::row_is, crate::proofs::Accepted::row_shallow, crate::proofs::Accepted::plain_shallow))]
-fn attested_row(
-    alloc: Global,
-    profile: Profile,
-    asked: bool,
-    row: &Row,
-    attested: &AttestationObject,
-) -> Result<Value, AllocError>
-    ensures told { IfOk result (λ v. (a : AuthenticatorData) → AuthOf profile a (object_view attested.now).auth_data
-        → view v ≡ object (attested_members a (counted profile asked (object_view attested.now)).fmt (row_members (row_view row.now) no_members))) }
-    ensures shallow { IfOk result (λ v. depth (view v) ≤ 1) }
-{
-    match read_view(profile, attested.auth_data.as_slice()) {
-        Ok(data) => row_with(alloc, row, &data, counted_format(profile, asked, attested)),
-        Err(_) => plain_row(alloc, row),
-    }
+    let backed_up = is_set(told.summary.flags, BS);
+    put(out, alloc, "backed_up", Value::Bool(backed_up))?;
+    put_data(alloc, &told.summary, out)
 }
 
 /// The credential that was registered, with what its response says.
-#[tactic(auto, using(crate::proofs::Accepted::registered_is, crate::proofs::Accepted::plain_shallow))]
-pub(crate) fn registered(
-    alloc: Global,
-    profile: Profile,
-    asked: bool,
-    row: &Row,
-    response: &RegistrationResponse,
-) -> Result<Value, AllocError>
-    ensures told { IfOk result (λ v. IsRegistered profile asked row.now response.now (view v)) }
-    ensures shallow { IfOk result (λ v. depth (view v) ≤ 1) }
+pub(crate) fn registered(alloc: Global, told: &Registered) -> Result<Value, AllocError>
+    ensures { IfOk result (λ v. view v ≡ registered_of told.now) }
 {
-    match AttestationObject::read(alloc, response.object.as_slice()) {
-        Ok(attested) => attested_row(alloc, profile, asked, row, &attested),
-        Err(authdata::Error::Memory) => Err(AllocError),
-        Err(_) => plain_row(alloc, row),
-    }
+    let mut members = Map::new(alloc);
+    put_row(alloc, &told.credential, &mut members)?;
+    put_attested(alloc, told, &mut members)?;
+    Ok(Value::Object(members))
 }
 
 /// Adds who signed in.
@@ -369,21 +282,13 @@ fn put_who(alloc: Global, who: &SignedIn, out: &mut Map<String, Value>) -> Resul
         base64_text(alloc, who.credential.as_slice())?,
     )?;
     put(out, alloc, "user", base64_text(alloc, who.user.as_slice())?)?;
-    put(out, alloc, "backed_up", Value::Bool(who.backed_up))
+    let backed_up = is_set(who.summary.flags, BS);
+    put(out, alloc, "backed_up", Value::Bool(backed_up))
 }
 
-/// Who signed in.
-fn plain_who(alloc: Global, who: &SignedIn) -> Result<Value, AllocError>
-    ensures { IfOk result (λ v. view v ≡ object (who_members who.now)) }
-{
-    let mut members = Map::new(alloc);
-    put_who(alloc, who, &mut members)?;
-    Ok(Value::Object(members))
-}
-
-/// Who signed in, with what these data say.
-fn who_with(alloc: Global, who: &SignedIn, auth_data: &AuthView<'_>) -> Result<Value, AllocError>
-    ensures { IfOk result (λ v. view v ≡ object (data_members (lent_auth_view auth_data.now) (insert (codes "sign_count") (natural auth_data.now.sign_count) (who_members who.now)))) }
+/// Who signed in, with what the response says.
+pub(crate) fn signed_in(alloc: Global, who: &SignedIn) -> Result<Value, AllocError>
+    ensures { IfOk result (λ v. view v ≡ signed_in_of who.now) }
 {
     let mut members = Map::new(alloc);
     put_who(alloc, who, &mut members)?;
@@ -391,25 +296,8 @@ fn who_with(alloc: Global, who: &SignedIn, auth_data: &AuthView<'_>) -> Result<V
         &mut members,
         alloc,
         "sign_count",
-        Value::from(auth_data.sign_count),
+        Value::from(who.summary.sign_count),
     )?;
-    put_data(alloc, auth_data, &mut members)?;
+    put_data(alloc, &who.summary, &mut members)?;
     Ok(Value::Object(members))
-}
-
-/// Who signed in, with what the response's authenticator data say.
-#[tactic(auto, using(crate::proofs::Accepted::who_is, crate::proofs::Accepted::who_shallow, crate::proofs::Accepted::plain_who_shallow))]
-pub(crate) fn signed_in(
-    alloc: Global,
-    profile: Profile,
-    who: &SignedIn,
-    response: &AssertionResponse,
-) -> Result<Value, AllocError>
-    ensures told { IfOk result (λ v. IsSignedIn profile who.now response.now (view v)) }
-    ensures shallow { IfOk result (λ v. depth (view v) ≤ 1) }
-{
-    match read_view(profile, response.auth_data.as_slice()) {
-        Ok(data) => who_with(alloc, who, &data),
-        Err(_) => plain_who(alloc, who),
-    }
 }

@@ -4,14 +4,15 @@ ghost use Rattle.std.specs.Prelude.{◌≡◌, ◌++◌, ◌∷◌, [], ℕ, IfO
 ghost use Rattle.serde_json.specs.Data.{Data, no_members, object};
 ghost use Rattle.serde_json.specs.View.{members_view, view};
 ghost use Rattle.verification.specs.Numbers.{registration_number, sign_in_number};
-ghost use Rattle.site_lines.specs.Written.{IsTextOf, Writes, answered as answered_of, begun, by_step, line_number as line_number_of, status as status_of, with_count};
-ghost use Rattle.site_lines.specs.Private.{IsOther, IsShallow, IsStep, IsText, SaysWhy};
+ghost use Rattle.json_lines.specs.Written.{IsTextOf};
+ghost use Rattle.site_lines.specs.Written.{Writes, answered as answered_of, committed as committed_of, begun, by_step, status as status_of, with_count};
+ghost use Rattle.site_lines.specs.Private.{IsOther, IsStep, IsText, SaysWhy};
 
 use crate::answer::{Answer, Counts};
 use crate::line::Answered;
-use crate::naming::{OTHER_CREDENTIAL, OTHER_CREDENTIAL_TEXT};
 use crate::tally::Tally;
 use crate::values::{registered, rows, signed_in, verify};
+use json_lines::{number_or_null, write_line};
 use serde_json::{Map, Value, json, put};
 use site_acts::{creation_options, request_options};
 use std::alloc::{AllocError, Global};
@@ -50,31 +51,30 @@ fn registration_step(alloc: Global, why: RegistrationRefusal) -> Result<Value, A
     step(alloc, "G", why.number(), text)
 }
 
-/// That a response names another credential than it attests.
-fn other_credential(alloc: Global) -> Result<Value, AllocError>
-    ensures { IfOk result (λ v. IsStep (codes "G") 19 (view v)) }
-{
-    let text = Value::try_from_str(alloc, OTHER_CREDENTIAL_TEXT)?;
-    step(alloc, "G", OTHER_CREDENTIAL, text)
-}
-
-/// The number of a line; null where it has none.
-fn line_number(id: Option<u64>) -> Value
-    ensures { view result ≡ line_number_of id }
-{
-    match id {
-        Some(id) => Value::from(id),
-        None => Value::Null,
-    }
-}
-
 /// The object of an answer of one member beside the number.
 fn answered(alloc: Global, id: Option<u64>, name: &str, value: Value) -> Result<Value, AllocError>
     ensures { IfOk result (λ v. view v ≡ answered_of id name.now (view value)) }
 {
     let mut members = Map::new(alloc);
-    put(&mut members, alloc, "id", line_number(id))?;
+    put(&mut members, alloc, "id", number_or_null(id))?;
     put(&mut members, alloc, name, value)?;
+    Ok(Value::Object(members))
+}
+
+/// The object of an answer that is committed, with what tells copies that lack the commit.
+fn committed(
+    alloc: Global,
+    id: Option<u64>,
+    name: &str,
+    value: Value,
+    known: u64,
+) -> Result<Value, AllocError>
+    ensures { IfOk result (λ v. view v ≡ committed_of id name.now (view value) known) }
+{
+    let mut members = Map::new(alloc);
+    put(&mut members, alloc, "id", number_or_null(id))?;
+    put(&mut members, alloc, name, value)?;
+    put(&mut members, alloc, "known", Value::from(known))?;
     Ok(Value::Object(members))
 }
 
@@ -160,6 +160,12 @@ fn put_status(
         alloc,
         "registrations_refused",
         refusals(alloc, "G", &tally.registration_refusals)?,
+    )?;
+    put(
+        out,
+        alloc,
+        "lost_log_lines",
+        Value::from(tally.lost_log_lines),
     )
 }
 
@@ -183,6 +189,8 @@ pub struct Teller<'a> {
     pub version: &'a str,
     /// What is counted.
     pub tally: &'a Tally,
+    /// What tells copies that lack the last commit from the file, as the site's `known` has it.
+    pub known: u64,
 }
 
 /// The object of an answer to a line that is no ceremony's, or that is refused.
@@ -196,8 +204,8 @@ fn other_value(
     ensures { IfOk result (λ v. Writes teller.now id answer.now (view v)) }
 {
     match answer {
-        Answer::Retired(was) => answered(alloc, id, "retired", Value::Bool(*was)),
-        Answer::Deleted(was) => answered(alloc, id, "deleted", Value::Bool(*was)),
+        Answer::Retired(was) => committed(alloc, id, "retired", Value::Bool(*was), teller.known),
+        Answer::Deleted(was) => committed(alloc, id, "deleted", Value::Bool(*was), teller.known),
         Answer::Abandoned(was) => answered(alloc, id, "abandoned", Value::Bool(*was)),
         Answer::Expired(count) => answered(alloc, id, "expired", Value::from(*count)),
         Answer::Rows(list, known) => {
@@ -206,13 +214,14 @@ fn other_value(
         }
         Answer::Status(counts) => {
             let status = status(alloc, teller.version, teller.tally, counts)?;
-            answered(alloc, id, "status", status)
+            committed(alloc, id, "status", status, teller.known)
         }
         Answer::Backup(_) => answered(alloc, id, "backup", Value::Bool(true)),
         Answer::NotBackedUp(why) => {
             let why = Value::try_from_str(alloc, why.as_str())?;
             answered(alloc, id, "error", why)
         }
+        Answer::NotBegun(why) => why_value(alloc, id, "error", why),
         Answer::Error(error) => why_value(alloc, id, "error", error),
         Answer::Failed(failure) => why_value(alloc, id, "failed", failure),
         _ => Ok(Value::Null),
@@ -228,20 +237,18 @@ fn begun_value(
 ) -> Result<Value, AllocError>
     ensures { IfOk result (λ v. view v ≡ begun id session (view options)) }
 {
-    let id = line_number(id);
+    let id = number_or_null(id);
     json!(in alloc; {"session": session, "options": options, "id": id})
 }
 
 /// The object of an answer to a ceremony's line.
-#[tactic(auto, using(crate::proofs::Shallow::accepted_within))]
 fn ceremony_value(
     alloc: Global,
     teller: &Teller<'_>,
     id: Option<u64>,
     answer: &Answer,
 ) -> Result<Value, AllocError>
-    ensures told { IfOk result (λ v. Writes teller.now id answer.now (view v)) }
-    ensures shallow { IfOk result (λ v. IsShallow answer.now (view v)) }
+    ensures { IfOk result (λ v. Writes teller.now id answer.now (view v)) }
 {
     let party = teller.party;
     match answer {
@@ -254,13 +261,13 @@ fn ceremony_value(
             let options = request_options(alloc, party.rp_id(), started, begin, known)?;
             begun_value(alloc, id, started.session, options)
         }
-        Answer::Registered(found, response, asked) => {
-            let row = registered(alloc, party.profile(), *asked, &found.credential, response)?;
-            answered(alloc, id, "accepted", row)
+        Answer::Registered(told) => {
+            let row = registered(alloc, told)?;
+            committed(alloc, id, "accepted", row, teller.known)
         }
-        Answer::SignedIn(who, response) => {
-            let who = signed_in(alloc, party.profile(), who, response)?;
-            answered(alloc, id, "accepted", who)
+        Answer::SignedIn(who) => {
+            let who = signed_in(alloc, who)?;
+            committed(alloc, id, "accepted", who, teller.known)
         }
         Answer::Verify(asked) => {
             let asked = verify(alloc, asked)?;
@@ -268,10 +275,6 @@ fn ceremony_value(
         }
         Answer::RegistrationRefused(step, _) => {
             let step = registration_step(alloc, *step)?;
-            answered(alloc, id, "refused", step)
-        }
-        Answer::OtherCredential(_) => {
-            let step = other_credential(alloc)?;
             answered(alloc, id, "refused", step)
         }
         Answer::SignInRefused(step, _) => {
@@ -282,20 +285,8 @@ fn ceremony_value(
     }
 }
 
-/// The text of an answer, without its end.
-#[tactic(auto, using(crate::proofs::Shallow::shallow))]
-fn answer_text(
-    alloc: Global,
-    teller: &Teller<'_>,
-    answered: &Answered,
-) -> Result<String, AllocError>
-    ensures { IfOk result (λ text. (d : Data) × Writes teller.now answered.now.id answered.now.answer d × IsTextOf d (string_bytes text)) }
-{
-    let value = ceremony_value(alloc, teller, answered.id, &answered.answer)?;
-    value.to_string(alloc)
-}
-
 /// Appends an answer as one line, with its end. Its `id` is null where the line has no number.
+#[tactic(auto, using(crate::proofs::Shallow::shallow))]
 pub fn write_answer(
     alloc: Global,
     teller: &Teller<'_>,
@@ -306,7 +297,6 @@ pub fn write_answer(
     ensures written { OnOk result ((d : Data) × (text : List ℕ) × Writes teller.now answered.now.id answered.now.answer d × IsTextOf d text
         × (string_bytes out.new ≡ string_bytes out.old ++ text ++ 10 ∷ [])) }
 {
-    let text = answer_text(alloc, teller, answered)?;
-    out.push_str(text.as_str())?;
-    out.push('\n')
+    let value = ceremony_value(alloc, teller, answered.id, &answered.answer)?;
+    write_line(alloc, &value, out)
 }

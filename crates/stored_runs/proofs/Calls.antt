@@ -14,14 +14,14 @@ use Rattle.verification.specs.Records.{Credential}
 use Rattle.verification.specs.SignIn.{JudgedSignIn, PassesSignIn}
 use Rattle.verification.specs.Registration.{JudgedRegistration, PassesRegistration}
 use Rattle.site_state.specs.Table.{retired, row_of, signed_in, with_row}
-use Rattle.credential_store.specs.Held.{ArePlaced, rows_of}
-use Rattle.credential_store.proofs.Listed.{added_rows, changed_rows, found_row}
+use Rattle.site_rows.specs.Held.{ArePlaced, rows_of}
+use Rattle.site_rows.proofs.Listed.{added_rows, changed_rows, found_row}
 use Rattle.site_state.specs.Sessions.{Expected, Opening, OpenSessions, closed, registration_at, sign_in_at}
 use Rattle.site_state.specs.Timed.{IsTrimmed, Timed, after_begin, after_end, is_since, since}
 use Rattle.site.specs.State as site
-use Rattle.kept_site.specs.Calls as calls
-use Rattle.kept_site.specs.declared.finish.SignedIn.{SignedIn}
-use Rattle.kept_site.specs.declared.registration.Registered.{Registered}
+use Rattle.site_stored.specs.Calls as calls
+use Rattle.site_stored.specs.declared.finish.SignedIn.{SignedIn}
+use Rattle.site_stored.specs.declared.registration.Registered.{Registered}
 use Rattle.authenticator.specs.Steps.{Keys}
 use Rattle.agreement.specs.World.{SiteActs, World, with_room, words_of}
 use Rattle.agreement.specs.World as world
@@ -29,7 +29,7 @@ use Rattle.stored_runs.specs.History.{Abandons, Begins, Call, Deletes, Does, Exp
 use Rattle.stored_runs.specs.Stored.{LeadsTo}
 use Rattle.stored_runs.proofs.Pieces.{happens, joined, same, stays}
 use Rattle.stored_runs.proofs.Rows.{removed_rows, tells_ids}
-use Rattle.kept_site.specs.Calls.{IsOneSite}
+use Rattle.site_stored.specs.Calls.{IsOneSite}
 
 roomy_or_not : (a b : ℕ) → (a < b) ⊎ (a < b → ⊥)
 roomy_or_not a b = go (nat_lt a b) refl
@@ -74,7 +74,7 @@ module _ {S : Type 0} (valid : Validity) (old new : Kept S) (kept : IsKept old) 
   registers n r x h timed =
       let ids = λ (id : List ℕ). is_some (row_of id (rows_of old.placed)) in
       let passes = h.passes ids (tells_ids old.placed are) in
-      let full = passes.1.1.1.1.1.1.1.1.1.1.1.1.1.1.1.1.1.0 in
+      let full = passes.1.1.1.1.1.1.1.1.1.1.1.1.1.1.1.1.1.1.0 in
       let judged : with_room (site.judged_registration (site_of old) n r) ≡ calls.judged_registration old.state n ids r =
       ap (λ (b : Bool). record {
         rp = old.state.rp;

@@ -1,7 +1,7 @@
 -- Whatever a site over a store goes through leads to what is committed at the end.
 use Rattle.std.proofs.Common.{◌≡◌, ℕ, true, false, List, [], ◌∷◌, ◌++◌, refl, sym, ap, ◌∙◌, subst, append-nil}
 use Rattle.cose.specs.Schemes.{Validity}
-use Rattle.kept_site.specs.Laws.{KeptLaws}
+use Rattle.site_stored.specs.Laws.{KeptLaws}
 use Rattle.authenticator.specs.Steps.{Keys}
 use Rattle.agreement.specs.World.{SiteEvent, World}
 use Rattle.agreement.specs.Agreement.{OfAllRuns}

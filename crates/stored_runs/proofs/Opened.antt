@@ -7,14 +7,14 @@ use Rattle.std.specs.FinMap.{gets}
 use Rattle.std.specs.FinMap as finite
 use Rattle.sqlite_trees.specs.Tree.{Trees}
 use Rattle.cose.specs.Schemes.{Validity}
-use Rattle.credential_store.specs.Held.{rows_of}
+use Rattle.site_rows.specs.Held.{rows_of}
 use Rattle.std.specs.Ordering.{nat_cmp}
 use Rattle.site_state.specs.Sessions.{Expected, HaveNumbers, Opening, OpensSignIn}
 use Rattle.site_state.specs.Timed.{Timed, skipped}
 use Rattle.site.specs.State as site
 use Rattle.site.specs.Laws.{after_begin}
-use Rattle.kept_site.specs.Laws.{IsOne, KeptLaws}
-use Rattle.kept_site.specs.State.{HoldsSite, KeptState}
+use Rattle.site_stored.specs.Laws.{IsOne, KeptLaws}
+use Rattle.site_stored.specs.State.{HoldsSite, StoredState}
 use Rattle.authenticator.specs.Steps.{Keys}
 use Rattle.agreement.specs.World.{EndsSessions, World, reopened}
 use Rattle.agreement.specs.World as world
@@ -105,18 +105,18 @@ module _ (valid : Validity) (public : Keys) where
         go false idle =
             let e = is.1.quiet idle in
             stays valid public w i (site_of new) (at ∙ λ k. record {
-              rp = sym (ap (λ (s : KeptState S). s.rp) e) k;
-              policy = sym (ap (λ (s : KeptState S). s.policy) e) k;
+              rp = sym (ap (λ (s : StoredState S). s.rp) e) k;
+              policy = sym (ap (λ (s : StoredState S). s.policy) e) k;
               rows = ap rows_of (sym is.0) k;
-              sessions = sym (ap (λ (s : KeptState S). s.timed.open_sessions) e) k;
+              sessions = sym (ap (λ (s : StoredState S). s.timed.open_sessions) e) k;
             })
         go true busy =
             let e = is.1.moved busy in
-            let timed = ap (λ (s : KeptState S). s.timed) e in
+            let timed = ap (λ (s : StoredState S). s.timed) e in
             let next = max old.state.timed.open_sessions.next old.state.durable in
             let lt : next < 2 ^ 63 =
             let given = are.given in let reserved = are.reserved in let now = ap (λ (t : Timed). t.open_sessions.next) timed in omega arith in
-            skips next (grind (arith, common_steps)) lt timed (ap (λ (s : KeptState S). s.rp) e) (ap (λ (s : KeptState S). s.policy) e) w i at
+            skips next (grind (arith, common_steps)) lt timed (ap (λ (s : StoredState S). s.rp) e) (ap (λ (s : StoredState S). s.policy) e) w i at
 
   module _ {S : Type 0} (laws : KeptLaws) (kept new : Kept S) (was : IsKept kept) (are : IsKept new) (is : IsOpened kept new) where
     one : IsOne kept.placed new.placed kept.state.rp.rp_id new.state.rp.rp_id kept.state.reserved new.state.reserved

@@ -13,10 +13,10 @@ use Rattle.std.specs.Cmp.Lexicographic.{bytes_decides}
 use Rattle.std.specs.Str.{bytes_eq}
 use Rattle.verification.specs.Records.{Credential}
 use Rattle.site_state.specs.Table.{row_of}
-use Rattle.credential_store.specs.Held.{ArePlaced, IsAt, Placed, rows_of}
-use Rattle.credential_store.proofs.Listed.{found_row}
-use Rattle.credential_store.proofs.Tables.{entries_found}
-use Rattle.kept_site.specs.Calls.{TellsIds}
+use Rattle.site_rows.specs.Held.{ArePlaced, IsAt, Placed, rows_of}
+use Rattle.site_rows.proofs.Listed.{found_row}
+use Rattle.site_rows.proofs.Tables.{entries_found}
+use Rattle.site_stored.specs.Calls.{TellsIds}
 
 abbrev listed : List (ℕ × Credential) → List Credential
 listed = map (λ e. e.1)

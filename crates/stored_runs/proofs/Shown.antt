@@ -13,11 +13,11 @@ use Rattle.cose.specs.declared.key.CoseKey.TheVariants as keys
 use Rattle.authdata.specs.declared.profile.Profile.TheVariants.{Level3}
 use Rattle.verification.specs.Records.{Credential}
 use Rattle.site_state.specs.Table.{retired}
-use Rattle.credential_store.specs.Held.{ArePlaced, Indexes, Placed, entry}
-use Rattle.credential_store.specs.Rows.{IsStored, credential_row}
+use Rattle.site_rows.specs.Held.{ArePlaced, Indexes, Placed, entry}
+use Rattle.site_rows.specs.Rows.{IsStored, credential_row}
 use Rattle.site_state.specs.Sessions.{Expected, HaveNumbers, Opening, OpensSignIn}
 use Rattle.site_state.specs.Timed.{Timed, after_begin}
-use Rattle.kept_site.specs.State.{HoldsSite, KeptState, site_row}
+use Rattle.site_stored.specs.State.{HoldsSite, StoredState, site_row}
 use Rattle.stored_runs.specs.History.{Calls, Commits, Deletes, IsHistory, IsKept, Kept, Opens, Retires, Store}
 use Rattle.stored_runs.specs.Shown.{Shown}
 
@@ -79,7 +79,7 @@ stored_retired : IsStored (retired key)
 stored_retired = record { key = refl; sign_count = omega arith }
 
 -- the site with this credential, these sessions, these numbers reserved, and this mark of the last commit
-abbrev state_of : Timed → ℕ → ℕ → ℕ → Bool → KeptState (Unit {0})
+abbrev state_of : Timed → ℕ → ℕ → ℕ → Bool → StoredState (Unit {0})
 state_of timed reserved durable mark is_pending = record {
   rp = record { rp_id = 3 ∷ []; origins = []; top_origins = []; profile = Level3 };
   policy = record { accept_none = true; accept_self = true };

@@ -1,26 +1,26 @@
 -- What a site over a store goes through: calls, commits, crashes and opens. Each call is said in the words of its contract
--- (`kept_site`), of where it is done; one that is refused changes nothing, and is left out.
+-- (`site_stored`), of where it is done; one that is refused changes nothing, and is left out.
 use Rattle.std.specs.Prelude.{◌≡◌, ◌≤◌, ◌<◌, ◌^◌, ℕ, Bool, true, false, List, [], ◌∷◌, ◌++◌, if◌then◌else◌}
 use Rattle.std.specs.FinMap as finite
 use Rattle.sqlite_trees.specs.Tree.{Trees}
 use Rattle.base64.specs.GeneralPurpose.{IsBytes}
 use Rattle.cose.specs.Schemes.{Validity}
 use Rattle.authdata.specs.Responses.{AuthenticatorAssertionResponse, AuthenticatorAttestationResponse}
-use Rattle.credential_store.specs.Held.{Placed, rows_of}
+use Rattle.site_rows.specs.Held.{Placed, rows_of}
 use Rattle.site_state.specs.Sessions.{HaveNumbers, Opening}
 use Rattle.site_state.specs.Timed.{IsTrimmed, after_begin, after_end, since}
 use Rattle.site.specs.State as site
-use Rattle.kept_site.specs.State.{IsHeld, KeptState}
-use Rattle.kept_site.specs.Calls as calls
-use Rattle.kept_site.specs.Calls.{IsOneSite, TellsDeleted, TellsRetired}
-use Rattle.kept_site.specs.declared.finish.SignedIn.{SignedIn}
-use Rattle.kept_site.specs.declared.registration.Registered.{Registered}
+use Rattle.site_stored.specs.State.{IsHeld, StoredState}
+use Rattle.site_stored.specs.Calls as calls
+use Rattle.site_stored.specs.Calls.{IsOneSite, TellsDeleted, TellsRetired}
+use Rattle.site_stored.specs.declared.finish.SignedIn.{SignedIn}
+use Rattle.site_stored.specs.declared.registration.Registered.{Registered}
 use Rattle.agreement.specs.World.{words_of}
 use Rattle.agreement.specs.World as world
 
 -- a site, the credentials that its trees hold, by their places, and these trees
 pub record Kept (S : Type 0) : Type 0 where
-  pub state : KeptState S
+  pub state : StoredState S
   pub placed : Placed
   pub trees : Trees
 

@@ -15,6 +15,6 @@ pub fn stored_runs<V: Verifier, S: Store>()
     ensures runs { (verifier : V) (public : Keys) → StoredRuns S (V.valid verifier) public }
     ensures shown { (verifier : V) → Shown (V.valid verifier) }
 {
-    kept_site::kept_laws();
+    site_stored::stored_laws();
     agreement::of_all_runs::<V>();
 }

@@ -14,6 +14,15 @@ const USER: &[u8] = b"account 7";
 /// A key that signs nothing.
 const NO_KEY: KeyView<'static> = KeyView::EdDsa { x: [0; 32] };
 
+/// The parts of a registration's response.
+fn parts<'a>(object: &'a [u8], client_data: &'a [u8]) -> RegistrationParts<'a> {
+    RegistrationParts {
+        object,
+        client_data,
+        raw_id: None,
+    }
+}
+
 /// Registers a key of the account.
 pub(crate) fn register(rt: &HostRuntime, site: &mut Site, words: [u8; 24]) -> io::Result<()> {
     let Ok(started) = site.begin_registration(USER, &[Alg::EdDsa, Alg::Es256], true, words) else {
@@ -22,10 +31,7 @@ pub(crate) fn register(rt: &HostRuntime, site: &mut Site, words: [u8; 24]) -> io
     tell_bytes(rt, "challenge", &started.challenge)?;
     let object = told(rt, "object")?;
     let client_data = told(rt, "client-data")?;
-    let response = RegistrationParts {
-        object: object.as_slice(),
-        client_data: client_data.as_slice(),
-    };
+    let response = parts(object.as_slice(), client_data.as_slice());
     let verifier = HostVerifier { verified: None };
     match site.finish_registration_parts(&verifier, started.session, &response) {
         Ok(registered) => tell_bytes(rt, "registered", registered.credential.as_slice()),

@@ -114,6 +114,8 @@ registrations_differ valid x registration.UserNotVerified =
     (λ p e is. to_open x.response _ (p e is), λ p e is. from_open x.response _ (p e is))
 registrations_differ valid x registration.AlgorithmNotOffered =
     (λ p e is. to_open x.response _ (p e is), λ p e is. from_open x.response _ (p e is))
+registrations_differ valid x registration.OtherId =
+    (λ p raw_id is. to_open x.response _ (p raw_id is), λ p raw_id is. from_open x.response _ (p raw_id is))
 registrations_differ valid x registration.UnknownFormat = λ e is. (
   λ unasked f also o a c h. inl (counted_none Level3 f.attestation o (refl, none_of valid x e is unasked f also)).0,
   λ asked. (

@@ -22,7 +22,7 @@ use Rattle.verification.specs.Registration.{Attested, Attests, CountsAsNone, IsA
 use Rattle.verification.specs.Registration.{PassesRegistration, PassesRegistrationStep, attestation_steps, auth_data_steps, counted}
 use Rattle.verification.specs.Registration.{client_data_steps, hash_in, response_steps, table_steps}
 use Rattle.verification.specs.ClientData.{PassesClientDataStep, client_data_order}
-use Rattle.verification.specs.RegistrationAnswers.{AcceptsAttestation, IsNoObject, IsRefused, AttestsAs, AttestsAsNothing}
+use Rattle.verification.specs.RegistrationAnswers.{AcceptsAttestation, IsRefused, AttestsAs, AttestsAsNothing}
 use Rattle.verification.specs.RegistrationAnswers.{IsVerifiedRegistration, step_of}
 use Rattle.verification.specs.declared.client_data.ClientDataStep.{ClientDataStep}
 use Rattle.verification.specs.declared.client_data.ClientDataStep.TheVariants as line
@@ -30,7 +30,7 @@ use Rattle.verification.specs.declared.refusal.VerificationError.{VerificationEr
 use Rattle.verification.specs.declared.refusal.VerificationError.TheVariants as errors
 use Rattle.verification.specs.declared.refusal.RegistrationRefusal.{RegistrationRefusal}
 use Rattle.verification.specs.declared.refusal.RegistrationRefusal.TheVariants as step
-use Rattle.verification.specs.Records.{NewCredential}
+use Rattle.verification.specs.Records.{AttestedRegistration}
 use Rattle.verification.proofs.Steps.{of_some}
 
 -- ---- client data
@@ -119,27 +119,37 @@ module _ (x : JudgedRegistration) (o : Attestation) (a : AuthenticatorData) (c :
           pub not_offered : (Contains e.algorithms (alg_of c.key) → ⊥) → FirstFailing (PassesRegistrationStep never x) auth_data_steps step.AlgorithmNotOffered
           not_offered other = first_at 4 refl (found, (for_party, (is_present, (is_verified, tt)))) (λ passes. other (passes e is o a c h))
 
-          abbrev Offered : ExpectedRegistration → Type 0
-          Offered f = Attested x.rp.profile x.response (λ q b d. Contains f.algorithms (alg_of d.key))
+          module _ (offered : Contains e.algorithms (alg_of c.key)) where
+            abbrev Offered : ExpectedRegistration → Type 0
+            Offered f = Attested x.rp.profile x.response (λ q b d. Contains f.algorithms (alg_of d.key))
 
-          pub data_passes : Contains e.algorithms (alg_of c.key) → Each (PassesRegistrationStep never x) auth_data_steps
-          data_passes offered = (
-            found,
-            (
-              for_party,
+            is_offered : PassesRegistrationStep never x step.AlgorithmNotOffered
+            is_offered = of_some Offered x.session e is (of_attested (λ q b d. Contains e.algorithms (alg_of d.key)) offered)
+
+            pub not_named : (ForSome x.response.raw_id (λ raw_id. raw_id ≡ c.id) → ⊥)
+                → FirstFailing (PassesRegistrationStep never x) auth_data_steps step.OtherId
+            not_named other = first_at 5 refl (found, (for_party, (is_present, (is_verified, (is_offered, tt)))))
+                (λ passes. other (λ raw_id named. passes raw_id named o a c h))
+
+            pub data_passes : ForSome x.response.raw_id (λ raw_id. raw_id ≡ c.id) → Each (PassesRegistrationStep never x) auth_data_steps
+            data_passes named = (
+              found,
               (
-                is_present,
-                (is_verified, (of_some Offered x.session e is (of_attested (λ q b d. Contains e.algorithms (alg_of d.key)) offered), tt)),
+                for_party,
+                (
+                  is_present,
+                  (
+                    is_verified,
+                    (is_offered, ((λ raw_id there. of_attested (λ q b d. raw_id ≡ d.id) (named raw_id there)), tt)),
+                  ),
+                ),
               ),
-            ),
-          )
+            )
 
 -- bytes that are no object fail at the object
-pub no_object : (x : JudgedRegistration) (e : VerificationError RegistrationRefusal) → IsNoObject x.response.object e
-    → FailsIn (PassesRegistrationStep never x) auth_data_steps e
-no_object x (errors.Refused step.BadAttestationObject) none = first_at 0 refl tt (λ passes. none passes.0 passes.3.object)
-no_object x (errors.Refused w) none = absurd none
-no_object x errors.Memory none = tt
+pub no_object : (x : JudgedRegistration) → ((o : Attestation) → ObjectOf o x.response.object → ⊥)
+    → FirstFailing (PassesRegistrationStep never x) auth_data_steps step.BadAttestationObject
+no_object x none = first_at 0 refl tt (λ passes. none passes.0 passes.3.object)
 
 -- so does an object whose authenticator data attest nothing
 pub no_credential : (x : JudgedRegistration) (o : Attestation) → ObjectOf o x.response.object
@@ -259,7 +269,7 @@ module _ (valid : Validity) (x : JudgedRegistration) (is_registered : List ℕ �
   )
 
   data_same : Each (Same never x valid (before x is_registered is_full)) auth_data_steps
-  data_same = ((λ h. h, λ h. h), ((λ h. h, λ h. h), ((λ h. h, λ h. h), ((λ h. h, λ h. h), ((λ h. h, λ h. h), tt)))))
+  data_same = ((λ h. h, λ h. h), ((λ h. h, λ h. h), ((λ h. h, λ h. h), ((λ h. h, λ h. h), ((λ h. h, λ h. h), ((λ h. h, λ h. h), tt))))))
 
   attestation_same : Each (Same valid x valid (before x is_registered is_full)) attestation_steps
   attestation_same = ((λ h. h, λ h. h), ((λ h. h, λ h. h), ((λ h. h, λ h. h), tt)))
@@ -291,24 +301,21 @@ module _ (valid : Validity) (x : JudgedRegistration) (is_registered : List ℕ �
 
 -- ---- the table
 
-module _ (x : JudgedRegistration) (v : NewCredential) (tells : IsVerifiedRegistration x v) where
+module _ (x : JudgedRegistration) (v : AttestedRegistration) (tells : IsVerifiedRegistration x v) where
   -- the table says this of the credential
   abbrev IsSaid : Bool → Attestation → AuthenticatorData → AttestedCredential → Type 0
   IsSaid said q b d = x.is_registered d.id ≡ said
 
-  of_id : (said : Bool) → x.is_registered v.id ≡ said → Attested x.rp.profile x.response (IsSaid said)
-  of_id said e =
-      let here : x.is_registered tells.2.id ≡ said = subst (λ (id : List ℕ). x.is_registered id ≡ said) tells.4 e in
-      of_attested x tells.0 tells.1 tells.2 tells.3 (IsSaid said) here
+  of_id : (said : Bool) → x.is_registered v.credential.id ≡ said → Attested x.rp.profile x.response (IsSaid said)
+  of_id said e = of_attested x tells.0 v.auth_data v.credential tells.1 (IsSaid said) e
 
-  pub registered : x.is_registered v.id ≡ true → FirstFailing (PassesRegistrationStep never x) table_steps step.CredentialRegistered
-  registered e = first_at 0 refl tt
-      (λ passes. let yes = of_id true e tells.0 tells.1 tells.2 tells.3 in let no_one = passes tells.0 tells.1 tells.2 tells.3 in absurd cc)
+  pub registered : x.is_registered v.credential.id ≡ true → FirstFailing (PassesRegistrationStep never x) table_steps step.CredentialRegistered
+  registered e = first_at 0 refl tt (λ passes. let no_one = passes tells.0 v.auth_data v.credential tells.1 in absurd cc)
 
-  pub full : x.is_registered v.id ≡ false → x.is_full ≡ true → FirstFailing (PassesRegistrationStep never x) table_steps step.TableFull
+  pub full : x.is_registered v.credential.id ≡ false → x.is_full ≡ true → FirstFailing (PassesRegistrationStep never x) table_steps step.TableFull
   full e f = first_at 1 refl (of_id false e, tt) (λ passes. absurd cc)
 
-  pub admitted : x.is_registered v.id ≡ false → x.is_full ≡ false → Each (PassesRegistrationStep never x) table_steps
+  pub admitted : x.is_registered v.credential.id ≡ false → x.is_full ≡ false → Each (PassesRegistrationStep never x) table_steps
   admitted e f = (of_id false e, (f, tt))
 
 -- the steps on the table do not look at signatures

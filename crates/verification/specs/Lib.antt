@@ -8,7 +8,6 @@ pub mod RegistrationAnswers
 pub mod Views
 pub mod Numbers
 pub mod Differences
-pub mod Attested
 pub mod Coordinates
 pub mod Signed
 pub mod AttestedKey

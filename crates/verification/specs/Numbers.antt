@@ -1,5 +1,5 @@
 -- The product's numbers of the steps, in the order in which they are tested; but 17 and 18, of Level 3, are tested right
--- after the origin.
+-- after the origin, and 19 before 12.
 use Rattle.std.specs.Prelude.{ℕ}
 use Rattle.verification.specs.declared.refusal.SignInRefusal.{SignInRefusal}
 use Rattle.verification.specs.declared.refusal.SignInRefusal.TheVariants as sign_in
@@ -45,3 +45,4 @@ registration_number registration.CredentialRegistered = 15
 registration_number registration.TableFull = 16
 registration_number registration.CrossOrigin = 17
 registration_number registration.WrongTopOrigin = 18
+registration_number registration.OtherId = 19

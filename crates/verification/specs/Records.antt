@@ -1,6 +1,7 @@
 -- What a relying party is, keeps of a credential, and expects of a ceremony (WebAuthn Level 2, section 7).
 use Rattle.std.specs.Prelude.{ℕ, List, Bool, Option}
 use Rattle.authdata.specs.declared.profile.Profile.{Profile}
+use Rattle.authdata.specs.Layout.{AttestedCredential, AuthenticatorData}
 use Rattle.cose.specs.declared.key.Alg.{Alg}
 use Rattle.cose.specs.declared.key.CoseKey.{CoseKey}
 
@@ -29,6 +30,13 @@ pub record NewCredential : Type 0 where
   pub key : CoseKey
   pub sign_count : ℕ
   pub eligible : Bool
+
+-- what a registration's response attests: what its authenticator data say, the credential, and the format of what counts as its
+-- attestation object
+pub record AttestedRegistration : Type 0 where
+  pub auth_data : AuthenticatorData
+  pub credential : AttestedCredential
+  pub format : List ℕ
 
 -- what a sign-in expects: a user, where one is named; the credentials that may answer, where there are any
 -- listed; whether the user is to be verified; and the challenge

@@ -103,6 +103,9 @@ PassesRegistrationStep valid x step.UserNotVerified = ForSome x.session (λ e. A
 -- the key's algorithm is one of those offered
 PassesRegistrationStep valid x step.AlgorithmNotOffered = ForSome x.session
     (λ e. Attested x.rp.profile x.response (λ o a c. Contains e.algorithms (alg_of c.key)))
+-- the client names the credential that is attested, where its id is handed in
+PassesRegistrationStep valid x step.OtherId =
+    ForSome x.response.raw_id (λ raw_id. Attested x.rp.profile x.response (λ o a c. raw_id ≡ c.id))
 -- the statement's format is known, of what counts as the object
 PassesRegistrationStep valid x step.UnknownFormat = ForSome x.session
     (λ e. Attested x.rp.profile x.response (λ o a c. IsKnownFormat (counted x.rp.profile e.attestation o).fmt))
@@ -126,7 +129,8 @@ client_data_steps =
 
 abbrev pub auth_data_steps : List RegistrationRefusal
 auth_data_steps =
-    step.BadAttestationObject ∷ step.WrongRelyingParty ∷ step.UserNotPresent ∷ step.UserNotVerified ∷ step.AlgorithmNotOffered ∷ []
+    step.BadAttestationObject ∷ step.WrongRelyingParty ∷ step.UserNotPresent ∷ step.UserNotVerified ∷ step.AlgorithmNotOffered ∷ step.OtherId
+    ∷ []
 
 abbrev pub attestation_steps : List RegistrationRefusal
 attestation_steps = step.UnknownFormat ∷ step.BadStatement ∷ step.AttestationNotAccepted ∷ []

@@ -1,16 +1,16 @@
 -- What the judgement of a registration answers.
 use Rattle.std.specs.Prelude.{◌≡◌, ℕ, List, true}
 use Rattle.authdata.specs.Flags.{is_set, BE}
-use Rattle.authdata.specs.Layout.{AttestedCredential, AuthenticatorData}
 use Rattle.authdata.specs.Objects.{Attestation, ObjectOf}
 use Rattle.authdata.specs.Statements.{IsKnownFormat, IsNone, IsSelfSigned}
 use Rattle.authdata.specs.declared.statement.AttestationType.{AttestationType}
 use Rattle.authdata.specs.declared.statement.AttestationType.TheVariants as types
 use Rattle.cose.specs.declared.key.CoseKey.{CoseKey}
 use Rattle.verification.specs.declared.party.Policy.{Policy}
-use Rattle.verification.specs.Records.{NewCredential}
+use Rattle.std.specs.Option.{ForSome}
+use Rattle.verification.specs.Records.{AttestedRegistration, NewCredential}
 use Rattle.cose.specs.Schemes.{Validity}
-use Rattle.verification.specs.Registration.{Attests, JudgedRegistration, IsFirstFailing}
+use Rattle.verification.specs.Registration.{Attests, JudgedRegistration, IsFirstFailing, counted}
 use Rattle.verification.specs.declared.client_data.ClientDataStep.{ClientDataStep}
 use Rattle.verification.specs.declared.client_data.ClientDataStep.TheVariants as line
 use Rattle.verification.specs.declared.refusal.VerificationError.{VerificationError}
@@ -18,11 +18,15 @@ use Rattle.verification.specs.declared.refusal.VerificationError.TheVariants as 
 use Rattle.verification.specs.declared.refusal.RegistrationRefusal.{RegistrationRefusal}
 use Rattle.verification.specs.declared.refusal.RegistrationRefusal.TheVariants as step
 
--- the credential that the response attests, with its counter and the mark of eligibility
-abbrev pub IsVerifiedRegistration : JudgedRegistration → NewCredential → Type 0
+-- what the response attests, and the format of what counts as its object
+abbrev pub IsVerifiedRegistration : JudgedRegistration → AttestedRegistration → Type 0
 IsVerifiedRegistration x v =
-    (o : Attestation) × (a : AuthenticatorData) × (c : AttestedCredential) × Attests x.rp.profile x.response o a c
-    × (v.id ≡ c.id) × (v.key ≡ c.key) × (v.sign_count ≡ a.sign_count) × (v.eligible ≡ is_set a.flags BE)
+    (o : Attestation) × Attests x.rp.profile x.response o v.auth_data v.credential
+    × ForSome x.session (λ e. v.format ≡ (counted x.rp.profile e.attestation o).fmt)
+
+-- the credential that it brings, with its counter and the mark of eligibility
+abbrev pub new_credential : AttestedRegistration → NewCredential
+new_credential v = record { id = v.credential.id; key = v.credential.key; sign_count = v.auth_data.sign_count; eligible = is_set v.auth_data.flags BE }
 
 -- the first step that fails is named; want of memory says nothing
 abbrev pub IsRefused : Validity → JudgedRegistration → VerificationError RegistrationRefusal → Type 0

@@ -1,9 +1,7 @@
 -- What a judgement answers.
-use Rattle.std.specs.Prelude.{◌≡◌}
 use Rattle.std.specs.Option.{ForSome}
 use Rattle.refusal_order.specs.Lines.{Each}
-use Rattle.authdata.specs.Flags.{is_set, BE, BS}
-use Rattle.authdata.specs.Layout.{AuthenticatorData, AuthOf}
+use Rattle.authdata.specs.Layout.{AuthOf, lent_auth_view}
 use Rattle.clientdata.specs.declared.record.CeremonyType.TheVariants.{Get}
 use Rattle.verification.specs.ClientData.{IsSerialised}
 use Rattle.cose.specs.Schemes.{Validity}
@@ -16,11 +14,9 @@ use Rattle.verification.specs.declared.refusal.VerificationError.TheVariants as 
 use Rattle.verification.specs.declared.refusal.SignInRefusal.{SignInRefusal}
 use Rattle.verification.specs.declared.refusal.SignInRefusal.TheVariants as step
 
--- the counter and the marks of backup that the authenticator data say
+-- what the authenticator data say
 abbrev pub IsVerifiedSignIn : JudgedSignIn → VerifiedAssertion → Type 0
-IsVerifiedSignIn x v =
-    (a : AuthenticatorData) × AuthOf x.rp.profile a x.response.auth_data
-    × (v.sign_count ≡ a.sign_count) × (v.eligible ≡ is_set a.flags BE) × (v.backed_up ≡ is_set a.flags BS)
+IsVerifiedSignIn x v = AuthOf x.rp.profile (lent_auth_view v.auth_data) x.response.auth_data
 
 -- the first step that fails is named; want of memory comes only where the steps on the session and the
 -- credential are passed

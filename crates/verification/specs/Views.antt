@@ -24,7 +24,7 @@ abbrev pub credential_view : RowView → Credential
 credential_view c = record { id = c.id.now; user = c.user.now; key = lent_key_view c.key; sign_count = c.sign_count; eligible = c.eligible; retired = c.retired }
 
 abbrev pub admitted_view : AdmittedCredential → NewCredential
-admitted_view c = record { id = c.id.items; key = c.key; sign_count = c.sign_count; eligible = c.eligible }
+admitted_view c = record { id = c.id.now; key = lent_key_view c.key; sign_count = c.sign_count; eligible = c.eligible }
 
 abbrev pub sign_in_view : SignInSession → ExpectedSignIn
 sign_in_view s = record {
@@ -54,7 +54,7 @@ assertion_parts_view p = record {
 }
 
 abbrev pub registration_parts_view : RegistrationParts → responses.AuthenticatorAttestationResponse
-registration_parts_view p = record { object = p.object.now; client_data = p.client_data.now }
+registration_parts_view p = record { object = p.object.now; client_data = p.client_data.now; raw_id = option_map (λ id. id.now) p.raw_id }
 
 abbrev pub judged_sign_in_view : SignInAttempt → JudgedSignIn
 judged_sign_in_view x = record {

@@ -174,6 +174,9 @@ pub enum RegistrationRefusal {
     /// 11: the key's algorithm was not offered.
     #[error("the key's algorithm was not offered")]
     AlgorithmNotOffered,
+    /// 19: the client names another credential than the response attests: its `rawId`, where it is handed in, is another id.
+    #[error("the response's id is not the attested credential's")]
+    OtherId,
     /// 12: the format of the attestation statement is neither `none` nor `packed`. In Level 3 steps 12 to 14 take it as `none`
     /// where the session asked for no attestation.
     #[error("the attestation statement's format is unknown")]
@@ -216,10 +219,11 @@ impl RegistrationRefusal {
             RegistrationRefusal::TableFull => 16,
             RegistrationRefusal::CrossOrigin => 17,
             RegistrationRefusal::WrongTopOrigin => 18,
+            RegistrationRefusal::OtherId => 19,
         }
     }
 
-    /// The step of this number: 1 to 18.
+    /// The step of this number: 1 to 19.
     pub fn from_number(number: u8) -> Option<RegistrationRefusal>
         ensures { MatchOption result ((step : RegistrationRefusal) → registration_number step ≢ number) (λ step. registration_number step ≡ number) }
     {
@@ -242,6 +246,7 @@ impl RegistrationRefusal {
             16 => Some(RegistrationRefusal::TableFull),
             17 => Some(RegistrationRefusal::CrossOrigin),
             18 => Some(RegistrationRefusal::WrongTopOrigin),
+            19 => Some(RegistrationRefusal::OtherId),
             _ => None,
         }
     }

@@ -1,18 +1,18 @@
 //! Judging a registration (WebAuthn Level 2, section 7.1).
 
-ghost use Rattle.std.specs.Prelude.{◌≡◌, ◌↔◌, ◌⊎◌, Bool, Contains, IfErr, IfOk, IfSome, IsTrue, List, None, OnOk, Some, true, ℕ};
+ghost use Rattle.std.specs.Prelude.{◌≡◌, ◌↔◌, ◌⊎◌, Bool, Contains, IfErr, IfOk, IfSome, IsTrue, List, None, OnOk, Some, option_map, true, ℕ};
+ghost use Rattle.std.specs.Option.{ForSome};
 ghost use Rattle.refusal_order.specs.Lines.{Each, FirstFailing};
 ghost use Rattle.authdata.specs.Flags.{is_set, UP};
 ghost use Rattle.cose.specs.Keys.{alg_of, lent_key_view};
-ghost use Rattle.authdata.specs.Objects.{ObjectOf, object_view};
+ghost use Rattle.authdata.specs.Objects.{lent_object_view};
 ghost use Rattle.authdata.specs.Layout.{AttestedCredential, AuthOf, AuthenticatorData, lent_attested_view, lent_auth_view};
 ghost use Rattle.verification.specs.Registration.{Attests, CountsAsNone, JudgedRegistration, NeedsNoPresence, PassesRegistrationStep, attestation_steps, auth_data_steps, counted};
 ghost use Rattle.verification.specs.Registration.{client_data_steps, response_steps, table_steps};
 ghost use Rattle.verification.specs.Shared.{FailsIn, never};
-ghost use Rattle.verification.specs.RegistrationAnswers.{AcceptsAttestation, IsNoObject, IsRefused, AttestsAs};
-ghost use Rattle.verification.specs.RegistrationAnswers.{AttestsAsNothing, IsVerifiedRegistration, step_of};
-ghost use Rattle.verification.specs.Attested.{IsOf};
-ghost use Rattle.verification.specs.Views.{admitted_view, judged_registration_view, judged_without_table, registration_view, registration_parts_view};
+ghost use Rattle.verification.specs.RegistrationAnswers.{AcceptsAttestation, IsRefused, AttestsAs};
+ghost use Rattle.verification.specs.RegistrationAnswers.{AttestsAsNothing, IsVerifiedRegistration, new_credential, step_of};
+ghost use Rattle.verification.specs.Views.{admitted_view, judged_registration_view, judged_without_table, registration_view};
 
 use crate::client_data::{ClientDataError, ClientDataStep, check_client_data};
 use crate::flag::is_verified_as;
@@ -20,17 +20,16 @@ use crate::party::{Policy, RelyingParty};
 use crate::record::{RegistrationParts, RegistrationSession};
 use crate::refusal::{RegistrationRefusal, VerificationError};
 use authdata::{
-    AttestationObject, AttestationType, AttestedView, AuthView, Profile, check_statement, flags,
-    read_view,
+    AttestationType, AttestationView, AttestedView, AuthView, Profile, flags, read_view,
 };
 use clientdata::{CeremonyType, hash};
-use cose::{Alg, CoseKey, KeyView, Verifier};
-use std::alloc::{AllocError, Global};
+use cose::{Alg, KeyView, Verifier};
+use std::alloc::Global;
 use std::marker::Model;
 
 /// A registration to be judged.
 #[derive(Clone, Copy, Drop)]
-pub struct RegistrationAttempt<'a> {
+pub struct RegistrationAttempt<'a, 'r> {
     /// The relying party.
     pub party: &'a RelyingParty,
     /// The attestations that it accepts.
@@ -38,37 +37,39 @@ pub struct RegistrationAttempt<'a> {
     /// What the session expects; none where it is not open, or is one for sign-in.
     pub session: Option<&'a RegistrationSession>,
     /// The client's answer.
-    pub response: RegistrationParts<'a>,
+    pub response: RegistrationParts<'r>,
 }
 
-/// A credential that may be stored: its registration passes each step.
-#[derive(Debug, Drop)]
-pub struct AdmittedCredential {
+/// A credential that may be stored, lent: its registration passes each step.
+#[derive(Clone, Copy, Debug, Drop)]
+pub struct AdmittedCredential<'a> {
     /// The credential id: 1 to 64 bytes, in the open profile to 1,023.
-    pub id: Vec<u8>,
+    pub id: &'a [u8],
     /// The public key.
-    pub key: CoseKey,
+    pub key: KeyView<'a>,
     /// The signature counter that was received.
     pub sign_count: u32,
     /// Whether the credential is eligible for backup (BE).
     pub eligible: bool,
 }
 
-/// A registration that passes each step on the response. Its credential is given by `admit` alone, since the steps
-/// on the table are left.
+/// A registration that passes each step on the response, and what that attests. Only `admit` gives the credential as one that
+/// may be stored, since the steps on the table are left.
 #[must_use]
 #[derive(Debug, Drop)]
-pub struct VerifiedRegistration {
-    credential: AdmittedCredential,
+pub struct VerifiedRegistration<'a> {
+    auth_data: AuthView<'a>,
+    credential: AttestedView<'a>,
+    format: &'a str,
 }
 
-impl Model for VerifiedRegistration {
-    ghost use Rattle.verification.specs.Records.{NewCredential};
-    ghost use Rattle.verification.specs.Views.{admitted_view};
+impl<'a> Model for VerifiedRegistration<'a> {
+    ghost use Rattle.authdata.specs.Layout.{lent_attested_view, lent_auth_view};
+    ghost use Rattle.verification.specs.Records.{AttestedRegistration};
 
-    ghost Value = { NewCredential };
+    ghost Value = { AttestedRegistration };
 
-    ghost view = { λ v. admitted_view v.credential };
+    ghost view = { λ v. record { auth_data = lent_auth_view v.auth_data; credential = lent_attested_view v.credential; format = v.format.now } };
 }
 
 /// What the step on client data is, of those of a registration.
@@ -120,27 +121,48 @@ pub fn counts_as_none(profile: Profile, asked: bool) -> bool
     profile == Profile::Level3 && !asked
 }
 
+/// Whether an id is the one that is named, where one is.
+fn is_named(raw_id: Option<&[u8]>, id: &[u8]) -> bool
+    ensures { IsTrue result ↔ ForSome (option_map (λ r. r.now) raw_id.entry) (λ raw_id. raw_id ≡ id.now) }
+{
+    match raw_id {
+        Some(raw_id) => raw_id == id,
+        None => true,
+    }
+}
+
 /// How the object, as it counts, attests a credential of this key.
 fn statement<V: Verifier>(
     verifier: &V,
     profile: Profile,
     asked: bool,
-    object: &AttestationObject,
+    object: &AttestationView<'_>,
     key: &KeyView<'_>,
     hash: &[u8; 32],
 ) -> Result<AttestationType, RegistrationRefusal>
-    ensures shown { IfOk result (AttestsAs (V.valid verifier.now) (counted profile asked (object_view object.now))
+    ensures shown { IfOk result (AttestsAs (V.valid verifier.now) (counted profile asked (lent_object_view object.now))
         (lent_key_view key.now) hash.now) }
-    ensures refused { IfErr result (AttestsAsNothing (V.valid verifier.now) (counted profile asked (object_view object.now))
+    ensures refused { IfErr result (AttestsAsNothing (V.valid verifier.now) (counted profile asked (lent_object_view object.now))
         (lent_key_view key.now) hash.now) }
 {
     if counts_as_none(profile, asked) {
         return Ok(AttestationType::None);
     }
-    match check_statement(verifier, object, key, hash) {
+    match object.check_statement(verifier, key, hash) {
         Ok(kind) => Ok(kind),
         Err(authdata::Error::UnknownFormat) => Err(RegistrationRefusal::UnknownFormat),
         Err(_) => Err(RegistrationRefusal::BadStatement),
+    }
+}
+
+/// The format of what counts as the object.
+fn counted_format<'a>(profile: Profile, asked: bool, object: &AttestationView<'a>) -> &'a str
+    ensures { result.now ≡ (counted profile asked (lent_object_view object.now)).fmt }
+{
+    if counts_as_none(profile, asked) {
+        "none"
+    } else {
+        object.fmt
     }
 }
 
@@ -151,21 +173,6 @@ fn is_accepted(policy: Policy, kind: AttestationType) -> bool
     match kind {
         AttestationType::None => policy.accept_none,
         AttestationType::SelfSigned => policy.accept_self,
-    }
-}
-
-/// The attestation object that the bytes are.
-fn object_in(
-    alloc: Global,
-    bytes: &[u8],
-) -> Result<AttestationObject, VerificationError<RegistrationRefusal>>
-    ensures found { IfOk result (λ o. ObjectOf (object_view o) bytes.now) }
-    ensures refused { IfErr result (IsNoObject bytes.now) }
-{
-    match AttestationObject::read(alloc, bytes) {
-        Ok(object) => Ok(object),
-        Err(authdata::Error::Memory) => Err(VerificationError::Memory),
-        Err(_) => Err(VerificationError::Refused(RegistrationRefusal::BadAttestationObject)),
     }
 }
 
@@ -185,7 +192,7 @@ fn attested_in(profile: Profile, bytes: &[u8]) -> Option<(AuthView<'_>, Attested
     }
 }
 
-impl<'a> RegistrationAttempt<'a> {
+impl<'a, 'r> RegistrationAttempt<'a, 'r> {
     /// The session, where it is open and the steps on client data are passed.
     fn check_client_data(
         &self,
@@ -211,20 +218,21 @@ impl<'a> RegistrationAttempt<'a> {
         }
     }
 
-    /// What the response attests, where the steps on authenticator data are passed, by its attestation object.
-    fn attested<'o>(
+    /// What the response attests, where the steps on authenticator data are passed, and its attestation object.
+    fn attested(
         &self,
-        object: &'o AttestationObject,
         session: &RegistrationSession,
-    ) -> Result<(AuthView<'o>, AttestedView<'o>), RegistrationRefusal>
-        requires object { ObjectOf (object_view object.now) self.now.response.object.now }
-        requires session { (judged_without_table self.now).session ≡ Some (registration_view session.now) }
+    ) -> Result<(AttestationView<'r>, AuthView<'r>, AttestedView<'r>), RegistrationRefusal>
+        requires { (judged_without_table self.now).session ≡ Some (registration_view session.now) }
         ensures passes { OnOk result (Each (PassesRegistrationStep never (judged_without_table self.now)) auth_data_steps) }
         ensures found { IfOk result (λ x. Attests (judged_without_table self.now).rp.profile (judged_without_table self.now).response
-            (object_view object.now) (lent_auth_view x.0) (lent_attested_view x.1)) }
+            (lent_object_view x.0) (lent_auth_view x.1) (lent_attested_view x.2)) }
         ensures refused { IfErr result (FirstFailing (PassesRegistrationStep never (judged_without_table self.now)) auth_data_steps) }
     {
-        let Some((auth_data, credential)) = attested_in(self.party.profile(), &object.auth_data)
+        let Some(object) = AttestationView::read(self.response.object) else {
+            return Err(RegistrationRefusal::BadAttestationObject);
+        };
+        let Some((auth_data, credential)) = attested_in(self.party.profile(), object.auth_data)
         else {
             return Err(RegistrationRefusal::BadAttestationObject);
         };
@@ -240,7 +248,10 @@ impl<'a> RegistrationAttempt<'a> {
         if !offers(session, &credential.key) {
             return Err(RegistrationRefusal::AlgorithmNotOffered);
         }
-        Ok((auth_data, credential))
+        if !is_named(self.response.raw_id, credential.id) {
+            return Err(RegistrationRefusal::OtherId);
+        }
+        Ok((object, auth_data, credential))
     }
 
     /// Whether the steps on the attestation statement are passed.
@@ -248,12 +259,12 @@ impl<'a> RegistrationAttempt<'a> {
         &self,
         verifier: &V,
         session: &RegistrationSession,
-        object: &AttestationObject,
+        object: &AttestationView<'_>,
         auth_data: &AuthView<'_>,
         credential: &AttestedView<'_>,
     ) -> Result<(), RegistrationRefusal>
         requires session { (judged_without_table self.now).session ≡ Some (registration_view session.now) }
-        requires attests { Attests (judged_without_table self.now).rp.profile (judged_without_table self.now).response (object_view object.now)
+        requires attests { Attests (judged_without_table self.now).rp.profile (judged_without_table self.now).response (lent_object_view object.now)
             (lent_auth_view auth_data.now) (lent_attested_view credential.now) }
         ensures passes { OnOk result (Each (PassesRegistrationStep (V.valid verifier.now) (judged_without_table self.now)) attestation_steps) }
         ensures refused { IfErr result (FirstFailing (PassesRegistrationStep (V.valid verifier.now) (judged_without_table self.now)) attestation_steps) }
@@ -273,34 +284,16 @@ impl<'a> RegistrationAttempt<'a> {
     }
 }
 
-/// The credential that authenticator data attest, copied out.
-fn verified(
-    alloc: Global,
-    auth_data: &AuthView<'_>,
-    credential: &AttestedView<'_>,
-) -> Result<VerifiedRegistration, AllocError>
-    ensures { IfOk result (IsOf (lent_auth_view auth_data.now) (lent_attested_view credential.now)) }
-{
-    Ok(VerifiedRegistration {
-        credential: AdmittedCredential {
-            id: Vec::from_slice(alloc, credential.id)?,
-            key: credential.key.to_key(alloc)?,
-            sign_count: auth_data.sign_count,
-            eligible: flags::is_set(auth_data.flags, flags::BE),
-        },
-    })
-}
-
 /// Judges a registration by its response: it is verified where it passes each step of section 7.1 on the response;
 /// else the first step that it does not pass is told. Whether there is a place for the credential is left to
-/// `VerifiedRegistration::admit`, which then gives it.
+/// `VerifiedRegistration::admit`.
 ///
-/// Memory is taken by the readers of the client data and of the attestation object, and where each step is passed for the id and an RSA key.
-pub fn verify_registration<V: Verifier>(
+/// Memory is taken by the reader of the client data alone.
+pub fn verify_registration<'r, V: Verifier>(
     alloc: Global,
     verifier: &V,
-    attempt: &RegistrationAttempt<'_>,
-) -> Result<VerifiedRegistration, VerificationError<RegistrationRefusal>>
+    attempt: &RegistrationAttempt<'_, 'r>,
+) -> Result<VerifiedRegistration<'r>, VerificationError<RegistrationRefusal>>
     ensures accepted { IfOk result (λ v. IsVerifiedRegistration (judged_without_table attempt.now) v
         × ((is_registered : List ℕ → Bool) (is_full : Bool)
         → Each (PassesRegistrationStep (V.valid verifier.now) (judged_registration_view attempt.now is_registered is_full)) response_steps)) }
@@ -308,32 +301,57 @@ pub fn verify_registration<V: Verifier>(
         → IsRefused (V.valid verifier.now) (judged_registration_view attempt.now is_registered is_full) e) }
 {
     let session = attempt.check_client_data(alloc)?;
-    let object = object_in(alloc, attempt.response.object)?;
-    let (auth_data, credential) = attempt.attested(&object, session)?;
+    let (object, auth_data, credential) = attempt.attested(session)?;
     attempt.check_attestation(verifier, session, &object, &auth_data, &credential)?;
-    Ok(verified(alloc, &auth_data, &credential)?)
+    Ok(VerifiedRegistration {
+        auth_data,
+        credential,
+        format: counted_format(attempt.party.profile(), session.attestation, &object),
+    })
 }
 
-impl VerifiedRegistration {
+impl<'a> VerifiedRegistration<'a> {
     /// The credential id, by which the site looks whether the credential is registered.
-    pub fn id(&self) -> &[u8]
-        ensures { result.now ≡ self.now.id }
+    pub fn id(&self) -> &'a [u8]
+        ensures { result.now ≡ self.now.credential.id }
     {
-        &self.credential.id
+        self.credential.id
+    }
+
+    /// The authenticator data.
+    pub fn auth_data(&self) -> &AuthView<'a>
+        ensures { lent_auth_view result.now ≡ self.now.auth_data }
+    {
+        &self.auth_data
+    }
+
+    /// The credential that they attest.
+    pub fn credential(&self) -> &AttestedView<'a>
+        ensures { lent_attested_view result.now ≡ self.now.credential }
+    {
+        &self.credential
+    }
+
+    /// The format of what counts as the attestation object: `none`, in Level 3 also where no attestation was asked for, or
+    /// `packed`.
+    pub fn format(&self) -> &'a str
+        ensures { result.now ≡ self.now.format }
+    {
+        self.format
     }
 
     /// The credential, where there is a place for it: the last two steps, by whether a credential with its id is
     /// registered, to anyone, retired or not, and whether there is no room for another one.
     pub fn admit(
-        self,
+        &self,
         is_registered: bool,
         is_full: bool,
-    ) -> Result<AdmittedCredential, RegistrationRefusal>
-        ensures admitted { IfOk result (λ c. admitted_view c ≡ self) }
-        ensures passes { OnOk result ((x : JudgedRegistration) → IsVerifiedRegistration x self → x.is_registered self.id ≡ is_registered → x.is_full ≡ is_full
-            → Each (PassesRegistrationStep never x) table_steps) }
-        ensures refused { IfErr result (λ w. (x : JudgedRegistration) → IsVerifiedRegistration x self → x.is_registered self.id ≡ is_registered
-            → x.is_full ≡ is_full
+    ) -> Result<AdmittedCredential<'a>, RegistrationRefusal>
+        ensures admitted { IfOk result (λ c. admitted_view c ≡ new_credential self.now) }
+        ensures passes { OnOk result ((x : JudgedRegistration) → IsVerifiedRegistration x self.now → x.is_registered self.now.credential.id ≡ is_registered
+            → x.is_full ≡ is_full → Each (PassesRegistrationStep never x) table_steps) }
+        ensures refused { IfErr result (λ w. (x : JudgedRegistration) → IsVerifiedRegistration x self.now
+            → x.is_registered self.now.credential.id ≡ is_registered → x.is_full ≡ is_full
             → FirstFailing (PassesRegistrationStep never x) table_steps w) }
     {
         if is_registered {
@@ -342,6 +360,11 @@ impl VerifiedRegistration {
         if is_full {
             return Err(RegistrationRefusal::TableFull);
         }
-        Ok(self.credential)
+        Ok(AdmittedCredential {
+            id: self.credential.id,
+            key: self.credential.key,
+            sign_count: self.auth_data.sign_count,
+            eligible: flags::is_set(self.auth_data.flags, flags::BE),
+        })
     }
 }

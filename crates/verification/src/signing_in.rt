@@ -5,7 +5,7 @@ ghost use Rattle.std.specs.Option.{ForSome};
 ghost use Rattle.sha2.specs.Sha256.{sha256};
 ghost use Rattle.refusal_order.specs.Lines.{Each, FirstFailing};
 ghost use Rattle.cose.specs.Keys.{lent_key_view};
-ghost use Rattle.authdata.specs.Flags.{is_set, AT, BE};
+ghost use Rattle.authdata.specs.Flags.{is_set, AT, BE, BS};
 ghost use Rattle.authdata.specs.Layout.{AuthOf, AuthenticatorData, lent_auth_view};
 ghost use Rattle.verification.specs.SignIn.{AreUser, IsCounted, PassesSignInStep, PassesSignIn};
 ghost use Rattle.verification.specs.SignIn.{credential_steps, client_data_steps, auth_data_steps, signature_steps};
@@ -25,7 +25,7 @@ use std::alloc::Global;
 
 /// A sign-in to be judged.
 #[derive(Clone, Copy, Drop)]
-pub struct SignInAttempt<'a> {
+pub struct SignInAttempt<'a, 'r> {
     /// The relying party.
     pub party: &'a RelyingParty,
     /// What the session expects; none where it is not open, or is one for registration.
@@ -34,18 +34,30 @@ pub struct SignInAttempt<'a> {
     /// id than the response's is refused as unknown.
     pub credential: Option<RowView<'a>>,
     /// The client's answer.
-    pub response: AssertionParts<'a>,
+    pub response: AssertionParts<'r>,
 }
 
 /// What an assertion that passes each step says.
-#[derive(Clone, Copy, Debug, PartialEq, Eq, Drop)]
-pub struct VerifiedAssertion {
-    /// The signature counter that was received: the credential's from now on.
-    pub sign_count: u32,
+#[derive(Clone, Copy, Debug, Drop)]
+pub struct VerifiedAssertion<'a> {
+    /// The authenticator data. Their counter is the credential's from now on.
+    pub auth_data: AuthView<'a>,
+}
+
+impl<'a> VerifiedAssertion<'a> {
     /// Whether the credential is eligible for backup (BE), to be stored where it was unknown.
-    pub eligible: bool,
+    pub fn eligible(&self) -> bool
+        ensures { result ≡ is_set self.now.auth_data.flags BE }
+    {
+        flags::is_set(self.auth_data.flags, flags::BE)
+    }
+
     /// Whether the credential is backed up now (BS).
-    pub backed_up: bool,
+    pub fn backed_up(&self) -> bool
+        ensures { result ≡ is_set self.now.auth_data.flags BS }
+    {
+        flags::is_set(self.auth_data.flags, flags::BS)
+    }
 }
 
 /// Whether each user that is named is this one, and at least one is named.
@@ -130,7 +142,7 @@ fn bare_data(profile: Profile, bytes: &[u8]) -> Option<AuthView<'_>>
     Some(data)
 }
 
-impl<'a> SignInAttempt<'a> {
+impl<'a, 'r> SignInAttempt<'a, 'r> {
     /// The session and the credential, where the steps on them are passed.
     fn expected(&self) -> Result<(&'a SignInSession, RowView<'a>), SignInRefusal>
         ensures passes { OnOk result (Each (PassesSignInStep never (judged_sign_in_view self.now)) credential_steps) }
@@ -181,7 +193,7 @@ impl<'a> SignInAttempt<'a> {
     }
 
     /// The authenticator data, where the steps on them are passed.
-    fn auth_data(&self, session: &SignInSession) -> Result<AuthView<'a>, SignInRefusal>
+    fn auth_data(&self, session: &SignInSession) -> Result<AuthView<'r>, SignInRefusal>
         requires { (judged_sign_in_view self.now).session ≡ Some (sign_in_view session.now) }
         ensures passes { OnOk result (Each (PassesSignInStep never (judged_sign_in_view self.now)) auth_data_steps) }
         ensures found { IfOk result (λ a. AuthOf self.now.party.now.profile (lent_auth_view a) self.now.response.auth_data.now) }
@@ -232,11 +244,11 @@ impl<'a> SignInAttempt<'a> {
 ///
 /// Memory is taken by the reader of the client data alone; want of it is answered only where the first four
 /// steps, on the session and the credential, are passed, and the client data are not the text that is expected.
-pub fn verify_assertion<V: Verifier>(
+pub fn verify_assertion<'r, V: Verifier>(
     alloc: Global,
     verifier: &V,
-    attempt: &SignInAttempt<'_>,
-) -> Result<VerifiedAssertion, VerificationError<SignInRefusal>>
+    attempt: &SignInAttempt<'_, 'r>,
+) -> Result<VerifiedAssertion<'r>, VerificationError<SignInRefusal>>
     ensures accepted { IfOk result (λ x. PassesSignIn (V.valid verifier.now) (judged_sign_in_view attempt.now)
         × IsVerifiedSignIn (judged_sign_in_view attempt.now) x) }
     ensures refused { IfErr result (IsRefused (V.valid verifier.now) (judged_sign_in_view attempt.now)) }
@@ -244,11 +256,7 @@ pub fn verify_assertion<V: Verifier>(
 {
     let (session, credential) = attempt.expected()?;
     attempt.check_client_data(alloc, session)?;
-    let data = attempt.auth_data(session)?;
-    attempt.check_signature(verifier, &credential, &data)?;
-    Ok(VerifiedAssertion {
-        sign_count: data.sign_count,
-        eligible: flags::is_set(data.flags, flags::BE),
-        backed_up: flags::is_set(data.flags, flags::BS),
-    })
+    let auth_data = attempt.auth_data(session)?;
+    attempt.check_signature(verifier, &credential, &auth_data)?;
+    Ok(VerifiedAssertion { auth_data })
 }

@@ -9,6 +9,7 @@ from django.conf import settings
 from django.core.signals import setting_changed
 from django.db import connection, transaction
 
+from ..pages import Limit, limit_of
 from ..server import Server
 from ..sql import LIFETIME, Rows, SqlServer
 
@@ -39,9 +40,16 @@ def server() -> DjangoServer:
     return DjangoServer(Server(said["rp_id"], said["origins"], said.get("rp_name")), said.get("lifetime", LIFETIME))
 
 
+@lru_cache(1)
+def rate_limit() -> Limit:
+    """The limit of requests of the setting `GARVOENG`."""
+    return limit_of(settings.GARVOENG.get("rate_limit"))
+
+
 def _forget(setting: str, **_: Any) -> None:
     if setting == "GARVOENG":
         server.cache_clear()
+        rate_limit.cache_clear()
 
 
 setting_changed.connect(_forget)

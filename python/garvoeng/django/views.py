@@ -16,7 +16,7 @@ from .. import pages
 from ..errors import BadInput, Refused, RowDamaged, SessionDamaged
 from ..forms import to_text
 from .models import Account
-from .server import server
+from .server import rate_limit, server
 from .sign_ins import BACKEND, REGISTRATION, SIGN_IN, SIGNED_IN, fresh_sign_in, handle_of
 
 def _error(text: str, status: int, **more: Any) -> JsonResponse:
@@ -32,6 +32,11 @@ def _posted(view: Callable[..., HttpResponse]) -> Callable[..., HttpResponse]:
     @require_POST
     @wraps(view)
     def answered(request: Any) -> HttpResponse:
+        wait = pages.wait_of(rate_limit(), request.META.get("REMOTE_ADDR"))
+        if wait:
+            response = _error(pages.TOO_OFTEN, 429)
+            response["Retry-After"] = str(wait)
+            return response
         try:
             pages.check_head(request.META.get("CONTENT_TYPE", ""), request.META.get("CONTENT_LENGTH"))
             return protected(request)

@@ -1,5 +1,5 @@
 -- What is owed of `judge`.
-use Rattle.std.proofs.Common.{refl, subst}
+use Rattle.std.proofs.Common.{◌∙◌, refl, subst}
 use Rattle.authdata.specs.Responses as responses
 use Rattle.ctap_replies.specs.Replies.{Creation}
 use Rattle.ctap_replies.specs.ReplyView.{creation_reply_view}
@@ -24,7 +24,7 @@ returns-in-Ok-finish_registration_parts-clause-accepted g c =
     let k = c.in-Ok-finish_registration_parts.ensures in
     let s = c.args.site.now in
     let seen = creation_reply_view c.in-Ok.reply in
-    let e = response_is seen c.deref.result.now c.in_ok-object.object.items c.args.client_data.now c.deref.ensures.value c.in_ok-object.ensures in (
+    let e = c.parts-response.ensures ∙ response_is seen c.deref.result.now c.in_ok-object.object.items c.args.client_data.now c.deref.ensures.value c.in_ok-object.ensures in (
       seen,
       c.in-Ok.ensures.found.spelled,
       subst (λ (r : responses.AuthenticatorAttestationResponse). PassesRegistration (g.V.Verifier.valid c.args.verifier.now)
@@ -38,7 +38,7 @@ returns-in-Err-Refused-clause-complete g c = λ r spelled passed.
     let valid = g.V.Verifier.valid c.args.verifier.now in
     let s = c.args.site.now in
     let seen = creation_reply_view c.in-Ok.reply in
-    let e = response_is seen c.deref.result.now c.in_ok-object.object.items c.args.client_data.now c.deref.ensures.value c.in_ok-object.ensures in
+    let e = c.parts-response.ensures ∙ response_is seen c.deref.result.now c.in_ok-object.object.items c.args.client_data.now c.deref.ensures.value c.in_ok-object.ensures in
     let all = subst (λ (q : Creation). PassesRegistration valid (judged_registration s c.args.session (response q c.args.client_data.now)))
     (one_creation seen r c.args.message.now c.in-Ok.ensures.found spelled) passed in
     let refused = subst (λ (q : responses.AuthenticatorAttestationResponse). IsRefused valid (judged_registration s c.args.session q) c.in-Err-Refused.field-0)
@@ -53,7 +53,7 @@ returns-in-Err-Refused-clause-refused g c =
     let valid = g.V.Verifier.valid c.args.verifier.now in
     let s = c.args.site.now in
     let seen = creation_reply_view c.in-Ok.reply in
-    let e = response_is seen c.deref.result.now c.in_ok-object.object.items c.args.client_data.now c.deref.ensures.value c.in_ok-object.ensures in
+    let e = c.parts-response.ensures ∙ response_is seen c.deref.result.now c.in_ok-object.object.items c.args.client_data.now c.deref.ensures.value c.in_ok-object.ensures in
     let refused = subst (λ (q : responses.AuthenticatorAttestationResponse). IsRefused valid (judged_registration s c.args.session q) c.in-Err-Refused.field-0)
     e c.in-Err-Refused.ensures.refused in (
       seen,

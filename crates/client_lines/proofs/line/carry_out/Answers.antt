@@ -4,5 +4,5 @@ use Rattle.client_lines.proofs.line.carry_out.Goals as goal
 
 pub returns-in-Ok : goal.returns-in-Ok
 returns-in-Ok c =
-    answers c.args.client.now c.carry_out.new.self c.args.line.now c.in-Ok.line.id c.in-Ok.line.act c.carry_out.result
-    c.in-Ok.ensures c.carry_out.ensures.told c.carry_out.ensures.unchanged
+    answers c.args.client.now c.carried_out.new.client c.args.line.now c.in-Ok.line c.carried_out.result.id c.carried_out.result.told
+    c.in-Ok.ensures.found c.carried_out.ensures

@@ -1,8 +1,8 @@
 -- What is owed of `sent`.
 use Rattle.std.proofs.Common.{ℕ, Vec, Global, Result, Err, ap, subst, sym}
 use Rattle.ctap_encoding.specs.declared.error.Error.{Error}
-use Rattle.pin_messages.specs.CommandView.{command_view}
-use Rattle.pin_messages.specs.Commands.{PinRequest}
+use Rattle.pin_client_messages.specs.CommandView.{command_view}
+use Rattle.pin_client_messages.specs.Commands.{PinRequest}
 use Rattle.pin_protocols.proofs.requests.sent.Goals as goal
 
 abbrev failed : Error → Result (Vec ℕ Global) Error

@@ -1,7 +1,7 @@
 -- What is owed of `set_pin_request`.
 use Rattle.std.proofs.Common.{◌≡◌, ℕ, Vec, Global, inl, inr, Some, refl}
-use Rattle.pin_messages.specs.CommandView.{point_view}
-use Rattle.pin_messages.specs.Commands.{set_pin}
+use Rattle.pin_client_messages.specs.CommandView.{point_view}
+use Rattle.pin_client_messages.specs.Commands.{set_pin}
 use Rattle.pin_protocols.specs.Asks.{entries}
 use Rattle.pin_protocols.specs.Flows.{IsSessionAsk, IsSetPin, IsSetPinAsk}
 use Rattle.pin_protocols.specs.FlowView.{secret_view}

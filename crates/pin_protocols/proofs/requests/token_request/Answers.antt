@@ -1,7 +1,7 @@
 -- What is owed of `token_request`.
 use Rattle.std.proofs.Common.{◌≡◌, ℕ, Vec, Global, inl, inr}
 use Rattle.std.specs.Prelude.{option_map}
-use Rattle.pin_messages.specs.CommandView.{command_view, point_view}
+use Rattle.pin_client_messages.specs.CommandView.{command_view, point_view}
 use Rattle.pin_protocols.specs.Asks.{entries}
 use Rattle.pin_protocols.specs.Flows.{IsSessionAsk, IsTokenAsk, IsTokenByPin}
 use Rattle.pin_protocols.specs.FlowView.{scope_view}

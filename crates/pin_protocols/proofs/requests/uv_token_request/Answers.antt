@@ -1,8 +1,8 @@
 -- What is owed of `uv_token_request`.
 use Rattle.std.proofs.Common.{ℕ, Vec, Global, refl}
 use Rattle.std.specs.Prelude.{option_map}
-use Rattle.pin_messages.specs.CommandView.{point_view}
-use Rattle.pin_messages.specs.Commands.{token_by_uv}
+use Rattle.pin_client_messages.specs.CommandView.{point_view}
+use Rattle.pin_client_messages.specs.Commands.{token_by_uv}
 use Rattle.pin_protocols.specs.Asks.{entries}
 use Rattle.pin_protocols.specs.Flows.{IsSessionAsk, IsTokenByUv}
 use Rattle.pin_protocols.specs.FlowView.{scope_view}

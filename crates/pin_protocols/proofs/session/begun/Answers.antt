@@ -1,6 +1,6 @@
 -- What is owed of `begun`.
 use Rattle.std.proofs.Common.{◌≡◌, inl, inr}
-use Rattle.pin_messages.specs.CommandView.{point_view}
+use Rattle.pin_client_messages.specs.CommandView.{point_view}
 use Rattle.pin_protocols.specs.Asks.{entries}
 use Rattle.pin_protocols.specs.Flows.{IsSessionAsk}
 use Rattle.pin_protocols.specs.Protocols.{IsDerivation, agreement_ask}

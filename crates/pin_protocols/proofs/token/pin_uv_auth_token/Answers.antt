@@ -1,6 +1,6 @@
 -- What is owed of `pin_uv_auth_token`.
 use Rattle.std.proofs.Common.{◌≡◌, true, length, inl, inr, rules}
-use Rattle.pin_messages.specs.CommandView.{point_view}
+use Rattle.pin_client_messages.specs.CommandView.{point_view}
 use Rattle.pin_protocols.specs.Asks.{entries}
 use Rattle.pin_protocols.specs.Flows.{IsSessionAsk}
 use Rattle.pin_protocols.specs.FlowView.{secret_view}

@@ -1,7 +1,7 @@
 -- What is owed of `transports_of`.
 use Rattle.std.proofs.Common.{rules}
 use Rattle.site_acts.specs.Faults.{IsTransport}
-use Rattle.site_acts.proofs.Amiss.{item_refused}
+use Rattle.json_lines.proofs.Amiss.{item_refused}
 use Rattle.site_acts.proofs.transports.transports_of.Goals as goal
 
 pub returns-in_err-transport-clause-refused : goal.returns-in_err-transport-clause-refused

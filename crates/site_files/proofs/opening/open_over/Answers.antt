@@ -10,7 +10,7 @@ returns-in-Ok-clause-found g c clean =
     let was = c.args.store in
     let shown = g.S.Store.view was in
     let now = (g.S.Store.view c.in-Ok.site.store).trees in
-    let sound = c.in-Ok.ensures.clean clean in
+    let sound = c.in-Ok.ensures.quiet.clean clean in
     let live = λ (here : IsClean shown).
     open_if_sound shown.is_open shown.is_broken (g.met.S.Store.broken_if_shut was) (sym (c.is_broken.ensures here) ∙ c.if-is_broken.false) in
     elim c.in_ok-store.ensures.found [

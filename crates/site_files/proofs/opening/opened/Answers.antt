@@ -12,7 +12,7 @@ returns-in-Ok-clause-found g c =
       (view c.in-Ok.store).trees,
       at.found was.0 was.1,
       elim was.2 [
-        | inl e ↦ inl (e ∙ at.rests was.0 was.1)
+        | inl e ↦ inl (e ∙ at.rests.1 was.0 was.1)
         | inr first ↦ inr first
       ],
     )) c.site_in.ensures.found

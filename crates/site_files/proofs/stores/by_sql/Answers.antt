@@ -1,4 +1,5 @@
 -- What is owed of `by_sql`.
+use Rattle.std.proofs.Common.{rules}
 use Rattle.sqlite_store.specs.FileStore.{view}
 use Rattle.sqlite.specs.Files.{HoldsDatabase, image_of}
 use Rattle.site_files.proofs.Found.{found_behind, rests_behind}
@@ -10,4 +11,4 @@ returns-in-Ok-clause-found g c clean is_open =
     (λ here. (c.in-Ok.ensures.found here).holds) c.into_store.ensures.undone c.into_store.ensures.quiet.clean clean is_open
 
 pub returns-in-Ok-clause-rests : goal.returns-in-Ok-clause-rests
-returns-in-Ok-clause-rests g c = rests_behind (view c.in-Ok.conn.store) (view c.into_store.result) c.into_store.ensures.undone
+returns-in-Ok-clause-rests g c = (search rules, rests_behind (view c.in-Ok.conn.store) (view c.into_store.result) c.into_store.ensures.undone)

@@ -5,12 +5,12 @@ use Rattle.site_lines.proofs.acting.all_rows.Goals as goal
 
 pub returns-in-Ok-clause-details : goal.returns-in-Ok-clause-details
 returns-in-Ok-clause-details g c =
-    row_details_after g.S.Store.view c.in-Ok.rows c.args.site.now c.rows.new.self c.with_known.new.site c.with_known.result c.in-Ok.ensures.same
+    row_details_after g.S.Store.view c.in-Ok.rows c.args.site.now c.rows.new.self c.with_known.new.site c.with_known.result c.in-Ok.ensures.reads.same
     c.with_known.ensures.told
 
 pub returns-in-Ok-clause-cause : goal.returns-in-Ok-clause-cause
 returns-in-Ok-clause-cause g c =
     fails_after g.S.Store.view g.S.Store.faults c.args.site.now c.rows.new.self c.with_known.new.site _ _ _ _ c.with_known.result c.with_known.ensures.clean
-    c.in-Ok.ensures.counts (λ clean no. absurd no)
-    (λ clean damage placed holds. absurd (damaged_on g.S.Store.view c.args.site.now c.rows.new.self c.in-Ok.ensures.same clean damage placed holds))
+    c.in-Ok.ensures.reads.quiet.counts (λ clean no. absurd no)
+    (λ clean damage placed holds. absurd (damaged_on g.S.Store.view c.args.site.now c.rows.new.self c.in-Ok.ensures.reads.same clean damage placed holds))
     c.with_known.ensures.cause

@@ -7,11 +7,11 @@ pub returns-clause-refused : goal.returns-clause-refused
 returns-clause-refused g c =
     begins_none _ (opens_registration c.args.begin.now c.args.words) c.args.site.now c.begin_registration_for.new.self c.begin_registration_for.result
     (same_registration _ _ _ _ c.args.begin.now.user_verification c.args.words c.args.begin.now.asks c.as_slice.ensures.value c.as_slice-2.ensures.value)
-    c.begin_registration_for.ensures.refused c.begin_registration_for.ensures.room
+    c.begin_registration_for.ensures.refused c.begin_registration_for.ensures.begins.room
 
 pub returns-clause-begun : goal.returns-clause-begun
 returns-clause-begun g c =
     session_begins g.S.Store.view _ (opens_registration c.args.begin.now c.args.words) c.args.words c.args.now c.args.site.now c.begin_registration_for.new.self
     c.begin_registration_for.result (λ s. s.session) (λ s. s.challenge)
     (same_registration _ _ _ _ c.args.begin.now.user_verification c.args.words c.args.begin.now.asks c.as_slice.ensures.value c.as_slice-2.ensures.value)
-    c.begin_registration_for.ensures.started c.begin_registration_for.ensures.begun c.begin_registration_for.ensures.held c.begin_registration_for.ensures.one
+    c.begin_registration_for.ensures.begins.started c.begin_registration_for.ensures.begun c.begin_registration_for.ensures.begins.held c.begin_registration_for.ensures.begins.one

@@ -1,6 +1,6 @@
 -- What is owed of `finish_with`.
 use Rattle.std.proofs.Common.{◌∙◌, ap, refl, subst}
-use Rattle.kept_site.specs.State.{KeptState}
+use Rattle.site_stored.specs.State.{StoredState}
 use Rattle.site_lines.specs.Private.{IsRefusedRegistration}
 use Rattle.site_state.specs.Details.{detail_view}
 use Rattle.site_lines.proofs.Caused.{refused_registration_fails, refuses_registered_as, store_fails}
@@ -10,13 +10,13 @@ use Rattle.site_lines.proofs.finishing.finish_with.Goals as goal
 
 pub returns-in-Ok-clause-told : goal.returns-in-Ok-clause-told
 returns-in-Ok-clause-told g c =
-    registration_accepted g.S.Store.view c.args.finish c.args.site.now c.finish_registration_parts.new.self _ c.in-Ok.registered c.asks_attestation-asked.result _
-    c.verifier-verifier.ensures c.registration_parts-parts.ensures c.in-Ok.ensures.open c.asks_attestation-asked.ensures c.in-Ok.ensures.closed c.in-Ok.ensures.one.0 c.in-Ok.ensures.accepted c.requires.named
+    registration_accepted g.S.Store.view c.args.finish c.args.site.now c.finish_registration_parts.new.self _ c.in-Ok.registered _
+    c.verifier-verifier.ensures c.registration_parts-parts.ensures c.in-Ok.ensures.closed c.in-Ok.ensures.one.0 c.in-Ok.ensures.accepted
 
 pub returns-in-Err-Site-Refused-clause-told : goal.returns-in-Err-Site-Refused-clause-told
 returns-in-Err-Site-Refused-clause-told g c =
     let refused = rw c.in-Err-Site-Refused.field-0-is at c.in-Err-Site-Refused.ensures.refused in
-    let profile = c.profile.ensures ∙ ap (λ p. p.profile) c.party.ensures ∙ ap (λ (s : KeptState _). s.rp.profile) refused.0.is in
+    let profile = c.profile.ensures ∙ ap (λ p. p.profile) c.party.ensures ∙ ap (λ (s : StoredState _). s.rp.profile) refused.0.is in
     registration_refused g.S.Store.view c.args.finish c.args.site.now c.finish_registration_parts.new.self c.in-Err-Site-Refused.step
     c.refused_registration.result
     (registration_step g.S.Store.view c.args.finish c.args.site.now c.finish_registration_parts.new.self _ c.in-Err-Site-Refused.field-0-0
@@ -31,7 +31,7 @@ returns-in-Err-Site-Refused-clause-kept g c =
 
 pub returns-in-Err-Site-Refused-clause-details : goal.returns-in-Err-Site-Refused-clause-details
 returns-in-Err-Site-Refused-clause-details g c =
-    registration_leaves g.S.Store.view c.args.finish c.profile.result (detail_view c.args.detail.now) c.args.site.now c.finish_registration_parts.new.self
+    registration_leaves g.S.Store.view c.args.finish c.profile.result (detail_view c.args.detail) c.args.site.now c.finish_registration_parts.new.self
     c.in-Err-Site-Refused.step c.refused_registration.result c.refused_registration.ensures
 
 pub returns-in-Err-Site-Refused-clause-cause : goal.returns-in-Err-Site-Refused-clause-cause
@@ -42,5 +42,5 @@ pub returns-in-Err-Store-clause-cause : goal.returns-in-Err-Store-clause-cause
 returns-in-Err-Store-clause-cause g c =
     store_fails g.S.Store.view g.S.Store.faults c.args.site.now c.finish_registration_parts.new.self _ _ _ c.in-Err-Store.field-0 c.in-Err-Store.why
     c.in-Err-Store.field-0-is c.in-Err-Store.ensures.cause
-    (refuses_registered_as (g.S.Store.view c.args.site.now.store) c.args.site.now c.args.finish.session _ _ (detail_view c.args.detail.now) _
+    (refuses_registered_as (g.S.Store.view c.args.site.now.store) c.args.site.now c.args.finish.session _ _ (detail_view c.args.detail) _
     c.registration_parts-parts.ensures refl)

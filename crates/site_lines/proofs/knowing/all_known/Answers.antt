@@ -1,6 +1,6 @@
 -- What is owed of `all_known`.
 use Rattle.std.proofs.Common.{[], arith, subst, sym}
-use Rattle.credential_store.proofs.Causes.{passed_up}
+use Rattle.site_rows.proofs.Causes.{passed_up}
 use Rattle.std.specs.List.{AllByRecursion}
 use Rattle.std.proofs.lemmas.List.{take_more}
 use Rattle.site_lines.specs.Details.{IsKnown, OfDetails}

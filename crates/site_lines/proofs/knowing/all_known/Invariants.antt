@@ -2,7 +2,7 @@
 use Rattle.std.proofs.Common.{◌≡◌, ◌≤◌, map, take}
 use Rattle.std.specs.List.{AllByRecursion}
 use Rattle.sqlite_trees.specs.Tree.{Trees}
-use Rattle.kept_site.specs.Calls.{IsSame}
+use Rattle.site_stored.specs.Calls.{IsSame}
 use Rattle.site_lines.specs.Details.{IsKnown, OfDetails}
 use Rattle.site_lines.proofs.knowing.all_known.Given as goal
 

@@ -16,16 +16,16 @@ returns-in_err-check_client_data-clause-refused g c =
     rw (p.1, p.2) (client_fails (g.V.Verifier.valid c.args.verifier.now)
     (judged_sign_in_view c.args.attempt.now) c.in_ok-session.ensures.passes c.in_err-check_client_data.field-0.0 c.in_err-check_client_data.ensures.refused)
 
-pub returns-in_err-data-clause-refused : goal.returns-in_err-data-clause-refused
-returns-in_err-data-clause-refused g c =
-    let p = err_from_is_err_and c.from_residual-in_err-data.result c.from_residual-in_err-data.ensures.1 in
+pub returns-in_err-auth_data-clause-refused : goal.returns-in_err-auth_data-clause-refused
+returns-in_err-auth_data-clause-refused g c =
+    let p = err_from_is_err_and c.from_residual-in_err-auth_data.result c.from_residual-in_err-auth_data.ensures.1 in
     rw (p.1, p.2) (data_fails (g.V.Verifier.valid c.args.verifier.now)
-    (judged_sign_in_view c.args.attempt.now) c.in_ok-session.ensures.passes c.in_ok-check_client_data.ensures.passes c.in_err-data.field-0.0
-    c.in_err-data.ensures.refused)
+    (judged_sign_in_view c.args.attempt.now) c.in_ok-session.ensures.passes c.in_ok-check_client_data.ensures.passes c.in_err-auth_data.field-0.0
+    c.in_err-auth_data.ensures.refused)
 
 pub returns-in_err-check_signature-clause-refused : goal.returns-in_err-check_signature-clause-refused
 returns-in_err-check_signature-clause-refused g c =
     let p = err_from_is_err_and c.from_residual-in_err-check_signature.result c.from_residual-in_err-check_signature.ensures.1 in
     rw (p.1, p.2) (signature_fails (g.V.Verifier.valid c.args.verifier.now)
-    (judged_sign_in_view c.args.attempt.now) c.in_ok-session.ensures.passes c.in_ok-check_client_data.ensures.passes c.in_ok-data.ensures.passes
+    (judged_sign_in_view c.args.attempt.now) c.in_ok-session.ensures.passes c.in_ok-check_client_data.ensures.passes c.in_ok-auth_data.ensures.passes
     c.in_err-check_signature.field-0.0 c.in_err-check_signature.ensures.refused)

@@ -1,5 +1,6 @@
 -- What is owed of `Site::finish_parts`.
-use Rattle.std.proofs.Common.{◌≡◌, ◌≤◌, ◌∙◌, ap, sym, subst}
+use Rattle.std.proofs.Common.{◌≡◌, ◌≤◌, ◌∙◌, ap, refl, sym, subst}
+use Rattle.authdata.specs.Layout.{lent_auth_view}
 use Rattle.std.specs.Prelude.{IfSome, Some, option_map, slice_get}
 use Rattle.std.proofs.lemmas.Option.{same_Some}
 use Rattle.std.proofs.lemmas.Result.{err_from_is_err_and}
@@ -29,7 +30,7 @@ returns-clause-accepted g c =
       (
         λ row is. c.in_ok-signed_in.ensures.0 ∙ ap (λ x. x.user) (same_Some (credential_view c.unwrap-place.result.1) row (there ∙ is)),
         c.in_ok-signed_in.ensures.1,
-        (tells.0, tells.1, c.in_ok-signed_in.ensures.2 ∙ tells.4),
+        (lent_auth_view c.in_ok-verified.verified.auth_data, tells, c.in_ok-signed_in.ensures.2 ∙ c.backed_up.ensures),
       ),
     )
 
@@ -41,12 +42,12 @@ returns-clause-after g c =
     let place = subst (λ o. IfSome o (λ x. slice_get c.self.inside.table x.0 ≡ Some (credential_view x.1))) c.unwrap-place.ensures c.find-found.ensures.place in
     let id = found_id c.args.response.now.credential.now c.self.inside.table row (sym there) in
     rw (← c.self.view_is) (
-      tells.0,
-      tells.1,
+      lent_auth_view c.in_ok-verified.verified.auth_data,
+      tells,
       same_state c.self.inside.party c.self.inside.policy c.store.new.self _ c.close.new.self _
           (c.store.ensures.stored row place
-          ∙ same_change c.self.inside.table row.id c.args.response.now.credential.now c.in_ok-verified.verified.sign_count tells.0.sign_count
-          c.in_ok-verified.verified.eligible _ id tells.2 tells.3)
+          ∙ same_change c.self.inside.table row.id c.args.response.now.credential.now c.in_ok-verified.verified.auth_data.sign_count
+          (lent_auth_view c.in_ok-verified.verified.auth_data).sign_count c.eligible.result _ id refl c.eligible.ensures)
           c.close.ensures.closed,
     )
 

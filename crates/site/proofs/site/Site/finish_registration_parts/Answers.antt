@@ -43,8 +43,9 @@ pub push-requires-clause-limits : goal.push-requires-clause-limits
 push-requires-clause-limits g c =
     let tells = c.in_ok-verified.ensures.accepted.0 in
     let open_for = sym c.registration-expected.ensures.expected ∙ ap (option_map (λ s. registration_view s.now)) c.unwrap.ensures in
-    let limits = row_limits c.self.inside.party.profile tells.1 tells.2 _ _ _ tells.3.auth_data.0 tells.3.attested
-    (ap (λ v. v.id) c.in_ok-admitted.ensures.admitted ∙ tells.4) (c.in_ok-user.ensures.items ∙ c.deref.ensures.value)
+    let v = c.in_ok-verified.verified in
+    let limits = row_limits c.self.inside.party.profile v.auth_data v.credential _ _ _ tells.1.auth_data.0 tells.1.attested
+    (c.in_ok-id.ensures.items ∙ ap (λ w. w.id) c.in_ok-admitted.ensures.admitted) (c.in_ok-user.ensures.items ∙ c.deref.ensures.value)
     (c.registration-expected.ensures.limits (registration_view c.unwrap.result.now) open_for) in
     (looser_id c.self.inside.party.profile _ limits.0, limits.1)
 
@@ -59,8 +60,9 @@ push-requires-clause-absent g c =
     (admitted_as c.self.inside.party c.self.inside.policy (registration_parts_view c.args.response.now) table
     (option_map (λ s. registration_view s.now) c.registration-expected.result))
     tells taken (said_full c.is_full.result table c.is_full.ensures) in
-    subst (λ id. row_of id table ≡ None) (sym (ap (λ v. v.id) c.in_ok-admitted.ensures.admitted ∙ tells.4))
-    (no_row (row_of tells.2.id table) (steps.0 tells.0 tells.1 tells.2 tells.3))
+    let v = c.in_ok-verified.verified in
+    subst (λ id. row_of id table ≡ None) (sym (c.in_ok-id.ensures.items ∙ ap (λ w. w.id) c.in_ok-admitted.ensures.admitted))
+    (no_row (row_of v.credential.id table) (steps.0 tells.0 v.auth_data v.credential tells.1))
 
 pub push-requires-clause-room : goal.push-requires-clause-room
 push-requires-clause-room g c =
@@ -91,11 +93,10 @@ returns-clause-accepted g c =
           (all_pass (g.V.Verifier.valid c.args.verifier.now) x (accepted.1 (λ id. is_some (row_of id table)) (is_full table)) steps),
       (
         tells.0,
+        c.in_ok-verified.verified.auth_data,
+        c.in_ok-verified.verified.credential,
         tells.1,
-        tells.2,
-        tells.3,
-        c.in_ok-credential.ensures.items ∙ c.deref-2.ensures.value ∙ ap (λ v. v.id) c.in_ok-admitted.ensures.admitted
-            ∙ tells.4,
+        c.in_ok-credential.ensures.items ∙ ap (λ v. v.id) c.in_ok-admitted.ensures.admitted,
       ),
     )
 
@@ -108,14 +109,14 @@ returns-clause-after g c =
     rw (← c.self.view_is) (
       e,
       tells.0,
-      tells.1,
-      tells.2,
+      c.in_ok-verified.verified.auth_data,
+      c.in_ok-verified.verified.credential,
       open_for,
-      tells.3,
+      tells.1,
       same_state c.self.inside.party c.self.inside.policy c.push.new.self _ c.close.new.self _
           (c.in_ok-push.ensures.pushed ∙ ap (λ row. c.self.inside.table ++ row ∷ [])
-          (same_row (ap (λ v. v.id) given ∙ tells.4) (c.in_ok-user.ensures.items ∙ c.deref.ensures.value)
-          (ap (λ v. v.key) given ∙ tells.5) (ap (λ v. v.sign_count) given ∙ tells.6) (ap (λ v. v.eligible) given ∙ tells.7)))
+          (same_row (c.in_ok-id.ensures.items ∙ ap (λ v. v.id) given) (c.in_ok-user.ensures.items ∙ c.deref.ensures.value)
+          (c.in_ok-key.ensures ∙ ap (λ v. v.key) given) (ap (λ v. v.sign_count) given) (ap (λ v. v.eligible) given)))
           c.close.ensures.closed,
     )
 
@@ -123,8 +124,9 @@ pub invariant_of-self-2 : goal.invariant_of-self-2
 invariant_of-self-2 g c =
     let tells = c.in_ok-verified.ensures.accepted.0 in
     let open_for = sym c.registration-expected.ensures.expected ∙ ap (option_map (λ s. registration_view s.now)) c.unwrap.ensures in
-    let limits = row_limits c.self.inside.party.profile tells.1 tells.2 _ _ _ tells.3.auth_data.0 tells.3.attested
-    (ap (λ v. v.id) c.in_ok-admitted.ensures.admitted ∙ tells.4) (c.in_ok-user.ensures.items ∙ c.deref.ensures.value)
+    let v = c.in_ok-verified.verified in
+    let limits = row_limits c.self.inside.party.profile v.auth_data v.credential _ _ _ tells.1.auth_data.0 tells.1.attested
+    (c.in_ok-id.ensures.items ∙ ap (λ w. w.id) c.in_ok-admitted.ensures.admitted) (c.in_ok-user.ensures.items ∙ c.deref.ensures.value)
     (c.registration-expected.ensures.limits (registration_view c.unwrap.result.now) open_for) in (
       c.in_ok-push.ensures.limits c.self.inside.party.profile c.self.invariant.0 limits,
       c.self.invariant.1,

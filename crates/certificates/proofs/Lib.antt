@@ -1,0 +1,10 @@
+pub mod Chain
+pub mod Signed
+pub mod Whole
+pub mod Listing
+pub mod Found
+pub mod Known
+pub mod Meant
+pub mod Items
+pub mod Purposes
+pub mod Named

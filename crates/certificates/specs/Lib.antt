@@ -1,0 +1,15 @@
+pub mod Tags
+pub mod Form
+pub mod Extensions
+pub mod Items
+pub mod Keys
+pub mod Meanings
+pub mod Usage
+pub mod Names
+pub mod Steps
+pub mod Reading
+pub mod ExtensionReading
+pub mod KeyReading
+pub mod NameReading
+pub mod MeaningReading
+pub mod Walks

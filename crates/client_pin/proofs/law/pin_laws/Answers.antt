@@ -1,6 +1,0 @@
--- What is owed of `pin_laws`.
-use Rattle.client_pin.proofs.Laws.{laws}
-use Rattle.client_pin.proofs.law.pin_laws.Goals as goal
-
-pub returns : goal.returns
-returns c = laws

@@ -1,6 +1,0 @@
-pub mod Values
-pub mod Rows
-pub mod Held
-pub mod Private
-pub mod Details
-pub mod Causes

@@ -1,0 +1,19 @@
+-- What is owed of `assertion_extensions`.
+use Rattle.std.proofs.Common.{◌∙◌, ap}
+use Rattle.ccbor.specs.Item.{map, boolean}
+use Rattle.ccbor.proofs.Views.{view-Map}
+use Rattle.ctap_encoding.specs.Table.{record_of}
+use Rattle.ctap_encoding.specs.Content.{item_of}
+use Rattle.ctap_encoding.specs.Building.{pair_list_view}
+use Rattle.pin_client_messages.proofs.Building.{all_pairs, none_pushed, pushed_if_there}
+use Rattle.ctap_open_requests.specs.Extensions.{secret_members}
+use Rattle.ctap_open_requests.proofs.extensions.assertion_extensions.Goals as goal
+
+pub returns : goal.returns
+returns c =
+    view-Map c.push_if_there-3.new.pairs
+    ∙ ap map (all_pairs _
+    ∙ pushed_if_there boolean _ _ _ _ _ _ c.in_ok-push_if_there-3.ensures c.truth_if_wanted-large_blob_key.ensures
+    ∙ pushed_if_there (item_of (record_of secret_members)) _ _ _ _ _ _ c.in_ok-push_if_there-2.ensures c.in_ok-hmac_secret.ensures
+    ∙ pushed_if_there boolean _ _ _ _ _ _ c.in_ok-push_if_there.ensures c.truth_if_wanted-cred_blob.ensures
+    ∙ none_pushed _ _ (ap pair_list_view c.new-pairs.ensures.items))

@@ -1,0 +1,7 @@
+-- What is owed of `creation_value`.
+use Rattle.std.proofs.Common.{◌∙◌}
+use Rattle.ccbor.proofs.Views.{view-Map}
+use Rattle.ctap_open_requests.proofs.writing.creation_value.Goals as goal
+
+pub returns : goal.returns
+returns c = view-Map c.push_creation.new.pairs ∙ c.in_ok-push_creation.ensures

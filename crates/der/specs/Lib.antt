@@ -1,0 +1,3 @@
+pub mod Encoding
+pub mod Refusals
+pub mod Reading

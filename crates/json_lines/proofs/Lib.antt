@@ -1,0 +1,5 @@
+pub mod Amiss
+pub mod Lists
+pub mod Named
+pub mod OneOf
+pub mod Depths

@@ -1,5 +1,0 @@
-pub mod State
-pub mod Calls
-pub mod Causes
-pub mod Private
-pub mod Laws

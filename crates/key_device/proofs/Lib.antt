@@ -1,0 +1,12 @@
+pub mod Answering
+pub mod Decided
+pub mod Decisions
+pub mod Fitting
+pub mod Handing
+pub mod Keeping
+pub mod Passing
+pub mod Showing
+pub mod Sound
+pub mod Stepping
+pub mod Taking
+pub mod Waiting

@@ -1,0 +1,168 @@
+//! The program: lines over the standard streams.
+
+use crate::key::SoftKey;
+use crate::pin_key_lines::PinKeyLines;
+use crate::telling::LineKey;
+use authdata::AttestationType;
+use json_lines::VERSION;
+use std::io::{BufRead, BufReader, ErrorKind, Write};
+use std::{env, io};
+
+/// The aaguid of this security key.
+const AAGUID: [u8; 16] = *b"garvoeng softkey";
+
+/// What `--help` prints.
+const HELP: &str =
+    "A security key over lines: packets, decisions and signatures in, packets and what is to be signed out
+
+Usage: softkey [WORD ..]
+
+Words:
+  no-uv             It does not verify its user
+  self-attestation  It attests by the credential's own key
+  pin               It takes PINs
+
+Options:
+  -h, --help     Print help
+  -V, --version  Print version
+
+docs/KEY.md has the lines.
+";
+
+/// What is told where an argument is none of these words.
+const BAD_WORDS: &str =
+    "softkey: a word is none of no-uv, self-attestation and pin; softkey --help lists them\n";
+
+/// What the arguments ask for.
+#[derive(Drop)]
+enum Asked {
+    /// To serve a key of this configuration.
+    Serve(Configuration),
+    /// To print the help.
+    Help,
+    /// To print the version.
+    Version,
+    /// Nothing that there is.
+    Nothing,
+}
+
+/// How the security key is configured.
+#[derive(Clone, Copy, Drop)]
+struct Configuration {
+    uv: bool,
+    attest: AttestationType,
+    pin: bool,
+}
+
+/// What the arguments ask for: `no-uv`, not to verify its user; `self-attestation`; `pin`, to take PINs. Help or the version is
+/// printed where it is the first word that is none of these.
+fn read_arguments(rt: &HostRuntime) -> io::Result<Asked> {
+    let mut configuration = Configuration {
+        uv: true,
+        attest: AttestationType::None,
+        pin: false,
+    };
+    for word in env::args(rt)?.skip(1) {
+        if word.as_str() == "no-uv" {
+            configuration.uv = false;
+        } else if word.as_str() == "self-attestation" {
+            configuration.attest = AttestationType::SelfSigned;
+        } else if word.as_str() == "pin" {
+            configuration.pin = true;
+        } else if word.as_str() == "--help" || word.as_str() == "-h" {
+            return Ok(Asked::Help);
+        } else if word.as_str() == "--version" || word.as_str() == "-V" {
+            return Ok(Asked::Version);
+        } else {
+            return Ok(Asked::Nothing);
+        }
+    }
+    Ok(Asked::Serve(configuration))
+}
+
+/// Answers each line, at once.
+fn answer_lines<K: LineKey, R: BufRead + Drop>(
+    rt: &HostRuntime,
+    key: &mut K,
+    reader: R,
+) -> io::Result<()> {
+    let mut out = rt.stdout();
+    let mut told = Vec::new(rt.alloc());
+    for line in reader.lines(rt.alloc()) {
+        told.clear();
+        match line {
+            Ok(line) => key.answer(rt.alloc(), line.as_str(), &mut told)?,
+            Err(error) if error.kind() == ErrorKind::InvalidData => {
+                told.extend_from_slice(b"error not UTF-8\n.\n")?;
+            }
+            Err(error) => return Err(error),
+        }
+        out.write_all(told.as_slice())?;
+        out.flush()?;
+    }
+    Ok(())
+}
+
+/// Answers each line of the input, at once.
+fn answer_input<K: LineKey>(rt: &HostRuntime, key: &mut K) -> io::Result<()> {
+    let mut reader = BufReader::new(rt.alloc(), rt.reader())?;
+    let served = answer_lines(rt, key, &mut reader);
+    // The reader is taken apart by std, since to prove that it is dropped here takes minutes.
+    reader.into_inner();
+    served
+}
+
+/// A key of this configuration answers each line of the input.
+fn serve_lines(rt: &HostRuntime, configuration: Configuration) -> io::Result<()> {
+    let alloc = rt.alloc();
+    if configuration.pin {
+        let mut key = PinKeyLines::new(alloc, AAGUID, configuration.attest)?;
+        return answer_input(rt, &mut key);
+    }
+    let mut key = SoftKey::new(alloc, AAGUID, configuration.uv, configuration.attest)?;
+    answer_input(rt, &mut key)
+}
+
+/// Prints the help.
+fn print_help(rt: &HostRuntime) -> io::Result<()> {
+    let mut out = rt.stdout();
+    out.write_all(HELP.as_bytes())?;
+    out.flush()
+}
+
+/// Prints the program's name and version.
+fn print_version(rt: &HostRuntime) -> io::Result<()> {
+    let mut out = rt.stdout();
+    writeln!(out, "softkey {VERSION}")?;
+    out.flush()
+}
+
+/// Does what the arguments ask for. The status, as [`run`] has it.
+fn carry_out(rt: &HostRuntime) -> io::Result<u8> {
+    match read_arguments(rt)? {
+        Asked::Serve(configuration) => {
+            serve_lines(rt, configuration)?;
+            Ok(0)
+        }
+        Asked::Help => {
+            print_help(rt)?;
+            Ok(0)
+        }
+        Asked::Version => {
+            print_version(rt)?;
+            Ok(0)
+        }
+        Asked::Nothing => {
+            rt.stderr().write_all(BAD_WORDS.as_bytes())?;
+            Ok(2)
+        }
+    }
+}
+
+/// Runs the program on its arguments. Its status: 2 where they are wrong, 3 where the system failed.
+pub fn run(rt: &HostRuntime) -> u8 {
+    match carry_out(rt) {
+        Ok(status) => status,
+        Err(_) => 3,
+    }
+}

@@ -1,3 +1,0 @@
-pub mod HexText
-pub mod CommandLine
-pub mod Private

@@ -1,4 +1,0 @@
-pub mod Credentials
-pub mod Tables
-pub mod Fitting
-pub mod Versions

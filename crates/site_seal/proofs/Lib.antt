@@ -1,0 +1,4 @@
+mod Algorithms
+mod Bytes
+mod Judging
+mod Texts

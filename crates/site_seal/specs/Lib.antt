@@ -1,0 +1,4 @@
+pub mod Hmac
+pub mod Seal
+pub mod Views
+pub mod Judged

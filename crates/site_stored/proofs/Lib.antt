@@ -1,0 +1,15 @@
+mod Reserved
+mod Same
+mod Sound
+mod Causes
+mod Signing
+mod Held
+mod Finishing
+mod Changing
+mod Registering
+mod Scans
+mod New
+mod Counting
+mod Laws
+mod ReadTo
+mod Reading

@@ -1,0 +1,18 @@
+-- What is owed of `StoredSite::create`.
+use Rattle.std.proofs.Common.{rules}
+use Rattle.std.specs.FinMap.{len-empty}
+use Rattle.std.specs.Ordering.{nat_cmp}
+use Rattle.verification.specs.Records.{Credential}
+use Rattle.site_stored.proofs.New.{none_there}
+use Rattle.site_stored.proofs.kept.StoredSite.create.Goals as goal
+
+pub returns-in-Ok-clause-made : goal.returns-in-Ok-clause-made
+returns-in-Ok-clause-made g c = record {
+  started = search rules;
+  sessions = search rules;
+  held = λ clean. record {
+    holds = c.in-Ok.ensures.held clean;
+    count = len-empty nat_cmp Credential;
+    last = λ place d there. absurd (none_there place d there);
+  };
+}

@@ -1,0 +1,7 @@
+pub mod Summaries
+pub mod State
+pub mod Calls
+pub mod Causes
+pub mod Private
+pub mod Laws
+pub mod Starts

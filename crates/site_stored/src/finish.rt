@@ -1,0 +1,178 @@
+//! Finishing a sign-in (WebAuthn Level 2, section 7.2).
+
+ghost use Rattle.std.specs.Prelude.{◌≡◌, IfErr, IfOk, IsErrOf, OnOk, false, option_map, true};
+ghost use Rattle.sqlite_trees.specs.View.{IsClean};
+ghost use Rattle.authdata.specs.Flags.{is_set, BE};
+ghost use Rattle.authdata.specs.Layout.{lent_auth_view};
+ghost use Rattle.site_stored.specs.Summaries.{Summarises};
+ghost use Rattle.verification.specs.SignInAnswers.{IsRefused};
+ghost use Rattle.verification.specs.Views.{assertion_parts_view, credential_view};
+ghost use Rattle.site_state.specs.Table as table;
+ghost use Rattle.site_rows.specs.Held.{Placed};
+ghost use Rattle.site_rows.specs.Details.{Details, HoldsDetails};
+ghost use Rattle.site_state.specs.Sessions.{sign_in_at};
+ghost use Rattle.site_state.specs.Timed.{after_end};
+ghost use Rattle.site_stored.specs.State.{IsHeld};
+ghost use Rattle.site_stored.specs.Calls.{IsNotFinished, IsOneSite, RefusesSignIn, SignsIn, TellsUsed};
+ghost use Rattle.site_stored.specs.Causes.{IsDamaged, RefusesSignedIn, FinishFails};
+ghost use Rattle.site_stored.specs.Private.{IsStopped, RefusesFound, SignsInAs, credential_of, judged, IsOpenStore, KeepsNumbers, LeavesStore};
+ghost use Rattle.site_stored.specs.declared.failure.Failure.TheVariants as failures;
+ghost use Rattle.site_stored.specs.declared.failure.FinishFailure.TheVariants as finishes;
+ghost use Rattle.site_rows.specs.Calls.{IsQuiet};
+
+use crate::failure::{Failure, FinishFailure};
+use crate::kept::StoredSite;
+use crate::site_store::SiteStore;
+use crate::summary::{Summary, summary_of};
+use authdata::AuthView;
+use cose::Verifier;
+use site_rows::{Found, lent};
+use site_state::TimedSessions;
+use sqlite_trees::store::Store;
+use std::alloc::Global;
+use verification::{
+    AssertionParts, RelyingParty, RowView, SignInAttempt, SignInRefusal, VerificationError,
+    VerifiedAssertion, verify_assertion,
+};
+
+/// Who signed in, and with which credential.
+#[derive(Debug, Drop)]
+pub struct SignedIn {
+    /// The user handle of the credential's account.
+    pub user: Vec<u8>,
+    /// The credential id.
+    pub credential: Vec<u8>,
+    /// What the authenticator data say.
+    pub summary: Summary,
+}
+
+/// Copies of the user handle and of the credential id, and the summary of the authenticator data.
+fn signed_in(
+    alloc: Global,
+    user: &[u8],
+    credential: &[u8],
+    auth_data: &AuthView<'_>,
+) -> Result<SignedIn, VerificationError<SignInRefusal>>
+    ensures copied { IfOk result (λ x. (x.user.items ≡ user.now) × (x.credential.items ≡ credential.now) × Summarises x.summary (lent_auth_view auth_data.now)) }
+    ensures memory { IfErr result (λ e. e ≡ VerificationError.Memory) }
+{
+    Ok(SignedIn {
+        user: Vec::from_slice(alloc, user)?,
+        credential: Vec::from_slice(alloc, credential)?,
+        summary: summary_of(alloc, auth_data)?,
+    })
+}
+
+/// The credential that was found.
+fn credential_in(found: &Option<Found>) -> Option<RowView<'_>>
+    ensures { option_map credential_view result ≡ credential_of found.now }
+{
+    match found {
+        Some(found) => Some(lent(&found.credential)),
+        None => None,
+    }
+}
+
+/// A credential after a sign-in.
+fn counted<'a>(row: RowView<'a>, verified: &VerifiedAssertion<'_>) -> RowView<'a>
+    ensures { credential_view result ≡ table.signed_in verified.now.auth_data.sign_count (is_set verified.now.auth_data.flags BE) (credential_view row.entry) }
+{
+    RowView {
+        sign_count: verified.auth_data.sign_count,
+        eligible: Some(verified.eligible()),
+        ..row
+    }
+}
+
+/// Judges a response with what was found for it, and writes what it changes of the credential and of its detail.
+fn sign_in_found<S: Store, V: Verifier>(
+    party: &RelyingParty,
+    sessions: &TimedSessions,
+    held: &mut SiteStore<S>,
+    verifier: &V,
+    session: u64,
+    response: &AssertionParts<'_>,
+    found: &Option<Found>,
+    now: i64,
+) -> Result<SignedIn, FinishFailure<SignInRefusal>>
+    requires ready { IsOpenStore S.Store held.old }
+    ensures accepted { IfOk result (λ x. SignsInAs (V.valid verifier.now) party.now (sign_in_at session sessions.now.open_sessions) found.now
+        (assertion_parts_view response.now) now x (S.Store.view held.old.store) (S.Store.view held.new.store)) }
+    ensures refused { IfErr result (IsStopped (held.new ≡ held.old) held.new.is_shut (IsRefused (V.valid verifier.now)
+        (judged party.now (sign_in_at session sessions.now.open_sessions) found.now (assertion_parts_view response.now)))) }
+    ensures leaves { LeavesStore S.Store held.old held.new result }
+    ensures reserved { KeepsNumbers held.old held.new }
+    ensures cause { FinishFails S.Store held.old.store held.new.store
+        (RefusesFound (S.Store.view held.old.store) party.now.profile found.now (assertion_parts_view response.now) now) ⊥ result }
+{
+    let alloc = held.alloc;
+    let verified = verify_assertion(
+        alloc,
+        verifier,
+        &SignInAttempt {
+            party,
+            session: sessions.sign_in(session),
+            credential: credential_in(found),
+            response: *response,
+        },
+    )?;
+    let found = found.as_ref().unwrap();
+    let credential = lent(&found.credential);
+    let signed_in = signed_in(
+        alloc,
+        credential.user,
+        response.credential,
+        &verified.auth_data,
+    )?;
+    held.set(found.place, &counted(credential, &verified))?;
+    held.mark_used(found.place, now)?;
+    Ok(signed_in)
+}
+
+impl<S: Store> StoredSite<S> {
+    /// Finishes a sign-in: the response's credential keeps the counter and the mark of eligibility that came, and the session is
+    /// closed. Its detail keeps this second of the host's clock as that of its last use. It is to be committed before it is told.
+    ///
+    /// `Site` with the first step of section 7.2 that the response does not pass in this session, or with want of memory. Then
+    /// nothing has changed: the session is open.
+    pub fn finish_parts<V: Verifier>(
+        &mut self,
+        verifier: &V,
+        session: u64,
+        response: &AssertionParts<'_>,
+        now: i64,
+    ) -> Result<SignedIn, FinishFailure<SignInRefusal>>
+        ensures accepted { IfOk result (λ x. IsClean (S.Store.view self.new.store) → (placed : Placed) → IsHeld placed self.old (S.Store.view self.old.store).trees
+            → (after : Placed) × SignsIn (V.valid verifier.now) placed self.old session (assertion_parts_view response.now) x after
+            × IsHeld after self.new (S.Store.view self.new.store).trees) }
+        ensures used { OnOk result (IsClean (S.Store.view self.new.store) → (placed : Placed) → IsHeld placed self.old (S.Store.view self.old.store).trees
+            → (details : Details) → HoldsDetails details (S.Store.view self.old.store).trees
+            → TellsUsed placed response.now.credential.now now details (S.Store.view self.new.store).trees) }
+        ensures closed { OnOk result (self.new.timed ≡ after_end self.old.timed session) }
+        ensures one { OnOk result (IsOneSite self.old self.new × (self.new.is_shut ≡ false)) }
+        ensures refused { IfErr result (IsNotFinished S.Store.view self.old self.new (λ why. IsClean (S.Store.view self.new.store) → (placed : Placed)
+            → IsHeld placed self.old (S.Store.view self.old.store).trees
+            → RefusesSignIn (V.valid verifier.now) placed self.old session (assertion_parts_view response.now) why)) }
+        ensures shut { self.old.is_shut ≡ true → IsErrOf result (finishes.Store failures.Shut) }
+        ensures cause { FinishFails S.Store self.old.store self.new.store
+            (RefusesSignedIn (S.Store.view self.old.store) self.old.rp.profile (assertion_parts_view response.now) now) (IsDamaged (S.Store.view self.old.store).trees) result }
+        ensures quiet { IsQuiet S.Store self.old.store self.new.store }
+    {
+        if self.held.is_shut {
+            return Err(FinishFailure::Store(Failure::Shut));
+        }
+        let found = self.held.find(response.credential)?;
+        let signed_in = sign_in_found(
+            &self.party,
+            &self.sessions,
+            &mut self.held,
+            verifier,
+            session,
+            response,
+            &found,
+            now,
+        )?;
+        self.sessions.close(session);
+        Ok(signed_in)
+    }
+}
