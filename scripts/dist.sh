@@ -46,13 +46,18 @@ glibc_of() {
     tool llvm-readelf --version-info "$1" | grep -o 'GLIBC_[0-9.]*' | sed 's/GLIBC_//' | sort -Vu | tail -n 1
 }
 
+# The lines of MANIFEST that each file has, by its name there: file_lines NAME FILE.
+file_lines() {
+    echo "$1 sha256 $(digest "$2")"
+    echo "$1 size $(stat -c %s "$2")"
+}
+
 # The lines of MANIFEST of what scripts/machines built, whose folder is c/out/machines.
 machine_lines() {
     local file name crate program glibc
     for file in "$top"/c/out/machines/*/*; do
         name=${file#"$top"/c/out/machines/}
-        echo "$name sha256 $(digest "$file")"
-        echo "$name size $(stat -c %s "$file")"
+        file_lines "$name" "$file"
         for program in "${programs[@]}"; do
             read -r program crate <<< "$program"
             [ "${name#*/}" = "$program" ] || continue
@@ -68,8 +73,7 @@ machine_lines() {
 # made_into FOLDER NAME CRATE SOURCES.
 made_into() {
     cp "$(built_of "$3")" "$1/$2" && tool llvm-strip --strip-all "$1/$2" || return 1
-    echo "$2 sha256 $(digest "$1/$2")"
-    echo "$2 size $(stat -c %s "$1/$2")"
+    file_lines "$2" "$1/$2"
     echo "$2 sources $4"
     echo "$2 glibc $(glibc_of "$1/$2")"
 }
@@ -100,8 +104,7 @@ packed_into() {
     if mkdir -p "$copy/dist/portable" && cp "$2" "$copy/dist/portable/passkey.wasm" && cp "$3" "$copy/dist/NOTICE" &&
         tar -C "$top" --exclude=node_modules --exclude=js/cjs --exclude=js/LICENSE --exclude=js/NOTICE --exclude=js/passkey.wasm -cf - js LICENSE | tar -C "$copy" -xf - &&
         (cd "$copy/js" && umask 022 && HOME=$copy npm_config_cache=$copy/cache npm pack --offline --silent --pack-destination "$1" > /dev/null) && [ -f "$1/$name" ]; then
-        echo "$name sha256 $(digest "$1/$name")"
-        echo "$name size $(stat -c %s "$1/$name")"
+        file_lines "$name" "$1/$name"
         echo "$name tools npm $(npm --version), Node $(node --version)"
         status=0
     fi
@@ -113,7 +116,6 @@ packed_into() {
 # Another version of Node may pack the module to other bytes.
 inspector_into() {
     node "$top/inspector/make.mjs" "$2" "$1/inspector.html" || return
-    echo "inspector.html sha256 $(digest "$1/inspector.html")"
-    echo "inspector.html size $(stat -c %s "$1/inspector.html")"
+    file_lines inspector.html "$1/inspector.html"
     echo "inspector.html tools Node $(node --version)"
 }
