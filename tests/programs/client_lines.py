@@ -394,8 +394,7 @@ def main():
         begun = time.monotonic()
         part(tests)
         print(f"{part.__name__}: {time.monotonic() - begun:.0f} s")
-    print(f"{tests.passed} passed, {tests.failed} failed")
-    return 1 if tests.failed else 0
+    return tests.verdict()
 
 
 sys.exit(main())

@@ -185,8 +185,7 @@ def main():
         ceremonies(tests, key(sys.argv[2]), key.__name__)
     blocked(tests)
     built_in(tests)
-    print(f"{tests.passed} passed, {tests.failed} failed")
-    return 1 if tests.failed else 0
+    return tests.verdict()
 
 
 sys.exit(main())

@@ -625,8 +625,7 @@ def main():
     for part in (start, visits, settings, other_hosts, at_once, killed, failing_disk, wrong_files, moved, cut_off,
                  lone_logs, no_input, clocks, parties):
         part(tests)
-    print(f"{tests.passed} passed, {tests.failed} failed")
-    return tests.failed != 0
+    return tests.verdict()
 
 
 if __name__ == "__main__":

@@ -135,8 +135,7 @@ def main():
     frames(tests)
     asked(tests)
     words(tests)
-    print(f"{tests.passed} passed, {tests.failed} failed")
-    return 1 if tests.failed else 0
+    return tests.verdict()
 
 
 if __name__ == "__main__":

@@ -520,8 +520,7 @@ def main():
     browser(tests)
     killed(tests)
     bad_lines(tests)
-    print(f"{tests.passed} passed, {tests.failed} failed")
-    return tests.failed != 0
+    return tests.verdict()
 
 
 if __name__ == "__main__":

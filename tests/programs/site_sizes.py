@@ -190,8 +190,7 @@ def main():
     ceremonies(tests, host)
     numbers(tests)
     origins(tests)
-    print(f"{tests.passed} passed, {tests.failed} failed")
-    return tests.failed != 0
+    return tests.verdict()
 
 
 if __name__ == "__main__":

@@ -197,8 +197,7 @@ def main():
     tests = Tests(str(Path(sys.argv[1]).resolve()))
     for part in (fresh_words, ages, deleted, together, status, lost, backups, linked):
         part(tests)
-    print(f"{tests.passed} passed, {tests.failed} failed")
-    return tests.failed != 0
+    return tests.verdict()
 
 
 if __name__ == "__main__":

@@ -227,8 +227,7 @@ def main():
     logging.getLogger("garvoeng").addHandler(logging.NullHandler())
     for part in (hostile_values, what_no_line_can_be, beside_attackers, broken_programs, stopped, causes, logs, hostile_lines):
         part(tests)
-    print(f"{tests.passed} passed, {tests.failed} failed")
-    return tests.failed != 0
+    return tests.verdict()
 
 
 if __name__ == "__main__":

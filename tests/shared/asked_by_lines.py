@@ -43,3 +43,8 @@ class Checks:
         else:
             self.failed += 1
             print(f"FAILED: {what}: {found!r}, not {wanted!r}")
+
+    def verdict(self):
+        """Prints the last line of a test, and gives its status."""
+        print(f"{self.passed} passed, {self.failed} failed")
+        return int(self.failed != 0)
