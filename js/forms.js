@@ -6,6 +6,9 @@ import { isBytes, memberOf, ownOf, shown } from "./limits.js";
 /** The most characters of a response's members together. */
 export const MAX_RESPONSE = 65_536;
 
+/** The most characters of the text of a session of `StoredServer`. */
+const MAX_SESSION = 2_875;
+
 export const REGISTRATION_MEMBERS = ["clientDataJSON", "attestationObject"];
 export const SIGN_IN_MEMBERS = ["clientDataJSON", "authenticatorData", "signature"];
 
@@ -61,6 +64,12 @@ export function fromText(text, what = "the text") {
   const value = new Uint8Array(sizeOf(text));
   if (!readInto(value, 0, text)) throw new BadInput(`${what} is not base64url`);
   return value;
+}
+
+/** The text of a session: of what no begin gave none, which is an unknown session to the program. */
+export function sealed(session) {
+  if (typeof session !== "string" || session.length > MAX_SESSION) return "";
+  return readInto(new Uint8Array(sizeOf(session)), 0, session) ? session : "";
 }
 
 function isObject(value) {

@@ -36,7 +36,8 @@ export class RateLimit {
 }
 
 export interface PasskeysOptions {
-  /** What signs the cookies: a text of 32 characters or more, the same in all processes of a site. A new one signs everybody out. */
+  /** What signs the cookies of sign-ins and registrations: a text of 32 characters or more, the same in all processes of a site. A new one
+   *  signs everybody out. */
   secret: string;
   /** Whether cookies are for HTTPS alone, with `__Host-` before their names: where not all origins of the server are http. */
   secure?: boolean;

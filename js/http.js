@@ -1,5 +1,5 @@
-// The requests of a site with passkeys, by node:http or in Express: what its pages ask, and who is signed in. Two kinds of cookies are
-// signed: that of a session that has begun, and that of a sign-in.
+// The requests of a site with passkeys, by node:http or in Express: what its pages ask, and who is signed in. The cookie of a sign-in that
+// has begun has its session alone; signed are who began a registration, and who is signed in.
 import { createHmac, randomBytes, timingSafeEqual } from "node:crypto";
 import { readFileSync } from "node:fs";
 import { BadInput, Refused, RowDamaged, logTo } from "./errors.js";
@@ -91,7 +91,8 @@ function bodyOf(request) {
   return wasRead ? bodyReadBy(request) : bodyIn(request);
 }
 
-// Values in cookies, each with a code over its name and itself. Where they are for HTTPS alone, no other host of the domain can set them.
+// Cookies, and values in them with a code over the name and the value. Where they are for HTTPS alone, no other host of the domain can set
+// them.
 class Cookies {
   #secret;
   #prefix;
@@ -109,20 +110,32 @@ class Cookies {
     return toText(createHmac("sha256", this.#secret).update(`garvoeng 2 ${name}=${value}`).digest());
   }
 
+  kept(name, text) {
+    return `${this.#prefix}${name}=${text}; ${this.#attributes}`;
+  }
+
   made(name, value) {
-    const named = this.#prefix + name, text = toText(Buffer.from(JSON.stringify(value)));
-    return `${named}=${text}.${this.#code(named, text)}; ${this.#attributes}`;
+    const text = toText(Buffer.from(JSON.stringify(value)));
+    return this.kept(name, `${text}.${this.#code(this.#prefix + name, text)}`);
   }
 
   ended(name) {
     return `${this.#prefix}${name}=; ${this.#attributes}; Max-Age=0`;
   }
 
+  #matched(request, name, form) {
+    return new RegExp(`(?:^|; )${this.#prefix}${name}=${form}(?:;|$)`).exec(request.headers.cookie ?? "") ?? [];
+  }
+
+  /** The text of a cookie of this name; null where there is none. */
+  text(request, name) {
+    return this.#matched(request, name, "([\\w-]+)")[1] ?? null;
+  }
+
   /** The value of a cookie of this name; null where there is none that this site made. */
   found(request, name) {
-    const named = this.#prefix + name;
-    const [, text, code] = new RegExp(`(?:^|; )${named}=([\\w-]*)\\.([\\w-]{43})(?:;|$)`).exec(request.headers.cookie ?? "") ?? [];
-    if (text === undefined || !timingSafeEqual(Buffer.from(code), Buffer.from(this.#code(named, text)))) return null;
+    const [, text, code] = this.#matched(request, name, "([\\w-]*)\\.([\\w-]{43})");
+    if (text === undefined || !timingSafeEqual(Buffer.from(code), Buffer.from(this.#code(this.#prefix + name, text)))) return null;
     return JSON.parse(Buffer.from(fromText(text, name)).toString());
   }
 }
@@ -211,21 +224,21 @@ export function passkeys(server, options) {
 
   async function beginsSignIn() {
     const { options: made, session } = await server.authenticateBegin();
-    return [made, cookies.made(SIGN_IN, { session })];
+    return [made, cookies.kept(SIGN_IN, session)];
   }
 
   async function signsIn(request, body) {
-    const { user, id } = await server.authenticateComplete(cookies.found(request, SIGN_IN)?.session ?? null, body);
+    const { user, id } = await server.authenticateComplete(cookies.text(request, SIGN_IN), body);
     await signIns.end(request);
     return [{ user: toText(user) }, signIns.begun(user, id), cookies.ended(SIGN_IN)];
   }
 
   async function signsOut(request) {
     await signIns.end(request);
-    const sessions = [REGISTRATION, SIGN_IN].map((name) => cookies.found(request, name)?.session);
-    // One that another store gave, before this one took its place, is not open here.
+    // What another store gave, before this one took its place, is not open here.
     const passOver = (error) => (error instanceof BadInput ? false : Promise.reject(error));
-    for (const session of sessions) if (session !== undefined) await server.abandon(session).catch(passOver);
+    for (const session of [cookies.found(request, REGISTRATION)?.session, cookies.text(request, SIGN_IN)])
+      if (typeof session === "string") await server.abandon(session).catch(passOver);
     return [{}, ...[USER, REGISTRATION, SIGN_IN].map((name) => cookies.ended(name))];
   }
 

@@ -6,9 +6,6 @@ export {
   coseKeyOf, credentialFromCose, fromText, isCanonical, toText,
 } from "./web.js";
 
-/** The most credential ids of a list of `StoredServer`. */
-export const MAX_STORED_LIST: 8;
-
 /** The program or the database could not be reached, ended before it answered, or failed: what was asked is done or is not. The next
  *  call tries anew. */
 export class StoreFailed extends Error {
@@ -45,8 +42,6 @@ export interface KeptCredential extends Credential {
 }
 
 export interface StoredServerOptions extends ServerOptions {
-  /** The most sessions that are open at a time, up to 1,000,000; where more begin the oldest ends: 100,000. */
-  maxOpen?: number;
   /** The most credentials, up to 1,000,000: 1,000,000. */
   maxCredentials?: number;
   /** Whether the file must be there: false. */
@@ -57,7 +52,7 @@ export interface StoredServerOptions extends ServerOptions {
   wary?: boolean;
   /** What the program tells: nothing, refusals (also `true`), or acceptances and errors too. */
   log?: boolean | "refusals" | "all";
-  /** Seconds after which a session ends by itself: 300. */
+  /** Seconds after which a session ends by itself, up to 1,000,000: 300. */
   expire?: number;
   /** Milliseconds after which a program that does not answer is ended: 30,000. */
   timeout?: number;
@@ -69,7 +64,6 @@ export interface StoredServerOptions extends ServerOptions {
 export interface SiteStatus {
   readonly version: string;
   readonly credentials: number;
-  readonly sessions: number;
   readonly next_session: number;
   readonly known: number;
   readonly commits: number;
@@ -93,30 +87,31 @@ export class StoredServer {
   readonly origins: readonly string[];
   /** In the memory of the process that has the program: when it begins anew, all sign-ins have ended. */
   readonly signOuts: SignOuts;
-  /** As that of `Server`, with at most 8 credentials in `exclude`. `session` is a number that only this visitor may have. Without
-   *  `exclude` the account's own credentials are excluded, the first 8. */
-  registerBegin(user: Uint8Array, userName: string, options?: RegistrationOptions): Promise<{ options: object; session: number }>;
+  /** As that of `Server`; in the profile `strict` `exclude` has at most 8 credentials. `session` is a text that only this visitor may
+   *  have. Without `exclude` the account's own credentials are excluded, the first that there is room for. */
+  registerBegin(user: Uint8Array, userName: string, options?: RegistrationOptions): Promise<{ options: object; session: string }>;
   /** What a RegistrationResponseJSON registers. It is in the file, with its transports. Rejected by `Refused`, `BadInput` or
    *  `StoreFailed`. */
-  registerComplete(session: number | null, response: unknown): Promise<Registered>;
-  /** As that of `Server`, with at most 8 credentials in `allow`. With `user` and without `allow` the account's own credentials are
-   *  listed; where they are more than 8, any of them that the browser finds may answer. */
-  authenticateBegin(options?: SignInOptions): Promise<{ options: object; session: number }>;
+  registerComplete(session: string | null, response: unknown): Promise<Registered>;
+  /** As that of `Server`, and `allow` as `exclude`. With `user` and without `allow` the account's own credentials are listed; where they
+   *  are too many, any of them that the browser finds may answer. */
+  authenticateBegin(options?: SignInOptions): Promise<{ options: object; session: string }>;
   /** Who signed in, of an AuthenticationResponseJSON. Rejected as `registerComplete`. */
-  authenticateComplete(session: number | null, response: unknown): Promise<StoredSignIn>;
-  /** A credential signs in no more; whether it did until now. With `user` one of another account is left as it is, and the account's open
-   *  registrations end. */
+  authenticateComplete(session: string | null, response: unknown): Promise<StoredSignIn>;
+  /** A credential signs in no more, and its account's open registrations end; whether it did until now. With `user` one of another account
+   *  is left as it is. */
   retire(id: Uint8Array, user?: Uint8Array | null): Promise<boolean>;
-  /** A credential is forgotten, with all that is known of it, and its id may be registered again; whether it was there. `user` is as in
-   *  `retire`. */
+  /** A credential is forgotten, with all that is known of it, and its id may be registered again; its account's open registrations end.
+   *  Whether it was there. `user` is as in `retire`. */
   delete(id: Uint8Array, user?: Uint8Array | null): Promise<boolean>;
-  /** All credentials of an account are forgotten, and its open registrations end; how many they were. Where this is rejected some are, so ask
-   *  again. */
+  /** An account's credentials sign in no more, and its open registrations end; how many did until now. */
+  retireAll(user: Uint8Array): Promise<number>;
+  /** An account's credentials are forgotten at once, and its open registrations end; how many they were. */
+  erase(user: Uint8Array): Promise<number>;
+  /** As `erase`. */
   deleteAccount(user: Uint8Array): Promise<number>;
   /** A session ends; whether it was open. */
-  abandon(session: number): Promise<boolean>;
-  /** Ends the sessions that began more than so many seconds ago, by the system's clock; how many they were. */
-  expire(olderThan: number): Promise<number>;
+  abandon(session: string | null): Promise<boolean>;
   /** The credentials of a user, or all, in order of registration, with what is known of each. */
   rows(user?: Uint8Array | null): Promise<KeptCredential[]>;
   /** How the site is, for a health check and for metrics. */

@@ -12,6 +12,6 @@ export const Server = serverOver(moduleOf, randomBytes, isValid);
 export const { isCanonical, credentialFromCose, coseKeyOf } = helpersOver(moduleOf);
 export { BadInput, NoMemory, Refused, RowDamaged, StoreFailed } from "./errors.js";
 export { fromText, toText } from "./forms.js";
-export { EDDSA, ES256, MAX_LIST, MAX_STORED_LIST, RS256 } from "./limits.js";
+export { EDDSA, ES256, MAX_LIST, RS256 } from "./limits.js";
 export { Credential, RegistrationSession, SignInSession } from "./records.js";
 export { StoredServer } from "./stored.js";

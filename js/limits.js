@@ -7,10 +7,12 @@ export const EDDSA = -8;
 export const RS256 = -257;
 export const ALGORITHMS = Object.freeze([ES256, EDDSA, RS256]);
 
-/** The most credential ids of a list of `Server`. Browsers take no longer one. */
+/** The most credential ids of a list. Browsers take no longer one. */
 export const MAX_LIST = 64;
-/** The most credential ids of a list of `StoredServer`. */
-export const MAX_STORED_LIST = 8;
+/** The same of a `StoredServer` of the profile `strict`. */
+export const MAX_STRICT_LIST = 8;
+/** The most bytes of the ids that are listed where a site gives no list, so that a line has room for them. */
+const MAX_OWN = 32_768;
 /** The most bytes of a user handle (WebAuthn Level 2, section 5.4.3). */
 export const MAX_USER = 64;
 /** The most bytes of a credential id (WebAuthn Level 2, section 4). */
@@ -32,6 +34,12 @@ const kindOfArray = Object.getOwnPropertyDescriptor(Object.getPrototypeOf(Uint8A
 
 export function isBytes(value) {
   return kindOfArray.call(value) === "Uint8Array";
+}
+
+/** Those of an account's credentials for which a list of so many and a line have room, the first ones. */
+export function fitting(rows, most) {
+  let size = 0;
+  return rows.slice(0, most).filter(({ id }) => (size += id.length) <= MAX_OWN);
 }
 
 /** A value as an error shows it. */

@@ -1,4 +1,4 @@
-// Which sign-ins ended before their time, and which registrations are open, in the memory of the process that has the program.
+// Which sign-ins ended before their time, in the memory of the process that has the program.
 
 // The most sign-outs that are kept: some 20 MB.
 const MOST = 100_000;
@@ -32,43 +32,19 @@ export class SignOuts {
   }
 }
 
-/** What the processes of a site share: the program, the sign-ins that ended, and which account each open registration is of. */
+/** What the processes of a site share: the program, and the sign-ins that ended. */
 export class Shared {
   #program;
-  #lifetime;
   #signOuts = new SignOuts();
-  #registrations = new Map();
 
-  /** `lifetime` is how many milliseconds a registration stays open. */
-  constructor(program, lifetime) {
+  constructor(program) {
     this.#program = program;
-    this.#lifetime = lifetime;
-  }
-
-  // Registrations stand in the order in which they began.
-  #begun(session, user) {
-    for (const [one, { until }] of this.#registrations) {
-      if (until > Date.now()) break;
-      this.#registrations.delete(one);
-    }
-    this.#registrations.set(session, { user, until: Date.now() + this.#lifetime });
-  }
-
-  async #endRegistrations(user) {
-    const own = [...this.#registrations].filter(([, one]) => one.user === user).map(([session]) => session);
-    await Promise.all(own.map((session) => this.#program.ask("abandon", { session })));
-    for (const session of own) this.#registrations.delete(session);
-    return own.length;
   }
 
   async ask(act, members) {
     if (act === "add_sign_out") return { added: this.#signOuts.add(members.number, members.until) };
     if (act === "has_sign_out") return { has: this.#signOuts.has(members.number, members.at) };
-    if (act === "end_registrations") return { ended: await this.#endRegistrations(members.user) };
-    const answer = await this.#program.ask(act, members);
-    if (act === "begin_registration" && answer.session !== undefined) this.#begun(answer.session, members.user);
-    if (answer.accepted !== undefined) this.#registrations.delete(members.session);
-    return answer;
+    return this.#program.ask(act, members);
   }
 
   close() {

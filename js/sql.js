@@ -29,9 +29,16 @@ const COLUMNS = "id, user_handle, public_key, sign_count, backup_eligible, retir
 const isDefined = (value) => value !== null && value !== undefined;
 const flagOf = (value) => (value === null ? null : Number(value));
 
+const isSessionId = (session) => typeof session === "string" && /^[0-9a-f]{32}$/.test(session);
+
 function sessionId(value) {
-  if (typeof value !== "string" || !/^[0-9a-f]{32}$/.test(value)) throw new BadInput(`the session is ${shown(value)}: write the text of 32 hex digits that the begin gave`);
+  if (!isSessionId(value)) throw new BadInput(`the session is ${shown(value)}: write the text of 32 hex digits that the begin gave`);
   return value;
+}
+
+// The session that a visitor hands back; none where it is another text than a begin gives.
+function handedBack(session) {
+  return !isDefined(session) || (typeof session === "string" && !isSessionId(session)) ? null : sessionId(session);
 }
 
 function now() {
@@ -188,7 +195,7 @@ export class SqlServer {
   }
 
   async registerComplete(session, response) {
-    const id = isDefined(session) ? sessionId(session) : null;
+    const id = handedBack(session);
     return this.#call(async (run) => {
       const begun = await this.#taken(run, id, RegistrationSession, "algorithms");
       const isRegistered = async (asked) => (await run("select 1 from garvoeng_credential where id = $1", asked)).rowCount > 0;
@@ -212,7 +219,7 @@ export class SqlServer {
   }
 
   async authenticateComplete(session, response) {
-    const id = isDefined(session) ? sessionId(session) : null;
+    const id = handedBack(session);
     return this.#call(async (run) => {
       const begun = await this.#taken(run, id, SignInSession, "allow");
       // Of two sign-ins of one credential the second is judged by what the first left.

@@ -1,11 +1,11 @@
-// A relying party whose sessions and credentials the proved program passkey-site keeps in a SQLite file. The program runs beside
-// this process, and answers lines of JSON.
+// A relying party whose credentials the proved program passkey-site keeps in a SQLite file. The program runs beside this process, and
+// answers lines of JSON. A session is a text that it has sealed, which the visitor keeps.
 import cluster from "node:cluster";
 import { BadInput, Refused, StoreFailed } from "./errors.js";
-import { REGISTRATION_MEMBERS, SIGN_IN_MEMBERS, fromText, handedOn, toText, transportsOf } from "./forms.js";
+import { REGISTRATION_MEMBERS, SIGN_IN_MEMBERS, fromText, handedOn, sealed, toText, transportsOf } from "./forms.js";
 import {
-  ALGORITHMS, MAX_STORED_LIST, checkAlgorithms, checkBytes, checkFlag, checkFunction, checkIds, checkOneOf, checkParty, checkUser, checkWhole, ownOf, shown,
-  transportsIn,
+  ALGORITHMS, MAX_LIST, MAX_STRICT_LIST, checkAlgorithms, checkBytes, checkFlag, checkFunction, checkIds, checkOneOf, checkParty, checkUser, checkWhole, fitting,
+  ownOf, shown, transportsIn,
 } from "./limits.js";
 import { isValid } from "./node_signatures.js";
 import { checkUserVerification, creationOptions, partyOptionsIn, registrationOptionsIn, requestOptions, signInOptionsIn } from "./options.js";
@@ -16,8 +16,7 @@ import { ProgramOfPrimary, serveWorkers } from "./workers.js";
 
 const LOGS = [false, true, "refusals", "all"];
 
-const EXPIRE = 300;
-const OWN = ["maxOpen", "maxCredentials", "isExisting", "atLeast", "wary", "log", "expire", "timeout", "logger"];
+const OWN = ["maxCredentials", "isExisting", "atLeast", "wary", "log", "expire", "timeout", "logger"];
 
 function textOf(value, what) {
   if (typeof value !== "string" || value === "" || value.includes("\0")) throw new BadInput(`${what} is ${shown(value)}: write a text`);
@@ -29,13 +28,13 @@ function numbered(option, value, what, least) {
 }
 
 function wordsOf(program, file, rpId, origins, how) {
-  const { rpName, acceptNone, acceptSelf, profile, topOrigins, maxOpen, maxCredentials, isExisting = false, atLeast, wary = false, log = false, expire } = how;
+  const { rpName, acceptNone, acceptSelf, profile, topOrigins, maxCredentials, isExisting = false, atLeast, wary = false, log = false, expire } = how;
   if (!acceptNone && !acceptSelf) throw new BadInput("acceptNone and acceptSelf are both false: then no attestation is accepted");
   checkOneOf(log, "log", LOGS);
   return [
     textOf(program, "the program's path"), `--rp-id=${rpId}`, `--rp-name=${textOf(rpName, "rpName")}`, ...origins.map((origin) => `--origin=${origin}`),
     ...topOrigins.map((origin) => `--top-origin=${origin}`), `--profile=${profile}`, `--attestation=${acceptNone && acceptSelf ? "any" : acceptNone ? "none" : "self"}`,
-    ...numbered("max-open", maxOpen, "maxOpen", 1), ...numbered("max-credentials", maxCredentials, "maxCredentials", 1),
+    ...numbered("max-credentials", maxCredentials, "maxCredentials", 1),
     ...(checkFlag(isExisting, "isExisting") ? ["--existing"] : []), ...numbered("at-least", atLeast, "atLeast", 0), ...(checkFlag(wary, "wary") ? ["--wary"] : []),
     ...(log === false ? [] : [`--log=${log === true ? "refusals" : log}`]), ...numbered("expire", expire, "expire", 1), "--", textOf(file, "the file's path"),
   ];
@@ -77,15 +76,17 @@ function toldOf(accepted) {
 export class StoredServer {
   #program;
   #known;
+  #mostListed;
 
   constructor(program, file, rpId, origins, options) {
     this.origins = checkParty(rpId, origins);
     const how = partyOptionsIn(options, "StoredServer", { rpId, isValid, more: OWN });
-    const { rpName, verify, expire = EXPIRE, timeout = 30_000, logger = console.error, atLeast = 0 } = how, words = wordsOf(program, file, rpId, this.origins, how);
+    const { rpName, verify, profile, timeout = 30_000, logger = console.error, atLeast = 0 } = how, words = wordsOf(program, file, rpId, this.origins, how);
     this.rpId = rpId;
     this.rpName = rpName;
     this.verify = verify;
     this.#known = atLeast;
+    this.#mostListed = profile === "strict" ? MAX_STRICT_LIST : MAX_LIST;
     checkWhole(timeout, "timeout, in milliseconds,", 1);
     checkFunction(logger, "logger", "(line) => console.error(line)");
     const key = JSON.stringify(words);
@@ -93,7 +94,7 @@ export class StoredServer {
       checkPrimary();
       this.#program = new ProgramOfPrimary(key, timeout);
     } else {
-      this.#program = new Shared(new Program(words, timeout, logger), 1_000 * expire);
+      this.#program = new Shared(new Program(words, timeout, logger));
       serveWorkers(key, this.#program);
     }
     this.signOuts = Object.freeze({
@@ -116,7 +117,7 @@ export class StoredServer {
   // What was accepted. The program tells the signature that is asked for; where it is valid it is handed back, and else the program
   // is told that it is not, so that its log has the refusal.
   async #finish(act, session, response, more = {}) {
-    const members = { session: checkWhole(session ?? 0, "the session", 0), response, ...more };
+    const members = { session: sealed(session), response, ...more };
     let answer = await this.#ask(act, members);
     if (answer.verify !== undefined) {
       const asked = answer.verify, valid = await this.verify(asked.algorithm, ...bytesOf(asked, "x", "y", "message", "signature"));
@@ -138,9 +139,9 @@ export class StoredServer {
     const begun = { user: checkUser(user), algorithms: checkAlgorithms(algorithms) };
     const optionsOf = (challenge, list) => creationOptions({ id: this.rpId, name: this.rpName }, { ...begun, challenge }, userName, list,
                                                      { ...how, userVerification: checkUserVerification(userVerification), residentKey, attestation });
-    optionsOf(new Uint8Array(0), checkIds(exclude ?? [], MAX_STORED_LIST));
+    optionsOf(new Uint8Array(0), checkIds(exclude ?? [], this.#mostListed));
     checkFlag(conditional, "conditional");
-    const listed = checkIds(exclude ?? (await this.#ofAccount(begun.user)).slice(0, MAX_STORED_LIST), MAX_STORED_LIST);
+    const listed = checkIds(exclude ?? fitting(await this.#ofAccount(begun.user), this.#mostListed), this.#mostListed);
     const { session, options: made } = await this.#ask("begin_registration", {
       user: toText(begun.user), user_name: userName, display_name: ownOf(how).displayName, exclude: listed.map(({ id }) => toText(id)),
       user_verification: userVerification === "required", resident: residentKey !== "discouraged", algorithms: begun.algorithms,
@@ -159,9 +160,9 @@ export class StoredServer {
   async authenticateBegin(options) {
     const { user = null, allow, userVerification = "preferred", ...how } = signInOptionsIn(options), handle = user === null ? null : checkUser(user);
     const optionsOf = (challenge, list) => requestOptions(this.rpId, { challenge }, list, checkUserVerification(userVerification), how);
-    optionsOf(new Uint8Array(0), checkIds(allow ?? [], MAX_STORED_LIST));
+    optionsOf(new Uint8Array(0), checkIds(allow ?? [], this.#mostListed));
     const own = allow === undefined && handle !== null ? await this.#ofAccount(handle) : [];
-    const listed = checkIds(allow ?? (own.length <= MAX_STORED_LIST ? own : []), MAX_STORED_LIST);
+    const listed = checkIds(allow ?? (fitting(own, this.#mostListed).length === own.length ? own : []), this.#mostListed);
     const { session, options: made } = await this.#ask("begin_sign_in", {
       user: handle === null ? undefined : toText(handle), allow: listed.map(({ id }) => toText(id)),
       user_verification: userVerification === "required",
@@ -175,13 +176,10 @@ export class StoredServer {
     return Object.freeze({ id, user, signCount: who.sign_count, ...toldOf(who) });
   }
 
-  // What an act on a credential answers. Where an account is named the credential has to be its own, and its open registrations end.
+  // What an act on a credential answers. Where an account is named the credential has to be its own.
   async #changed(act, id, user) {
     const credential = toText(checkBytes(id, "id"));
-    if (user !== null) {
-      if (!(await this.rows(user)).some((row) => toText(row.id) === credential)) return {};
-      await this.#ask("end_registrations", { user: toText(user) });
-    }
+    if (user !== null && !(await this.rows(user)).some((row) => toText(row.id) === credential)) return {};
     return this.#ask(act, { credential });
   }
 
@@ -193,18 +191,20 @@ export class StoredServer {
     return (await this.#changed("delete", id, user)).deleted === true;
   }
 
+  async retireAll(user) {
+    return (await this.#ask("retire_all", { user: toText(checkUser(user)) })).retired_all;
+  }
+
+  async erase(user) {
+    return (await this.#ask("erase", { user: toText(checkUser(user)) })).erased;
+  }
+
   async deleteAccount(user) {
-    await this.#ask("end_registrations", { user: toText(checkUser(user)) });
-    const deleted = await Promise.all((await this.rows(user)).map(({ id }) => this.delete(id)));
-    return deleted.filter((is) => is).length;
+    return this.erase(user);
   }
 
   async abandon(session) {
-    return (await this.#ask("abandon", { session: checkWhole(session, "the session", 0) })).abandoned;
-  }
-
-  async expire(olderThan) {
-    return (await this.#ask("expire", { older_than: checkWhole(olderThan, "olderThan", 0) })).expired;
+    return (await this.#ask("abandon", { session: sealed(session) })).abandoned;
   }
 
   async rows(user = null) {

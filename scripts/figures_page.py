@@ -180,7 +180,7 @@ By `speed/site flush`, signatures made and verified in the clients' Python proce
 
 {flush_table(found)}
 
-By `speed/site flood`: a million begins by one visitor took {told[0]['seconds']} s at most. A client beside it that answered after 4.9 s was not refused with `--max-open 1000000` ({told[0]['memory']} MB); as the program starts by itself, with 100,000 ({told[0]['memory_as_it_is']} MB), its session had ended. {taken(told[0])}.
+By `speed/site flood`: a million begins by one visitor took {told[0]['seconds']} s at most. A client beside it that answered after 4.9 s was not refused. The program had {told[0]['memory']} MB. {taken(told[0])}.
 
 `tests/programs/site-kills 1000` killed the program while 16 clients were at work: of 159,204 acceptances none was lost, no session was accepted twice and no number given twice. `tests/programs/site-images` opened 5,000 images that crashes may leave, and `tests/programs/site-faults` refused each system call: nothing that was told was lost.
 

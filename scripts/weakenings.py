@@ -265,7 +265,7 @@ WEAKENINGS = [
         (ORDERS, "(not consent.present || (is_true flags.uv && not consent.verified), 0x27)", "(not consent.present, 0x27)")]),
     # what a session expects
     ("session_user", "a session drops its user", [
-        (SESSIONS, "ForSignIn (record { user = user; allow", "ForSignIn (record { user = None; allow")]),
+        (SESSIONS, "words = record { user = user; allow", "words = record { user = None; allow")]),
     ("session_list", "a session drops its list", [
         (SESSIONS, "allow = allow; uv", "allow = []; uv")]),
     ("session_uv", "a session for sign-in drops its uv", [
@@ -275,7 +275,7 @@ WEAKENINGS = [
     ("session_algorithms", "a session drops its algorithms", [
         (SESSIONS, "algorithms = algorithms; uv", "algorithms = []; uv")]),
     ("session_words", "a session drops the words of its challenge", [
-        (SESSIONS, "allow = allow; uv = uv; challenge = challenge_of n words })", "allow = allow; uv = uv; challenge = challenge_of n [] })"),
+        (SESSIONS, "allow = allow; uv = uv; challenge = challenge_of n words }", "allow = allow; uv = uv; challenge = challenge_of n [] }"),
         (GOINGS, "new_challenge n (OpensSignIn user allow uv words) = (words, refl)\n", "new_challenge n (OpensSignIn user allow uv words) = ([], refl)\n"),
         (SITES, "new_bytes n (OpensSignIn user allow uv words) lt is = bytes-append (to_be_bytes w64 n) words (bytes_of_64 n lt) is\n",
             "new_bytes n (OpensSignIn user allow uv words) lt is = bytes-append (to_be_bytes w64 n) [] (bytes_of_64 n lt) (λ k. omega arith)\n")]),
@@ -365,7 +365,7 @@ WEAKENINGS = [
         (BEGAN, "was_open s t (Abandons k) n x acts h = inl (still s k n x (subst (λ (z : SiteState). finite.get z.sessions.expected n ≡ Some x) acts h))\n",
             "was_open s t (Abandons k) n x acts h = inl (subst (λ (z : SiteState). finite.get z.sessions.expected n ≡ Some x) acts h)\n")]),
     ("challenge_zero", "each challenge begins with the number 0", [
-        (SESSIONS, "uv = uv; challenge = challenge_of n words })\nexpected_of", "uv = uv; challenge = challenge_of 0 words })\nexpected_of")]),
+        (SESSIONS, "allow = allow; uv = uv; challenge = challenge_of n words }", "allow = allow; uv = uv; challenge = challenge_of 0 words }")]),
     # more of an authenticator
     ("id_taken", "an id that is stored may be stored again", [
         (ORDERS, "∷ (is_some (credential_of words.id a.credentials), 0x7F)", "∷ (false, 0x7F)")]),
@@ -432,35 +432,28 @@ WEAKENINGS = [
         (HOSTS, "    (m.old ≡ w) × ((i : I)", "    Unit {0} × ((i : I)")]),
     # of a site over a store
     ("stored_steps", "a stored site's sign-in passes no step", [
-        (STORED, "  pub passes : PassesSignIn valid (judged_sign_in s n (Some credential) r)\n", "  pub passes : Unit {0}\n")]),
+        (STORED, "  pub passes : PassesSignIn valid (judged_sign_in s (Some expected) (Some credential) r)\n", "  pub passes : Unit {0}\n")]),
     ("stored_credential", "a stored site signs in by any credential", [
         (STORED, "  pub found : IsAt placed r.credential place credential\n", "  pub found : Unit {0}\n")]),
     ("stored_counter", "a stored site keeps no counter that came", [
         (STORED, "finite.insert placed place (signed_in data_read.sign_count (is_set data_read.flags BE) credential)", "finite.insert placed place credential")]),
     ("stored_registration", "a stored site's registration passes no step", [
-        (STORED, "TellsIds placed is_registered → PassesRegistration valid (judged_registration s n is_registered r)", "TellsIds placed is_registered → Unit {0}")]),
+        (STORED, "TellsIds placed is_registered → PassesRegistration valid (judged_registration s (Some expected) is_registered r)", "TellsIds placed is_registered → Unit {0}")]),
     ("stored_user", "a stored site registers for no user", [(STORED, "  user = e.user;\n", "  user = c.id;\n")]),
     ("stored_retirement", "a stored site retires nothing", [
         (STORED, "(c.retired ≡ false) × (after ≡ finite.insert placed place (retired c))", "(c.retired ≡ false) × (after ≡ placed)")]),
     ("stored_deletion", "a stored site deletes nothing", [
         (STORED, "IsAt placed id place c × (after ≡ finite.remove placed place)", "IsAt placed id place c × (after ≡ placed)")]),
     ("stored_numbers", "a commit gives numbers anew", [
-        (STORED, "        timed = skipped (max old.timed.open_sessions.next old.durable) old.timed;\n",
-            "        timed = record old.timed { open_sessions = record old.timed.open_sessions { next = 1 } };\n")]),
+        (STORED, "        next = max old.next old.durable;\n", "        next = 1;\n")]),
     ("stored_trees", "an open finds any trees", [
         (HISTORY, "  pub trees : new.trees ≡ kept.trees\n", "  pub trees : Unit {0}\n"),
-        (SHOWN, "  record { now = reopened; committed = reopened },\n  (record { trees = refl;", "  record { now = reopened; committed = reopened },\n  (record { trees = tt;"),
-        (SHOWN, "  record { now = opened; committed = opened },\n  (record { trees = refl;", "  record { now = opened; committed = opened },\n  (record { trees = tt;")]),
-    ("stored_sessions", "an open finds sessions", [
-        (HISTORY, "  pub sessions : new.state.timed.open_sessions.expected ≡ finite.empty\n", "  pub sessions : Unit {0}\n"),
-        (SHOWN, "  record { now = reopened; committed = reopened },\n  (record { trees = refl; rp = refl; policy = refl; sessions = refl;",
-            "  record { now = reopened; committed = reopened },\n  (record { trees = refl; rp = refl; policy = refl; sessions = tt;"),
-        (SHOWN, "  record { now = opened; committed = opened },\n  (record { trees = refl; rp = refl; policy = refl; sessions = refl;",
-            "  record { now = opened; committed = opened },\n  (record { trees = refl; rp = refl; policy = refl; sessions = tt;")]),
+        (SHOWN, "store reopened reopened 1,\n      (record { trees = refl;", "store reopened reopened 1,\n      (record { trees = tt;"),
+        (SHOWN, "store opened opened 0,\n        (record { trees = refl;", "store opened opened 0,\n        (record { trees = tt;")]),
     ("stored_party", "an open finds another relying party", [
         (HISTORY, "  pub rp : new.state.rp ≡ kept.state.rp\n", "  pub rp : Unit {0}\n"),
-        (SHOWN, "  record { now = reopened; committed = reopened },\n  (record { trees = refl; rp = refl;", "  record { now = reopened; committed = reopened },\n  (record { trees = refl; rp = tt;"),
-        (SHOWN, "  record { now = opened; committed = opened },\n  (record { trees = refl; rp = refl;", "  record { now = opened; committed = opened },\n  (record { trees = refl; rp = tt;")]),
+        (SHOWN, "store reopened reopened 1,\n      (record { trees = refl; rp = refl;", "store reopened reopened 1,\n      (record { trees = refl; rp = tt;"),
+        (SHOWN, "store opened opened 0,\n        (record { trees = refl; rp = refl;", "store opened opened 0,\n        (record { trees = refl; rp = tt;")]),
     ("stored_commit", "what is told need not be committed", [
         (HISTORY, "acts_from waiting (Opens finds_all ∷ steps) = (if finds_all then waiting else []) ++ acts_from [] steps\n",
             "acts_from waiting (Opens finds_all ∷ steps) = waiting ++ acts_from [] steps\n")]),

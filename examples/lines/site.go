@@ -193,7 +193,8 @@ func (s *site) finish(act string, session, response interface{}) (object, error)
 	return s.ask(act, members)
 }
 
-// The number of a session goes to its visitor alone, in a cookie that is signed.
+// A session goes to its visitor alone, in a cookie: the program has sealed it. Who signed in is in one that is signed here, for what else the
+// site serves.
 var secret = random(32)
 
 func random(size int) []byte {
@@ -210,21 +211,16 @@ func code(text string) string {
 	return base64.RawURLEncoding.EncodeToString(sum.Sum(nil))
 }
 
-func seal(out http.ResponseWriter, name, value string) {
-	http.SetCookie(out, &http.Cookie{Name: name, Value: value + "." + code(name+value), Path: "/", HttpOnly: true,
-		SameSite: http.SameSiteStrictMode})
+func keep(out http.ResponseWriter, name, value string) {
+	http.SetCookie(out, &http.Cookie{Name: name, Value: value, Path: "/", HttpOnly: true, SameSite: http.SameSiteStrictMode})
 }
 
-func unsealed(request *http.Request, name string) string {
+func found(request *http.Request, name string) string {
 	cookie, err := request.Cookie(name)
 	if err != nil {
 		return ""
 	}
-	value, given, _ := strings.Cut(cookie.Value, ".")
-	if !hmac.Equal([]byte(given), []byte(code(name+value))) {
-		return ""
-	}
-	return value
+	return cookie.Value
 }
 
 const page = `<!doctype html><meta charset="utf-8"><title>A site</title>
@@ -266,21 +262,22 @@ func (s *site) serveBegin(out http.ResponseWriter, asked object) {
 	case answer["error"] != nil:
 		http.Error(out, fmt.Sprint(answer["error"]), http.StatusBadRequest)
 	default:
-		seal(out, "begun", fmt.Sprintf("%s-%v", act, answer["session"]))
+		keep(out, "begun", fmt.Sprintf("%s.%v", act, answer["session"]))
 		json.NewEncoder(out).Encode(answer["options"])
 	}
 }
 
 func (s *site) serveFinish(out http.ResponseWriter, begun string, response object) {
-	act, session, is := strings.Cut(begun, "-")
+	act, session, is := strings.Cut(begun, ".")
 	if !is {
-		act, session = "sign_in", "0"
+		act = "sign_in"
 	}
-	answer, err := s.finish("finish_"+act, json.Number(session), response)
+	answer, err := s.finish("finish_"+act, session, response)
 	if err != nil {
 		http.Error(out, err.Error()+"; ask again", http.StatusServiceUnavailable)
 	} else if who, is := answer["accepted"].(map[string]interface{}); is {
-		seal(out, "user", fmt.Sprint(who["user"]))
+		user := fmt.Sprint(who["user"])
+		keep(out, "user", user+"."+code(user))
 		json.NewEncoder(out).Encode(who)
 	} else if step, is := answer["refused"].(map[string]interface{}); is {
 		http.Error(out, fmt.Sprintf("%v: %v", step["name"], step["text"]), http.StatusBadRequest)
@@ -305,7 +302,7 @@ func (s *site) ServeHTTP(out http.ResponseWriter, request *http.Request) {
 	case request.URL.Path == "/begin":
 		s.serveBegin(out, asked)
 	default:
-		s.serveFinish(out, unsealed(request, "begun"), asked)
+		s.serveFinish(out, found(request, "begun"), asked)
 	}
 }
 

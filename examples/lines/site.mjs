@@ -1,7 +1,7 @@
 // A whole site over the lines of site_program, from Node: node site.mjs PORT PROGRAM FILE OPTION.., as
 // node site.mjs 8080 dist/passkey-site site.db --rp-id localhost --origin http://localhost:8080
 // Its page registers a passkey and signs in. A browser needs PublicKeyCredential.parseCreationOptionsFromJSON.
-import { createHmac, createPublicKey, randomBytes, timingSafeEqual, verify } from "node:crypto";
+import { createHmac, createPublicKey, randomBytes, verify } from "node:crypto";
 import { spawn } from "node:child_process";
 import { createServer } from "node:http";
 import { createInterface } from "node:readline";
@@ -65,19 +65,18 @@ export class Site {
   }
 }
 
-// The number of a session goes to its visitor alone, in a cookie that is signed.
+// A session goes to its visitor alone, in a cookie: the program has sealed it. Who signed in is in one that is signed here, for what else the
+// site serves.
 const secret = randomBytes(32);
-const code = text => createHmac("sha256", secret).update(text).digest();
+const code = text => createHmac("sha256", secret).update(text).digest("base64url");
 
-function sealed(name, value) {
-  return `${name}=${value}.${code(name + value).toString("base64url")}; Path=/; HttpOnly; SameSite=Strict`;
+function kept(name, value) {
+  return `${name}=${value}; Path=/; HttpOnly; SameSite=Strict`;
 }
 
-function unsealed(request, name) {
-  const found = (request.headers.cookie ?? "").split("; ").find(one => one.startsWith(name + "="));
-  const [value, given] = (found ?? "").slice(name.length + 1).split(".");
-  const bytes = Buffer.from(given ?? "", "base64url");
-  return bytes.length === 32 && timingSafeEqual(bytes, code(name + value)) ? value : null;
+function found(request, name) {
+  const cookie = (request.headers.cookie ?? "").split("; ").find(one => one.startsWith(name + "="));
+  return (cookie ?? "").slice(name.length + 1);
 }
 
 const PAGE = `<!doctype html><meta charset="utf-8"><title>A site</title>
@@ -121,13 +120,13 @@ async function answered(site, request) {
   if (request.method === "POST" && request.url === "/begin") {
     const [act, answer] = await begin(site, await body(request));
     if (answer.error) return [400, answer.error];
-    return [200, JSON.stringify(answer.options), [sealed("begun", `${act}-${answer.session}`)]];
+    return [200, JSON.stringify(answer.options), [kept("begun", `${act}.${answer.session}`)]];
   }
   if (request.method === "POST" && request.url === "/finish") {
-    const [act, session] = (unsealed(request, "begun") ?? "sign_in-0").split("-");
-    const answer = await site.finish(`finish_${act}`, Number(session), await body(request));
+    const [act, session = ""] = (found(request, "begun") || "sign_in").split(".");
+    const answer = await site.finish(`finish_${act}`, session, await body(request));
     if (!answer.accepted) return [400, answer.error ?? `${answer.refused.name}: ${answer.refused.text}`];
-    return [200, JSON.stringify(answer.accepted), [sealed("user", answer.accepted.user)]];
+    return [200, JSON.stringify(answer.accepted), [kept("user", `${answer.accepted.user}.${code(answer.accepted.user)}`)]];
   }
   return request.method === "GET" && request.url === "/" ? [200, PAGE] : [404, "there is no such page"];
 }

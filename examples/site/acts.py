@@ -11,9 +11,9 @@ from garvoeng import Credential, Server, SignedIn, StoredServer
 from garvoeng.sql import SqlServer
 
 PROGRAM = os.environ.get("PROGRAM", str(Path(__file__).resolve().parents[2] / "dist" / "passkey-site"))
-"""The proved program that keeps sessions and credentials in a file of its own."""
+"""The proved program that keeps credentials in a file of its own."""
 
-Session = Union[int, str, None]
+Session = Optional[str]
 
 
 class Acts:

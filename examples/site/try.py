@@ -14,6 +14,7 @@ from device import RS256, Device  # noqa: E402
 from garvoeng.forms import from_text  # noqa: E402
 from servers import ended, started  # noqa: E402
 from accounts import connect_to  # noqa: E402
+from acts import PROGRAM  # noqa: E402
 from garvoeng import Server  # noqa: E402
 from garvoeng.broker import IDLE  # noqa: E402
 from garvoeng.sql import LIFETIME, SqlServer  # noqa: E402
@@ -102,16 +103,44 @@ def in_rows(address, statement, *values):
         return found.fetchone()[0] if found.description else None
 
 
-def without_sessions(site, address):
-    """The site once its sessions have ended: those of the program end with it, when no process has the file any more."""
+SHORT = """#!/bin/sh
+for word; do
+    shift
+    [ "$word" = --expire=300 ] && word=--expire=1
+    set -- "$@" "$word"
+done
+exec "{}" "$@"
+"""
+"""A program whose sessions end after a second."""
+
+
+def with_program(site, address, program):
+    """The site, which is started again with this program where it has one."""
     if not address.startswith("program:"):
-        in_rows(address, "update garvoeng_session set expires_at = expires_at - ?", LIFETIME + 1)
         return site
     ended(site)
     file = sqlite3.connect(address[len("program:"):], timeout=30, isolation_level=None)
     file.execute("begin exclusive")
     file.close()
+    os.environ["PROGRAM"] = program
     return started(address, PORT)
+
+
+def with_short_sessions(site, address):
+    """The site, where it has the program, whose sessions are short then."""
+    short = Path(address.removeprefix("program:") + "-short")
+    if address.startswith("program:"):
+        short.write_text(SHORT.format(PROGRAM))
+        short.chmod(0o755)
+    return with_program(site, address, str(short))
+
+
+def end_sessions(address):
+    """All that begun at a site with short sessions have ended."""
+    if address.startswith("program:"):
+        time.sleep(2)
+    else:
+        in_rows(address, "update garvoeng_session set expires_at = expires_at - ?", LIFETIME + 1)
 
 
 def emptied(address):
@@ -154,10 +183,12 @@ def tries(browser, address, name, is_whole):
     later = json.dumps(run("assertion({name: ''})"))
     see(f"{name}: an older challenge than the session's (W7)", run("post('/sign-in/finish', window.kept)").get("refusal") == "W7")
     see(f"{name}: the session is as it was before the refusal", run(f"post('/sign-in/finish', {later})").get("user"))
+    site = with_short_sessions(site, address)
     run("(async () => { window.kept = await assertion({name: ''}); })()")
-    site = without_sessions(site, address)
+    end_sessions(address)
     urllib.request.urlopen(urllib.request.Request(ORIGIN + "/sign-in/begin", b"{}", {"Content-Type": "application/json"})).close()
     see(f"{name}: a session that has ended (W1)", run("post('/sign-in/finish', window.kept)").get("refusal") == "W1")
+    site = with_program(site, address, PROGRAM)
     begun = json.dumps(run("assertion({name: ''})"))
     ended(site)
     site = started(address, PORT)
@@ -209,9 +240,7 @@ def tries(browser, address, name, is_whole):
         time.sleep(IDLE + 1)
         site = started(address, PORT)
     browser.open(ORIGIN)
-    # The program ended in between, and with it the session.
-    refusal = "W1" if is_program else "W8"
-    see(f"{name}: and its response refused here ({refusal})", run(f"post('/sign-in/finish', {json.dumps(moved)})").get("refusal") == refusal)
+    see(f"{name}: and its response refused here (W8)", run(f"post('/sign-in/finish', {json.dumps(moved)})").get("refusal") == "W8")
     browser.without(second)
     third = browser.authenticator()
     named("bob")

@@ -148,7 +148,7 @@ def hostile_requests(site, port):
     response = {"id": "AA", "rawId": "AA", "type": "public-key", "response": {"clientDataJSON": "AA", "authenticatorData": "AA", "signature": "AA"}}
     whole = json.dumps(response).encode()
     check(f"{site}: a response of nobody", json.loads(posted(port, "/sign-in/complete", whole, cookie)[1]).get("refusal"), "W3")
-    mixed, name = cookie.split(".")[0] + "." + other.split(".")[1], cookie.split("=")[0]
+    mixed, name = cookie[:len(cookie) // 2] + other[len(other) // 2:], cookie.split("=")[0]
     for sent in ("", f"{name}=", f"{name}=1", mixed, cookie[:-1], cookie[:-2] + "AA", cookie.replace("sign_in", "registration"), f"{name}=" + "A" * 4000, f"{name}=%"):
         status, said, _ = posted(port, "/sign-in/complete", whole, sent)
         check(f"{site}: the cookie {sent[:40]}", (status, json.loads(said).get("refusal")), (403, "W1"))

@@ -16,7 +16,7 @@ import { errors, folder, own, pair, secret, serving, stored, visit } from "./vis
 
 const require = createRequire(import.meta.url), express = require("express"), common = require("garvoeng/http");
 const children = () => readFileSync(`/proc/self/task/${process.pid}/children`, "utf8").trim().split(" ").filter((one) => one !== "").map(Number);
-const COOKIE = /^garvoeng_(user|registration|sign_in)=[\w-]+\.[\w-]{43}; Path=\/; HttpOnly; SameSite=Lax$/;
+const COOKIE = /^garvoeng_(user=[\w-]+\.[\w-]{43}|registration=[\w-]+\.[\w-]{43}|sign_in=[\w-]{102}); Path=\/; HttpOnly; SameSite=Lax$/;
 const endedOf = (name) => `garvoeng_${name}=; Path=/; HttpOnly; SameSite=Lax; Max-Age=0`;
 const LISTENERS = {
   "node:http": (site) => createServer(site),
@@ -98,7 +98,14 @@ test("a secret, and cookies that are not the site's", async (context) => {
   assert.equal(await served.site.signedIn({ headers: { cookie: moved } }), null);
   for (const wrong of ["", moved, pair(cookie).replace("garvoeng_sign_in", "garvoeng_registration"), kept.replace(name, "garvoeng_sign_in")])
     assert.equal((await post("/sign-in/complete", response, wrong)).told.refusal, "W1", wrong);
+  const [named, text] = pair(cookie).split("=");
+  for (let at = 0; at < text.length; at++) assert.equal((await post("/sign-in/complete", response, `${named}=${flipped(text, at)}`)).told.refusal, "W1", `${at}`);
   assert.equal((await post("/sign-in/complete", response, pair(cookie))).status, 200);
+  // A registration's text without who began it registers nothing.
+  const begun = await post("/register/begin", '{"name":"ada"}', kept), { session } = JSON.parse(Buffer.from(pair(begun.cookie).split(/[=.]/)[1], "base64url"));
+  for (const wrong of [`garvoeng_registration=${session}`, `garvoeng_sign_in=${session}`, kept])
+    assert.equal((await post("/register/complete", JSON.stringify(own("stolen").register(begun.told)), wrong)).told.refusal, "G1", wrong);
+  assert.equal((await post("/register/complete", JSON.stringify(own("stolen").register(begun.told)), `${pair(begun.cookie)}; ${kept}`)).status, 200);
 });
 
 test("what no page sends", async (context) => {

@@ -122,7 +122,7 @@ test("what stands in Object.prototype is no option, no member, and ends no sign-
   const added = {
     conditional: true, profile: "open", userVerification: "required", acceptNone: false, isFull: true, retired: true, eligible: true, verify: () => true, exclude: [id], allow: [id],
     timeout: 5, transports: ["usb"], clientExtensionResults: 7, authenticatorAttachment: 7, userHandle: "AAAA", rawId: id, isRegistered: false, error: "x", failed: "x", zzz: { enumerable: true }, attestation: "direct", displayName: "x", authenticatorSelection: 7,
-    rpName: "x", expire: 5, maxOpen: 5, secret: "t".repeat(32), signOuts: {}, lifetime: 9, accepted: {}, data: "x", user: "AAAA", user_verification: true,
+    rpName: "x", expire: 5, secret: "t".repeat(32), signOuts: {}, lifetime: 9, accepted: {}, data: "x", user: "AAAA", user_verification: true,
   };
   const { device } = await visitor(), other = new Device(undefined, { id: Buffer.from("other") });
   await withPrototype(added, async () => {

@@ -184,18 +184,6 @@ test("a sign-out whose session can't be ended has failed", async (context) => {
   assert.deepEqual([out.status, out.cookies], [503, []]);
 });
 
-test("which registrations are open is forgotten with their time", async (context) => {
-  let session = 0;
-  const abandoned = [], shared = new Shared({ ask: async (act, members) => (act === "abandon" ? abandoned.push(members.session) && {} : { session: ++session }) }, 60_000);
-  const begin = (user) => shared.ask("begin_registration", { user });
-  await begin("one");
-  later(context, 61);
-  await begin("one");
-  await begin("two");
-  assert.deepEqual([await shared.ask("end_registrations", { user: "one" }), abandoned], [{ ended: 1 }, [2]]);
-  assert.deepEqual(await shared.ask("end_registrations", { user: "one" }), { ended: 0 });
-});
-
 test("a site that changed its store signs out", async (context) => {
   const one = await serving(context, stored()), two = await serving(context, sql());
   for (const [before, after] of [[one, two], [two, one]]) {

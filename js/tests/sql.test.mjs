@@ -294,8 +294,13 @@ test("rows that no site writes are the database's failure", async () => {
 
 test("what hosts and visitors hand in", async () => {
   const server = serving(), device = new Device(), { options, session } = await server.registerBegin(user, "name"), made = device.register(options);
-  for (const bad of ["", "x", 7, {}, [session], session.toUpperCase() + "A", session + "\n", `${session}'`, session.slice(1), true, Symbol("a")])
-    for (const call of [server.registerComplete(bad, made), server.authenticateComplete(bad, made), server.abandon(bad)]) await assert.rejects(call, BadInput);
+  const signed = device.signIn((await server.authenticateBegin()).options, { user });
+  for (const bad of ["", "x", 7, {}, [session], session.toUpperCase() + "A", session + "\n", `${session}'`, session.slice(1), true, Symbol("a")]) {
+    const why = typeof bad === "string" ? (error) => error.number === 1 : BadInput;
+    await assert.rejects(server.registerComplete(bad, made), why);
+    await assert.rejects(server.authenticateComplete(bad, signed), why);
+    await assert.rejects(server.abandon(bad), BadInput);
+  }
   for (const bad of ["AA", null, undefined, [1]]) await assert.rejects(server.retire(bad), BadInput);
   await assert.rejects(server.rows("x"), BadInput);
   await assert.rejects(server.registerBegin("account", "name"), BadInput);

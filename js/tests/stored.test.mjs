@@ -15,6 +15,7 @@ const serving = (name, how) => new StoredServer(PROGRAM, path(name), "example.co
 const children = () => readFileSync(`/proc/self/task/${process.pid}/children`, "utf8").trim().split(" ").filter((one) => one !== "").map(Number);
 const sleep = (milliseconds) => new Promise((resolve) => setTimeout(resolve, milliseconds));
 const until = async (call) => { for (let time = 0; time < 600 && !call(); time++) await sleep(50); };
+const numberOf = ({ challenge }) => Buffer.from(challenge, "base64url").readBigUInt64BE();
 const flipped = (value) => (value[value.length - 1] ^= 1, value);
 
 async function registered(server, device, how) {
@@ -62,14 +63,11 @@ test("visits", async () => {
   assert.deepEqual((await server.rows()).map((row) => [row.usedAt === null, row.transports]).at(-1), [true, transports3]);
   assert.equal(await server.delete(told.id), true);
   await assert.rejects(registered(server, device), { name: "G15", isRegistration: true });
-  for (const none of [null, undefined, 0]) await assert.rejects(server.authenticateComplete(none, response), { name: "W1" });
   assert.deepEqual([await server.retire(device.id), await server.retire(device.id)], [true, false]);
   assert.deepEqual((await server.rows()).map(({ retired }) => retired), [false, false, true]);
   const { options, session } = await server.authenticateBegin();
   await assert.rejects(server.authenticateComplete(session, device.signIn(options)), { name: "W3" });
   assert.deepEqual([await server.abandon(session), await server.abandon(session)], [true, false]);
-  const young = (await server.authenticateBegin()).session;
-  assert.deepEqual([await server.expire(3_600), await server.abandon(young)], [0, true]);
   const outputs = "a16b6372656450726f7465637402", more = new Device(EDDSA, { id: Buffer.from("with extensions") });
   const made = await registered(server, more, { flags: UP | UV | AT | ED, outputs });
   assert.deepEqual([made.flags, Buffer.from(made.extensions).toString("hex")], [UP | UV | AT | ED, outputs]);
@@ -110,7 +108,7 @@ test("options are those of Server, and the session is of what they ask", async (
 });
 
 test("the account's own credentials are excluded and listed", async () => {
-  const server = serving("own.db"), devices = Array.from({ length: 9 }, (_, index) => new Device(EDDSA, { id: Buffer.from(`${index}`) })), [first, second] = devices;
+  const server = serving("own.db"), devices = Array.from({ length: 65 }, (_, index) => new Device(EDDSA, { id: Buffer.from(`${index}`) })), [first, second] = devices;
   const listed = (list) => list.map(({ id }) => Buffer.from(id, "base64url").toString()), nobody = Buffer.from("nobody");
   for (const device of devices.slice(0, 3)) {
     const begun = await server.registerBegin(user, "name"), response = device.register(begun.options);
@@ -127,9 +125,9 @@ test("the account's own credentials are excluded and listed", async () => {
   assert.deepEqual(listed((await server.authenticateBegin()).options.allowCredentials), []);
   await assert.rejects(server.authenticateComplete(begun.session, second.signIn(begun.options)), { name: "W2" });
   for (const device of devices.slice(3)) await registered(server, device);
-  assert.equal((await server.authenticateBegin({ user })).options.allowCredentials.length, 8);
-  await registered(server, new Device(EDDSA, { id: Buffer.from("a ninth") }));
-  assert.deepEqual([(await server.authenticateBegin({ user })).options.allowCredentials.length, (await server.registerBegin(user, "name")).options.excludeCredentials.length], [0, 8]);
+  assert.equal((await server.authenticateBegin({ user })).options.allowCredentials.length, 64);
+  await registered(server, new Device(EDDSA, { id: Buffer.from("one more") }));
+  assert.deepEqual([(await server.authenticateBegin({ user })).options.allowCredentials.length, (await server.registerBegin(user, "name")).options.excludeCredentials.length], [0, 64]);
   // Retirement and the end of an account end its registrations, and no other's.
   const begins = async (account) => ({ account, device: new Device(EDDSA, { id: Buffer.from(`more ${Math.random()}`) }), ...(await server.registerBegin(account, "name")) });
   const ends = ({ session, options, device }) => server.registerComplete(session, device.register(options));
@@ -143,9 +141,57 @@ test("the account's own credentials are excluded and listed", async () => {
   await assert.rejects(ends(three), { name: "G1" });
   const four = await begins(user);
   await ends(others);
-  assert.equal(await server.deleteAccount(user), 10);
+  assert.equal(await server.erase(user), 66);
   await assert.rejects(ends(four), { name: "G1" });
-  assert.deepEqual([(await server.rows()).length, await server.deleteAccount(user), await server.deleteAccount(nobody)], [1, 0, 1]);
+  const five = await begins(nobody);
+  assert.deepEqual([await server.retireAll(nobody), await server.retireAll(nobody)], [1, 0]);
+  await assert.rejects(ends(five), { name: "G1" });
+  assert.deepEqual([(await server.rows()).map(({ retired }) => retired), await server.deleteAccount(user), await server.deleteAccount(nobody)], [[true], 0, 1]);
+  await server.close();
+});
+
+test("long ids: the first that a line has room for are excluded, and any may answer", async () => {
+  const server = serving("long.db"), devices = Array.from({ length: 33 }, (_, index) => new Device(EDDSA, { id: Buffer.from(`${index}`.padEnd(1_023)) }));
+  for (const device of devices) await registered(server, device);
+  assert.deepEqual((await server.registerBegin(user, "name")).options.excludeCredentials.map(({ id }) => id), devices.slice(0, 32).map(({ id }) => toText(id)));
+  assert.deepEqual((await server.authenticateBegin({ user })).options.allowCredentials, []);
+  await server.close();
+  const strict = serving("strict list.db", { profile: "strict" }), list = (length) => ({ allow: Array(length).fill(user) });
+  assert.equal((await strict.authenticateBegin(list(8))).options.allowCredentials.length, 8);
+  await assert.rejects(strict.authenticateBegin(list(9)), BadInput);
+  await strict.close();
+});
+
+test("a text is of one site, one ceremony and one use, over a restart too", async () => {
+  let server = serving("texts.db");
+  const device = new Device(EDDSA), other = new Device(EDDSA, { id: Buffer.from("other") });
+  await registered(server, device);
+  const signs = await server.authenticateBegin(), makes = await server.registerBegin(user, "name"), left = await server.authenticateBegin();
+  const response = device.signIn(signs.options, { user }), made = other.register(makes.options), answer = device.signIn(left.options, { user });
+  const isUnknown = async (one, text) => {
+    await assert.rejects(one.authenticateComplete(text, response), { name: "W1" }, String(text));
+    await assert.rejects(one.registerComplete(text === signs.session ? text : makes.session === text ? null : text, made), { name: "G1" }, String(text));
+  };
+  const another = serving("another.db"), changes = [...signs.session].map((letter, at) => signs.session.slice(0, at) + (letter === "A" ? "B" : "A") + signs.session.slice(at + 1));
+  await assert.rejects(another.authenticateComplete(signs.session, response), { name: "W1" });
+  await assert.rejects(another.registerComplete(makes.session, made), { name: "G1" });
+  assert.equal(await another.abandon(signs.session), false);
+  await another.close();
+  for (const text of [null, undefined, "", "1", 0, 1, -1, 0.5, NaN, 2 ** 53, 1n, true, [1], {}, { valueOf: () => 1 }, "1; drop", "\ud800", "A".repeat(2_875), "A".repeat(70_000),
+                      `${signs.session}=`, `${signs.session}A`, `${signs.session}\n`, signs.session.slice(1), Buffer.from(signs.session), new String(signs.session), ...changes]) {
+    await isUnknown(server, text);
+    assert.equal(await server.abandon(text), false);
+  }
+  await assert.rejects(server.authenticateComplete(makes.session, response), { name: "W1" });
+  await assert.rejects(server.registerComplete(signs.session, made), { name: "G1" });
+  assert.equal(await server.abandon(left.session), true);
+  await server.close();
+  server = serving("texts.db");
+  await assert.rejects(server.authenticateComplete(left.session, answer), { name: "W1" });
+  assert.equal((await server.authenticateComplete(signs.session, response)).signCount, device.count - 1);
+  assert.equal(toText((await server.registerComplete(makes.session, made)).credential.id), toText(other.id));
+  await isUnknown(server, signs.session);
+  await assert.rejects(server.registerComplete(makes.session, made), { name: "G1" });
   await server.close();
 });
 
@@ -156,7 +202,7 @@ test("what another program added to Object.prototype is no answer", async () => 
     await registered(server, device);
     assert.equal(await server.signOuts.has("none", Date.now() + 60_000), false);
     const { options, session } = await server.authenticateBegin({ user });
-    await assert.rejects(server.authenticateComplete(session + 9, device.signIn(options)), { name: "W1" });
+    await assert.rejects(server.authenticateComplete(`${session}A`, device.signIn(options)), { name: "W1" });
     assert.equal((await server.authenticateComplete(session, device.signIn(options))).signCount, 2);
     await assert.rejects(registered(server, new Device(EDDSA, { id: user }), { flags: AT }), { name: "G9" }, "it is not conditional");
   } finally {
@@ -210,11 +256,7 @@ test("what the server takes", async () => {
   for (const [index, origin] of ["https://www.example.com", "https://example.com"].entries()) await registered(two, new Device(EDDSA, { id: Buffer.from(`${index}`), origin }));
   await assert.rejects(registered(two, new Device(EDDSA, { origin: "https://other.example.com" })), { name: "G5" });
   await two.close();
-  const few = serving("few.db", { maxOpen: 1, maxCredentials: 1 }), first = (await few.authenticateBegin()).session;
-  const second = (await few.authenticateBegin()).session;
-  assert.deepEqual([await few.abandon(first), await few.abandon(second)], [false, true], "the oldest ended");
   const devices = ["one", "two"].map((id) => new Device(EDDSA, { id: Buffer.from(id) })), begun = [];
-  await few.close();
   const one = serving("few.db", { maxCredentials: 1 });
   for (const device of devices) {
     const { options, session } = await one.registerBegin(user, "name");
@@ -249,15 +291,14 @@ test("what the server takes", async () => {
 
 test("what hosts hand in by mistake", async () => {
   const server = serving("mistakes.db"), response = new Device().signIn({ challenge: "AA" }), { session } = await server.authenticateBegin();
-  for (const bad of [-1, 0.5, "1", [1], {}, NaN, 2 ** 53, 1n, true, { valueOf: () => 1 }, "1; drop"]) await assert.rejects(server.authenticateComplete(bad, response), BadInput);
   const rows = [
     () => server.registerBegin("account 7", "name"), () => server.registerBegin(new Uint8Array(0), "name"), () => server.registerBegin(new Uint8Array(65), "name"),
     () => server.registerBegin(user), () => server.registerBegin(user, 7), () => server.registerBegin(user, "A".repeat(70_000)), () => server.registerBegin(user, "\ud800"),
-    () => server.registerBegin(user, "name", { exclude: Array(9).fill(user) }), () => server.registerBegin(user, "name", { algorithms: [] }),
+    () => server.registerBegin(user, "name", { exclude: Array(65).fill(user) }), () => server.registerBegin(user, "name", { algorithms: [] }),
     () => server.registerBegin(user, "name", { algorithms: [1] }), () => server.registerBegin(user, "name", { userVerification: true }),
     () => server.registerBegin(user, "name", { residentKey: true }), () => server.registerBegin(user, "name", { timeout: 0 }),
-    () => server.authenticateBegin({ user: "7" }), () => server.authenticateBegin({ allow: [""] }), () => server.authenticateBegin({ allow: Array(9).fill(user) }),
-    () => server.authenticateBegin({ hints: ["x"] }), () => server.retire("AA"), () => server.abandon(-1), () => server.expire("300"), () => server.rows("x"),
+    () => server.authenticateBegin({ user: "7" }), () => server.authenticateBegin({ allow: [""] }), () => server.authenticateBegin({ allow: Array(65).fill(user) }),
+    () => server.authenticateBegin({ hints: ["x"] }), () => server.retire("AA"), () => server.rows("x"), () => server.erase("x"), () => server.retireAll(null),
     () => server.registerComplete(session, null), () => server.authenticateComplete(session, { ...response, id: "A".repeat(70_000), rawId: "A".repeat(70_000) }),
   ];
   for (const call of rows) await assert.rejects(call(), BadInput, `${call}`);
@@ -267,10 +308,10 @@ test("what hosts hand in by mistake", async () => {
   assert.equal(children().length, 2, "it was not asked");
   await spied.close();
   assert.equal(children().length, 1);
+  assert.equal(numberOf((await server.authenticateBegin()).options), 2n, "nothing began");
   assert.equal(await server.abandon(session), true);
-  assert.equal((await server.authenticateBegin()).session, session + 1, "nothing began");
   await server.close();
-  for (const make of [{ acceptNone: false, acceptSelf: false }, { log: "some" }, { maxOpen: 0 }, { maxCredentials: 0 }, { maxOpen: "9" }, { expire: -1 }, { timeout: 0 }, { rpName: "" }, { rpName: "a\0b" }])
+  for (const make of [{ acceptNone: false, acceptSelf: false }, { log: "some" }, { maxCredentials: 0 }, { maxCredentials: "9" }, { expire: -1 }, { timeout: 0 }, { rpName: "" }, { rpName: "a\0b" }])
     assert.throws(() => serving("none.db", make), BadInput);
   for (const words of [["", "x"], [7, "x"], [PROGRAM, ""], [PROGRAM, "a\0b"], [PROGRAM, null]])
     assert.throws(() => new StoredServer(...words, "example.com", ["https://example.com"]), BadInput);
@@ -424,10 +465,10 @@ test("a program that is killed or hangs: what was in flight is rejected, the nex
   const { options, session } = await server.authenticateBegin(), response = device.signIn(options, { user });
   process.kill(children()[0], "SIGKILL");
   await sleep(200);
-  await assert.rejects(server.authenticateComplete(session, response), { name: "W1" }, "a session ends with the program");
+  assert.equal((await server.authenticateComplete(session, response)).signCount, device.count, "a session outlives the program");
   const again = await server.authenticateBegin();
   assert.equal(await server.abandon(again.session), true);
-  assert.ok(session < again.session, "no number comes again");
+  assert.ok(numberOf(options) < numberOf(again.options), "no number comes again");
   process.kill(children()[0], "SIGSTOP");
   await assert.rejects(server.close(), { message: "the program could not close its file" });
   assert.deepEqual(children(), []);

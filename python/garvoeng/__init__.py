@@ -7,11 +7,11 @@ module calls. Signatures are verified by `cryptography`.
     options, session = server.authenticate_begin()
     signed_in = server.authenticate_complete(session, response, credential=find)
 
-`StoredServer` has the same four calls over the proved program, which keeps sessions and credentials in a file.
+`StoredServer` has the same four calls over the proved program, which keeps credentials in a file.
 """
 from .errors import BadInput, Refused, RowDamaged, SessionDamaged
 from .library import EDDSA, ES256, RS256, is_canonical
-from .limits import MAX_LIST, MAX_STORED_LIST
+from .limits import MAX_LIST
 from .rate_limit import RateLimit
 from .records import Credential, Registered, RegistrationSession, SignedIn, SignInSession
 from .server import Server
@@ -19,6 +19,6 @@ from .stored import KeptCredential, StoredServer, StoredSignIn, StoreFailed
 
 __version__ = "0.1.0"
 
-__all__ = ["EDDSA", "ES256", "MAX_LIST", "MAX_STORED_LIST", "RS256", "BadInput", "Credential", "KeptCredential",
+__all__ = ["EDDSA", "ES256", "MAX_LIST", "RS256", "BadInput", "Credential", "KeptCredential",
            "RateLimit", "Refused", "Registered", "RegistrationSession", "RowDamaged", "Server", "SessionDamaged", "SignInSession", "SignedIn", "StoreFailed", "StoredServer",
            "StoredSignIn", "is_canonical"]

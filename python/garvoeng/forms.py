@@ -11,6 +11,8 @@ from .errors import BadInput
 
 MAX_TRANSPORTS = 16
 """The most transports of a credential."""
+MAX_SESSION = 2_875
+"""The most characters of a session's text."""
 
 RegistrationParts = Tuple[bytes, bytes, bytes]
 SignInParts = Tuple[bytes, bytes, bytes, bytes, Optional[bytes]]
@@ -32,6 +34,14 @@ def from_text(text: Any, what: str) -> bytes:
     except ValueError as error:
         raise BadInput(str(error)) from None
     return made
+
+
+def sealed(session: Any) -> str:
+    """The text of a session of `StoredServer`: of what no begin gave none, which is an unknown session to the program."""
+    try:
+        return session if isinstance(session, str) and len(session) <= MAX_SESSION and from_text(session, "session") else ""
+    except BadInput:
+        return ""
 
 
 def _plain(response: Mapping[str, Any]) -> Dict[str, Any]:

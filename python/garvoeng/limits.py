@@ -11,9 +11,9 @@ from .errors import BadInput
 from .library import EDDSA, ES256, MAX_ID, PROFILES, RS256
 
 MAX_LIST = 64
-"""The most credential ids of a list of `Server`. Browsers take no longer one."""
-MAX_STORED_LIST = 8
-"""The most credential ids of a list of `StoredServer`."""
+"""The most credential ids of a list. Browsers take no longer one."""
+MAX_STRICT_LIST = 8
+"""The same of a `StoredServer` of the profile `strict`."""
 MAX_USER = 64
 """The most bytes of a user handle (WebAuthn Level 2, section 5.4.3)."""
 

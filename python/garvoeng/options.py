@@ -3,6 +3,7 @@ section 5.1)."""
 from __future__ import annotations
 
 import json
+from itertools import accumulate
 from typing import Any, Dict, Iterable, Mapping, Optional, Sequence, Union
 
 from . import forms, limits
@@ -14,6 +15,8 @@ REQUIREMENTS = ("required", "preferred", "discouraged")
 ATTACHMENTS = ("platform", "cross-platform")
 ATTESTATIONS = ("none", "indirect", "direct", "enterprise")
 HINTS = ("security-key", "client-device", "hybrid")
+MAX_OWN = 32_768
+"""The most bytes of the ids that are listed where a site gives no list."""
 
 Requirement = Union[bool, str]
 Ids = Iterable[Union[bytes, Credential]]
@@ -88,6 +91,12 @@ def ids_of(ids: Ids, what: str, most: int = limits.MAX_LIST) -> "tuple[bytes, ..
     """The ids of a list, so many at most."""
     listed = limits.check_list(ids, what, "credentials or their ids")
     return limits.check_ids([one.id if isinstance(one, Credential) else one for one in listed], what, most)
+
+
+def fitting(rows: Sequence[Credential], most: int) -> Sequence[Credential]:
+    """Those of an account's credentials for which a list and a line have room, the first ones."""
+    sizes = accumulate(len(row.id) for row in rows[:most])
+    return rows[:sum(size <= MAX_OWN for size in sizes)]
 
 
 def user_entity(user: bytes, user_name: str, display_name: Optional[str]) -> Dict[str, str]:

@@ -1,5 +1,5 @@
-"""A relying party whose sessions and credentials the proved program `site_program` keeps in a SQLite file. The program
-runs beside this process, and answers lines of JSON."""
+"""A relying party whose credentials the proved program `site_program` keeps in a SQLite file. The program runs beside this
+process, and answers lines of JSON. A session is a text that it has sealed, which the visitor keeps."""
 from __future__ import annotations
 
 import itertools
@@ -81,10 +81,6 @@ def _kept(row: Mapping[str, Any]) -> KeptCredential:
     aaguid = row["aaguid"]
     return KeptCredential(*_parts(row), forms.transports_in(row["transports"]),
                           None if aaguid is None else forms.from_text(aaguid, "aaguid"), row["created_at"], row["used_at"])
-
-
-def _listed(ids: Ids, what: str) -> List[str]:
-    return [forms.to_text(one) for one in options.ids_of(ids, what, limits.MAX_STORED_LIST)]
 
 
 def _named(credential: bytes) -> str:
@@ -259,10 +255,9 @@ class StoredServer:
     `existing`. `known` is to be kept elsewhere: with it as `at_least` each copy of the file that lacks the last change is refused.
     With `wary` each commit flushes twice, for disks that may leave any bytes of a write that is cut off. Calls come from any
     thread. Where the program has ended, the next call starts it again; one that does not answer in `timeout` seconds is
-    ended. Open sessions are in the program's memory: one ends by itself `expire` seconds after it began, where `max_open`
-    are open the oldest ends, and with the program all end. `max_credentials` is the most credentials; both are from 1 to
-    1,000,000. With `log` each refusal is told, and with `log="all"` each acceptance and each error too; all that the program
-    tells goes to the logger `garvoeng` of `logging`. With `shared`, which is for Linux, all processes of this user that name
+    ended. A session ends by itself `expire` seconds after it began; the program may have ended meanwhile. `max_credentials`
+    is the most credentials; both are from 1 to 1,000,000. With `log` each refusal is told, and with `log="all"` each acceptance
+    and each error too; all that the program tells goes to the logger `garvoeng` of `logging`. With `shared`, which is for Linux, all processes of this user that name
     the same file and the same parameters share one program, by a Unix socket that nobody else can open; it ends two seconds
     after the last of them. `verify(algorithm, x, y, message, signature)` tells whether a signature is valid; by default
     `cryptography` does.
@@ -270,7 +265,6 @@ class StoredServer:
 
     def __init__(self, program: str, file: str, rp_id: str, origins: Sequence[str], rp_name: Optional[str] = None, *,
                  accept_none: bool = True, accept_self: bool = True, profile: str = "level3", top_origins: Sequence[str] = (),
-                 max_open: int = 100_000,
                  max_credentials: int = 1_000_000, existing: bool = False, at_least: int = 0, wary: bool = False,
                  log: Union[bool, str] = False, expire: int = 300, timeout: float = 30.0,
                  shared: bool = False, verify: Optional[Verify] = None) -> None:
@@ -285,7 +279,7 @@ class StoredServer:
         attestation = "any" if accept_none and accept_self else "none" if accept_none else "self"
         self._words = [program, f"--rp-id={rp_id}", f"--rp-name={rp_id if rp_name is None else rp_name}",
                        "--profile", profile, "--attestation", attestation,
-                       f"--max-open={max_open}", f"--max-credentials={max_credentials}", f"--expire={expire}",
+                       f"--max-credentials={max_credentials}", f"--expire={expire}",
                        *(f"--origin={origin}" for origin in origins),
                        *(f"--top-origin={origin}" for origin in limits.check_top_origins(top_origins)),
                        *(["--existing"] if existing else []),
@@ -293,6 +287,7 @@ class StoredServer:
                        *(["--wary"] if wary else []),
                        *([f"--log={'refusals' if log is True else log}"] if log else []),
                        "--", file]
+        self._most_listed = limits.MAX_STRICT_LIST if profile == "strict" else limits.MAX_LIST
         self.verify = verify_of(verify)
         self.timeout = timeout
         self.shared = shared
@@ -354,16 +349,19 @@ class StoredServer:
             if kind is None:
                 raise
 
-    def _finish(self, act: str, session: Optional[int], response: Dict[str, Any], **more: Any) -> Dict[str, Any]:
+    def _listed(self, ids: Ids, what: str) -> List[str]:
+        return [forms.to_text(one) for one in options.ids_of(ids, what, self._most_listed)]
+
+    def _finish(self, act: str, session: Optional[str], response: Dict[str, Any], **more: Any) -> Dict[str, Any]:
         """What was accepted. The program tells the signature that is asked for; where it is valid it is handed back, and
         else it is told that it is not, so that its log has the refusal."""
-        number = 0 if session is None else session
-        answer = self._ask(act, session=number, response=response, **more)
+        text = forms.sealed(session)
+        answer = self._ask(act, session=text, response=response, **more)
         if "verify" in answer:
             asked = answer["verify"]
             parts = (forms.from_text(asked[name], name) for name in ("x", "y", "message", "signature"))
             is_valid = answers.is_true("verify", answers.waiting(self.verify)(asked["algorithm"], *parts))
-            answer = self._ask(act, session=number, response=response, verified=asked if is_valid else False, **more)
+            answer = self._ask(act, session=text, response=response, verified=asked if is_valid else False, **more)
         if "refused" in answer:
             raise Refused(act == "finish_registration", answer["refused"]["number"], answer["refused"]["text"])
         accepted: Dict[str, Any] = answer["accepted"]
@@ -375,10 +373,11 @@ class StoredServer:
                        user_verification: Requirement = False, resident: Requirement = True,
                        algorithms: Sequence[int] = (ES256, EDDSA, RS256), attachment: Optional[str] = None,
                        attestation: str = "none", conditional: bool = False, timeout: Optional[int] = None, hints: Sequence[str] = (),
-                       extensions: Optional[Mapping[str, Any]] = None) -> Tuple[Dict[str, Any], int]:
-        """PublicKeyCredentialCreationOptionsJSON for the page, and the session's number, which only this visitor may have.
+                       extensions: Optional[Mapping[str, Any]] = None) -> Tuple[Dict[str, Any], str]:
+        """PublicKeyCredentialCreationOptionsJSON for the page, and the session, a text that only this visitor may have.
 
-        The parameters are as in `Server.register_begin`; `exclude` has 8 at most, and is the account's own, if not given.
+        The parameters are as in `Server.register_begin`; `exclude` has 64 at most, in the profile `strict` 8, and is the account's
+        own, if not given.
         """
         handle = limits.check_user(user)
         named = options.user_entity(handle, user_name, display_name)
@@ -386,21 +385,21 @@ class StoredServer:
         more = options.of_creation(verification, resident, attachment, attestation, timeout, hints, extensions)
         how = {"algorithms": list(limits.check_algorithms(algorithms)), "conditional": limits.check_flag(conditional, "conditional"),
                "attestation": attestation != "none"}
-        listed = self._own(handle)[:limits.MAX_STORED_LIST] if exclude is None else exclude
+        listed = options.fitting(self._own(handle), self._most_listed) if exclude is None else exclude
         answer = self._ask("begin_registration", user=named["id"], user_name=user_name, display_name=display_name,
-                           exclude=_listed(listed, "exclude"), user_verification=verification == "required", **how)
+                           exclude=self._listed(listed, "exclude"), user_verification=verification == "required", **how)
         return {**answer["options"], **more}, answer["session"]
 
     async def register_begin_async(self, user: bytes, user_name: str, display_name: Optional[str] = None,
-                                   **how: Any) -> Tuple[Dict[str, Any], int]:
+                                   **how: Any) -> Tuple[Dict[str, Any], str]:
         """The same, awaited: a thread of the loop waits for the program's answer. Where the wait is cancelled, what was asked is done or
         is not."""
         return await in_thread(self.register_begin, user, user_name, display_name, **how)
 
-    def register_complete(self, session: Optional[int], response: Mapping[str, Any]) -> Registered:
+    def register_complete(self, session: Optional[str], response: Mapping[str, Any]) -> Registered:
         """What a RegistrationResponseJSON registers: the credential, which is in the file, and what is known of it. In the profile
-        `level3`, `format` is `none` where no attestation was asked for. Raises `Refused` with the first step that is not passed,
-        `BadInput` where the response is not in the form of JSON."""
+        `level3`, `format` is `none` where no attestation was asked for. Raises `Refused` with the first step that is not passed, of which
+        the first is that the session is open, `BadInput` where the response is not in the form of JSON."""
         raw_id, client_data, attestation_object = forms.registration_parts(response)
         transports = forms.transports_in(response["response"].get("transports"))
         made = self._finish("finish_registration", session, _handed_on(
@@ -408,7 +407,7 @@ class StoredServer:
         return Registered(Credential(*_parts(made), transports), forms.from_text(made["aaguid"], "aaguid"), made["format"],
                           made["user_verified"], made["backed_up"], made["flags"], _extensions(made))
 
-    async def register_complete_async(self, session: Optional[int], response: Mapping[str, Any]) -> Registered:
+    async def register_complete_async(self, session: Optional[str], response: Mapping[str, Any]) -> Registered:
         """The same, awaited as `register_begin_async`."""
         return await in_thread(self.register_complete, session, response)
 
@@ -416,26 +415,27 @@ class StoredServer:
 
     def authenticate_begin(self, *, user: Optional[bytes] = None, allow: Optional[Ids] = None, user_verification: Requirement = False,
                            timeout: Optional[int] = None, hints: Sequence[str] = (),
-                           extensions: Optional[Mapping[str, Any]] = None) -> Tuple[Dict[str, Any], int]:
-        """PublicKeyCredentialRequestOptionsJSON for the page, and the session's number, which only this visitor may have.
+                           extensions: Optional[Mapping[str, Any]] = None) -> Tuple[Dict[str, Any], str]:
+        """PublicKeyCredentialRequestOptionsJSON for the page, and the session, a text that only this visitor may have.
 
-        The parameters are as in `Server.authenticate_begin`; `allow` has 8 at most. If it is not given, and the account is known, its
-        passkeys are listed; where they are more, any that the browser finds may answer, and has to be the account's.
+        The parameters are as in `Server.authenticate_begin`; `allow` is as `exclude` of `register_begin`. If it is not given, and the
+        account is known, its passkeys are listed; where they are too many, any that the browser finds may answer, and has to be the
+        account's.
         """
         handle = None if user is None else limits.check_user(user)
         verification = options.user_verification_of(user_verification)
         more = options.of_request(verification, timeout, hints, extensions)
         own = self._own(handle) if allow is None and handle is not None else []
-        listed = allow if allow is not None else own if len(own) <= limits.MAX_STORED_LIST else []
-        answer = self._ask("begin_sign_in", user=None if handle is None else forms.to_text(handle), allow=_listed(listed, "allow"),
+        listed = allow if allow is not None else own if len(options.fitting(own, self._most_listed)) == len(own) else []
+        answer = self._ask("begin_sign_in", user=None if handle is None else forms.to_text(handle), allow=self._listed(listed, "allow"),
                            user_verification=verification == "required")
         return {**answer["options"], **more}, answer["session"]
 
-    async def authenticate_begin_async(self, **how: Any) -> Tuple[Dict[str, Any], int]:
+    async def authenticate_begin_async(self, **how: Any) -> Tuple[Dict[str, Any], str]:
         """The same, awaited as `register_begin_async`."""
         return await in_thread(self.authenticate_begin, **how)
 
-    def authenticate_complete(self, session: Optional[int], response: Mapping[str, Any]) -> StoredSignIn:
+    def authenticate_complete(self, session: Optional[str], response: Mapping[str, Any]) -> StoredSignIn:
         """Who signed in, of an AuthenticationResponseJSON; the counter is in the file, and the session closed. Raises as
         `register_complete`."""
         raw_id, client_data, data, signature, user = forms.sign_in_parts(response)
@@ -444,31 +444,36 @@ class StoredServer:
         return StoredSignIn(forms.from_text(who["credential"], "credential"), forms.from_text(who["user"], "user"),
                             who["backed_up"], who["user_verified"], who["sign_count"], who["flags"], _extensions(who))
 
-    async def authenticate_complete_async(self, session: Optional[int], response: Mapping[str, Any]) -> StoredSignIn:
+    async def authenticate_complete_async(self, session: Optional[str], response: Mapping[str, Any]) -> StoredSignIn:
         """The same, awaited as `register_begin_async`."""
         return await in_thread(self.authenticate_complete, session, response)
 
     # ---- sessions and credentials
 
     def retire(self, credential: bytes) -> bool:
-        """A credential signs in no more; whether it did until now."""
+        """A credential signs in no more, and its user's open registrations end; whether it did until now."""
         return bool(self._ask("retire", credential=_named(credential))["retired"])
 
     def delete(self, credential: bytes) -> bool:
-        """A credential is forgotten, with all that is known of it, and its id may be registered again; whether it was there."""
+        """A credential is forgotten, with all that is known of it, and its id may be registered again; its user's open registrations end.
+        Whether it was there."""
         return bool(self._ask("delete", credential=_named(credential))["deleted"])
 
+    def retire_all(self, user: bytes) -> int:
+        """A user's credentials sign in no more, and his open registrations end; how many did until now."""
+        return int(self._ask("retire_all", user=forms.to_text(limits.check_user(user)))["retired_all"])
+
+    def erase(self, user: bytes) -> int:
+        """A user's credentials are forgotten at once, and his open registrations end; how many they were."""
+        return int(self._ask("erase", user=forms.to_text(limits.check_user(user)))["erased"])
+
     def delete_account(self, user: bytes) -> int:
-        """Each of a user's credentials is forgotten, one after another; how many they were."""
-        return sum(self.delete(row.id) for row in self.rows(limits.check_user(user)))
+        """As `erase`."""
+        return self.erase(user)
 
-    def abandon(self, session: int) -> bool:
+    def abandon(self, session: Optional[str]) -> bool:
         """A session ends; whether it was open."""
-        return bool(self._ask("abandon", session=session)["abandoned"])
-
-    def expire(self, older_than: int) -> int:
-        """Ends the sessions that began more than so many seconds ago, by the system's clock; how many they were."""
-        return int(self._ask("expire", older_than=older_than)["expired"])
+        return bool(self._ask("abandon", session=forms.sealed(session))["abandoned"])
 
     def rows(self, user: Optional[bytes] = None) -> List[KeptCredential]:
         """The credentials of a user, or all, in order of registration, with what is known of each."""
@@ -482,9 +487,9 @@ class StoredServer:
     # ---- the program's own
 
     def status(self) -> Dict[str, Any]:
-        """How the site is, for a health check and for metrics: `version`, `credentials`, `sessions` that are open, `next_session`,
-        and since the program's start `commits`, `last_commit_microseconds`, `sign_ins` and `registrations` that were accepted, and
-        by step `sign_ins_refused` and `registrations_refused`, and the `lost_log_lines` that could not be written. `known` is as of `StoredServer.known`."""
+        """How the site is, for a health check and for metrics: `version`, `credentials`, `next_session`, and since the program's start
+        `commits`, `last_commit_microseconds`, `sign_ins` and `registrations` that were accepted, and by step `sign_ins_refused` and
+        `registrations_refused`, and the `lost_log_lines` that could not be written. `known` is as of `StoredServer.known`."""
         answer = self._ask("status")
         return {**answer["status"], "known": answer["known"]}
 

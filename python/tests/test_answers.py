@@ -88,7 +88,7 @@ class OfProgram:
         return getattr(self.stored, name)
 
     def kept(self):
-        return self.stored.rows(), self.stored.status()["sessions"]
+        return self.stored.rows(), self.stored.status()["commits"]
 
 
 @pytest.fixture(params=["server", "rows", "program"])

@@ -13,7 +13,7 @@ from device import AT, BE, BS, ED, UP, UV, Device, changed
 from test_options import REQUIREMENTS, VALUES_OF_OPTIONS, slips
 
 from garvoeng import BadInput, Credential, Refused, Server, StoredServer, StoreFailed
-from garvoeng.forms import to_text
+from garvoeng.forms import from_text, to_text
 from garvoeng.sql import SqlServer
 
 PROGRAM = os.environ.get("PROGRAM", str(Path(__file__).parents[2] / "dist" / "passkey-site"))
@@ -40,6 +40,22 @@ def site(tmp_path):
         yield made
 
 
+def number(options):
+    """The number of a session, with which its challenge begins."""
+    return int.from_bytes(from_text(options["challenge"], "challenge")[:8], "big")
+
+
+def registers(site, device, user=USER, **how):
+    options, session = site.register_begin(user, "name", **how)
+    return site.register_complete(session, device.register(options))
+
+
+def refusal(call, *words, **how):
+    with pytest.raises(Refused) as refused:
+        call(*words, **how)
+    return refused.value.name
+
+
 def test_creation_options_are_those_of_server(site):
     """All but the challenge, of each parameter."""
     for how in ({}, {"user_verification": "discouraged", "resident": "preferred", "attachment": "platform", "timeout": 60_000,
@@ -62,16 +78,14 @@ def test_request_options_are_those_of_server(site):
 @pytest.mark.parametrize("name, good, bad", VALUES_OF_OPTIONS)
 def test_values_of_options(site, name, good, bad):
     """What is none is refused, and no session begins."""
-    for value in good:
-        site.register_begin(USER, "name", **{name: value})
-    before = site.status()["sessions"]
+    begun = [number(site.register_begin(USER, "name", **{name: value})[0]) for value in good]
     for value in bad:
         with pytest.raises(BadInput):
             site.register_begin(USER, "name", **{name: value})
         if name not in ("resident", "attachment"):
             with pytest.raises(BadInput):
                 site.authenticate_begin(**{name: value})
-    assert site.status()["sessions"] == before == len(good)
+    assert [*begun, number(site.authenticate_begin()[0])] == list(range(1, len(good) + 2))
 
 
 def test_verification_is_the_programs_to_judge(site):
@@ -95,7 +109,7 @@ def test_verification_is_the_programs_to_judge(site):
 
 
 def test_lists(site):
-    """Ids, and credentials by their ids, eight at most; an id that isn't listed is refused."""
+    """Ids, and credentials by their ids, 64 at most; an id that isn't listed is refused."""
     one, other = Device(credential=b"one"), Device(credential=b"other")
     made = []
     for device in (one, other):
@@ -107,12 +121,20 @@ def test_lists(site):
         with pytest.raises(Refused, match="W2"):
             site.authenticate_complete(session, other.sign_in(options, user=USER))
         assert site.authenticate_complete(session, one.sign_in(options, user=USER)).credential == b"one"
-    for ids in ([b"x"] * 9, [b""], [bytes(1024)], [Credential(b"", USER, -7, b"", b"", 0, None)]):
+    for ids in ([b"x"] * 65, [b""], [bytes(1024)], [Credential(b"", USER, -7, b"", b"", 0, None)]):
         with pytest.raises(BadInput):
             site.authenticate_begin(allow=ids)
         with pytest.raises(BadInput):
             site.register_begin(USER, "name", exclude=ids)
-    assert len(site.authenticate_begin(allow=[b"x"] * 8)[0]["allowCredentials"]) == 8
+    listed = [b"one", *(b"%d" % at for at in range(63))]
+    for ids in (listed, [*listed[1:], b"one"]):
+        options, session = site.authenticate_begin(user=bytes(64), allow=ids)
+        assert [row["id"] for row in options["allowCredentials"]] == list(map(to_text, ids)) and len(session) == 2_875
+        assert refusal(site.authenticate_complete, session, other.sign_in(options, user=USER)) == "W2"
+        assert refusal(site.authenticate_complete, session, one.sign_in(options, user=USER)) == "W4"
+    options, session = site.authenticate_begin(allow=listed)
+    assert site.authenticate_complete(session, one.sign_in(options, user=USER)).credential == b"one"
+    assert len(site.register_begin(USER, "name", exclude=listed)[0]["excludeCredentials"]) == 64
 
 
 @pytest.mark.parametrize("profile, attestation, wanted", [("level3", "none", "none"), ("level3", "direct", "packed"), ("open", "none", "packed"),
@@ -209,7 +231,7 @@ def test_awaited(tmp_path, make):
     said = asyncio.run(acts())
     assert len(said) == 8 == len(server.rows()) and {row.sign_count for row in server.rows()} == {1}
     if make is stored:
-        assert {one.sign_count for one in said} == {1} and server.status()["sessions"] == 0
+        assert {one.sign_count for one in said} == {1}
         server.close()
 
 
@@ -257,10 +279,6 @@ def test_a_program_that_does_not_answer(tmp_path):
 
 def test_an_account_lists_its_own(site):
     """As `SqlServer` does: neither list has another account's passkeys nor retired ones; a list that is given stands in their place."""
-    def registers(name, user=USER):
-        options, session = site.register_begin(user, "name")
-        site.register_complete(session, Device(credential=name).register(options))
-
     def lists(user=USER, **how):
         allow = {"allow": how["listed"]} if how else {}
         exclude = {"exclude": how["listed"]} if how else {}
@@ -269,16 +287,38 @@ def test_an_account_lists_its_own(site):
 
     assert lists() == ([], [])
     for name, user in ((b"mine", USER), (b"theirs", b"account 8"), (b"old", USER)):
-        registers(name, user)
+        registers(site, Device(credential=name), user)
     assert site.retire(b"old") and lists() == ([to_text(b"mine")],) * 2 and lists(b"account 8") == ([to_text(b"theirs")],) * 2
     assert lists(listed=[]) == ([], []) and lists(listed=[b"x"]) == ([to_text(b"x")],) * 2
     assert site.authenticate_begin()[0]["allowCredentials"] == []
-    for number in range(7):
-        registers(b"%d" % number)
-    assert [len(listed) for listed in lists()] == [8, 8]
-    registers(b"7")
-    assert [len(listed) for listed in lists()] == [8, 0]
-    assert site.delete_account(USER) == 10 and site.delete_account(USER) == 0 and lists() == ([], []) and len(site.rows()) == 1
+    for at in range(63):
+        registers(site, Device(credential=b"%d" % at))
+    assert [len(listed) for listed in lists()] == [64, 64]
+    registers(site, Device(credential=b"63"))
+    assert [len(listed) for listed in lists()] == [64, 0]
+    assert site.delete_account(USER) == 66 and site.delete_account(USER) == 0 and lists() == ([], []) and len(site.rows()) == 1
+
+
+def test_an_account_of_long_ids(site):
+    """More than a line has room for: the first are excluded, and any that the browser finds may answer."""
+    devices = [Device(credential=b"%01023d" % at) for at in range(33)]
+    for device in devices[:32]:
+        registers(site, device)
+    assert len(site.authenticate_begin(user=USER)[0]["allowCredentials"]) == 32
+    registers(site, devices[32])
+    assert [row["id"] for row in site.register_begin(USER, "name")[0]["excludeCredentials"]] == [to_text(one.id) for one in devices[:32]]
+    options, session = site.authenticate_begin(user=USER)
+    assert options["allowCredentials"] == [] and site.authenticate_complete(session, devices[32].sign_in(options)).user == USER
+
+
+def test_lists_of_the_strict_profile(tmp_path):
+    with stored(tmp_path, profile="strict") as site:
+        for at in range(9):
+            registers(site, Device(credential=b"%d" % at))
+        assert [len(site.register_begin(USER, "name")[0]["excludeCredentials"]), len(site.authenticate_begin(user=USER)[0]["allowCredentials"])] == [8, 0]
+        assert len(site.authenticate_begin(allow=[b"0"] * 8)[0]["allowCredentials"]) == 8
+        with pytest.raises(BadInput, match="at most 8 credential ids"):
+            site.authenticate_begin(allow=[b"0"] * 9)
 
 
 def test_slips_of_a_site(site):
@@ -290,11 +330,11 @@ def test_slips_of_a_site(site):
                 call(wrong)
         with pytest.raises(BadInput, match="credential, a credential id, has 1 to"):
             call(b"")
-    for call in (site.rows, site.delete_account):
+    for call in (site.rows, site.delete_account, site.erase, site.retire_all):
         for wrong in ("text", 5, [1]):
             with pytest.raises(TypeError, match="user is bytes"):
                 call(wrong)
-    assert site.status()["sessions"] == 0
+    assert number(site.authenticate_begin()[0]) == 1
     for how in ({"existing": 1}, {"wary": None}, {"shared": "yes"}, {"rp_name": 5}, {"accept_none": 0}, {"verify": 7}):
         with pytest.raises(TypeError, match=list(how)[0]):
             StoredServer("program", "file", "example.com", [ORIGIN], **how)
@@ -336,11 +376,6 @@ def test_what_a_sign_in_says(site, flags, backed_up, user_verified):
 
 def test_level_3_over_the_program(tmp_path):
     """The second of two pages that may frame, presence at a conditional registration, statements, and the other profiles."""
-    def refusal(call, *words, **how):
-        with pytest.raises(Refused) as refused:
-            call(*words, **how)
-        return refused.value.name
-
     def registers(site, device, begin=None, **made):
         options, session = site.register_begin(USER, "name", **(begin or {}))
         return site.register_complete(session, device.register(options, **made))
@@ -372,3 +407,86 @@ def test_level_3_over_the_program(tmp_path):
             else:
                 assert refusal(registers, site, framed, flags=UP | UV | AT | ED, outputs=OUTPUTS) == step
                 registers(site, framed)
+
+
+def test_what_is_no_session(site):
+    """What no begin gave, or gave for the other ceremony, is an unknown session, and nothing else."""
+    device = Device()
+    registers(site, device)
+    signs, sign_in = site.authenticate_begin()
+    makes, registration = site.register_begin(USER, "name")
+    answer, made = device.sign_in(signs, user=USER), Device(credential=b"other").register(makes)
+    changed_ones = [text[:at] + ("A" if text[at] != "A" else "B") + text[at + 1:] for text in (sign_in, registration) for at in range(len(text))]
+    # The last letter of a text may have bits that no byte has.
+    others = [None, "", "A", "=", sign_in + "A", sign_in + "AA", sign_in[:-1], sign_in + "=", sign_in + "\n", sign_in.encode(), 0, 5, -1, 2**70, 1.5, True, [], {},
+              object(), "\ud800", "\u00e9", "A" * 2_875, "A" * 70_000, sign_in * 900]
+    for text in [*others, *changed_ones, registration]:
+        assert (refusal(site.authenticate_complete, text, answer), site.abandon(text) if text is not registration else False) == ("W1", False), text
+    for text in [*others, *changed_ones, sign_in]:
+        assert refusal(site.register_complete, text, made) == "G1", text
+    assert site.authenticate_complete(sign_in, answer).user == USER and site.register_complete(registration, made).credential.id == b"other"
+
+
+def test_a_kept_text(tmp_path):
+    """It is of no use once it was accepted or abandoned, over a restart too, and of another file's site never."""
+    device, other = Device(), Device(credential=b"other")
+    with stored(tmp_path) as site:
+        options, accepted = site.register_begin(USER, "name")
+        made = device.register(options)
+        site.register_complete(accepted, made)
+        options, abandoned = site.authenticate_begin()
+        answer = device.sign_in(options, user=USER)
+        assert (site.abandon(abandoned), site.abandon(abandoned)) == (True, False)
+        signs, sign_in = site.authenticate_begin()
+        makes, registration = site.register_begin(USER, "name")
+    (tmp_path / "another").mkdir()
+    with stored(tmp_path / "another") as site:
+        registers(site, device)
+        assert refusal(site.authenticate_complete, sign_in, device.sign_in(signs, user=USER)) == "W1" and site.abandon(sign_in) is False
+        assert refusal(site.register_complete, registration, other.register(makes)) == "G1"
+    with stored(tmp_path, existing=True) as site:
+        assert (refusal(site.register_complete, accepted, made), refusal(site.authenticate_complete, abandoned, answer)) == ("G1", "W1")
+        answer = device.sign_in(signs, user=USER)
+        assert site.authenticate_complete(sign_in, answer).sign_count == device.count
+        assert refusal(site.authenticate_complete, sign_in, answer) == "W1"
+        assert site.register_complete(registration, other.register(makes)).credential.id == b"other"
+
+
+@pytest.mark.parametrize("end", ["retire", "delete", "retire_all", "erase"])
+def test_what_ends_registrations(tmp_path, end):
+    """Those of the user that have begun, over a restart too; his sign-ins, those of others and what begins later go on."""
+    mine, theirs = Device(credential=b"mine"), Device(credential=b"theirs")
+    with stored(tmp_path) as site:
+        registers(site, mine)
+        registers(site, theirs, b"another")
+        begun = {user: site.register_begin(user, "name", exclude=[]) for user in (USER, b"another")}
+        made = {user: Device(credential=b"new of " + user).register(options) for user, (options, _) in begun.items()}
+        signs, sign_in = site.authenticate_begin(user=b"another")
+        call, named = getattr(site, end), b"mine" if end in ("retire", "delete") else USER
+        assert [call(named), call(named)] == [1, 0]
+        assert [row.retired for row in site.rows(USER)] == ([True] if end.startswith("retire") else [])
+        assert refusal(site.register_complete, begun[USER][1], made[USER]) == "G1"
+    with stored(tmp_path) as site:
+        assert refusal(site.register_complete, begun[USER][1], made[USER]) == "G1"
+        assert site.register_complete(begun[b"another"][1], made[b"another"]).credential.user == b"another"
+        assert site.authenticate_complete(sign_in, theirs.sign_in(signs)).user == b"another"
+        registers(site, Device(credential=b"later"))
+        assert [row.id for row in site.rows(USER)][-1] == b"later"
+
+
+def test_its_last_second(tmp_path):
+    """A session is open for so many seconds, by the clock, and not in the next."""
+    device = Device()
+    with stored(tmp_path, expire=3) as site:
+        registers(site, device)
+        while True:
+            time.sleep(1 - time.time() % 1)
+            began, (options, session), (makes, registration) = int(time.time()), site.authenticate_begin(), site.register_begin(USER, "name")
+            wrong = changed(device.sign_in(options, user=USER), "signature", lambda data: bytes(len(data)))
+            time.sleep(max(0, began + 2.3 - time.time()))
+            early = refusal(site.authenticate_complete, session, wrong)
+            if time.time() < began + 3:
+                break
+        time.sleep(max(0, began + 3.1 - time.time()))
+        assert [early, refusal(site.authenticate_complete, session, wrong), site.abandon(session)] == ["W14", "W1", False]
+        assert refusal(site.register_complete, registration, Device(credential=b"late").register(makes)) == "G1"

@@ -96,9 +96,6 @@ def visits(tests):
         tests.check("a response that nests too deep", raised(server.authenticate_complete, session, deep)[0], BadInput)
         large = {"id": "A" * 70_000, "rawId": "AA", "response": {}}
         tests.check("a response that is too large", raised(server.authenticate_complete, session, large)[0], BadInput)
-        options, session = server.authenticate_begin()
-        time.sleep(1.1)
-        tests.check("a young session stays", (server.expire(3600), server.abandon(session)), (0, True))
         tests.check("no algorithm", raised(server.register_begin, USER, "name", algorithms=[])[0], BadInput)
 
 
@@ -137,12 +134,10 @@ def settings(tests):
             tests.check(name, raised(server.register_complete, session, made), (Refused, wanted))
             made = device.register(options, packed=False if packed is None else not packed)
             tests.check(f"{name}, as it takes them", server.register_complete(session, made).credential.id, device.id)
-    with tests.server("bound.db", max_open=1) as server:
+    with tests.server("first.db") as server:
         options, session = server.authenticate_begin()
         none = raised(server.authenticate_complete, None, Device(EDDSA).sign_in(options))
-        tests.check("no session is not the first", (session, none), (1, (Refused, "W1")))
-        server.authenticate_begin()
-        tests.check("a bound on open sessions", server.abandon(session), False)
+        tests.check("no session is not the first", (none, server.abandon(session)), ((Refused, "W1"), True))
     tests.check("no attestation at all", raised(tests.server, "none.db", accept_none=False, accept_self=False)[0], BadInput)
     tests.check("one origin in place of a list", raised(StoredServer, tests.program, "x", RP_ID, ORIGIN)[0], TypeError)
 
@@ -163,13 +158,16 @@ def start(tests):
     tests.check("the lines of the pages", (signed_in.user, signed_in.credential), (b"account 7", registered.credential.id))
 
 
-# What reads begins and finishes, a line of JSON each, and writes the program's answers, over the class of each host.
+# What reads begins and finishes, a line of JSON each, and writes the program's answers, over the class of each host. A finish names the
+# session by the number of its begin.
 NODE = """import { createInterface } from "node:readline";
 import { Site } from "SITE";
-const site = new Site(...process.argv.slice(2));
+const site = new Site(...process.argv.slice(2)), begun = [];
 for await (const line of createInterface({ input: process.stdin })) {
   const { act, session, response, ...members } = JSON.parse(line);
-  console.log(JSON.stringify(await (response ? site.finish(act, session, response) : site.ask(act, members))));
+  const answer = await (response ? site.finish(act, begun[session - 1], response) : site.ask(act, members));
+  if (!response) begun.push(answer.session);
+  console.log(JSON.stringify(answer));
 }
 site.end();
 """
@@ -184,14 +182,17 @@ func main() {
 	host := &site{words: os.Args[1:]}
 	lines := json.NewDecoder(os.Stdin)
 	lines.UseNumber()
+	begun := []interface{}{}
 	for line := (object{}); lines.Decode(&line) == nil; line = (object{}) {
 		act := line["act"].(string)
 		delete(line, "act")
 		answer, err := object{}, error(nil)
 		if line["response"] == nil {
 			answer, err = host.ask(act, line)
+			begun = append(begun, answer["session"])
 		} else {
-			answer, err = host.finish(act, line["session"], line["response"])
+			number, _ := line["session"].(json.Number).Int64()
+			answer, err = host.finish(act, begun[number-1], line["response"])
 		}
 		if err != nil {
 			panic(err)
@@ -310,7 +311,7 @@ def served(tests, tool, words):
     stranger.ask("/begin", {"act": "sign_in"})
     tests.check(f"{tool}: without the cookie", Visitor(origin).visit("sign_in", device, user, lambda made: made)[0], 200)
     forged = Visitor(origin)
-    forged.cookies["begun"] = "sign_in-1." + "A" * 43
+    forged.cookies["begun"] = "sign_in." + "A" * 102
     tests.check(f"{tool}: a forged cookie", forged.ask("/finish", device.sign_in({"challenge": "AA"}, user))[0:1], (400,))
     for body in (b"no JSON", b"null", b"[]", b"{}", b'{"response":' + b"[" * 200 + b"]" * 200 + b"}", b"x" * 70_000):
         status = visitor.ask("/finish", body)[0]
@@ -387,10 +388,6 @@ def killed(tests):
         options, session = server.authenticate_begin(user=USER)
         server._process.process.kill()
         server._process.process.wait()
-        who = raised(server.authenticate_complete, session, device.sign_in(options))
-        tests.check("a session from before a kill", who[0] is StoreFailed or who == (Refused, "W1"))
-        device.count = 0
-        options, session = server.authenticate_begin(user=USER)
         response = device.sign_in(options)
         tests.check("signed in after a kill", server.authenticate_complete(session, response), signed(device))
         tests.check("once, after a kill", raised(server.authenticate_complete, session, response), (Refused, "W1"))
@@ -425,7 +422,7 @@ def failing_disk(tests):
         told.append(device.id)
     tests.check(f"a failure is told after {len(told)} registrations: {answer[:120]}", b'"failed"' in answer and len(told) > 10)
     tests.check("it says what failed", json.loads(answer)["failed"], "the store failed, and the site is shut: disk I/O error")
-    for line in (ROWS, b'{"id":1,"act":"begin_sign_in"}\n', b'{"id":1,"act":"abandon","session":1}\n', b'{"id":1,"act":"expire","older_than":0}\n',
+    for line in (ROWS, b'{"id":1,"act":"begin_sign_in"}\n', b'{"id":1,"act":"abandon","session":"AA"}\n', b'{"id":1,"act":"erase","user":"AQ"}\n',
                  b'{"id":1,"act":"retire","credential":"AQ"}\n', b'{"id":1,"act":"rows","user":"AQ"}\n'):
         process.stdin.write(line)
         process.stdin.flush()
@@ -436,14 +433,14 @@ def failing_disk(tests):
         found = [row.id for row in server.rows()]
         tests.check("each registration that was told", found[:len(told)], told)
         tests.check("and at most one more", len(found) in (len(told), len(told) + 1))
-        tests.check("numbers go on", server.authenticate_begin()[1] > len(told) + 1)
+        tests.check("numbers go on", from_text(server.authenticate_begin()[0]["challenge"], "")[:8] > (len(told) + 1).to_bytes(8, "big"))
 
 
 def wrong_files(tests):
     """What a person does wrong, told by name."""
     for words in ("--new", "--existing"):
         for bound, wanted, why in ((1_000_001, 2, "no number from 1 to 1000000"), (1_000_000, 0, "")):
-            tests.ends(f"{bound} open sessions, {words}", tests.file("most.db"), wanted, why, ["--max-open", str(bound), words])
+            tests.ends(f"{bound} credentials, {words}", tests.file("most.db"), wanted, why, ["--max-credentials", str(bound), words])
     with tests.server("used.db") as server:
         server.rows()
         tests.ends("a second process", tests.file("used.db"), 4, "the file is in use")
@@ -481,7 +478,7 @@ def cut_off(tests, kills=40):
         left["a file" if path.exists() else "no file"] += 1
         tests.check(f"a log alone, {number}", Path(f"{path}-wal").exists() and not path.exists(), False)
         run = subprocess.run([tests.program, str(path), *PARTY], input=b'{"id":1,"act":"begin_sign_in"}\n', capture_output=True)
-        begun = json.loads(run.stdout)["session"] if run.returncode == 0 else None
+        begun = json.loads(run.stdout)["number"] if run.returncode == 0 else None
         tests.check(f"the start after kill {number}: {run.stderr}", begun is not None and begun > has_answered)
         tests.ends(f"and the next, {number}", str(path), 0, "", ["--existing"])
     print(f"note: {kills} creations were killed: {dict(left)}, of which {told} had answered")

@@ -33,6 +33,10 @@ def in_place_of_random(path):
     return ["unshare", *user, "--mount", "sh", "-c", 'mount --bind "$0" /dev/urandom && exec "$@"', str(path)]
 
 
+# What is answered with what tells copies of the file that lack it.
+KNOWING = {"accepted", "retired", "deleted", "retired_all", "erased", "abandoned", "status"}
+
+
 class Host(Program):
     """A host: it runs the program, in the open profile if not said, and speaks with it by lines."""
 
@@ -45,7 +49,7 @@ class Host(Program):
     def ask(self, act, **members):
         """An answer; what it tells of copies is kept."""
         answer = super().ask(act, **members)
-        assert ("known" in answer) == bool(answer.keys() & {"accepted", "retired", "deleted", "status"}), answer
+        assert ("known" in answer) == bool(answer.keys() & KNOWING), answer
         assert answer.get("known", self.known) >= self.known, answer
         self.known = answer.pop("known", self.known)
         return answer
@@ -170,7 +174,7 @@ def options(tests, host):
     begun = host.ask("begin_registration", user=to_text(USER), user_name='n"\u00e4', display_name="d", exclude=["AQ"],
                      user_verification=True, resident=False, algorithms=[-8])
     challenge = begun["options"].pop("challenge")
-    tests.check("challenge", from_text(challenge, "")[:8], begun["session"].to_bytes(8, "big"))
+    tests.check("challenge", from_text(challenge, "")[:8], begun["number"].to_bytes(8, "big"))
     tests.check("creation options", begun["options"], {
         "rp": {"id": RP_ID, "name": "A site"}, "user": {"id": to_text(USER), "name": 'n"\u00e4', "displayName": "d"},
         "pubKeyCredParams": [{"type": "public-key", "alg": -8}], "excludeCredentials": [{"type": "public-key", "id": "AQ"}],
@@ -214,7 +218,7 @@ def visits(tests):
     status, rest, errors = host.end()
     tests.check("the end", (status, rest), (0, b""))
     last = errors.splitlines()[-1].split(" ", 1)
-    tests.check("the log", last[1], f"line {host.number} session {begun['session']} sign-in refused W3 credential "
+    tests.check("the log", last[1], f"line {host.number} session {begun['number']} sign-in refused W3 credential "
                                     f"{to_text(packed.id)}: no credential with this id is registered")
     tests.check("its second", began <= int(last[0]) <= time.time())
     tests.check("wrong signatures are in the log", sum(" sign-in refused W14 " in line for line in errors.splitlines()) >= 8)
@@ -242,7 +246,7 @@ def logs(tests):
         host.raw(b'{"id":77,"act":"nothing"}')
         status, rest, errors = host.end()
         lines = errors.splitlines()
-        found = {kind for kind, text in (("W1", f" session {begun['session']} sign-in refused W1 credential "),
+        found = {kind for kind, text in (("W1", f" session {begun['number']} sign-in refused W1 credential "),
                                          ("G19", " registration refused G19 credential AA: "), ("failed begin", " error: what is asked is not within its limits"), ("accepted", " accepted credential "),
                                          ("error", " line 77 session - error: there is no such act")) if text in errors}
         tests.check(f"the log with {words}", (status, found), (0, kinds))
@@ -254,7 +258,7 @@ def logs(tests):
     host = Host(tests.program, tests.file("log.db"), *PARTY, "--log")
     large = {"id": "A" * 20_000, "rawId": "A" * 20_000, "type": "public-key",
              "response": {"clientDataJSON": "AA", "authenticatorData": "AA", "signature": "AA"}}
-    tests.check("a large id is refused", host.ask("finish_sign_in", session=1, response=large)["refused"]["name"], "W1")
+    tests.check("a large id is refused", host.ask("finish_sign_in", session="AA", response=large)["refused"]["name"], "W1")
     tests.check("and its line is short", len(host.end()[2]) <= 1000)
 
 
@@ -329,20 +333,22 @@ def browser(tests):
     host = Host(tests.program, *party, "--new", random_bytes=random_file(tests.file("random"), challenges))
     begun = [host.ask(**begin_of(act, line["session"])) for act, line in lines]
     tests.check("the challenges", [one["options"]["challenge"] for one in begun], challenges)
-    for number, (act, line) in enumerate(lines, 1):
-        answer = host.finish(act, number, line["response"])
-        tests.check(f"{act} {number}", answer.get("accepted", answer).get("credential"), line["response"]["id"])
-        again = host.finish(act, number, line["response"])
-        tests.check(f"{act} {number} again", again["refused"]["number"], 1)
+    for (act, line), one in zip(lines, begun):
+        answer = host.finish(act, one["session"], line["response"])
+        tests.check(f"{act} {one['number']}", answer.get("accepted", answer).get("credential"), line["response"]["id"])
+        again = host.finish(act, one["session"], line["response"])
+        tests.check(f"{act} {one['number']} again", again["refused"]["number"], 1)
     # Each of the commits has reserved 1,000 numbers.
-    tests.check("the next session", host.ask("begin_sign_in")["session"], 1_000 * len(lines) + 1)
+    left = host.ask("begin_sign_in")
+    tests.check("the next session", left["number"], 1_000 * len(lines) + 1)
     rows = host.ask("rows")["rows"]
     tests.check("what was registered", len(rows), len(recorded["visits"]))
     tests.check("the end", host.end(), (0, b"", ""))
     host = Host(tests.program, *party, "--existing")
     tests.check("the rows after a restart", host.ask("rows")["rows"], rows)
-    tests.check("a session from before it", host.finish("finish_sign_in", len(lines) + 1, lines[1][1]["response"])["refused"]["number"], 1)
-    tests.check("no number comes again", host.ask("begin_sign_in")["session"] > len(lines) + 1)
+    for one, step in ((begun[1], 1), (left, 7)):
+        tests.check("sessions from before it", host.finish("finish_sign_in", one["session"], lines[1][1]["response"])["refused"]["number"], step)
+    tests.check("no number comes again", host.ask("begin_sign_in")["number"] > left["number"])
     tests.check("the end", host.end(), (0, b"", ""))
     for words, why in ((["--new"], "there is a file at this path\n"),
                        (["--rp-id", "other.example", "--origin", "https://other.example"], "")):
@@ -352,7 +358,7 @@ def browser(tests):
 
 
 def killed(tests):
-    """What was answered is there after the program is killed."""
+    """What was answered is there after the program is killed, and what was begun."""
     host = Host(tests.program, tests.file("killed.db"), *PARTY)
     device = Device(EDDSA)
     visit(tests, host, device)
@@ -363,9 +369,9 @@ def killed(tests):
     host = Host(tests.program, tests.file("killed.db"), *PARTY)
     tests.check("the rows after a kill", host.ask("rows"), before)
     found = host.finish("finish_sign_in", begun["session"], device.sign_in(begun["options"]))
-    tests.check("a session from before a kill", found, refused("W1", 1, "the session is not open for sign-in"))
+    tests.check("a session from before a kill", found.get("accepted", found).get("sign_count"), device.count)
     after = host.ask("begin_sign_in", user=to_text(USER))
-    tests.check("its number comes no more", after["session"] > begun["session"])
+    tests.check("its number comes no more", after["number"] > begun["number"])
     tests.check("a new session", "accepted" in host.finish("finish_sign_in", after["session"], device.sign_in(after["options"])))
     tests.check("the end", host.end(), (0, b"", ""))
 
@@ -436,7 +442,7 @@ def bad_lines(tests, count=2000):
     print(f"note: {kept} kB before them, {resident(host)} kB after")
     tests.check("memory is not kept", resident(host) < kept + 4096)
     last = host.ask("begin_sign_in", user=to_text(USER))
-    tests.check("no session began", last["session"], begun["session"] + 1)
+    tests.check("no session began", last["number"], begun["number"] + 1)
     tests.check("the session is open", "accepted" in host.finish("finish_sign_in", begun["session"], answered))
     tests.check("the end", host.end(), (0, b"", ""))
 
@@ -476,7 +482,7 @@ def details(tests):
     for wrong in (["USB"], [""], ["a,b"], ["a" * 33], [7], "usb", ["usb"] * 17):
         told = {**made, "response": {**made["response"], "transports": wrong}}
         for members in ({"response": made, "transports": wrong}, {"response": told}):
-            tests.check(f"transports {wrong}", host.ask("finish_registration", session=1, **members), {"error": "transports is not in its form"})
+            tests.check(f"transports {wrong}", host.ask("finish_registration", session=begun["session"], **members), {"error": "transports is not in its form"})
     tests.check("deleted", host.ask("delete", credential=to_text(b"one")), {"deleted": True})
     tests.check("the end", host.end(), (0, b"", ""))
     file = sqlite3.connect(path)
@@ -500,9 +506,13 @@ def read_by_sqlite(tests):
     file = sqlite3.connect(tests.file("visits.db"))
     tests.check("the file is sound", file.execute("pragma integrity_check").fetchall(), [("ok",)])
     names = file.execute("select name from sqlite_schema order by rootpage").fetchall()
-    tests.check("its tables", sorted(names), [("credential",), ("credential_by_id",), ("credential_by_user",), ("detail",), ("mark",), ("site",)])
+    tests.check("its tables", sorted(names), [(name,) for name in ("credential", "credential_by_id", "credential_by_user", "detail", "ended_session", "ended_user", "mark", "seal_key", "site")])
     rows = file.execute("select number, version, rp_id from site").fetchall()
-    tests.check("the row of the site", rows, [(1, 3, PARTY[1])])
+    tests.check("the row of the site", rows, [(1, 4, PARTY[1])])
+    tests.check("its key", file.execute("select number, length(key) from seal_key").fetchall(), [(1, 32)])
+    ended = file.execute("select count(*) from ended_session").fetchone()[0]
+    # Four registrations, eight sign-ins and two that were abandoned.
+    tests.check("the sessions that have ended", ended, 14)
     places = file.execute("select place, length(x), retired in (0, 1) from credential").fetchall()
     tests.check("the rows of the credentials", places and all(row[2] for row in places))
     file.close()

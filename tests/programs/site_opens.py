@@ -1,7 +1,7 @@
 #!/usr/bin/python3
 """Opens that are refused, of the program of crates/site_main: tests/programs/site_opens.py PROGRAM. Damaged files, each bit of the heads of
 a file and of a log among them, every 7th byte of a file with sums, older copies, files of another kind, other sites' files, and
-files that are made again, logs beside other files, and files of versions 1 and 2: what is refused keeps its bytes, the file's and the
+files that are made again, logs beside other files, and files of versions 1 to 3: what is refused keeps its bytes, the file's and the
 log's, and what is opened has the site that it had. Then three processes make one file at once, 150
 times: one gets it. The last line is 'N passed, M failed'."""
 import json
@@ -144,7 +144,7 @@ class Opens(Tests):
         host, copies = Host(self.program, path, *PARTY), []
         for number in range(4):
             self.register(host, Device(EDDSA, credential=b"copied %d" % number))
-            told = host.ask("begin_sign_in")["session"]
+            told = host.ask("begin_sign_in")["number"]
             self.check(f"copy {number}", host.end()[0], 0)
             copies.append((told, both(path)))
             host = Host(self.program, path, *PARTY, "--at-least", str(told))
@@ -217,7 +217,7 @@ class Opens(Tests):
         """Tables and rows that no site writes, in the file and in its log."""
         for text, why in (("create table note (id integer primary key)", "the file has other tables than a site's\n"),
                           ("drop index credential_by_user", "the file has other tables than a site's\n"),
-                          ("update site set version = 4", "the file is of a later version\n"),
+                          ("update site set version = 5", "the file is of a later version\n"),
                           ("update site set version = 2", "the file is of another site or version\n"),
                           ("update mark set sum = zeroblob(16)", "a row is not one that a site has written\n"),
                           ("update site set next_session = 0", "the file has no site\n"),
@@ -313,14 +313,14 @@ class Opens(Tests):
         """A log of which some pages were copied into the file, and of the page of the mark some bytes, or others."""
         file, log = pair
         frames = {int.from_bytes(log[at:at + 4], "big"): log[at + 24:at + 4120] for at in range(32, len(log) - 4119, 4120)}
+        frames = {page: content for page, content in frames.items() if 1 <= page <= len(file) // 4096}
         marked = [page for page, content in frames.items() if content[0] == 13 and b"\x25\x01\x05\x00\x1c\x1c\x2c" in content]
         self.check(f"one page has marks, {words}", len(marked), 1)
         rng = random.Random(9)
         for number in range(40):
             changed = bytearray(file)
             for page in rng.sample(sorted(frames), rng.randrange(len(frames) + 1)) if number else sorted(frames):
-                if 4096 * page <= len(changed):
-                    changed[4096 * (page - 1):4096 * page] = frames[page]
+                changed[4096 * (page - 1):4096 * page] = frames[page]
             at, kind = 4096 * (marked[0] - 1), number % 4
             for place in range(at, at + 4096, 1 if kind == 1 else 512):
                 size = 1 if kind == 1 else 512
@@ -333,12 +333,12 @@ class Opens(Tests):
             self.check(f"copied {number}, {words}", self.open((bytes(changed), log), "--existing")[0], rows)
 
     def versions(self):
-        """Files of versions 1 and 2 are upgraded, with sums or without; the rows and the next number stay."""
+        """Files of versions 1 to 3 are upgraded; the rows and the next number stay, and there is a key."""
         path = self.file("version.db")
 
         def text(name):
             return TEXTS.split(f"const {name}: &str = \"")[1].split("\";")[0]
-        for version, texts in ((1, ["TABLES"]), (2, ["TABLES", "SECOND"])):
+        for version, texts in ((1, ["TABLES"]), (2, ["TABLES", "SECOND"]), (3, ["TABLES", "SECOND", "THIRD"])):
             put(path, (None, None))
             file = sqlite3.connect(path)
             for name in texts:
@@ -355,7 +355,7 @@ class Opens(Tests):
             self.check(f"version {version}: made", self.is_kept(f"version {version}, made", pair, "--new"), "there is a file at this path\n")
             put(path, pair)
             host = Host(self.program, path, *PARTY)
-            self.check(f"version {version}: the number", host.ask("begin_sign_in")["session"], 7)
+            self.check(f"version {version}: the number", host.ask("begin_sign_in")["number"], 7)
             self.check(f"version {version}: the rows", [row["credential"] for row in host.ask("rows")["rows"]],
                        [to_text(device.id) for device in devices])
             host.process.kill()
@@ -365,7 +365,7 @@ class Opens(Tests):
             self.check(f"version {version}: the file of before", len(self.open((pair[0], both(path)[1]), "--existing")[0] or []), 300)
             self.check(f"version {version}: the end", Host(self.program, path, *PARTY).end()[0], 0)
             file = sqlite3.connect(path)
-            self.check(f"version {version}: upgraded", file.execute("select version from site").fetchone(), (3,))
+            self.check(f"version {version}: upgraded", file.execute("select version, length(key) from site, seal_key").fetchone(), (4, 32))
             self.check(f"version {version}: sound", file.execute("pragma integrity_check").fetchone(), ("ok",))
             file.close()
 
@@ -381,7 +381,7 @@ class Opens(Tests):
             answers = []
             for host in hosts:
                 try:
-                    answers.append(host.ask("begin_sign_in")["session"])
+                    answers.append(host.ask("begin_sign_in")["number"])
                 except (BrokenPipeError, json.JSONDecodeError):
                     answers.append(None)
             self.check(f"race {number}: one has the file", [answer for answer in answers if answer], [1])

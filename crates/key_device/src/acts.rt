@@ -79,6 +79,7 @@ impl KeyDevice {
     pub fn wait(&mut self, out: &mut Vec<Packet>) -> Result<Told, KeyError>
         ensures waited { IfOk result (λ t. PassesOn self.old act.Wait out.old.items t self.new out.new.items) }
         ensures not_working { IsErrOf result errors.NotWorking → IsWorking self.old.device.state → ⊥ }
+        ensures errors { OnErr result (IsErrOf result errors.NotWorking ⊎ IsErrOf result errors.Memory) }
         ensures unchanged { OnErr result (self.new ≡ self.old) }
         ensures out { OnErr result (out.new.items ≡ out.old.items) }
     {
@@ -161,6 +162,7 @@ impl KeyDevice {
         ensures taken { IfOk result (λ t. TakesWords self.old.stage self.old words out.old.items t self.new out.new.items) }
         // A refusal, where no request waits for words, changes nothing; one for want of memory lets the computation begin anew.
         ensures not_computing { IsErrOf result errors.NotComputing → (WaitsForWords self.old.stage → ⊥) }
+        ensures errors { OnErr result (IsErrOf result errors.NotComputing ⊎ IsErrOf result errors.Memory) }
         ensures unchanged { IsErrOf result errors.NotComputing → self.new ≡ self.old }
         ensures memory { OnErr result (WantsWords self.old.stage self.old words self.new) }
         ensures out { OnErr result (out.new.items ≡ out.old.items) }
@@ -206,6 +208,7 @@ impl KeyDevice {
         ensures taken { IfOk result (λ t. TakesAnswer self.old.stage self.old answer.items out.old.items t self.new out.new.items) }
         // A refusal, where nothing is asked, changes nothing; one for want of memory lets the computation begin anew.
         ensures not_asking { IsErrOf result errors.NotAsking → (WaitsForAnswer self.old.stage → ⊥) }
+        ensures errors { OnErr result (IsErrOf result errors.NotAsking ⊎ IsErrOf result errors.Memory) }
         ensures unchanged { IsErrOf result errors.NotAsking → self.new ≡ self.old }
         ensures memory { OnErr result (WantsAnswer self.old.stage self.old answer.items self.new) }
         ensures out { OnErr result (out.new.items ≡ out.old.items) }
@@ -262,6 +265,7 @@ impl KeyDevice {
             → IfOk result (λ t. TakesDecision public self.old.stage self.old consent words out.old.items t self.new out.new.items) }
         // A refusal, for want of memory or of a request that waits for the user, changes nothing.
         ensures not_working { IsErrOf result errors.NotWorking → (WaitsForUser self.old.stage → ⊥) }
+        ensures errors { OnErr result (IsErrOf result errors.NotWorking ⊎ IsErrOf result errors.Memory) }
         ensures unchanged { OnErr result (self.new ≡ self.old) }
         ensures out { OnErr result (out.new.items ≡ out.old.items) }
     {

@@ -68,6 +68,7 @@ impl KeyDevice {
         // It is refused only where the key takes no PIN, or the bytes are of none,
         ensures none { IsErrOf result loads.NoPin → self.old.pin ≡ None }
         ensures bad { IsErrOf result loads.BadPin → (s : PinState) → FitsPin s.pin s.retries → bytes.now ≡ saved s → ⊥ }
+        ensures authenticator { IsErrOf result loads.BadAuthenticator → ⊥ }
         ensures memory { IsErrOf result loads.Memory → ⊥ }
         // and then nothing has changed.
         ensures unchanged { OnErr result (self.new ≡ self.old) }

@@ -1,1 +1,4 @@
-pub mod Keeping
+mod Digits
+mod Doing
+mod Pieces
+mod Refusing

@@ -1,1 +1,3 @@
-pub mod Key
+pub mod Lines
+pub mod Told
+pub mod Words

@@ -2,8 +2,6 @@
 #![tactic(auto)]
 
 pub mod command;
-pub mod key;
-pub mod pin_command;
-pub mod pin_key_lines;
+pub mod lines;
 pub mod serving;
 pub mod telling;

@@ -1,10 +1,9 @@
 //! The program: lines over the standard streams.
 
-use crate::key::SoftKey;
-use crate::pin_key_lines::PinKeyLines;
-use crate::telling::LineKey;
+use crate::lines::KeyLines;
 use authdata::AttestationType;
 use json_lines::VERSION;
+use key_device::UserVerification;
 use std::io::{BufRead, BufReader, ErrorKind, Write};
 use std::{env, io};
 
@@ -50,8 +49,21 @@ enum Asked {
 #[derive(Clone, Copy, Drop)]
 struct Configuration {
     uv: bool,
-    attest: AttestationType,
     pin: bool,
+    attest: AttestationType,
+}
+
+impl Configuration {
+    /// How it verifies its user. Of a key that takes PINs a token alone does, whatever `no-uv` says.
+    fn verification(self) -> UserVerification {
+        if self.pin {
+            UserVerification::Pin
+        } else if self.uv {
+            UserVerification::BuiltIn
+        } else {
+            UserVerification::Absent
+        }
+    }
 }
 
 /// What the arguments ask for: `no-uv`, not to verify its user; `self-attestation`; `pin`, to take PINs. Help or the version is
@@ -59,8 +71,8 @@ struct Configuration {
 fn read_arguments(rt: &HostRuntime) -> io::Result<Asked> {
     let mut configuration = Configuration {
         uv: true,
-        attest: AttestationType::None,
         pin: false,
+        attest: AttestationType::None,
     };
     for word in env::args(rt)?.skip(1) {
         if word.as_str() == "no-uv" {
@@ -81,9 +93,9 @@ fn read_arguments(rt: &HostRuntime) -> io::Result<Asked> {
 }
 
 /// Answers each line, at once.
-fn answer_lines<K: LineKey, R: BufRead + Drop>(
+fn answer_lines<R: BufRead + Drop>(
     rt: &HostRuntime,
-    key: &mut K,
+    key: &mut KeyLines,
     reader: R,
 ) -> io::Result<()> {
     let mut out = rt.stdout();
@@ -104,7 +116,7 @@ fn answer_lines<K: LineKey, R: BufRead + Drop>(
 }
 
 /// Answers each line of the input, at once.
-fn answer_input<K: LineKey>(rt: &HostRuntime, key: &mut K) -> io::Result<()> {
+fn answer_input(rt: &HostRuntime, key: &mut KeyLines) -> io::Result<()> {
     let mut reader = BufReader::new(rt.alloc(), rt.reader())?;
     let served = answer_lines(rt, key, &mut reader);
     // The reader is taken apart by std, since to prove that it is dropped here takes minutes.
@@ -114,12 +126,12 @@ fn answer_input<K: LineKey>(rt: &HostRuntime, key: &mut K) -> io::Result<()> {
 
 /// A key of this configuration answers each line of the input.
 fn serve_lines(rt: &HostRuntime, configuration: Configuration) -> io::Result<()> {
-    let alloc = rt.alloc();
-    if configuration.pin {
-        let mut key = PinKeyLines::new(alloc, AAGUID, configuration.attest)?;
-        return answer_input(rt, &mut key);
-    }
-    let mut key = SoftKey::new(alloc, AAGUID, configuration.uv, configuration.attest)?;
+    let mut key = KeyLines::new(
+        rt.alloc(),
+        AAGUID,
+        configuration.verification(),
+        configuration.attest,
+    )?;
     answer_input(rt, &mut key)
 }
 

@@ -128,12 +128,12 @@ OfBeginSignIn d e =
 
 abbrev pub OfFinishRegistration : Data → LineError → Type 0
 OfFinishRegistration d e =
-    IsAmiss (codes "session") IsNumber d e ⊎ (OfParts OfCredentialId d e ⊎ (OfParts (OfParts OfAttestation) d e
+    IsAmiss (codes "session") AreBytes d e ⊎ (OfParts OfCredentialId d e ⊎ (OfParts (OfParts OfAttestation) d e
     ⊎ (IsIllFormed (codes "transports") AreTransports d e ⊎ (OfParts (OfParts (IsIllFormed (codes "transports") AreTransports)) d e ⊎ OfVerified d e))))
 
 abbrev pub OfFinishSignIn : Data → LineError → Type 0
 OfFinishSignIn d e =
-    IsAmiss (codes "session") IsNumber d e ⊎ (OfParts OfCredentialId d e ⊎ (OfParts (OfParts OfAssertion) d e ⊎ OfVerified d e))
+    IsAmiss (codes "session") AreBytes d e ⊎ (OfParts OfCredentialId d e ⊎ (OfParts (OfParts OfAssertion) d e ⊎ OfVerified d e))
 
 abbrev pub OfAct : ActKind → Data → LineError → Type 0
 OfAct kinds.BeginRegistration d e = OfBeginRegistration d e
@@ -142,8 +142,9 @@ OfAct kinds.BeginSignIn d e = OfBeginSignIn d e
 OfAct kinds.FinishSignIn d e = OfFinishSignIn d e
 OfAct kinds.Retire d e = IsAmiss (codes "credential") AreBytes d e
 OfAct kinds.Delete d e = IsAmiss (codes "credential") AreBytes d e
-OfAct kinds.Abandon d e = IsAmiss (codes "session") IsNumber d e
-OfAct kinds.Expire d e = IsAmiss (codes "older_than") IsNumber d e
+OfAct kinds.RetireAll d e = IsAmiss (codes "user") AreBytes d e
+OfAct kinds.Erase d e = IsAmiss (codes "user") AreBytes d e
+OfAct kinds.Abandon d e = IsAmiss (codes "session") AreBytes d e
 OfAct kinds.Rows d e = IsIllFormed (codes "user") AreBytes d e
 OfAct kinds.Status d e = ⊥
 OfAct kinds.Backup d e = IsAmiss (codes "path") IsText d e
@@ -158,8 +159,9 @@ kind_name kinds.BeginSignIn = codes "begin_sign_in"
 kind_name kinds.FinishSignIn = codes "finish_sign_in"
 kind_name kinds.Retire = codes "retire"
 kind_name kinds.Delete = codes "delete"
+kind_name kinds.RetireAll = codes "retire_all"
+kind_name kinds.Erase = codes "erase"
 kind_name kinds.Abandon = codes "abandon"
-kind_name kinds.Expire = codes "expire"
 kind_name kinds.Rows = codes "rows"
 kind_name kinds.Status = codes "status"
 kind_name kinds.Backup = codes "backup"
@@ -174,8 +176,9 @@ names_for kinds.BeginSignIn = codes "user" ∷ codes "allow" ∷ codes "user_ver
 names_for kinds.FinishSignIn = codes "session" ∷ codes "response" ∷ codes "verified" ∷ []
 names_for kinds.Retire = codes "credential" ∷ []
 names_for kinds.Delete = codes "credential" ∷ []
+names_for kinds.RetireAll = codes "user" ∷ []
+names_for kinds.Erase = codes "user" ∷ []
 names_for kinds.Abandon = codes "session" ∷ []
-names_for kinds.Expire = codes "older_than" ∷ []
 names_for kinds.Rows = codes "user" ∷ []
 names_for kinds.Status = []
 names_for kinds.Backup = codes "path" ∷ []

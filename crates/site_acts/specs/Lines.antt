@@ -117,14 +117,14 @@ TellsTransports line response list =
 
 -- a registration that is to be finished
 pub record SaysFinishRegistration (d : Data) (f : FinishRegistration) : Type 0 where
-  pub session : HasNumber (codes "session") d f.session
+  pub session : HasBytes (codes "session") d f.session.items
   pub response : (m : Data) × (member (codes "response") d ≡ Some m) × IsRegistrationResponse m f.credential.items f.response
       × TellsTransports d m (map string_bytes f.transports.items)
   pub verified : HasVerified d f.verified
 
 -- a sign-in that is to be finished
 pub record SaysFinishSignIn (d : Data) (f : FinishSignIn) : Type 0 where
-  pub session : HasNumber (codes "session") d f.session
+  pub session : HasBytes (codes "session") d f.session.items
   pub response : (m : Data) × (member (codes "response") d ≡ Some m) × IsAssertionResponse m f.response
   pub verified : HasVerified d f.verified
 
@@ -136,8 +136,9 @@ name_of (acts.BeginSignIn b) = codes "begin_sign_in"
 name_of (acts.FinishSignIn f) = codes "finish_sign_in"
 name_of (acts.Retire id) = codes "retire"
 name_of (acts.Delete id) = codes "delete"
+name_of (acts.RetireAll user) = codes "retire_all"
+name_of (acts.Erase user) = codes "erase"
 name_of (acts.Abandon session) = codes "abandon"
-name_of (acts.Expire age) = codes "expire"
 name_of (acts.Rows user) = codes "rows"
 name_of acts.Status = codes "status"
 name_of (acts.Backup path) = codes "backup"
@@ -149,8 +150,9 @@ HasMembers d (acts.BeginSignIn b) = SaysBeginSignIn d b
 HasMembers d (acts.FinishSignIn f) = SaysFinishSignIn d f
 HasMembers d (acts.Retire id) = HasBytes (codes "credential") d id.items
 HasMembers d (acts.Delete id) = HasBytes (codes "credential") d id.items
-HasMembers d (acts.Abandon session) = HasNumber (codes "session") d session
-HasMembers d (acts.Expire age) = HasNumber (codes "older_than") d age
+HasMembers d (acts.RetireAll user) = HasBytes (codes "user") d user.items
+HasMembers d (acts.Erase user) = HasBytes (codes "user") d user.items
+HasMembers d (acts.Abandon session) = HasBytes (codes "session") d session.items
 HasMembers d (acts.Rows user) = MayHaveBytes (codes "user") d (option_map (λ u. u.items) user)
 HasMembers d acts.Status = ⊤
 HasMembers d (acts.Backup path) = HasText (codes "path") d (string_bytes path)

@@ -40,8 +40,8 @@ pub struct BeginSignIn {
 /// A registration that is to be finished.
 #[derive(Debug, Drop)]
 pub struct FinishRegistration {
-    /// The number of the session.
-    pub session: u64,
+    /// The session, as its begin was answered.
+    pub session: Vec<u8>,
     /// The credential id that the client names. It is shown, and judged by nothing.
     pub credential: Vec<u8>,
     /// The response.
@@ -55,8 +55,8 @@ pub struct FinishRegistration {
 /// A sign-in that is to be finished.
 #[derive(Debug, Drop)]
 pub struct FinishSignIn {
-    /// The number of the session.
-    pub session: u64,
+    /// The session, as its begin was answered.
+    pub session: Vec<u8>,
     /// The response.
     pub response: AssertionResponse,
     /// What the host found of the signature.
@@ -74,10 +74,12 @@ pub enum Act {
     Retire(Vec<u8>),
     /// Delete the credential of an id.
     Delete(Vec<u8>),
-    /// Close the session of a number.
-    Abandon(u64),
-    /// End the sessions that began more than this many seconds ago.
-    Expire(u64),
+    /// Retire each credential of a user.
+    RetireAll(Vec<u8>),
+    /// Delete each credential of a user.
+    Erase(Vec<u8>),
+    /// End a session, which is as its begin was answered.
+    Abandon(Vec<u8>),
     /// Tell the credentials of a user, or all.
     Rows(Option<Vec<u8>>),
     /// Tell how the site is.

@@ -16,8 +16,9 @@ pub(crate) enum ActKind {
     FinishSignIn,
     Retire,
     Delete,
+    RetireAll,
+    Erase,
     Abandon,
-    Expire,
     Rows,
     Status,
     Backup,
@@ -35,8 +36,9 @@ impl ActKind {
             ActKind::FinishSignIn => "finish_sign_in",
             ActKind::Retire => "retire",
             ActKind::Delete => "delete",
+            ActKind::RetireAll => "retire_all",
+            ActKind::Erase => "erase",
             ActKind::Abandon => "abandon",
-            ActKind::Expire => "expire",
             ActKind::Rows => "rows",
             ActKind::Status => "status",
             ActKind::Backup => "backup",
@@ -60,11 +62,11 @@ struct Form {
 }
 
 /// Each act.
-static FORMS: [Form; 11] = [
+static FORMS: [Form; 12] = [
     Form {
         kind: ActKind::BeginRegistration,
         meaning: "a registration begins",
-        answer: "session, options",
+        answer: "session, number, options",
     },
     Form {
         kind: ActKind::FinishRegistration,
@@ -74,7 +76,7 @@ static FORMS: [Form; 11] = [
     Form {
         kind: ActKind::BeginSignIn,
         meaning: "a sign-in begins",
-        answer: "session, options",
+        answer: "session, number, options",
     },
     Form {
         kind: ActKind::FinishSignIn,
@@ -92,14 +94,19 @@ static FORMS: [Form; 11] = [
         answer: "deleted: whether it was there",
     },
     Form {
+        kind: ActKind::RetireAll,
+        meaning: "a user's credentials sign in no more",
+        answer: "retired_all: how many did until now",
+    },
+    Form {
+        kind: ActKind::Erase,
+        meaning: "a user's credentials are forgotten",
+        answer: "erased: how many there were",
+    },
+    Form {
         kind: ActKind::Abandon,
         meaning: "a session ends",
         answer: "abandoned: whether it was open",
-    },
-    Form {
-        kind: ActKind::Expire,
-        meaning: "sessions end by their age",
-        answer: "expired: how many",
     },
     Form {
         kind: ActKind::Rows,
@@ -119,7 +126,7 @@ static FORMS: [Form; 11] = [
 ];
 
 /// Each act's members, beside `id` and `act`.
-static MEMBERS: [Member; 25] = [
+static MEMBERS: [Member; 26] = [
     Member {
         act: ActKind::BeginRegistration,
         name: "user",
@@ -178,7 +185,7 @@ static MEMBERS: [Member; 25] = [
         act: ActKind::FinishRegistration,
         name: "session",
         is_needed: true,
-        meaning: "the session's number",
+        meaning: "the session, as its begin was answered",
     },
     Member {
         act: ActKind::FinishRegistration,
@@ -220,7 +227,7 @@ static MEMBERS: [Member; 25] = [
         act: ActKind::FinishSignIn,
         name: "session",
         is_needed: true,
-        meaning: "the session's number",
+        meaning: "the session, as its begin was answered",
     },
     Member {
         act: ActKind::FinishSignIn,
@@ -250,13 +257,19 @@ static MEMBERS: [Member; 25] = [
         act: ActKind::Abandon,
         name: "session",
         is_needed: true,
-        meaning: "the session's number",
+        meaning: "the session, as its begin was answered",
     },
     Member {
-        act: ActKind::Expire,
-        name: "older_than",
+        act: ActKind::RetireAll,
+        name: "user",
         is_needed: true,
-        meaning: "seconds; those that began earlier end",
+        meaning: "the account's user handle",
+    },
+    Member {
+        act: ActKind::Erase,
+        name: "user",
+        is_needed: true,
+        meaning: "the account's user handle",
     },
     Member {
         act: ActKind::Rows,
@@ -283,8 +296,9 @@ pub(crate) fn act_named(name: &str) -> Option<ActKind>
         "finish_sign_in" => Some(ActKind::FinishSignIn),
         "retire" => Some(ActKind::Retire),
         "delete" => Some(ActKind::Delete),
+        "retire_all" => Some(ActKind::RetireAll),
+        "erase" => Some(ActKind::Erase),
         "abandon" => Some(ActKind::Abandon),
-        "expire" => Some(ActKind::Expire),
         "rows" => Some(ActKind::Rows),
         "status" => Some(ActKind::Status),
         "backup" => Some(ActKind::Backup),
@@ -313,8 +327,7 @@ pub(crate) fn names_of(act: ActKind) -> &'static [&'static str]
         ActKind::FinishSignIn => &["session", "response", "verified"],
         ActKind::Retire | ActKind::Delete => &["credential"],
         ActKind::Abandon => &["session"],
-        ActKind::Expire => &["older_than"],
-        ActKind::Rows => &["user"],
+        ActKind::RetireAll | ActKind::Erase | ActKind::Rows => &["user"],
         ActKind::Status => &[],
         ActKind::Backup => &["path"],
     }

@@ -11,7 +11,6 @@ use crate::known::Known;
 use cose::Alg;
 use json_lines::base64_text;
 use serde_json::{Map, Value, json, put};
-use site_state::Started;
 use std::alloc::{AllocError, Global};
 
 /// Texts, as a list.
@@ -168,15 +167,15 @@ pub fn creation_options(
     alloc: Global,
     rp_id: &str,
     rp_name: &str,
-    started: &Started,
+    challenge: &[u8; 32],
     begin: &BeginRegistration,
     known: &[Known],
 ) -> Result<Value, AllocError>
-    ensures { IfOk result (λ v. view v ≡ creation_options_of rp_id.now rp_name.now started.now.challenge begin.now known.now) }
+    ensures { IfOk result (λ v. view v ≡ creation_options_of rp_id.now rp_name.now challenge.now begin.now known.now) }
 {
     let rp = json!(in alloc; {"id": rp_id, "name": rp_name})?;
     let mut members = Map::new(alloc);
-    put_creation(&mut members, alloc, rp, &started.challenge, begin, known)?;
+    put_creation(&mut members, alloc, rp, challenge, begin, known)?;
     Ok(Value::Object(members))
 }
 
@@ -184,13 +183,13 @@ pub fn creation_options(
 pub fn request_options(
     alloc: Global,
     rp_id: &str,
-    started: &Started,
+    challenge: &[u8; 32],
     begin: &BeginSignIn,
     known: &[Known],
 ) -> Result<Value, AllocError>
-    ensures { IfOk result (λ v. view v ≡ request_options_of rp_id.now started.now.challenge begin.now known.now) }
+    ensures { IfOk result (λ v. view v ≡ request_options_of rp_id.now challenge.now begin.now known.now) }
 {
-    let challenge = base64_text(alloc, &started.challenge)?;
+    let challenge = base64_text(alloc, challenge)?;
     let allow = descriptors(alloc, known)?;
     let verification = verification(begin.user_verification);
     json!(in alloc; {"challenge": challenge, "rpId": rp_id, "allowCredentials": allow, "userVerification": verification})

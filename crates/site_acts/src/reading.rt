@@ -15,7 +15,7 @@ use crate::transports::told_transports;
 use crate::verified::Verified;
 use json_lines::{
     LineError, LineFault, Numbered, bytes, check_names, flag, list_of_bytes, member, needed,
-    number, optional_bytes, read_object, text, text_or,
+    optional_bytes, read_object, text, text_or,
 };
 use serde_json::Value;
 use site_state::Asks;
@@ -118,7 +118,7 @@ fn finish_registration(alloc: Global, line: &Value) -> Result<FinishRegistration
     ensures found { IfOk result (SaysFinishRegistration (view line.now)) }
     ensures amiss { IfErr result (OfFinishRegistration (view line.now)) }
 {
-    let session = number(line, "session")?;
+    let session = bytes(alloc, line, "session")?;
     let response = needed(line, "response")?;
     Ok(FinishRegistration {
         session,
@@ -135,7 +135,7 @@ fn finish_sign_in(alloc: Global, line: &Value) -> Result<FinishSignIn, LineError
     ensures amiss { IfErr result (OfFinishSignIn (view line.now)) }
 {
     Ok(FinishSignIn {
-        session: number(line, "session")?,
+        session: bytes(alloc, line, "session")?,
         response: assertion_response(alloc, needed(line, "response")?)?,
         verified: verified(alloc, line)?,
     })
@@ -154,8 +154,9 @@ fn act_of(alloc: Global, kind: ActKind, line: &Value) -> Result<Act, LineError>
         ActKind::FinishSignIn => Act::FinishSignIn(finish_sign_in(alloc, line)?),
         ActKind::Retire => Act::Retire(bytes(alloc, line, "credential")?),
         ActKind::Delete => Act::Delete(bytes(alloc, line, "credential")?),
-        ActKind::Abandon => Act::Abandon(number(line, "session")?),
-        ActKind::Expire => Act::Expire(number(line, "older_than")?),
+        ActKind::RetireAll => Act::RetireAll(bytes(alloc, line, "user")?),
+        ActKind::Erase => Act::Erase(bytes(alloc, line, "user")?),
+        ActKind::Abandon => Act::Abandon(bytes(alloc, line, "session")?),
         ActKind::Rows => Act::Rows(optional_bytes(alloc, line, "user")?),
         ActKind::Status => Act::Status,
         ActKind::Backup => Act::Backup(String::from_str(alloc, text(line, "path")?)?),

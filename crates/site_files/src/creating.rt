@@ -11,7 +11,7 @@ use crate::bounds::check_bounds;
 use crate::closing::closed;
 use crate::earlier::check_empty;
 use crate::error::FileError;
-use crate::looking::{NO_MARK, looked_at, outcome_of, unless_in_use};
+use crate::looking::{NO_KEY, NO_MARK, looked_at, outcome_of, unless_in_use};
 use crate::opening::same_party;
 use crate::stores::{connected, latest_at, list_at, random};
 use crate::tables::{Earlier, Listed, list_of, made, upgraded};
@@ -22,7 +22,7 @@ use sqlite_disk::Disk;
 use std::alloc::Global;
 use verification::{Policy, RelyingParty};
 
-/// The store with the tables of version 3, of those of an earlier one that have no row.
+/// The store with the tables of version 4, of those of an earlier one that have no row.
 fn taken_up<S: Alter + Drop>(
     alloc: Global,
     version: Earlier,
@@ -31,7 +31,7 @@ fn taken_up<S: Alter + Drop>(
     requires numbered { IfClean (S.Store.view store) IsNumbered }
 {
     match check_empty(alloc, version, &mut store) {
-        Ok(()) => upgraded(alloc, version, store),
+        Ok(()) => upgraded(alloc, version, None, store),
         Err(e) => Err((e, store)),
     }
 }
@@ -56,6 +56,7 @@ fn site_over<S: Alter + Drop>(
     party: RelyingParty,
     policy: Policy,
     bounds: Bounds,
+    key: [u8; 32],
     life: u64,
     store: S,
 ) -> Result<StoredSite<S>, (FileError, S)>
@@ -66,19 +67,20 @@ fn site_over<S: Alter + Drop>(
         Ok(_) => return Err((FileError::Exists, store)),
         Err(e) => return Err((e, store)),
     }
-    match StoredSite::create(alloc, party, policy, bounds, life, store) {
+    match StoredSite::create(alloc, party, policy, bounds, key, life, store) {
         Ok(site) => Ok(site),
         Err((e, store)) => Err((e.into(), store)),
     }
 }
 
 /// Makes the tables of a site in a store that lists nothing, and the site in them; a creation that was cut off is taken up.
-/// `life` is a random number, the first mark of a commit. `BadBound` and `Exists` as `create`. The store is handed back.
+/// `key` is 32 random bytes, under which it seals its sessions, and `life` a random number, the first mark of a commit. `BadBound` and `Exists` as `create`. The store is handed back.
 pub fn create_over<S: Alter + Drop>(
     alloc: Global,
     party: RelyingParty,
     policy: Policy,
     bounds: Bounds,
+    key: [u8; 32],
     life: u64,
     store: S,
 ) -> Result<StoredSite<S>, (FileError, S)>
@@ -89,7 +91,7 @@ pub fn create_over<S: Alter + Drop>(
         return Err((e, store));
     }
     let store = with_tables(alloc, store)?;
-    site_over(alloc, party, policy, bounds, life, store)
+    site_over(alloc, party, policy, bounds, key, life, store)
 }
 
 /// The same store, whose file begins from now on as a SQLite file does, which `open` asks.
@@ -124,7 +126,7 @@ fn new_file<S: Start>(
     }
 }
 
-/// The store of a file that is there: one of version 3 is not read by SQL, as at an open.
+/// The store of a file that is there: one of version 4 is not read by SQL, as at an open.
 fn found_file<S: Start>(
     rt: &HostRuntime,
     path: &str,
@@ -153,7 +155,9 @@ fn check_create(
     let alloc = rt.alloc();
     let party = same_party(alloc, party)?;
     match looked_at(rt, path) {
-        Ok(store) => outcome_of(create_over(alloc, party, policy, bounds, NO_MARK, store)),
+        Ok(store) => {
+            outcome_of(create_over(alloc, party, policy, bounds, NO_KEY, NO_MARK, store))
+        },
         Err(e) => Err(e),
     }
 }
@@ -201,12 +205,13 @@ fn site_in<D: Disk + Drop>(
     party: RelyingParty,
     policy: Policy,
     bounds: Bounds,
+    key: [u8; 32],
     life: u64,
     store: FileStore<D>,
 ) -> Result<StoredSite<FileStore<D>>, FileError>
     ensures made { IfOk result (IsMade view party policy bounds) }
 {
-    match site_over(alloc, party, policy, bounds, life, store) {
+    match site_over(alloc, party, policy, bounds, key, life, store) {
         Ok(site) => Ok(site),
         Err(refused) => Err(closed(refused)),
     }
@@ -218,7 +223,7 @@ fn site_in<D: Disk + Drop>(
 /// With `sums` each page of the database file ends in its sum, as of SQLite's cksumvfs, which each open tests: so most changed
 /// bytes are told. A `sqlite3` without that extension reads such a file, and spoils it when it writes. `wary` as at `open`.
 ///
-/// `BadBound` where more than 1,000,000 sessions could be open or as many credentials registered, `Exists` where a file is there
+/// `key` is 32 random bytes, under which the site seals its sessions. `BadBound` where more than 1,000,000 credentials could be registered, `Exists` where a file is there
 /// that holds something, `LoneLog` where its log is there alone, `NotSqlite`, `DamagedLog` and `OtherLog` where the two are no sound SQLite file;
 /// nothing is made or changed then. `InUse`, `CannotOpen` and `Failed` where the system, the disk or memory failed.
 ///
@@ -232,6 +237,7 @@ pub fn create<S: Start>(
     bounds: Bounds,
     sums: bool,
     wary: bool,
+    key: [u8; 32],
     start: S,
 ) -> Result<FileSite<S>, FileError>
     ensures made { IfOk result (IsMade view party policy bounds) }
@@ -239,7 +245,7 @@ pub fn create<S: Start>(
     check_bounds(bounds)?;
     let life = random(rt)?;
     match store_for(rt, path, &party, policy, bounds, sums, wary, start) {
-        Ok(store) => site_in(rt.alloc(), party, policy, bounds, life, store),
+        Ok(store) => site_in(rt.alloc(), party, policy, bounds, key, life, store),
         Err(e) => Err(e),
     }
 }

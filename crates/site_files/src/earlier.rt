@@ -1,4 +1,4 @@
-//! A file of version 1 or 2.
+//! A file of version 1, 2 or 3.
 
 ghost use Rattle.std.specs.Prelude.{◌≡◌, ◌≤◌, ℕ, OnOk};
 ghost use Rattle.site_stored.specs.State.{site_row_of};
@@ -20,25 +20,26 @@ const SESSION_TREE: u32 = 1;
 /// The number of an earlier version.
 fn number_of(version: Earlier) -> u64
     ensures first { 1 ≤ result }
-    ensures last { result ≤ 2 }
+    ensures last { result ≤ 3 }
 {
     match version {
         Earlier::First => 1,
         Earlier::Second => 2,
+        Earlier::Third => 3,
     }
 }
 
-/// That the version in a row of a relying party is none above 3.
+/// That the version in a row of a relying party is none above 4.
 fn check_version(row: &Row) -> Result<(), FileError> {
     match int_at(row, 2) {
-        Some(version) if version > 3 => Err(FileError::Newer),
+        Some(version) if version > 4 => Err(FileError::Newer),
         _ => Ok(()),
     }
 }
 
 /// That a row is this relying party's, of this version.
 fn check_row(alloc: Global, version: u64, rp_id: &str, row: &Row) -> Result<(), FileError>
-    requires { version ≤ 2 }
+    requires { version ≤ 3 }
     ensures earlier { OnOk result ((next : ℕ) × (row.now ≡ site_row_of version rp_id.now next)) }
 {
     check_version(row)?;
@@ -167,7 +168,7 @@ pub fn check_empty<S: Store>(
     // Open sessions, or details.
     let more = match version {
         Earlier::First => SESSION_TREE,
-        Earlier::Second => DETAIL_TREE,
+        Earlier::Second | Earlier::Third => DETAIL_TREE,
     };
     let credentials = is_empty(alloc, store, CREDENTIAL_TREE)?;
     let site = is_empty(alloc, store, SITE_TREE)?;

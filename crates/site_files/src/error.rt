@@ -56,7 +56,7 @@ pub enum FileError {
     /// A row is none that a site has written.
     #[error("a row is not one that a site has written")]
     BadRow,
-    /// More than 1,000,000 sessions could be open, or as many credentials registered.
+    /// More than 1,000,000 credentials could be registered.
     #[error("a bound is above 1,000,000")]
     BadBound,
     /// The disk or memory failed.

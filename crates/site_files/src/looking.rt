@@ -37,7 +37,7 @@ fn log_beside(rt: &HostRuntime, path: &str) -> Result<Vec<u8>, FileError> {
     Ok(log)
 }
 
-/// That the log of a file of version 3 goes on from it.
+/// That the log of a file whose commits have marks goes on from it.
 fn check_log(rt: &HostRuntime, path: &str, log: &[u8], mark_root: u32) -> Result<(), FileError> {
     let mut memory = memory_of(rt.alloc(), log)?;
     let file = mark_on(rt, path, mark_root)?;
@@ -47,7 +47,7 @@ fn check_log(rt: &HostRuntime, path: &str, log: &[u8], mark_root: u32) -> Result
     Ok(())
 }
 
-/// What files list. `OtherLog` where that is version 3 and the log does not go on from the file.
+/// What files list. `OtherLog` where its commits have marks and the log does not go on from the file.
 fn checked_list<D: Disk>(
     rt: &HostRuntime,
     path: &str,
@@ -58,7 +58,7 @@ fn checked_list<D: Disk>(
     ensures usable { OnOk result (AreUsable it.new) }
 {
     let Catalog { listed, mark_root } = list_of_files(rt.alloc(), it)?;
-    if listed == Listed::Latest {
+    if listed.has_marks() {
         check_log(rt, path, log, mark_root)?;
     }
     Ok(listed)
@@ -123,6 +123,9 @@ pub fn list_with_log(rt: &HostRuntime, path: &str) -> Result<Listed, FileError> 
 /// The first mark of a site that is only looked at: nothing of it is written.
 pub const NO_MARK: u64 = 0;
 
+/// The key of a site of an earlier version that is only looked at.
+pub const NO_KEY: [u8; 32] = [0; 32];
+
 /// That a site was made over what is looked at, or why not.
 pub fn outcome_of<T: Drop, S: Drop>(outcome: Result<T, (FileError, S)>) -> Result<(), FileError> {
     match outcome {
@@ -131,7 +134,7 @@ pub fn outcome_of<T: Drop, S: Drop>(outcome: Result<T, (FileError, S)>) -> Resul
     }
 }
 
-/// The log of a file at a path that lists the tables of version 3, where it is too short for a commit: an open of it writes
+/// The log of a file at a path that lists the tables of version 4, where it is too short for a commit: an open of it writes
 /// nothing but a new log.
 pub fn plain_log(rt: &HostRuntime, path: &str) -> Result<Option<ShortLog>, FileError> {
     if head_at(rt, path)? != Found::Sqlite {

@@ -14,7 +14,7 @@ use crate::bounds::check_bounds;
 use crate::closing::closed;
 use crate::earlier::{check_earlier, why_other};
 use crate::error::FileError;
-use crate::looking::{NO_MARK, looked_at, outcome_of, plain_log, unless_in_use};
+use crate::looking::{NO_KEY, NO_MARK, looked_at, outcome_of, plain_log, unless_in_use};
 use crate::stores::{connected, latest_at, list_at, random};
 use crate::tables::{Earlier, Listed, list_of, upgraded};
 use site_disk::{Found, ShortLog, SiteFile, found_at, mend_log, put_back};
@@ -36,7 +36,7 @@ fn check_sqlite(rt: &HostRuntime, path: &str) -> Result<(), FileError> {
     }
 }
 
-/// The store of a SQLite file. Where it lists the tables of version 3 its rows are not read, so that an open takes little time and
+/// The store of a SQLite file. Where it lists the tables of version 4 its rows are not read, so that an open takes little time and
 /// memory; else SQL opens it, which names what is refused.
 fn store_at<S: Start>(
     rt: &HostRuntime,
@@ -53,41 +53,48 @@ fn store_at<S: Start>(
     }
 }
 
-/// The store with the tables of version 3, of those of an earlier one with a site of this relying party.
+/// The store with the tables of version 4, of those of an earlier one with a site of this relying party, which has this key from now on.
 fn taken_over<S: Alter + Drop>(
     alloc: Global,
     version: Earlier,
     rp_id: &str,
+    key: &[u8; 32],
     mut store: S,
 ) -> Result<S, (FileError, S)>
     requires numbered { IfClean (S.Store.view store) IsNumbered }
     ensures earlier { IfOk result (λ new. IsClean (S.Store.view new) → IsClean (S.Store.view store) × IsEarlier rp_id.now (S.Store.view store).trees) }
 {
     match check_earlier(alloc, version, rp_id, &mut store) {
-        Ok(()) => upgraded(alloc, version, store),
+        Ok(()) => upgraded(alloc, version, Some(key), store),
         Err(e) => Err((e, store)),
     }
 }
 
-/// The store with the tables of version 3: as it is, or taken over from an earlier one.
-fn newest<S: Alter + Drop>(alloc: Global, rp_id: &str, mut store: S) -> Result<S, (FileError, S)>
+/// The store with the tables of version 4: as it is, or taken over from an earlier one.
+fn newest<S: Alter + Drop>(
+    alloc: Global,
+    rp_id: &str,
+    key: &[u8; 32],
+    mut store: S,
+) -> Result<S, (FileError, S)>
     requires numbered { IfClean (S.Store.view store) IsNumbered }
     ensures found { IfOk result (λ new. (new ≡ store) ⊎ (IsClean (S.Store.view new) → IsClean (S.Store.view store) × IsEarlier rp_id.now (S.Store.view store).trees)) }
 {
     match list_of(alloc, &store) {
         Ok(Listed::Latest) => Ok(store),
-        Ok(Listed::Earlier(version)) => taken_over(alloc, version, rp_id, store),
+        Ok(Listed::Earlier(version)) => taken_over(alloc, version, rp_id, key, store),
         Ok(Listed::Nothing) => Err((FileError::NoSite, store)),
         Ok(Listed::Other) => Err((why_other(alloc, &mut store), store)),
         Err(e) => Err((e, store)),
     }
 }
 
-/// The site that a store holds whose tables are those of a site, of this relying party. Tables of version 1 or 2 are taken over in one
-/// transaction. `life` is a random number, the first mark of a commit. Refusals as `open`; the store is handed back.
+/// The site that a store holds whose tables are those of a site, of this relying party. Tables of an earlier version are taken over in one
+/// transaction, with this key. `life` is a random number, the first mark of a commit. Refusals as `open`; the store is handed back.
 pub fn open_over<S: Alter + Drop>(
     alloc: Global,
     opening: Opening,
+    key: &[u8; 32],
     life: u64,
     store: S,
 ) -> Result<StoredSite<S>, (FileError, S)>
@@ -102,7 +109,7 @@ pub fn open_over<S: Alter + Drop>(
     if store.is_broken() {
         return Err((FileError::Failed(StoreError::Broken), store));
     }
-    let store = newest(alloc, opening.party.rp_id(), store)?;
+    let store = newest(alloc, opening.party.rp_id(), key, store)?;
     match StoredSite::open(alloc, opening, life, store) {
         Ok(site) => Ok(site),
         Err((e, store)) => Err((e.into(), store)),
@@ -131,7 +138,7 @@ fn check_open(rt: &HostRuntime, path: &str, opening: &Opening) -> Result<(), Fil
     let alloc = rt.alloc();
     let opening = same_opening(alloc, opening)?;
     match looked_at(rt, path) {
-        Ok(store) => outcome_of(open_over(alloc, opening, NO_MARK, store)),
+        Ok(store) => outcome_of(open_over(alloc, opening, &NO_KEY, NO_MARK, store)),
         Err(e) => Err(e),
     }
 }
@@ -148,6 +155,7 @@ fn with_log(rt: &HostRuntime, path: &str, log: Option<ShortLog>, e: FileError) -
 fn site_in<D: Disk + Drop>(
     alloc: Global,
     opening: Opening,
+    key: &[u8; 32],
     life: u64,
     store: FileStore<D>,
 ) -> Result<StoredSite<FileStore<D>>, FileError>
@@ -155,7 +163,7 @@ fn site_in<D: Disk + Drop>(
     ensures opened { IfOk result (IsOpened view opening) }
     ensures found { IfOk result (λ s. TakesOver opening.party.rp_id (view store) (view s.store)) }
 {
-    match open_over(alloc, opening, life, store) {
+    match open_over(alloc, opening, key, life, store) {
         Ok(site) => Ok(site),
         Err(refused) => Err(closed(refused)),
     }
@@ -166,6 +174,7 @@ fn opened<S: Start>(
     rt: &HostRuntime,
     path: &str,
     opening: Opening,
+    key: &[u8; 32],
     wary: bool,
     start: S,
 ) -> Result<FileSite<S>, FileError>
@@ -174,7 +183,7 @@ fn opened<S: Start>(
 {
     let life = random(rt)?;
     match store_at(rt, path, wary, start) {
-        Ok(store) => site_in(rt.alloc(), opening, life, store),
+        Ok(store) => site_in(rt.alloc(), opening, key, life, store),
         Err(e) => Err(e),
     }
 }
@@ -196,17 +205,18 @@ fn looked_through(
     Ok(None)
 }
 
-/// The site of a file, of this relying party. No session is open, and the numbers go on. A program passes `Unknown` as `start`,
+/// The site of a file, of this relying party. Its sessions that are open stay so, and the numbers go on. A program passes `Unknown` as `start`,
 /// which stands for what the files held.
 ///
-/// A file of version 1 or 2 is upgraded, in one commit. The open sessions of version 1 end.
+/// A file of an earlier version is upgraded, in one commit, and seals its sessions under `key` from now on, 32 random bytes; those that were
+/// open end. `key` is not used else.
 ///
 /// A copy of the file from before the last commit that was told before the session `at_least` is `Older`.
 ///
 /// With `wary` each commit flushes twice, and nothing is supposed of a write that is cut off. Without it each byte of
 /// such a write is old or new, below the flushed end of the log.
 ///
-/// `BadBound` where more than 1,000,000 sessions could be open or as many credentials registered, `NoFile`, `LoneLog`, `InUse`
+/// `BadBound` where more than 1,000,000 credentials could be registered, `NoFile`, `LoneLog`, `InUse`
 /// and `CannotOpen` where the file is not opened, `DamagedLog` where its log's header is damaged, `OtherLog` where the log does not go on
 /// from the file, as one beside an older copy or a newer one, `NotSqlite` where it is no sound
 /// SQLite file, `NoSite` where it is empty or has no table, `OtherTables` where it lists other tables than `create` makes, `NoSite`
@@ -217,6 +227,7 @@ pub fn open<S: Start>(
     rt: &HostRuntime,
     path: &str,
     opening: Opening,
+    key: &[u8; 32],
     wary: bool,
     start: S,
 ) -> Result<FileSite<S>, FileError>
@@ -226,7 +237,7 @@ pub fn open<S: Start>(
 {
     check_bounds(opening.bounds)?;
     let log = looked_through(rt, path, &opening)?;
-    match opened(rt, path, opening, wary, start) {
+    match opened(rt, path, opening, key, wary, start) {
         Ok(site) => Ok(site),
         Err(e) => Err(with_log(rt, path, log, e)),
     }

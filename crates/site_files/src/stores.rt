@@ -37,7 +37,7 @@ pub fn options(rt: &HostRuntime) -> Result<Options, FileError> {
     Ok(Options::new(random(rt)?))
 }
 
-/// Files, to be opened with the tables of version 3, whose pages end in sums or not.
+/// Files, to be opened with the tables of version 4, whose pages end in sums or not.
 pub fn unopened<D: Disk + Drop>(
     alloc: Global,
     files: Files<D>,
@@ -84,9 +84,12 @@ fn without_roots(alloc: Global, listed: &[Row]) -> Result<Vec<Row>, AllocError> 
     Ok(rows)
 }
 
-/// The page where the table of marks begins, of the list of a file of version 3.
+/// The place of the table of marks in the list of a file, since version 3.
+const MARK_AT: usize = 5;
+
+/// The page where the table of marks begins, of the list of a file whose commits have marks.
 fn mark_root(listed: &[Row]) -> u32 {
-    match listed.last() {
+    match listed.get(MARK_AT) {
         Some(row) => match row.get(4) {
             ValueRef::Int(root) => u32::try_from(root).unwrap_or(0),
             _ => 0,
@@ -99,7 +102,7 @@ fn mark_root(listed: &[Row]) -> u32 {
 #[derive(Clone, Copy, Drop)]
 pub struct Catalog {
     pub listed: Listed,
-    /// The page where the table of marks begins, in a file of version 3.
+    /// The page where the table of marks begins, where it has one.
     pub mark_root: u32,
 }
 
@@ -134,7 +137,7 @@ pub fn list_at(rt: &HostRuntime, path: &str) -> Result<Listed, FileError> {
     }
 }
 
-/// The store of files with the tables of version 3, whose pages and trees are tested.
+/// The store of files with the tables of version 4, whose pages and trees are tested.
 pub fn opened<D: Disk + Drop>(it: Unopened<D>) -> Result<FileStore<D>, FileError>
     requires { AreUsable it }
     ensures numbered { IfOk result (λ store. IsTrue (view store).is_numbered) }
@@ -204,7 +207,7 @@ pub fn connected<S: Start>(
     }
 }
 
-/// The store of files of version 3, whose pages end in sums or not.
+/// The store of files of version 4, whose pages end in sums or not.
 fn latest_of<D: Disk + Drop>(
     alloc: Global,
     files: Files<D>,
@@ -218,7 +221,7 @@ fn latest_of<D: Disk + Drop>(
     opened(it)
 }
 
-/// The store of a file of version 3: its list, its pages and its trees are tested, and what rows say of each other is not.
+/// The store of a file of version 4: its list, its pages and its trees are tested, and what rows say of each other is not.
 /// `NotSqlite` where it is none, or damaged: where its pages end in sums
 /// each is tested.
 pub fn latest_at<S: Start>(

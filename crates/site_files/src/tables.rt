@@ -72,8 +72,28 @@ const MARK: &str = "CREATE TABLE mark (
   sum BLOB NOT NULL
 ) STRICT";
 
-/// What makes the tables of a new file: those of version 1, of them those of version 2, and of them those of version 3.
-static NEW: [&str; 10] = [
+const SEAL_KEY: &str = "CREATE TABLE seal_key (
+  number INTEGER PRIMARY KEY,
+  key BLOB NOT NULL
+) STRICT";
+
+const ENDED_SESSION: &str = "CREATE TABLE ended_session (
+  number INTEGER PRIMARY KEY,
+  how INTEGER NOT NULL,
+  until INTEGER NOT NULL
+) STRICT";
+
+const ENDED_USER: &str = "CREATE TABLE ended_user (
+  number INTEGER PRIMARY KEY,
+  below INTEGER NOT NULL,
+  until INTEGER NOT NULL
+) STRICT";
+
+/// Writes the key of a site that an earlier version has made.
+const PUT_KEY: &str = "INSERT INTO seal_key VALUES (1, ?1)";
+
+/// What makes the tables of a new file: those of version 1, of them those of version 2, and so on.
+static NEW: [&str; 14] = [
     CREDENTIAL,
     SESSION,
     SITE,
@@ -84,25 +104,45 @@ static NEW: [&str; 10] = [
     "UPDATE site SET version = 2",
     MARK,
     "UPDATE site SET version = 3",
+    SEAL_KEY,
+    ENDED_SESSION,
+    ENDED_USER,
+    "UPDATE site SET version = 4",
 ];
 
-/// Runs these texts in one transaction.
-fn run<S: Alter>(conn: &mut Connection<S>, texts: &[&str]) -> Result<(), FileError>
+/// Writes a key, where one is given.
+fn put_key<S: Alter>(conn: &mut Connection<S>, key: Option<&[u8; 32]>) -> Result<(), FileError>
+    ensures clean { doubt (state S.Store conn.old).is_clean ≤ doubt (state S.Store conn.new).is_clean }
+{
+    if let Some(key) = key {
+        conn.execute(PUT_KEY, &[ValueRef::Blob(key)])?;
+    }
+    Ok(())
+}
+
+/// Runs these texts, and writes the key of a site, in one transaction.
+fn run<S: Alter>(
+    conn: &mut Connection<S>,
+    texts: &[&str],
+    key: Option<&[u8; 32]>,
+) -> Result<(), FileError>
     ensures clean { OnOk result (doubt (state S.Store conn.old).is_clean ≤ doubt (state S.Store conn.new).is_clean) }
 {
     conn.execute_batch("BEGIN")?;
     for text in texts {
         conn.execute_batch(text)?;
     }
+    put_key(conn, key)?;
     conn.execute_batch("COMMIT")?;
     Ok(())
 }
 
-/// What these texts make of a store, all of them or none.
+/// What these texts make of a store with the key of a site, all of them or none.
 fn changed<S: Alter + Drop>(
     alloc: Global,
     mut store: S,
     texts: &[&str],
+    key: Option<&[u8; 32]>,
 ) -> Result<S, (FileError, S)>
     requires numbered { IfClean (S.Store.view store) IsNumbered }
     ensures clean { IfOk result (λ new. WasClean (S.Store.view store) (S.Store.view new)) }
@@ -116,7 +156,7 @@ fn changed<S: Alter + Drop>(
         Ok(conn) => conn,
         Err((e, store)) => return Err((e.into(), store)),
     };
-    let done = run(&mut conn, texts);
+    let done = run(&mut conn, texts, key);
     let store = conn.into_store();
     match done {
         Ok(()) => Ok(store),
@@ -128,7 +168,7 @@ fn changed<S: Alter + Drop>(
 pub fn made<S: Alter + Drop>(alloc: Global, store: S) -> Result<S, (FileError, S)>
     requires numbered { IfClean (S.Store.view store) IsNumbered }
 {
-    changed(alloc, store, &NEW)
+    changed(alloc, store, &NEW, None)
 }
 
 /// An earlier version.
@@ -136,20 +176,24 @@ pub fn made<S: Alter + Drop>(alloc: Global, store: S) -> Result<S, (FileError, S
 pub enum Earlier {
     First,
     Second,
+    Third,
 }
 
-/// Makes the tables of version 3 of those of an earlier one. The open sessions of version 1 end.
+/// Makes the tables of version 4 of those of an earlier one, and the row of its key where it has a site. The open sessions of version 1
+/// end.
 pub fn upgraded<S: Alter + Drop>(
     alloc: Global,
     version: Earlier,
+    key: Option<&[u8; 32]>,
     store: S,
 ) -> Result<S, (FileError, S)>
     requires numbered { IfClean (S.Store.view store) IsNumbered }
     ensures clean { IfOk result (λ new. WasClean (S.Store.view store) (S.Store.view new)) }
 {
     match version {
-        Earlier::First => changed(alloc, store, &NEW[3..]),
-        Earlier::Second => changed(alloc, store, &NEW[8..]),
+        Earlier::First => changed(alloc, store, &NEW[3..], key),
+        Earlier::Second => changed(alloc, store, &NEW[8..], key),
+        Earlier::Third => changed(alloc, store, &NEW[10..], key),
     }
 }
 
@@ -160,10 +204,17 @@ pub enum Listed {
     Nothing,
     /// The tables, and indices, of an earlier version.
     Earlier(Earlier),
-    /// The tables and indices of version 3.
+    /// The tables and indices of version 4.
     Latest,
     /// Something else.
     Other,
+}
+
+impl Listed {
+    /// Whether each commit has its mark, as it has since version 3.
+    pub fn has_marks(self) -> bool {
+        matches!(self, Listed::Latest | Listed::Earlier(Earlier::Third))
+    }
 }
 
 fn table<'a>(name: &'a str, text: &'a str) -> Object<'a> {
@@ -210,8 +261,8 @@ fn first<'a>() -> [Object<'a>; 3] {
     ]
 }
 
-/// Those of version 3: its first six are those of version 2.
-pub fn latest<'a>() -> [Object<'a>; 7] {
+/// Those of version 4: its first six are those of version 2, and its first seven those of version 3.
+pub fn latest<'a>() -> [Object<'a>; 10] {
     [
         table("credential", CREDENTIAL),
         gap(),
@@ -220,6 +271,9 @@ pub fn latest<'a>() -> [Object<'a>; 7] {
         index("credential_by_user", BY_USER),
         table("detail", DETAIL),
         table("mark", MARK),
+        table("seal_key", SEAL_KEY),
+        table("ended_session", ENDED_SESSION),
+        table("ended_user", ENDED_USER),
     ]
 }
 
@@ -267,6 +321,7 @@ pub fn list_in(alloc: Global, rows: &[Row]) -> Result<Listed, AllocError> {
     let first = rows_of(alloc, &first())?;
     let latest = latest();
     let second = rows_of(alloc, &latest[..6])?;
+    let third = rows_of(alloc, &latest[..7])?;
     let latest = rows_of(alloc, &latest)?;
     Ok(if rows.is_empty() {
         Listed::Nothing
@@ -274,6 +329,8 @@ pub fn list_in(alloc: Global, rows: &[Row]) -> Result<Listed, AllocError> {
         Listed::Earlier(Earlier::First)
     } else if are_same(rows, second.as_slice()) {
         Listed::Earlier(Earlier::Second)
+    } else if are_same(rows, third.as_slice()) {
+        Listed::Earlier(Earlier::Third)
     } else if are_same(rows, latest.as_slice()) {
         Listed::Latest
     } else {

@@ -1,6 +1,6 @@
 -- A failure that has its cause in a part of an act has it in the act.
 use Rattle.std.proofs.Common.{◌≡◌, ℕ, ℤ, ap, arith, inl, inr, refl, subst}
-use Rattle.std.specs.Prelude.{◌≤◌, ◌+◌, ◌-◌, ◌^◌, min}
+use Rattle.std.specs.Prelude.{◌≤◌, ◌⊎◌, ◌+◌, ◌-◌, ◌^◌, min}
 use Rattle.sqlite_trees.specs.View.{HasCause, IsClean, IsStorableRow, View}
 use Rattle.sqlite_trees.specs.declared.error.StoreError.{StoreError}
 use Rattle.sqlite_trees.specs.declared.error.StoreError.TheVariants.{OutOfMemory, Io, Corrupt, Full, Broken, Unstorable}
@@ -50,8 +50,8 @@ caused_since old mid a b c U V D E (failures.Failed e) up f g (never, inr bad) =
 -- ---- where something is a failure
 
 pub if_failed : (P Q : Failure → Type 0) (a : Answer) → ((why : Failure) → P why → Q why) → IfFailed P a → IfFailed Q a
-if_failed P Q (answers.RegistrationBegun started b known) f h = tt
-if_failed P Q (answers.SignInBegun started b known) f h = tt
+if_failed P Q (answers.RegistrationBegun x b known) f h = tt
+if_failed P Q (answers.SignInBegun x b known) f h = tt
 if_failed P Q (answers.Registered x) f h = tt
 if_failed P Q (answers.SignedIn x) f h = tt
 if_failed P Q (answers.Verify t) f h = tt
@@ -60,7 +60,8 @@ if_failed P Q (answers.SignInRefused told id) f h = tt
 if_failed P Q (answers.Retired was) f h = tt
 if_failed P Q (answers.Deleted was) f h = tt
 if_failed P Q (answers.Abandoned was) f h = tt
-if_failed P Q (answers.Expired count) f h = tt
+if_failed P Q (answers.RetiredAll count) f h = tt
+if_failed P Q (answers.Erased count) f h = tt
 if_failed P Q (answers.Rows rows known) f h = tt
 if_failed P Q (answers.Status counts) f h = tt
 if_failed P Q (answers.Backup path) f h = tt
@@ -89,7 +90,7 @@ pub begin_refused_on : {S : Type 0} (view : S → View) (old mid : StoredState S
     → RefusesBegin (view mid.store) mid → RefusesBegin (view old.store) old
 begin_refused_on view old mid same clean refused =
     let of_old = subst (λ (s : StoredState _). RefusesBegin (view mid.store) s) same.is refused in
-    subst (λ (reals : ℕ → ℕ). ¬ IsStorableRow (reals 2) (site_row old.rp.rp_id (old.timed.open_sessions.next + 1000))) (ap (λ v. v.reals) (same.store clean)) of_old
+    subst (λ (reals : ℕ → ℕ). ¬ IsStorableRow (reals 2) (site_row old.rp.rp_id (old.next + 1000))) (ap (λ v. v.reals) (same.store clean)) of_old
 
 pub unknown_since : {S : Type 0} (view : S → View) (faults : S → ℕ) (old mid new : StoredState S) (e : Unknown) → IsSame view old mid
     → (IsClean (view new.store) → IsClean (view mid.store)) → faults old.store ≤ faults mid.store
@@ -137,8 +138,9 @@ shut_fails view faults now (acts.BeginSignIn b) old new = λ clean. tt
 shut_fails view faults now (acts.FinishSignIn f) old new = λ clean. tt
 shut_fails view faults now (acts.Retire id) old new = λ clean. tt
 shut_fails view faults now (acts.Delete id) old new = λ clean. tt
-shut_fails view faults now (acts.Abandon session) old new = refl
-shut_fails view faults now (acts.Expire age) old new = refl
+shut_fails view faults now (acts.Abandon session) old new = λ clean. tt
+shut_fails view faults now (acts.RetireAll user) old new = λ clean. tt
+shut_fails view faults now (acts.Erase user) old new = λ clean. tt
 shut_fails view faults now (acts.Rows user) old new = λ clean. tt
 shut_fails view faults now acts.Status old new = refl
 shut_fails view faults now (acts.Backup path) old new = refl
@@ -153,8 +155,8 @@ store_fails view faults old new U V D e why is h f =
 
 -- a refused registration is answered by no failure
 pub refused_registration_fails : (P : Failure → Type 0) (p : Profile) (step : RegistrationRefusal) (f : FinishRegistration) (a : Answer) → IsRefusedRegistration p step f a → IfFailed P a
-refused_registration_fails P p step f (answers.RegistrationBegun started b known) h = tt
-refused_registration_fails P p step f (answers.SignInBegun started b known) h = tt
+refused_registration_fails P p step f (answers.RegistrationBegun x b known) h = tt
+refused_registration_fails P p step f (answers.SignInBegun x b known) h = tt
 refused_registration_fails P p step f (answers.Registered x) h = tt
 refused_registration_fails P p step f (answers.SignedIn x) h = tt
 refused_registration_fails P p step f (answers.Verify t) h = tt
@@ -163,7 +165,8 @@ refused_registration_fails P p step f (answers.SignInRefused told id) h = tt
 refused_registration_fails P p step f (answers.Retired was) h = tt
 refused_registration_fails P p step f (answers.Deleted was) h = tt
 refused_registration_fails P p step f (answers.Abandoned was) h = tt
-refused_registration_fails P p step f (answers.Expired count) h = tt
+refused_registration_fails P p step f (answers.RetiredAll count) h = tt
+refused_registration_fails P p step f (answers.Erased count) h = tt
 refused_registration_fails P p step f (answers.Rows rows known) h = tt
 refused_registration_fails P p step f (answers.Status counts) h = tt
 refused_registration_fails P p step f (answers.Backup path) h = tt
@@ -174,10 +177,10 @@ refused_registration_fails P p step f (answers.Failed why) h = absurd h
 
 -- ---- rows, by the parts that were judged
 
-pub refuses_signed_in_as : (v : View) (p : Profile) (r q : AuthenticatorAssertionResponse) (m n : ℤ) → r ≡ q → m ≡ n → RefusesSignedIn v p r m → RefusesSignedIn v p q n
-refuses_signed_in_as v p r q m n same second h = subst (λ (x : AuthenticatorAssertionResponse). RefusesSignedIn v p x n) same (subst (RefusesSignedIn v p r) second h)
+pub refuses_signed_in_as : (v : View) (p : Profile) (r q : AuthenticatorAssertionResponse) (n : ℤ) (E : Type 0) → r ≡ q
+    → RefusesSignedIn v p r n ⊎ E → RefusesSignedIn v p q n ⊎ E
+refuses_signed_in_as v p r q n E same h = subst (λ (x : AuthenticatorAssertionResponse). RefusesSignedIn v p x n ⊎ E) same h
 
-pub refuses_registered_as : {S : Type 0} (v : View) (s : StoredState S) (n : ℕ) (r q : responses.AuthenticatorAttestationResponse) (d e : Detail) → r ≡ q → d ≡ e
-    → RefusesRegistered v s n r d → RefusesRegistered v s n q e
-refuses_registered_as v s n r q d e same detail h =
-    subst (λ (x : responses.AuthenticatorAttestationResponse). RefusesRegistered v s n x e) same (subst (λ (x : Detail). RefusesRegistered v s n r x) detail h)
+pub refuses_registered_as : {S : Type 0} (v : View) (s : StoredState S) (r q : responses.AuthenticatorAttestationResponse) (d : Detail) (E : Type 0) → r ≡ q
+    → RefusesRegistered v s r d ⊎ E → RefusesRegistered v s q d ⊎ E
+refuses_registered_as v s r q d E same h = subst (λ (x : responses.AuthenticatorAttestationResponse). RefusesRegistered v s x d ⊎ E) same h

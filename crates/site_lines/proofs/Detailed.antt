@@ -1,18 +1,19 @@
 -- What is known of credentials, and what is told of it.
-use Rattle.std.specs.Prelude.{◌≤◌, ◌^◌, ◌+◌, Vec}
+use Rattle.std.specs.Prelude.{◌≤◌, ◌^◌, ◌+◌, ◌⊎◌, Vec}
 use Rattle.std.specs.Global.{Global}
-use Rattle.std.proofs.Common.{◌≡◌, ◌++◌, ◌∷◌, [], ℕ, List, Option, Some, None, map, ap, sym, subst, ◌∙◌, false}
+use Rattle.std.proofs.Common.{inr, refl, ◌≡◌, ◌++◌, ◌∷◌, [], ℕ, List, map, ap, sym, subst, ◌∙◌, false}
 use Rattle.std.specs.List.{AllByRecursion}
 use Rattle.sqlite_trees.specs.View.{IsClean, View}
 use Rattle.authdata.specs.declared.profile.Profile.{Profile}
-use Rattle.site_state.specs.Sessions.{IsRefused, Opening, challenge_of}
+use Rattle.site_state.specs.Sessions.{IsInput, Opening, challenge_of}
 use Rattle.site_state.specs.declared.error.BeginError.TheVariants as full
-use Rattle.site_state.specs.Timed.{IsTrimmed, Timed, after_begin}
 use Rattle.site_rows.specs.Held.{Placed}
 use Rattle.site_state.specs.Details.{Detail}
 use Rattle.site_rows.specs.Details.{Details, HoldsDetails}
 use Rattle.site_stored.specs.State.{StoredState}
-use Rattle.site_stored.specs.Calls.{IsSame}
+use Rattle.site_stored.specs.Calls.{IsNotBegun, IsOneSite, IsSame}
+use Rattle.site_stored.specs.Sessions.{begun_text}
+use Rattle.site_stored.specs.declared.session.Begun.{Begun}
 use Rattle.site_stored.specs.declared.failure.Failure.{Failure}
 use Rattle.site_stored.specs.declared.failure.BeginFailure.{BeginFailure}
 use Rattle.site_stored.specs.declared.failure.BeginFailure.TheVariants as begins
@@ -30,7 +31,7 @@ use Rattle.verification.specs.declared.refusal.RegistrationRefusal.{Registration
 use Rattle.site_lines.specs.Answers.{Begins, Keeps, TellsRegistrationBegun, TellsSignInBegun, opens_registration, opens_sign_in}
 use Rattle.site_acts.proofs.Commas.{map_on}
 use Rattle.site_lines.specs.Details.{IsKnown, OfDetails, RegistersDetail, TellsAllowed, TellsDetails, TellsExcluded, TellsRowDetails, UsesDetail}
-use Rattle.site_lines.specs.Private.{BeginsNone, IsNotBegunAfter, IsRefusedRegistration, IsRefusedSignIn, IsUnknown, IsWithKnown, not_begun}
+use Rattle.site_lines.specs.Private.{IsNotBegunAfter, IsRefusedRegistration, IsRefusedSignIn, IsUnknown, IsWithKnown, not_begun}
 use Rattle.site_lines.specs.declared.knowing.Unknown.{Unknown}
 use Rattle.site_lines.specs.declared.knowing.Unknown.TheVariants as unknowns
 use Rattle.site_state.specs.declared.row.Row.{Row}
@@ -70,41 +71,44 @@ ids_on f g xs ys a b same one = map_on f xs a ∙ ap (λ l. l ++ f a ∷ []) sam
 
 -- ---- a session that begins after a look
 
-pub begins_after : {S : Type 0} (view : S → View) (o : Opening) (words : List ℕ) (moment session : ℕ) (challenge : List ℕ) (old mid new : StoredState S)
-    → IsSame view old mid → (IsClean (view new.store) → IsClean (view mid.store)) → Begins view o words moment session challenge mid new
-    → Begins view o words moment session challenge old new
-begins_after view o words moment session challenge old mid new same back b =
-    let timed : mid.timed ≡ old.timed = ap (λ (s : StoredState _). s.timed) same.is in (
-      b.0 ∙ ap (λ (t : Timed). t.open_sessions.next) timed,
-      b.1 ∙ ap (λ (t : Timed). challenge_of t.open_sessions.next words) timed,
-      subst (λ (t : Timed). IsTrimmed (after_begin t o moment) new.timed) timed b.2,
+pub begins_after : {S : Type 0} (view : S → View) (o : Opening) (words : List ℕ) (now : ℕ) (b : Begun) (old mid new : StoredState S)
+    → IsSame view old mid → (IsClean (view new.store) → IsClean (view mid.store)) → Begins view o words now b mid new → Begins view o words now b old new
+begins_after view o words now b old mid new same back h =
+    let moved = subst (λ (s : StoredState _). (b.session ≡ s.next) × (b.challenge ≡ challenge_of s.next words) × (b.text.items ≡ begun_text s o now)
+    × (new.next ≡ s.next + 1) × IsOneSite s new) same.is (h.0, h.1, h.2, h.3, h.4) in
+    let one = moved.4 in (
+      moved.0,
+      moved.1,
+      moved.2,
+      moved.3,
       record {
-        rp = b.3.rp ∙ ap (λ (s : StoredState _). s.rp) same.is;
-        policy = b.3.policy ∙ ap (λ (s : StoredState _). s.policy) same.is;
-        most = b.3.most ∙ ap (λ (s : StoredState _). s.most) same.is;
-        durable = b.3.durable ∙ ap (λ (s : StoredState _). s.durable) same.is;
-        mark = b.3.mark ∙ ap (λ (s : StoredState _). s.mark) same.is;
-        next_mark = b.3.next_mark ∙ ap (λ (s : StoredState _). s.next_mark) same.is;
+        rp = one.rp;
+        policy = one.policy;
+        key = one.key;
+        lifetime = one.lifetime;
+        most = one.most;
+        durable = one.durable;
+        mark = one.mark;
+        next_mark = one.next_mark;
       },
-      λ clean placed held. b.4 clean placed (held_on view placed old mid same (back clean) held),
+      λ clean placed held. h.5 clean placed (held_on view placed old mid same (back clean) held),
     )
 
 pub not_begun_after : {S : Type 0} (view : S → View) (o : Opening) (old mid new : StoredState S) (why : BeginFailure) → old.is_shut ≡ false → IsSame view old mid
-    → BeginsNone mid new o why → IsNotBegunAfter view old new o why
+    → IsNotBegun mid new o why → IsNotBegunAfter view old new o why
 not_begun_after view o old mid new (begins.Site w) live same h = (
-  same_then view old mid new same (same_site view mid new h.0.0),
-  subst (λ (s : StoredState _). IsRefused s.rp.profile s.timed.open_sessions o w) same.is h.0.1,
-  λ is. h.1 (ap begins.Site is),
+  same_then view old mid new same (same_site view mid new h.0),
+  subst (λ (s : StoredState _). ((w ≡ full.BadInput) × (IsInput s.rp.profile o → ⊥)) ⊎ (w ≡ full.Memory)) same.is h.1,
 )
 not_begun_after view o old mid new begins.NoNumber live same h = (
-  same_then view old mid new same (same_site view mid new h.0.0),
-  subst (λ (s : StoredState _). 2 ^ 63 ≤ s.timed.open_sessions.next + 1001) same.is h.0.1,
+  same_then view old mid new same (same_site view mid new h.0),
+  subst (λ (s : StoredState _). 2 ^ 63 ≤ s.next + 1001) same.is h.1,
 )
-not_begun_after view o old mid new (begins.Store w) live same h = failure_then view old mid new w live same h.0
+not_begun_after view o old mid new (begins.Store w) live same h = failure_then view old mid new w live same h
 
 pub no_memory_after : {S : Type 0} (view : S → View) (o : Opening) (old new : StoredState S) → IsSame view old new
     → IsNotBegunAfter view old new o (begins.Site full.Memory)
-no_memory_after view o old new same = (same, tt, λ is. absurd cc)
+no_memory_after view o old new same = (same, inr refl)
 
 pub keeps_after : {S : Type 0} (view : S → View) (o : Opening) (old new : StoredState S) (why : BeginFailure) → IsNotBegunAfter view old new o why
     → Keeps view old new (not_begun why)
@@ -115,14 +119,14 @@ keeps_after view o old new (begins.Store w) h = h
 pub sign_in_after : {S : Type 0} (view : S → View) (b : BeginSignIn) (words : List ℕ) (now : ℕ) (old new : StoredState S) (why : BeginFailure)
     → IsNotBegunAfter view old new (opens_sign_in b words) why
     → TellsSignInBegun view b words now old new (not_begun why) × TellsAllowed view b old new (not_begun why)
-sign_in_after view b words now old new (begins.Site w) h = ((h.2, h.1), tt)
+sign_in_after view b words now old new (begins.Site w) h = (h.1, tt)
 sign_in_after view b words now old new begins.NoNumber h = (h.1, tt)
 sign_in_after view b words now old new (begins.Store w) h = (tt, tt)
 
 pub registration_after : {S : Type 0} (view : S → View) (b : BeginRegistration) (words : List ℕ) (now : ℕ) (old new : StoredState S) (why : BeginFailure)
     → IsNotBegunAfter view old new (opens_registration b words) why
     → TellsRegistrationBegun view b words now old new (not_begun why) × TellsExcluded view b old new (not_begun why)
-registration_after view b words now old new (begins.Site w) h = ((h.2, h.1), tt)
+registration_after view b words now old new (begins.Site w) h = (h.1, tt)
 registration_after view b words now old new begins.NoNumber h = (h.1, tt)
 registration_after view b words now old new (begins.Store w) h = (tt, tt)
 
@@ -130,8 +134,8 @@ registration_after view b words now old new (begins.Store w) h = (tt, tt)
 
 pub sign_in_leaves : {S : Type 0} (view : S → View) (f : FinishSignIn) (now : ℕ) (old mid new : StoredState S) (step : SignInRefusal) (a : Answer)
     → IsRefusedSignIn view step f mid new a → UsesDetail view now f old new a
-sign_in_leaves view f now old mid new step (answers.RegistrationBegun started b known) h = absurd h
-sign_in_leaves view f now old mid new step (answers.SignInBegun started b known) h = absurd h
+sign_in_leaves view f now old mid new step (answers.RegistrationBegun x b known) h = absurd h
+sign_in_leaves view f now old mid new step (answers.SignInBegun x b known) h = absurd h
 sign_in_leaves view f now old mid new step (answers.Registered x) h = absurd h
 sign_in_leaves view f now old mid new step (answers.SignedIn x) h = absurd h
 sign_in_leaves view f now old mid new step (answers.Verify t) h = tt
@@ -140,7 +144,8 @@ sign_in_leaves view f now old mid new step (answers.SignInRefused told id) h = t
 sign_in_leaves view f now old mid new step (answers.Retired was) h = absurd h
 sign_in_leaves view f now old mid new step (answers.Deleted was) h = absurd h
 sign_in_leaves view f now old mid new step (answers.Abandoned was) h = absurd h
-sign_in_leaves view f now old mid new step (answers.Expired count) h = absurd h
+sign_in_leaves view f now old mid new step (answers.RetiredAll count) h = absurd h
+sign_in_leaves view f now old mid new step (answers.Erased count) h = absurd h
 sign_in_leaves view f now old mid new step (answers.Rows rows known) h = absurd h
 sign_in_leaves view f now old mid new step (answers.Status counts) h = absurd h
 sign_in_leaves view f now old mid new step (answers.Backup path) h = absurd h
@@ -151,8 +156,8 @@ sign_in_leaves view f now old mid new step (answers.Failed why) h = tt
 
 pub registration_leaves : {S : Type 0} (view : S → View) (f : FinishRegistration) (p : Profile) (d : Detail) (old new : StoredState S) (step : RegistrationRefusal) (a : Answer)
     → IsRefusedRegistration p step f a → RegistersDetail view d old new a
-registration_leaves view f p d old new step (answers.RegistrationBegun started b known) h = absurd h
-registration_leaves view f p d old new step (answers.SignInBegun started b known) h = absurd h
+registration_leaves view f p d old new step (answers.RegistrationBegun x b known) h = absurd h
+registration_leaves view f p d old new step (answers.SignInBegun x b known) h = absurd h
 registration_leaves view f p d old new step (answers.Registered x) h = absurd h
 registration_leaves view f p d old new step (answers.SignedIn x) h = absurd h
 registration_leaves view f p d old new step (answers.Verify t) h = tt
@@ -161,7 +166,8 @@ registration_leaves view f p d old new step (answers.SignInRefused told id) h = 
 registration_leaves view f p d old new step (answers.Retired was) h = absurd h
 registration_leaves view f p d old new step (answers.Deleted was) h = absurd h
 registration_leaves view f p d old new step (answers.Abandoned was) h = absurd h
-registration_leaves view f p d old new step (answers.Expired count) h = absurd h
+registration_leaves view f p d old new step (answers.RetiredAll count) h = absurd h
+registration_leaves view f p d old new step (answers.Erased count) h = absurd h
 registration_leaves view f p d old new step (answers.Rows rows known) h = absurd h
 registration_leaves view f p d old new step (answers.Status counts) h = absurd h
 registration_leaves view f p d old new step (answers.Backup path) h = absurd h
@@ -179,7 +185,8 @@ fails view now (acts.FinishSignIn f) old new why = tt
 fails view now (acts.Retire id) old new why = tt
 fails view now (acts.Delete id) old new why = tt
 fails view now (acts.Abandon session) old new why = tt
-fails view now (acts.Expire age) old new why = tt
+fails view now (acts.RetireAll user) old new why = tt
+fails view now (acts.Erase user) old new why = tt
 fails view now (acts.Rows user) old new why = tt
 fails view now acts.Status old new why = tt
 fails view now (acts.Backup path) old new why = tt
@@ -187,8 +194,8 @@ fails view now (acts.Backup path) old new why = tt
 -- rows are told with what is known of each, after a look
 pub row_details_after : {S : Type 0} (view : S → View) (rows : Vec Row Global) (old mid new : StoredState S) (a : Answer) → IsSame view old mid
     → IsWithKnown view rows mid new a → TellsRowDetails view old new a
-row_details_after view rows old mid new (answers.RegistrationBegun started b known) same h = absurd h
-row_details_after view rows old mid new (answers.SignInBegun started b known) same h = absurd h
+row_details_after view rows old mid new (answers.RegistrationBegun x b known) same h = absurd h
+row_details_after view rows old mid new (answers.SignInBegun x b known) same h = absurd h
 row_details_after view rows old mid new (answers.Registered x) same h = absurd h
 row_details_after view rows old mid new (answers.SignedIn x) same h = absurd h
 row_details_after view rows old mid new (answers.Verify t) same h = absurd h
@@ -197,7 +204,8 @@ row_details_after view rows old mid new (answers.SignInRefused told id) same h =
 row_details_after view rows old mid new (answers.Retired was) same h = absurd h
 row_details_after view rows old mid new (answers.Deleted was) same h = absurd h
 row_details_after view rows old mid new (answers.Abandoned was) same h = absurd h
-row_details_after view rows old mid new (answers.Expired count) same h = absurd h
+row_details_after view rows old mid new (answers.RetiredAll count) same h = absurd h
+row_details_after view rows old mid new (answers.Erased count) same h = absurd h
 row_details_after view rows old mid new (answers.Rows told known) same h = (h.1.0 ∙ ap (λ (v : Vec Row Global). map (λ r. r.id.items) v.items) (sym h.0), of_details_on view old mid new _ same h.2.clean h.1.1)
 row_details_after view rows old mid new (answers.Status counts) same h = absurd h
 row_details_after view rows old mid new (answers.Backup path) same h = absurd h

@@ -1,24 +1,22 @@
 -- What an act that is not carried out leaves, and what one look after another leaves.
-use Rattle.std.specs.Prelude.{IfErr, IfOk, OnOk, Ok, Err}
+use Rattle.std.specs.Prelude.{IfErr, IfOk, Ok, Err}
 use Rattle.std.specs.declared.result.Result.{Result}
 use Rattle.std.proofs.Common.{◌≡◌, ℕ, Bool, List, Option, ap, refl, sym, subst, ◌∙◌, false, true≢false}
 use Rattle.sqlite_trees.specs.View.{IsClean, View}
+use Rattle.sqlite_trees.specs.declared.store.Store.{Ghosts}
 use Rattle.cose.specs.declared.key.Alg.{Alg}
-use Rattle.site_state.specs.Sessions.{Opening, OpensRegistration, OpensSignIn, challenge_of}
+use Rattle.site_state.specs.Sessions.{Opening, OpensRegistration, OpensSignIn}
 use Rattle.site_state.specs.declared.session.Asks.{Asks}
-use Rattle.site_state.specs.declared.error.BeginError.TheVariants as full
-use Rattle.site_state.specs.Timed.{IsTrimmed, after_begin}
 use Rattle.site_rows.specs.Held.{Placed}
 use Rattle.site_stored.specs.State.{IsHeld, StoredState}
-use Rattle.site_stored.specs.Calls.{IsFailure, IsNotBegun, IsOneSite, IsSame}
+use Rattle.site_stored.specs.Calls.{IsFailure, IsNotBegun, IsSame}
+use Rattle.site_stored.specs.Calls as calls
+use Rattle.site_stored.specs.Sessions.{begun_text}
+use Rattle.site_stored.specs.declared.session.Begun.{Begun}
 use Rattle.site_stored.specs.declared.failure.Failure.{Failure}
 use Rattle.site_stored.specs.declared.failure.Failure.TheVariants as failures
 use Rattle.site_stored.specs.declared.failure.BeginFailure.{BeginFailure}
-use Rattle.site_stored.specs.declared.failure.BeginFailure.TheVariants as begins
-use Rattle.site_acts.specs.declared.act.BeginRegistration.{BeginRegistration}
-use Rattle.site_acts.specs.declared.act.BeginSignIn.{BeginSignIn}
-use Rattle.site_lines.specs.Answers.{Begins, Keeps, TellsRegistrationBegun, TellsSignInBegun, opens_registration, opens_sign_in}
-use Rattle.site_lines.specs.Private.{BeginsNone, not_begun}
+use Rattle.site_lines.specs.Answers.{Begins}
 
 pub same_site : {S : Type 0} (view : S → View) (old new : StoredState S) → new ≡ old → IsSame view old new
 same_site view old new is = subst (IsSame view old) (sym is) (record { is = refl; clean = λ c. c; store = λ _. refl })
@@ -47,16 +45,17 @@ failure_then view old mid new failures.Shut live same f = absurd (true≢false (
 failure_then view old mid new (failures.Failed e) live same f = (live, f.1)
 
 -- where the site's call begins one
-pub session_begins : {S T E : Type 0} (view : S → View) (p o : Opening) (words : List ℕ) (moment : ℕ) (old new : StoredState S) (result : Result T E)
-    (number : T → ℕ) (challenge : T → List ℕ) → p ≡ o
-    → IfOk result (λ s. (number s ≡ old.timed.open_sessions.next) × (challenge s ≡ challenge_of old.timed.open_sessions.next words))
-    → OnOk result (IsTrimmed (after_begin old.timed p moment) new.timed)
-    → OnOk result (IsClean (view new.store) → (placed : Placed) → IsHeld placed old (view old.store).trees → IsHeld placed new (view new.store).trees)
-    → OnOk result (IsOneSite old new × (new.is_shut ≡ false))
-    → IfOk result (λ s. Begins view o words moment (number s) (challenge s) old new)
-session_begins view p o words moment old new (Ok s) number challenge same started begun held one =
-    (started.0, started.1, subst (λ q. IsTrimmed (after_begin old.timed q moment) new.timed) same begun, one.0, λ clean placed was. (placed, refl, held clean placed was))
-session_begins view p o words moment old new (Err why) number challenge same started begun held one = tt
+pub session_begins : {S : Type 0} (g : Ghosts S) (p o : Opening) (words : List ℕ) (now : ℕ) (old new : StoredState S) (result : Result Begun BeginFailure)
+    → p ≡ o → calls.Begins g old new p words now result → IfOk result (λ b. Begins g.view o words now b old new)
+session_begins g p o words now old new (Ok b) same h = (
+  h.begun.0,
+  h.begun.1,
+  h.begun.2 ∙ ap (λ q. begun_text old q now) same,
+  h.next,
+  h.one.0,
+  λ clean placed was. (placed, refl, h.held clean placed was),
+)
+session_begins g p o words now old new (Err why) same h = tt
 
 pub same_sign_in : (u v : Option (List ℕ)) (a b : List (List ℕ)) (uv : Bool) (words : List ℕ) → u ≡ v → a ≡ b
     → OpensSignIn u a uv words ≡ OpensSignIn v b uv words
@@ -68,27 +67,6 @@ same_registration u v a b uv words asks user algorithms = rw (user, algorithms) 
 
 -- where the site's call begins no session
 pub begins_none : {S T : Type 0} (p o : Opening) (old new : StoredState S) (result : Result T BeginFailure) → p ≡ o
-    → IfErr result (IsNotBegun old new p) → IfErr result (λ e. e ≡ begins.Site full.SessionsFull → ⊥) → IfErr result (BeginsNone old new o)
-begins_none p o old new (Ok s) same refused room = tt
-begins_none p o old new (Err why) same refused room = (subst (λ q. IsNotBegun old new q why) same refused, room)
-
-pub no_memory : {S : Type 0} (o : Opening) (old : StoredState S) → BeginsNone old old o (begins.Site full.Memory)
-no_memory o old = ((refl, tt), λ is. absurd cc)
-
-pub not_begun_keeps : {S : Type 0} (view : S → View) (o : Opening) (old new : StoredState S) (why : BeginFailure) → BeginsNone old new o why
-    → Keeps view old new (not_begun why)
-not_begun_keeps view o old new (begins.Site w) h = same_site view old new h.0.0
-not_begun_keeps view o old new begins.NoNumber h = same_site view old new h.0.0
-not_begun_keeps view o old new (begins.Store w) h = h.0
-
-pub sign_in_not_begun : {S : Type 0} (view : S → View) (b : BeginSignIn) (words : List ℕ) (now : ℕ) (old new : StoredState S) (why : BeginFailure)
-    → BeginsNone old new (opens_sign_in b words) why → TellsSignInBegun view b words now old new (not_begun why)
-sign_in_not_begun view b words now old new (begins.Site w) h = (λ is. h.1 (ap begins.Site is), h.0.1)
-sign_in_not_begun view b words now old new begins.NoNumber h = h.0.1
-sign_in_not_begun view b words now old new (begins.Store w) h = tt
-
-pub registration_not_begun : {S : Type 0} (view : S → View) (b : BeginRegistration) (words : List ℕ) (now : ℕ) (old new : StoredState S)
-    (why : BeginFailure) → BeginsNone old new (opens_registration b words) why → TellsRegistrationBegun view b words now old new (not_begun why)
-registration_not_begun view b words now old new (begins.Site w) h = (λ is. h.1 (ap begins.Site is), h.0.1)
-registration_not_begun view b words now old new begins.NoNumber h = h.0.1
-registration_not_begun view b words now old new (begins.Store w) h = tt
+    → IfErr result (IsNotBegun old new p) → IfErr result (IsNotBegun old new o)
+begins_none p o old new (Ok s) same refused = tt
+begins_none p o old new (Err why) same refused = subst (λ q. IsNotBegun old new q why) same refused

@@ -1,18 +1,19 @@
 -- What is written nests no deeper than what is read.
 use Rattle.std.proofs.Common.{◌≡◌, ◌≤◌, ◌+◌, ◌==◌, ℕ, ℤ, Bool, true, false, List, [], ◌∷◌, length, map, Option, Some, None, String, Global, string_bytes, codes, if◌then◌else◌, sym, subst, arith}
 use Rattle.std.specs.Prelude.{option_and_then, option_map}
-use Rattle.serde_json.specs.Data.{Data, Members, depth, items_depth, member, members_depth, no_members, null, object, put, string}
+use Rattle.serde_json.specs.Data.{Data, Members, depth, items_depth, members_depth, no_members, null, object, put, string}
 use Rattle.serde_json.specs.Read.{max_depth}
 use Rattle.serde_json.specs.View.{items_of}
 use Rattle.cose.specs.declared.key.Alg.{Alg}
 use Rattle.site_stored.specs.declared.finish.SignedIn.{SignedIn}
 use Rattle.site_stored.specs.declared.registration.Registered.{Registered}
+use Rattle.site_stored.specs.declared.session.Begun.{Begun}
 use Rattle.site_state.specs.declared.row.Row.{Row}
 use Rattle.site_state.specs.Details.{Detail, detail_view}
 use Rattle.site_acts.specs.Options.{creation_options, descriptor, parameter, request_options}
 use Rattle.json_lines.proofs.Depths.{put_within}
 use Rattle.json_lines.specs.Written.{base64url, natural, number_or_null}
-use Rattle.site_lines.specs.Written.{Writes, aaguid_or_null, answered, begun, by_step, bytes_or_null, counts_from, flag_or_null, integer_or_null, registered, signed_in, status, step_name, whole_row, whole_rows, with_count}
+use Rattle.site_lines.specs.Written.{Writes, aaguid_or_null, begun, by_step, bytes_or_null, counts_from, flag_or_null, integer_or_null, registered, signed_in, status, step_name, whole_row, whole_rows, with_count}
 use Rattle.site_acts.specs.declared.act.BeginRegistration.{BeginRegistration}
 use Rattle.site_acts.specs.declared.act.BeginSignIn.{BeginSignIn}
 use Rattle.site_lines.specs.declared.answer.Answer.{Answer}
@@ -120,15 +121,15 @@ request_within rp_id challenge b ks = omega (arith, descriptors_within ks)
 
 -- ---- lines out
 
-begun_within : (id : Option ℕ) (session : ℕ) (options : Data) → depth options ≤ 4 → depth (begun id session options) ≤ 5
-begun_within id session options h = omega (arith, h, number_flat id)
+begun_within : (id : Option ℕ) (b : Begun) (options : Data) → depth options ≤ 4 → depth (begun id b options) ≤ 5
+begun_within id b options h = omega (arith, h, number_flat id)
 
 one : (d e : Data) (n : ℕ) → d ≡ e → depth e ≤ n → n ≤ max_depth → depth d ≤ max_depth
 one d e n is h below = subst (λ x. depth x ≤ max_depth) (sym is) (omega (arith, h, below))
 
 pub shallow : (t : Teller) (id : Option ℕ) (a : Answer) (d : Data) → Writes t id a d → depth d ≤ max_depth
-shallow t id (answers.RegistrationBegun started b known) d w = one d _ 5 w (begun_within id started.session (creation_options t.party.now.rp_id t.rp_name.now started.challenge b known.items) (creation_within t.party.now.rp_id t.rp_name.now started.challenge b known.items)) (omega arith)
-shallow t id (answers.SignInBegun started b known) d w = one d _ 5 w (begun_within id started.session (request_options t.party.now.rp_id started.challenge b known.items) (request_within t.party.now.rp_id started.challenge b known.items)) (omega arith)
+shallow t id (answers.RegistrationBegun x b known) d w = one d _ 5 w (begun_within id x (creation_options t.party.now.rp_id t.rp_name.now x.challenge b known.items) (creation_within t.party.now.rp_id t.rp_name.now x.challenge b known.items)) (omega arith)
+shallow t id (answers.SignInBegun x b known) d w = one d _ 5 w (begun_within id x (request_options t.party.now.rp_id x.challenge b known.items) (request_within t.party.now.rp_id x.challenge b known.items)) (omega arith)
 shallow t id (answers.Registered x) d w = one d _ 2 w (omega (arith, registered_flat x, number_flat id)) (omega arith)
 shallow t id (answers.SignedIn x) d w = one d _ 2 w (omega (arith, signed_flat x, number_flat id)) (omega arith)
 shallow t id (answers.Verify asked) d w = one d _ 2 w (omega (arith, number_flat id)) (omega arith)
@@ -137,7 +138,8 @@ shallow t id (answers.SignInRefused why credential) d w = one d _ 2 w.1 (omega (
 shallow t id (answers.Retired was) d w = one d _ 1 w (omega (arith, number_flat id)) (omega arith)
 shallow t id (answers.Deleted was) d w = one d _ 1 w (omega (arith, number_flat id)) (omega arith)
 shallow t id (answers.Abandoned was) d w = one d _ 1 w (omega (arith, number_flat id)) (omega arith)
-shallow t id (answers.Expired count) d w = one d _ 1 w (omega (arith, number_flat id)) (omega arith)
+shallow t id (answers.RetiredAll count) d w = one d _ 1 w (omega (arith, number_flat id)) (omega arith)
+shallow t id (answers.Erased count) d w = one d _ 1 w (omega (arith, number_flat id)) (omega arith)
 shallow t id (answers.Rows rows known) d w = one d _ 4 w (omega (arith, number_flat id, rows_within rows.items known.items)) (omega arith)
 shallow t id (answers.Status counts) d w = one d _ 3 w (omega (arith, number_flat id, status_within t.version.now t.tally.now counts)) (omega arith)
 shallow t id (answers.Backup path) d w = one d _ 1 w (omega (arith, number_flat id)) (omega arith)

@@ -1,5 +1,5 @@
 -- What lines tell and keep of credentials beside what verdicts ask for.
-use Rattle.std.specs.Prelude.{◌≡◌, ◌+◌, ◌⊎◌, ℕ, ℤ, pos, min, List, [], Option, Some, None, map, option_map, string_bytes, ⊤}
+use Rattle.std.specs.Prelude.{◌≡◌, ◌+◌, ◌⊎◌, ℕ, ℤ, pos, min, List, [], Option, Some, None, map, option_map, string_bytes}
 use Rattle.std.specs.FinMap as finite
 use Rattle.std.specs.List.{AllByRecursion}
 use Rattle.sqlite_trees.specs.View.{View, IsClean}
@@ -8,7 +8,7 @@ use Rattle.site_rows.specs.Held.{Placed}
 use Rattle.site_state.specs.Details.{Detail, detail_view, told}
 use Rattle.site_rows.specs.Details.{Details, HoldsDetails}
 use Rattle.site_stored.specs.State.{IsHeld, StoredState}
-use Rattle.site_stored.specs.Calls.{TellsDetail, TellsForgotten, TellsUsed}
+use Rattle.site_stored.specs.Calls.{TellsDetail, TellsForgotten, TellsAllForgotten, TellsUsed}
 use Rattle.site_acts.specs.Joined.{joined}
 use Rattle.site_acts.specs.declared.act.Act.{Act}
 use Rattle.site_acts.specs.declared.act.Act.TheVariants as acts
@@ -56,13 +56,18 @@ RegistersDetail view d old new _ = Unit {0}
 -- the detail of a credential that signs in tells this second
 abbrev pub UsesDetail : {S : Type 0} → (S → View) → ℕ → FinishSignIn → StoredState S → StoredState S → Answer → Type 0
 UsesDetail view now f old new (answers.SignedIn x) =
-    OfDetails view old new (λ placed details. TellsUsed placed f.response.credential.items (second now) details (view new.store).trees)
+    OfDetails view old new (λ placed details. TellsUsed placed f.response.credential.items (pos now) details (view new.store).trees)
 UsesDetail view now f old new _ = Unit {0}
 
 -- with a credential its detail is deleted
 abbrev pub ForgetsDetail : {S : Type 0} → (S → View) → List ℕ → StoredState S → StoredState S → Answer → Type 0
 ForgetsDetail view id old new (answers.Deleted was) = OfDetails view old new (λ placed details. TellsForgotten placed id was details (view new.store).trees)
 ForgetsDetail view id old new _ = Unit {0}
+
+-- with each credential of a user its detail is deleted
+abbrev pub ForgetsDetails : {S : Type 0} → (S → View) → List ℕ → StoredState S → StoredState S → Answer → Type 0
+ForgetsDetails view user old new (answers.Erased count) = OfDetails view old new (λ placed details. TellsAllForgotten placed user details (view new.store).trees)
+ForgetsDetails view user old new _ = Unit {0}
 
 -- the rows are told with what is known of each
 abbrev pub TellsRowDetails : {S : Type 0} → (S → View) → StoredState S → StoredState S → Answer → Type 0
@@ -71,11 +76,11 @@ TellsRowDetails view old new _ = Unit {0}
 
 -- the options tell what is known of the credentials that are named
 abbrev pub TellsAllowed : {S : Type 0} → (S → View) → BeginSignIn → StoredState S → StoredState S → Answer → Type 0
-TellsAllowed view b old new (answers.SignInBegun started asked known) = AreKnown view old new (map (λ id. id.items) b.allow.items) known.items
+TellsAllowed view b old new (answers.SignInBegun x asked known) = AreKnown view old new (map (λ id. id.items) b.allow.items) known.items
 TellsAllowed view b old new _ = Unit {0}
 
 abbrev pub TellsExcluded : {S : Type 0} → (S → View) → BeginRegistration → StoredState S → StoredState S → Answer → Type 0
-TellsExcluded view b old new (answers.RegistrationBegun started asked known) = AreKnown view old new (map (λ id. id.items) b.exclude.items) known.items
+TellsExcluded view b old new (answers.RegistrationBegun x asked known) = AreKnown view old new (map (λ id. id.items) b.exclude.items) known.items
 TellsExcluded view b old new _ = Unit {0}
 
 -- what the answer to an act says of details
@@ -85,5 +90,6 @@ TellsDetails view now (acts.FinishRegistration f) old new answer = RegistersDeta
 TellsDetails view now (acts.BeginSignIn b) old new answer = TellsAllowed view b old new answer
 TellsDetails view now (acts.FinishSignIn f) old new answer = UsesDetail view now f old new answer
 TellsDetails view now (acts.Delete id) old new answer = ForgetsDetail view id.items old new answer
+TellsDetails view now (acts.Erase user) old new answer = ForgetsDetails view user.items old new answer
 TellsDetails view now (acts.Rows user) old new answer = TellsRowDetails view old new answer
 TellsDetails view now _ old new answer = Unit {0}

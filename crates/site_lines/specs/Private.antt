@@ -1,6 +1,6 @@
 -- What private functions are proved against; no public clause cites it.
-use Rattle.std.specs.Prelude.{◌≡◌, ◌≤◌, ◌+◌, ◌^◌, ℕ, ⊤, List, [], ◌∷◌, Option, None, Some, Vec, map}
-use Rattle.serde_json.specs.Data.{Data, depth, string}
+use Rattle.std.specs.Prelude.{◌≡◌, ◌⊎◌, ◌≤◌, ◌+◌, ◌^◌, ℕ, ⊤, List, [], ◌∷◌, Option, None, Some, Vec, map}
+use Rattle.serde_json.specs.Data.{Data, string}
 use Rattle.sqlite_trees.specs.View.{View}
 use Rattle.authdata.specs.declared.profile.Profile.{Profile}
 use Rattle.authdata.specs.Responses.{assertion_response_view, registration_response_view}
@@ -8,10 +8,10 @@ use Rattle.verification.specs.declared.refusal.SignInRefusal.{SignInRefusal}
 use Rattle.verification.specs.declared.refusal.SignInRefusal.TheVariants as sign_in
 use Rattle.verification.specs.declared.refusal.RegistrationRefusal.{RegistrationRefusal}
 use Rattle.verification.specs.declared.refusal.RegistrationRefusal.TheVariants as register
-use Rattle.site_state.specs.Sessions.{IsRefused, Opening}
+use Rattle.site_state.specs.Sessions.{IsInput, Opening}
 use Rattle.site_state.specs.declared.error.BeginError.TheVariants as full
 use Rattle.site_stored.specs.State.{StoredState}
-use Rattle.site_stored.specs.Calls.{IsFailure, IsNotBegun, IsSame}
+use Rattle.site_stored.specs.Calls.{IsFailure, IsSame}
 use Rattle.site_lines.specs.declared.knowing.Unknown.{Unknown}
 use Rattle.site_lines.specs.declared.knowing.Unknown.TheVariants as unknowns
 use Rattle.site_stored.specs.declared.failure.Failure.{Failure}
@@ -38,15 +38,11 @@ not_begun (begins.Site why) = answers.NotBegun (none.Refused why)
 not_begun begins.NoNumber = answers.NotBegun none.NoNumber
 not_begun (begins.Store why) = answers.Failed why
 
--- why no session begins, however many are open
-abbrev pub BeginsNone : {S : Type 0} → StoredState S → StoredState S → Opening → BeginFailure → Type 0
-BeginsNone old new o why = IsNotBegun old new o why × (why ≡ begins.Site full.SessionsFull → ⊥)
-
 -- why no session begins, after a look at the credentials that are named
 abbrev pub IsNotBegunAfter : {S : Type 0} → (S → View) → StoredState S → StoredState S → Opening → BeginFailure → Type 0
 IsNotBegunAfter view old new o (begins.Site why) =
-    IsSame view old new × IsRefused old.rp.profile old.timed.open_sessions o why × (why ≡ full.SessionsFull → ⊥)
-IsNotBegunAfter view old new o begins.NoNumber = IsSame view old new × (2 ^ 63 ≤ old.timed.open_sessions.next + 1001)
+    IsSame view old new × (((why ≡ full.BadInput) × (IsInput old.rp.profile o → ⊥)) ⊎ (why ≡ full.Memory))
+IsNotBegunAfter view old new o begins.NoNumber = IsSame view old new × (2 ^ 63 ≤ old.next + 1001)
 IsNotBegunAfter view old new o (begins.Store why) = IsFailure old new why
 
 -- what is answered where a step refuses a sign-in: the step, a question, or want of memory

@@ -15,6 +15,7 @@ use Rattle.site_state.specs.RowViews.{row_view}
 use Rattle.site_state.specs.declared.row.Row.{Row}
 use Rattle.site_state.specs.Details.{detail_view}
 use Rattle.site_stored.specs.declared.finish.SignedIn.{SignedIn}
+use Rattle.site_stored.specs.declared.session.Begun.{Begun}
 use Rattle.site_stored.specs.declared.registration.Registered.{Registered}
 use Rattle.site_stored.specs.declared.summary.Summary.{Summary}
 use Rattle.site_acts.specs.Options.{creation_options, request_options}
@@ -144,9 +145,8 @@ status version t counts =
     (put (codes "last_commit_microseconds") (natural t.last_commit)
     (put (codes "commits") (natural t.commits)
     (put (codes "next_session") (natural counts.next_session)
-    (put (codes "sessions") (natural counts.sessions)
     (put (codes "credentials") (natural counts.credentials)
-    (put (codes "version") (string version) no_members)))))))))))
+    (put (codes "version") (string version) no_members))))))))))
 
 -- ---- lines out
 
@@ -158,16 +158,17 @@ answered id name d = object (put name d (member (codes "id") (number_or_null id)
 abbrev pub committed : Option ℕ → List ℕ → Data → ℕ → Data
 committed id name d known = object (put (codes "known") (natural known) (put name d (member (codes "id") (number_or_null id) no_members)))
 
--- a session that has begun, and the options for the page
-abbrev pub begun : Option ℕ → ℕ → Data → Data
-begun id session options =
-    object (member (codes "id") (number_or_null id) (member (codes "options") options (member (codes "session") (natural session) no_members)))
+-- a session that has begun: its number, for the log, the options for the page, and its text, by which it is finished
+abbrev pub begun : Option ℕ → Begun → Data → Data
+begun id b options =
+    object (member (codes "id") (number_or_null id) (member (codes "number") (natural b.session) (member (codes "options") options
+    (member (codes "session") (base64url b.text.items) no_members))))
 
 -- what is written of an answer; of a text that says why, some text
 abbrev pub Writes : Teller → Option ℕ → Answer → Data → Type 0
-Writes t id (answers.RegistrationBegun started b known) d =
-    d ≡ begun id started.session (creation_options t.party.now.rp_id t.rp_name.now started.challenge b known.items)
-Writes t id (answers.SignInBegun started b known) d = d ≡ begun id started.session (request_options t.party.now.rp_id started.challenge b known.items)
+Writes t id (answers.RegistrationBegun x b known) d =
+    d ≡ begun id x (creation_options t.party.now.rp_id t.rp_name.now x.challenge b known.items)
+Writes t id (answers.SignInBegun x b known) d = d ≡ begun id x (request_options t.party.now.rp_id x.challenge b known.items)
 Writes t id (answers.Registered x) d = d ≡ committed id (codes "accepted") (registered x) t.known
 Writes t id (answers.SignedIn x) d = d ≡ committed id (codes "accepted") (signed_in x) t.known
 Writes t id (answers.Verify asked) d = d ≡ answered id (codes "verify") (to_verify asked)
@@ -175,8 +176,9 @@ Writes t id (answers.RegistrationRefused why credential) d = (text : List ℕ) �
 Writes t id (answers.SignInRefused why credential) d = (text : List ℕ) × (d ≡ answered id (codes "refused") (step (codes "W") (sign_in_number why) text))
 Writes t id (answers.Retired was) d = d ≡ committed id (codes "retired") (boolean was) t.known
 Writes t id (answers.Deleted was) d = d ≡ committed id (codes "deleted") (boolean was) t.known
-Writes t id (answers.Abandoned was) d = d ≡ answered id (codes "abandoned") (boolean was)
-Writes t id (answers.Expired count) d = d ≡ answered id (codes "expired") (natural count)
+Writes t id (answers.RetiredAll count) d = d ≡ committed id (codes "retired_all") (natural count) t.known
+Writes t id (answers.Erased count) d = d ≡ committed id (codes "erased") (natural count) t.known
+Writes t id (answers.Abandoned was) d = d ≡ committed id (codes "abandoned") (boolean was) t.known
 Writes t id (answers.Rows rows known) d = d ≡ answered id (codes "rows") (array (items_of (whole_rows rows.items known.items)))
 Writes t id (answers.Status counts) d = d ≡ committed id (codes "status") (status t.version.now t.tally.now counts) t.known
 Writes t id (answers.Backup path) d = d ≡ answered id (codes "backup") (boolean true)

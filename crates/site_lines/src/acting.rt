@@ -3,13 +3,14 @@
 ghost use Rattle.std.specs.Prelude.{◌≡◌, ◌≤◌, IfErr, IfOk, None, OnOk, Some, false, map, option_map};
 ghost use Rattle.sqlite_trees.specs.Tree.{Trees};
 ghost use Rattle.sqlite_trees.specs.View.{IsClean};
-ghost use Rattle.site_state.specs.Table as table;
-ghost use Rattle.site_lines.specs.Answers.{Keeps, Tells, TellsAbandoned, TellsDeleted, TellsExpired, TellsRetired, TellsRows, TellsStatus};
-ghost use Rattle.site_lines.specs.Details.{AreKnown, ForgetsDetail, TellsDetails, TellsRowDetails};
-ghost use Rattle.site_lines.specs.Causes.{AreTooMany, FailsBy, FailsIn, FailsShut, IsCausedIn};
+ghost use Rattle.site_lines.specs.Answers.{Keeps, Tells, TellsAbandoned, TellsDeleted, TellsErased, TellsRetired, TellsRetiredAll, TellsRows, TellsStatus};
+ghost use Rattle.site_lines.specs.Details.{AreKnown, ForgetsDetail, ForgetsDetails, TellsDetails, TellsRowDetails};
+ghost use Rattle.site_lines.specs.Causes.{AreTooMany, FailsBy, FailsIn, FailsShut, IsCausedIn, RefusesRetire, RefusesRetireAll};
 ghost use Rattle.site_lines.specs.Private.{IfUnknown, IsUnknown, IsWithKnown, unknown as unknown_of};
 ghost use Rattle.site_stored.specs.Calls.{IsSame};
-ghost use Rattle.site_stored.specs.Causes.{IsDamaged, RefusesChange};
+ghost use Rattle.site_stored.specs.Causes.{IsDamaged, IsUnknownEnding, RefusesEnding};
+ghost use Rattle.site_stored.specs.Causes as stored;
+ghost use Rattle.site_stored.specs.State.{ended_session_tree, ended_user_tree};
 
 use crate::answer::{Answer, Counts};
 use crate::beginning::{begin_registration, begin_sign_in};
@@ -18,61 +19,80 @@ use crate::knowing::{Unknown, all_known};
 use json_lines::LineError;
 use site_acts::{Act, Known};
 use site_state::Row;
-use site_stored::{Failure, StoredSite};
+use site_stored::{Failure, SessionFailure, StoredSite};
 use sqlite_trees::store::Store;
 use std::alloc::{AllocError, Global};
 
 /// Retires the credential of an id.
-fn retire<S: Store>(site: &mut StoredSite<S>, credential: &[u8]) -> Answer
-    ensures told { TellsRetired S.Store.view credential.now site.old site.new result }
+fn retire<S: Store>(site: &mut StoredSite<S>, credential: &[u8], now: u64) -> Answer
+    ensures told { TellsRetired S.Store.view now credential.now site.old site.new result }
     ensures kept { Keeps S.Store.view site.old site.new result }
-    ensures cause { FailsBy S.Store.view S.Store.faults site.old site.new (RefusesChange (S.Store.view site.old.store) credential.now table.retired) (IsDamaged (S.Store.view site.old.store).trees) result }
+    ensures cause { FailsBy S.Store.view S.Store.faults site.old site.new (RefusesRetire (S.Store.view site.old.store) credential.now) (IsDamaged (S.Store.view site.old.store).trees) result }
     ensures counts { S.Store.faults site.old.store ≤ S.Store.faults site.new.store }
     ensures crash { (db : Trees) → S.Store.recovers site.new.store db → S.Store.recovers site.old.store db }
 {
-    match site.retire(credential) {
+    match site.retire(credential, now) {
         Ok(was) => Answer::Retired(was),
         Err(why) => Answer::Failed(why),
     }
 }
 
 /// Deletes the credential of an id.
-fn delete<S: Store>(site: &mut StoredSite<S>, credential: &[u8]) -> Answer
-    ensures told { TellsDeleted S.Store.view credential.now site.old site.new result }
+fn delete<S: Store>(site: &mut StoredSite<S>, credential: &[u8], now: u64) -> Answer
+    ensures told { TellsDeleted S.Store.view now credential.now site.old site.new result }
     ensures details { ForgetsDetail S.Store.view credential.now site.old site.new result }
     ensures kept { Keeps S.Store.view site.old site.new result }
-    ensures cause { FailsBy S.Store.view S.Store.faults site.old site.new ⊥ (IsDamaged (S.Store.view site.old.store).trees) result }
+    ensures cause { FailsBy S.Store.view S.Store.faults site.old site.new (RefusesEnding ended_user_tree (S.Store.view site.old.store)) (IsDamaged (S.Store.view site.old.store).trees) result }
     ensures counts { S.Store.faults site.old.store ≤ S.Store.faults site.new.store }
     ensures crash { (db : Trees) → S.Store.recovers site.new.store db → S.Store.recovers site.old.store db }
 {
-    match site.delete(credential) {
+    match site.delete(credential, now) {
         Ok(was) => Answer::Deleted(was),
         Err(why) => Answer::Failed(why),
     }
 }
 
-/// Closes the session of a number.
-fn abandon<S: Store>(site: &mut StoredSite<S>, session: u64) -> Answer
-    ensures told { TellsAbandoned session site.old site.new result }
+/// Retires each credential of a user.
+fn retire_all<S: Store>(site: &mut StoredSite<S>, user: &[u8], now: u64) -> Answer
+    ensures told { TellsRetiredAll S.Store.view now user.now site.old site.new result }
     ensures kept { Keeps S.Store.view site.old site.new result }
-    ensures cause { FailsShut result }
+    ensures cause { FailsBy S.Store.view S.Store.faults site.old site.new (RefusesRetireAll (S.Store.view site.old.store) user.now) (stored.AreTooMany user.now (S.Store.view site.old.store).trees) result }
     ensures counts { S.Store.faults site.old.store ≤ S.Store.faults site.new.store }
     ensures crash { (db : Trees) → S.Store.recovers site.new.store db → S.Store.recovers site.old.store db }
 {
-    Answer::Abandoned(site.abandon(session))
+    match site.retire_all(user, now) {
+        Ok(count) => Answer::RetiredAll(count),
+        Err(why) => Answer::Failed(why),
+    }
 }
 
-/// Ends the sessions that began more than this many seconds ago.
-fn expire<S: Store>(site: &mut StoredSite<S>, now: u64, age: u64) -> Answer
-    ensures told { TellsExpired age now site.old site.new result }
+/// Deletes each credential of a user.
+fn erase<S: Store>(site: &mut StoredSite<S>, user: &[u8], now: u64) -> Answer
+    ensures told { TellsErased S.Store.view now user.now site.old site.new result }
+    ensures details { ForgetsDetails S.Store.view user.now site.old site.new result }
     ensures kept { Keeps S.Store.view site.old site.new result }
-    ensures cause { FailsShut result }
+    ensures cause { FailsBy S.Store.view S.Store.faults site.old site.new (RefusesEnding ended_user_tree (S.Store.view site.old.store)) (stored.AreTooMany user.now (S.Store.view site.old.store).trees) result }
     ensures counts { S.Store.faults site.old.store ≤ S.Store.faults site.new.store }
     ensures crash { (db : Trees) → S.Store.recovers site.new.store db → S.Store.recovers site.old.store db }
 {
-    match site.expire(now.saturating_sub(age)) {
-        Ok(count) => Answer::Expired(count),
-        Err(_) => Answer::Error(LineError::Memory),
+    match site.erase(user, now) {
+        Ok(count) => Answer::Erased(count),
+        Err(why) => Answer::Failed(why),
+    }
+}
+
+/// Ends a session.
+fn abandon<S: Store>(site: &mut StoredSite<S>, session: &[u8], now: u64) -> Answer
+    ensures told { TellsAbandoned S.Store.view now session.now site.old site.new result }
+    ensures kept { Keeps S.Store.view site.old site.new result }
+    ensures cause { FailsBy S.Store.view S.Store.faults site.old site.new (RefusesEnding ended_session_tree (S.Store.view site.old.store)) (IsUnknownEnding ended_session_tree (S.Store.view site.old.store).trees) result }
+    ensures counts { S.Store.faults site.old.store ≤ S.Store.faults site.new.store }
+    ensures crash { (db : Trees) → S.Store.recovers site.new.store db → S.Store.recovers site.old.store db }
+{
+    match site.abandon(session, now) {
+        Ok(was) => Answer::Abandoned(was),
+        Err(SessionFailure::Memory) => Answer::Error(LineError::Memory),
+        Err(SessionFailure::Store(why)) => Answer::Failed(why),
     }
 }
 
@@ -187,7 +207,6 @@ fn status<S: Store>(site: &StoredSite<S>) -> Answer
 {
     Answer::Status(Counts {
         credentials: site.count(),
-        sessions: site.open_count(),
         next_session: site.next_session(),
     })
 }
@@ -218,10 +237,11 @@ pub fn carry_out<S: Store>(
         Act::FinishRegistration(finish) => finish_registration(alloc, site, now, finish),
         Act::BeginSignIn(begin) => begin_sign_in(alloc, site, words, now, begin),
         Act::FinishSignIn(finish) => finish_sign_in(alloc, site, now, finish),
-        Act::Retire(credential) => retire(site, credential.as_slice()),
-        Act::Delete(credential) => delete(site, credential.as_slice()),
-        Act::Abandon(session) => abandon(site, session),
-        Act::Expire(age) => expire(site, now, age),
+        Act::Retire(credential) => retire(site, credential.as_slice(), now),
+        Act::Delete(credential) => delete(site, credential.as_slice(), now),
+        Act::RetireAll(user) => retire_all(site, user.as_slice(), now),
+        Act::Erase(user) => erase(site, user.as_slice(), now),
+        Act::Abandon(session) => abandon(site, session.as_slice(), now),
         Act::Rows(user) => rows(alloc, site, user.as_deref()),
         Act::Status => status(site),
         Act::Backup(path) => Answer::Backup(path),

@@ -2,8 +2,8 @@
 
 use json_lines::LineError;
 use site_acts::{BeginRegistration, BeginSignIn, Known};
-use site_state::{BeginError, Row, Started};
-use site_stored::{Failure, Registered, SignedIn};
+use site_state::{BeginError, Row};
+use site_stored::{Begun, Failure, Registered, SignedIn};
 use verification::{RegistrationRefusal, SignInRefusal, VerifiedSignature};
 
 /// How many there are.
@@ -11,8 +11,6 @@ use verification::{RegistrationRefusal, SignInRefusal, VerifiedSignature};
 pub struct Counts {
     /// Credentials, retired ones too.
     pub credentials: u32,
-    /// Open sessions.
-    pub sessions: usize,
     /// The number that the next session will have.
     pub next_session: u64,
 }
@@ -32,9 +30,9 @@ pub enum NotBegun {
 #[derive(Debug, Drop)]
 pub enum Answer {
     /// A registration has begun, what it was asked for, and what is known of the credentials that the account has.
-    RegistrationBegun(Started, BeginRegistration, Vec<Known>),
+    RegistrationBegun(Begun, BeginRegistration, Vec<Known>),
     /// A sign-in has begun, what it was asked for, and what is known of the credentials that may answer.
-    SignInBegun(Started, BeginSignIn, Vec<Known>),
+    SignInBegun(Begun, BeginSignIn, Vec<Known>),
     /// A credential is registered.
     Registered(Registered),
     /// A user signed in.
@@ -49,10 +47,12 @@ pub enum Answer {
     Retired(bool),
     /// Whether the credential was there until now.
     Deleted(bool),
-    /// Whether the session is closed only now.
+    /// How many credentials of a user are retired only now.
+    RetiredAll(usize),
+    /// How many credentials of a user there were until now.
+    Erased(usize),
+    /// Whether the session was open until now.
     Abandoned(bool),
-    /// How many sessions ended by their age.
-    Expired(usize),
     /// The credentials of a user, or all, and what is known of each.
     Rows(Vec<Row>, Vec<Known>),
     /// How many there are.

@@ -3,26 +3,26 @@
 ghost use Rattle.std.specs.Prelude.{◌≡◌, ◌≤◌, IfErr, IfOk, OnOk, false, map};
 ghost use Rattle.sqlite_trees.specs.Tree.{Trees};
 ghost use Rattle.sqlite_trees.specs.View.{IsClean};
-ghost use Rattle.site_stored.specs.Calls.{IsSame};
+ghost use Rattle.site_stored.specs.Calls.{IsNotBegun, IsSame};
 ghost use Rattle.site_stored.specs.Causes.{IfBeginStore, IsDamaged};
 ghost use Rattle.site_state.specs.Sessions.{Opening};
 ghost use Rattle.site_lines.specs.Answers.{Begins, Keeps, TellsRegistrationBegun, TellsSignInBegun, opens_registration, opens_sign_in};
 ghost use Rattle.site_lines.specs.Causes.{FailsBy, IsCausedIn, RefusesBegin};
 ghost use Rattle.site_lines.specs.Details.{AreKnown, TellsAllowed, TellsExcluded};
-ghost use Rattle.site_lines.specs.Private.{BeginsNone, IsNotBegunAfter, not_begun as not_begun_of};
+ghost use Rattle.site_lines.specs.Private.{IsNotBegunAfter, not_begun as not_begun_of};
 
 use crate::answer::{Answer, NotBegun};
 use crate::knowing::{Unknown, all_known};
 use site_acts::{BeginRegistration, BeginSignIn, Known};
-use site_state::{BeginError, Started};
-use site_stored::{BeginFailure, StoredSite};
+use site_state::BeginError;
+use site_stored::{BeginFailure, Begun, StoredSite};
 use sqlite_trees::store::Store;
 use std::alloc::{AllocError, Global};
 
 /// A session that has begun, and what is known of the credentials that are named.
 #[derive(Drop)]
-struct Begun {
-    started: Started,
+struct BegunWith {
+    begun: Begun,
     known: Vec<Known>,
 }
 
@@ -69,10 +69,10 @@ fn started_sign_in<S: Store>(
     words: [u8; 24],
     now: u64,
     begin: &BeginSignIn,
-) -> Result<Started, BeginFailure>
+) -> Result<Begun, BeginFailure>
     ensures begun { IfOk result (λ s.
-        Begins S.Store.view (opens_sign_in begin.now words) words now s.session s.challenge site.old site.new) }
-    ensures refused { IfErr result (BeginsNone site.old site.new (opens_sign_in begin.now words)) }
+        Begins S.Store.view (opens_sign_in begin.now words) words now s site.old site.new) }
+    ensures refused { IfErr result (IsNotBegun site.old site.new (opens_sign_in begin.now words)) }
     ensures clean { IsClean (S.Store.view site.new.store) → IsClean (S.Store.view site.old.store) }
     ensures cause { IsClean (S.Store.view site.new.store) → IfErr result (IfBeginStore (IsCausedIn S.Store.view S.Store.faults site.old site.new (RefusesBegin (S.Store.view site.old.store) site.old) ⊥)) }
     ensures counts { S.Store.faults site.old.store ≤ S.Store.faults site.new.store }
@@ -109,10 +109,10 @@ fn known_sign_in<S: Store>(
     words: [u8; 24],
     now: u64,
     begin: &BeginSignIn,
-) -> Result<Begun, BeginFailure>
+) -> Result<BegunWith, BeginFailure>
     requires live { site.old.is_shut ≡ false }
     ensures begun { IfOk result (λ b.
-        Begins S.Store.view (opens_sign_in begin.now words) words now b.started.session b.started.challenge site.old site.new) }
+        Begins S.Store.view (opens_sign_in begin.now words) words now b.begun site.old site.new) }
     ensures known { IfOk result (λ b. AreKnown S.Store.view site.old site.new (map (λ id. id.items) begin.now.allow.items) b.known.items) }
     ensures refused { IfErr result (IsNotBegunAfter S.Store.view site.old site.new (opens_sign_in begin.now words)) }
     ensures cause { IsClean (S.Store.view site.new.store) → IfErr result (IfBeginStore (IsCausedIn S.Store.view S.Store.faults site.old site.new (RefusesBegin (S.Store.view site.old.store) site.old) (IsDamaged (S.Store.view site.old.store).trees))) }
@@ -124,7 +124,7 @@ fn known_sign_in<S: Store>(
         Err(why) => return Err(why),
     };
     match started_sign_in(alloc, site, words, now, begin) {
-        Ok(started) => Ok(Begun { started, known }),
+        Ok(begun) => Ok(BegunWith { begun, known }),
         Err(why) => Err(why),
     }
 }
@@ -147,7 +147,7 @@ pub(crate) fn begin_sign_in<S: Store>(
     ensures crash { (db : Trees) → S.Store.recovers site.new.store db → S.Store.recovers site.old.store db }
 {
     match known_sign_in(alloc, site, words, now, &begin) {
-        Ok(begun) => Answer::SignInBegun(begun.started, begin, begun.known),
+        Ok(named) => Answer::SignInBegun(named.begun, begin, named.known),
         Err(why) => not_begun(why),
     }
 }
@@ -158,16 +158,16 @@ fn started_registration<S: Store>(
     words: [u8; 24],
     now: u64,
     begin: &BeginRegistration,
-) -> Result<Started, BeginFailure>
+) -> Result<Begun, BeginFailure>
     ensures begun { IfOk result (λ s.
-        Begins S.Store.view (opens_registration begin.now words) words now s.session s.challenge site.old site.new) }
-    ensures refused { IfErr result (BeginsNone site.old site.new (opens_registration begin.now words)) }
+        Begins S.Store.view (opens_registration begin.now words) words now s site.old site.new) }
+    ensures refused { IfErr result (IsNotBegun site.old site.new (opens_registration begin.now words)) }
     ensures clean { IsClean (S.Store.view site.new.store) → IsClean (S.Store.view site.old.store) }
     ensures cause { IsClean (S.Store.view site.new.store) → IfErr result (IfBeginStore (IsCausedIn S.Store.view S.Store.faults site.old site.new (RefusesBegin (S.Store.view site.old.store) site.old) ⊥)) }
     ensures counts { S.Store.faults site.old.store ≤ S.Store.faults site.new.store }
     ensures crash { (db : Trees) → S.Store.recovers site.new.store db → S.Store.recovers site.old.store db }
 {
-    site.begin_registration_for(
+    site.begin_registration(
         begin.user.as_slice(),
         begin.algorithms.as_slice(),
         begin.user_verification,
@@ -185,10 +185,10 @@ fn known_registration<S: Store>(
     words: [u8; 24],
     now: u64,
     begin: &BeginRegistration,
-) -> Result<Begun, BeginFailure>
+) -> Result<BegunWith, BeginFailure>
     requires live { site.old.is_shut ≡ false }
     ensures begun { IfOk result (λ b.
-        Begins S.Store.view (opens_registration begin.now words) words now b.started.session b.started.challenge site.old site.new) }
+        Begins S.Store.view (opens_registration begin.now words) words now b.begun site.old site.new) }
     ensures known { IfOk result (λ b. AreKnown S.Store.view site.old site.new (map (λ id. id.items) begin.now.exclude.items) b.known.items) }
     ensures refused { IfErr result (IsNotBegunAfter S.Store.view site.old site.new (opens_registration begin.now words)) }
     ensures cause { IsClean (S.Store.view site.new.store) → IfErr result (IfBeginStore (IsCausedIn S.Store.view S.Store.faults site.old site.new (RefusesBegin (S.Store.view site.old.store) site.old) (IsDamaged (S.Store.view site.old.store).trees))) }
@@ -200,7 +200,7 @@ fn known_registration<S: Store>(
         Err(why) => return Err(why),
     };
     match started_registration(site, words, now, begin) {
-        Ok(started) => Ok(Begun { started, known }),
+        Ok(begun) => Ok(BegunWith { begun, known }),
         Err(why) => Err(why),
     }
 }
@@ -223,7 +223,7 @@ pub(crate) fn begin_registration<S: Store>(
     ensures crash { (db : Trees) → S.Store.recovers site.new.store db → S.Store.recovers site.old.store db }
 {
     match known_registration(alloc, site, words, now, &begin) {
-        Ok(begun) => Answer::RegistrationBegun(begun.started, begin, begun.known),
+        Ok(named) => Answer::RegistrationBegun(named.begun, begin, named.known),
         Err(why) => not_begun(why),
     }
 }

@@ -1,20 +1,21 @@
 //! Finishing a ceremony.
 
-ghost use Rattle.std.specs.Prelude.{◌≡◌, ◌≤◌, false};
+ghost use Rattle.std.specs.Prelude.{◌≡◌, ◌⊎◌, ◌≤◌, false, pos};
 ghost use Rattle.sqlite_trees.specs.Tree.{Trees};
 ghost use Rattle.sqlite_trees.specs.View.{IsClean};
-ghost use Rattle.site_stored.specs.Causes.{IsDamaged, RefusesRegistered, RefusesSignedIn};
+ghost use Rattle.site_stored.specs.Causes.{AreUnknownEndings, IsDamaged, IsUnknownEnding, RefusesEnding, RefusesRegistered, RefusesSignedIn};
+ghost use Rattle.site_stored.specs.State.{ended_session_tree};
 ghost use Rattle.authdata.specs.Responses.{assertion_response_view};
 ghost use Rattle.site_lines.specs.Named.{named_response};
 ghost use Rattle.verification.specs.Views.{assertion_parts_view, registration_parts_view};
 ghost use Rattle.site_lines.specs.Answers.{Keeps, TellsRegistration, TellsSignIn};
 ghost use Rattle.site_state.specs.Details.{detail_view};
 ghost use Rattle.site_lines.specs.Causes.{FailsBy, RefusesFinish};
-ghost use Rattle.site_lines.specs.Details.{RegistersDetail, UsesDetail, new_detail, second as second_of};
+ghost use Rattle.site_lines.specs.Details.{RegistersDetail, UsesDetail, new_detail};
 ghost use Rattle.site_lines.specs.Private.{IsRefusedRegistration, IsRefusedSignIn};
 
 use crate::answer::Answer;
-use crate::knowing::{detail_of, second};
+use crate::knowing::detail_of;
 use authdata::{AssertionResponse, Profile};
 use json_lines::LineError;
 use site_acts::{FinishRegistration, FinishSignIn, registration_asks, sign_in_asks};
@@ -106,16 +107,16 @@ pub(crate) fn finish_sign_in<S: Store>(
     finish: FinishSignIn,
 ) -> Answer
     requires live { site.old.is_shut ≡ false }
-    ensures told { TellsSignIn S.Store.view finish site.old site.new result }
+    ensures told { TellsSignIn S.Store.view finish now site.old site.new result }
     ensures details { UsesDetail S.Store.view now finish site.old site.new result }
     ensures kept { Keeps S.Store.view site.old site.new result }
-    ensures cause { FailsBy S.Store.view S.Store.faults site.old site.new (RefusesSignedIn (S.Store.view site.old.store) site.old.rp.profile (assertion_response_view finish.response) (second_of now)) (IsDamaged (S.Store.view site.old.store).trees) result }
+    ensures cause { FailsBy S.Store.view S.Store.faults site.old site.new (RefusesSignedIn (S.Store.view site.old.store) site.old.rp.profile (assertion_response_view finish.response) (pos now) ⊎ RefusesEnding ended_session_tree (S.Store.view site.old.store)) (IsDamaged (S.Store.view site.old.store).trees ⊎ IsUnknownEnding ended_session_tree (S.Store.view site.old.store).trees) result }
     ensures counts { S.Store.faults site.old.store ≤ S.Store.faults site.new.store }
     ensures crash { (db : Trees) → S.Store.recovers site.new.store db → S.Store.recovers site.old.store db }
 {
     let parts = assertion_parts(&finish.response);
     let verifier = finish.verified.verifier();
-    match site.finish_parts(&verifier, finish.session, &parts, second(now)) {
+    match site.finish_parts(&verifier, finish.session.as_slice(), &parts, now) {
         Ok(signed_in) => Answer::SignedIn(signed_in),
         Err(FinishFailure::Site(VerificationError::Refused(step))) => {
             refused_sign_in(alloc, site, step, finish)
@@ -129,20 +130,27 @@ pub(crate) fn finish_sign_in<S: Store>(
 fn finish_with<S: Store>(
     alloc: Global,
     site: &mut StoredSite<S>,
+    now: u64,
     finish: FinishRegistration,
     detail: Detail,
 ) -> Answer
     requires live { site.old.is_shut ≡ false }
-    ensures told { TellsRegistration S.Store.view finish site.old site.new result }
+    ensures told { TellsRegistration S.Store.view finish now site.old site.new result }
     ensures details { RegistersDetail S.Store.view (detail_view detail) site.old site.new result }
     ensures kept { Keeps S.Store.view site.old site.new result }
-    ensures cause { FailsBy S.Store.view S.Store.faults site.old site.new (RefusesRegistered (S.Store.view site.old.store) site.old finish.session (named_response finish) (detail_view detail)) (IsDamaged (S.Store.view site.old.store).trees) result }
+    ensures cause { FailsBy S.Store.view S.Store.faults site.old site.new (RefusesRegistered (S.Store.view site.old.store) site.old (named_response finish) (detail_view detail) ⊎ RefusesEnding ended_session_tree (S.Store.view site.old.store)) (IsDamaged (S.Store.view site.old.store).trees ⊎ AreUnknownEndings (S.Store.view site.old.store).trees) result }
     ensures counts { S.Store.faults site.old.store ≤ S.Store.faults site.new.store }
     ensures crash { (db : Trees) → S.Store.recovers site.new.store db → S.Store.recovers site.old.store db }
 {
     let parts = registration_parts(&finish);
     let verifier = finish.verified.verifier();
-    match site.finish_registration_parts(&verifier, finish.session, &parts, detail) {
+    match site.finish_registration_parts(
+        &verifier,
+        finish.session.as_slice(),
+        &parts,
+        detail,
+        now,
+    ) {
         Ok(registered) => Answer::Registered(registered),
         Err(FinishFailure::Site(VerificationError::Refused(step))) => {
             refused_registration(alloc, site.party().profile(), step, finish)
@@ -161,15 +169,15 @@ pub(crate) fn finish_registration<S: Store>(
     finish: FinishRegistration,
 ) -> Answer
     requires live { site.old.is_shut ≡ false }
-    ensures told { TellsRegistration S.Store.view finish site.old site.new result }
+    ensures told { TellsRegistration S.Store.view finish now site.old site.new result }
     ensures details { RegistersDetail S.Store.view (new_detail now finish) site.old site.new result }
     ensures kept { Keeps S.Store.view site.old site.new result }
-    ensures cause { FailsBy S.Store.view S.Store.faults site.old site.new (RefusesFinish (S.Store.view site.old.store) site.old now finish) (IsDamaged (S.Store.view site.old.store).trees) result }
+    ensures cause { FailsBy S.Store.view S.Store.faults site.old site.new (RefusesFinish (S.Store.view site.old.store) site.old now finish) (IsDamaged (S.Store.view site.old.store).trees ⊎ AreUnknownEndings (S.Store.view site.old.store).trees) result }
     ensures counts { S.Store.faults site.old.store ≤ S.Store.faults site.new.store }
     ensures crash { (db : Trees) → S.Store.recovers site.new.store db → S.Store.recovers site.old.store db }
 {
     match detail_of(alloc, now, &finish) {
-        Ok(detail) => finish_with(alloc, site, finish, detail),
+        Ok(detail) => finish_with(alloc, site, now, finish, detail),
         Err(_) => Answer::Error(LineError::Memory),
     }
 }

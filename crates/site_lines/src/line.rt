@@ -14,7 +14,7 @@ use crate::answer::Answer;
 use crate::tally::Tally;
 use json_lines::LineFault;
 use site_acts::{Act, Line, read_line};
-use site_stored::{Failure, StoredSite};
+use site_stored::{Failure, StoredSite, number_in};
 use sqlite_trees::store::Store;
 use std::alloc::{AllocError, Global};
 use std::io;
@@ -40,12 +40,12 @@ pub struct Answered {
     pub answer: Answer,
 }
 
-/// The session that an act names.
+/// The number of the session that an act names, as the session's text has it. It is logged, and judged by nothing.
 fn named_session(act: &Act) -> Option<u64> {
     match act {
-        Act::FinishRegistration(finish) => Some(finish.session),
-        Act::FinishSignIn(finish) => Some(finish.session),
-        Act::Abandon(session) => Some(*session),
+        Act::FinishRegistration(finish) => number_in(finish.session.as_slice()),
+        Act::FinishSignIn(finish) => number_in(finish.session.as_slice()),
+        Act::Abandon(session) => number_in(session.as_slice()),
         _ => None,
     }
 }
@@ -53,8 +53,9 @@ fn named_session(act: &Act) -> Option<u64> {
 /// The session that an answer begins, or else the one that its line names.
 fn session_of(named: Option<u64>, answer: &Answer) -> Option<u64> {
     match answer {
-        Answer::RegistrationBegun(started, ..) => Some(started.session),
-        Answer::SignInBegun(started, ..) => Some(started.session),
+        Answer::RegistrationBegun(begun, ..) | Answer::SignInBegun(begun, ..) => {
+            Some(begun.session)
+        }
         _ => named,
     }
 }

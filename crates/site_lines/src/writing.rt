@@ -5,16 +5,17 @@ ghost use Rattle.serde_json.specs.Data.{Data, no_members, object};
 ghost use Rattle.serde_json.specs.View.{members_view, view};
 ghost use Rattle.verification.specs.Numbers.{registration_number, sign_in_number};
 ghost use Rattle.json_lines.specs.Written.{IsTextOf};
-ghost use Rattle.site_lines.specs.Written.{Writes, answered as answered_of, committed as committed_of, begun, by_step, status as status_of, with_count};
+ghost use Rattle.site_lines.specs.Written.{Writes, answered as answered_of, committed as committed_of, begun as begun_of, by_step, status as status_of, with_count};
 ghost use Rattle.site_lines.specs.Private.{IsOther, IsStep, IsText, SaysWhy};
 
 use crate::answer::{Answer, Counts};
 use crate::line::Answered;
 use crate::tally::Tally;
 use crate::values::{registered, rows, signed_in, verify};
-use json_lines::{number_or_null, write_line};
+use json_lines::{base64_text, number_or_null, write_line};
 use serde_json::{Map, Value, json, put};
 use site_acts::{creation_options, request_options};
+use site_stored::Begun;
 use std::alloc::{AllocError, Global};
 use std::fmt::Display;
 use verification::{RegistrationRefusal, RelyingParty, SignInRefusal};
@@ -133,7 +134,6 @@ fn put_status(
 {
     put(out, alloc, "version", Value::try_from_str(alloc, version)?)?;
     put(out, alloc, "credentials", Value::from(counts.credentials))?;
-    put(out, alloc, "sessions", Value::from(counts.sessions))?;
     put(out, alloc, "next_session", Value::from(counts.next_session))?;
     put(out, alloc, "commits", Value::from(tally.commits))?;
     put(
@@ -206,8 +206,13 @@ fn other_value(
     match answer {
         Answer::Retired(was) => committed(alloc, id, "retired", Value::Bool(*was), teller.known),
         Answer::Deleted(was) => committed(alloc, id, "deleted", Value::Bool(*was), teller.known),
-        Answer::Abandoned(was) => answered(alloc, id, "abandoned", Value::Bool(*was)),
-        Answer::Expired(count) => answered(alloc, id, "expired", Value::from(*count)),
+        Answer::RetiredAll(count) => {
+            committed(alloc, id, "retired_all", Value::from(*count), teller.known)
+        }
+        Answer::Erased(count) => committed(alloc, id, "erased", Value::from(*count), teller.known),
+        Answer::Abandoned(was) => {
+            committed(alloc, id, "abandoned", Value::Bool(*was), teller.known)
+        }
         Answer::Rows(list, known) => {
             let rows = rows(alloc, list.as_slice(), known.as_slice())?;
             answered(alloc, id, "rows", rows)
@@ -232,13 +237,14 @@ fn other_value(
 fn begun_value(
     alloc: Global,
     id: Option<u64>,
-    session: u64,
+    begun: &Begun,
     options: Value,
 ) -> Result<Value, AllocError>
-    ensures { IfOk result (λ v. view v ≡ begun id session (view options)) }
+    ensures { IfOk result (λ v. view v ≡ begun_of id begun.now (view options)) }
 {
-    let id = number_or_null(id);
-    json!(in alloc; {"session": session, "options": options, "id": id})
+    let (id, number) = (number_or_null(id), begun.session);
+    let session = base64_text(alloc, begun.text.as_slice())?;
+    json!(in alloc; {"session": session, "number": number, "options": options, "id": id})
 }
 
 /// The object of an answer to a ceremony's line.
@@ -252,14 +258,14 @@ fn ceremony_value(
 {
     let party = teller.party;
     match answer {
-        Answer::RegistrationBegun(started, begin, known) => {
+        Answer::RegistrationBegun(begun, begin, known) => {
             let (rp_id, rp_name) = (party.rp_id(), teller.rp_name);
-            let options = creation_options(alloc, rp_id, rp_name, started, begin, known)?;
-            begun_value(alloc, id, started.session, options)
+            let options = creation_options(alloc, rp_id, rp_name, &begun.challenge, begin, known)?;
+            begun_value(alloc, id, begun, options)
         }
-        Answer::SignInBegun(started, begin, known) => {
-            let options = request_options(alloc, party.rp_id(), started, begin, known)?;
-            begun_value(alloc, id, started.session, options)
+        Answer::SignInBegun(begun, begin, known) => {
+            let options = request_options(alloc, party.rp_id(), &begun.challenge, begin, known)?;
+            begun_value(alloc, id, begun, options)
         }
         Answer::Registered(told) => {
             let row = registered(alloc, told)?;

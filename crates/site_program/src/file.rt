@@ -6,6 +6,8 @@ use crate::party::check_party;
 use site_files::{FileError, FileSite, Unknown, create, open};
 use site_stored::{Bounds, Opening};
 use std::alloc::Global;
+use std::fs::File;
+use std::io::Read;
 use verification::RelyingParty;
 
 /// The relying party.
@@ -25,9 +27,16 @@ fn party(alloc: Global, options: &Options<'_>) -> Result<RelyingParty, Fault> {
 /// How much the site may have.
 fn bounds(options: &Options<'_>) -> Bounds {
     Bounds {
-        open_sessions: options.max_open,
+        lifetime: u64::from(options.expire),
         credentials: options.max_credentials,
     }
+}
+
+/// 32 random bytes of the system, for the key of a new file.
+fn random_key(rt: &HostRuntime) -> Result<[u8; 32], Fault> {
+    let mut key = [0; 32];
+    File::open(rt, "/dev/urandom")?.read_exact(&mut key)?;
+    Ok(key)
 }
 
 /// Makes the site's file.
@@ -41,6 +50,7 @@ fn made(rt: &HostRuntime, options: &Options<'_>) -> Result<FileSite<Unknown>, Fa
         bounds(options),
         !options.has_no_sums,
         options.is_wary,
+        random_key(rt)?,
         Unknown,
     );
     made.map_err(Fault::File)
@@ -54,7 +64,8 @@ fn opened(rt: &HostRuntime, options: &Options<'_>) -> Result<FileSite<Unknown>, 
         bounds: bounds(options),
         at_least: options.at_least,
     };
-    let opened = open(rt, options.file, opening, options.is_wary, Unknown);
+    let key = random_key(rt)?;
+    let opened = open(rt, options.file, opening, &key, options.is_wary, Unknown);
     opened.map_err(Fault::File)
 }
 

@@ -16,11 +16,9 @@ static PROFILES: [&str; 3] = ["level3", "open", "strict"];
 static ATTESTATIONS: [&str; 3] = ["any", "none", "self"];
 
 /// What is told where a value is no number that it may be.
-const BAD_MAX_OPEN: &str = "the value of --max-open is no number from 1 to 1000000\n";
-
 const BAD_MAX_CREDENTIALS: &str = "the value of --max-credentials is no number from 1 to 1000000\n";
 
-const BAD_EXPIRE: &str = "the value of --expire is no number of seconds\n";
+const BAD_EXPIRE: &str = "the value of --expire is no number of seconds from 1 to 1000000\n";
 
 const BAD_AT_LEAST: &str = "the value of --at-least is no number\n";
 
@@ -56,8 +54,6 @@ pub(crate) struct Options<'a> {
     pub profile: Profile,
     /// Which attestations it accepts.
     pub policy: Policy,
-    /// The most sessions that stay open.
-    pub max_open: u32,
     /// The most credentials.
     pub max_credentials: u32,
     /// Whether the file must not be there yet.
@@ -73,7 +69,7 @@ pub(crate) struct Options<'a> {
     /// What is told on standard error, if anything.
     pub log: Option<Log>,
     /// After how many seconds an open session ends by itself.
-    pub expire: u64,
+    pub expire: u32,
 }
 
 /// An option with a value.
@@ -153,12 +149,6 @@ fn bound_options<'a>(alloc: Global, help: &'a str) -> Result<Command<'a>, AllocE
     policy_options(alloc, help)?
         .arg(option(
             alloc,
-            "max-open",
-            "N",
-            "The most open sessions, up to 1000000: where more begin the oldest ends; 100000",
-        ))?
-        .arg(option(
-            alloc,
             "max-credentials",
             "N",
             "The most credentials, up to 1000000; 1000000",
@@ -167,7 +157,7 @@ fn bound_options<'a>(alloc: Global, help: &'a str) -> Result<Command<'a>, AllocE
             alloc,
             "expire",
             "SECONDS",
-            "After how long a session ends by itself; 300",
+            "After how long a session ends by itself, up to 1000000; 300",
         ))
 }
 
@@ -295,31 +285,26 @@ fn bound(word: Option<&str>, absent: u64) -> Option<u32>
 /// The numbers of the options.
 #[derive(Clone, Copy, Drop)]
 struct Numbers {
-    max_open: u32,
     max_credentials: u32,
-    expire: u64,
+    expire: u32,
     at_least: u64,
 }
 
 /// The numbers that were read; or what is told of the first that is no number, or out of its bounds.
 fn numbers_of(matches: &ArgMatches<'_>) -> Result<Numbers, &'static str>
     ensures within { IfOk result (λ n.
-        ((1 ≤ n.max_open) × (n.max_open ≤ 1000000)) × ((1 ≤ n.max_credentials) × (n.max_credentials ≤ 1000000))) }
+        ((1 ≤ n.expire) × (n.expire ≤ 1000000)) × ((1 ≤ n.max_credentials) × (n.max_credentials ≤ 1000000))) }
 {
-    let Some(max_open) = bound(matches.get_str("max-open"), 100_000) else {
-        return Err(BAD_MAX_OPEN);
-    };
     let Some(max_credentials) = bound(matches.get_str("max-credentials"), 1_000_000) else {
         return Err(BAD_MAX_CREDENTIALS);
     };
-    let Some(expire) = number(matches.get_str("expire"), 300) else {
+    let Some(expire) = bound(matches.get_str("expire"), 300) else {
         return Err(BAD_EXPIRE);
     };
     let Some(at_least) = number(matches.get_str("at-least"), 0) else {
         return Err(BAD_AT_LEAST);
     };
     Ok(Numbers {
-        max_open,
         max_credentials,
         expire,
         at_least,
@@ -335,7 +320,7 @@ fn options_with<'a>(
     top_origins: Vec<&'a str>,
     numbers: Numbers,
 ) -> Options<'a>
-    ensures { (result.max_open ≡ numbers.max_open) × (result.max_credentials ≡ numbers.max_credentials) }
+    ensures { (result.expire ≡ numbers.expire) × (result.max_credentials ≡ numbers.max_credentials) }
 {
     Options {
         file,
@@ -345,7 +330,6 @@ fn options_with<'a>(
         top_origins,
         profile: profile_named(matches.get_str("profile")),
         policy: policy_named(matches.get_str("attestation")),
-        max_open: numbers.max_open,
         max_credentials: numbers.max_credentials,
         is_new: matches.get_flag("new"),
         is_existing: matches.get_flag("existing") || 0 < numbers.at_least,
@@ -363,7 +347,7 @@ fn options_of<'a>(
     matches: &ArgMatches<'a>,
 ) -> Result<Result<Options<'a>, &'static str>, AllocError>
     ensures within { IfOk result (λ found. IfOk found (λ o.
-        ((1 ≤ o.max_open) × (o.max_open ≤ 1000000)) × ((1 ≤ o.max_credentials) × (o.max_credentials ≤ 1000000)))) }
+        ((1 ≤ o.expire) × (o.expire ≤ 1000000)) × ((1 ≤ o.max_credentials) × (o.max_credentials ≤ 1000000)))) }
 {
     let Some(file) = matches.get_str("FILE") else {
         return Ok(Err(MISSING));
@@ -409,7 +393,7 @@ fn options_or_told<'a>(
     matches: &ArgMatches<'a>,
 ) -> Result<Result<Options<'a>, Told>, AllocError>
     ensures within { IfOk result (λ found. IfOk found (λ o.
-        ((1 ≤ o.max_open) × (o.max_open ≤ 1000000)) × ((1 ≤ o.max_credentials) × (o.max_credentials ≤ 1000000)))) }
+        ((1 ≤ o.expire) × (o.expire ≤ 1000000)) × ((1 ≤ o.max_credentials) × (o.max_credentials ≤ 1000000)))) }
 {
     match options_of(alloc, matches)? {
         Ok(options) => Ok(Ok(options)),
@@ -427,7 +411,7 @@ pub(crate) fn asked_for<'a>(
     arguments: &'a [&'a str],
 ) -> Result<Result<Options<'a>, Told>, AllocError>
     ensures within { IfOk result (λ found. IfOk found (λ o.
-        ((1 ≤ o.max_open) × (o.max_open ≤ 1000000)) × ((1 ≤ o.max_credentials) × (o.max_credentials ≤ 1000000)))) }
+        ((1 ≤ o.expire) × (o.expire ≤ 1000000)) × ((1 ≤ o.max_credentials) × (o.max_credentials ≤ 1000000)))) }
 {
     match command_line(alloc, help, arguments) {
         Ok(matches) => options_or_told(alloc, &matches),

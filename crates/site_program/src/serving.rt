@@ -99,8 +99,7 @@ fn answer<S: Start>(
     Ok(())
 }
 
-/// Answers the lines of an input until its end, those that have come together at once. Once a second the sessions that are
-/// too old end before that.
+/// Answers the lines of an input until its end, those that have come together at once.
 fn serve_lines<S: Start, R: Read, W: Read>(
     rt: &HostRuntime,
     options: &Options<'_>,
@@ -109,17 +108,14 @@ fn serve_lines<S: Start, R: Read, W: Read>(
     random: &mut W,
 ) -> Result<(), Fault> {
     let mut tally = Tally::new();
-    let mut last = 0;
+    let mut now = 0;
     for _ in 0..u64::MAX {
         let arrived = take_lines(rt.alloc(), reader, random)?;
         if arrived.is_empty() {
             break;
         }
-        let now = seconds(rt)?;
-        // Where there is no memory for it, it is done before the next lines.
-        if now != last && site.expire(now.saturating_sub(options.expire)).is_ok() {
-            last = now;
-        }
+        // A clock that is set back doesn't open again what has ended.
+        now = u64::max(now, seconds(rt)?);
         answer(rt, options, site, &mut tally, now, arrived.as_slice())?;
     }
     Ok(())

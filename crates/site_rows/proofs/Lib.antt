@@ -8,3 +8,4 @@ pub mod Transactions
 pub mod Listed
 pub mod Users
 pub mod DetailTables
+pub mod EndingTables

@@ -28,14 +28,14 @@ untouched trees tree n es apart = go (n == tree) refl
     go true t = let same : n ≡ tree = grind (arith, common_steps, t) in absurd (apart same)
     go false t = rw t refl
 
-left_alone : (old new : View) (tree n : ℕ) (edit : List Row → List Row) → SetsTree old new tree edit → n ≢ tree → new.trees n ≡ old.trees n
+pub left_alone : (old new : View) (tree n : ℕ) (edit : List Row → List Row) → SetsTree old new tree edit → n ≢ tree → new.trees n ≡ old.trees n
 left_alone old new tree n edit s apart = ap (λ v. v.trees n) s.is ∙ untouched old.trees tree n (edit (old.trees tree)) apart
 
 -- only trees and cursors differ
-abbrev IsLater : View → View → Type 0
+abbrev pub IsLater : View → View → Type 0
 IsLater old new = new ≡ record old { trees = new.trees; cursors = new.cursors }
 
-later : (old mid new : View) (tree : ℕ) (edit : List Row → List Row) → IsLater old mid → SetsTree mid new tree edit → IsLater old new
+pub later : (old mid new : View) (tree : ℕ) (edit : List Row → List Row) → IsLater old mid → SetsTree mid new tree edit → IsLater old new
 later old mid new tree edit first s =
     s.is
     ∙ ap (λ (v : View). record v { trees = with_tree mid.trees tree (edit (mid.trees tree)); cursors = new.cursors }) first

@@ -6,3 +6,4 @@ pub mod Details
 pub mod Causes
 pub mod Trees
 pub mod Calls
+pub mod Endings

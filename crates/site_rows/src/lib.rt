@@ -5,6 +5,7 @@
 mod credentials;
 mod detail;
 mod details;
+mod ending;
 mod entries;
 mod error;
 mod finding;
@@ -16,6 +17,7 @@ mod writing;
 pub use credentials::{credential_row, read_credential};
 pub use detail::{detail_row, read_detail};
 pub use details::{delete_detail, find_detail, mark_used, put_detail};
+pub use ending::{Ending, find_ending, purge_ending, put_ending};
 pub use error::RowError;
 pub use finding::{Found, find, lent};
 pub use listing::find_all;

@@ -1,4 +1,4 @@
 mod Algorithms
-mod Bytes
+pub mod Bytes
 mod Judging
-mod Texts
+pub mod Texts

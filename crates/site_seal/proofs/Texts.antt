@@ -21,9 +21,9 @@ length-hmac_sha256 key message = length-sha256 _
 pub same_parts : (k l b d : ℕ) (c e x y : List ℕ) → length c ≡ 32 → length e ≡ 32 → text_of k b c x ≡ text_of l d e y
     → (k ≡ l) × (to_be_bytes w64 b ≡ to_be_bytes w64 d) × (c ≡ e) × (x ≡ y)
 same_parts k l b d c e x y p q same =
-    let began = joined_same (to_be_bytes w64 b) (to_be_bytes w64 d) (c ++ x) (e ++ y) refl (cc) in
-    let rest = joined_same c e x y (p ∙ sym q) began.1 in
-    (cc, began.0, rest.0, rest.1)
+    let ends = joined_same (to_be_bytes w64 b) (to_be_bytes w64 d) (c ++ x) (e ++ y) refl (cc) in
+    let rest = joined_same c e x y (p ∙ sym q) ends.1 in
+    (cc, ends.0, rest.0, rest.1)
 
 same_second : (b d : ℕ) → b < 2 ^ 64 → d < 2 ^ 64 → to_be_bytes w64 b ≡ to_be_bytes w64 d → b ≡ d
 same_second b d p q same = sym (from_be_bytes-to_be_bytes_8 b p) ∙ ap (λ (l : List ℕ). from_be_bytes w64 l) same ∙ from_be_bytes-to_be_bytes_8 d q
@@ -56,7 +56,7 @@ abbrev sign_in_with : Option (List ℕ) → List (List ℕ) → Bool → List �
 sign_in_with user allow uv challenge = record { user = user; allow = allow; uv = uv; challenge = challenge }
 
 abbrev session_with : ℕ → Ceremony → Session
-session_with began ceremony = record { began = began; ceremony = ceremony }
+session_with ends ceremony = record { ends = ends; ceremony = ceremony }
 
 same_registration : (e f : ExpectedRegistration) → IsRegistration e → IsRegistration f → e.challenge ≡ f.challenge
     → registration_bytes e ≡ registration_bytes f → e ≡ f
@@ -81,8 +81,8 @@ same_sign_in s t p q challenge same =
     let whole : sign_in_with s.user s.allow s.uv s.challenge ≡ sign_in_with t.user t.allow t.uv t.challenge = cc (user.0) in
     whole
 
-same_session : (b d : ℕ) (x y : Ceremony) → IsSession (record { began = b; ceremony = x }) → IsSession (record { began = d; ceremony = y })
-    → spelled (record { began = b; ceremony = x }) ≡ spelled (record { began = d; ceremony = y }) → (b ≡ d) × (x ≡ y)
+same_session : (b d : ℕ) (x y : Ceremony) → IsSession (record { ends = b; ceremony = x }) → IsSession (record { ends = d; ceremony = y })
+    → spelled (record { ends = b; ceremony = x }) ≡ spelled (record { ends = d; ceremony = y }) → (b ≡ d) × (x ≡ y)
 same_session b d (registration e) (registration f) p q same =
     let parts = same_parts 1 1 b d e.challenge f.challenge (registration_bytes e) (registration_bytes f) p.1.challenge q.1.challenge same in
     (same_second b d p.0 q.0 parts.1, ap registration (same_registration e f p.1 q.1 parts.2 parts.3))
@@ -94,8 +94,8 @@ same_session b d (sign_in s) (sign_in t) p q same =
 
 pub same_spelled : (s t : Session) → IsSession s → IsSession t → spelled s ≡ spelled t → s ≡ t
 same_spelled s t p q same =
-    let both = same_session s.began t.began s.ceremony t.ceremony p q same in
-    let whole : session_with s.began s.ceremony ≡ session_with t.began t.ceremony = cc (both.0, both.1) in
+    let both = same_session s.ends t.ends s.ceremony t.ceremony p q same in
+    let whole : session_with s.ends s.ceremony ≡ session_with t.ends t.ceremony = cc (both.0, both.1) in
     whole
 
 -- the text and its hash are told apart by their lengths
@@ -113,18 +113,18 @@ one_text_of key rp other_key other_rp s t p q same =
 pub no_registration : (text c rest : List ℕ) (b : ℕ) → text ≡ text_of 1 b c rest → length c ≡ 32
     → ((e : ExpectedRegistration) → IsRegistration e → rest ≡ registration_bytes e → ⊥) → (s : Session) → IsSession s → text ≡ spelled s → ⊥
 no_registration text c rest b is long none s p same = none_of s.ceremony p same where
-  none_of : (x : Ceremony) → IsSession (record { began = s.began; ceremony = x }) → text ≡ spelled (record { began = s.began; ceremony = x }) → ⊥
+  none_of : (x : Ceremony) → IsSession (record { ends = s.ends; ceremony = x }) → text ≡ spelled (record { ends = s.ends; ceremony = x }) → ⊥
   none_of (registration e) q same =
-      none e q.1 (same_parts 1 1 b s.began c e.challenge rest (registration_bytes e) long q.1.challenge (sym is ∙ same)).3
+      none e q.1 (same_parts 1 1 b s.ends c e.challenge rest (registration_bytes e) long q.1.challenge (sym is ∙ same)).3
   none_of (sign_in t) q same = absurd cc
 
 pub no_sign_in : (text c rest : List ℕ) (b : ℕ) → text ≡ text_of 2 b c rest → length c ≡ 32
     → ((t : SealedSignIn) → IsSealedSignIn t → rest ≡ sign_in_bytes t → ⊥) → (s : Session) → IsSession s → text ≡ spelled s → ⊥
 no_sign_in text c rest b is long none s p same = none_of s.ceremony p same where
-  none_of : (x : Ceremony) → IsSession (record { began = s.began; ceremony = x }) → text ≡ spelled (record { began = s.began; ceremony = x }) → ⊥
+  none_of : (x : Ceremony) → IsSession (record { ends = s.ends; ceremony = x }) → text ≡ spelled (record { ends = s.ends; ceremony = x }) → ⊥
   none_of (registration e) q same = absurd cc
   none_of (sign_in t) q same =
-      none t q.1 (same_parts 2 2 b s.began c t.challenge rest (sign_in_bytes t) long q.1.challenge (sym is ∙ same)).3
+      none t q.1 (same_parts 2 2 b s.ends c t.challenge rest (sign_in_bytes t) long q.1.challenge (sym is ∙ same)).3
 
 -- where the credentials' count stands
 pub behind_user : (rest behind : List ℕ) (user : Option (List ℕ)) → drop 1 rest ≡ user_bytes user ++ behind → IfSome user IsHash

@@ -1,8 +1,8 @@
 -- A ceremony that has begun, as a text under the key of a site that keeps nothing for it (WebAuthn Level 2, sections 7.1 and
 -- 7.2, step 1; section 13.4.3 on challenges). The layout is this product's own.
-use Rattle.std.specs.Prelude.{◌≡◌, ◌<◌, ◌≤◌, ◌^◌, ◌⊎◌, ℕ, List, [], ◌∷◌, ◌++◌, Bool, true, false, Option, Some, None, IfSome, map, length, option_map, Contains}
+use Rattle.std.specs.Prelude.{◌≡◌, ◌<◌, ◌≤◌, ◌^◌, ◌⊎◌, ◌%◌, ℕ, take, List, [], ◌∷◌, ◌++◌, Bool, true, false, Option, Some, None, IfSome, map, length, option_map, Contains}
 use Rattle.std.specs.List.{AllByRecursion, concat, list_any}
-use Rattle.std.specs.Int.{w64, to_be_bytes}
+use Rattle.std.specs.Int.{w64, from_be_bytes, to_be_bytes}
 use Rattle.cose.specs.declared.key.Alg.{Alg}
 use Rattle.cose.specs.declared.key.Alg.TheVariants as algorithm
 use Rattle.verification.specs.Records.{ExpectedSignIn, ExpectedRegistration}
@@ -20,17 +20,22 @@ pub data Ceremony : Type 0 where
   registration : ExpectedRegistration → Ceremony
   sign_in : SealedSignIn → Ceremony
 
--- the ceremony, and the second at which it began
+-- the ceremony, and the second at which it ends
 pub record Session : Type 0 where
-  pub began : ℕ
+  pub ends : ℕ
   pub ceremony : Ceremony
 
--- what the key authenticates begins with its purpose: 1 for a text, 2 for a user, 3 for a credential
+-- what the key authenticates begins with its purpose: 1 for a text, 2 for a user, 3 for a credential, 4 for a user whose
+-- registrations have ended
 abbrev pub user_hash : List ℕ → List ℕ → List ℕ → List ℕ
 user_hash key challenge handle = hmac_sha256 key (2 ∷ (challenge ++ handle))
 
 abbrev pub id_hash : List ℕ → List ℕ → List ℕ → List ℕ
 id_hash key challenge id = hmac_sha256 key (3 ∷ (challenge ++ id))
+
+-- the number, of 63 bits, under which a site keeps that a user's registrations have ended
+abbrev pub user_number : List ℕ → List ℕ → ℕ
+user_number key handle = from_be_bytes w64 (take 8 (hmac_sha256 key (4 ∷ handle))) % 2 ^ 63
 
 -- what the text of a sign-in holds of what it expects
 abbrev pub sealed_sign_in : List ℕ → ExpectedSignIn → SealedSignIn
@@ -65,8 +70,11 @@ offered_if false a = []
 abbrev pub in_order : Bool → Bool → Bool → List Alg
 in_order es256 ed_dsa rs256 = offered_if es256 algorithm.Es256 ++ (offered_if ed_dsa algorithm.EdDsa ++ offered_if rs256 algorithm.Rs256)
 
+abbrev pub ordered : List Alg → List Alg
+ordered offered = in_order (list_any is_es256 offered) (list_any is_ed_dsa offered) (list_any is_rs256 offered)
+
 abbrev pub AreInOrder : List Alg → Type 0
-AreInOrder offered = offered ≡ in_order (list_any is_es256 offered) (list_any is_ed_dsa offered) (list_any is_rs256 offered)
+AreInOrder offered = offered ≡ ordered offered
 
 abbrev pub flag : Bool → ℕ
 flag true = 1
@@ -88,16 +96,16 @@ registration_bytes e =
 abbrev pub sign_in_bytes : SealedSignIn → List ℕ
 sign_in_bytes s = flag s.uv ∷ (user_bytes s.user ++ (length s.allow ∷ concat s.allow))
 
--- which ceremony (1 byte), when it began (8, big-endian), the challenge (32), and the rest
+-- which ceremony (1 byte), when it ends (8, big-endian), the challenge (32), and the rest
 abbrev pub text_of : ℕ → ℕ → List ℕ → List ℕ → List ℕ
-text_of kind began challenge rest = kind ∷ (to_be_bytes w64 began ++ (challenge ++ rest))
+text_of kind ends challenge rest = kind ∷ (to_be_bytes w64 ends ++ (challenge ++ rest))
 
 abbrev pub ceremony_text : ℕ → Ceremony → List ℕ
-ceremony_text began (registration e) = text_of 1 began e.challenge (registration_bytes e)
-ceremony_text began (sign_in s) = text_of 2 began s.challenge (sign_in_bytes s)
+ceremony_text ends (registration e) = text_of 1 ends e.challenge (registration_bytes e)
+ceremony_text ends (sign_in s) = text_of 2 ends s.challenge (sign_in_bytes s)
 
 abbrev pub spelled : Session → List ℕ
-spelled s = ceremony_text s.began s.ceremony
+spelled s = ceremony_text s.ends s.ceremony
 
 -- the text, and its hash with that of the rp id before it
 abbrev pub sealed_text : List ℕ → List ℕ → Session → List ℕ
@@ -126,7 +134,7 @@ IsCeremony (registration e) = IsRegistration e
 IsCeremony (sign_in s) = IsSealedSignIn s
 
 abbrev pub IsSession : Session → Type 0
-IsSession s = (s.began < 2 ^ 64) × IsCeremony s.ceremony
+IsSession s = (s.ends < 2 ^ 64) × IsCeremony s.ceremony
 
 -- the limits of a sign-in that can be sealed: a user handle of 1 to 64 bytes, at most 64 ids, each of 1 to 1,023 bytes
 pub record IsSignIn (e : ExpectedSignIn) : Type 0 where

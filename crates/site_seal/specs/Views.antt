@@ -14,4 +14,4 @@ ceremony_view (opened.Registration e) = registration (registration_view e)
 ceremony_view (opened.SignIn s) = sign_in (sealed_view s)
 
 abbrev pub session_view : Opened → Session
-session_view x = record { began = x.began; ceremony = ceremony_view x.ceremony }
+session_view x = record { ends = x.ends; ceremony = ceremony_view x.ceremony }

@@ -1,8 +1,9 @@
 //! HMAC-SHA-256 (RFC 2104, section 2).
 
-ghost use Rattle.std.specs.Prelude.{◌≡◌, ◌↔◌, IsTrue, map};
+ghost use Rattle.std.specs.Prelude.{◌≡◌, ◌<◌, ◌^◌, ◌↔◌, IsTrue, map};
 ghost use Rattle.std.specs.List.{concat};
 ghost use Rattle.site_seal.specs.Hmac.{hmac_sha256, masked};
+ghost use Rattle.site_seal.specs.Seal.{user_number};
 
 use sha2::{Digest, Sha256};
 
@@ -41,4 +42,16 @@ pub fn are_equal(a: &[u8; 32], b: &[u8; 32]) -> bool
         difference |= a[i] ^ b[i];
     }
     difference == 0
+}
+
+/// The number, of 63 bits, under which a site keeps that a user's registrations have ended: who doesn't have the key learns
+/// nothing of the handle from it.
+pub fn user_number(key: &[u8; 32], handle: &[u8]) -> u64
+    ensures number { result ≡ user_number key.now handle.now }
+    ensures fits { result < 2 ^ 63 }
+{
+    let hash = hmac_sha256(key, &[&[4], handle]);
+    let mut first = [0; 8];
+    first.copy_from_slice(&hash[..8]);
+    u64::from_be_bytes(first) % (1 << 63)
 }

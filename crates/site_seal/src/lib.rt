@@ -10,8 +10,8 @@ mod sealing;
 mod session;
 
 pub use error::SealError;
-pub use hmac::{are_equal, hmac_sha256};
+pub use hmac::{are_equal, hmac_sha256, user_number};
 pub use law::{one_text, same_steps};
 pub use opening::open;
-pub use sealing::{seal_registration, seal_sign_in};
+pub use sealing::{algorithms_in_order, seal_registration, seal_sign_in};
 pub use session::{Opened, OpenedCeremony, OpenedSignIn};

@@ -18,22 +18,22 @@ use verification::RegistrationSession;
 #[derive(Drop)]
 struct Front<'a> {
     kind: u8,
-    began: u64,
+    ends: u64,
     challenge: [u8; 32],
     rest: &'a [u8],
 }
 
 /// The front of a text.
 fn front_of(text: &[u8]) -> Option<Front<'_>>
-    ensures parts { MatchOption result (length text.now < 41) (λ x. text.now ≡ text_of x.kind x.began x.challenge x.rest.now) }
+    ensures parts { MatchOption result (length text.now < 41) (λ x. text.now ≡ text_of x.kind x.ends x.challenge x.rest.now) }
     ensures challenge { IfSome result (λ x. length x.challenge ≡ 32) }
 {
     let (kind, rest) = text.split_first()?;
-    let (began, rest) = rest.split_first_chunk::<8>()?;
+    let (ends, rest) = rest.split_first_chunk::<8>()?;
     let (challenge, rest) = rest.split_first_chunk::<32>()?;
     Some(Front {
         kind: *kind,
-        began: u64::from_be_bytes(*began),
+        ends: u64::from_be_bytes(*ends),
         challenge: *challenge,
         rest,
     })
@@ -190,7 +190,7 @@ fn session_in(alloc: Global, text: &[u8]) -> Result<Option<Opened>, AllocError>
         _ => return Ok(None),
     };
     Ok(Some(Opened {
-        began: front.began,
+        ends: front.ends,
         ceremony,
     }))
 }

@@ -6,7 +6,7 @@ ghost use Rattle.std.specs.List.{AllByRecursion, concat, list_any};
 ghost use Rattle.verification.specs.Views.{registration_view, sign_in_view};
 ghost use Rattle.site_seal.specs.Hmac.{hmac_sha256};
 ghost use Rattle.site_seal.specs.Seal.{AreInOrder, IsRegistration, IsSession, IsSignIn, IsWithin};
-ghost use Rattle.site_seal.specs.Seal.{flag, id_hash, in_order, is_ed_dsa, is_es256, is_rs256, sealed_sign_in, sealed_text, text_of, user_bytes, user_hash};
+ghost use Rattle.site_seal.specs.Seal.{flag, id_hash, in_order, is_ed_dsa, is_es256, is_rs256, ordered, sealed_sign_in, sealed_text, text_of, user_bytes, user_hash};
 ghost use Rattle.site_seal.specs.Seal.{registration, registration_bytes, sign_in, sign_in_bytes};
 ghost use Rattle.site_seal.specs.declared.error.SealError.TheVariants as errors;
 
@@ -41,7 +41,8 @@ pub(crate) fn is_within(bytes: &[u8], most: usize) -> bool
 
 /// Each algorithm that is offered, once and in order.
 pub(crate) fn in_order(es256: bool, ed_dsa: bool, rs256: bool) -> &'static [Alg]
-    ensures { result.now ≡ in_order es256 ed_dsa rs256 }
+    ensures is { result.now ≡ in_order es256 ed_dsa rs256 }
+    ensures ordered { AreInOrder result.now }
 {
     match (es256, ed_dsa, rs256) {
         (false, false, false) => &[],
@@ -73,16 +74,23 @@ fn offers_rs256(offered: &[Alg]) -> bool
     offered.iter().any(|a| matches!(a, Alg::Rs256))
 }
 
+/// The algorithms that are offered, each once and in the order ES256, EdDSA, RS256, as a text has them.
+pub fn algorithms_in_order(offered: &[Alg]) -> &'static [Alg]
+    ensures same { result.now ≡ ordered offered.now }
+    ensures ordered { AreInOrder result.now }
+{
+    in_order(
+        offers_es256(offered),
+        offers_ed_dsa(offered),
+        offers_rs256(offered),
+    )
+}
+
 /// Whether these are some of ES256, EdDSA and RS256, each at most once and in this order.
 fn are_in_order(offered: &[Alg]) -> bool
     ensures { IsTrue result ↔ AreInOrder offered.now }
 {
-    offered
-        == in_order(
-            offers_es256(offered),
-            offers_ed_dsa(offered),
-            offers_rs256(offered),
-        )
+    offered == algorithms_in_order(offered)
 }
 
 /// The byte of a truth value.
@@ -92,13 +100,13 @@ fn flag(truth: bool) -> u8
     u8::from(truth)
 }
 
-/// The front of a text: the ceremony, when it began, and its challenge.
-fn front(alloc: Global, kind: u8, began: u64, challenge: &[u8; 32]) -> Result<Vec<u8>, AllocError>
-    ensures front { IfOk result (λ v. v.items ≡ kind ∷ (to_be_bytes w64 began ++ challenge.now)) }
+/// The front of a text: the ceremony, when it ends, and its challenge.
+fn front(alloc: Global, kind: u8, ends: u64, challenge: &[u8; 32]) -> Result<Vec<u8>, AllocError>
+    ensures front { IfOk result (λ v. v.items ≡ kind ∷ (to_be_bytes w64 ends ++ challenge.now)) }
     ensures challenge { OnOk result (length challenge.now ≡ 32) }
 {
     let mut text = Vec::from_slice(alloc, &[kind])?;
-    text.extend_from_slice(&began.to_be_bytes())?;
+    text.extend_from_slice(&ends.to_be_bytes())?;
     text.extend_from_slice(challenge)?;
     Ok(text)
 }
@@ -123,15 +131,15 @@ fn with_seal(key: &[u8; 32], rp_id_hash: &[u8; 32], text: Vec<u8>) -> Result<Vec
 /// A registration's text.
 fn registration_text(
     alloc: Global,
-    began: u64,
+    ends: u64,
     session: &RegistrationSession,
 ) -> Result<Vec<u8>, AllocError>
     requires { length session.now.user.items ≤ 64 }
     ensures challenge { OnOk result (length session.now.challenge ≡ 32) }
-    ensures text { IfOk result (λ v. v.items ≡ text_of 1 began session.now.challenge (registration_bytes (registration_view session.now))) }
+    ensures text { IfOk result (λ v. v.items ≡ text_of 1 ends session.now.challenge (registration_bytes (registration_view session.now))) }
 {
     let offered = session.algorithms.as_slice();
-    let mut text = front(alloc, REGISTRATION, began, &session.challenge)?;
+    let mut text = front(alloc, REGISTRATION, ends, &session.challenge)?;
     text.extend_from_slice(&[
         flag(session.uv),
         flag(session.conditional),
@@ -145,7 +153,7 @@ fn registration_text(
     Ok(text)
 }
 
-/// The sealed text of a registration that began at the second `began`. `rp_id_hash` is SHA-256 of the rp id.
+/// The sealed text of a registration that ends at the second `ends`. `rp_id_hash` is SHA-256 of the rp id.
 ///
 /// `BadInput` where the user handle is not of 1 to 64 bytes, or the algorithms are not some of ES256, EdDSA and RS256 in this
 /// order.
@@ -153,19 +161,19 @@ pub fn seal_registration(
     alloc: Global,
     key: &[u8; 32],
     rp_id_hash: &[u8; 32],
-    began: u64,
+    ends: u64,
     session: &RegistrationSession,
 ) -> Result<Vec<u8>, SealError>
     ensures sealed { IfOk result (λ text. text.items
-        ≡ sealed_text key.now rp_id_hash.now (record { began = began; ceremony = registration (registration_view session.now) })) }
-    ensures session { OnOk result (IsSession (record { began = began; ceremony = registration (registration_view session.now) })) }
+        ≡ sealed_text key.now rp_id_hash.now (record { ends = ends; ceremony = registration (registration_view session.now) })) }
+    ensures session { OnOk result (IsSession (record { ends = ends; ceremony = registration (registration_view session.now) })) }
     // It is refused only where it is not within the limits.
     ensures refused { IsErrOf result errors.BadInput → IsRegistration (registration_view session.now) → ⊥ }
 {
     if !is_within(&session.user, MAX_USER) || !are_in_order(&session.algorithms) {
         return Err(SealError::BadInput);
     }
-    let text = registration_text(alloc, began, session)?;
+    let text = registration_text(alloc, ends, session)?;
     Ok(with_seal(key, rp_id_hash, text)?)
 }
 
@@ -223,15 +231,15 @@ fn push_ids(text: &mut Vec<u8>, key: &[u8; 32], session: &SignInSession) -> Resu
 fn sign_in_text(
     alloc: Global,
     key: &[u8; 32],
-    began: u64,
+    ends: u64,
     session: &SignInSession,
 ) -> Result<Vec<u8>, AllocError>
     requires { length session.now.allow.items ≤ 64 }
     ensures challenge { OnOk result (length session.now.challenge ≡ 32) }
     ensures text { IfOk result (λ v. v.items
-        ≡ text_of 2 began session.now.challenge (sign_in_bytes (sealed_sign_in key.now (sign_in_view session.now)))) }
+        ≡ text_of 2 ends session.now.challenge (sign_in_bytes (sealed_sign_in key.now (sign_in_view session.now)))) }
 {
-    let mut text = front(alloc, SIGN_IN, began, &session.challenge)?;
+    let mut text = front(alloc, SIGN_IN, ends, &session.challenge)?;
     text.push(flag(session.uv))?;
     push_user(&mut text, key, session)?;
     text.push(session.allow.len() as u8)?;
@@ -239,7 +247,7 @@ fn sign_in_text(
     Ok(text)
 }
 
-/// The sealed text of a sign-in that began at the second `began`. `rp_id_hash` is SHA-256 of the rp id. The user's handle and
+/// The sealed text of a sign-in that ends at the second `ends`. `rp_id_hash` is SHA-256 of the rp id. The user's handle and
 /// the ids stand in it as hashes that the key alone makes.
 ///
 /// `BadInput` where the user handle is not of 1 to 64 bytes, an id not of 1 to 1,023, or more than 64 ids are listed.
@@ -247,20 +255,20 @@ pub fn seal_sign_in(
     alloc: Global,
     key: &[u8; 32],
     rp_id_hash: &[u8; 32],
-    began: u64,
+    ends: u64,
     session: &SignInSession,
 ) -> Result<Vec<u8>, SealError>
     ensures sealed { IfOk result (λ text. text.items ≡ sealed_text key.now rp_id_hash.now
-        (record { began = began; ceremony = sign_in (sealed_sign_in key.now (sign_in_view session.now)) })) }
+        (record { ends = ends; ceremony = sign_in (sealed_sign_in key.now (sign_in_view session.now)) })) }
     ensures limits { OnOk result (IsSignIn (sign_in_view session.now)) }
     ensures session { OnOk result (IsSession
-        (record { began = began; ceremony = sign_in (sealed_sign_in key.now (sign_in_view session.now)) })) }
+        (record { ends = ends; ceremony = sign_in (sealed_sign_in key.now (sign_in_view session.now)) })) }
     // It is refused only where it is not within the limits.
     ensures refused { IsErrOf result errors.BadInput → IsSignIn (sign_in_view session.now) → ⊥ }
 {
     if !is_sign_in(session) {
         return Err(SealError::BadInput);
     }
-    let text = sign_in_text(alloc, key, began, session)?;
+    let text = sign_in_text(alloc, key, ends, session)?;
     Ok(with_seal(key, rp_id_hash, text)?)
 }

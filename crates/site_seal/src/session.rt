@@ -34,19 +34,10 @@ pub enum OpenedCeremony {
 /// What an opened text says.
 #[derive(Debug, Drop)]
 pub struct Opened {
-    /// The second at which the ceremony began.
-    pub began: u64,
+    /// The second at which the ceremony ends.
+    pub ends: u64,
     /// The ceremony.
     pub ceremony: OpenedCeremony,
-}
-
-impl Opened {
-    /// Whether the ceremony has begun by the second `now`, and less than `lifetime` seconds ago.
-    pub fn is_within(&self, now: u64, lifetime: u64) -> bool
-        ensures { IsTrue result ↔ ((self.now.began ≤ now) × (now - self.now.began < lifetime)) }
-    {
-        self.began <= now && now - self.began < lifetime
-    }
 }
 
 /// The hash of a user handle in the sign-in of this challenge.

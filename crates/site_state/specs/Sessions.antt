@@ -9,6 +9,7 @@ use Rattle.std.specs.FinMap as finite
 use Rattle.refusal_order.specs.Lines.{Each, FirstFailing}
 use Rattle.cose.specs.declared.key.Alg.{Alg}
 use Rattle.authdata.specs.declared.profile.Profile.{Profile}
+use Rattle.authdata.specs.declared.profile.Profile.TheVariants.{Strict, Open, Level3}
 use Rattle.authdata.specs.Profiles.{max_id}
 use Rattle.verification.specs.Records.{ExpectedSignIn, ExpectedRegistration}
 use Rattle.site_state.specs.Table.{IsWithin}
@@ -66,17 +67,23 @@ usual = record { conditional = false; attestation = true }
 abbrev pub challenge_of : ℕ → List ℕ → List ℕ
 challenge_of n words = to_be_bytes w64 n ++ words
 
-abbrev pub expected_of : ℕ → Opening → Expected
-expected_of n (OpensSignIn user allow uv words) =
-    ForSignIn (record { user = user; allow = allow; uv = uv; challenge = challenge_of n words })
-expected_of n (OpensRegistration user algorithms uv words asks) = ForRegistration (record {
+-- what a session of this number expects, that begins with this opening
+abbrev pub sign_in_of : ℕ → Option (List ℕ) → List (List ℕ) → Bool → List ℕ → ExpectedSignIn
+sign_in_of n user allow uv words = record { user = user; allow = allow; uv = uv; challenge = challenge_of n words }
+
+abbrev pub registration_of : ℕ → List ℕ → List Alg → Bool → List ℕ → Asks → ExpectedRegistration
+registration_of n user algorithms uv words asks = record {
   user = user;
   algorithms = algorithms;
   uv = uv;
   challenge = challenge_of n words;
   conditional = asks.conditional;
   attestation = asks.attestation;
-})
+}
+
+abbrev pub expected_of : ℕ → Opening → Expected
+expected_of n (OpensSignIn user allow uv words) = ForSignIn (sign_in_of n user allow uv words)
+expected_of n (OpensRegistration user algorithms uv words asks) = ForRegistration (registration_of n user algorithms uv words asks)
 
 -- the next number is opened, and the one after it is next
 abbrev pub begun : OpenSessions → Opening → OpenSessions
@@ -103,12 +110,25 @@ HaveNumbers next expected = (n : ℕ) (e : Expected) → finite.get expected n �
 
 -- ---- what may begin
 
--- user handles have 1 to 64 bytes, and credential ids 1 to those of the profile; at most 8 credentials may answer;
+-- the most credentials that may answer: 64, and 8 in the strict profile
+abbrev pub max_listed : Profile → ℕ
+max_listed Strict = 8
+max_listed Open = 64
+max_listed Level3 = 64
+
+-- user handles have 1 to 64 bytes, and credential ids 1 to those of the profile; as many credentials may answer as the profile has;
 -- an algorithm is offered
 abbrev pub IsInput : Profile → Opening → Type 0
 IsInput profile (OpensSignIn user allow uv words) =
-    ForSome user (IsWithin 64) × (length allow ≤ 8) × AllByRecursion (IsWithin (max_id profile)) allow
+    ForSome user (IsWithin 64) × (length allow ≤ max_listed profile) × AllByRecursion (IsWithin (max_id profile)) allow
 IsInput profile (OpensRegistration user algorithms uv words asks) = IsWithin 64 user × (1 ≤ length algorithms)
+
+-- why it is not told what a session expects: what is asked is out of its limits, or there was no memory
+abbrev pub IsNotExpected : Type 0 → BeginError → Type 0
+IsNotExpected input errors.BadInput = input → ⊥
+IsNotExpected input errors.SessionsFull = ⊥
+IsNotExpected input errors.Exhausted = ⊥
+IsNotExpected input errors.Memory = Unit {0}
 
 -- there is no reason to refuse it: what is asked is within its limits; fewer sessions are open than
 -- the most; the next number is not the last

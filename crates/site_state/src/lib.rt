@@ -16,6 +16,8 @@ pub use detail::Detail;
 pub use error::BeginError;
 pub use row::Row;
 pub use session::{Asks, Session};
-pub use sessions::{MAX_LISTED, MAX_OPEN, Sessions, Started};
+pub use sessions::{
+    MAX_LISTED, MAX_OPEN, Sessions, Started, max_listed, registration_session, sign_in_session,
+};
 pub use table::{MAX_ROWS, MAX_USER, Rows, Table, TableError, is_within};
 pub use timed::TimedSessions;

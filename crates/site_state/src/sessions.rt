@@ -9,7 +9,7 @@ ghost use Rattle.authdata.specs.declared.profile.Profile.{Profile as IdProfile};
 ghost use Rattle.authdata.specs.Profiles.{max_id};
 ghost use Rattle.site_state.specs.Table.{IsWithin};
 ghost use Rattle.verification.specs.Views.{registration_view, sign_in_view};
-ghost use Rattle.site_state.specs.Sessions.{AreLimits, Opening, OpensRegistration, OpensSignIn, IsInput, IsRefused, PassesOpeningStep};
+ghost use Rattle.site_state.specs.Sessions.{AreLimits, Opening, OpensRegistration, OpensSignIn, IsInput, IsRefused, PassesOpeningStep, IsNotExpected, max_listed, registration_of, sign_in_of};
 ghost use Rattle.site_state.specs.Sessions.{PassesOpening, HasNumber, HaveNumbers, begun, challenge_of, closed, registration_at, sign_in_at, usual};
 ghost use Rattle.site_state.specs.declared.session.Asks.{Asks as HowBegun};
 ghost use Rattle.site_state.specs.Sessions.{challenge_in as expected_challenge};
@@ -30,8 +30,18 @@ use verification::{RegistrationSession, SignInSession};
 /// The most sessions that are open at a time, where no other number is given.
 pub const MAX_OPEN: usize = 1_024;
 
-/// The most credentials that a session lists.
+/// The most credentials that a session of the strict profile lists.
 pub const MAX_LISTED: usize = 8;
+
+/// The most credentials that a session lists: 64, and 8 in the strict profile.
+pub fn max_listed(profile: Profile) -> usize
+    ensures { result ≡ max_listed profile }
+{
+    match profile {
+        Profile::Strict => MAX_LISTED,
+        Profile::Open | Profile::Level3 => 64,
+    }
+}
 
 /// A session that has begun.
 #[derive(Clone, Copy, Debug, PartialEq, Eq, Drop)]
@@ -102,7 +112,7 @@ fn is_sign_in(profile: Profile, user: Option<&[u8]>, allow: &[&[u8]]) -> bool
             return false;
         }
     }
-    allow.len() <= MAX_LISTED && are_ids(profile, allow)
+    allow.len() <= max_listed(profile) && are_ids(profile, allow)
 }
 
 /// Whether what a registration is asked with is within its limits.
@@ -160,6 +170,98 @@ fn copy_of(alloc: Global, user: Option<&[u8]>) -> Result<Option<Vec<u8>>, AllocE
         None => Ok(None),
         Some(user) => Ok(Some(Vec::from_slice(alloc, user)?)),
     }
+}
+
+/// What a sign-in expects that is begun under this number.
+fn expected_sign_in(
+    alloc: Global,
+    number: u64,
+    user: Option<&[u8]>,
+    allow: &[&[u8]],
+    uv: bool,
+    words: &[u8; 24],
+) -> Result<SignInSession, AllocError>
+    ensures { IfOk result (λ e. sign_in_view e
+        ≡ sign_in_of number (option_map (λ u. u.now) user.entry) (map (λ id. id.now) allow.now) uv words.now) }
+{
+    Ok(SignInSession {
+        user: copy_of(alloc, user)?,
+        allow: copies(alloc, allow)?,
+        uv,
+        challenge: challenge_with(number, words),
+    })
+}
+
+/// What a registration expects that is begun under this number.
+fn expected_registration(
+    alloc: Global,
+    number: u64,
+    user: &[u8],
+    algorithms: &[Alg],
+    uv: bool,
+    asks: Asks,
+    words: &[u8; 24],
+) -> Result<RegistrationSession, AllocError>
+    ensures { IfOk result (λ e. registration_view e
+        ≡ registration_of number user.now algorithms.now uv words.now asks) }
+{
+    Ok(RegistrationSession {
+        user: Vec::from_slice(alloc, user)?,
+        algorithms: Vec::from_slice(alloc, algorithms)?,
+        uv,
+        challenge: challenge_with(number, words),
+        conditional: asks.conditional,
+        attestation: asks.attestation,
+    })
+}
+
+/// What a sign-in expects that is begun under this number, for whoever keeps its sessions: as
+/// [`begin_sign_in`](Sessions::begin_sign_in) opens it.
+///
+/// `BadInput` where what is asked is out of its limits, then `Memory`.
+pub fn sign_in_session(
+    alloc: Global,
+    profile: Profile,
+    number: u64,
+    user: Option<&[u8]>,
+    allow: &[&[u8]],
+    uv: bool,
+    words: &[u8; 24],
+) -> Result<SignInSession, BeginError>
+    ensures input { OnOk result (IsInput profile (OpensSignIn (option_map (λ u. u.now) user.entry) (map (λ id. id.now) allow.now) uv words.now)) }
+    ensures expected { IfOk result (λ e. sign_in_view e
+        ≡ sign_in_of number (option_map (λ u. u.now) user.entry) (map (λ id. id.now) allow.now) uv words.now) }
+    ensures refused { IfErr result
+        (IsNotExpected (IsInput profile (OpensSignIn (option_map (λ u. u.now) user.entry) (map (λ id. id.now) allow.now) uv words.now))) }
+{
+    if !is_sign_in(profile, user, allow) {
+        return Err(BeginError::BadInput);
+    }
+    let expected = expected_sign_in(alloc, number, user, allow, uv, words)?;
+    Ok(expected)
+}
+
+/// What a registration expects that is begun under this number; else as [`sign_in_session`].
+pub fn registration_session(
+    alloc: Global,
+    number: u64,
+    user: &[u8],
+    algorithms: &[Alg],
+    uv: bool,
+    asks: Asks,
+    words: &[u8; 24],
+) -> Result<RegistrationSession, BeginError>
+    // No profile differs in it.
+    ensures input { (profile : IdProfile) → OnOk result (IsInput profile (OpensRegistration user.now algorithms.now uv words.now asks)) }
+    ensures expected { IfOk result (λ e. registration_view e
+        ≡ registration_of number user.now algorithms.now uv words.now asks) }
+    ensures refused { (profile : IdProfile) → IfErr result (IsNotExpected (IsInput profile (OpensRegistration user.now algorithms.now uv words.now asks))) }
+{
+    if !is_registration(user, algorithms) {
+        return Err(BeginError::BadInput);
+    }
+    let expected = expected_registration(alloc, number, user, algorithms, uv, asks, words)?;
+    Ok(expected)
 }
 
 impl Sessions {
@@ -282,11 +384,11 @@ impl Sessions {
     }
 
     /// Begins a sign-in: of the account with this user handle, where it is known beforehand; with one of these
-    /// credentials, where any are listed, at most 8; the user is to be verified or not. The words are 24 random
+    /// credentials, where any are listed, at most [`max_listed`]; the user is to be verified or not. The words are 24 random
     /// bytes of the challenge.
     ///
     /// `BadInput` where the user handle is not of 1 to 64 bytes, an id not of 1 byte to those of the profile, or more
-    /// than 8 ids are listed, then `SessionsFull` where the most sessions are open, then `Exhausted` where the next
+    /// ids are listed than the profile has, then `SessionsFull` where the most sessions are open, then `Exhausted` where the next
     /// number is the last; `Memory` where there was none for the copies or the session. Then nothing has changed.
     pub fn begin_sign_in(
         &mut self,
@@ -305,13 +407,9 @@ impl Sessions {
         self.admit(is_sign_in(profile, user, allow))?;
         let alloc = self.alloc;
         let session = self.next;
-        let challenge = challenge_with(session, &words);
-        self.add(Session::SignIn(SignInSession {
-            user: copy_of(alloc, user)?,
-            allow: copies(alloc, allow)?,
-            uv,
-            challenge,
-        }))?;
+        let expected = expected_sign_in(alloc, session, user, allow, uv, &words)?;
+        let challenge = expected.challenge;
+        self.add(Session::SignIn(expected))?;
         Ok(Started { session, challenge })
     }
 
@@ -356,15 +454,9 @@ impl Sessions {
         self.admit(is_registration(user, algorithms))?;
         let alloc = self.alloc;
         let session = self.next;
-        let challenge = challenge_with(session, &words);
-        self.add(Session::Registration(RegistrationSession {
-            user: Vec::from_slice(alloc, user)?,
-            algorithms: Vec::from_slice(alloc, algorithms)?,
-            uv,
-            challenge,
-            conditional: asks.conditional,
-            attestation: asks.attestation,
-        }))?;
+        let expected = expected_registration(alloc, session, user, algorithms, uv, asks, &words)?;
+        let challenge = expected.challenge;
+        self.add(Session::Registration(expected))?;
         Ok(Started { session, challenge })
     }
 

@@ -1,6 +1,6 @@
 -- What a part of a call tells of its failure, as told by the call.
 use Rattle.std.proofs.Common.{◌≡◌, ℕ, false, arith, inl, inr, refl}
-use Rattle.std.specs.Prelude.{◌≤◌}
+use Rattle.std.specs.Prelude.{◌≤◌, Result, Ok, Err, IfErr}
 use Rattle.sqlite_disk.specs.Disk.{MoreFaults}
 use Rattle.sqlite_trees.specs.View.{HasCause, View}
 use Rattle.sqlite_trees.specs.declared.error.StoreError.{StoreError}
@@ -45,3 +45,8 @@ caused_as old a b U V D E (failures.Failed e) f g (never, inr bad) = (never, inr
 pub if_finish_store : {W : Type 0} (P Q : Failure → Type 0) (e : FinishFailure W) → ((why : Failure) → P why → Q why) → IfFinishStore P e → IfFinishStore Q e
 if_finish_store P Q (finishes.Site why) f h = tt
 if_finish_store P Q (finishes.Store why) f h = f why h
+
+pub if_caused : {A : Type 0} (old : View) (a b : ℕ) (U V D E : Type 0) (r : Result A Failure) → (U → V) → (D → E) → IfErr r (IsCaused old a b U D)
+    → IfErr r (IsCaused old a b V E)
+if_caused old a b U V D E (Ok x) f g h = tt
+if_caused old a b U V D E (Err e) f g h = caused_as old a b U V D E e f g h

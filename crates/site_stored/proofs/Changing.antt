@@ -1,8 +1,9 @@
 -- A credential that ends.
-use Rattle.std.proofs.Common.{◌≡◌, ◌-◌, ℕ, List, Bool, true, false, ◌∙◌, refl, sym, subst}
+use Rattle.std.proofs.Common.{◌≡◌, ◌-◌, ℕ, List, Bool, true, false, ◌∙◌, refl, sym, ap, subst}
 use Rattle.std.specs.FinMap as finite
-use Rattle.std.specs.Prelude.{Option, Some, None, if◌then◌else◌}
+use Rattle.std.specs.Prelude.{◌≢◌, IsSome, Option, Some, None, if◌then◌else◌}
 use Rattle.std.specs.Option.{ForSome}
+use Rattle.sqlite_trees.specs.Tree.{Trees}
 use Rattle.sqlite_trees.specs.View.{IsClean, IsStorableRow, View}
 use Rattle.verification.specs.Records.{Credential}
 use Rattle.site_state.specs.Table.{retired}
@@ -82,3 +83,34 @@ refuses_retired old mid id found reals is refused =
       found = λ placed h. subst (IsFoundAs placed id) refused.1 (is placed h);
       row = subst (λ (k : ℕ → ℕ). ¬ IsStorableRow (k 0) (credential_row f.place (retired (row_view f.credential)))) reals refused.2;
     }
+
+-- what is retired or deleted was found
+pub retired_some : (found : Option Found) (Same : Type 0) (old new : View) (was : Bool) → RetiresFound found Same old new was → was ≡ true → IsSome found
+retired_some found Same old new true i is = subst IsSome (sym i.1) refl
+retired_some found Same old new false i is = absurd cc
+
+pub deleted_some : (found : Option Found) (Same : Type 0) (old new : View) (was : Bool) → DeletesFound found Same old new was → was ≡ true → IsSome found
+deleted_some found Same old new true i is = subst IsSome (sym i.1) refl
+deleted_some found Same old new false i is = absurd cc
+
+-- the trees beside those of credentials stay, and with a deletion those beside that of details
+pub beside_retired : (placed : Placed) (id : List ℕ) (found : Option Found) (Same : Type 0) (old new : View) (was : Bool) (n : ℕ) → IsFoundAs placed id found
+    → (Same → new.trees ≡ old.trees) → RetiresFound found Same old new was → IsClean new → Holds placed old.trees → n ≢ 0 → n ≢ 3 → n ≢ 4
+    → new.trees n ≡ old.trees n
+beside_retired placed id found Same old new true n is kept i clean h x y z =
+    let at : IsAt placed id i.0.place (row_view i.0.credential) = subst (IsFoundAs placed id) i.1 is in
+    (i.3 clean placed h at.there).others n x y z
+beside_retired placed id found Same old new false n is kept i clean h x y z = ap (λ (t : Trees). t n) (kept i.0)
+
+pub beside_deleted : (placed : Placed) (id : List ℕ) (found : Option Found) (Same : Type 0) (old new : View) (was : Bool) (n : ℕ) → IsFoundAs placed id found
+    → (Same → new.trees ≡ old.trees) → DeletesFound found Same old new was → IsClean new → Holds placed old.trees → n ≢ 0 → n ≢ 3 → n ≢ 4 → n ≢ 5
+    → new.trees n ≡ old.trees n
+beside_deleted placed id found Same old new true n is kept i clean h x y z w =
+    let at : IsAt placed id i.0.place (row_view i.0.credential) = subst (IsFoundAs placed id) i.1 is in
+    (i.2 clean).2.others n w ∙ ((i.2 clean).1 placed h at.there).others n x y z
+beside_deleted placed id found Same old new false n is kept i clean h x y z w = ap (λ (t : Trees). t n) (kept i.0)
+
+pub forgotten_stays : (placed : Placed) (id : List ℕ) (told : Bool) (details : Details) (a b : Trees) → b 5 ≡ a 5 → TellsForgotten placed id told details a
+    → TellsForgotten placed id told details b
+forgotten_stays placed id true details a b same i = (i.0, i.1, i.2, same ∙ i.3)
+forgotten_stays placed id false details a b same i = same ∙ i

@@ -112,27 +112,29 @@ held_added placed s t old new c h w rp reserved count last = record {
       (there_or placed (s.last + 1) p c d (s.last + 1) x (omega arith) (λ there. let low = h.last p d there in omega (arith, low)));
 }
 
+-- no tree of credentials is written, nor that of the relying party
+pub held_apart : {S : Type 0} (placed : Placed) (t : StoredState S) (old new : View) → new.trees 0 ≡ old.trees 0 → new.trees 2 ≡ old.trees 2
+    → new.trees 3 ≡ old.trees 3 → new.trees 4 ≡ old.trees 4 → IsHeld placed t old.trees → IsHeld placed t new.trees
+held_apart placed t old new table site ids users h = record {
+  holds = record {
+    credentials = record {
+      table = table ∙ h.holds.credentials.table;
+      by_id = subst (Indexes (λ c. c.id) placed) (sym ids) h.holds.credentials.by_id;
+      by_user = subst (Indexes (λ c. c.user) placed) (sym users) h.holds.credentials.by_user;
+      are = h.holds.credentials.are;
+    };
+    site = site ∙ h.holds.site;
+  };
+  count = h.count;
+  last = h.last;
+}
+
 -- the table of details is written, and no other
 pub held_beside : {S : Type 0} (placed : Placed) (t : StoredState S) (old new : View) (To : Details → Details) → IsDetailed old new To → IsHeld placed t old.trees
     → IsHeld placed t new.trees
-held_beside placed t old new To d h =
-    let table = d.others 0 (λ e. grind (arith, common_steps, e)) in
-    let site = d.others 2 (λ e. grind (arith, common_steps, e)) in
-    let ids = d.others 3 (λ e. grind (arith, common_steps, e)) in
-    let users = d.others 4 (λ e. grind (arith, common_steps, e)) in
-    record {
-      holds = record {
-        credentials = record {
-          table = table ∙ h.holds.credentials.table;
-          by_id = subst (Indexes (λ c. c.id) placed) (sym ids) h.holds.credentials.by_id;
-          by_user = subst (Indexes (λ c. c.user) placed) (sym users) h.holds.credentials.by_user;
-          are = h.holds.credentials.are;
-        };
-        site = site ∙ h.holds.site;
-      };
-      count = h.count;
-      last = h.last;
-    }
+held_beside placed t old new To d =
+    held_apart placed t old new (d.others 0 (λ e. grind (arith, common_steps, e))) (d.others 2 (λ e. grind (arith, common_steps, e)))
+    (d.others 3 (λ e. grind (arith, common_steps, e))) (d.others 4 (λ e. grind (arith, common_steps, e)))
 
 -- a write of credentials leaves the details
 pub details_stay : (old new : View) (placed : Placed) (details : Details) → IsWritten old new placed → HoldsDetails details old.trees → HoldsDetails details new.trees

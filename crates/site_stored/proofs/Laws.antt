@@ -11,6 +11,7 @@ use Rattle.site_rows.specs.Rows.{credential_row}
 use Rattle.site_rows.proofs.One.{number_once, one_credential}
 use Rattle.site_stored.specs.Laws.{KeptLaws}
 use Rattle.site_stored.specs.State.{site_row, to_commit}
+use Rattle.site_stored.proofs.ShutOut.{shuts_out}
 
 abbrev rows_in : List (ℕ × Credential) → List Row
 rows_in es = map (λ e. credential_row e.0 e.1) es
@@ -64,4 +65,5 @@ laws = record {
         rp_id = text_once id other (ap (λ (r : Row). column r 3) row);
         next = number_once m n (ap (λ (r : Row). column r 4) row);
       };
+  shut_out = shuts_out;
 }

@@ -1,5 +1,7 @@
 -- The row of the relying party is set, or that of a commit, and nothing else.
-use Rattle.std.proofs.Common.{◌≡◌, ℕ, List, [], ◌∷◌, refl, sym, ap, ap₂, ◌∙◌, subst}
+use Rattle.std.proofs.Common.{◌≡◌, ℕ, List, [], ◌∷◌, Bool, true, false, refl, sym, ap, ap₂, ◌∙◌, subst, arith}
+use Rattle.std.proofs.lemmas.Grind.{common_steps}
+use Rattle.std.specs.Prelude.{◌≢◌, ◌==◌}
 use Rattle.sqlite_value.specs.Order.{Row}
 use Rattle.sqlite_trees.specs.Tree.{Trees, put_row}
 use Rattle.sqlite_trees.specs.View.{SetsTree, View}
@@ -39,3 +41,11 @@ pub both_set : (db marked set was : Trees) (rp_id id : List ℕ) (next n mark fo
     → set ≡ with_site id n was → id ≡ rp_id → n ≡ next → db ≡ with_mark mark follows (with_site rp_id next was)
 both_set db marked set was rp_id id next n mark follows is marks sets same_id same_n =
     is ∙ marks ∙ ap (with_mark mark follows) (sets ∙ ap₂ (λ id n. with_site id n was) same_id same_n)
+
+-- where the row of the relying party is set, the other trees stay
+pub beside_site : (rp_id : List ℕ) (next : ℕ) (db new : Trees) (tree : ℕ) → new ≡ with_site rp_id next db → tree ≢ 2 → new tree ≡ db tree
+beside_site rp_id next db new tree is apart = ap (λ (t : Trees). t tree) is ∙ go (tree == 2) refl
+  where
+    go : (b : Bool) → (tree == 2) ≡ b → with_site rp_id next db tree ≡ db tree
+    go true t = let same : tree ≡ 2 = grind (arith, common_steps, t) in absurd (apart same)
+    go false t = rw t refl

@@ -1,5 +1,6 @@
 -- Why a call over a site's store fails.
-use Rattle.std.specs.Prelude.{◌≡◌, ◌⊎◌, ◌+◌, ℕ, ℤ, List, Some, false, ⊤, Result, IfErr}
+use Rattle.std.specs.Prelude.{◌≡◌, ◌⊎◌, ◌+◌, ◌-◌, ◌≤◌, ◌^◌, ℕ, ℤ, List, filter, length, Some, false, ⊤, Result, IfErr}
+use Rattle.std.specs.Str.{bytes_eq}
 use Rattle.std.specs.FinMap as finite
 use Rattle.sqlite_disk.specs.Disk.{MoreFaults}
 use Rattle.sqlite_trees.specs.Tree.{Trees}
@@ -14,16 +15,17 @@ use Rattle.authdata.specs.Responses as responses
 use Rattle.authdata.specs.declared.profile.Profile.{Profile}
 use Rattle.verification.specs.Records.{Credential, ExpectedRegistration}
 use Rattle.verification.specs.Registration.{Attests}
-use Rattle.site_state.specs.Table.{signed_in}
-use Rattle.site_state.specs.Sessions.{registration_at}
+use Rattle.site_state.specs.Table.{retired, signed_in}
 use Rattle.site_rows.specs.Causes.{IsRefused}
 use Rattle.site_state.specs.Details.{Detail}
 use Rattle.site_rows.specs.Details.{Details, HoldsDetails, detail_row, used}
-use Rattle.site_rows.specs.Held.{Holds, IsAt, Placed}
+use Rattle.site_rows.specs.Endings.{Endings, HoldsEndings, ending_row}
+use Rattle.site_rows.specs.declared.ending.Ending.{Ending}
+use Rattle.site_rows.specs.Held.{Holds, IsAt, Placed, rows_of}
 use Rattle.site_rows.specs.Rows.{credential_row}
 use Rattle.site_stored.specs.Calls.{registered}
 use Rattle.site_stored.specs.Summaries.{with_aaguid}
-use Rattle.site_stored.specs.State.{StoredState, mark_row, site_row, site_tree, mark_tree}
+use Rattle.site_stored.specs.State.{StoredState, ended_session_tree, ended_user_tree, key_row, key_tree, mark_row, site_row, site_tree, mark_tree}
 use Rattle.site_stored.specs.declared.failure.Failure.{Failure}
 use Rattle.site_stored.specs.declared.failure.Failure.TheVariants as failures
 use Rattle.site_stored.specs.declared.failure.CreateFailure.{CreateFailure}
@@ -40,6 +42,17 @@ use Rattle.sqlite_trees.specs.declared.store.Store.{Ghosts}
 -- the trees hold no credentials
 abbrev pub IsDamaged : Trees → Type 0
 IsDamaged db = (placed : Placed) → Holds placed db → ⊥
+
+-- the trees hold no endings there
+abbrev pub IsUnknownEnding : ℕ → Trees → Type 0
+IsUnknownEnding tree db = (endings : Endings) → HoldsEndings tree endings db → ⊥
+
+abbrev pub AreUnknownEndings : Trees → Type 0
+AreUnknownEndings db = IsUnknownEnding ended_session_tree db ⊎ IsUnknownEnding ended_user_tree db
+
+-- no store takes a row of an ending there, as one with a column of another type
+abbrev pub RefusesEnding : ℕ → View → Type 0
+RefusesEnding tree old = (number : ℕ) × (ending : Ending) × (¬ IsStorableRow (old.reals tree) (ending_row number ending))
 
 -- the store's failure has its cause in this call, and is never Broken: want of memory; a fault of the disk, counted in it; a row that no store
 -- takes; or, where it is Corrupt, damage
@@ -112,7 +125,7 @@ abbrev pub BeginFails : {S A : Type 0} → Ghosts S → StoredState S → Stored
 BeginFails g old new result =
     IsClean (g.view new.store)
     → IfErr result (IfBeginStore (IsCaused (g.view old.store) (g.faults old.store) (g.faults new.store)
-    (RefusesNumber (g.view old.store).reals old.rp.rp_id (old.timed.open_sessions.next + 1000)) ⊥))
+    (RefusesNumber (g.view old.store).reals old.rp.rp_id (old.next + 1000)) ⊥))
 
 -- no store takes that, or the row of a commit that has a mark, and follows another
 abbrev pub RefusesCommit : (ℕ → ℕ) → List ℕ → ℕ → ℕ → ℕ → Type 0
@@ -125,11 +138,26 @@ pub record RefusesChange (old : View) (id : List ℕ) (change : Credential → C
   pub found : (placed : Placed) → Holds placed old.trees → IsAt placed id place credential
   pub row : ¬ IsStorableRow (old.reals credential_tree) (credential_row place (change credential))
 
+-- no store takes the row of one of a user's credentials, retired
+abbrev pub RefusesAllRetired : View → List ℕ → Type 0
+RefusesAllRetired old user =
+    (placed : Placed) → Holds placed old.trees
+    → (place : ℕ) × (c : Credential) × (finite.get placed place ≡ Some c) × (c.user ≡ user)
+    × (¬ IsStorableRow (old.reals credential_tree) (credential_row place (retired c)))
+
+-- a user has more credentials than are listed, if the trees hold credentials at all
+abbrev pub AreTooMany : List ℕ → Trees → Type 0
+AreTooMany user db = (placed : Placed) → Holds placed db → 2 ^ 32 - 1 ≤ length (filter (λ c. bytes_eq c.user user) (rows_of placed))
+
 -- no store takes the row of the detail of the credential that has an id, used at this second
 abbrev pub RefusesUse : View → List ℕ → ℤ → Type 0
 RefusesUse old id now =
     (placed : Placed) → Holds placed old.trees → (details : Details) → HoldsDetails details old.trees
     → (place : ℕ) × (c : Credential) × IsAt placed id place c × (¬ IsStorableRow (old.reals detail_tree) (detail_row place (used now (finite.get details place))))
+
+-- no store takes the row of this key
+abbrev pub RefusesKey : (ℕ → ℕ) → List ℕ → Type 0
+RefusesKey reals key = ¬ IsStorableRow (reals key_tree) (key_row key)
 
 -- no store takes the row of the credential that signs in, with the counter and the mark that came; or that of its detail
 abbrev pub RefusesSignedIn : View → Profile → AuthenticatorAssertionResponse → ℤ → Type 0
@@ -138,18 +166,17 @@ RefusesSignedIn old profile r now =
     ⊎ RefusesUse old r.credential now
 
 -- no store takes the row, or an entry, of the credential that a response attests in a session
-pub record RefusesNew {S : Type 0} (old : View) (s : StoredState S) (n : ℕ) (r : responses.AuthenticatorAttestationResponse) : Type 0 where
+pub record RefusesNew {S : Type 0} (old : View) (s : StoredState S) (r : responses.AuthenticatorAttestationResponse) : Type 0 where
   pub expected : ExpectedRegistration
   pub object : Attestation
   pub data_read : AuthenticatorData
   pub credential : AttestedCredential
-  pub session : registration_at n s.timed.open_sessions ≡ Some expected
   pub attests : Attests s.rp.profile r object data_read credential
   pub row : IsRefused old.reals (s.last + 1) (registered expected data_read credential)
 
 -- no store takes that; or the row of its detail
-abbrev pub RefusesRegistered : {S : Type 0} → View → StoredState S → ℕ → responses.AuthenticatorAttestationResponse → Detail → Type 0
-RefusesRegistered old s n r detail =
-    RefusesNew old s n r
+abbrev pub RefusesRegistered : {S : Type 0} → View → StoredState S → responses.AuthenticatorAttestationResponse → Detail → Type 0
+RefusesRegistered old s r detail =
+    RefusesNew old s r
     ⊎ ((o : Attestation) × (a : AuthenticatorData) × (c : AttestedCredential) × Attests s.rp.profile r o a c
     × (¬ IsStorableRow (old.reals detail_tree) (detail_row (s.last + 1) (with_aaguid c.aaguid detail))))

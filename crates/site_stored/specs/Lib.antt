@@ -1,5 +1,6 @@
 pub mod Summaries
 pub mod State
+pub mod Sessions
 pub mod Calls
 pub mod Causes
 pub mod Private

@@ -1,12 +1,13 @@
 -- What private functions are proved against; no public clause cites it.
-use Rattle.std.specs.Prelude.{◌≡◌, ◌<◌, ◌≤◌, ◌^◌, ◌⊎◌, ℕ, ℤ, List, [], Bool, Option, Some, None, true, false, option_map, IsSome, IsTrue, Result, IfErr, OnOk}
+use Rattle.std.specs.Prelude.{◌≡◌, ◌≢◌, ⊤, ◌<◌, ◌≤◌, ◌-◌, ◌^◌, ◌⊎◌, ℕ, ℤ, List, [], filter, Bool, if◌then◌else◌, Option, Some, None, true, false, option_map, IsSome, IsTrue, Result, IfErr, OnOk}
+use Rattle.std.specs.Str.{bytes_eq}
 use Rattle.std.specs.FinMap as finite
 use Rattle.std.specs.List.{AllByRecursion}
 use Rattle.sqlite_value.specs.Order.{Row}
 use Rattle.site_rows.specs.Rows.{IsStored, credential_row}
 use Rattle.sqlite_trees.specs.View.{View, IsClean, IsStorableRow, HasCause}
 use Rattle.cose.specs.Schemes.{Validity}
-use Rattle.authdata.specs.Flags.{is_set, BE, BS}
+use Rattle.authdata.specs.Flags.{is_set, BE}
 use Rattle.authdata.specs.Layout.{AuthenticatorData, AuthOf}
 use Rattle.authdata.specs.Responses.{AuthenticatorAssertionResponse}
 use Rattle.authdata.specs.Responses as responses
@@ -22,10 +23,10 @@ use Rattle.verification.specs.declared.refusal.VerificationError.{VerificationEr
 use Rattle.std.specs.Option.{ForSome}
 use Rattle.site_state.specs.Table.{retired, signed_in}
 use Rattle.site_state.specs.RowViews.{row_view}
-use Rattle.site_rows.specs.Held.{HasNone, HasTrees, Holds, IsAt, IsWritten, Placed, IsSameView}
+use Rattle.site_rows.specs.Held.{HasNone, HasTrees, Holds, IsAt, IsWritten, Placed, IsSameView, rows_of}
 use Rattle.site_rows.specs.declared.finding.Found.{Found}
 use Rattle.site_rows.specs.Details.{Details, HoldsDetails, IsDetailed, detail_row, used}
-use Rattle.site_stored.specs.Calls.{TellsIds}
+use Rattle.site_stored.specs.Calls.{TellsAllForgotten, TellsIds, is_users}
 use Rattle.site_stored.specs.Causes.{IfOpenStore}
 use Rattle.site_stored.specs.Summaries.{Summarises}
 use Rattle.site_stored.specs.declared.finish.SignedIn.{SignedIn}
@@ -34,7 +35,19 @@ use Rattle.site_stored.specs.declared.failure.FinishFailure.{FinishFailure}
 use Rattle.site_stored.specs.declared.failure.FinishFailure.TheVariants as finishes
 use Rattle.site_rows.specs.Calls.{IfClean, IsQuiet}
 use Rattle.site_rows.specs.Trees.{credential_tree, id_tree, user_tree, detail_tree, HasTable}
-use Rattle.site_stored.specs.State.{site_tree, mark_tree, IsReady, FitsColumn}
+use Rattle.site_stored.specs.State.{ended_session_tree, ended_user_tree, key_tree, site_tree, mark_tree, IsReady, FitsColumn}
+use Rattle.site_rows.specs.Endings.{Endings, HoldsEndings}
+use Rattle.site_rows.specs.declared.ending.Ending.{Ending}
+use Rattle.site_seal.specs.Seal.{IsExpectedOf, SealedSignIn, Session, registration, sign_in, user_number}
+use Rattle.site_seal.specs.Views.{ceremony_view, session_view}
+use Rattle.site_seal.specs.declared.error.SealError.{SealError}
+use Rattle.site_seal.specs.declared.error.SealError.TheVariants as seals
+use Rattle.site_state.specs.declared.error.BeginError.{BeginError}
+use Rattle.site_state.specs.declared.error.BeginError.TheVariants.{BadInput, Memory}
+use Rattle.site_stored.specs.Sessions.{Ends, IsCutOff, IsGiven, longest, until}
+use Rattle.site_stored.specs.declared.session.Given.{Given}
+use Rattle.site_stored.specs.declared.session.SessionFailure.{SessionFailure}
+use Rattle.site_stored.specs.declared.session.SessionFailure.TheVariants as sessions
 use Rattle.sqlite_disk.specs.Disk.{MoreFaults}
 use Rattle.sqlite_trees.specs.declared.store.Store.{Ghosts}
 use Rattle.sqlite_trees.specs.declared.error.StoreError.TheVariants.{OutOfMemory}
@@ -218,13 +231,17 @@ pub record IsAtRest (v : View) : Type 0 where
 -- the store has the trees of a site, without rows
 pub record IsNew (v : View) : Type 0 where
   pub rest : IsAtRest v
-  pub shapes : HasTrees v × HasTable site_tree v × HasTable detail_tree v × HasTable mark_tree v
+  pub shapes : HasTrees v × HasTable site_tree v × HasTable detail_tree v × HasTable mark_tree v × HasTable key_tree v × HasTable ended_session_tree v
+      × HasTable ended_user_tree v
   pub credentials : v.trees credential_tree ≡ []
   pub site : v.trees site_tree ≡ []
   pub by_id : v.trees id_tree ≡ []
   pub by_user : v.trees user_tree ≡ []
   pub details : v.trees detail_tree ≡ []
   pub marks : v.trees mark_tree ≡ []
+  pub key : v.trees key_tree ≡ []
+  pub ended_sessions : v.trees ended_session_tree ≡ []
+  pub ended_users : v.trees ended_user_tree ≡ []
 
 -- where a row is a credential's, its place is not above this one
 abbrev pub IsUpTo : ℕ → Row → Type 0
@@ -236,3 +253,118 @@ IsCredentialRow row = (place : ℕ) × (c : Credential) × (row ≡ credential_r
 
 abbrev pub AreCredentials : List Row → Type 0
 AreCredentials rows = AllByRecursion IsCredentialRow rows
+
+-- ---- sessions
+
+-- a table of endings
+abbrev pub IsEndingTree : ℕ → Type 0
+IsEndingTree tree = (tree ≡ ended_session_tree) ⊎ (tree ≡ ended_user_tree)
+
+-- the transaction has written this table of endings, and no other tree
+pub record EndsIn (tree now number : ℕ) (ending : Ending) (old new : View) : Type 0 where
+  pub holds : (endings : Endings) → HoldsEndings tree endings old.trees → (after : Endings) × Ends now number ending endings after × HoldsEndings tree after new.trees
+  pub others : (n : ℕ) → n ≢ tree → new.trees n ≡ old.trees n
+  pub is : new ≡ record old { trees = new.trees; cursors = new.cursors }
+
+-- an open session of this number, as a text says it
+abbrev pub IsGivenAs : List ℕ → List ℕ → ℕ → ℕ → List ℕ → Given → Type 0
+IsGivenAs key rp_id next now text g = IsGiven key rp_id next now text g.number (session_view g.opened)
+
+-- the open session of a text, by what has ended; none where there is none
+abbrev pub IsOpenIn : List ℕ → List ℕ → ℕ → Endings → ℕ → List ℕ → Option Given → Type 0
+IsOpenIn key rp_id next ended now text (Some g) = IsGivenAs key rp_id next now text g × (finite.get ended g.number ≡ None)
+IsOpenIn key rp_id next ended now text None =
+    (n : ℕ) (x : Session) → IsGiven key rp_id next now text n x → finite.get ended n ≡ None → ⊥
+
+-- how it is told that a session can't be read
+abbrev pub finish_refusal : {W : Type 0} → SessionFailure → FinishFailure W
+finish_refusal sessions.Memory = finishes.Site VerificationError.Memory
+finish_refusal (sessions.Store why) = finishes.Store why
+
+-- why no session is told: there was no memory, and nothing has changed; or the store has failed, and is shut
+abbrev pub IsUntold : {S : Type 0} → SiteStore S → SiteStore S → SessionFailure → Type 0
+IsUntold old new sessions.Memory = new ≡ old
+IsUntold old new (sessions.Store why) = (new.is_shut ≡ true) × (why ≡ failures.Shut → ⊥)
+
+-- what is said of the store's failure, where it is why no session is told
+abbrev pub IfSessionStore : (Failure → Type 0) → SessionFailure → Type 0
+IfSessionStore P sessions.Memory = ⊤
+IfSessionStore P (sessions.Store why) = P why
+
+-- a call that tells a session: it has moved cursors at most. Where there was no memory nothing has changed, and a failure of the store shuts it
+pub record ReadsSession {S A : Type 0} (g : Ghosts S) (old new : SiteStore S) (result : Result A SessionFailure) : Type 0 where
+  pub same : OnOk result (IsSameView (g.view old.store) (g.view new.store) × (new ≡ record old { store = new.store }))
+  pub failed : IfErr result (IsUntold old new)
+  pub reserved : KeepsNumbers old new
+  pub quiet : IsQuiet g old.store new.store
+
+-- a limit that a text has is one that what is asked has
+abbrev pub seal_refusal : SealError → BeginError
+seal_refusal seals.BadInput = BadInput
+seal_refusal seals.Memory = Memory
+
+-- what a session that was given expects of a credential of this user and this id, where it is for sign-in
+abbrev pub ExpectsAs : List ℕ → Option Given → List ℕ → List ℕ → Option ExpectedSignIn → Type 0
+ExpectsAs key None user id e = e ≡ None
+ExpectsAs key (Some g) user id (Some e) = (x : SealedSignIn) × (ceremony_view g.opened.ceremony ≡ sign_in x) × IsExpectedOf key x user id e
+ExpectsAs key (Some g) user id None = (x : SealedSignIn) → ceremony_view g.opened.ceremony ≡ sign_in x → ⊥
+
+-- what a session that was given expects, where it is for registration
+abbrev pub AwaitsAs : Option Given → Option ExpectedRegistration → Type 0
+AwaitsAs None e = e ≡ None
+AwaitsAs (Some g) (Some e) = ceremony_view g.opened.ceremony ≡ registration e
+AwaitsAs (Some g) None = (e : ExpectedRegistration) → ceremony_view g.opened.ceremony ≡ registration e → ⊥
+
+-- the open session for registration of a text, by what has ended; none where there is none
+abbrev pub IsRegistrationIn : List ℕ → List ℕ → ℕ → Endings → Endings → ℕ → List ℕ → Option Given → Type 0
+IsRegistrationIn key rp_id next ended users now text (Some g) =
+    (e : ExpectedRegistration) × (ceremony_view g.opened.ceremony ≡ registration e) × IsGivenAs key rp_id next now text g
+    × (finite.get ended g.number ≡ None) × (IsCutOff key users g.number e.user → ⊥)
+IsRegistrationIn key rp_id next ended users now text None =
+    (n ends : ℕ) (e : ExpectedRegistration) → IsGiven key rp_id next now text n (record { ends = ends; ceremony = registration e })
+    → finite.get ended n ≡ None → (IsCutOff key users n e.user → ⊥) → ⊥
+
+-- where a credential was found and was there, the registrations of its user have ended; else nothing is written
+abbrev pub CutsOffFound : List ℕ → ℕ → ℕ → Bool → Option Found → View → View → Type 0
+CutsOffFound key next now true (Some f) old new =
+    EndsIn ended_user_tree now (user_number key (row_view f.credential).user) (record { said = next; until = until now longest }) old new
+CutsOffFound key next now true None old new = new ≡ old
+CutsOffFound key next now false found old new = new ≡ old
+
+-- ---- the credentials of a user, one after another
+
+-- no credential has the id, and nothing has changed; or the one that has it is deleted, with its detail, and nothing else
+abbrev pub DeletesOne : Placed → List ℕ → ℕ → ℕ → View → View → Type 0
+DeletesOne placed id count left old new =
+    (HasNone placed id × (left ≡ count) × (new.trees ≡ old.trees))
+    ⊎ ((place : ℕ) × (c : Credential) × IsAt placed id place c × (left ≡ count - 1) × Holds (finite.remove placed place) new.trees
+    × ((details : Details) → HoldsDetails details old.trees → HoldsDetails (finite.remove details place) new.trees)
+    × ((n : ℕ) → n ≢ credential_tree → n ≢ id_tree → n ≢ user_tree → n ≢ detail_tree → new.trees n ≡ old.trees n))
+
+-- a credential that has the id was retired, and nothing has changed; or it was not, and is retired, and nothing else
+abbrev pub RetiresOne : Placed → List ℕ → View → View → Type 0
+RetiresOne placed id old new =
+    (((place : ℕ) (c : Credential) → IsAt placed id place c → c.retired ≡ true) × (new.trees ≡ old.trees))
+    ⊎ ((place : ℕ) × (c : Credential) × IsAt placed id place c × (c.retired ≡ false) × Holds (finite.insert placed place (retired c)) new.trees
+    × ((n : ℕ) → n ≢ credential_tree → n ≢ id_tree → n ≢ user_tree → new.trees n ≡ old.trees n))
+
+-- of a user's credentials none is there, nor a detail of one; all else is as before
+pub record ErasesRows (user : List ℕ) (placed : Placed) (count left : ℕ) (old new : View) : Type 0 where
+  pub after : Placed
+  pub after_is : (place : ℕ) → finite.get after place ≡ (if is_users user (finite.get placed place) then None else finite.get placed place)
+  pub holds : Holds after new.trees
+  pub counted : finite.len placed ≡ count → finite.len after ≡ left
+  pub details : (details : Details) → HoldsDetails details old.trees → TellsAllForgotten placed user details new.trees
+  pub others : (n : ℕ) → n ≢ credential_tree → n ≢ id_tree → n ≢ user_tree → n ≢ detail_tree → new.trees n ≡ old.trees n
+
+-- each of a user's credentials is retired; all else is as before
+pub record RetiresRows (user : List ℕ) (placed : Placed) (old new : View) : Type 0 where
+  pub after : Placed
+  pub after_is : (place : ℕ) → finite.get after place ≡ (if is_users user (finite.get placed place) then option_map retired (finite.get placed place) else finite.get placed place)
+  pub holds : Holds after new.trees
+  pub counted : finite.len after ≡ finite.len placed
+  pub others : (n : ℕ) → n ≢ credential_tree → n ≢ id_tree → n ≢ user_tree → new.trees n ≡ old.trees n
+
+-- these are a user's credentials, in order of registration
+abbrev pub AreUsers : List ℕ → Placed → List Credential → Type 0
+AreUsers user placed listed = listed ≡ filter (λ c. bytes_eq c.user user) (rows_of placed)

@@ -1,5 +1,5 @@
--- A relying party whose credentials are rows of a store, and whose open sessions are in memory.
-use Rattle.std.specs.Prelude.{◌≡◌, ◌⊎◌, ◌<◌, ◌≤◌, ◌+◌, ◌-◌, ◌*◌, ◌^◌, if◌then◌else◌, ℕ, pos, Bool, false, List, [], ◌∷◌, IsTrue, Some, filter, nat_lt, refl}
+-- A relying party whose credentials are rows of a store, and whose sessions are texts that it has sealed.
+use Rattle.std.specs.Prelude.{◌≡◌, ◌⊎◌, ◌<◌, ◌≤◌, ◌+◌, ◌-◌, ◌*◌, ◌^◌, if◌then◌else◌, ℕ, pos, Bool, false, List, [], ◌∷◌, length, IsTrue, Some, filter, nat_lt, refl}
 use Rattle.std.specs.Coded.{Coded, code_by, coded×, coded_bool, coded_list, coded_ℕ}
 use Rattle.std.specs.FinMap as finite
 use Rattle.std.specs.Int.{to_be_bytes, w64, w128}
@@ -14,16 +14,17 @@ use Rattle.verification.specs.declared.party.Policy.{Policy}
 use Rattle.verification.specs.contracts.party.Policy as policy
 use Rattle.site_state.specs.Codes.{Bytes, coded_bytes}
 use Rattle.site_rows.specs.Held.{HasTrees, Holds, Placed}
-use Rattle.site_state.specs.Timed.{Timed, timed_code}
 use Rattle.site_rows.specs.Trees.{detail_tree, HasTable}
 
--- the relying party; the attestations that it accepts; the open sessions; the number below which all may have been given, and the
--- same by what is committed; the mark of the last commit, and that of the next one; how many credentials there are, the highest place that one ever
+-- the relying party; the attestations that it accepts; the key under which it seals sessions, how many seconds one is open, and the number of
+-- the next one; the number below which all may have been given, and the same by what is committed; the mark of the last commit, and that of the next one; how many credentials there are, the highest place that one ever
 -- had, and how many there may be; the store; whether a failure has shut it; whether something is written that is not committed
 pub record StoredState (S : Type 0) : Type 0 where
   pub rp : RelyingParty
   pub policy : Policy
-  pub timed : Timed
+  pub key : List ℕ
+  pub lifetime : ℕ
+  pub next : ℕ
   pub reserved : ℕ
   pub durable : ℕ
   pub mark : ℕ
@@ -44,14 +45,16 @@ party_code =
 
 abbrev pub kept_code : {S : Type 0} → Coded S → Coded (StoredState S)
 kept_code {S} store =
-    code_by ((RelyingParty × (Policy × Timed)) × ((ℕ × (ℕ × (ℕ × (ℕ × (ℕ × (ℕ × ℕ)))))) × (S × (Bool × Bool))))
-    (coded× (coded× party_code (coded× policy.the_row.coded timed_code))
+    code_by ((RelyingParty × (Policy × (List ℕ × (ℕ × ℕ)))) × ((ℕ × (ℕ × (ℕ × (ℕ × (ℕ × (ℕ × ℕ)))))) × (S × (Bool × Bool))))
+    (coded× (coded× party_code (coded× policy.the_row.coded (coded× coded_bytes (coded× coded_ℕ coded_ℕ))))
     (coded× (coded× coded_ℕ (coded× coded_ℕ (coded× coded_ℕ (coded× coded_ℕ (coded× coded_ℕ (coded× coded_ℕ coded_ℕ)))))) (coded× store (coded× coded_bool coded_bool))))
-    (λ s. ((s.rp, (s.policy, s.timed)), ((s.reserved, (s.durable, (s.mark, (s.next_mark, (s.count, (s.last, s.most)))))), (s.store, (s.is_shut, s.is_pending)))))
+    (λ s. ((s.rp, (s.policy, (s.key, (s.lifetime, s.next)))), ((s.reserved, (s.durable, (s.mark, (s.next_mark, (s.count, (s.last, s.most)))))), (s.store, (s.is_shut, s.is_pending)))))
     (λ p. record {
       rp = p.0.0;
       policy = p.0.1.0;
-      timed = p.0.1.1;
+      key = p.0.1.1.0;
+      lifetime = p.0.1.1.1.0;
+      next = p.0.1.1.1.1;
       reserved = p.1.0.0;
       durable = p.1.0.1.0;
       mark = p.1.0.1.1.0;
@@ -73,13 +76,23 @@ site_tree = 2
 abbrev pub mark_tree : ℕ
 mark_tree = 6
 
+-- the tables of the key, of sessions that have ended, and of users whose registrations have ended
+abbrev pub key_tree : ℕ
+key_tree = 7
+
+abbrev pub ended_session_tree : ℕ
+ended_session_tree = 8
+
+abbrev pub ended_user_tree : ℕ
+ended_user_tree = 9
+
 -- the columns: number, version, rp_id, next_session
 abbrev pub site_row_of : ℕ → List ℕ → ℕ → Row
 site_row_of version rp_id next = Int (pos 1) ∷ Null ∷ Int (pos version) ∷ Text rp_id ∷ Int (pos next) ∷ []
 
--- the same in a file of version 3
+-- the same in a file of version 4
 abbrev pub site_row : List ℕ → ℕ → Row
-site_row rp_id next = site_row_of 3 rp_id next
+site_row rp_id next = site_row_of 4 rp_id next
 
 -- an integer column holds it
 abbrev pub FitsColumn : ℕ → Type 0
@@ -129,6 +142,14 @@ pub record HoldsSite (placed : Placed) (rp_id : List ℕ) (next : ℕ) (db : Tre
   pub credentials : Holds placed db
   pub site : db site_tree ≡ site_row rp_id next ∷ []
 
+-- the columns: number, key
+abbrev pub key_row : List ℕ → Row
+key_row key = Int (pos 1) ∷ Null ∷ Blob key ∷ []
+
+-- the row of the key stands in its table
+abbrev pub HasKey : List ℕ → Trees → Type 0
+HasKey key db = filter (has_rowid (pos 1)) (db key_tree) ≡ key_row key ∷ []
+
 -- the row of the relying party stands in its table
 abbrev pub HasParty : List ℕ → ℕ → Trees → Type 0
 HasParty rp_id next db = filter (has_rowid (pos 1)) (db site_tree) ≡ site_row rp_id next ∷ []
@@ -145,6 +166,8 @@ pub record IsReady (v : View) (is_pending : Bool) : Type 0 where
   pub site : HasTable site_tree v
   pub details : HasTable detail_tree v
   pub marks : HasTable mark_tree v
+  pub ended_sessions : HasTable ended_session_tree v
+  pub ended_users : HasTable ended_user_tree v
   pub is_open : IsTrue v.is_open
   pub sound : v.is_broken ≡ false
   pub committed : is_pending ≡ false → v.trees ≡ v.committed
@@ -153,6 +176,7 @@ pub record IsReady (v : View) (is_pending : Bool) : Type 0 where
 -- committed, and these a column can hold
 pub record IsSound {S : Type 0} (view : S → View) (s : StoredState S) : Type 0 where
   pub ready : s.is_shut ≡ false → IsClean (view s.store) → IsReady (view s.store) s.is_pending
-  pub given : s.is_shut ≡ false → s.timed.open_sessions.next ≤ s.reserved
+  pub given : s.is_shut ≡ false → s.next ≤ s.reserved
   pub durable : s.is_shut ≡ false → s.durable ≤ s.reserved
   pub reserved : FitsColumn s.reserved
+  pub key : length s.key ≡ 32

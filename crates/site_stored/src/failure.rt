@@ -7,7 +7,9 @@ ghost use Rattle.site_stored.specs.declared.failure.CreateFailure.TheVariants as
 ghost use Rattle.site_stored.specs.declared.failure.OpenFailure.TheVariants as opens;
 ghost use Rattle.site_stored.specs.declared.failure.BeginFailure.TheVariants as begins;
 ghost use Rattle.site_stored.specs.declared.failure.FinishFailure.TheVariants as finishes;
+ghost use Rattle.site_stored.specs.Private.{seal_refusal};
 
+use site_seal::SealError;
 use site_state::BeginError;
 use sqlite_trees::error::StoreError;
 use std::alloc::AllocError;
@@ -122,6 +124,17 @@ impl From<BeginError> for BeginFailure {
 
     fn from(e: BeginError) -> BeginFailure {
         BeginFailure::Site(e)
+    }
+}
+
+impl From<SealError> for BeginFailure {
+    ghost from_gives = { λ e f. f ≡ begins.Site (seal_refusal e) };
+
+    fn from(e: SealError) -> BeginFailure {
+        match e {
+            SealError::BadInput => BeginFailure::Site(BeginError::BadInput),
+            SealError::Memory => BeginFailure::Site(BeginError::Memory),
+        }
     }
 }
 

@@ -1,38 +1,42 @@
 //! Finishing a sign-in (WebAuthn Level 2, section 7.2).
 
-ghost use Rattle.std.specs.Prelude.{◌≡◌, IfErr, IfOk, IsErrOf, OnOk, false, option_map, true};
+ghost use Rattle.std.specs.Prelude.{◌≡◌, ◌⊎◌, ◌∷◌, IfErr, IfNone, IfOk, IfSome, IsErrOf, OnOk, false, option_map, pos, true};
 ghost use Rattle.sqlite_trees.specs.View.{IsClean};
 ghost use Rattle.authdata.specs.Flags.{is_set, BE};
 ghost use Rattle.authdata.specs.Layout.{lent_auth_view};
 ghost use Rattle.site_stored.specs.Summaries.{Summarises};
 ghost use Rattle.verification.specs.SignInAnswers.{IsRefused};
-ghost use Rattle.verification.specs.Views.{assertion_parts_view, credential_view};
+ghost use Rattle.verification.specs.Views.{assertion_parts_view, credential_view, sign_in_view};
 ghost use Rattle.site_state.specs.Table as table;
 ghost use Rattle.site_rows.specs.Held.{Placed};
 ghost use Rattle.site_rows.specs.Details.{Details, HoldsDetails};
-ghost use Rattle.site_state.specs.Sessions.{sign_in_at};
-ghost use Rattle.site_state.specs.Timed.{after_end};
-ghost use Rattle.site_stored.specs.State.{IsHeld};
-ghost use Rattle.site_stored.specs.Calls.{IsNotFinished, IsOneSite, RefusesSignIn, SignsIn, TellsUsed};
-ghost use Rattle.site_stored.specs.Causes.{IsDamaged, RefusesSignedIn, FinishFails};
-ghost use Rattle.site_stored.specs.Private.{IsStopped, RefusesFound, SignsInAs, credential_of, judged, IsOpenStore, KeepsNumbers, LeavesStore};
+ghost use Rattle.site_rows.specs.Trees.{detail_tree};
+ghost use Rattle.site_rows.specs.Endings.{Endings, HoldsEndings};
+ghost use Rattle.site_seal.specs.Seal.{SealedSignIn, sign_in};
+ghost use Rattle.site_seal.specs.Views.{ceremony_view, sealed_view};
+ghost use Rattle.site_stored.specs.Sessions.{EndsSession, accepted, user_of};
+ghost use Rattle.site_stored.specs.State.{FitsColumn, IsHeld, ended_session_tree};
+ghost use Rattle.site_stored.specs.Calls.{IsNotFinished, IsOneSite, KeepsBeside, RefusesSignIn, SignsIn, TellsUsed, credential_trees};
+ghost use Rattle.site_stored.specs.Causes.{IsDamaged, IsUnknownEnding, RefusesEnding, RefusesSignedIn, FinishFails};
+ghost use Rattle.site_stored.specs.Private.{ExpectsAs, IsStopped, RefusesFound, SignsInAs, credential_of, judged, IsOpenStore, KeepsNumbers, LeavesStore};
 ghost use Rattle.site_stored.specs.declared.failure.Failure.TheVariants as failures;
 ghost use Rattle.site_stored.specs.declared.failure.FinishFailure.TheVariants as finishes;
 ghost use Rattle.site_rows.specs.Calls.{IsQuiet};
 
 use crate::failure::{Failure, FinishFailure};
 use crate::kept::StoredSite;
+use crate::session::{ACCEPTED, Given, end_session, open_session};
 use crate::site_store::SiteStore;
 use crate::summary::{Summary, summary_of};
 use authdata::AuthView;
 use cose::Verifier;
 use site_rows::{Found, lent};
-use site_state::TimedSessions;
+use site_seal::{OpenedCeremony, OpenedSignIn};
 use sqlite_trees::store::Store;
 use std::alloc::Global;
 use verification::{
-    AssertionParts, RelyingParty, RowView, SignInAttempt, SignInRefusal, VerificationError,
-    VerifiedAssertion, verify_assertion,
+    AssertionParts, RelyingParty, RowView, SignInAttempt, SignInRefusal, SignInSession,
+    VerificationError, VerifiedAssertion, verify_assertion,
 };
 
 /// Who signed in, and with which credential.
@@ -84,26 +88,68 @@ fn counted<'a>(row: RowView<'a>, verified: &VerifiedAssertion<'_>) -> RowView<'a
     }
 }
 
+/// The open session for sign-in, of what a text says of it.
+fn sign_in_of(given: &Given) -> Option<&OpenedSignIn>
+    ensures some { IfSome result (λ s. ceremony_view given.now.opened.ceremony ≡ sign_in (sealed_view s.now)) }
+    ensures none { IfNone result ((x : SealedSignIn) → ceremony_view given.now.opened.ceremony ≡ sign_in x → ⊥) }
+{
+    match &given.opened.ceremony {
+        OpenedCeremony::SignIn(session) => Some(session),
+        OpenedCeremony::Registration(_) => None,
+    }
+}
+
+/// The user of the credential that was found; no bytes where none was.
+fn user_of(found: &Option<Found>) -> &[u8]
+    ensures { result.now ≡ user_of (credential_of found.now) }
+{
+    match found {
+        Some(found) => &found.credential.user,
+        None => &[],
+    }
+}
+
+/// What an open session expects of the credential that was found for this id.
+fn expected_of(
+    alloc: Global,
+    key: &[u8; 32],
+    given: &Option<Given>,
+    found: &Option<Found>,
+    id: &[u8],
+) -> Result<Option<SignInSession>, VerificationError<SignInRefusal>>
+    ensures expected { IfOk result (λ e. ExpectsAs key.now given.now (user_of (credential_of found.now)) id.now (option_map sign_in_view e)) }
+    ensures memory { IfErr result (λ e. e ≡ VerificationError.Memory) }
+{
+    let Some(given) = given else {
+        return Ok(None);
+    };
+    match sign_in_of(given) {
+        Some(session) => Ok(Some(session.expected(alloc, key, user_of(found), id)?)),
+        None => Ok(None),
+    }
+}
+
 /// Judges a response with what was found for it, and writes what it changes of the credential and of its detail.
 fn sign_in_found<S: Store, V: Verifier>(
     party: &RelyingParty,
-    sessions: &TimedSessions,
+    session: Option<&SignInSession>,
     held: &mut SiteStore<S>,
     verifier: &V,
-    session: u64,
     response: &AssertionParts<'_>,
     found: &Option<Found>,
-    now: i64,
+    now: u64,
 ) -> Result<SignedIn, FinishFailure<SignInRefusal>>
     requires ready { IsOpenStore S.Store held.old }
-    ensures accepted { IfOk result (λ x. SignsInAs (V.valid verifier.now) party.now (sign_in_at session sessions.now.open_sessions) found.now
-        (assertion_parts_view response.now) now x (S.Store.view held.old.store) (S.Store.view held.new.store)) }
+    requires fits { IfSome session (λ _. FitsColumn now) }
+    ensures accepted { IfOk result (λ x. SignsInAs (V.valid verifier.now) party.now (option_map (λ e. sign_in_view e.now) session.entry) found.now
+        (assertion_parts_view response.now) (pos now) x (S.Store.view held.old.store) (S.Store.view held.new.store)) }
     ensures refused { IfErr result (IsStopped (held.new ≡ held.old) held.new.is_shut (IsRefused (V.valid verifier.now)
-        (judged party.now (sign_in_at session sessions.now.open_sessions) found.now (assertion_parts_view response.now)))) }
+        (judged party.now (option_map (λ e. sign_in_view e.now) session.entry) found.now (assertion_parts_view response.now)))) }
     ensures leaves { LeavesStore S.Store held.old held.new result }
     ensures reserved { KeepsNumbers held.old held.new }
+    ensures reals { (S.Store.view held.new.store).reals ≡ (S.Store.view held.old.store).reals }
     ensures cause { FinishFails S.Store held.old.store held.new.store
-        (RefusesFound (S.Store.view held.old.store) party.now.profile found.now (assertion_parts_view response.now) now) ⊥ result }
+        (RefusesFound (S.Store.view held.old.store) party.now.profile found.now (assertion_parts_view response.now) (pos now)) ⊥ result }
 {
     let alloc = held.alloc;
     let verified = verify_assertion(
@@ -111,7 +157,7 @@ fn sign_in_found<S: Store, V: Verifier>(
         verifier,
         &SignInAttempt {
             party,
-            session: sessions.sign_in(session),
+            session,
             credential: credential_in(found),
             response: *response,
         },
@@ -125,54 +171,68 @@ fn sign_in_found<S: Store, V: Verifier>(
         &verified.auth_data,
     )?;
     held.set(found.place, &counted(credential, &verified))?;
-    held.mark_used(found.place, now)?;
+    held.mark_used(found.place, now as i64)?;
     Ok(signed_in)
 }
 
 impl<S: Store> StoredSite<S> {
-    /// Finishes a sign-in: the response's credential keeps the counter and the mark of eligibility that came, and the session is
-    /// closed. Its detail keeps this second of the host's clock as that of its last use. It is to be committed before it is told.
+    /// Finishes a sign-in in the session of a text, at this second of the host's clock: the response's credential keeps the counter and the
+    /// mark of eligibility that came, its detail this second as that of its last use, and the session has ended. It is to be committed
+    /// before it is told.
     ///
-    /// `Site` with the first step of section 7.2 that the response does not pass in this session, or with want of memory. Then
-    /// nothing has changed: the session is open.
+    /// `Site` with the first step of section 7.2 that the response does not pass in this session, or with want of memory: a text that is
+    /// not that of an open session for sign-in has none. Then nothing has changed: the session is open.
     pub fn finish_parts<V: Verifier>(
         &mut self,
         verifier: &V,
-        session: u64,
+        text: &[u8],
         response: &AssertionParts<'_>,
-        now: i64,
+        now: u64,
     ) -> Result<SignedIn, FinishFailure<SignInRefusal>>
         ensures accepted { IfOk result (λ x. IsClean (S.Store.view self.new.store) → (placed : Placed) → IsHeld placed self.old (S.Store.view self.old.store).trees
-            → (after : Placed) × SignsIn (V.valid verifier.now) placed self.old session (assertion_parts_view response.now) x after
+            → (ended : Endings) → HoldsEndings ended_session_tree ended (S.Store.view self.old.store).trees
+            → (after : Placed) × SignsIn (V.valid verifier.now) placed ended self.old now text.now (assertion_parts_view response.now) x after
             × IsHeld after self.new (S.Store.view self.new.store).trees) }
+        ensures ended { OnOk result (IsClean (S.Store.view self.new.store) → (placed : Placed) → IsHeld placed self.old (S.Store.view self.old.store).trees
+            → (ended : Endings) → HoldsEndings ended_session_tree ended (S.Store.view self.old.store).trees → (after : Endings) × EndsSession self.old accepted now text.now ended after × HoldsEndings ended_session_tree after (S.Store.view self.new.store).trees) }
+        ensures beside { OnOk result (IsClean (S.Store.view self.new.store) → (placed : Placed) → IsHeld placed self.old (S.Store.view self.old.store).trees
+            → KeepsBeside (ended_session_tree ∷ detail_tree ∷ credential_trees) (S.Store.view self.old.store).trees (S.Store.view self.new.store).trees) }
         ensures used { OnOk result (IsClean (S.Store.view self.new.store) → (placed : Placed) → IsHeld placed self.old (S.Store.view self.old.store).trees
             → (details : Details) → HoldsDetails details (S.Store.view self.old.store).trees
-            → TellsUsed placed response.now.credential.now now details (S.Store.view self.new.store).trees) }
-        ensures closed { OnOk result (self.new.timed ≡ after_end self.old.timed session) }
-        ensures one { OnOk result (IsOneSite self.old self.new × (self.new.is_shut ≡ false)) }
+            → TellsUsed placed response.now.credential.now (pos now) details (S.Store.view self.new.store).trees) }
+        ensures one { OnOk result (IsOneSite self.old self.new × (self.new.is_shut ≡ false) × (self.new.next ≡ self.old.next)) }
         ensures refused { IfErr result (IsNotFinished S.Store.view self.old self.new (λ why. IsClean (S.Store.view self.new.store) → (placed : Placed)
-            → IsHeld placed self.old (S.Store.view self.old.store).trees
-            → RefusesSignIn (V.valid verifier.now) placed self.old session (assertion_parts_view response.now) why)) }
+            → IsHeld placed self.old (S.Store.view self.old.store).trees → (ended : Endings) → HoldsEndings ended_session_tree ended (S.Store.view self.old.store).trees
+            → RefusesSignIn (V.valid verifier.now) placed ended self.old now text.now (assertion_parts_view response.now) why)) }
         ensures shut { self.old.is_shut ≡ true → IsErrOf result (finishes.Store failures.Shut) }
         ensures cause { FinishFails S.Store self.old.store self.new.store
-            (RefusesSignedIn (S.Store.view self.old.store) self.old.rp.profile (assertion_parts_view response.now) now) (IsDamaged (S.Store.view self.old.store).trees) result }
+            (RefusesSignedIn (S.Store.view self.old.store) self.old.rp.profile (assertion_parts_view response.now) (pos now) ⊎ RefusesEnding ended_session_tree (S.Store.view self.old.store))
+            (IsDamaged (S.Store.view self.old.store).trees ⊎ IsUnknownEnding ended_session_tree (S.Store.view self.old.store).trees) result }
         ensures quiet { IsQuiet S.Store self.old.store self.new.store }
     {
         if self.held.is_shut {
             return Err(FinishFailure::Store(Failure::Shut));
         }
+        let given = open_session(&self.key, &self.party, self.next, &mut self.held, text, now)?;
         let found = self.held.find(response.credential)?;
+        let expected = expected_of(
+            self.held.alloc,
+            &self.key,
+            &given,
+            &found,
+            response.credential,
+        )?;
         let signed_in = sign_in_found(
             &self.party,
-            &self.sessions,
+            expected.as_ref(),
             &mut self.held,
             verifier,
-            session,
             response,
             &found,
             now,
         )?;
-        self.sessions.close(session);
+        let given = given.as_ref().unwrap();
+        end_session(&mut self.held, given, ACCEPTED, now)?;
         Ok(signed_in)
     }
 }

@@ -1,13 +1,9 @@
 //! A relying party over a store.
 
-ghost use Rattle.std.specs.Prelude.{◌≡◌, ◌⊎◌, ◌+◌, ◌≤◌, ℕ, IfErr, IfOk, OnErr, OnOk, IsErrOf, is_some, option_map, true};
-ghost use Rattle.std.specs.FinMap as finite;
+ghost use Rattle.std.specs.Prelude.{◌≡◌, ◌⊎◌, ◌≤◌, ℕ, IfErr, OnOk, IsErrOf, true};
 ghost use Rattle.sqlite_trees.specs.Tree.{Trees};
 ghost use Rattle.sqlite_trees.specs.View.{IsClean};
-ghost use Rattle.verification.specs.Views.{registration_view};
-ghost use Rattle.site_state.specs.Sessions.{registration_at};
 ghost use Rattle.site_rows.specs.Held.{Placed};
-ghost use Rattle.site_state.specs.Timed.{after_end, since};
 ghost use Rattle.site_stored.specs.State.{IsHeld, IsSound, committed_as, known, to_commit, site_tree, mark_tree};
 ghost use Rattle.site_stored.specs.Calls.{IsCommit, IsFailure};
 ghost use Rattle.site_stored.specs.Causes.{RefusesCommit, SiteFails};
@@ -17,13 +13,12 @@ use crate::failure::Failure;
 use crate::marks::mark_after;
 use crate::rows::to_commit;
 use crate::site_store::SiteStore;
-use site_state::TimedSessions;
 use sqlite_trees::store::Store;
-use std::alloc::AllocError;
 use std::marker::Model;
-use verification::{Policy, RegistrationSession, RelyingParty};
+use verification::{Policy, RelyingParty};
 
-/// A relying party whose credentials are rows of a store, and whose open sessions are in memory.
+/// A relying party whose credentials are rows of a store, and whose sessions are texts that it has sealed: nothing is kept of one
+/// that has begun, and one that was answered or abandoned is a row of the store until its time is over.
 ///
 /// A call writes what it answers, and `commit` commits all that was written since the last one: an answer is told only after
 /// it. So one commit serves many calls. A failure of the disk or of memory while it writes shuts the site: each further call
@@ -32,7 +27,9 @@ use verification::{Policy, RegistrationSession, RelyingParty};
 pub struct StoredSite<S: Store> {
     pub(crate) party: RelyingParty,
     pub(crate) policy: Policy,
-    pub(crate) sessions: TimedSessions,
+    pub(crate) key: [u8; 32],
+    pub(crate) lifetime: u64,
+    pub(crate) next: u64,
     pub(crate) mark: u64,
     pub(crate) next_mark: u64,
     pub(crate) count: u32,
@@ -51,7 +48,9 @@ impl<S: Store> Model for StoredSite<S> {
     ghost view = { λ s. record {
       rp = s.party;
       policy = s.policy;
-      timed = s.sessions;
+      key = s.key;
+      lifetime = s.lifetime;
+      next = s.next;
       reserved = s.held.reserved;
       durable = s.held.durable;
       mark = s.mark;
@@ -67,7 +66,9 @@ impl<S: Store> Model for StoredSite<S> {
     ghost invariant = { λ s. IsSound S.Store.view (record {
       rp = s.party;
       policy = s.policy;
-      timed = s.sessions;
+      key = s.key;
+      lifetime = s.lifetime;
+      next = s.next;
       reserved = s.held.reserved;
       durable = s.held.durable;
       mark = s.mark;
@@ -110,16 +111,11 @@ impl<S: Store> StoredSite<S> {
         &self.party
     }
 
-    /// How many sessions are open.
-    pub fn open_count(&self) -> usize {
-        self.sessions.count()
-    }
-
     /// The number that the next session will have.
     pub fn next_session(&self) -> u64
-        ensures { result ≡ self.now.timed.open_sessions.next }
+        ensures { result ≡ self.now.next }
     {
-        self.sessions.next()
+        self.next
     }
 
     /// What is to be kept elsewhere: as `at_least` of [`open`](StoredSite::open) it refuses each copy that lacks the last commit, and
@@ -128,13 +124,6 @@ impl<S: Store> StoredSite<S> {
         ensures { result ≡ known self.now.durable }
     {
         self.held.durable.saturating_sub(1)
-    }
-
-    /// What the session of a number expects, where it is open for registration.
-    pub fn registration(&self, session: u64) -> Option<&RegistrationSession>
-        ensures { option_map (λ s. registration_view s.now) result ≡ registration_at session self.now.timed.open_sessions }
-    {
-        self.sessions.registration(session)
     }
 
     /// Commits what was written since the last commit, if anything was. What the calls since then answered may be told now.
@@ -173,27 +162,8 @@ impl<S: Store> StoredSite<S> {
         self.held.commit()?;
         self.mark = self.next_mark;
         self.next_mark = mark_after(self.mark);
-        self.sessions
-            .skip_to(u64::max(self.sessions.next(), durable));
+        self.next = u64::max(self.next, durable);
         Ok(())
-    }
-
-    /// Closes a session: true exactly where it was open. It takes no memory, and writes nothing.
-    pub fn abandon(&mut self, session: u64) -> bool
-        ensures told { result ≡ is_some (finite.get self.old.timed.open_sessions.expected session) }
-        ensures closed { self.new ≡ record self.old { timed = after_end self.old.timed session } }
-    {
-        self.sessions.close(session)
-    }
-
-    /// Ends each session that began before a second of the host's clock, and tells how many they were. Where there is no
-    /// memory nothing has changed. It writes nothing.
-    pub fn expire(&mut self, before: u64) -> Result<usize, AllocError>
-        ensures told { IfOk result (λ count. count + finite.len self.new.timed.open_sessions.expected ≡ finite.len self.old.timed.open_sessions.expected) }
-        ensures expired { OnOk result (self.new ≡ record self.old { timed = since before self.old.timed }) }
-        ensures unchanged { OnErr result (self.new ≡ self.old) }
-    {
-        self.sessions.expire(before)
     }
 
     /// Ends it, and gives the store back.

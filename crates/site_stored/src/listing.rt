@@ -12,13 +12,13 @@ ghost use Rattle.site_stored.specs.State.{IsHeld};
 ghost use Rattle.site_stored.specs.Private.{AreCredentials, IsCredentialRow, HadNoRow};
 ghost use Rattle.site_rows.specs.Calls.{HasCursor, Reads, LookUpFails};
 ghost use Rattle.site_rows.specs.Trees.{credential_tree};
-ghost use Rattle.site_stored.specs.Causes.{SiteFails};
+ghost use Rattle.site_stored.specs.Causes.{AreTooMany, SiteFails};
 ghost use Rattle.site_stored.specs.Calls.{ReadsSite};
 
 use crate::failure::Failure;
 use crate::kept::StoredSite;
 use crate::scan::begin_scan;
-use site_rows::{CREDENTIAL_TREE, RowError, find_all, int_at, read_credential};
+use site_rows::{CREDENTIAL_TREE, RowError, int_at, read_credential};
 use site_state::Row;
 use sqlite_trees::error::StoreError;
 use sqlite_trees::store::Store;
@@ -107,15 +107,12 @@ impl<S: Store> StoredSite<S> {
         ensures rows { IfOk result (λ rows. IsClean (S.Store.view self.new.store) → (placed : Placed) → IsHeld placed self.old (S.Store.view self.old.store).trees
             → rows_view rows.items ≡ filter (λ c. bytes_eq c.user user.now) (rows_of placed)) }
         ensures reads { ReadsSite S.Store self.old self.new result }
-        ensures cause { SiteFails S.Store self.old.store self.new.store
-            ⊥ ((placed : Placed) → Holds placed (S.Store.view self.old.store).trees → 2 ^ 32 - 1 ≤ length (filter (λ c. bytes_eq c.user user.now) (rows_of placed))) result }
+        ensures cause { SiteFails S.Store self.old.store self.new.store ⊥ (AreTooMany user.now (S.Store.view self.old.store).trees) result }
     {
         if self.held.is_shut {
             return Err(Failure::Shut);
         }
-        self.held.is_shut = true;
-        let rows = find_all(self.held.alloc, &mut self.held.store, user)?;
-        self.held.is_shut = false;
+        let rows = self.held.find_all(user)?;
         Ok(rows)
     }
 }

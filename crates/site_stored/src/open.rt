@@ -9,7 +9,7 @@ ghost use Rattle.verification.specs.Records.{Credential};
 ghost use Rattle.site_rows.specs.Held.{Placed};
 ghost use Rattle.site_rows.specs.Rows.{credential_row};
 ghost use Rattle.site_stored.specs.Causes.{IfOpenStore, IsStartCaused, OpenFails};
-ghost use Rattle.site_stored.specs.State.{HasMark, HasParty, HoldsSite, site_row, site_tree};
+ghost use Rattle.site_stored.specs.State.{HasKey, HasMark, HasParty, HoldsSite, site_row, site_tree};
 ghost use Rattle.site_stored.specs.Private.{IsUpTo, IsSettled, ReadingFails, LacksMemory, IsNumber, HadNoRow, IsNotOlder};
 ghost use Rattle.site_stored.specs.declared.failure.OpenFailure.TheVariants as opens;
 ghost use Rattle.site_rows.specs.Calls.{IfClean, HasCursor, IsQuiet, Reads};
@@ -19,13 +19,13 @@ ghost use Rattle.site_stored.specs.Starts.{IsOpened};
 use crate::create::Bounds;
 use crate::failure::OpenFailure;
 use crate::kept::StoredSite;
+use crate::key::read_key;
 use crate::marks::read_mark;
 use crate::rows::{VERSION, site_row};
 use crate::scan::{begin_scan, has_trees, rest};
 use crate::site_store::SiteStore;
 use crate::trees::SITE_TREE;
 use site_rows::{CREDENTIAL_TREE, RowError, int_at, read_credential};
-use site_state::TimedSessions;
 use sqlite_trees::error::StoreError;
 use sqlite_trees::store::Store;
 use sqlite_value::row::Row;
@@ -144,6 +144,7 @@ fn count_rows<S: Store>(alloc: Global, store: &mut S) -> Result<Count, OpenFailu
 #[derive(Drop)]
 struct FoundSite {
     next: u64,
+    key: [u8; 32],
     mark: u64,
     count: u32,
     last: u32,
@@ -170,6 +171,7 @@ fn read_all<S: Store>(
     ensures found { IfOk result (λ f. IsClean (S.Store.view store.new) → (placed : Placed) (next : ℕ) → HoldsSite placed rp_id.now next (S.Store.view store.new).trees
         → (f.next ≡ next) × (finite.len placed ≡ f.count) × ((p : ℕ) (c : Credential) → finite.get placed p ≡ Some c → p ≤ f.last)) }
     ensures party { IfOk result (λ f. IsClean (S.Store.view store.new) → HasParty rp_id.now f.next (S.Store.view store.new).trees) }
+    ensures key { IfOk result (λ f. IsClean (S.Store.view store.new) → HasKey f.key (S.Store.view store.new).trees) }
     ensures mark { IfOk result (λ f. IsClean (S.Store.view store.new) → HasMark f.mark (S.Store.view store.new).trees) }
     ensures limits { IfOk result (λ f. IsNumber f.next) }
     ensures newer { IfOk result (λ f. at_least < f.next) }
@@ -185,10 +187,12 @@ fn read_all<S: Store>(
     }
     let next = read_site(alloc, rp_id, store)?;
     check_age(next, at_least)?;
+    let key = read_key(alloc, store)?;
     let mark = read_mark(alloc, store)?;
     let counted = count_rows(alloc, store)?;
     Ok(FoundSite {
         next,
+        key,
         mark,
         count: counted.count,
         last: counted.last,
@@ -209,7 +213,7 @@ pub struct Opening {
 }
 
 impl<S: Store> StoredSite<S> {
-    /// The site that a store holds, of this relying party. No session is open, and the numbers go on. Nothing is written; what an
+    /// The site that a store holds, of this relying party. The numbers of sessions go on, and those that are open stay so. Nothing is written; what an
     /// earlier transaction of the store has not committed is undone. `life` is a random number, the mark of the next commit.
     ///
     /// `NoSite` where the trees are not those of a site, `Newer` and `OtherSite` where their version or rp id is another, `Older`
@@ -239,24 +243,29 @@ impl<S: Store> StoredSite<S> {
             at_least,
         } = opening;
         match read_all(alloc, party.rp_id(), at_least, &mut store) {
-            Ok(found) => Ok(StoredSite {
-                party,
-                policy,
-                sessions: TimedSessions::new(alloc, found.next, bounds.open_sessions),
-                mark: found.mark,
-                next_mark: life,
-                count: found.count,
-                last: found.last,
-                most: bounds.credentials,
-                held: SiteStore {
-                    alloc,
-                    store,
-                    reserved: found.next,
-                    durable: found.next,
-                    is_pending: false,
-                    is_shut: false,
-                },
-            }),
+            Ok(found) => {
+                let key = found.key;
+                Ok(StoredSite {
+                    party,
+                    policy,
+                    key,
+                    lifetime: bounds.lifetime,
+                    next: found.next,
+                    mark: found.mark,
+                    next_mark: life,
+                    count: found.count,
+                    last: found.last,
+                    most: bounds.credentials,
+                    held: SiteStore {
+                        alloc,
+                        store,
+                        reserved: found.next,
+                        durable: found.next,
+                        is_pending: false,
+                        is_shut: false,
+                    },
+                })
+            }
             Err(why) => Err((why, store)),
         }
     }

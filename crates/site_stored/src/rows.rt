@@ -18,11 +18,11 @@ use sqlite_value::value::ValueRef;
 use std::alloc::{AllocError, Global};
 
 /// The version of a file.
-pub(crate) const VERSION: i64 = 3;
+pub(crate) const VERSION: i64 = 4;
 
 /// The row of a relying party in a file of a version, none of whose sessions had this number or a higher one.
 pub fn site_row_of(alloc: Global, version: u64, rp_id: &str, next: u64) -> Result<Row, AllocError>
-    requires version { version ≤ 3 }
+    requires version { version ≤ 4 }
     requires fits { FitsColumn next }
     ensures row { IfOk result (λ row. row ≡ site_row_of version rp_id.now next) }
 {

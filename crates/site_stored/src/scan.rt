@@ -6,10 +6,10 @@ ghost use Rattle.site_rows.specs.Held.{HasTrees};
 ghost use Rattle.site_stored.specs.Private.{IsAtRest, TakesReals};
 ghost use Rattle.site_rows.specs.Calls.{HasCursor, IsQuiet, Reads, StoreFails};
 ghost use Rattle.site_rows.specs.Trees.{detail_tree, HasTable};
-ghost use Rattle.site_stored.specs.State.{site_tree, mark_tree};
+ghost use Rattle.site_stored.specs.State.{ended_session_tree, ended_user_tree, key_tree, mark_tree, site_tree};
 ghost use Rattle.site_stored.specs.Causes.{StartFails};
 
-use crate::trees::{MARK_TREE, SITE_TREE};
+use crate::trees::{ENDED_SESSION_TREE, ENDED_USER_TREE, KEY_TREE, MARK_TREE, SITE_TREE};
 use site_rows::{CREDENTIAL_TREE, DETAIL_TREE, ID_TREE, USER_TREE};
 use sqlite_trees::error::StoreError;
 use sqlite_trees::store::{Direction, Shape, Store};
@@ -67,7 +67,8 @@ pub(crate) fn rest<S: Store>(store: &mut S) -> Result<(), StoreError>
 /// Whether the trees have the shapes of a site's.
 pub(crate) fn has_trees<S: Store>(store: &S) -> bool
     ensures { IsTrue result → HasTrees (S.Store.view store.now) × HasTable site_tree (S.Store.view store.now)
-        × HasTable detail_tree (S.Store.view store.now) × HasTable mark_tree (S.Store.view store.now) }
+        × HasTable detail_tree (S.Store.view store.now) × HasTable mark_tree (S.Store.view store.now)
+        × HasTable key_tree (S.Store.view store.now) × HasTable ended_session_tree (S.Store.view store.now) × HasTable ended_user_tree (S.Store.view store.now) }
 {
     store.shape(CREDENTIAL_TREE) == Shape::Table
         && store.shape(SITE_TREE) == Shape::Table
@@ -75,4 +76,7 @@ pub(crate) fn has_trees<S: Store>(store: &S) -> bool
         && store.shape(USER_TREE) == Shape::Index(Order::PLAIN)
         && store.shape(DETAIL_TREE) == Shape::Table
         && store.shape(MARK_TREE) == Shape::Table
+        && store.shape(KEY_TREE) == Shape::Table
+        && store.shape(ENDED_SESSION_TREE) == Shape::Table
+        && store.shape(ENDED_USER_TREE) == Shape::Table
 }

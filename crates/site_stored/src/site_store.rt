@@ -1,23 +1,26 @@
 //! The store of a site.
 
-ghost use Rattle.std.specs.Prelude.{◌≡◌, ◌⊎◌, ◌+◌, ◌≤◌, ℕ, List, IfOk, OnOk, None, Some, false};
+ghost use Rattle.std.specs.Prelude.{◌≡◌, [], ◌∷◌, ◌⊎◌, ◌+◌, ◌≤◌, ℕ, List, IfOk, OnOk, None, Some, false};
 ghost use Rattle.std.specs.FinMap as finite;
 ghost use Rattle.sqlite_trees.specs.Tree.{Trees};
 ghost use Rattle.sqlite_trees.specs.View.{IsClean, IsStorableRow};
 ghost use Rattle.verification.specs.Records.{Credential};
 ghost use Rattle.verification.specs.Views.{credential_view};
+ghost use Rattle.site_state.specs.RowViews.{rows_view};
 ghost use Rattle.site_rows.specs.Causes.{IsRefused};
 ghost use Rattle.site_rows.specs.Rows.{credential_row};
 ghost use Rattle.site_rows.specs.Held.{HasNone, Holds, IsWritten, Placed};
-ghost use Rattle.site_stored.specs.Causes.{IsDamaged, RefusesNumber, SiteFails};
-ghost use Rattle.site_stored.specs.Private.{IsFoundAs, TellsHad, IsReadyStore, IsOpenStore, FailsShut, ReadsStore, WritesStore, LeavesStore};
-ghost use Rattle.site_stored.specs.State.{HoldsSite, IsReady, mark_row, with_mark, with_site, mark_tree, FitsColumn};
+ghost use Rattle.site_stored.specs.Calls.{KeepsBeside};
+ghost use Rattle.site_stored.specs.Causes.{AreTooMany, IsDamaged, RefusesNumber, SiteFails};
+ghost use Rattle.site_stored.specs.Private.{AreUsers, IsFoundAs, TellsHad, IsReadyStore, IsOpenStore, FailsShut, ReadsStore, WritesStore, LeavesStore};
+ghost use Rattle.site_stored.specs.State.{HoldsSite, IsReady, mark_row, with_mark, with_site, mark_tree, site_tree, FitsColumn};
 ghost use Rattle.site_rows.specs.Trees.{credential_tree};
 
 use crate::failure::Failure;
 use crate::marks::write_mark;
 use crate::rows::{BLOCK, reserve};
 use site_rows::Found;
+use site_state::Row;
 use sqlite_trees::store::Store;
 use std::alloc::Global;
 use verification::RowView;
@@ -46,6 +49,20 @@ impl<S: Store> SiteStore<S> {
         let found = site_rows::find(self.alloc, &mut self.store, id)?;
         self.is_shut = false;
         Ok(found)
+    }
+
+    /// The credentials of a user, in order of registration. A failure shuts it.
+    pub(crate) fn find_all(&mut self, user: &[u8]) -> Result<Vec<Row>, Failure>
+        requires ready { IsOpenStore S.Store self.old }
+        ensures rows { IfOk result (λ rows. IsClean (S.Store.view self.new.store) → (placed : Placed)
+            → Holds placed (S.Store.view self.old.store).trees → AreUsers user.now placed (rows_view rows.items)) }
+        ensures reads { ReadsStore S.Store self.old self.new result }
+        ensures cause { SiteFails S.Store self.old.store self.new.store ⊥ (AreTooMany user.now (S.Store.view self.old.store).trees) result }
+    {
+        self.is_shut = true;
+        let rows = site_rows::find_all(self.alloc, &mut self.store, user)?;
+        self.is_shut = false;
+        Ok(rows)
     }
 
     /// Whether a credential has an id. A failure shuts it.
@@ -157,6 +174,8 @@ impl<S: Store> SiteStore<S> {
         ensures fits { FitsColumn self.new.reserved }
         ensures held { OnOk result (IsClean (S.Store.view self.new.store) → (placed : Placed) → HoldsSite placed rp_id.now self.old.reserved (S.Store.view self.old.store).trees
             → HoldsSite placed rp_id.now self.new.reserved (S.Store.view self.new.store).trees) }
+        ensures beside { OnOk result (IsClean (S.Store.view self.new.store)
+            → KeepsBeside (site_tree ∷ []) (S.Store.view self.old.store).trees (S.Store.view self.new.store).trees) }
         ensures leaves { LeavesStore S.Store self.old self.new result }
         ensures durable { self.new.durable ≡ self.old.durable }
         ensures failed { FailsShut self.old self.new result }

@@ -1,5 +1,9 @@
 pub mod Pieces
 pub mod Rows
+pub mod Texts
+pub mod Standing
+pub mod Names
+pub mod Users
 pub mod Calls
 pub mod Opened
 pub mod Histories

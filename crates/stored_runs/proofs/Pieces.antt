@@ -68,3 +68,22 @@ module _ (valid : Validity) (public : Keys) where
     holders = x.holders;
     did = x.did ∙ alike;
   }
+
+-- ---- whatever the world
+
+-- from a site of a run, by these acts, to one of which this holds
+abbrev pub Leads : Validity → Keys → ℕ → site.SiteState → List SiteEvent → (site.SiteState → Type 0) → Type 0
+Leads valid public i s acts P = (t : site.SiteState) × P t × ((w : World) → w.site i ≡ s → LeadsTo valid public w i t acts)
+
+module _ (valid : Validity) (public : Keys) (i : ℕ) (s : site.SiteState) where
+  pub here : (P : site.SiteState → Type 0) → P s → Leads valid public i s [] P
+  here P is = (s, is, λ w at. stays valid public w i s at)
+
+  pub after : (es fs : List SiteEvent) (P Q : site.SiteState → Type 0) → Leads valid public i s es P
+      → ((t : site.SiteState) → P t → Leads valid public i t fs Q) → Leads valid public i s (es ++ fs) Q
+  after es fs P Q (t, is, way) more =
+      let next = more t is in
+      (next.0, next.1, λ w at. joined valid public w i t next.0 es fs (way w at) next.2)
+
+  pub by_the_same : (es fs : List SiteEvent) (P : site.SiteState → Type 0) → es ≡ fs → Leads valid public i s es P → Leads valid public i s fs P
+  by_the_same es fs P alike (t, is, way) = (t, is, λ w at. same valid public w i t t es fs refl alike (way w at))

@@ -1,25 +1,31 @@
--- A history with two crashes, and a credential that is retired and then deleted.
-use Rattle.std.proofs.Common.{◌≡◌, ◌+◌, ◌≤◌, ◌<◌, ◌^◌, inl, ℕ, zero, suc, List, [], ◌∷◌, map, Bool, true, false, refl, sym, ap, ◌∙◌, subst, arith, replicate}
+-- A history with two crashes: a session is abandoned by its text after the first, and a credential is retired and then deleted after the second.
+use Rattle.std.proofs.Common.{◌≡◌, ◌+◌, ◌≤◌, ◌<◌, ◌^◌, inl, ℕ, zero, suc, List, [], ◌∷◌, length, map, Bool, true, false, refl, sym, ap, ◌∙◌, subst, arith, replicate}
 use Rattle.std.proofs.lemmas.Grind.{common_steps}
 use Rattle.std.specs.Prelude.{None, Some}
 use Rattle.std.specs.FinMap.{gets, entries-from_sorted, entries-insert, get-empty, get-from_sorted, nat_cmp-IsAntisymmetric, same_map}
 use Rattle.std.specs.FinMap as finite
 use Rattle.std.specs.Cmp.{nat_cmp_total}
 use Rattle.std.specs.Ordering.{nat_cmp}
+use Rattle.base64.specs.GeneralPurpose.{IsBytes}
 use Rattle.sqlite_value.specs.Order.{Row}
 use Rattle.sqlite_trees.specs.Tree.{Trees}
 use Rattle.cose.specs.Schemes.{Validity}
 use Rattle.cose.specs.declared.key.CoseKey.TheVariants as keys
 use Rattle.authdata.specs.declared.profile.Profile.TheVariants.{Level3}
 use Rattle.verification.specs.Records.{Credential}
+use Rattle.site_state.specs.Sessions.{Opening, OpensSignIn}
 use Rattle.site_state.specs.Table.{retired}
+use Rattle.site_rows.specs.Endings.{Endings, ending_row}
 use Rattle.site_rows.specs.Held.{ArePlaced, Indexes, Placed, entry}
 use Rattle.site_rows.specs.Rows.{IsStored, credential_row}
-use Rattle.site_state.specs.Sessions.{Expected, HaveNumbers, Opening, OpensSignIn}
-use Rattle.site_state.specs.Timed.{Timed, after_begin}
+use Rattle.site_rows.specs.declared.ending.Ending.{Ending}
+use Rattle.site_seal.specs.Seal.{Session}
+use Rattle.site_stored.specs.Calls.{IsOneSite}
+use Rattle.site_stored.specs.Sessions.{IsOpen}
 use Rattle.site_stored.specs.State.{HoldsSite, StoredState, site_row}
-use Rattle.stored_runs.specs.History.{Calls, Commits, Deletes, IsHistory, IsKept, Kept, Opens, Retires, Store}
+use Rattle.stored_runs.specs.History.{Abandons, Begun, Calls, Commits, Deletes, IsHistory, IsKept, Kept, MayBegin, Opens, Retires, Step, Store, begun_at}
 use Rattle.stored_runs.specs.Shown.{Shown}
+use Rattle.stored_runs.proofs.Texts.{fits, session_in}
 
 abbrev key : Credential
 key = record { id = 1 ∷ []; user = 2 ∷ []; key = keys.EdDsa (replicate 32 0); sign_count = 0; eligible = None; retired = false }
@@ -27,13 +33,20 @@ key = record { id = 1 ∷ []; user = 2 ∷ []; key = keys.EdDsa (replicate 32 0)
 abbrev placed_of : Credential → Placed
 placed_of c = finite.insert finite.empty 1 c
 
-abbrev trees_of : Credential → ℕ → Trees
-trees_of c next zero = credential_row 1 c ∷ []
-trees_of c next (suc zero) = []
-trees_of c next (suc (suc zero)) = site_row (3 ∷ []) next ∷ []
-trees_of c next (suc (suc (suc zero))) = entry c.id 1 ∷ []
-trees_of c next (suc (suc (suc (suc zero)))) = entry c.user 1 ∷ []
-trees_of c next (suc (suc (suc (suc (suc n))))) = []
+abbrev ended_rows : Endings → List Row
+ended_rows ended = map (λ e. ending_row e.0 e.1) (finite.entries ended)
+
+abbrev trees_of : Credential → Endings → ℕ → Trees
+trees_of c ended next zero = credential_row 1 c ∷ []
+trees_of c ended next (suc zero) = []
+trees_of c ended next (suc (suc zero)) = site_row (3 ∷ []) next ∷ []
+trees_of c ended next (suc (suc (suc zero))) = entry c.id 1 ∷ []
+trees_of c ended next (suc (suc (suc (suc zero)))) = entry c.user 1 ∷ []
+trees_of c ended next (suc (suc (suc (suc (suc zero))))) = []
+trees_of c ended next (suc (suc (suc (suc (suc (suc zero)))))) = []
+trees_of c ended next (suc (suc (suc (suc (suc (suc (suc zero))))))) = []
+trees_of c ended next (suc (suc (suc (suc (suc (suc (suc (suc zero)))))))) = ended_rows ended
+trees_of c ended next (suc (suc (suc (suc (suc (suc (suc (suc (suc n))))))))) = []
 
 none_entered : finite.entries (finite.empty {K = ℕ} {X = Credential} {R = nat_cmp}) ≡ []
 none_entered =
@@ -59,8 +72,8 @@ are c is = record {
   stored = λ p d f. let o = only c p d f in (subst IsStored (sym o.1) is, let e = o.0 in omega arith);
 }
 
-holds : (c : Credential) (next : ℕ) → IsStored c → HoldsSite (placed_of c) (3 ∷ []) next (trees_of c next)
-holds c next is = record {
+holds : (c : Credential) (ended : Endings) (next : ℕ) → IsStored c → HoldsSite (placed_of c) (3 ∷ []) next (trees_of c ended next)
+holds c ended next is = record {
   credentials = record {
     table = sym (ap (λ es. rows es) (entries-insert nat_cmp_total finite.empty 1 c ∙ ap (λ es. finite.put nat_cmp 1 c es) none_entered));
     by_id = indexed (λ x. x.id) c;
@@ -78,14 +91,16 @@ stored = record { key = refl; sign_count = omega arith }
 stored_retired : IsStored (retired key)
 stored_retired = record { key = refl; sign_count = omega arith }
 
--- the site with this credential, these sessions, these numbers reserved, and this mark of the last commit
-abbrev state_of : Timed → ℕ → ℕ → ℕ → Bool → StoredState (Unit {0})
-state_of timed reserved durable mark is_pending = record {
+-- the site with this credential, this next number, these numbers reserved, and this mark of the last commit
+abbrev state_of : ℕ → ℕ → ℕ → Bool → StoredState (Unit {0})
+state_of next reserved mark is_pending = record {
   rp = record { rp_id = 3 ∷ []; origins = []; top_origins = []; profile = Level3 };
   policy = record { accept_none = true; accept_self = true };
-  timed = timed;
+  key = replicate 32 0;
+  lifetime = 300;
+  next = next;
   reserved = reserved;
-  durable = durable;
+  durable = reserved;
   mark = mark;
   next_mark = mark + 1;
   count = 1;
@@ -96,59 +111,63 @@ state_of timed reserved durable mark is_pending = record {
   is_pending = is_pending;
 }
 
-abbrev none_open : ℕ → Timed
-none_open next = record { open_sessions = record { expected = finite.empty; next = next; max_open = 10 }; began = finite.empty }
+abbrev kept_of : Credential → Endings → ℕ → ℕ → ℕ → Bool → Kept (Unit {0})
+kept_of c ended next reserved mark is_pending =
+    record { state = state_of next reserved mark is_pending; placed = placed_of c; ended = ended; trees = trees_of c ended reserved }
 
-abbrev kept_of : Credential → Timed → ℕ → ℕ → ℕ → Bool → Kept (Unit {0})
-kept_of c timed reserved durable mark is_pending =
-    record { state = state_of timed reserved durable mark is_pending; placed = placed_of c; trees = trees_of c reserved }
-
-is_kept : (c : Credential) (timed : Timed) (reserved durable mark : ℕ) (is_pending : Bool) → IsStored c
-    → HaveNumbers timed.open_sessions.next timed.open_sessions.expected
-    → timed.open_sessions.next ≤ reserved → reserved < 2 ^ 63 → IsKept (kept_of c timed reserved durable mark is_pending)
-is_kept c timed reserved durable mark is_pending is numbers given below = record {
+is_kept : (c : Credential) (ended : Endings) (next reserved mark : ℕ) (is_pending : Bool) → IsStored c → next ≤ reserved → reserved < 2 ^ 63 → IsKept (kept_of c ended next reserved mark is_pending)
+is_kept c ended next reserved mark is_pending is given below = record {
   held = record {
-    holds = holds c reserved is;
+    holds = holds c ended reserved is;
     count = grind (arith, gets, common_steps);
     last = λ p d f. let o = (only c p d f).0 in omega arith;
   };
-  numbers = numbers;
+  ended = refl;
   given = given;
   reserved = below;
 }
 
-no_numbers : (next : ℕ) → HaveNumbers next (none_open next).open_sessions.expected
-no_numbers next n e f = let no : None ≡ Some e = sym (get-empty {X = Expected} nat_cmp n) ∙ f in absurd cc
-
 abbrev opening : Opening
-opening = OpensSignIn None [] false []
+opening = OpensSignIn None [] false (replicate 24 0)
 
-begun_numbers : HaveNumbers 2 (after_begin (none_open 1) opening 0).open_sessions.expected
-begun_numbers n e f = grind (arith, gets, common_steps, f)
+zeros : (n : ℕ) → IsBytes (replicate n 0)
+zeros zero k = omega arith
+zeros (suc n) zero = omega arith
+zeros (suc n) (suc k) = zeros n k
+
+abbrev none_ended : Endings
+none_ended = finite.empty
+
+-- the session of number 1 was abandoned
+abbrev one_ended : Endings
+one_ended = finite.insert finite.empty 1 (record { said = 2; until = 300 })
 
 abbrev start : Kept (Unit {0})
-start = kept_of key (none_open 1) 1001 1001 0 false
+start = kept_of key none_ended 1 1001 0 false
 
 abbrev begun : Kept (Unit {0})
-begun = kept_of key (after_begin (none_open 1) opening 0) 1001 1001 0 false
+begun = kept_of key none_ended 2 1001 0 false
 
 abbrev opened : Kept (Unit {0})
-opened = kept_of key (none_open 1001) 1001 1001 0 false
+opened = kept_of key none_ended 1001 1001 0 false
 
-abbrev written : Kept (Unit {0})
-written = kept_of (retired key) (none_open 1001) 1001 1001 0 true
+abbrev left : Kept (Unit {0})
+left = kept_of key one_ended 1001 1001 0 true
 
-abbrev committed : Kept (Unit {0})
-committed = kept_of (retired key) (none_open 1001) 2001 2001 1 false
+abbrev left_committed : Kept (Unit {0})
+left_committed = kept_of key one_ended 1001 2001 1 false
 
 abbrev reopened : Kept (Unit {0})
-reopened = kept_of (retired key) (none_open 2001) 2001 2001 1 false
+reopened = kept_of key one_ended 2001 2001 1 false
+
+abbrev written : Kept (Unit {0})
+written = kept_of (retired key) one_ended 2001 2001 1 true
+
+abbrev committed : Kept (Unit {0})
+committed = kept_of (retired key) one_ended 2001 3001 2 false
 
 again : placed_of (retired key) ≡ finite.insert (placed_of key) 1 (retired key)
 again = same_map nat_cmp_total nat_cmp-IsAntisymmetric _ _ (λ q. grind (arith, gets, common_steps))
-
-room : finite.len (after_begin (none_open 1) opening 0).open_sessions.expected < 10
-room = grind (arith, gets, common_steps)
 
 -- ---- none is left
 
@@ -165,7 +184,13 @@ abbrev no_trees : ℕ → Trees
 no_trees next zero = []
 no_trees next (suc zero) = []
 no_trees next (suc (suc zero)) = site_row (3 ∷ []) next ∷ []
-no_trees next (suc (suc (suc n))) = []
+no_trees next (suc (suc (suc zero))) = []
+no_trees next (suc (suc (suc (suc zero)))) = []
+no_trees next (suc (suc (suc (suc (suc zero))))) = []
+no_trees next (suc (suc (suc (suc (suc (suc zero)))))) = []
+no_trees next (suc (suc (suc (suc (suc (suc (suc zero))))))) = []
+no_trees next (suc (suc (suc (suc (suc (suc (suc (suc zero)))))))) = ended_rows one_ended
+no_trees next (suc (suc (suc (suc (suc (suc (suc (suc (suc n))))))))) = []
 
 none_indexed : (column : Credential → List ℕ) → Indexes column none_placed []
 none_indexed column = record { each = λ place c is. absurd (none_at place c is); only = tt }
@@ -183,112 +208,182 @@ none_holds next = record {
   rows : List (ℕ × Credential) → List Row
   rows es = map (λ e. credential_row e.0 e.1) es
 
-abbrev none_of : Timed → ℕ → ℕ → ℕ → Bool → Kept (Unit {0})
-none_of timed reserved durable mark is_pending = record {
-  state = record (state_of timed reserved durable mark is_pending) { count = 0 };
+abbrev none_of : ℕ → ℕ → ℕ → Bool → Kept (Unit {0})
+none_of next reserved mark is_pending = record {
+  state = record (state_of next reserved mark is_pending) { count = 0 };
   placed = none_placed;
+  ended = one_ended;
   trees = no_trees reserved;
 }
 
-none_kept : (next reserved durable mark : ℕ) (is_pending : Bool) → next ≤ reserved → reserved < 2 ^ 63
-    → IsKept (none_of (none_open next) reserved durable mark is_pending)
-none_kept next reserved durable mark is_pending given below = record {
+none_kept : (next reserved mark : ℕ) (is_pending : Bool) → next ≤ reserved → reserved < 2 ^ 63 → IsKept (none_of next reserved mark is_pending)
+none_kept next reserved mark is_pending given below = record {
   held = record {
     holds = none_holds reserved;
     count = grind (arith, gets, common_steps);
     last = λ place c is. absurd (none_at place c is);
   };
-  numbers = no_numbers next;
+  ended = refl;
   given = given;
   reserved = below;
 }
 
 abbrev deleted : Kept (Unit {0})
-deleted = none_of (none_open 2001) 2001 2001 1 true
+deleted = none_of 2001 3001 2 true
 
 abbrev gone : Kept (Unit {0})
-gone = none_of (none_open 2001) 3001 3001 2 false
+gone = none_of 3001 4001 3 false
 
 -- ---- the steps, from the last
 
-abbrev end : Store (Unit {0})
-end = record { now = gone; committed = gone }
+abbrev handed : Begun
+handed = begun_at start.state opening 0
 
-deletes : (valid : Validity) → IsHistory valid (record { now = reopened; committed = reopened }) (Calls (Deletes (1 ∷ []) true) ∷ Commits ∷ []) end
+abbrev id : List ℕ
+id = 1 ∷ []
+
+abbrev store : Kept (Unit {0}) → Kept (Unit {0}) → ℕ → Store (Unit {0})
+store now committed second = record { now = now; committed = committed; begun = handed ∷ []; second = second }
+
+abbrev end : Store (Unit {0})
+end = store gone gone 2
+
+one_site : (s t : StoredState (Unit {0})) → t ≡ record s { next = t.next; reserved = t.reserved; count = t.count; is_pending = t.is_pending } → IsOneSite s t
+one_site s t is = record {
+  rp = ap (λ x. x.rp) is;
+  policy = ap (λ x. x.policy) is;
+  key = ap (λ x. x.key) is;
+  lifetime = ap (λ x. x.lifetime) is;
+  most = ap (λ x. x.most) is;
+  durable = ap (λ x. x.durable) is;
+  mark = ap (λ x. x.mark) is;
+  next_mark = ap (λ x. x.next_mark) is;
+}
+
+deletes : (valid : Validity) → IsHistory valid (store committed committed 1) (Calls (Deletes id true 2) ∷ Commits ∷ []) end
 deletes valid = (
-  record { now = deleted; committed = reopened },
-  (
-    record { rp = refl; policy = refl; most = refl; durable = refl; mark = refl; next_mark = refl },
-    ((1, retired key, record { there = there (retired key); has_id = refl }, none_now), refl),
-    refl,
-  ),
-  none_kept 2001 2001 2001 1 true (omega arith) (omega arith),
+  store deleted committed 2,
+  record {
+    one = one_site committed.state deleted.state refl;
+    does = ((1, retired key, record { there = there (retired key); has_id = refl }, none_now), refl, refl);
+    own = tt;
+    later = omega arith;
+    second = refl;
+    begun = refl;
+    committed = refl;
+  },
+  none_kept 2001 3001 2 true (omega arith) (omega arith),
   (
     end,
-    ((refl, record { quiet = λ idle. absurd cc; moved = λ busy. refl }), refl),
-    none_kept 2001 3001 3001 2 false (omega arith) (omega arith),
+    ((refl, refl, record { quiet = λ idle. absurd cc; moved = λ busy. refl }), record { committed = refl; begun = refl; second = refl }),
+    none_kept 3001 4001 3 false (omega arith) (omega arith),
     refl,
   ),
 )
 
-last_open : (valid : Validity)
-    → IsHistory valid (record { now = committed; committed = committed }) (Opens false ∷ Calls (Deletes (1 ∷ []) true) ∷ Commits ∷ []) end
-last_open valid = (
-  record { now = reopened; committed = reopened },
-  (record { trees = refl; rp = refl; policy = refl; sessions = refl; next = refl }, refl),
-  is_kept (retired key) (none_open 2001) 2001 2001 1 false stored_retired (no_numbers 2001) (omega arith) (omega arith),
-  deletes valid,
-)
-
-commits : (valid : Validity)
-    → IsHistory valid (record { now = written; committed = opened }) (Commits ∷ Opens false ∷ Calls (Deletes (1 ∷ []) true) ∷ Commits ∷ []) end
-commits valid = (
-  record { now = committed; committed = committed },
-  ((refl, record { quiet = λ idle. absurd cc; moved = λ busy. refl }), refl),
-  is_kept (retired key) (none_open 1001) 2001 2001 1 false stored_retired (no_numbers 1001) (omega arith) (omega arith),
-  last_open valid,
-)
-
-retires : (valid : Validity)
-    → IsHistory valid (record { now = opened; committed = opened })
-    (Calls (Retires (1 ∷ []) true) ∷ Commits ∷ Opens false ∷ Calls (Deletes (1 ∷ []) true) ∷ Commits ∷ []) end
+retires : (valid : Validity) → IsHistory valid (store reopened reopened 1) (Calls (Retires id true 1) ∷ Commits ∷ Calls (Deletes id true 2) ∷ Commits ∷ []) end
 retires valid = (
-  record { now = written; committed = opened },
+  store written reopened 1,
+  record {
+    one = one_site reopened.state written.state refl;
+    does = ((1, key, record { there = there key; has_id = refl }, refl, again), refl, refl);
+    own = tt;
+    later = omega arith;
+    second = refl;
+    begun = refl;
+    committed = refl;
+  },
+  is_kept (retired key) one_ended 2001 2001 1 true stored_retired (omega arith) (omega arith),
   (
-    record { rp = refl; policy = refl; most = refl; durable = refl; mark = refl; next_mark = refl },
-    ((1, key, record { there = there key; has_id = refl }, refl, again), refl),
-    refl,
+    store committed committed 1,
+    ((refl, refl, record { quiet = λ idle. absurd cc; moved = λ busy. refl }), record { committed = refl; begun = refl; second = refl }),
+    is_kept (retired key) one_ended 2001 3001 2 false stored_retired (omega arith) (omega arith),
+    deletes valid,
   ),
-  is_kept (retired key) (none_open 1001) 1001 1001 0 true stored_retired (no_numbers 1001) (omega arith) (omega arith),
-  commits valid,
 )
 
-after_crash : (valid : Validity)
-    → IsHistory valid (record { now = begun; committed = start })
-    (Opens false ∷ Calls (Retires (1 ∷ []) true) ∷ Commits ∷ Opens false ∷ Calls (Deletes (1 ∷ []) true) ∷ Commits ∷ []) end
-after_crash valid = (
-  record { now = opened; committed = opened },
-  (record { trees = refl; rp = refl; policy = refl; sessions = refl; next = refl }, refl),
-  is_kept key (none_open 1001) 1001 1001 0 false stored (no_numbers 1001) (omega arith) (omega arith),
-  retires valid,
+-- what the session of number 1 is, by its text
+abbrev session : Session
+session = session_in start.state.key handed
+
+may_begin : MayBegin start.state.rp.profile opening
+may_begin = ((λ x t. absurd cc, omega arith, tt), refl)
+
+is_open : IsOpen opened.state none_ended 1 handed.text 1 session
+is_open = (
+  record {
+    sealed = refl;
+    is = fits start.state opening 0 may_begin;
+    number = (replicate 24 0, refl);
+    given = omega arith;
+    within = omega arith;
+    fits = omega arith;
+  },
+  get-empty {X = Ending} nat_cmp 1,
+)
+
+abbrev after_abandon : List Step
+after_abandon = Calls (Retires id true 1) ∷ Commits ∷ Calls (Deletes id true 2) ∷ Commits ∷ []
+
+abandons : (valid : Validity)
+    → IsHistory valid (store opened opened 0) (Calls (Abandons handed.text 1) ∷ Commits ∷ Opens false ∷ after_abandon) end
+abandons valid = (
+  store left opened 1,
+  record {
+    one = one_site opened.state left.state refl;
+    does = (refl, refl, (1, session, is_open, (none_ended, λ n. inl refl, refl)));
+    own = (handed, (0, omega arith, refl), refl);
+    later = omega arith;
+    second = refl;
+    begun = refl;
+    committed = refl;
+  },
+  is_kept key one_ended 1001 1001 0 true stored (omega arith) (omega arith),
+  (
+    store left_committed left_committed 1,
+    ((refl, refl, record { quiet = λ idle. absurd cc; moved = λ busy. refl }), record { committed = refl; begun = refl; second = refl }),
+    is_kept key one_ended 1001 2001 1 false stored (omega arith) (omega arith),
+    (
+      store reopened reopened 1,
+      (record { trees = refl; rp = refl; policy = refl; key = refl; next = refl }, record { committed = refl; begun = refl; second = refl }),
+      is_kept key one_ended 2001 2001 1 false stored (omega arith) (omega arith),
+      retires valid,
+    ),
+  ),
 )
 
 pub shown : (valid : Validity) → Shown valid
 shown valid = record {
   start = start;
   opening = opening;
-  id = 1 ∷ [];
+  text = handed.text;
+  id = id;
   end = end;
-  kept = is_kept key (none_open 1) 1001 1001 0 false stored (no_numbers 1) (omega arith) (omega arith);
+  kept = is_kept key none_ended 1 1001 0 false stored (omega arith) (omega arith);
+  named = λ p d f. subst (λ (e : Credential). (1 ≤ length e.user) × (1 ≤ length e.id)) (sym (only key p d f).1) (omega arith, omega arith);
   history = (
-    record { now = begun; committed = start },
+    store begun start 0,
+    record {
+      one = one_site start.state begun.state refl;
+      does = (zeros 24, may_begin, refl, refl, refl);
+      own = tt;
+      later = omega arith;
+      second = refl;
+      begun = refl;
+      committed = refl;
+    },
+    is_kept key none_ended 2 1001 0 false stored (omega arith) (omega arith),
     (
-      record { rp = refl; policy = refl; most = refl; durable = refl; mark = refl; next_mark = refl },
-      ((λ k. omega arith), refl, record { roomy = λ room. refl; full = λ full. absurd (full room) }),
-      refl,
+      store begun begun 0,
+      ((refl, refl, record { quiet = λ idle. refl; moved = λ busy. absurd cc }), record { committed = refl; begun = refl; second = refl }),
+      is_kept key none_ended 2 1001 0 false stored (omega arith) (omega arith),
+      (
+        store opened opened 0,
+        (record { trees = refl; rp = refl; policy = refl; key = refl; next = refl }, record { committed = refl; begun = refl; second = refl }),
+        is_kept key none_ended 1001 1001 0 false stored (omega arith) (omega arith),
+        abandons valid,
+      ),
     ),
-    is_kept key (after_begin (none_open 1) opening 0) 1001 1001 0 false stored begun_numbers (omega arith) (omega arith),
-    after_crash valid,
   );
   acts = refl;
 }

@@ -1,87 +1,165 @@
 -- What a site over a store goes through: calls, commits, crashes and opens. Each call is said in the words of its contract
 -- (`site_stored`), of where it is done; one that is refused changes nothing, and is left out.
-use Rattle.std.specs.Prelude.{◌≡◌, ◌≤◌, ◌<◌, ◌^◌, ℕ, Bool, true, false, List, [], ◌∷◌, ◌++◌, if◌then◌else◌}
+use Rattle.std.specs.Prelude.{◌≡◌, ◌≤◌, ◌<◌, ◌+◌, ◌^◌, ℕ, Bool, true, false, List, [], ◌∷◌, ◌++◌, if◌then◌else◌, Some, Contains, filter, length, map, min, nat_lt, not}
 use Rattle.std.specs.FinMap as finite
+use Rattle.std.specs.Str.{bytes_eq}
 use Rattle.sqlite_trees.specs.Tree.{Trees}
 use Rattle.base64.specs.GeneralPurpose.{IsBytes}
 use Rattle.cose.specs.Schemes.{Validity}
+use Rattle.authdata.specs.declared.profile.Profile.{Profile}
 use Rattle.authdata.specs.Responses.{AuthenticatorAssertionResponse, AuthenticatorAttestationResponse}
-use Rattle.site_rows.specs.Held.{Placed, rows_of}
-use Rattle.site_state.specs.Sessions.{HaveNumbers, Opening}
-use Rattle.site_state.specs.Timed.{IsTrimmed, after_begin, after_end, since}
-use Rattle.site.specs.State as site
-use Rattle.site_stored.specs.State.{IsHeld, StoredState}
+use Rattle.verification.specs.Records.{Credential}
+use Rattle.site_rows.specs.Endings.{Endings, HoldsEndings}
+use Rattle.site_rows.specs.Held.{IsAt, Placed, rows_of}
+use Rattle.site_seal.specs.Judged.{TellsApart}
+use Rattle.site_seal.specs.Seal.{AreInOrder}
+use Rattle.site_state.specs.Sessions.{Expected, ForRegistration, ForSignIn, IsInput, Opening, OpensRegistration, OpensSignIn, expected_of}
+use Rattle.site_stored.specs.State.{IsHeld, StoredState, ended_session_tree}
+use Rattle.site_stored.specs.Sessions.{EndsSession, abandoned, accepted, begun_text, longest, until}
 use Rattle.site_stored.specs.Calls as calls
-use Rattle.site_stored.specs.Calls.{IsOneSite, TellsDeleted, TellsRetired}
+use Rattle.site_stored.specs.Calls.{IsOneSite, TellsAllRetired, TellsDeleted, TellsErased, TellsRetired}
 use Rattle.site_stored.specs.declared.finish.SignedIn.{SignedIn}
 use Rattle.site_stored.specs.declared.registration.Registered.{Registered}
 use Rattle.agreement.specs.World.{words_of}
 use Rattle.agreement.specs.World as world
 
--- a site, the credentials that its trees hold, by their places, and these trees
+-- a site; the credentials that its trees hold, by their places; the sessions that have ended by them, by their numbers; and these trees
 pub record Kept (S : Type 0) : Type 0 where
   pub state : StoredState S
   pub placed : Placed
+  pub ended : Endings
   pub trees : Trees
 
--- it is one: its trees hold it; each open session has a number that was given, and each of these is below those that are reserved
--- in the trees
+-- it is one: its trees hold it and what has ended; and each number that was given is below those that are reserved in the trees
 pub record IsKept {S : Type 0} (k : Kept S) : Type 0 where
   pub held : IsHeld k.placed k.state k.trees
-  pub numbers : HaveNumbers k.state.timed.open_sessions.next k.state.timed.open_sessions.expected
-  pub given : k.state.timed.open_sessions.next ≤ k.state.reserved
+  pub ended : HoldsEndings ended_session_tree k.ended k.trees
+  pub given : k.state.next ≤ k.state.reserved
   pub reserved : k.state.reserved < 2 ^ 63
 
--- the same, as the law over all runs knows a site
-abbrev pub site_of : {S : Type 0} → Kept S → site.SiteState
-site_of k = record {
-  rp = k.state.rp;
-  policy = k.state.policy;
-  rows = rows_of k.placed;
-  sessions = k.state.timed.open_sessions;
-}
+-- each credential has a user and an id
+abbrev pub AreNamed : Placed → Type 0
+AreNamed placed = (place : ℕ) (c : Credential) → finite.get placed place ≡ Some c → (1 ≤ length c.user) × (1 ≤ length c.id)
+
+-- a session that has begun: its number, what it was begun for, the second at which it ends, and the text that is handed out for it
+pub record Begun : Type 0 where
+  pub number : ℕ
+  pub opening : Opening
+  pub ends : ℕ
+  pub text : List ℕ
 
 -- ---- calls
 
+-- each at a second of the host's clock; a response is brought with the text of a session, which has this number; and the ids are those of the
+-- user's credentials, of the ones that were not retired where they are to be retired
 pub data Call : Type 0 where
   Begins : (opening : Opening) (now : ℕ) → Call
-  Abandons : (session : ℕ) → Call
-  Expires : (moment : ℕ) → Call
-  Retires : (id : List ℕ) (was : Bool) → Call
-  Deletes : (id : List ℕ) (was : Bool) → Call
-  SignsIn : (session : ℕ) (r : AuthenticatorAssertionResponse) → Call
-  Registers : (session : ℕ) (r : AuthenticatorAttestationResponse) → Call
+  Abandons : (text : List ℕ) (now : ℕ) → Call
+  Retires : (id : List ℕ) (was : Bool) (now : ℕ) → Call
+  Deletes : (id : List ℕ) (was : Bool) (now : ℕ) → Call
+  RetiresAll : (user : List ℕ) (ids : List (List ℕ)) (now : ℕ) → Call
+  Erases : (user : List ℕ) (ids : List (List ℕ)) (now : ℕ) → Call
+  SignsIn : (session : ℕ) (text : List ℕ) (r : AuthenticatorAssertionResponse) (now : ℕ) → Call
+  Registers : (session : ℕ) (text : List ℕ) (r : AuthenticatorAttestationResponse) (now : ℕ) → Call
 
--- credentials stay
+abbrev pub second_of : Call → ℕ
+second_of (Begins o now) = now
+second_of (Abandons text now) = now
+second_of (Retires id was now) = now
+second_of (Deletes id was now) = now
+second_of (RetiresAll user ids now) = now
+second_of (Erases user ids now) = now
+second_of (SignsIn n text r now) = now
+second_of (Registers n text r now) = now
+
+-- credentials stay; no session begins; none ends
 abbrev pub Stays : {S : Type 0} → Kept S → Kept S → Type 0
 Stays old new = new.placed ≡ old.placed
 
+abbrev pub NoneBegins : {S : Type 0} → Kept S → Kept S → Type 0
+NoneBegins old new = new.state.next ≡ old.state.next
+
+abbrev pub NoneEnds : {S : Type 0} → Kept S → Kept S → Type 0
+NoneEnds old new = new.ended ≡ old.ended
+
+-- what is asked is within its limits, a challenge has 24 words of its own, and algorithms are offered in their order
+abbrev pub MayBegin : Profile → Opening → Type 0
+MayBegin profile (OpensSignIn user allow uv words) = IsInput profile (OpensSignIn user allow uv words) × (length words ≡ 24)
+MayBegin profile (OpensRegistration user algorithms uv words asks) =
+    IsInput profile (OpensRegistration user algorithms uv words asks) × (length words ≡ 24) × AreInOrder algorithms
+
+-- a user's credentials, in order of registration
+abbrev pub of_user : List ℕ → Placed → List Credential
+of_user user placed = filter (λ c. bytes_eq c.user user) (rows_of placed)
+
+abbrev pub ids_of : List Credential → List (List ℕ)
+ids_of rows = map (λ c. c.id) rows
+
+-- the session of a text is that of a number, and it is accepted
+abbrev pub Accepts : {S : Type 0} → Kept S → ℕ → List ℕ → ℕ → Kept S → Type 0
+Accepts old n text now new = (ends : EndsSession old.state accepted now text old.ended new.ended) × (ends.0 ≡ n)
+
 -- what a call makes of a site, where it is done
 abbrev pub Does : {S : Type 0} → Validity → Kept S → Call → Kept S → Type 0
-Does valid old (Begins o now) new = IsBytes (words_of o) × Stays old new × IsTrimmed (after_begin old.state.timed o now) new.state.timed
-Does valid old (Abandons n) new = Stays old new × (new.state.timed ≡ after_end old.state.timed n)
-Does valid old (Expires moment) new = Stays old new × (new.state.timed ≡ since moment old.state.timed)
-Does valid old (Retires id was) new = TellsRetired old.placed id was new.placed × (new.state.timed ≡ old.state.timed)
-Does valid old (Deletes id was) new = TellsDeleted old.placed id was new.placed × (new.state.timed ≡ old.state.timed)
-Does valid old (SignsIn n r) new =
-    ((x : SignedIn) × calls.SignsIn valid old.placed old.state n r x new.placed) × (new.state.timed ≡ after_end old.state.timed n)
-Does valid old (Registers n r) new =
-    ((x : Registered) × calls.Registers valid old.placed old.state n r x new.placed) × (new.state.timed ≡ after_end old.state.timed n)
+Does valid old (Begins o now) new =
+    IsBytes (words_of o) × MayBegin old.state.rp.profile o × Stays old new × (new.state.next ≡ old.state.next + 1) × NoneEnds old new
+Does valid old (Abandons text now) new = Stays old new × NoneBegins old new × EndsSession old.state abandoned now text old.ended new.ended
+Does valid old (Retires id was now) new = TellsRetired old.placed id was new.placed × NoneBegins old new × NoneEnds old new
+Does valid old (Deletes id was now) new = TellsDeleted old.placed id was new.placed × NoneBegins old new × NoneEnds old new
+Does valid old (RetiresAll user ids now) new =
+    (ids ≡ ids_of (filter (λ c. not c.retired) (of_user user old.placed))) × TellsAllRetired old.placed user (length ids) new.placed × NoneBegins old new × NoneEnds old new
+Does valid old (Erases user ids now) new =
+    (ids ≡ ids_of (of_user user old.placed)) × TellsErased old.placed user (length ids) new.placed × NoneBegins old new × NoneEnds old new
+Does valid old (SignsIn n text r now) new =
+    ((x : SignedIn) × calls.SignsIn valid old.placed old.ended old.state now text r x new.placed) × NoneBegins old new × Accepts old n text now new
+Does valid old (Registers n text r now) new =
+    ((users : Endings) × (x : Registered) × calls.Registers valid old.placed old.ended users old.state now text r x new.placed)
+    × NoneBegins old new × Accepts old n text now new
+
+-- ---- texts
+
+-- what begins with a call
+abbrev pub begun_at : {S : Type 0} → StoredState S → Opening → ℕ → Begun
+begun_at s o now = record { number = s.next; opening = o; ends = until now (min s.lifetime longest); text = begun_text s o now }
+
+abbrev pub begun_by : {S : Type 0} → StoredState S → Call → List Begun
+begun_by s (Begins o now) = begun_at s o now ∷ []
+begun_by s c = []
+
+-- a text is that of one of these: nobody else makes one that opens under the site's key
+abbrev pub IsHanded : List Begun → List ℕ → Type 0
+IsHanded begun text = (b : Begun) × Contains begun b × (b.text ≡ text)
+
+-- the hashes in the text of a sign-in tell the user and the ids that it expects from those of a credential
+abbrev pub TellsThem : List ℕ → Expected → List ℕ → List ℕ → Type 0
+TellsThem key (ForSignIn e) handle id = TellsApart key e handle id
+TellsThem key (ForRegistration e) handle id = Unit {0}
+
+-- what no proof gives of HMAC: a text that opens was handed out; and where a response signs in by it, its hashes tell users and ids
+-- apart, with the credential that is found for the response
+abbrev pub IsOwn : {S : Type 0} → Kept S → List Begun → Call → Type 0
+IsOwn k begun (Abandons text now) = IsHanded begun text
+IsOwn k begun (Registers n text r now) = IsHanded begun text
+IsOwn k begun (SignsIn n text r now) =
+    (handed : IsHanded begun text)
+    × ((place : ℕ) (c : Credential) → IsAt k.placed r.credential place c
+    → TellsThem k.state.key (expected_of handed.0.number handed.0.opening) c.user r.credential)
+IsOwn k begun c = Unit {0}
 
 -- ---- commits, crashes and opens
 
--- a commit changes no credential and no session, and the numbers go on
+-- a commit changes no credential and ends no session, and the numbers go on
 abbrev pub IsCommitted : {S : Type 0} → Kept S → Kept S → Type 0
-IsCommitted old new = Stays old new × calls.IsCommit old.state new.state
+IsCommitted old new = Stays old new × NoneEnds old new × calls.IsCommit old.state new.state
 
--- an open finds a site in the trees of a kept one, of the same relying party and policy; no session is open, and the numbers go on
+-- an open finds a site in the trees of a kept one, of the same relying party and policy and under the same key; and the numbers go on
 -- above all that may have been given
 pub record IsOpened {S : Type 0} (kept new : Kept S) : Type 0 where
   pub trees : new.trees ≡ kept.trees
   pub rp : new.state.rp ≡ kept.state.rp
   pub policy : new.state.policy ≡ kept.state.policy
-  pub sessions : new.state.timed.open_sessions.expected ≡ finite.empty
-  pub next : new.state.timed.open_sessions.next ≡ new.state.reserved
+  pub key : new.state.key ≡ kept.state.key
+  pub next : new.state.next ≡ new.state.reserved
 
 -- a call; a commit; and an open, after a crash, a failure of the store or a close, which finds what was committed last, or, where
 -- it was a commit that was cut off, what this would have committed
@@ -90,18 +168,43 @@ pub data Step : Type 0 where
   Commits : Step
   Opens : (finds_all : Bool) → Step
 
--- a site as it is, and as it was committed last
+-- a site as it is, and as it was committed last; the sessions that have begun, whose texts were handed out; and the second of the last call
 pub record Store (S : Type 0) : Type 0 where
   pub now : Kept S
   pub committed : Kept S
+  pub begun : List Begun
+  pub second : ℕ
+
+-- all of it is committed, and no text was handed out
+abbrev pub began : {S : Type 0} → Kept S → ℕ → Store S
+began start second = record { now = start; committed = start; begun = []; second = second }
+
+-- a call, at a second that is no earlier than that of the last one
+pub record IsCalled {S : Type 0} (valid : Validity) (old : Store S) (c : Call) (new : Store S) : Type 0 where
+  pub one : IsOneSite old.now.state new.now.state
+  pub does : Does valid old.now c new.now
+  pub own : IsOwn old.now old.begun c
+  pub later : old.second ≤ second_of c
+  pub second : new.second ≡ second_of c
+  pub begun : new.begun ≡ old.begun ++ begun_by old.now.state c
+  pub committed : new.committed ≡ old.committed
+
+-- all that is now is committed, and of the texts these are left
+pub record IsWhole {S : Type 0} (left : List Begun) (old new : Store S) : Type 0 where
+  pub committed : new.committed ≡ new.now
+  pub begun : new.begun ≡ left
+  pub second : new.second ≡ old.second
+
+-- those whose numbers are reserved in what was committed: no other is handed out before it is
+abbrev pub handed_out : {S : Type 0} → Kept S → List Begun → List Begun
+handed_out k begun = filter (λ b. nat_lt b.number k.state.reserved) begun
 
 abbrev pub Takes : {S : Type 0} → Validity → Store S → Step → Store S → Type 0
-Takes valid old (Calls c) new =
-    IsOneSite old.now.state new.now.state × Does valid old.now c new.now × (new.committed ≡ old.committed)
-Takes valid old Commits new = IsCommitted old.now new.now × (new.committed ≡ new.now)
-Takes valid old (Opens false) new = IsOpened old.committed new.now × (new.committed ≡ new.now)
+Takes valid old (Calls c) new = IsCalled valid old c new
+Takes valid old Commits new = IsCommitted old.now new.now × IsWhole old.begun old new
+Takes valid old (Opens false) new = IsOpened old.committed new.now × IsWhole (handed_out old.committed old.begun) old new
 Takes {S} valid old (Opens true) new =
-    ((mid : Kept S) × IsCommitted old.now mid × IsKept mid × IsOpened mid new.now) × (new.committed ≡ new.now)
+    ((mid : Kept S) × IsCommitted old.now mid × IsKept mid × IsOpened mid new.now) × IsWhole old.begun old new
 
 -- one step after another
 abbrev pub IsHistory : {S : Type 0} → Validity → Store S → List Step → Store S → Type 0
@@ -112,10 +215,12 @@ IsHistory {S} valid old (step ∷ steps) new = (next : Store S) × Takes valid o
 
 -- what a call does to credentials
 abbrev pub act_of : Call → List world.SiteEvent
-act_of (Retires id true) = world.Retires id ∷ []
-act_of (Deletes id true) = world.Deletes id ∷ []
-act_of (SignsIn n r) = world.SignsIn n r ∷ []
-act_of (Registers n r) = world.Registers n r ∷ []
+act_of (Retires id true now) = world.Retires id ∷ []
+act_of (Deletes id true now) = world.Deletes id ∷ []
+act_of (RetiresAll user ids now) = map world.Retires ids
+act_of (Erases user ids now) = map world.Deletes ids
+act_of (SignsIn n text r now) = world.SignsIn n r ∷ []
+act_of (Registers n text r now) = world.Registers n r ∷ []
 act_of c = []
 
 -- what was done and committed, where this waits to be committed: only that is told. What a crash cut off is not among it

@@ -9,8 +9,7 @@ returns-in-Err-clause-refused g c = c.in-Err.ensures.refused (opens_registration
 
 pub returns-in-Ok-started_registration-clause-begun : goal.returns-in-Ok-started_registration-clause-begun
 returns-in-Ok-started_registration-clause-begun g c =
-    begins_after g.S.Store.view (opens_registration c.args.begin.now c.args.words) c.args.words c.args.now c.in-Ok-started_registration.started.session
-    c.in-Ok-started_registration.started.challenge c.args.site.now c.named.new.site c.started_registration.new.site c.in-Ok.ensures.same
+    begins_after g.S.Store.view (opens_registration c.args.begin.now c.args.words) c.args.words c.args.now c.in-Ok-started_registration.begun c.args.site.now c.named.new.site c.started_registration.new.site c.in-Ok.ensures.same
     c.in-Ok-started_registration.ensures.clean c.in-Ok-started_registration.ensures.begun
 
 pub returns-in-Err-clause-cause : goal.returns-in-Err-clause-cause

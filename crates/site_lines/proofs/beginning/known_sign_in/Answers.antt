@@ -9,8 +9,7 @@ returns-in-Err-clause-refused g c = c.in-Err.ensures.refused (opens_sign_in c.ar
 
 pub returns-in-Ok-started_sign_in-clause-begun : goal.returns-in-Ok-started_sign_in-clause-begun
 returns-in-Ok-started_sign_in-clause-begun g c =
-    begins_after g.S.Store.view (opens_sign_in c.args.begin.now c.args.words) c.args.words c.args.now c.in-Ok-started_sign_in.started.session
-    c.in-Ok-started_sign_in.started.challenge c.args.site.now c.named.new.site c.started_sign_in.new.site c.in-Ok.ensures.same
+    begins_after g.S.Store.view (opens_sign_in c.args.begin.now c.args.words) c.args.words c.args.now c.in-Ok-started_sign_in.begun c.args.site.now c.named.new.site c.started_sign_in.new.site c.in-Ok.ensures.same
     c.in-Ok-started_sign_in.ensures.clean c.in-Ok-started_sign_in.ensures.begun
 
 pub returns-in-Err-clause-cause : goal.returns-in-Err-clause-cause

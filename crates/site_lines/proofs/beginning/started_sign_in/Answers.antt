@@ -10,13 +10,13 @@ returns-clause-refused g c =
     begins_none (OpensSignIn (option_map (λ u. u.now) c.as_deref.result) (map (λ id. id.now) c.as_slice-2.result.now) c.args.begin.now.user_verification c.args.words)
     (opens_sign_in c.args.begin.now c.args.words) c.args.site.now c.begin_sign_in.new.self c.begin_sign_in.result
     (same_sign_in _ _ _ _ c.args.begin.now.user_verification c.args.words (search rules) (search rules))
-    c.begin_sign_in.ensures.refused c.begin_sign_in.ensures.begins.room
+    c.begin_sign_in.ensures.begins.refused
 
 pub returns-clause-begun : goal.returns-clause-begun
 returns-clause-begun g c =
-    session_begins g.S.Store.view
+    session_begins g.S.Store
     (OpensSignIn (option_map (λ u. u.now) c.as_deref.result) (map (λ id. id.now) c.as_slice-2.result.now) c.args.begin.now.user_verification c.args.words)
     (opens_sign_in c.args.begin.now c.args.words) c.args.words c.args.now c.args.site.now c.begin_sign_in.new.self
-    c.begin_sign_in.result (λ s. s.session) (λ s. s.challenge)
+    c.begin_sign_in.result
     (same_sign_in _ _ _ _ c.args.begin.now.user_verification c.args.words (search rules) (search rules))
-    c.begin_sign_in.ensures.begins.started c.begin_sign_in.ensures.begun c.begin_sign_in.ensures.begins.held c.begin_sign_in.ensures.begins.one
+    c.begin_sign_in.ensures.begins

@@ -1,10 +1,10 @@
 -- What is owed of `sign_in_found`.
-use Rattle.std.proofs.Common.{◌∙◌, ℕ, ap, inl, inr, refl, rules, sym, subst}
+use Rattle.std.proofs.Common.{◌∙◌, ◌<◌, ℕ, ap, arith, inl, inr, pos, refl, rules, sym, subst}
 use Rattle.authdata.specs.Layout.{lent_auth_view}
 use Rattle.std.specs.FinMap as finite
 use Rattle.std.specs.Option.{option_copied}
 use Rattle.verification.specs.SignIn.{PassesSignIn}
-use Rattle.verification.specs.Views.{assertion_parts_view}
+use Rattle.verification.specs.Views.{assertion_parts_view, sign_in_view}
 use Rattle.site_state.specs.RowViews.{row_view}
 use Rattle.site_rows.specs.Held.{IsWritten}
 use Rattle.site_rows.specs.Details.{IsDetailed, detail_row, used}
@@ -15,12 +15,18 @@ use Rattle.site_rows.specs.Rows.{credential_row}
 use Rattle.site_stored.specs.declared.failure.FinishFailure.TheVariants as finishes
 use Rattle.site_stored.proofs.Causes.{caused_as, caused_since}
 use Rattle.site_stored.proofs.Held.{details_stay}
+use Rattle.site_stored.proofs.SessionTexts.{some_seen}
 use Rattle.site_stored.proofs.finish.sign_in_found.Goals as goal
+
+pub overflow_cast-now : goal.overflow_cast-now
+overflow_cast-now g c =
+    let fits : c.args.now < 9223372036854775808 = some_seen (λ e. sign_in_view e.now) _ c.args.session c.requires.fits c.in_ok-verified.ensures.accepted.0.0 in
+    omega (arith, fits)
 
 pub returns-clause-accepted : goal.returns-clause-accepted
 returns-clause-accepted g c =
     let tells = c.in_ok-verified.ensures.accepted.1 in
-    let same = same_attempt c.args.party.now (assertion_parts_view c.args.response.now) _ _ _ _ c.sign_in.ensures c.credential_in.ensures in
+    let same = same_attempt c.args.party.now (assertion_parts_view c.args.response.now) _ _ _ _ refl c.credential_in.ensures in
     let at = c.unwrap-found.result.now in
     let row = c.lent-credential.ensures in
     record {
@@ -71,7 +77,7 @@ returns-in_err-mark_used-clause-cause g c = λ clean.
       sym c.as_ref.ensures.value ∙ ap option_copied c.unwrap-found.ensures,
       inr (λ placed holds there details d.
           let w = c.in_ok-set.ensures.written (c.in_err-mark_used.ensures.writes.quiet.clean clean) placed (row_view at.credential) holds there (ap (λ x. x.id) is) (ap (λ x. x.user) is) in
-          subst (λ (k : ℕ → ℕ). ¬ IsStorableRow (k 5) (detail_row at.place (used c.args.now (finite.get details at.place)))) c.in_ok-set.ensures.writes.reals
+          subst (λ (k : ℕ → ℕ). ¬ IsStorableRow (k 5) (detail_row at.place (used (pos c.args.now) (finite.get details at.place)))) c.in_ok-set.ensures.writes.reals
           (subst (λ n. ¬ IsStorableRow (mid.reals 5) (detail_row at.place (used n (finite.get details at.place)))) (search rules)
           (no details (details_stay old mid _ details w d)))),
     )) (λ no. no) (c.in_err-mark_used.ensures.cause clean))

@@ -1,10 +1,7 @@
 -- What is owed of `judge`.
-use Rattle.std.proofs.Common.{◌≡◌, List, ℕ, Bool, false, refl, sym, ap, subst, ◌∙◌}
-use Rattle.std.specs.Prelude.{IsSome, option_map}
+use Rattle.std.proofs.Common.{◌≡◌, List, ℕ, Bool, false, refl, subst}
+use Rattle.std.specs.Prelude.{option_map}
 use Rattle.std.proofs.lemmas.Result.{err_from_is_err_and}
-use Rattle.std.specs.Option.{ForSome}
-use Rattle.verification.specs.Registration.{IsFirstFailing, PassesRegistration, counted}
-use Rattle.verification.specs.RegistrationAnswers.{IsRefused}
 use Rattle.verification.specs.Views.{registration_parts_view, registration_view}
 use Rattle.verification.proofs.Registrations.{all_pass, table_fails}
 use Rattle.site_rows.specs.Held.{HasNone}
@@ -18,9 +15,7 @@ returns-in_err-verified-clause-refused g c =
     rw (p.1, p.2) (
       (record { clean = λ clean. clean; view = λ clean. refl; shape = refl }, refl),
       λ clean placed holds is_registered tells.
-          subst (λ s. IsRefused (g.V.Verifier.valid c.args.verifier.now)
-          (judged_by c.args.party.now c.args.policy s (registration_parts_view c.args.response.now) is_registered c.args.is_full) c.in_err-verified.field-0.0)
-          c.registration.ensures.expected (c.in_err-verified.ensures.refused is_registered c.args.is_full),
+          c.in_err-verified.ensures.refused is_registered c.args.is_full,
     )
 
 pub returns-in_err-credential-clause-refused : goal.returns-in_err-credential-clause-refused
@@ -33,35 +28,29 @@ returns-in_err-credential-clause-refused g c =
       λ clean placed holds is_registered tells.
           let had = subst (λ id. TellsHad placed id c.in_ok-is_registered.is_registered) c.id.ensures (c.in_ok-is_registered.ensures.told clean placed holds) in
           let told = told_same placed is_registered _ c.in_ok-is_registered.is_registered tells had in
-          let x = judged_by c.args.party.now c.args.policy (option_map (λ s. registration_view s.now) c.registration.result)
+          let x = judged_by c.args.party.now c.args.policy (option_map (λ s. registration_view s.now) c.args.session)
           (registration_parts_view c.args.response.now) is_registered c.args.is_full in
-          subst (λ s. IsFirstFailing (g.V.Verifier.valid c.args.verifier.now)
-          (judged_by c.args.party.now c.args.policy s (registration_parts_view c.args.response.now) is_registered c.args.is_full) why.0)
-          c.registration.ensures.expected
-          (table_fails (g.V.Verifier.valid c.args.verifier.now) x why.0 (accepted.1 is_registered c.args.is_full) (why.2 x accepted.0 told refl)),
+          table_fails (g.V.Verifier.valid c.args.verifier.now) x why.0 (accepted.1 is_registered c.args.is_full) (why.2 x accepted.0 told refl),
     )
 
 pub returns-clause-accepted : goal.returns-clause-accepted
 returns-clause-accepted g c =
     let accepted = c.in_ok-verified.ensures.accepted in
-    let judged = λ (is_registered : List ℕ → Bool). judged_by c.args.party.now c.args.policy (option_map (λ s. registration_view s.now) c.registration.result)
+    let judged = λ (is_registered : List ℕ → Bool). judged_by c.args.party.now c.args.policy (option_map (λ s. registration_view s.now) c.args.session)
     (registration_parts_view c.args.response.now) is_registered c.args.is_full in
     let steps = c.in_ok-credential.ensures.passes (judged (λ _. c.in_ok-is_registered.is_registered)) accepted.0 refl refl in
     let tells = accepted.0 in
     let v = c.in_ok-verified.verified in
     let new : c.in_ok-is_registered.is_registered ≡ false = steps.0 tells.0 v.auth_data v.credential tells.1 in
     record {
-      open_session = subst IsSome c.registration.ensures.expected (accepted.1 (λ _. false) false).0;
+      open_session = (accepted.1 (λ _. false) false).0;
       room = steps.1.0;
-      attests = (tells.0, tells.1, subst (λ s. ForSome s (λ e. v.format ≡ (counted c.args.party.now.profile e.attestation tells.0).fmt)) c.registration.ensures.expected tells.2);
+      attests = (tells.0, tells.1, tells.2);
       fresh = λ clean placed holds. subst (HasNone placed) c.id.ensures
           (subst (TellsHad placed c.id.result.now) new (c.in_ok-is_registered.ensures.told clean placed holds));
       passes = λ clean placed holds is_registered told.
           let had = subst (λ id. TellsHad placed id c.in_ok-is_registered.is_registered) c.id.ensures (c.in_ok-is_registered.ensures.told clean placed holds) in
           let same = told_same placed is_registered _ c.in_ok-is_registered.is_registered told had in
-          subst (λ s. PassesRegistration (g.V.Verifier.valid c.args.verifier.now)
-          (judged_by c.args.party.now c.args.policy s (registration_parts_view c.args.response.now) is_registered c.args.is_full))
-          c.registration.ensures.expected
-          (all_pass (g.V.Verifier.valid c.args.verifier.now) (judged is_registered) (accepted.1 is_registered c.args.is_full)
-          (c.in_ok-credential.ensures.passes (judged is_registered) accepted.0 same refl));
+          all_pass (g.V.Verifier.valid c.args.verifier.now) (judged is_registered) (accepted.1 is_registered c.args.is_full)
+          (c.in_ok-credential.ensures.passes (judged is_registered) accepted.0 same refl);
     }

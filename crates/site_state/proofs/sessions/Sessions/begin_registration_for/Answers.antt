@@ -1,5 +1,5 @@
 -- What is owed of `Sessions::begin_registration_for`.
-use Rattle.std.proofs.Common.{arith}
+use Rattle.std.proofs.Common.{ap, arith}
 use Rattle.std.proofs.lemmas.Result.{err_from_is_err_and}
 use Rattle.authdata.specs.declared.profile.Profile.TheVariants.{Strict}
 use Rattle.site_state.specs.Sessions.{OpensRegistration}
@@ -19,7 +19,7 @@ add-requires-clause-number c =
 pub add-requires-clause-limits : goal.add-requires-clause-limits
 add-requires-clause-limits c =
     let asked = OpensRegistration c.args.user.now c.args.algorithms.now c.args.uv c.args.words c.args.asks in
-    rw c.in_ok-from_slice.ensures.items (c.in_ok-admit.ensures.passes Strict asked (c.is_registration.ensures Strict c.args.words c.args.uv c.args.asks)).0.0
+    rw (ap (λ e. e.user) c.in_ok-expected.ensures) (c.in_ok-admit.ensures.passes Strict asked (c.is_registration.ensures Strict c.args.words c.args.uv c.args.asks)).0.0
 
 pub returns-clause-passes : goal.returns-clause-passes
 returns-clause-passes c = λ profile.
@@ -27,4 +27,4 @@ returns-clause-passes c = λ profile.
     c.in_ok-admit.ensures.passes profile asked (c.is_registration.ensures profile c.args.words c.args.uv c.args.asks)
 
 pub add-requires-clause-challenge : goal.add-requires-clause-challenge
-add-requires-clause-challenge c = (omega arith, (c.args.words, rw (← c.self.view_is) c.challenge_with-challenge.ensures))
+add-requires-clause-challenge c = (omega arith, (c.args.words, rw (← c.self.view_is) (ap (λ e. e.challenge) c.in_ok-expected.ensures)))

@@ -1,5 +1,5 @@
 -- What is owed of `Sessions::begin_sign_in`.
-use Rattle.std.proofs.Common.{arith, map}
+use Rattle.std.proofs.Common.{ap, arith, map}
 use Rattle.std.specs.Prelude.{option_map}
 use Rattle.std.proofs.lemmas.Result.{err_from_is_err_and}
 use Rattle.site_state.specs.Sessions.{OpensSignIn}
@@ -22,4 +22,4 @@ returns-clause-passes c =
     c.in_ok-admit.ensures.passes c.args.profile asked (c.is_sign_in.ensures c.args.words c.args.uv)
 
 pub add-requires-clause-challenge : goal.add-requires-clause-challenge
-add-requires-clause-challenge c = (omega arith, (c.args.words, rw (← c.self.view_is) c.challenge_with-challenge.ensures))
+add-requires-clause-challenge c = (omega arith, (c.args.words, rw (← c.self.view_is) (ap (λ e. e.challenge) c.in_ok-expected.ensures)))

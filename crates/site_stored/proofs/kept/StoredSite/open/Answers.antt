@@ -6,7 +6,8 @@ use Rattle.site_stored.proofs.kept.StoredSite.open.Goals as goal
 pub returns-in-Ok-clause-opened : goal.returns-in-Ok-clause-opened
 returns-in-Ok-clause-opened g c = record {
   started = search rules;
-  sessions = search rules;
+  next = search rules;
+  key = search rules;
   party = search rules;
   held = λ clean placed next h.
       let found = c.in-Ok.ensures.found clean placed next (subst (λ id. HoldsSite placed id next (g.S.Store.view c.read_all.new.store).trees) (sym c.rp_id.ensures) h) in

@@ -1,5 +1,0 @@
-pub mod Granting
-pub mod Key
-pub mod Looking
-pub mod Numbers
-pub mod Sending
