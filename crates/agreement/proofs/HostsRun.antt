@@ -87,6 +87,8 @@ pub hosts_runs : {I : Type 0} (narrow : I → Validity) (wide : Validity) (publi
 hosts_runs {I} narrow wide public = record {
   signs_in = λ i x within h. signs_in (narrow i) wide within x h;
   registers = λ i x within h. registers (narrow i) wide within x h;
+  ends = λ w. tt;
+  goes_on = λ w m ms i same within happens rest. (same, (i, within, happens), rest);
   run = λ w run h. over w run h;
 } where
   over : (w : World) (run : List Moment) → IsHostsRun narrow wide public w run → IsRun wide public w run

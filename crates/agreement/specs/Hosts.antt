@@ -22,5 +22,9 @@ pub record HostsRuns {I : Type 0} (narrow : I → Validity) (wide : Validity) (p
   -- what passes by the narrow relation passes by the wide one
   pub signs_in : (i : I) (x : JudgedSignIn) → IsWithin (narrow i) wide → PassesSignIn (narrow i) x → PassesSignIn wide x
   pub registers : (i : I) (x : JudgedRegistration) → IsWithin (narrow i) wide → PassesRegistration (narrow i) x → PassesRegistration wide x
-  -- and so a host's run is a run
+  -- a hosts' run has no moment, or one and then a hosts' run
+  pub ends : (w : World) → IsHostsRun narrow wide public w []
+  pub goes_on : (w : World) (m : Moment) (ms : List Moment) (i : I) → m.old ≡ w → IsWithin (narrow i) wide → Happens (narrow i) public m.old m.event m.end m.new
+      → IsHostsRun narrow wide public m.new ms → IsHostsRun narrow wide public w (m ∷ ms)
+  -- and so a hosts' run is a run
   pub run : (w : World) (run : List Moment) → IsHostsRun narrow wide public w run → IsRun wide public w run

@@ -4,6 +4,7 @@ use Rattle.agreement.proofs.Began.{began}
 use Rattle.agreement.proofs.CallsActed.{calls_act}
 use Rattle.agreement.proofs.Dropped.{dropped_of_all_runs}
 use Rattle.agreement.proofs.Ledger.{ledger}
+use Rattle.agreement.proofs.Premised.{premises}
 use Rattle.agreement.proofs.law.of_all_runs.Goals as goal
 
 pub returns-clause-agreement : goal.returns-clause-agreement
@@ -17,6 +18,9 @@ returns-clause-dropped g c = λ verifier public. dropped_of_all_runs (g.V.Verifi
 
 pub returns-clause-begun : goal.returns-clause-begun
 returns-clause-begun g c = λ verifier public. began (g.V.Verifier.valid verifier) public (c.below.ensures verifier public)
+
+pub returns-clause-premises : goal.returns-clause-premises
+returns-clause-premises g c = λ verifier public. premises (g.V.Verifier.valid verifier) public
 
 pub returns-clause-calls : goal.returns-clause-calls
 returns-clause-calls g c = λ verifier public. calls_act (g.V.Verifier.valid verifier) public

@@ -1,0 +1,154 @@
+-- What meets the premises of the laws.
+use Rattle.std.proofs.Common.{◌≡◌, ℕ, List, [], ◌∷◌, Bool, Some, refl, ap, subst, sym, inl, inr}
+use Rattle.std.specs.Prelude.{Contains}
+use Rattle.std.specs.FinMap as finite
+use Rattle.std.specs.List.{All}
+use Rattle.std.proofs.lemmas.List.Elements.{All-weaker}
+use Rattle.hidframe.specs.declared.Packet.{Packet}
+use Rattle.cose.specs.Schemes.{Validity}
+use Rattle.authdata.specs.Responses as responses
+use Rattle.authdata.specs.Responses.{AuthenticatorAssertionResponse}
+use Rattle.authdata.specs.declared.statement.AttestationType.{AttestationType}
+use Rattle.ctap_replies.specs.Replies as replies
+use Rattle.ctap_replies.specs.Replies.{ReplyOf, assertion_reply, creation_reply}
+use Rattle.verification.specs.Records.{Credential}
+use Rattle.site_state.specs.Table.{row_of}
+use Rattle.authenticator.specs.State.{new_state}
+use Rattle.authenticator.specs.Steps.{Entry, Keys}
+use Rattle.client.specs.Responses.{response_of}
+use Rattle.ceremony.specs.Registration as registering
+use Rattle.ceremony.specs.Verdict.{Delivers}
+use Rattle.agreement.specs.Agreement.{Brings, IsAccepted, IsAcceptedRegistration, IsDeleted, IsIdeal, NoneDeleted, Tries, message_of}
+use Rattle.agreement.specs.Premises.{HonestPremises, Premises, RunPremises}
+use Rattle.agreement.specs.World.{AtSite, Deletes, Done, Event, Happens, Holder, IsStart, Moment, Nothing, Registers, RegistersBy, SignsIn, SignsInBy, World}
+
+-- a new authenticator, by what it is
+new_start : (w : World) → ((i : ℕ) → (w.site i).sessions.expected ≡ finite.empty)
+    → ((k : ℕ) → (aaguid : List ℕ) × (uv : Bool) × (attest : AttestationType)
+    × (w.holder k ≡ record { state = new_state aaguid uv attest; signed = []; made = [] }))
+    → IsStart w
+new_start w sites holders = record {
+  sites = sites;
+  holders = λ k.
+      let h = holders k in
+      record {
+        aaguid = h.0;
+        uv = h.1;
+        attest = h.2;
+        state = ap (λ (x : Holder). x.state) h.3;
+        signed = ap (λ (x : Holder). x.signed) h.3;
+        made = ap (λ (x : Holder). x.made) h.3;
+      };
+}
+
+tried : (m : Moment) (i n : ℕ) (r : AuthenticatorAssertionResponse) (row : Credential) → m.event ≡ AtSite i (SignsIn n r)
+    → row_of r.credential (m.old.site i).rows ≡ Some row → Tries m i n r row
+tried m i n r row is found = record { brings = subst (λ (e : Event). Brings e i n r) (sym is) (refl, (refl, refl)); found = found }
+
+tried_by : (m : Moment) (i n c used : ℕ) (ps : List Packet) (t bs : List ℕ) (a : replies.Assertion) (row : Credential)
+    → m.event ≡ AtSite i (SignsInBy n c ps t) → Delivers c ps used bs → ReplyOf (assertion_reply a) bs
+    → row_of a.credential (m.old.site i).rows ≡ Some row → Tries m i n (response_of a t) row
+tried_by m i n c used ps t bs a row is comes reads found =
+    record { brings = subst (λ (e : Event). Brings e i n (response_of a t)) (sym is) (refl, (refl, (used, bs, a, comes, reads, refl))); found = found }
+
+registered : (m : Moment) (i n : ℕ) (r : responses.AuthenticatorAttestationResponse) → m.event ≡ AtSite i (Registers n r) → m.end ≡ Done
+    → IsAcceptedRegistration m i n r
+registered m i n r is done = record { event = Registers n r; here = is; brings = (refl, refl); done = done }
+
+registered_by : (m : Moment) (i n c used : ℕ) (ps : List Packet) (t bs : List ℕ) (a : replies.Creation)
+    → m.event ≡ AtSite i (RegistersBy n c ps t) → Delivers c ps used bs → ReplyOf (creation_reply a) bs → m.end ≡ Done
+    → IsAcceptedRegistration m i n (registering.response a t)
+registered_by m i n c used ps t bs a is comes reads done =
+    record { event = RegistersBy n c ps t; here = is; brings = (refl, (used, bs, a, comes, reads, refl)); done = done }
+
+module _ (valid : Validity) (public : Keys) where
+  unchanged : (w : World) (e : Event) → Happens valid public w e Nothing w
+  unchanged w e = refl
+
+  unforged : (m : Moment) → ((i n k : ℕ) (r : AuthenticatorAssertionResponse) (row : Credential) → Tries m i n r row
+      → valid row.key (message_of r) r.signature → Contains (m.old.holder k).made row.key
+      → (j : ℕ) × (e : Entry) × Contains (m.old.holder j).made row.key × Contains (m.old.holder j).signed e × (e.key ≡ row.key) × (e.message ≡ message_of r))
+      → IsIdeal valid m
+  unforged m each = λ i n r row tried ok made.
+      let x = each i n made.0 r row tried ok made.1 in record { holder = x.0; made = x.2; entry = x.1; there = x.3; under = x.4; of = x.5 }
+
+never_deleted : (i : ℕ) (id : List ℕ) (moments : List Moment) → All (λ m. m.event ≡ AtSite i (Deletes id) → ⊥) moments → NoneDeleted i id moments
+never_deleted i id moments h = All-weaker (λ (m : Moment). m.event ≡ AtSite i (Deletes id) → ⊥) (λ (m : Moment). IsDeleted i id m → ⊥) (λ m never del. never del.0) moments h
+
+run_premises : (valid : Validity) (public : Keys) → RunPremises valid public
+run_premises valid public = record {
+  starts = new_start;
+  ends = λ w. tt;
+  goes_on = λ w m ms same happens rest. (same, happens, rest);
+  refused = unchanged valid public;
+  tries = tried;
+  tries_by = tried_by;
+  accepted = λ m i n r row t done. record { tries = t; done = done };
+  registers = registered;
+  registers_by = registered_by;
+  answers_by_sign_in = λ i n r. (refl, refl);
+  answers_by_sign_in_packets = λ i n c ps t. (refl, refl);
+  answers_by_registration = λ i n r. (refl, refl);
+  answers_by_registration_packets = λ i n c ps t. (refl, refl);
+  made = λ w k key there. (k, there);
+  ideal = unforged valid public;
+  rests = λ m k r row e there purpose key message. record { there = (k, there); purpose = purpose; key = key; message = message };
+  rests_once = λ m l once i j n k r t row low first second party texts e on_first on_second. once i j n k r t row low first second party texts e on_first on_second;
+  undeleted = never_deleted;
+  retired = λ s id row found retired. record { row = row; found = found; retired = retired };
+}
+
+honest_premises : (valid : Validity) (public : Keys) → HonestPremises valid public
+honest_premises valid public = record {
+  decided = λ call uv c waits e f words out packets consent asks present configured verified exchange.
+      record { asks = asks; consent = consent; waits = waits; present = present; configured = configured; verified = verified; exchange = exchange };
+  registers = λ x alg is_open rp_id challenge user algorithms verified offered origin text accepted not_stored not_registered room site_room not_excluded decided.
+      record {
+        is_open = is_open;
+        rp_id = rp_id;
+        challenge = challenge;
+        user = user;
+        algorithms = algorithms;
+        verified = verified;
+        offered = (alg, offered);
+        origin = origin;
+        origin_text = text;
+        accepted = accepted;
+        not_stored = not_stored;
+        not_registered = not_registered;
+        room = room;
+        site_room = site_room;
+        not_excluded = not_excluded;
+        decided = decided;
+      };
+  signs_in = λ x is_open rp_id challenge allow verified origin text decided.
+      record {
+        is_open = is_open;
+        rp_id = rp_id;
+        challenge = challenge;
+        allow = allow;
+        verified = verified;
+        origin = origin;
+        origin_text = text;
+        decided = decided;
+      };
+  shared = λ s a c stored rp_id registered. record { stored = stored; sign_count = refl; rp_id = rp_id; registered = registered };
+  asked_by_id = λ c a e allow user. inl (allow, user);
+  asked_as_newest = λ c a e later allow resident ids user. inr (allow, resident, (later, ids), user);
+  new_by_id = λ x e allow user. inl (allow, user);
+  new_as_newest = λ x e allow resident user. inr (allow, resident, user);
+  run = λ x opening idle registration after begins before channel sign_in asks.
+      record {
+        idle = idle;
+        honest_registration = registration;
+        registered = after;
+        begins = (opening, begins);
+        goes_on = before;
+        channel = channel;
+        honest_sign_in = sign_in;
+        asks = asks;
+      };
+}
+
+pub premises : (valid : Validity) (public : Keys) → Premises valid public
+premises valid public = record { of_runs = run_premises valid public; of_an_honest_run = honest_premises valid public }
