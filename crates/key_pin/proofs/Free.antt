@@ -60,7 +60,7 @@ pin_gives : (o : Option (List ℕ)) → Giving (λ hash. o ≡ Some hash) (pin_o
 pin_gives (Some h) = giving_ok _ h refl
 pin_gives None = giving_err _ _
 
-tried_gives : (s : PinState) → Giving (λ hash. (s.pin ≡ Some hash) × Free s) (tried_pin s)
+pub tried_gives : (s : PinState) → Giving (λ hash. (s.pin ≡ Some hash) × Free s) (tried_pin s)
 unfolding tried_pin
 tried_gives s = giving_then _ (pin_of s.pin) _ (λ hash h. giving_then _ (may_try s) _ (λ free f. giving_ok _ hash ((pin_gives s.pin).so hash h, (may_gives s).so free f)))
 
@@ -133,7 +133,7 @@ abbrev pub Sets : PinState → Outcome → Type 0
 Sets s (pin_set hash) = (s.pin ≡ None) × (length hash ≡ 16)
 Sets s _ = ⊥
 
-unset_gives : (o : Option (List ℕ)) → Giving (λ (u : Unit {0}). o ≡ None) (unset o)
+pub unset_gives : (o : Option (List ℕ)) → Giving (λ (u : Unit {0}). o ≡ None) (unset o)
 unset_gives None = giving_ok _ tt refl
 unset_gives (Some h) = giving_err _ _
 

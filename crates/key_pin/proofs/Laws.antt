@@ -1,78 +1,34 @@
 -- The laws.
-use Rattle.std.proofs.Common.{◌+◌, ◌-◌, length, ◌≡◌, ◌≢◌, ◌<◌, ◌≤◌, ◌⊎◌, ℕ, List, [], ◌∷◌, Bool, true, false, cond, eqb, Some, None, Result, Ok, Err, refl, sym, ap, subst, ◌∙◌, inl, inr, arith}
-use Rattle.std.specs.Prelude.{Option, bit_and, not, ◌&&◌}
+use Rattle.std.proofs.Common.{◌+◌, ◌-◌, length, ◌≡◌, ◌≢◌, ◌<◌, ◌≤◌, ◌⊎◌, ℕ, List, [], ◌∷◌, Bool, true, false, cond, eqb, leb, Some, None, Result, Ok, Err, refl, sym, ap, subst, ◌∙◌, inl, inr, arith}
+use Rattle.std.specs.Prelude.{Option, bit_and, not, option_map, ◌↔◌}
 use Rattle.std.specs.List.{AllByRecursion}
-use Rattle.std.proofs.lemmas.Bool.{eqb-false}
+use Rattle.std.proofs.lemmas.Bool.{eqb-false, eqb-true, le-leb, leb-true}
 use Rattle.std.proofs.lemmas.Slice.Eq.{bytes_eq-Decides}
+use Rattle.pin_key_messages.specs.Replying.{PinReplyBytes}
 use Rattle.pin_protocols.specs.declared.protocol.Protocol.{Protocol}
-use Rattle.pin_protocols.specs.declared.protocol.Protocol.TheVariants as protocols
 use Rattle.pin_protocols.specs.Asks.{Asked, answer_of}
-use Rattle.pin_protocols.specs.Protocols.{number}
+use Rattle.pin_protocols.specs.Protocols.{Authenticates, number}
 use Rattle.key_pin.specs.declared.words.PinWords.{PinWords}
-use Rattle.key_pin.specs.Grants.{Claim, granted, after_grant, is_for, permits, token_of}
-use Rattle.key_pin.specs.Host.{Ending, asks, refused, verified, encrypted}
-use Rattle.key_pin.specs.Laws.{Call, handle, begin, leave, verify, spend, end_token, give_up, power_up, reset, next, nexts, Sound, IsRight, IsDecryption, IsNoRestart, IsNoReset, PinLaws}
-use Rattle.key_pin.specs.Outcomes.{Outcome, retries_told, key_told, pin_set, pin_refused, token_told, mismatch, after}
+use Rattle.key_pin.specs.Grants.{Claim, bound, granted, after_grant, is_for, permits, token_of}
+use Rattle.key_pin.specs.Host.{Ending, asks, refused, verified}
+use Rattle.key_pin.specs.Laws.{Call, handle, begin, leave, verify, spend, end_token, give_up, power_up, reset, next, nexts, Sound, IsDecryption, IsNoRestart, IsNoReset, PinLaws}
+use Rattle.key_pin.specs.Outcomes.{Outcome, retries_told, key_told, pin_set, pin_refused, token_told, mismatch, after, Replies, public}
 use Rattle.key_pin.specs.Query.{Query}
 use Rattle.key_pin.specs.Saved.{FitsPin, hash_bytes, saved}
-use Rattle.key_pin.specs.State.{PinState, PinToken, counted, with_pair, pair_of, powered_up}
-use Rattle.key_pin.specs.Steps.{Try, verdict, is_right, needed, known_protocol}
+use Rattle.key_pin.specs.State.{PinState, PinToken, counted, with_pair, pair_of, powered_up, without_permissions}
+use Rattle.key_pin.specs.Steps.{verdict, needed, known_protocol}
 use Rattle.key_pin.proofs.Binds.{bind_ok}
-use Rattle.key_pin.proofs.Free.{Giving, Begins, Comes, Free}
-use Rattle.key_pin.proofs.Soundness.{new_sound, nexts_sound, next_sound, counted_less, pair_sound}
+use Rattle.key_pin.proofs.Brought.{both, comes, if_done, known_is, needed_is, one_number, verified_is}
+use Rattle.key_pin.proofs.Free.{Giving, Free}
+use Rattle.key_pin.proofs.Guessed.{cleared, guessed, guessed_in_a_row, one_in_a_row, restored}
+use Rattle.key_pin.proofs.Soundness.{new_sound, nexts_sound, next_sound}
 use Rattle.key_pin.proofs.InUse.{never_again}
 use Rattle.key_pin.proofs.Verdicts.{Mild, Way, judged_way}
 
 way_of : (es : List (Asked × List ℕ)) (words : PinWords) (q : Query) (s : PinState) → Way es words q (with_pair words s) (verdict es words q s)
 way_of es words q s = judged_way es words (pair_of words s) q (with_pair words s)
 
-right_in : (es : List (Asked × List ℕ)) (words : PinWords) (s : PinState) (t : Try) → Begins (with_pair words s) t → (is_right es t ≡ Ok true) → IsRight es s t
-right_in es words s t b r = record { pin = b.pin; right = r; free = b.free }
-
 -- ---- requests
-
-restored_mild : (s : PinState) (o : Result Outcome Ending) {A : Type 0} → Sound s → Giving (Mild s) o → s.retries < (after o s).retries → A
-restored_mild s (Ok retries_told) h g lt = absurd (omega arith)
-restored_mild s (Ok key_told) h g lt = absurd (omega arith)
-restored_mild s (Ok (pin_set hash)) h g lt =
-    let none : s.pin ≡ None = (g.so _ refl).0 in
-    let all : s.retries ≡ 8 = subst (λ (o : Option (List ℕ)). FitsPin o s.retries) none h.pin in absurd (omega arith)
-restored_mild s (Ok (pin_refused status)) h g lt = absurd (g.so _ refl)
-restored_mild s (Ok (token_told token sealed)) h g lt = absurd (g.so _ refl)
-restored_mild s (Ok mismatch) h g lt = absurd (g.so _ refl)
-restored_mild s (Err (asks a)) h g lt = absurd (omega arith)
-restored_mild s (Err (refused status)) h g lt = absurd (omega arith)
-
-restored_try : (es : List (Asked × List ℕ)) (words : PinWords) (t : Try) (n : ℕ) (s : PinState) (o : Result Outcome Ending) → s.retries ≤ n → Giving (Comes es words t) o
-    → n < (after o s).retries → is_right es t ≡ Ok true
-restored_try es words t n s (Ok retries_told) le g lt = absurd (g.so _ refl)
-restored_try es words t n s (Ok key_told) le g lt = absurd (g.so _ refl)
-restored_try es words t n s (Ok (pin_set hash)) le g lt = (g.so _ refl).0
-restored_try es words t n s (Ok (pin_refused status)) le g lt = g.so _ refl
-restored_try es words t n s (Ok (token_told token sealed)) le g lt = (g.so _ refl).0
-restored_try es words t n s (Ok mismatch) le g lt = absurd (omega arith)
-restored_try es words t n s (Err (asks a)) le g lt = absurd (omega arith)
-restored_try es words t n s (Err (refused status)) le g lt = absurd (omega arith)
-
-restored : (es : List (Asked × List ℕ)) (words : PinWords) (q : Query) (s : PinState) → Sound s → s.retries < (next (handle es words q) s).retries
-    → (t : Try) × IsRight es s t
-restored es words q s h lt = elim (way_of es words q s) [
-  | inl u ↦ restored_mild (with_pair words s) (verdict es words q s).outcome (pair_sound words s h) u.mild
-      (subst (λ (st : PinState). s.retries < (after (verdict es words q s).outcome st).retries) u.state lt)
-  | inr c ↦ (
-    c.attempt,
-    right_in es words s c.attempt c.begins (restored_try es words c.attempt s.retries (counted (with_pair words s)) (verdict es words q s).outcome
-        (counted_less (with_pair words s)) c.comes (subst (λ (st : PinState). s.retries < (after (verdict es words q s).outcome st).retries) c.state lt)),
-  )
-]
-
-given : (es : List (Asked × List ℕ)) (words : PinWords) (q : Query) (s : PinState) (token : PinToken) (sealed : List ℕ)
-    → (verdict es words q s).outcome ≡ Ok (token_told token sealed)
-    → (t : Try) × IsRight es s t × (token.bytes ≡ words.token) × (encrypted es t.protocol t.secret words.token ≡ Ok sealed)
-given es words q s token sealed e = elim (way_of es words q s) [
-  | inl u ↦ absurd (u.mild.so _ e)
-  | inr c ↦ (c.attempt, right_in es words s c.attempt c.begins (c.comes.so _ e).0, (c.comes.so _ e).1, (c.comes.so _ e).2)
-]
 
 pub asked : (es : List (Asked × List ℕ)) (words : PinWords) (q : Query) (s : PinState) (a : Asked) → (verdict es words q s).outcome ≡ Err (asks a) → answer_of es a ≡ None
 asked es words q s a e = elim (way_of es words q s) [ inl u ↦ u.asks.so a e | inr c ↦ c.asks.so a e ]
@@ -217,52 +173,62 @@ used_up (call ∷ calls) s h e c all =
 
 -- ---- tokens
 
-if_ok : (b : Bool) (status : ℕ) {A : Type 0} (x y : A) → cond b (Ok x) (Err (refused status)) ≡ Ok y → (b ≡ true) × (x ≡ y)
-if_ok true status x y e = (refl, cc)
-if_ok false status x y e = absurd cc
-
-both : (a b : Bool) → (a && b) ≡ true → (a ≡ true) × (b ≡ true)
-both true b e = (refl, e)
-both false b e = absurd cc
-
 not_true : (b : Bool) → not b ≡ true → b ≡ false
 not_true true e = absurd cc
 not_true false e = refl
 
-one_number : (p q : Protocol) → eqb (number p) (number q) ≡ true → p ≡ q
-one_number protocols.One protocols.One e = refl
-one_number protocols.One protocols.Two e = absurd cc
-one_number protocols.Two protocols.One e = absurd cc
-one_number protocols.Two protocols.Two e = refl
-
 in_use : (protocol : Protocol) (o : Option PinToken) (t : PinToken) → token_of protocol o ≡ Ok t → (o ≡ Some t) × (t.protocol ≡ protocol)
 in_use protocol None t e = absurd cc
 in_use protocol (Some x) t e =
-    let k = if_ok (eqb (number x.protocol) (number protocol)) 0x33 x t e in
-    (ap (λ (y : PinToken). Some y) k.1, ap (λ (y : PinToken). y.protocol) (sym k.1) ∙ one_number x.protocol protocol k.0)
+    let k = if_done (eqb (number x.protocol) (number protocol)) (refused 0x33) (Ok x) t e in
+    let same : x ≡ t = cc in
+    (ap (λ (y : PinToken). Some y) same, ap (λ (y : PinToken). y.protocol) (sym same) ∙ one_number x.protocol protocol (eqb-true (number x.protocol) (number protocol) k.0))
 
 own_rp_id : (rp_id : List ℕ) (o : Option (List ℕ)) → is_for rp_id o ≡ true → (o ≡ None) ⊎ (o ≡ Some rp_id)
 own_rp_id rp_id None e = inl refl
 own_rp_id rp_id (Some own) e = inr (ap (λ (x : List ℕ). Some x) ((bytes_eq-Decides own rp_id).0 e))
 
-grants : (es : List (Asked × List ℕ)) (c : Claim) (token : Option PinToken) → granted es c token ≡ Ok tt
-    → (t : PinToken) × (token ≡ Some t) × (verified es t.protocol t.bytes c.client_data_hash c.param ≡ Ok tt)
-    × (bit_and t.permissions c.permission ≢ 0) × ((t.rp_id ≡ None) ⊎ (t.rp_id ≡ Some c.rp_id))
+-- what is granted, and by which token
+pub record Granting (es : List (Asked × List ℕ)) (c : Claim) (token : Option PinToken) : Type 0 where
+  pub by : PinToken
+  pub in_use : token ≡ Some by
+  pub protocol : c.protocol ≡ Some (number by.protocol)
+  pub authentic : Authenticates es by.protocol by.bytes c.client_data_hash c.param
+  pub permission : bit_and by.permissions c.permission ≢ 0
+  pub rp_id : (by.rp_id ≡ None) ⊎ (by.rp_id ≡ Some c.rp_id)
+
+granting : (es : List (Asked × List ℕ)) (c : Claim) (token : Option PinToken) → granted es c token ≡ Ok tt → Granting es c token
 unfolding granted
-grants es c token e =
+granting es c token e =
     let n = bind_ok (needed c.protocol) _ tt e in
     let p = bind_ok (known_protocol n.0) _ tt n.2 in
     let t = bind_ok (token_of p.0 token) _ tt p.2 in
     let v = bind_ok (verified es p.0 t.0.bytes c.client_data_hash c.param) _ tt t.2 in
     let used = in_use p.0 token t.0 t.1 in
-    let fits = if_ok (permits t.0 c) 0x33 tt tt v.2 in
-    let parts = both (not (eqb (bit_and t.0.permissions c.permission) 0)) (is_for c.rp_id t.0.rp_id) fits.0 in (
-      t.0,
-      used.0,
-      subst (λ (q : Protocol). verified es q t.0.bytes c.client_data_hash c.param ≡ Ok tt) (sym used.1) v.1,
-      eqb-false _ _ (not_true _ parts.0),
-      own_rp_id c.rp_id t.0.rp_id parts.1,
-    )
+    let fits = if_done (permits t.0 c) (refused 0x33) (Ok tt) tt v.2 in
+    let parts = both (not (eqb (bit_and t.0.permissions c.permission) 0)) (is_for c.rp_id t.0.rp_id) fits.0 in
+    let named : c.protocol ≡ Some (number p.0) = subst (λ (m : ℕ). c.protocol ≡ Some m) (known_is n.0 p.0 p.1) (needed_is c.protocol n.0 n.1) in
+    record {
+      by = t.0;
+      in_use = used.0;
+      protocol = subst (λ (q : Protocol). c.protocol ≡ Some (number q)) (sym used.1) named;
+      authentic = subst (λ (q : Protocol). Authenticates es q t.0.bytes c.client_data_hash c.param) (sym used.1)
+          (verified_is es p.0 t.0.bytes c.client_data_hash c.param v.1);
+      permission = eqb-false _ _ (not_true _ parts.0);
+      rp_id = own_rp_id c.rp_id t.0.rp_id parts.1;
+    }
+
+bound_rp_id : (rp_id : List ℕ) (o : Option PinToken) (t : PinToken) → option_map (bound rp_id) o ≡ Some t → t.rp_id ≡ Some rp_id
+bound_rp_id rp_id None t e = absurd cc
+bound_rp_id rp_id (Some u) t e = let same : bound rp_id u ≡ t = cc in ap (λ (x : PinToken). x.rp_id) (sym same)
+
+grant_binds : (r : Result (Unit {0}) Ending) (rp_id : List ℕ) (s : PinState) (t : PinToken) → r ≡ Ok tt → (after_grant r rp_id s).token ≡ Some t → t.rp_id ≡ Some rp_id
+grant_binds (Ok u) rp_id s t is e = bound_rp_id rp_id s.token t e
+grant_binds (Err f) rp_id s t is e = absurd cc
+
+spent_permissions : (o : Option PinToken) (t : PinToken) → option_map without_permissions o ≡ Some t → t.permissions ≡ 0
+spent_permissions None t e = absurd cc
+spent_permissions (Some u) t e = let same : without_permissions u ≡ t = cc in ap (λ (x : PinToken). x.permissions) (sym same)
 
 -- the token after an outcome
 set_token : (s : PinState) (hash : List ℕ) (o : Result Outcome Ending) → o ≡ Ok (pin_set hash) → (after o s).token ≡ None
@@ -289,13 +255,28 @@ saved_once s t h k e =
     let p : s.pin ≡ t.pin = same_hash s.pin t.pin t.retries (subst (FitsPin s.pin) n h.pin) k.pin b in
     ap (λ (o : Option (List ℕ)). kept_of o s.retries) p ∙ ap (kept_of t.pin) n
 
+is_blocked : (n : ℕ) → leb 3 n ≡ true ↔ 3 ≤ n
+is_blocked n = (leb-true 3 n, le-leb 3 n)
+
+tells : (s : PinState) (bs : List ℕ) → Replies (Ok retries_told) (public s) bs
+    → (blocked : Bool) × (blocked ≡ true ↔ 3 ≤ s.mismatches)
+    × PinReplyBytes (record { key = None; token = None; pin_retries = Some s.retries; power_cycle = Some blocked; uv_retries = None }) bs
+tells s bs h = (leb 3 s.mismatches, is_blocked s.mismatches, h)
+
 pub laws : PinLaws
 laws = record {
   sound = nexts_sound;
   begins = new_sound;
   saved_once = saved_once;
+  tried = λ es words q s token sealed e. ((comes es words q s).so (token_told token sealed) e).tried;
+  scoped = λ es words q s token sealed e. ((comes es words q s).so (token_told token sealed) e).scoped;
+  comes = λ es words q s outcome e. (comes es words q s).so outcome e;
+  tells = tells;
   restored = restored;
-  given = given;
+  cleared = cleared;
+  one_more = one_in_a_row;
+  guessed = guessed;
+  guessed_in_a_row = guessed_in_a_row;
   asked = asked;
   counted_first = counted_first;
   counted_wrong = counted_wrong;
@@ -303,7 +284,10 @@ laws = record {
   none_taken_twice = none_taken_twice;
   blocked = blocked;
   used_up = used_up;
-  grants = grants;
+  authentic = λ es c token e. let g = granting es c token e in (g.by, g.in_use, g.protocol, g.authentic);
+  grants = λ es c token e. let g = granting es c token e in (g.by, g.in_use, g.permission, g.rp_id);
+  bound = λ es c s t e f. grant_binds (granted es c s.token) c.rp_id s t e f;
+  spends = λ s t e. spent_permissions s.token t e;
   ended = λ es words q s hash e. set_token (verdict es words q s).state hash (verdict es words q s).outcome e;
   renewed = λ es words q s token sealed e. told_token (verdict es words q s).state token sealed (verdict es words q s).outcome e;
   never_again = never_again;

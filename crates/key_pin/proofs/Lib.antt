@@ -4,6 +4,8 @@ pub mod Asked
 pub mod Free
 pub mod Verdicts
 pub mod Soundness
+pub mod Brought
+pub mod Guessed
 pub mod InUse
 pub mod Laws
 pub mod Ending

@@ -6,5 +6,6 @@ pub mod Outcomes
 pub mod Steps
 pub mod Grants
 pub mod Saved
+pub mod Brought
 pub mod Laws
 pub mod Pieces
