@@ -16,6 +16,7 @@ pub mod Dropped
 pub mod Began
 pub mod Accepted
 pub mod Retired
+pub mod Pages
 pub mod Premised
 pub mod Registered
 pub mod AllRuns

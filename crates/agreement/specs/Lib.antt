@@ -3,6 +3,7 @@ pub mod Honest
 pub mod World
 pub mod Agreement
 pub mod Ledger
+pub mod Pages
 pub mod Premises
 pub mod Dropped
 pub mod Begun

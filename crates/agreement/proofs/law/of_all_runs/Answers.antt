@@ -5,6 +5,7 @@ use Rattle.agreement.proofs.CallsActed.{calls_act}
 use Rattle.agreement.proofs.Dropped.{dropped_of_all_runs}
 use Rattle.agreement.proofs.Ledger.{ledger}
 use Rattle.agreement.proofs.Premised.{premises}
+use Rattle.agreement.proofs.Pages.{pages_of_all_runs}
 use Rattle.agreement.proofs.law.of_all_runs.Goals as goal
 
 pub returns-clause-agreement : goal.returns-clause-agreement
@@ -21,6 +22,9 @@ returns-clause-begun g c = λ verifier public. began (g.V.Verifier.valid verifie
 
 pub returns-clause-premises : goal.returns-clause-premises
 returns-clause-premises g c = λ verifier public. premises (g.V.Verifier.valid verifier) public
+
+pub returns-clause-pages : goal.returns-clause-pages
+returns-clause-pages g c = λ verifier public. pages_of_all_runs (g.V.Verifier.valid verifier) public (c.below.ensures verifier public)
 
 pub returns-clause-calls : goal.returns-clause-calls
 returns-clause-calls g c = λ verifier public. calls_act (g.V.Verifier.valid verifier) public
