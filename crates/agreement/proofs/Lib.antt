@@ -17,6 +17,7 @@ pub mod Began
 pub mod Accepted
 pub mod Retired
 pub mod Pages
+pub mod Stayed
 pub mod Premised
 pub mod Registered
 pub mod AllRuns

@@ -4,6 +4,7 @@ pub mod World
 pub mod Agreement
 pub mod Ledger
 pub mod Pages
+pub mod Stays
 pub mod Premises
 pub mod Dropped
 pub mod Begun

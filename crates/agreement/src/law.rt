@@ -17,6 +17,7 @@ ghost use Rattle.agreement.specs.Lived.{Lives, Place, TakesPlace};
 ghost use Rattle.agreement.specs.Pages.{PagesOfAllRuns};
 ghost use Rattle.agreement.specs.Premises.{Premises};
 ghost use Rattle.agreement.specs.Shown.{FullRun, HonestRunTakesPlace};
+ghost use Rattle.agreement.specs.Stays.{StaysOfAllRuns};
 ghost use Rattle.cose.specs.Bench.{bench_public, bench_valid};
 
 use cose::{BenchScheme, Signer, Verifier};
@@ -42,14 +43,15 @@ fn below<V: Verifier>()
 /// whatever packets, client data and requests an adversary makes, of any number of sites and authenticators. And in each run,
 /// whether or not signatures can be forged, what an authenticator has signed and which keys it has made is accounted for by
 /// the requests to it; and a credential that it stores no more was dropped by a request to which presence was given: a reset, or
-/// a makeCredential for a resident one of the same relying party and user. What an authenticator was asked for from some pages signs
-/// in at no site but theirs. What each premise asks is said in plain words. It is so for each verifier, and for each function from
-/// secrets to keys.
+/// a makeCredential for a resident one of the same relying party and user. An open session stays until its end, and what an
+/// authenticator was asked for from some pages signs in at no site but theirs. What each premise asks is said in plain words. It
+/// is so for each verifier, and for each function from secrets to keys.
 pub fn of_all_runs<V: Verifier>()
     ensures agreement { (verifier : V) (public : Keys) → OfAllRuns (V.valid verifier) public }
     ensures ledger { (verifier : V) (public : Keys) → LedgerOfAllRuns (V.valid verifier) public }
     ensures dropped { (verifier : V) (public : Keys) → DropsOfAllRuns (V.valid verifier) public }
     ensures begun { (verifier : V) (public : Keys) → SessionsOfAllRuns (V.valid verifier) public }
+    ensures stays { (verifier : V) (public : Keys) → StaysOfAllRuns (V.valid verifier) public }
     ensures premises { (verifier : V) (public : Keys) → Premises (V.valid verifier) public }
     ensures pages { (verifier : V) (public : Keys) → PagesOfAllRuns (V.valid verifier) public }
     ensures calls { (verifier : V) (public : Keys) → CallsAct (V.valid verifier) public }

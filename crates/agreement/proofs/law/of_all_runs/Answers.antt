@@ -6,6 +6,7 @@ use Rattle.agreement.proofs.Dropped.{dropped_of_all_runs}
 use Rattle.agreement.proofs.Ledger.{ledger}
 use Rattle.agreement.proofs.Premised.{premises}
 use Rattle.agreement.proofs.Pages.{pages_of_all_runs}
+use Rattle.agreement.proofs.Stayed.{stays_of_all_runs}
 use Rattle.agreement.proofs.law.of_all_runs.Goals as goal
 
 pub returns-clause-agreement : goal.returns-clause-agreement
@@ -25,6 +26,9 @@ returns-clause-premises g c = λ verifier public. premises (g.V.Verifier.valid v
 
 pub returns-clause-pages : goal.returns-clause-pages
 returns-clause-pages g c = λ verifier public. pages_of_all_runs (g.V.Verifier.valid verifier) public (c.below.ensures verifier public)
+
+pub returns-clause-stays : goal.returns-clause-stays
+returns-clause-stays g c = λ verifier public. stays_of_all_runs (g.V.Verifier.valid verifier) public (c.below.ensures verifier public)
 
 pub returns-clause-calls : goal.returns-clause-calls
 returns-clause-calls g c = λ verifier public. calls_act (g.V.Verifier.valid verifier) public
