@@ -27,6 +27,11 @@ HOSTS = "agreement/specs/Hosts.antt"
 STORED = "site_stored/specs/Calls.antt"
 HISTORY = "stored_runs/specs/History.antt"
 SHOWN = "stored_runs/proofs/Shown.antt"
+PIN_STEPS = "key_pin/specs/Steps.antt"
+PIN_STATE = "key_pin/specs/State.antt"
+PIN_HOST = "key_pin/specs/Host.antt"
+PIN_GRANTS = "key_pin/specs/Grants.antt"
+PIN_OUTCOMES = "key_pin/specs/Outcomes.antt"
 DATA = "(a : AuthenticatorData) → AuthOf x.rp.profile a x.response.auth_data → "
 GIVEN = "record { present = true; verified = true }"
 
@@ -457,4 +462,16 @@ WEAKENINGS = [
     ("stored_commit", "what is told need not be committed", [
         (HISTORY, "acts_from waiting (Opens finds_all ∷ steps) = (if finds_all then waiting else []) ++ acts_from [] steps\n",
             "acts_from waiting (Opens finds_all ∷ steps) = waiting ++ acts_from [] steps\n")]),
+    # of a key's PIN
+    ("pin_any_param", "any pinUvAuthParam counts", [
+        (PIN_HOST, "  if bytes_eq (shortened protocol tag) param then Ok tt else Err (refused 0x33)\n", "  if true then Ok tt else Err (refused 0x33)\n"),
+        (PIN_HOST, "use Rattle.std.specs.Prelude.{ℕ, ◌==◌,", "use Rattle.std.specs.Prelude.{true, ℕ, ◌==◌,")]),
+    ("pin_default_for_all", "getPinToken gives each permission", [
+        (PIN_STEPS, "Ok (begun, record { permissions = 3; rp_id = None })", "Ok (begun, record { permissions = 255; rp_id = None })")]),
+    ("pin_unbound", "a token that was used is for each rp id still", [
+        (PIN_GRANTS, "bound rp_id t = record t { rp_id = Some rp_id }", "bound rp_id t = t")]),
+    ("pin_unspent", "a token that was used keeps its permissions", [
+        (PIN_STATE, "without_permissions t = record t { permissions = 0 }", "without_permissions t = t")]),
+    ("pin_retries_untold", "eight retries are told, however many are left", [
+        (PIN_OUTCOMES, "told_retries p = record nothing_told { pin_retries = Some p.retries;", "told_retries p = record nothing_told { pin_retries = Some 8;")]),
 ]
