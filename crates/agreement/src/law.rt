@@ -44,8 +44,8 @@ fn below<V: Verifier>()
 /// whether or not signatures can be forged, what an authenticator has signed and which keys it has made is accounted for by
 /// the requests to it; and a credential that it stores no more was dropped by a request to which presence was given: a reset, or
 /// a makeCredential for a resident one of the same relying party and user. An open session stays until its end, and what an
-/// authenticator was asked for from some pages signs in at no site but theirs. What each premise asks is said in plain words. It
-/// is so for each verifier, and for each function from secrets to keys.
+/// authenticator was asked for from some pages signs in at no site but theirs. What these laws ask of a run is said in plain
+/// words. It is so for each verifier, and for each function from secrets to keys.
 pub fn of_all_runs<V: Verifier>()
     ensures agreement { (verifier : V) (public : Keys) → OfAllRuns (V.valid verifier) public }
     ensures ledger { (verifier : V) (public : Keys) → LedgerOfAllRuns (V.valid verifier) public }
